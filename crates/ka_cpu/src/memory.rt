@@ -1,0 +1,43 @@
+//! Registers and core as one memory.
+
+ghost use Rattle.std.specs.Prelude.{◌≡◌, ℕ, ◌<◌, List, slice_get, slice_set, nat_lt, length};
+ghost use Rattle.std.specs.Borrow.{GName};
+ghost use Rattle.ka_cpu.specs.Places.{word_at};
+
+use crate::Regs;
+use word36::Word;
+
+/// The core of a job, seen as a list of words.
+pub trait JobMemory {
+    /// The words, from place 0 on.
+    ghost words: { Self → List ℕ };
+
+    /// Which loan the words come from, where they are lent: it stays the same, so that the lender
+    /// gets back what was written. A memory that owns its words says 0.
+    ghost place: { Self → GName };
+
+    /// The number of words.
+    fn size(&self) -> usize
+        ensures { result ≡ length (words self.now) };
+
+    /// The word at a place of core, if it is below the size.
+    fn read(&self, a: u32) -> Option<Word>
+        ensures { result ≡ slice_get (words self.now) a };
+
+    /// Stores a word at a place of core where it is below the size, and says whether it is.
+    fn write(&mut self, a: u32, word: Word) -> bool
+        ensures stored { words self.new ≡ slice_set (words self.old) a word }
+        ensures told { result ≡ nat_lt a (length (words self.old)) }
+        ensures place { place self.new ≡ place self.old };
+}
+
+/// The word at a place, if it is legal: registers lie at the places below 20 octal.
+pub fn fetch<M: JobMemory>(regs: &Regs, memory: &M, a: u32) -> Option<Word>
+    ensures { result ≡ word_at regs.now.ac (M.words memory.now) a }
+{
+    if a < 16 {
+        Some(regs.ac[a as usize])
+    } else {
+        memory.read(a)
+    }
+}

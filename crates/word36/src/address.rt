@@ -1,0 +1,63 @@
+//! Places in memory.
+
+ghost use Rattle.std.specs.Prelude.{◌≡◌, ◌+◌, ◌%◌, ◌^◌, ◌<◌, IsSome, IfSome, ◌↔◌};
+
+use std::marker::Model;
+
+/// A place in memory: a number of 18 bits, 0 to 777777 octal.
+#[derive(Clone, Copy, Debug, PartialEq, Eq, PartialOrd, Ord)]
+pub struct Address {
+    number: u32,
+}
+
+impl Model for Address {
+    ghost use Rattle.std.specs.Prelude.{ℕ, ◌<◌, ◌^◌};
+
+    ghost Value = { ℕ };
+
+    ghost view = { λ a. a.number };
+
+    ghost inverse = { λ n. record { number = n } };
+
+    ghost invariant = { λ a. a.number < 2 ^ 18 };
+}
+
+impl Address {
+    /// The place of this number.
+    pub fn new(number: u32) -> Address
+        requires { number < 2 ^ 18 }
+        ensures { result ≡ number }
+    {
+        Address { number }
+    }
+
+    /// The place of this number, where it is below 1000000 octal.
+    pub fn try_new(number: u32) -> Option<Address>
+        ensures variant { IsSome result ↔ (number < 2 ^ 18) }
+        ensures value { IfSome result (λ a. a ≡ number) }
+    {
+        if number < 0o1_000_000 {
+            Some(Address { number })
+        } else {
+            None
+        }
+    }
+
+    /// The number of the place.
+    pub fn number(self) -> u32
+        ensures value { result ≡ self }
+        ensures below { result < 2 ^ 18 }
+    {
+        self.number
+    }
+
+    /// The place so many further on; after the last place comes the first.
+    pub fn plus(self, more: u32) -> Address
+        requires { more < 2 ^ 20 }
+        ensures { result ≡ (self + more) % 2 ^ 18 }
+    {
+        Address {
+            number: (self.number + more) & 0o777_777,
+        }
+    }
+}

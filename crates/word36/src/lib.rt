@@ -1,0 +1,15 @@
+//! Numbers of the machine: words of 36 bits, addresses of 18, and the sizes of its parts.
+#![tactic(auto)]
+
+mod address;
+mod image;
+mod sizes;
+mod word;
+
+pub use address::Address;
+pub use image::Image;
+pub use sizes::{
+    BLOCK_WORDS, DATA_WORDS, INPUT_RING, JOBS, LINES, LOCKS_A_CALL, MOST_BLOCKS, NAME_LENGTH,
+    OUTPUT_RING, REQUESTS, TAKEN_AT_ONCE,
+};
+pub use word::Word;
