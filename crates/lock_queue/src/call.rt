@@ -1,0 +1,41 @@
+//! Calls on the queue, and what they answer.
+
+use crate::{EnqueueKind, Refusal, RequestId, Wants};
+
+/// A call on the queue.
+#[derive(Drop)]
+pub enum LockCall {
+    /// Ask for locks, all together (ENQ. functions 0 to 2).
+    Enqueue {
+        /// What the request does where it is not granted at once.
+        kind: EnqueueKind,
+        /// The job's number for it.
+        id: RequestId,
+        /// The locks.
+        wants: Wants,
+        /// Whether the job can be interrupted, which a request of that kind needs.
+        armed: bool,
+    },
+    /// Make present wants shared or exclusive (ENQ. function 3).
+    Modify(Wants),
+    /// Give up the wants of these keys (DEQ. function 0).
+    DequeueNamed(Wants),
+    /// Give up all wants (DEQ. function 1).
+    DequeueAll,
+    /// Give up all requests of an id (DEQ. function 2).
+    DequeueId(RequestId),
+}
+
+/// What a call answers.
+#[derive(Clone, Copy, Debug, PartialEq, Eq)]
+pub enum LockReply {
+    /// All locks of the request are owned.
+    Granted,
+    /// The job waits for its request.
+    Queued,
+    /// The change or the release is made.
+    Done,
+    /// The call is refused; where the refusal is that of an interrupt request that was not granted
+    /// at once the request stays, and otherwise nothing changed.
+    Refused(Refusal),
+}

@@ -1,0 +1,18 @@
+//! The lock queue: keys, wants, requests in order of arrival, and the calls on them.
+#![tactic(auto)]
+
+mod call;
+mod key;
+mod name;
+mod pool;
+mod refusal;
+mod request;
+mod want;
+
+pub use call::{LockCall, LockReply};
+pub use key::{Key, Scope};
+pub use name::{Name, NameText, UserCode};
+pub use pool::Pool;
+pub use refusal::Refusal;
+pub use request::{EnqueueKind, Request, RequestId};
+pub use want::{Level, Want, Wants};

@@ -1,0 +1,67 @@
+//! Requests.
+ghost use Rattle.std.specs.Prelude.{◌≡◌, ◌<◌, ◌^◌};
+
+use crate::Wants;
+use std::marker::Model;
+
+/// The number by which a job knows its request: 18 bits, and not needed to be its own.
+#[derive(Clone, Copy, Debug, PartialEq, Eq)]
+pub struct RequestId {
+    number: u32,
+}
+
+impl Model for RequestId {
+    ghost use Rattle.std.specs.Prelude.{ℕ, ◌<◌, ◌^◌};
+
+    ghost Value = { ℕ };
+
+    ghost view = { λ i. i.number };
+
+    ghost inverse = { λ n. record { number = n } };
+
+    ghost invariant = { λ i. i.number < 2 ^ 18 };
+}
+
+impl RequestId {
+    /// The id of this number.
+    pub fn new(number: u32) -> Self
+        requires { number < 2 ^ 18 }
+        ensures { result ≡ number }
+    {
+        RequestId { number }
+    }
+
+    /// The number.
+    pub fn number(self) -> u32
+        ensures value { result ≡ self }
+        ensures below { result < 2 ^ 18 }
+    {
+        self.number
+    }
+}
+
+/// What a request does where it is not granted at once.
+#[derive(Clone, Copy, Debug, PartialEq, Eq)]
+pub enum EnqueueKind {
+    /// The job waits for the grant (ENQ. function 0).
+    Blocking,
+    /// The request does not stay (ENQ. function 1).
+    AtOnce,
+    /// The job goes on, and is told of the grant by an interrupt (ENQ. function 2).
+    Interrupt,
+}
+
+/// A request in the queue.
+#[derive(Drop)]
+pub struct Request {
+    /// Whose it is.
+    pub job: u8,
+    /// The number that the job gave it.
+    pub id: RequestId,
+    /// What it does where it is not granted at once.
+    pub kind: EnqueueKind,
+    /// Whether the job knows of its grant, where that comes by an interrupt.
+    pub told: bool,
+    /// The locks that it wants, all together.
+    pub wants: Wants,
+}

@@ -1,0 +1,93 @@
+//! Wants: the locks of a request.
+ghost use Rattle.std.specs.Prelude.{◌≡◌, ◌<◌, ◌^◌, ◌↔◌, IsSome, IfSome};
+
+use crate::{Key, Name, Pool, Scope, UserCode};
+use arrayvec::ArrayVec;
+use std::marker::Model;
+use word36::LOCKS_A_CALL;
+
+/// The level of a lock, 0 to 511: a job asks for its locks by rising levels, unless it bypasses
+/// that rule.
+#[derive(Clone, Copy, Debug, PartialEq, Eq)]
+pub struct Level {
+    number: u16,
+}
+
+impl Model for Level {
+    ghost use Rattle.std.specs.Prelude.{ℕ, ◌<◌, ◌^◌};
+
+    ghost Value = { ℕ };
+
+    ghost view = { λ l. l.number };
+
+    ghost inverse = { λ n. record { number = n } };
+
+    ghost invariant = { λ l. l.number < 2 ^ 9 };
+}
+
+impl Level {
+    /// The level of this number.
+    pub fn new(number: u16) -> Self
+        requires { number < 2 ^ 9 }
+        ensures { result ≡ number }
+    {
+        Level { number }
+    }
+
+    /// The number.
+    pub fn number(self) -> u16
+        ensures value { result ≡ self }
+        ensures below { result < 2 ^ 9 }
+    {
+        self.number
+    }
+}
+
+/// One lock of a request.
+#[derive(Drop)]
+pub struct Want {
+    /// What is locked.
+    pub key: Key,
+    /// Whether others who share may own it at the same time.
+    pub shared: bool,
+    /// Whether the rule of rising levels is not asked of this want.
+    pub bypass: bool,
+    /// Its level.
+    pub level: Level,
+    /// How much of which pool is wanted, where it is a pool.
+    pub pool: Option<Pool>,
+}
+
+/// The wants of a call or a request, at most 16.
+pub type Wants = ArrayVec<Want, LOCKS_A_CALL>;
+
+impl Want {
+    /// The same want again.
+    pub fn copied(&self) -> Want
+        ensures { result ≡ self.now }
+    {
+        Want {
+            key: self.key.copied(),
+            shared: self.shared,
+            bypass: self.bypass,
+            level: self.level,
+            pool: self.pool,
+        }
+    }
+}
+
+/// An exclusive want of the user code 0, which fills unused places.
+impl Default for Want {
+    fn default() -> Self {
+        Want {
+            key: Key {
+                scope: Scope::All,
+                name: Name::Code(UserCode::new(0)),
+            },
+            shared: false,
+            bypass: false,
+            level: Level::new(0),
+            pool: None,
+        }
+    }
+}
