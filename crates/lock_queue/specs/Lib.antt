@@ -1,3 +1,11 @@
 pub mod Keys
 pub mod Pools
 pub mod Refusals
+pub mod Queue
+pub mod Jobs
+pub mod Outcomes
+pub mod Enqueues
+pub mod Dequeues
+pub mod Changes
+pub mod Calls
+pub mod StatusWords

@@ -7,6 +7,8 @@ mod name;
 mod pool;
 mod refusal;
 mod request;
+mod status;
+mod table;
 mod want;
 
 pub use call::{LockCall, LockReply};
@@ -15,4 +17,6 @@ pub use name::{Name, NameText, UserCode};
 pub use pool::Pool;
 pub use refusal::Refusal;
 pub use request::{EnqueueKind, Request, RequestId};
+pub use status::Status;
+pub use table::{LockTable, run_calls};
 pub use want::{Level, Want, Wants};

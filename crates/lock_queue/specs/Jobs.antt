@@ -1,0 +1,82 @@
+-- What concerns the requests of one job: which leave, which wait, which are told (ENQ/DEQ of the TOPS-10 Monitor Calls
+-- Manual, in this project's profile).
+use Rattle.std.specs.Prelude.{ℕ, Bool, true, false, not, ◌==◌, ◌&&◌, ◌||◌, if◌then◌else◌, List, [], ◌∷◌, ◌++◌, Option, Some, None, filter}
+use Rattle.std.specs.List.{list_any}
+use Rattle.arrayvec.specs.ArrayVec.{ArrayVec}
+use Rattle.lock_queue.specs.declared.request.EnqueueKind.{EnqueueKind}
+use Rattle.lock_queue.specs.declared.request.EnqueueKind.TheVariants.{Blocking, AtOnce, Interrupt}
+use Rattle.lock_queue.specs.declared.request.Request.{Request}
+use Rattle.lock_queue.specs.declared.want.Want.{Want}
+use Rattle.lock_queue.specs.Queue.{agree, is_pooled, fits, granted_behind, requests_of, wants_at, chosen, some_behind}
+
+abbrev pub is_blocking : EnqueueKind → Bool
+is_blocking Blocking = true
+is_blocking AtOnce = false
+is_blocking Interrupt = false
+
+abbrev pub is_interrupt : EnqueueKind → Bool
+is_interrupt Interrupt = true
+is_interrupt Blocking = false
+is_interrupt AtOnce = false
+
+-- the list without the job's requests
+abbrev pub released : List Request → ℕ → List Request
+released requests job = filter (λ r. not (r.job == job)) requests
+
+-- a job waits by a blocking request that is not granted
+abbrev pub is_blocked : ℕ → List Request → Request → Bool
+is_blocked job earlier r = (r.job == job && is_blocking r.kind) && not (granted_behind earlier r)
+
+abbrev pub is_waiting_job : List Request → ℕ → Bool
+is_waiting_job requests job = some_behind (is_blocked job) [] requests
+
+-- the list without the requests by which the job waits
+abbrev pub is_not_blocked : ℕ → List Request → Request → Bool
+is_not_blocked job earlier r = not (is_blocked job earlier r)
+
+abbrev pub withdrawn : List Request → ℕ → List Request
+withdrawn requests job = chosen (is_not_blocked job) requests
+
+-- a job's granted interrupt request of which it was not told yet
+abbrev pub is_pending : ℕ → List Request → Request → Bool
+is_pending job earlier r = ((r.job == job && is_interrupt r.kind) && not r.told) && granted_behind earlier r
+
+-- the id of the first of some requests
+abbrev pub first_id : List Request → Option ℕ
+first_id [] = None
+first_id (r ∷ later) = Some r.id
+
+-- the id of the first such request of the job
+abbrev pub pending : List Request → ℕ → Option ℕ
+pending requests job = first_id (chosen (is_pending job) requests)
+
+-- a request of which its job is told
+abbrev pub as_told : Request → Request
+as_told r = record { job = r.job; id = r.id; kind = r.kind; told = true; wants = r.wants }
+
+-- the requests, the first for which the test holds being told
+abbrev pub told_behind : (List Request → Request → Bool) → List Request → List Request → List Request
+told_behind test earlier [] = []
+told_behind test earlier (r ∷ later) =
+    if test earlier r then as_told r ∷ later else r ∷ told_behind test (earlier ++ r ∷ []) later
+
+-- the list when the job is told of its pending request
+abbrev pub told_of : List Request → ℕ → List Request
+told_of requests job = told_behind (is_pending job) [] requests
+
+-- an earlier want of a key stands in the way of a later one where it is of a pool or does not agree
+abbrev pub is_in_the_way : Want → Want → Bool
+is_in_the_way v w = is_pooled v || not (agree v w)
+
+-- whether a want does not fit, and an earlier want of its key that stands in its way is the job's
+abbrev pub is_kept_by : ℕ → List Request → Want → Bool
+is_kept_by job earlier w =
+    not (fits earlier w) && list_any (λ v. is_in_the_way v w) (wants_at (requests_of earlier job) w.key)
+
+-- whether a request blocks the first job, and the second keeps it from a want
+abbrev pub is_blocked_by : ℕ → ℕ → List Request → Request → Bool
+is_blocked_by job other earlier r = is_blocked job earlier r && list_any (is_kept_by other earlier) r.wants.items
+
+-- whether the first job waits for the second
+abbrev pub waits_for : List Request → ℕ → ℕ → Bool
+waits_for requests job other = some_behind (is_blocked_by job other) [] requests
