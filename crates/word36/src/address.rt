@@ -1,7 +1,11 @@
 //! Places in memory.
 
-ghost use Rattle.std.specs.Prelude.{◌≡◌, ◌+◌, ◌%◌, ◌^◌, ◌<◌, IsSome, IfSome, ◌↔◌};
+ghost use Rattle.std.specs.Prelude.{◌≡◌, ◌+◌, ◌%◌, ◌^◌, ◌<◌, IsSome, IfSome, ◌↔◌, Some};
+ghost use Rattle.word36.specs.Octal.{octal};
 
+use crate::octal_half;
+use arrayvec::ArrayString;
+use std::fmt;
 use std::marker::Model;
 
 /// A place in memory: a number of 18 bits, 0 to 777777 octal.
@@ -59,5 +63,20 @@ impl Address {
         Address {
             number: (self.number + more) & 0o777_777,
         }
+    }
+
+    /// The place as the manuals print it, in six octal digits: `000140`.
+    pub fn octal(self) -> ArrayString<6>
+        ensures { result.bytes ≡ octal 6 self }
+    {
+        octal_half(self.number)
+    }
+}
+
+impl fmt::Display for Address {
+    ghost output = { λ a. Some (octal 6 a) };
+
+    fn fmt<W: fmt::Write>(&self, f: &mut fmt::Formatter<W>) -> fmt::Result {
+        f.pad(self.octal().as_str())
     }
 }

@@ -3,13 +3,20 @@
 
 mod address;
 mod image;
+mod octal;
+mod sixbit_text;
 mod sizes;
 mod word;
 
 pub use address::Address;
 pub use image::Image;
+pub use octal::{octal_half, octal_text};
+pub use sixbit_text::sixbit;
 pub use sizes::{
     BLOCK_WORDS, DATA_WORDS, INPUT_RING, JOBS, LINES, LOCKS_A_CALL, MOST_BLOCKS, NAME_LENGTH,
     OUTPUT_RING, REQUESTS, TAKEN_AT_ONCE,
 };
 pub use word::Word;
+
+#[cfg(test)]
+mod tests;
