@@ -9,3 +9,4 @@ pub mod Dequeues
 pub mod Changes
 pub mod Calls
 pub mod StatusWords
+pub mod StatusSteps

@@ -15,31 +15,39 @@ has_job requests job = list_any (λ r. r.job == job) requests
 abbrev pub is_exclusive : Want → Bool
 is_exclusive w = not w.shared && not (is_pooled w)
 
--- the level of the first of some wants, or 0
-abbrev pub first_level : List Want → ℕ
-first_level [] = 0
-first_level (w ∷ later) = w.level
+-- the level of the first of some wants
+abbrev pub first_level : List Want → Option ℕ
+first_level [] = None
+first_level (w ∷ later) = Some w.level
 
 -- the job of the first of some requests
 abbrev pub first_job : List Request → Option ℕ
 first_job [] = None
 first_job (r ∷ later) = Some r.job
 
--- what an asker is told of a key: whether it owns it and waits for it; whether an owner has it exclusively, without a
--- pool; the level of its present wants; the first owner; how many requests own it and wait for it; and how much of a
--- pool its owners have
+-- what an asker is told of a key of this level that these requests own and these wait for: whether it owns it and waits
+-- for it; whether an owner has it exclusively, without a pool; the level; the first owner; how many requests own it and
+-- wait for it; and how much of a pool its owners have
+abbrev pub standing : Key → ℕ → ℕ → List Request → List Request → Status
+standing key asker level owning waiting =
+    record {
+      owns = has_job owning asker;
+      waits = has_job waiting asker;
+      exclusive = list_any is_exclusive (wants_at owning key);
+      level = level;
+      first_owner = first_job owning;
+      owner_count = length owning;
+      waiter_count = length waiting;
+      amount = sum_by amount_of (wants_at owning key);
+    }
+
+abbrev pub level_of : List Request → Key → ℕ
+level_of requests key = unwrap_or (first_level (wants_at requests key)) 0
+
+-- what an asker is told of a key, whose present wants all have the level of the first; without any the level is 0
 abbrev pub status_of : List Request → Key → ℕ → Status
 status_of requests key asker =
-    record {
-      owns = has_job (owners requests key) asker;
-      waits = has_job (waiters requests key) asker;
-      exclusive = list_any is_exclusive (wants_at (owners requests key) key);
-      level = first_level (wants_at requests key);
-      first_owner = first_job (owners requests key);
-      owner_count = length (owners requests key);
-      waiter_count = length (waiters requests key);
-      amount = sum_by amount_of (wants_at (owners requests key) key);
-    }
+    standing key asker (level_of requests key) (owners requests key) (waiters requests key)
 
 -- a flag in bit b of a word's left half
 abbrev pub left_bit : ℕ → Bool → ℕ

@@ -2,11 +2,18 @@
 #![tactic(auto)]
 
 mod call;
+mod changes;
+mod dequeues;
+mod enqueues;
+mod jobs;
 mod key;
 mod name;
+mod plain;
 mod pool;
+mod queue;
 mod refusal;
 mod request;
+mod standing;
 mod status;
 mod table;
 mod want;
@@ -14,6 +21,7 @@ mod want;
 pub use call::{LockCall, LockReply};
 pub use key::{Key, Scope};
 pub use name::{Name, NameText, UserCode};
+pub use plain::PlainTable;
 pub use pool::Pool;
 pub use refusal::Refusal;
 pub use request::{EnqueueKind, Request, RequestId};

@@ -1,0 +1,140 @@
+//! What concerns the requests of one job: which wait, which are told, which leave.
+ghost use Rattle.std.specs.Prelude.{◌≡◌, ◌≤◌, vec_len, vec_capacity, filter};
+ghost use Rattle.std.specs.List.{list_any};
+ghost use Rattle.lock_queue.specs.Jobs.{is_blocked, is_waiting_job, withdrawn, is_pending, pending, as_told, told_of, is_in_the_way, is_kept_by, is_blocked_by, waits_for};
+ghost use Rattle.lock_queue.specs.Keys.{same_key};
+ghost use Rattle.lock_queue.specs.Queue.{wants_at, requests_of};
+
+use crate::queue::{do_agree, is_fitting, is_granted, is_pooled};
+use crate::{EnqueueKind, Request, RequestId, Want};
+
+/// Whether the job waits by this request: it is blocking, and not granted behind the earlier ones.
+fn is_blocked(earlier: &[Request], r: &Request, job: u8) -> bool
+    ensures { result ≡ is_blocked job earlier.now r.now }
+{
+    r.job == job && matches!(r.kind, EnqueueKind::Blocking) && !is_granted(earlier, r)
+}
+
+/// Whether the job waits by one of its requests.
+pub fn is_waiting(requests: &[Request], job: u8) -> bool
+    ensures { result ≡ is_waiting_job requests.now job }
+{
+    for (i, r) in requests.iter().enumerate() {
+        if is_blocked(&requests[..i], r, job) {
+            return true;
+        }
+    }
+    false
+}
+
+/// Takes out the requests by which the job waits. A request is judged by those before it, so the
+/// last may leave first.
+pub fn remove_blocked(requests: &mut Vec<Request>, job: u8)
+    ensures items { requests.new.items ≡ withdrawn requests.old.items job }
+    ensures len { vec_len requests.new ≤ vec_len requests.old }
+    ensures room { vec_capacity requests.new ≡ vec_capacity requests.old }
+{
+    for i in (0..requests.len()).rev() {
+        let all = requests.as_slice();
+        if is_blocked(&all[..i], &all[i], job) {
+            requests.remove(i);
+        }
+    }
+}
+
+fn is_pending(earlier: &[Request], r: &Request, job: u8) -> bool
+    ensures { result ≡ is_pending job earlier.now r.now }
+{
+    r.job == job && matches!(r.kind, EnqueueKind::Interrupt) && !r.told && is_granted(earlier, r)
+}
+
+/// The id of the job's first granted interrupt request of which it was not told.
+pub fn pending_of(requests: &[Request], job: u8) -> Option<RequestId>
+    ensures { result ≡ pending requests.now job }
+{
+    for (i, r) in requests.iter().enumerate() {
+        if is_pending(&requests[..i], r, job) {
+            return Some(r.id);
+        }
+    }
+    None
+}
+
+fn mark_told(r: &mut Request)
+    ensures { r.new ≡ as_told r.old }
+{
+    r.told = true;
+}
+
+/// Marks that request as told.
+pub fn tell(requests: &mut [Request], job: u8)
+    ensures { requests.new ≡ told_of requests.old job }
+{
+    for i in 0..requests.len() {
+        let all = &requests[..];
+        if is_pending(&all[..i], &all[i], job) {
+            mark_told(&mut requests[i]);
+            return;
+        }
+    }
+}
+
+/// Whether an earlier want of a key stands in the way of a later one.
+fn is_in_the_way(v: &Want, w: &Want) -> bool
+    ensures { result ≡ is_in_the_way v.now w.now }
+{
+    is_pooled(v) || !do_agree(v, w)
+}
+
+fn some_in_the_way(wants: &[Want], w: &Want) -> bool
+    ensures { result ≡ list_any (λ v. is_in_the_way v w.now) (filter (λ v. same_key v.key w.now.key) wants.now) }
+{
+    for v in wants {
+        if v.key == w.key && is_in_the_way(v, w) {
+            return true;
+        }
+    }
+    false
+}
+
+fn job_is_in_the_way(earlier: &[Request], w: &Want, job: u8) -> bool
+    ensures { result ≡ list_any (λ v. is_in_the_way v w.now) (wants_at (requests_of earlier.now job) w.now.key) }
+{
+    for r in earlier {
+        if r.job == job && some_in_the_way(r.wants.as_slice(), w) {
+            return true;
+        }
+    }
+    false
+}
+
+/// Whether a want does not fit, and an earlier want of the job stands in its way.
+fn is_kept_by(earlier: &[Request], w: &Want, job: u8) -> bool
+    ensures { result ≡ is_kept_by job earlier.now w.now }
+{
+    !is_fitting(earlier, w) && job_is_in_the_way(earlier, w, job)
+}
+
+fn is_some_kept(earlier: &[Request], wants: &[Want], job: u8) -> bool
+    ensures { result ≡ list_any (is_kept_by job earlier.now) wants.now }
+{
+    wants.iter().any(|w| is_kept_by(earlier, w, job))
+}
+
+fn is_blocked_by(earlier: &[Request], r: &Request, job: u8, other: u8) -> bool
+    ensures { result ≡ is_blocked_by job other earlier.now r.now }
+{
+    is_blocked(earlier, r, job) && is_some_kept(earlier, r.wants.as_slice(), other)
+}
+
+/// Whether the first job waits for the second.
+pub fn does_wait_for(requests: &[Request], job: u8, other: u8) -> bool
+    ensures { result ≡ waits_for requests.now job other }
+{
+    for (i, r) in requests.iter().enumerate() {
+        if is_blocked_by(&requests[..i], r, job, other) {
+            return true;
+        }
+    }
+    false
+}
