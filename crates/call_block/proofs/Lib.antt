@@ -1,0 +1,4 @@
+pub mod BitLemmas
+pub mod LegalLemmas
+pub mod NameLemmas
+pub mod WantLemmas

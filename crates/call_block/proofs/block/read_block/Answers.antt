@@ -1,0 +1,11 @@
+use Rattle.std.proofs.Common.{◌+◌, ◌*◌, arith, sym, ◌∙◌}
+use Rattle.call_block.proofs.LegalLemmas.{legal_within}
+use Rattle.call_block.proofs.block.read_block.Goals as goal
+
+pub word-id-requires : goal.word-id-requires
+word-id-requires g c =
+    legal_within _ c.number-address.result (2 + 3 * c.left-count.result) _ (sym c.are_legal.ensures ∙ c.if-not-are_legal.false) (omega arith) (omega arith)
+
+pub read_wants-requires-clause-legal : goal.read_wants-requires-clause-legal
+read_wants-requires-clause-legal g c =
+    legal_within _ c.number-address.result (2 + 3 * c.left-count.result) _ (sym c.are_legal.ensures ∙ c.if-not-are_legal.false) (omega arith) (omega arith)

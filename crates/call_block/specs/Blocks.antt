@@ -1,0 +1,53 @@
+-- The block of a lock call (ENQ/DEQ of the TOPS-10 Monitor Calls Manual, in this project's profile).
+use Rattle.std.specs.Prelude.{◌≡◌, ℕ, suc, zero, ◌+◌, ◌*◌, ◌^◌, ◌==◌, ◌&&◌, ◌||◌, nat_lt, Bool, true, not, if◌then◌else◌, unwrap_or, Result, Ok, Err, List, [], ◌∷◌}
+use Rattle.arrayvec.specs.ArrayVec.{ArrayVec}
+use Rattle.word36.specs.declared.sizes.TheConstants.{LOCKS_A_CALL}
+use Rattle.word36.specs.Words.{left_half, right_half}
+use Rattle.ka_cpu.specs.Places.{is_legal, word_at}
+use Rattle.lock_queue.specs.declared.want.Want.{Want}
+use Rattle.lock_queue.specs.declared.refusal.Refusal.{Refusal}
+use Rattle.lock_queue.specs.declared.refusal.Refusal.TheVariants.{BadBlock, BadCount}
+use Rattle.call_block.specs.declared.block.Block.{Block}
+use Rattle.call_block.specs.declared.want.Lock.{Lock}
+use Rattle.call_block.specs.Locks.{want_of}
+use Rattle.call_block.specs.Steps.{◌>>=◌}
+
+-- whether so many words from a place on are legal; behind 777777 octal there is no place
+unfoldable pub are_legal : List ℕ → ℕ → ℕ → Bool
+are_legal core a zero = true
+are_legal core a (suc n) = nat_lt a (2 ^ 18) && is_legal core a && are_legal core (a + 1) n
+
+-- the word at a legal place
+abbrev pub word : List ℕ → List ℕ → ℕ → ℕ
+word ac core a = unwrap_or (word_at ac core a) 0
+
+-- the lock at three legal places
+abbrev pub lock_at : List ℕ → List ℕ → ℕ → Lock
+lock_at ac core a = record { qualifier = word ac core a; name = word ac core (a + 1); pool = word ac core (a + 2) }
+
+-- a job's wants of so many locks, one behind the other from a place on, or the first refusal, lock by
+-- lock
+unfoldable pub wants_at : List ℕ → List ℕ → ℕ → Bool → ℕ → ℕ → Result (List Want) Refusal
+wants_at ac core job full a zero = Ok []
+wants_at ac core job full a (suc n) =
+    want_of ac core job full (lock_at ac core a) >>= (λ want.
+    wants_at ac core job full (a + 3) n >>= (λ wants.
+    Ok (want ∷ wants)))
+
+-- that a result holds these wants, or this refusal
+abbrev pub WantsAre : Result (ArrayVec Want) Refusal → Result (List Want) Refusal → Type 0
+WantsAre (Ok v) wants = wants ≡ Ok v.items
+WantsAre (Err e) wants = wants ≡ Err e
+
+-- the block at a place: `n,,2+3n`, `0,,request id`, and n locks; all of its words are legal, and n is
+-- from 1 to 16
+abbrev pub block_at : List ℕ → List ℕ → ℕ → ℕ → Bool → Result Block Refusal
+block_at ac core a job full =
+    let n = left_half (word ac core a) in
+    let size = 2 + 3 * n in
+    let id = word ac core (a + 1) in
+    if not (are_legal core a size && right_half (word ac core a) == size && left_half id == 0)
+    then Err BadBlock
+    else (if n == 0 || nat_lt LOCKS_A_CALL n then Err BadCount
+    else (wants_at ac core job full (a + 2) n >>= (λ wants.
+    Ok (record { id = right_half id; wants = record { items = wants } }))))

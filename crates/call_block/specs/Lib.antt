@@ -1,0 +1,5 @@
+pub mod Bits
+pub mod Blocks
+pub mod Locks
+pub mod Names
+pub mod Steps

@@ -1,0 +1,124 @@
+//! A block as a whole.
+ghost use Rattle.std.specs.Prelude.{◌≡◌, ◌+◌, ◌-◌, ◌*◌, ◌^◌, ◌<◌, ◌≤◌, IsTrue, IfOk};
+ghost use Rattle.arrayvec.specs.ArrayVec.{array_vec_len};
+ghost use Rattle.ka_cpu.specs.Places.{is_legal};
+ghost use Rattle.call_block.specs.Blocks.{are_legal, word, lock_at, wants_at, block_at, WantsAre};
+
+use crate::want::{Lock, want_of};
+use ka_cpu::{JobMemory, Regs, fetch};
+use lock_queue::{Refusal, RequestId, Wants};
+use word36::{Address, LOCKS_A_CALL, Word};
+
+/// The words of one lock.
+const LOCK_WORDS: u32 = 3;
+
+/// What a lock call asks, as its block says.
+#[derive(Drop)]
+pub struct Block {
+    /// The number by which the job knows the request.
+    pub id: RequestId,
+    /// The locks, in the block's order: 1 to 16.
+    pub wants: Wants,
+}
+
+/// Whether so many words from a place on are legal. The legal places are those below a limit, so the
+/// last word decides.
+#[tactic(auto, using(crate::proofs::LegalLemmas::last_word_decides))]
+fn are_legal<M: JobMemory>(memory: &M, place: u32, count: u32) -> bool
+    requires some { 1 ≤ count }
+    requires few { count < 2 ^ 20 }
+    requires fits { place < 2 ^ 18 }
+    ensures { result ≡ are_legal (M.words memory.now) place count }
+{
+    let end = place + count;
+    end <= 0o1_000_000 && (end <= 16 || end as usize <= memory.size())
+}
+
+/// The word at a legal place.
+fn word<M: JobMemory>(regs: &Regs, memory: &M, place: u32) -> Word
+    requires { IsTrue (is_legal (M.words memory.now) place) }
+    ensures { result ≡ word regs.now.ac (M.words memory.now) place }
+{
+    if place < 16 {
+        regs.ac[place as usize]
+    } else {
+        memory.read(place).unwrap()
+    }
+}
+
+/// The lock whose three words, all legal, stand from a place on.
+fn lock_at<M: JobMemory>(regs: &Regs, memory: &M, place: u32) -> Lock
+    requires fits { place < 2 ^ 20 }
+    requires legal { IsTrue (is_legal (M.words memory.now) (place + 2)) }
+    ensures { result ≡ lock_at regs.now.ac (M.words memory.now) place }
+{
+    Lock {
+        qualifier: word(regs, memory, place),
+        name: word(regs, memory, place + 1),
+        pool: word(regs, memory, place + 2),
+    }
+}
+
+/// The wants of so many locks, all of whose words are legal.
+fn read_wants<M: JobMemory>(
+    regs: &Regs,
+    memory: &M,
+    first: u32,
+    count: u32,
+    job: u8,
+    full: bool,
+) -> Result<Wants, Refusal>
+    requires some { 1 ≤ count }
+    requires few { count ≤ 16 }
+    requires fits { first < 2 ^ 19 }
+    requires legal { IsTrue (is_legal (M.words memory.now) (first + 3 * count - 1)) }
+    ensures wants { WantsAre result (wants_at regs.now.ac (M.words memory.now) job full first count) }
+    ensures counted { IfOk result (λ wants. array_vec_len wants ≡ count) }
+{
+    let mut wants = Wants::new();
+    for lock in 0..count {
+        let lock = lock_at(regs, memory, first + LOCK_WORDS * lock);
+        wants.push(want_of(regs, memory, job, full, lock)?);
+    }
+    Ok(wants)
+}
+
+/// The block of a job's call at an address, over the job's registers and core, or the first refusal:
+/// 3 where a word of the block is not legal, its size is not that of its number of locks, or the left
+/// half of its second word is not 0; 4 where there is no lock or more than 16; then, lock by lock, 5
+/// where a lock has neither a user code nor a pointer to a name, or its name runs off memory, 6 where
+/// the name is empty or longer than 30 characters, 7 where it is neither a name of all jobs nor of the
+/// job alone, and 8 where its pool is wrong. Calls that do not enter requests are not `full`: levels,
+/// the bypass and pools are not looked at (ENQ/DEQ of the TOPS-10 Monitor Calls Manual; the layout and
+/// the codes are this project's profile).
+pub fn read_block<M: JobMemory>(
+    regs: &Regs,
+    memory: &M,
+    address: Address,
+    job: u8,
+    full: bool,
+) -> Result<Block, Refusal>
+    ensures block { result ≡ block_at regs.now.ac (M.words memory.now) address job full }
+    ensures least { IfOk result (λ block. 1 ≤ array_vec_len block.wants) }
+    ensures most { IfOk result (λ block. array_vec_len block.wants ≤ LOCKS_A_CALL) }
+{
+    let address = address.number();
+    let head = fetch(regs, memory, address).ok_or(Refusal::BadBlock)?;
+    let count = head.left();
+    let size = 2 + LOCK_WORDS * count;
+    if head.right() != size || !are_legal(memory, address, size) {
+        return Err(Refusal::BadBlock);
+    }
+    let id = word(regs, memory, address + 1);
+    if id.left() != 0 {
+        return Err(Refusal::BadBlock);
+    }
+    if count == 0 || count as usize > LOCKS_A_CALL {
+        return Err(Refusal::BadCount);
+    }
+    let wants = read_wants(regs, memory, address + 2, count, job, full)?;
+    Ok(Block {
+        id: RequestId::new(id.right()),
+        wants,
+    })
+}

@@ -1,0 +1,13 @@
+//! Tests of the lock queue: calls whose answers were worked out by hand, on the plain table.
+#![tactic(auto)]
+
+#[cfg(test)]
+mod build;
+#[cfg(test)]
+mod limits;
+#[cfg(test)]
+mod refusals;
+#[cfg(test)]
+mod rows;
+#[cfg(test)]
+mod shows;
