@@ -29,10 +29,10 @@ lock_at ac core a = record { qualifier = word ac core a; name = word ac core (a 
 -- lock
 unfoldable pub wants_at : List ℕ → List ℕ → ℕ → Bool → ℕ → ℕ → Result (List Want) Refusal
 wants_at ac core job full a zero = Ok []
-wants_at ac core job full a (suc n) =
-    want_of ac core job full (lock_at ac core a) >>= (λ want.
-    wants_at ac core job full (a + 3) n >>= (λ wants.
-    Ok (want ∷ wants)))
+wants_at ac core job full a (suc n) = do
+  want ← want_of ac core job full (lock_at ac core a)
+  wants ← wants_at ac core job full (a + 3) n
+  Ok (want ∷ wants)
 
 -- that a result holds these wants, or this refusal
 abbrev pub WantsAre : Result (ArrayVec Want) Refusal → Result (List Want) Refusal → Type 0
@@ -41,13 +41,13 @@ WantsAre (Err e) wants = wants ≡ Err e
 
 -- the block at a place: `n,,2+3n`, `0,,request id`, and n locks; all of its words are legal, and n is
 -- from 1 to 16
-abbrev pub block_at : List ℕ → List ℕ → ℕ → ℕ → Bool → Result Block Refusal
+unfoldable pub block_at : List ℕ → List ℕ → ℕ → ℕ → Bool → Result Block Refusal
 block_at ac core a job full =
     let n = left_half (word ac core a) in
     let size = 2 + 3 * n in
     let id = word ac core (a + 1) in
-    if not (are_legal core a size && right_half (word ac core a) == size && left_half id == 0)
-    then Err BadBlock
+    if not (are_legal core a size && right_half (word ac core a) == size && left_half id == 0) then Err BadBlock
     else (if n == 0 || nat_lt LOCKS_A_CALL n then Err BadCount
-    else (wants_at ac core job full (a + 2) n >>= (λ wants.
-    Ok (record { id = right_half id; wants = record { items = wants } }))))
+    else do
+      wants ← wants_at ac core job full (a + 2) n
+      Ok (record { id = right_half id; wants = record { items = wants } }))

@@ -38,13 +38,14 @@ pool_of shared w =
 -- a job's want of a lock; where a call does not look at the full lock, the want is one of level 0,
 -- without bypass and without a pool
 abbrev pub want_of : List ℕ → List ℕ → ℕ → Bool → Lock → Result Want Refusal
-want_of ac core job full lock =
-    name_at ac core lock.name >>= (λ name.
-    scope_of job lock.qualifier >>= (λ scope.
-    (if full then pool_of (is_shared lock.qualifier) lock.pool else Ok None) >>= (λ pool. Ok (record {
-      key = record { scope = scope; name = name };
-      shared = is_shared lock.qualifier;
-      bypass = full && is_bypass lock.qualifier;
-      level = if full then bits 9 17 lock.qualifier else 0;
-      pool = pool;
-    }))))
+want_of ac core job full lock = do
+  name ← name_at ac core lock.name
+  scope ← scope_of job lock.qualifier
+  pool ← if full then pool_of (is_shared lock.qualifier) lock.pool else Ok None
+  Ok (record {
+    key = record { scope = scope; name = name };
+    shared = is_shared lock.qualifier;
+    bypass = full && is_bypass lock.qualifier;
+    level = if full then bits 9 17 lock.qualifier else 0;
+    pool = pool;
+  })

@@ -71,5 +71,7 @@ text_at ac core p = text_of (characters ac core p (NAME_LENGTH + 1))
 -- the name that a word stands for: a user code of 33 bits behind a 5, or the text at a pointer
 abbrev pub name_at : List ℕ → List ℕ → ℕ → Result Name Refusal
 name_at ac core w =
-    if bits 0 2 w == 5 then Ok (Code (bits 3 35 w))
-    else (pointer_of w >>= (λ p. text_at ac core p >>= (λ text. Ok (Text text))))
+    if bits 0 2 w == 5 then Ok (Code (bits 3 35 w)) else do
+      pointer ← pointer_of w
+      text ← text_at ac core pointer
+      Ok (Text text)

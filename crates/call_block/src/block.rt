@@ -91,6 +91,7 @@ fn read_wants<M: JobMemory>(
 /// job alone, and 8 where its pool is wrong. Calls that do not enter requests are not `full`: levels,
 /// the bypass and pools are not looked at (ENQ/DEQ of the TOPS-10 Monitor Calls Manual; the layout and
 /// the codes are this project's profile).
+#[tactic(auto, unfolding(crate::specs::Blocks::block_at))]
 pub fn read_block<M: JobMemory>(
     regs: &Regs,
     memory: &M,

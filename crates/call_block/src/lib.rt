@@ -5,6 +5,8 @@
 mod bits;
 mod block;
 mod name;
+#[cfg(test)]
+mod tests;
 mod want;
 
 pub use block::{Block, read_block};

@@ -1,2 +1,4 @@
 pub mod Families
 pub mod Fields
+pub mod Operations
+pub mod Tables

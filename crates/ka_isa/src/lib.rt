@@ -5,6 +5,13 @@ ghost use Rattle.std.specs.Prelude.{◌≡◌, ℕ, ◌<◌, ◌^◌};
 ghost use Rattle.ka_isa.specs.Fields.{fields_of, word_of};
 ghost use Rattle.ka_isa.specs.Families.{family_of};
 
+mod calls;
+mod mnemonics;
+mod names;
+
+pub use calls::Named;
+pub use mnemonics::mnemonic;
+pub use names::named;
 use word36::Word;
 
 /// The fields of an instruction.

@@ -1,0 +1,36 @@
+-- The laws along a list of calls.
+use Rattle.std.proofs.Common.{◌≡◌, ◌≤◌, ◌<◌, ◌∙◌, sym, ap, subst, ℕ, zero, suc, false, List, [], ◌∷◌, length, take, Option, Some, slice_get, refl, arith}
+use Rattle.lock_queue.specs.declared.call.LockCall.{LockCall}
+use Rattle.lock_queue.specs.declared.request.Request.{Request}
+use Rattle.lock_queue.specs.Calls.{outcome_of, requests_after}
+use Rattle.lock_queue.specs.Jobs.{is_waiting_job}
+use Rattle.lock_laws.specs.Runs.{requests_at, AlwaysSafe, AlwaysKeepsOwners, CallersAreFree, NeverPlainCircle}
+use Rattle.lock_laws.proofs.CallSteps.{step_of}
+use Rattle.lock_laws.proofs.Circling.{WaitsLast, waits-step, waits-none}
+use Rattle.lock_laws.proofs.Invariant.{Kept, kept-calls, kept-none, safe-kept}
+use Rattle.lock_laws.proofs.Keeping.{keeps_owners}
+use Rattle.lock_laws.proofs.Ranks.{no_plain_circle}
+
+kept-at : (calls : List (ℕ × LockCall)) (k : ℕ) → Kept (requests_at calls k)
+kept-at calls k = kept-calls [] (take k calls) kept-none
+
+pub always_safe : (calls : List (ℕ × LockCall)) → AlwaysSafe calls
+always_safe calls k le = safe-kept (requests_at calls k) (kept-at calls k)
+
+pub always_keeps_owners : (calls : List (ℕ × LockCall)) → AlwaysKeepsOwners calls
+always_keeps_owners calls k call at = keeps_owners (requests_at calls k) call.0 call.1
+
+-- a job that waits has made no call since
+waits-calls : (requests : List Request) (calls : List (ℕ × LockCall))
+    → ((k : ℕ) (call : ℕ × LockCall) → slice_get calls k ≡ Some call → is_waiting_job (requests_after requests (take k calls)) call.0 ≡ false)
+    → WaitsLast requests → (k : ℕ) → WaitsLast (requests_after requests (take k calls))
+waits-calls requests [] free w zero = w
+waits-calls requests [] free w (suc k) = w
+waits-calls requests (c ∷ later) free w zero = w
+waits-calls requests (c ∷ later) free w (suc k) =
+    waits-calls (outcome_of requests c.0 c.1).requests later (λ n call at. free (suc n) call at)
+    (waits-step c.0 c.1 requests (outcome_of requests c.0 c.1).requests (step_of requests c.0 c.1) (free zero c refl) w) k
+
+pub never_plain_circle : (calls : List (ℕ × LockCall)) → CallersAreFree calls → NeverPlainCircle calls
+never_plain_circle calls free k le =
+    no_plain_circle (requests_at calls k) (kept-at calls k).ordered (waits-calls [] calls free waits-none k)

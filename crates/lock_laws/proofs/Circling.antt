@@ -1,0 +1,119 @@
+-- No circle of waits consists of plain jobs.
+use Rattle.std.proofs.Common.{◌≡◌, ◌≢◌, ◌≤◌, ◌<◌, ◌∙◌, sym, ap, subst, ℕ, zero, suc, Bool, true, false, not, ◌&&◌, ◌==◌, List, [], ◌∷◌, ◌++◌, length, map, filter, take, slice_get, Option, Some, None, ◌⊎◌, inl, inr, refl, arith, rules, append_assoc}
+use Rattle.std.specs.List.{list_all, list_any}
+use Rattle.std.proofs.lemmas.Bool.{and_parts, and_from, both_ways, eqb-true, eq-eqb, not-true, false_from_ne_true, not_from_false}
+use Rattle.std.proofs.lemmas.Grind.{common_steps}
+use Rattle.std.proofs.lemmas.List.{map-append}
+use Rattle.lock_queue.specs.declared.call.LockCall.{LockCall}
+use Rattle.lock_queue.specs.declared.request.Request.{Request}
+use Rattle.lock_queue.specs.declared.want.Want.{Want}
+use Rattle.lock_queue.specs.Jobs.{is_blocking, is_blocked, is_waiting_job, is_in_the_way, is_kept_by, is_blocked_by, waits_for}
+use Rattle.lock_queue.specs.Queue.{all_wants, fits, granted_behind, requests_of, wants_at}
+use Rattle.lock_laws.specs.Claims.{Claim, claim_of, claims_of, claims}
+use Rattle.lock_laws.specs.Circles.{has_one_plain_want, is_plain, is_chain, is_circle, NoPlainCircle}
+use Rattle.lock_laws.proofs.CallSteps.{Step, grows, releases}
+use Rattle.lock_laws.proofs.Fitting.{granted_behind-fewer, same_key-eq}
+use Rattle.lock_laws.proofs.Granting.{Kin, kin}
+use Rattle.lock_laws.proofs.Lists.{Has, Has-left, Has-right, Has-cases, Has-map, map-Has, Has-filter, filter-Has, flat_map-Has, Has-flat_map, Pairs, Pairs-across, list_all-Has, list_any-found, flat_map-append}
+use Rattle.lock_laws.proofs.Places.{Split, Found, some_found, some-split, push-append, Has-middle}
+use Rattle.lock_laws.proofs.Steps.{Ordered, Grows, stays, arrives, changes, Releases, Releases-source, Releases-jobs}
+
+-- a request by which its job waits is the job's last
+unfoldable pub WaitsLast : List Request → Type 0
+WaitsLast rs =
+    (a b : List Request) (r : Request) → rs ≡ a ++ r ∷ b → is_blocking r.kind ≡ true → granted_behind a r ≡ false → (q : Request) → Has b q
+    → q.job ≢ r.job
+
+-- the places of a list with one more item
+push-split : {X : Type 0} (xs a b : List X) (q r : X) → xs ++ q ∷ [] ≡ a ++ r ∷ b
+    → (b ≡ []) ⊎ ((m : List X) × (b ≡ m ++ q ∷ []) × (xs ≡ a ++ r ∷ m))
+push-split [] [] b q r is = inl (cc)
+push-split [] (y ∷ []) b q r is = absurd (cc)
+push-split [] (y ∷ (z ∷ a)) b q r is = absurd (cc)
+push-split (x ∷ xs) [] b q r is = inr (xs, cc, cc)
+push-split (x ∷ xs) (y ∷ a) b q r is =
+    let same : x ≡ y = cc in
+    let rest : xs ++ q ∷ [] ≡ a ++ r ∷ b = cc in
+    elim (push-split xs a b q r rest) [
+      | inl e ↦ inl e
+      | inr m ↦ inr (m.0, m.1, ap (λ l. x ∷ l) m.2 ∙ ap (λ u. u ∷ (a ++ r ∷ m.0)) same)
+    ]
+
+-- the places of a changed list
+record MapSplit {X Y : Type 0} (f : X → Y) (xs : List X) (a : List Y) (y : Y) (b : List Y) : Type 0 where
+  before : List X
+  item : X
+  after : List X
+  is : xs ≡ before ++ item ∷ after
+  before_is : map f before ≡ a
+  item_is : f item ≡ y
+  after_is : map f after ≡ b
+
+map-split : {X Y : Type 0} (f : X → Y) (xs : List X) (a : List Y) (y : Y) (b : List Y) → map f xs ≡ a ++ y ∷ b → MapSplit f xs a y b
+map-split f [] [] y b is = absurd (cc)
+map-split f [] (z ∷ a) y b is = absurd (cc)
+map-split f (x ∷ xs) [] y b is = record { before = []; item = x; after = xs; is = refl; before_is = refl; item_is = cc; after_is = cc }
+map-split f (x ∷ xs) (z ∷ a) y b is =
+    let same : f x ≡ z = cc in
+    let rest : map f xs ≡ a ++ y ∷ b = cc in
+    let s = map-split f xs a y b rest in
+    record {
+      before = x ∷ s.before;
+      item = s.item;
+      after = s.after;
+      is = ap (λ l. x ∷ l) s.is;
+      before_is = ap (λ l. f x ∷ l) s.before_is ∙ ap (λ u. u ∷ a) same;
+      item_is = s.item_is;
+      after_is = s.after_is;
+    }
+
+waits-grows : (job : ℕ) (before after : List Request) → Grows job before after → is_waiting_job before job ≡ false → WaitsLast before → WaitsLast after
+unfolding WaitsLast
+waits-grows job before after (stays e) free w a b r is blocking waits q h = w a b r (sym e ∙ is) blocking waits q h
+waits-grows job before after (arrives p e c) free w a b r is blocking waits q h =
+    elim (push-split before a b p r (sym e ∙ is)) [
+      | inl none ↦ let empty : Has [] q = subst (λ l. Has l q) none h in absurd empty
+      | inr m ↦ elim (Has-cases m.0 (p ∷ []) q (subst (λ l. Has l q) m.1 h)) [
+        | inl earlier ↦ w a m.0 r m.2 blocking waits q earlier
+        | inr last ↦ elim last [
+          | inl same ↦ λ mine.
+              let by : r.job ≡ job = sym mine ∙ ap (λ (u : Request). u.job) (sym same) ∙ c.by in
+              let blocked : is_blocked job a r ≡ true = and_from _ _ (and_from _ _ (eq-eqb r.job job by) blocking) (not_from_false _ waits) in
+              let busy : is_waiting_job before job ≡ true =
+              subst (λ l. is_waiting_job l job ≡ true) (sym m.2) (some-split (is_blocked job) [] a m.0 r blocked) in
+              both_ways (is_waiting_job before job) free busy
+          | inr gone ↦ absurd gone
+        ]
+      ]
+    ]
+waits-grows job before after (changes f e c) free w a b r is blocking waits q h =
+    let s = map-split f before a r b (sym e ∙ is) in
+    let k : is_blocking s.item.kind ≡ true = subst (λ n. is_blocking n ≡ true) (sym (ap (λ (u : Request). u.kind) s.item_is) ∙ c.kind s.item) blocking in
+    let was : granted_behind s.before s.item ≡ false =
+    false_from_ne_true _ (λ t.
+    let now : granted_behind a r ≡ true =
+    subst (λ l. granted_behind l r ≡ true) s.before_is (subst (λ u. granted_behind (map f s.before) u ≡ true) s.item_is (c.kept s.before s.after s.item s.is t)) in
+    both_ways (granted_behind a r) waits now) in
+    let from = map-Has f s.after q (subst (λ l. Has l q) (sym s.after_is) h) in
+    λ mine.
+    w s.before s.after s.item s.is k was from.0 from.1
+    (sym (c.job from.0) ∙ ap (λ (u : Request). u.job) from.2 ∙ mine ∙ ap (λ (u : Request). u.job) (sym s.item_is) ∙ c.job s.item)
+
+waits-releases : (job : ℕ) (before after : List Request) → Releases job before after → WaitsLast before → WaitsLast after
+unfolding WaitsLast
+waits-releases job before after s w a b r is blocking waits q h =
+    let o = Releases-source job s a b r is in
+    let was : granted_behind o.earlier o.request ≡ false =
+    false_from_ne_true _ (λ t. both_ways (granted_behind a r) waits (granted_behind-fewer a o.earlier r o.request o.fewer o.wants t)) in
+    let from = Releases-jobs job o.rest q h in
+    λ mine. w o.earlier o.later o.request o.is (subst (λ n. is_blocking n ≡ true) o.kind blocking) was from.0 from.1 (sym from.2 ∙ mine ∙ o.by)
+
+pub waits-step : (job : ℕ) (call : LockCall) (before after : List Request) → Step job call before after → is_waiting_job before job ≡ false
+    → WaitsLast before → WaitsLast after
+waits-step job call before after (grows g) free w = waits-grows job before after g free w
+waits-step job call before after (releases d s) free w = waits-releases job before after s w
+
+pub waits-none : WaitsLast []
+unfolding WaitsLast
+waits-none [] b r is = absurd (cc)
+waits-none (x ∷ a) b r is = absurd (cc)

@@ -1,0 +1,78 @@
+-- Who owns a key goes on owning it, but for its own dequeues.
+use Rattle.std.proofs.Common.{◌≡◌, ◌≢◌, ◌∙◌, sym, ap, subst, ℕ, Bool, true, false, ◌&&◌, ◌==◌, List, [], ◌∷◌, ◌++◌, map, ◌⊎◌, inl, inr, refl, arith, rules, append_assoc}
+use Rattle.std.specs.List.{list_any}
+use Rattle.std.proofs.lemmas.Bool.{and_parts, and_from, both_ways, eqb-true, eq-eqb, cases_eq}
+use Rattle.std.proofs.lemmas.Grind.{common_steps}
+use Rattle.std.proofs.lemmas.List.{map-append}
+use Rattle.lock_queue.specs.declared.call.LockCall.{LockCall}
+use Rattle.lock_queue.specs.declared.key.Key.{Key}
+use Rattle.lock_queue.specs.declared.request.Request.{Request}
+use Rattle.lock_queue.specs.declared.want.Want.{Want}
+use Rattle.lock_queue.specs.Calls.{outcome_of}
+use Rattle.lock_queue.specs.Queue.{granted_behind, names, is_owner, owners}
+use Rattle.lock_laws.specs.Owning.{owns, is_dequeue, KeepsOwners}
+use Rattle.lock_laws.proofs.CallSteps.{Step, grows, releases, step_of}
+use Rattle.lock_laws.proofs.Fitting.{granted_behind-fewer, names-found}
+use Rattle.lock_laws.proofs.Lists.{Has, list_any-Has, list_any-found, Sub-refl}
+use Rattle.lock_laws.proofs.Places.{Split, Chosen, chosen-Has, Has-chosen, push-append}
+use Rattle.lock_laws.proofs.Steps.{Grows, stays, arrives, changes, Releases, Releases-target}
+
+-- a granted request with a want of the key, and its place
+record Owning (requests : List Request) (job : ℕ) (key : Key) : Type 0 where
+  request : Request
+  split : Split requests request
+  by : request.job ≡ job
+  named : names request.wants.items key ≡ true
+  granted : granted_behind split.before request ≡ true
+
+owning : (requests : List Request) (job : ℕ) (key : Key) → owns requests job key ≡ true → Owning requests job key
+owning requests job key h =
+    let r = list_any-found (λ (q : Request). q.job == job) (owners requests key) h in
+    let c = chosen-Has (is_owner key) [] requests r.0 r.1 in
+    let parts = and_parts (names r.0.wants.items key) (granted_behind c.split.before r.0) c.passes in
+    record { request = r.0; split = c.split; by = eqb-true r.0.job job r.2; named = parts.0; granted = parts.1 }
+
+owns-at : (requests a b : List Request) (r : Request) (job : ℕ) (key : Key) → requests ≡ a ++ r ∷ b → r.job ≡ job → names r.wants.items key ≡ true
+    → granted_behind a r ≡ true → owns requests job key ≡ true
+owns-at requests a b r job key is by named granted =
+    let there : Has (owners (a ++ r ∷ b) key) r = Has-chosen (is_owner key) [] a b r (and_from _ _ named granted) in
+    subst (λ l. owns l job key ≡ true) (sym is)
+    (list_any-Has (λ (q : Request). q.job == job) (owners (a ++ r ∷ b) key) r (eq-eqb r.job job by) there)
+
+owns-grows : (caller : ℕ) (before after : List Request) (job : ℕ) (key : Key) → Grows caller before after → owns before job key ≡ true → owns after job key ≡ true
+owns-grows caller before after job key (stays e) h = subst (λ l. owns l job key ≡ true) (sym e) h
+owns-grows caller before after job key (arrives r e a) h =
+    let o : Owning before job key = owning before job key h in
+    owns-at after o.split.before (o.split.after ++ r ∷ []) o.request job key
+    (e ∙ ap (λ l. l ++ r ∷ []) o.split.is ∙ append_assoc o.split.before (o.request ∷ o.split.after) (r ∷ [])) o.by o.named o.granted
+owns-grows caller before after job key (changes f e c) h =
+    let o : Owning before job key = owning before job key h in
+    owns-at after (map f o.split.before) (map f o.split.after) (f o.request) job key
+    (e ∙ ap (map f) o.split.is ∙ map-append f o.split.before (o.request ∷ o.split.after)) (c.job o.request ∙ o.by) (c.named o.request key o.named)
+    (c.kept o.split.before o.split.after o.request o.split.is o.granted)
+
+-- a job that makes no dequeue keeps what it owns through one
+owns-releases : (caller : ℕ) (before after : List Request) (job : ℕ) (key : Key) → Releases caller before after → (caller ≡ job → ⊥)
+    → owns before job key ≡ true → owns after job key ≡ true
+owns-releases caller before after job key s other h =
+    let o : Owning before job key = owning before job key h in
+    let some : o.request.wants.items ≢ [] =
+    λ none. let w = names-found o.request.wants.items key o.named in let gone : Has [] w.0 = subst (λ l. Has l w.0) none w.1 in absurd gone in
+    let t = Releases-target caller s o.split.before o.split.after o.request o.split.is (λ e. other (sym e ∙ o.by)) some in
+    owns-at after t.earlier t.later o.request job key t.is o.by o.named
+    (granted_behind-fewer t.earlier o.split.before o.request o.request t.fewer (Sub-refl o.request.wants.items) o.granted)
+
+keeps-step : (requests after : List Request) (caller : ℕ) (call : LockCall) → Step caller call requests after → (job : ℕ) (key : Key)
+    → owns requests job key ≡ true → owns after job key ≡ false → (is_dequeue call ≡ true) × (caller ≡ job)
+keeps-step requests after caller call (grows g) job key h lost =
+    absurd (both_ways (owns after job key) lost (owns-grows caller requests after job key g h))
+keeps-step requests after caller call (releases d s) job key h lost = (
+  d,
+  elim (cases_eq caller job) [
+    | inl e ↦ e
+    | inr other ↦ absurd (both_ways (owns after job key) lost (owns-releases caller requests after job key s other h))
+  ],
+)
+
+pub keeps_owners : (requests : List Request) (caller : ℕ) (call : LockCall) → KeepsOwners requests caller call
+keeps_owners requests caller call = keeps-step requests _ caller call (step_of requests caller call)

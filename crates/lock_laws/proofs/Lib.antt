@@ -1,0 +1,17 @@
+pub mod Lists
+pub mod Places
+pub mod Fitting
+pub mod Steps
+pub mod Arrivals
+pub mod Departures
+pub mod Modifications
+pub mod CallSteps
+pub mod Words
+pub mod Granting
+pub mod PoolSums
+pub mod Telling
+pub mod Invariant
+pub mod Keeping
+pub mod Circling
+pub mod Ranks
+pub mod AlongCalls

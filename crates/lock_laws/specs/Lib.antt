@@ -1,0 +1,5 @@
+pub mod Claims
+pub mod Safe
+pub mod Owning
+pub mod Circles
+pub mod Runs

@@ -1,0 +1,10 @@
+//! The safety of the lock queue over every list of calls.
+#![tactic(auto)]
+
+mod laws;
+mod runs;
+#[cfg(test)]
+mod tests;
+
+pub use laws::{calls_are_safe, jobs_keep_their_locks, plain_jobs_make_no_circle};
+pub use runs::run_safely;

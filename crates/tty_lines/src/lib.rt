@@ -1,0 +1,20 @@
+//! Terminal lines: for each, the characters that were typed and not yet read, and those that were
+//! put out and not yet taken.
+#![tactic(auto)]
+
+mod char7;
+mod line;
+mod line_error;
+mod lines;
+mod taken_text;
+#[cfg(test)]
+mod tests;
+
+pub use char7::Char7;
+pub use line_error::LineError;
+pub use lines::Lines;
+pub use taken_text::TakenText;
+
+// A crate can name `Lines` in a contract only if the types of its fields are exported.
+#[doc(hidden)]
+pub use line::Line;
