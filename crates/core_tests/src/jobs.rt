@@ -95,6 +95,21 @@ pub fn grow<C: CoreStore>(cores: &mut C, job: u8) -> Result<(), NoCore>
     cores.resize(job, blocks)
 }
 
+/// Makes a job's core so many blocks, whether it has any or not.
+pub fn set_blocks<C: CoreStore>(cores: &mut C, job: u8, blocks: u32) -> Result<(), NoCore>
+    requires number { IsJob job }
+    requires some { 1 ≤ blocks }
+    ensures cases { IsOk result ↔ (blocks ≤ (C.meaning cores.old).free + blocks_of (C.meaning cores.old) job) }
+    ensures ok { OnOk result (C.meaning cores.new ≡ resized (C.meaning cores.old) job blocks) }
+    ensures err { OnErr result (C.meaning cores.new ≡ C.meaning cores.old) }
+{
+    if cores.blocks(job) == 0 {
+        cores.take(job, blocks)
+    } else {
+        cores.resize(job, blocks)
+    }
+}
+
 /// Two jobs come, each with a word stored in its core; the first grows, and the second goes.
 pub fn come_and_go<C: CoreStore>(
     cores: &mut C,

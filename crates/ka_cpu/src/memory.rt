@@ -2,7 +2,7 @@
 
 ghost use Rattle.std.specs.Prelude.{◌≡◌, ℕ, ◌<◌, List, slice_get, slice_set, nat_lt, length};
 ghost use Rattle.std.specs.Borrow.{GName};
-ghost use Rattle.ka_cpu.specs.Places.{word_at};
+ghost use Rattle.ka_cpu.specs.Places.{word_at, ac_with, core_with};
 
 use crate::Regs;
 use word36::Word;
@@ -32,6 +32,7 @@ pub trait JobMemory {
 }
 
 /// The word at a place, if it is legal: registers lie at the places below 20 octal.
+#[inline(always)]
 pub fn fetch<M: JobMemory>(regs: &Regs, memory: &M, a: u32) -> Option<Word>
     ensures { result ≡ word_at regs.now.ac (M.words memory.now) a }
 {
@@ -39,5 +40,19 @@ pub fn fetch<M: JobMemory>(regs: &Regs, memory: &M, a: u32) -> Option<Word>
         Some(regs.ac[a as usize])
     } else {
         memory.read(a)
+    }
+}
+
+/// Stores a word at a place; at one that is not legal nothing changes.
+#[inline(always)]
+pub fn store<M: JobMemory>(regs: &mut Regs, memory: &mut M, a: u32, word: Word)
+    ensures regs { regs.new ≡ record regs.old { ac = ac_with regs.old.ac a word } }
+    ensures core { M.words memory.new ≡ core_with (M.words memory.old) a word }
+    ensures place { M.place memory.new ≡ M.place memory.old }
+{
+    if a < 16 {
+        regs.ac[a as usize] = word;
+    } else {
+        memory.write(a, word);
     }
 }

@@ -1,3 +1,4 @@
 pub mod TableLemmas
 pub mod SearchLemmas
 pub mod MeaningLemmas
+pub mod DistinctLemmas

@@ -1,10 +1,10 @@
 -- What a name means, by its operation or its call.
-use Rattle.std.proofs.Common.{◌≡◌, ℕ, List, [], ◌∷◌, ◌++◌, map, Bool, true, false, Option, Some, None, ◌+◌, ◌<◌, ◌≤◌, refl, ◌∙◌, arith}
+use Rattle.std.proofs.Common.{◌≡◌, ℕ, List, [], ◌∷◌, ◌++◌, map, Bool, true, false, Option, Some, None, ◌+◌, ◌<◌, ◌≤◌, refl, arith}
 use Rattle.std.proofs.lemmas.Bool.{and_parts, leb-true}
 use Rattle.ka_isa.specs.Tables.{end_before}
 use Rattle.std.specs.Str.{bytes_eq}
 use Rattle.std.specs.Option.{option_map}
-use Rattle.std.specs.Prelude.{if◌then◌else◌, nat_le, ◌==◌}
+use Rattle.std.specs.Prelude.{if◌then◌else◌, nat_le}
 use Rattle.ka_isa.specs.declared.calls.Named.{Named}
 use Rattle.ka_isa.specs.declared.calls.Call.{Call}
 use Rattle.ka_isa.specs.Operations.{Name, Operation, NamedCall, Meaning, operations, calls, code_in, call_in, operation_meaning, call_meaning, meanings, meaning_in, named_of}

@@ -1,9 +1,8 @@
 -- A binary search in the names as they are sorted finds each operation by its name, and nothing by another text.
-use Rattle.std.proofs.Common.{◌≡◌, ◌≢◌, ℕ, zero, suc, ◌+◌, ◌<◌, ◌≤◌, List, [], ◌∷◌, length, map, get_or, Bor, Bool, true, false, not, ◌&&◌, Option, Some, None, Result, Ok, Err, refl, sym, ap, ◌∙◌, subst, inl, inr, ◌⊎◌, nat_cmp, arith}
-use Rattle.std.specs.Prelude.{◌==◌}
+use Rattle.std.proofs.Common.{◌≡◌, ◌≢◌, ℕ, zero, suc, ◌+◌, ◌<◌, List, [], ◌∷◌, length, map, get_or, Bor, true, false, ◌&&◌, Option, Some, None, Err, refl, sym, ap, ◌∙◌, inl, inr, ◌⊎◌, nat_cmp, arith}
 use Rattle.std.specs.Str.{bytes_eq}
-use Rattle.std.specs.List.{list_all, list_any}
-use Rattle.std.specs.List.Sorted.{IsSortedBy, IsBinarySearchResult}
+use Rattle.std.specs.List.{list_any}
+use Rattle.std.specs.List.Sorted.{IsBinarySearchResult}
 use Rattle.std.specs.Ordering.{is_lt, is_eq}
 use Rattle.std.specs.declared.cmp.Ordering.TheVariants.{Less, Equal, Greater}
 use Rattle.std.specs.Cmp.Lexicographic.{slice_cmp}
@@ -71,11 +70,12 @@ no_code (o ∷ os) names name h none =
 pub no_code_found : (table : List (Bor (List ℕ))) (codes name : List ℕ) (place : ℕ) → are_by_name (map (λ x. x.now) table) codes ≡ true → IsBinarySearchResult {X = Bor (List ℕ)} (λ y. slice_cmp nat_cmp y.now name) table (Err place) → None ≡ code_in operations name
 unfolding are_by_name
 no_code_found table codes name place h found =
-    let parts = and_parts _ _ h in
-    let sorted = sorted_from table (and_parts _ _ parts.0).1 in
+    let names = map (λ x. x.now) table in
+    let parts = and_parts (have_codes operations names codes && are_sorted names) (have_names names operations) h in
+    let sorted = sorted_from table (and_parts (have_codes operations names codes) (are_sorted names) parts.0).1 in
     let parted = found (searchable_from_sorted nat_list_cmp_total (λ y. y.now) table name (λ k d p q. sorted k d q)) in
     let none = none_there table name (λ k d p e. apart (cases_lt k place) (get_or table k d).now e (λ q. parted.0 k d (omega arith) q) (λ q. parted.1 k d q p)) in
-    no_code operations _ name parts.1 none
+    no_code operations names name parts.1 none
   where
     apart : {P Q : Type 0} → P ⊎ Q → (text : List ℕ) → text ≡ name → (P → slice_cmp nat_cmp text name ≡ Less) → (Q → slice_cmp nat_cmp text name ≡ Greater) → ⊥
     apart s text e less greater =

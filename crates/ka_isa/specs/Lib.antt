@@ -2,3 +2,4 @@ pub mod Families
 pub mod Fields
 pub mod Operations
 pub mod Tables
+pub mod Text

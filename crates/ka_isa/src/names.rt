@@ -1,10 +1,12 @@
 //! What a name at the head of a statement means: an operation, or a call by its name.
 
-ghost use Rattle.std.specs.Prelude.{◌≡◌, IsTrue, map};
-ghost use Rattle.ka_isa.specs.Operations.{named_of, operations, code_in};
+ghost use Rattle.std.specs.Prelude.{◌≡◌, ◌≢◌, IsTrue, AllPairs, map, length};
+ghost use Rattle.std.specs.Option.{option_map};
+ghost use Rattle.ka_isa.specs.Operations.{named_of, name_of, operations, operation_meaning, meanings, code_in};
 ghost use Rattle.ka_isa.specs.Tables.{are_by_name};
 
 use crate::calls::{CALLS, Named, call_in, call_meaning};
+use crate::mnemonics::mnemonic;
 use word36::Word;
 
 /// The names of all operations as they are sorted.
@@ -98,4 +100,20 @@ pub fn named(name: &str) -> Option<Named>
             Some(call_meaning(call))
         }
     }
+}
+
+/// What the name of an operation means: that operation, wherever it has a name. So no operation's
+/// name is that of another, or of a call.
+pub fn name_round_trip(op: u16) -> Option<Named>
+    ensures { result ≡ option_map (λ _. operation_meaning op) (name_of op) }
+{
+    named(mnemonic(op)?)
+}
+
+/// How many names there are, of operations and of calls: no two of them are alike.
+pub fn name_count() -> usize
+    ensures count { result ≡ length meanings }
+    ensures distinct { AllPairs (λ one other. one.name ≢ other.name) meanings }
+{
+    NAMES.len() + CALLS.len()
 }

@@ -1,5 +1,5 @@
 -- The laws along a list of calls.
-use Rattle.std.proofs.Common.{◌≡◌, ◌≤◌, ◌<◌, ◌∙◌, sym, ap, subst, ℕ, zero, suc, false, List, [], ◌∷◌, length, take, Option, Some, slice_get, refl, arith}
+use Rattle.std.proofs.Common.{◌≡◌, ℕ, zero, suc, false, List, [], ◌∷◌, take, Some, slice_get, refl}
 use Rattle.lock_queue.specs.declared.call.LockCall.{LockCall}
 use Rattle.lock_queue.specs.declared.request.Request.{Request}
 use Rattle.lock_queue.specs.Calls.{outcome_of, requests_after}

@@ -1,28 +1,25 @@
 -- What a request that arrives has passed.
-use Rattle.std.proofs.Common.{◌≡◌, ◌≢◌, ◌≤◌, ◌<◌, ◌∙◌, sym, ap, subst, ℕ, Bool, true, false, not, ◌&&◌, ◌||◌, cond, List, [], ◌∷◌, ◌++◌, length, map, filter, Option, Some, None, ◌⊎◌, inl, inr, refl, arith, rules, nat_le, ◌==◌}
+use Rattle.std.proofs.Common.{◌≡◌, ◌<◌, ◌∙◌, sym, ap, subst, ℕ, Bool, true, false, not, cond, List, [], ◌∷◌, ◌++◌, length, map, Option, Some, None, inl, inr, refl, nat_le, ◌==◌}
 use Rattle.std.specs.List.{list_all, list_any}
-use Rattle.std.proofs.lemmas.Bool.{or_parts, and_cases, leb-false, not-true, not-false, eq-eqb, cases_Bool}
-use Rattle.std.proofs.lemmas.Grind.{common_steps}
+use Rattle.std.proofs.lemmas.Bool.{or_parts, and_cases, leb-false, not-false, eq-eqb}
 use Rattle.word36.specs.declared.sizes.TheConstants.{REQUESTS}
 use Rattle.arrayvec.specs.ArrayVec.{ArrayVec}
 use Rattle.lock_queue.specs.declared.call.LockReply.TheVariants.{Granted}
 use Rattle.lock_queue.specs.declared.refusal.Refusal.{Refusal}
-use Rattle.lock_queue.specs.declared.refusal.Refusal.TheVariants.{Differs, LevelOrder, NamedAlready, QueueFull, NoVector}
 use Rattle.lock_queue.specs.declared.request.EnqueueKind.{EnqueueKind}
 use Rattle.lock_queue.specs.declared.request.EnqueueKind.TheVariants.{Blocking, AtOnce, Interrupt}
 use Rattle.lock_queue.specs.declared.request.Request.{Request}
-use Rattle.lock_queue.specs.declared.key.Key.{Key}
 use Rattle.lock_queue.specs.declared.want.Want.{Want}
 use Rattle.lock_queue.specs.Jobs.{is_interrupt}
 use Rattle.lock_queue.specs.Keys.{same_key}
 use Rattle.lock_queue.specs.Enqueues.{are_alike, enqueue_fault, is_too_low, some_too_low, enqueue_refusal, request_of, with_arrival, not_granted, arrival, enqueue}
-use Rattle.lock_queue.specs.Outcomes.{Outcome, outcome, unless_refused, refuse_if, or_else, first_refusal}
+use Rattle.lock_queue.specs.Outcomes.{outcome, unless_refused, refuse_if, or_else, first_refusal}
 use Rattle.lock_queue.specs.Queue.{names, wants_at, wants_of, requests_of, all_wants, granted}
 use Rattle.lock_laws.specs.Claims.{Claim, claim_of, claims_of, claims}
-use Rattle.lock_laws.proofs.Fitting.{same_key-eq, same_key-swap}
-use Rattle.lock_laws.proofs.Lists.{Has, Has-left, Has-right, Has-filter, Has-flat_map, Pairs, Pairs-map, Pairs-weaker, map-Has, flat_map-Has, list_all-Has, list_any-none}
-use Rattle.lock_laws.proofs.Places.{push-append, nil-append, Split, split_Has}
-use Rattle.lock_laws.proofs.Steps.{Ordered, Arrives, Grows, stays, arrives}
+use Rattle.lock_laws.proofs.Fitting.{eq-same_key, keys-apart}
+use Rattle.lock_laws.proofs.Lists.{Has, Has-left, Has-right, Has-filter, Has-flat_map, Pairs, Pairs-map, map-Has, flat_map-Has, list_all-Has, list_any-none}
+use Rattle.lock_laws.proofs.Places.{push-append, nil-append, split_Has}
+use Rattle.lock_laws.proofs.Steps.{Ordered, Grows, stays, arrives}
 
 pub refuse_if-None : (b : Bool) (f : Refusal) → refuse_if b f ≡ None → b ≡ false
 refuse_if-None true f h = cc
@@ -117,7 +114,7 @@ module _ (requests : List Request) (job : ℕ) (wants : List Want) where
   pub own_claims : Passed → Pairs Ordered (map (claim_of job) wants)
   own_claims p =
       Pairs-map InCall Ordered (claim_of job)
-      (λ v w h. record { alike = λ same. absurd (cc (h.apart, same)); apart = λ e. h.apart; rises = λ e free. h.rises free }) wants
+      (λ v w h. record { alike = λ same. absurd (keys-apart v.key w.key h.apart same); apart = λ e. keys-apart v.key w.key h.apart; rises = λ e free. h.rises free }) wants
       (Pairs-from_splits InCall wants (λ a b v w is h.
       let f = fault-None p a b w is in
       record {
@@ -138,9 +135,9 @@ module _ (requests : List Request) (job : ℕ) (wants : List Want) where
       let here : Ordered (claim_of r.0.job v.0) (claim_of job w.0) =
       record {
         alike = λ same. list_all-Has (λ u. are_alike u w.0) (wants_at requests w.0.key) v.0 f.alike
-            (Has-filter (λ u. same_key u.key w.0.key) (all_wants requests) v.0 same
+            (Has-filter (λ u. same_key u.key w.0.key) (all_wants requests) v.0 (eq-same_key v.0.key w.0.key same)
             (Has-flat_map (λ (q : Request). q.wants.items) requests r.0 v.0 r.1 v.1));
-        apart = λ e. list_any-none (λ u. same_key u.key w.0.key) (wants_of requests job) v.0 f.had (mine e);
+        apart = λ e. keys-apart v.0.key w.0.key (list_any-none (λ u. same_key u.key w.0.key) (wants_of requests job) v.0 f.had (mine e));
         rises = λ e free. above (wants_of requests job ++ s.before) v.0 w.0 f.low (Has-left (wants_of requests job) s.before v.0 (mine e)) free;
       } in
       subst (λ x. Ordered x d) v.2 (subst (λ y. Ordered (claim_of r.0.job v.0) y) w.2 here)

@@ -1,22 +1,17 @@
 -- No circle of waits consists of plain jobs.
-use Rattle.std.proofs.Common.{◌≡◌, ◌≢◌, ◌≤◌, ◌<◌, ◌∙◌, sym, ap, subst, ℕ, zero, suc, Bool, true, false, not, ◌&&◌, ◌==◌, List, [], ◌∷◌, ◌++◌, length, map, filter, take, slice_get, Option, Some, None, ◌⊎◌, inl, inr, refl, arith, rules, append_assoc}
-use Rattle.std.specs.List.{list_all, list_any}
-use Rattle.std.proofs.lemmas.Bool.{and_parts, and_from, both_ways, eqb-true, eq-eqb, not-true, false_from_ne_true, not_from_false}
-use Rattle.std.proofs.lemmas.Grind.{common_steps}
-use Rattle.std.proofs.lemmas.List.{map-append}
+use Rattle.std.proofs.Common.{◌≡◌, ◌≢◌, ◌∙◌, sym, ap, subst, ℕ, suc, true, false, ◌+◌, List, [], ◌∷◌, ◌++◌, length, map, take, drop, slice_get, Some, ◌⊎◌, inl, inr, refl, arith}
+use Rattle.std.proofs.lemmas.Bool.{and_from, both_ways, eq-eqb, false_from_ne_true, not_from_false}
 use Rattle.lock_queue.specs.declared.call.LockCall.{LockCall}
 use Rattle.lock_queue.specs.declared.request.Request.{Request}
-use Rattle.lock_queue.specs.declared.want.Want.{Want}
-use Rattle.lock_queue.specs.Jobs.{is_blocking, is_blocked, is_waiting_job, is_in_the_way, is_kept_by, is_blocked_by, waits_for}
-use Rattle.lock_queue.specs.Queue.{all_wants, fits, granted_behind, requests_of, wants_at}
-use Rattle.lock_laws.specs.Claims.{Claim, claim_of, claims_of, claims}
-use Rattle.lock_laws.specs.Circles.{has_one_plain_want, is_plain, is_chain, is_circle, NoPlainCircle}
+use Rattle.lock_queue.specs.Jobs.{is_blocking, is_blocked, is_waiting_job}
+use Rattle.lock_queue.specs.Queue.{granted_behind, is_granted, granted}
+use Rattle.lock_laws.specs.Circles.{WaitsByLatest}
 use Rattle.lock_laws.proofs.CallSteps.{Step, grows, releases}
-use Rattle.lock_laws.proofs.Fitting.{granted_behind-fewer, same_key-eq}
-use Rattle.lock_laws.proofs.Granting.{Kin, kin}
-use Rattle.lock_laws.proofs.Lists.{Has, Has-left, Has-right, Has-cases, Has-map, map-Has, Has-filter, filter-Has, flat_map-Has, Has-flat_map, Pairs, Pairs-across, list_all-Has, list_any-found, flat_map-append}
-use Rattle.lock_laws.proofs.Places.{Split, Found, some_found, some-split, push-append, Has-middle}
-use Rattle.lock_laws.proofs.Steps.{Ordered, Grows, stays, arrives, changes, Releases, Releases-source, Releases-jobs}
+use Rattle.lock_laws.proofs.Fitting.{granted_behind-fewer}
+use Rattle.lock_laws.proofs.Lists.{Has, Has-cases, map-Has}
+use Rattle.lock_laws.proofs.Places.{some-split, split_at, Has-drop, Has-slice_get, slice_get-split, slice_get-behind, take-split}
+use Rattle.lock_laws.proofs.Retold.{Retold, Retold-back, Retold-place, Retold-jobs}
+use Rattle.lock_laws.proofs.Steps.{Grows, stays, arrives, changes, Releases, Releases-source, Releases-jobs}
 
 -- a request by which its job waits is the job's last
 unfoldable pub WaitsLast : List Request → Type 0
@@ -99,7 +94,7 @@ waits-grows job before after (changes f e c) free w a b r is blocking waits q h 
     w s.before s.after s.item s.is k was from.0 from.1
     (sym (c.job from.0) ∙ ap (λ (u : Request). u.job) from.2 ∙ mine ∙ ap (λ (u : Request). u.job) (sym s.item_is) ∙ c.job s.item)
 
-waits-releases : (job : ℕ) (before after : List Request) → Releases job before after → WaitsLast before → WaitsLast after
+pub waits-releases : (job : ℕ) (before after : List Request) → Releases job before after → WaitsLast before → WaitsLast after
 unfolding WaitsLast
 waits-releases job before after s w a b r is blocking waits q h =
     let o = Releases-source job s a b r is in
@@ -117,3 +112,29 @@ pub waits-none : WaitsLast []
 unfolding WaitsLast
 waits-none [] b r is = absurd (cc)
 waits-none (x ∷ a) b r is = absurd (cc)
+
+pub waits-retold : (before after : List Request) → Retold before after → WaitsLast before → WaitsLast after
+unfolding WaitsLast
+waits-retold before after s w a b r is blocking waits q h =
+    let p = Retold-place (Retold-back s) a b r is in
+    let from = Retold-jobs (Retold-back p.rest) q h in
+    λ mine. w p.earlier p.later p.request p.is (subst (λ n. is_blocking n ≡ true) (sym p.kind) blocking) (p.granted ∙ waits) from.0 from.1
+    (sym from.2 ∙ mine ∙ sym p.job)
+
+-- the same, by places
+pub by_latest : (rs : List Request) → WaitsLast rs → WaitsByLatest rs
+unfolding WaitsLast
+by_latest rs w i j r s lt at_i at_j blocking waits =
+    let is = split_at rs i r at_i in
+    let front : granted_behind (take i rs) r ≡ false = subst (λ o. is_granted (take i rs) o ≡ false) at_i waits in
+    w (take i rs) (drop (suc i) rs) r is blocking front s (Has-drop rs i j s lt at_j)
+
+pub waits_last : (rs : List Request) → WaitsByLatest rs → WaitsLast rs
+unfolding WaitsLast
+waits_last rs w a b r is blocking waits q h =
+    let k = Has-slice_get b q h in
+    let at_r : slice_get rs (length a) ≡ Some r = ap (λ l. slice_get l (length a)) is ∙ slice_get-split a b r in
+    let at_q : slice_get rs (length a + suc k.0) ≡ Some q = ap (λ l. slice_get l (length a + suc k.0)) is ∙ slice_get-behind a b r q k.0 k.1 in
+    let front : take (length a) rs ≡ a = ap (take (length a)) is ∙ take-split a (r ∷ b) in
+    let none : granted rs (length a) ≡ false = rw (at_r, front) waits in
+    w (length a) (length a + suc k.0) r q (omega arith) at_r at_q blocking none

@@ -1,16 +1,16 @@
 -- What a dequeue leaves.
-use Rattle.std.proofs.Common.{◌≡◌, ◌∙◌, sym, ap, subst, ℕ, zero, suc, Bool, true, false, not, ◌&&◌, ◌==◌, cond, List, [], ◌∷◌, ◌++◌, length, map, filter, Option, Some, None, ◌⊎◌, inl, inr, refl, arith, rules, if◌then◌else◌}
+use Rattle.std.proofs.Common.{◌≡◌, ◌∙◌, sym, ap, ℕ, Bool, true, false, not, ◌&&◌, ◌==◌, cond, List, [], ◌∷◌, ◌++◌, length, filter, Option, Some, None, ◌⊎◌, inl, inr, refl, arith}
 use Rattle.std.specs.List.{list_any}
-use Rattle.std.proofs.lemmas.Bool.{and_parts, eqb-true, cases_Bool, not-false}
-use Rattle.std.proofs.lemmas.Grind.{common_steps}
+use Rattle.std.proofs.lemmas.Bool.{and_parts, eqb-true, not-false}
 use Rattle.lock_queue.specs.declared.call.LockReply.TheVariants.{Done, Refused}
 use Rattle.lock_queue.specs.declared.refusal.Refusal.{Refusal}
 use Rattle.lock_queue.specs.declared.refusal.Refusal.TheVariants.{NotPresent}
 use Rattle.lock_queue.specs.declared.request.Request.{Request}
 use Rattle.lock_queue.specs.declared.want.Want.{Want}
-use Rattle.lock_queue.specs.Dequeues.{dequeue_fault, has_wants, with_wants, without_keys, without_keys_of, without_named, dequeue_named, dequeue_where, is_of_job, has_id, dequeue_all, dequeue_id}
-use Rattle.lock_queue.specs.Outcomes.{Outcome, outcome, unless_refused, first_refusal}
-use Rattle.lock_queue.specs.Queue.{names}
+use Rattle.lock_queue.specs.Dequeues.{dequeue_fault, has_wants, without_keys, without_named, dequeue_named, dequeue_where, is_of_job, has_id, dequeue_all, dequeue_id}
+use Rattle.lock_queue.specs.Jobs.{is_blocking, is_blocked, is_not_blocked, released, withdrawn}
+use Rattle.lock_queue.specs.Outcomes.{outcome, unless_refused, first_refusal}
+use Rattle.lock_queue.specs.Queue.{names, granted_behind, chosen_behind}
 use Rattle.lock_laws.proofs.Lists.{Sub, Sub-filter, Sub-refl}
 use Rattle.lock_laws.proofs.Steps.{Releases, none, gone, kept}
 
@@ -81,3 +81,22 @@ releases-named requests job named = go (first_refusal (dequeue_fault requests jo
     go : (o : Option Refusal) → Releases job requests (unless_refused requests o (outcome (without_named requests job named) Done)).requests
     go (Some f) = Releases-same job requests
     go None = releases-without requests job named
+
+-- a job that is gone
+pub releases-released : (requests : List Request) (job : ℕ) → Releases job requests (released requests job)
+releases-released requests job = releases-where job (is_of_job job) (λ r t. eqb-true r.job job t) requests
+
+-- a wait that is given up
+releases-blocked : (job : ℕ) (e rs : List Request) → Releases job rs (chosen_behind (is_not_blocked job) e rs)
+releases-blocked job e [] = none
+releases-blocked job e (r ∷ rs) = go (releases-blocked job (e ++ r ∷ []) rs) (is_blocked job e r) refl
+  where
+    go : Releases job rs (chosen_behind (is_not_blocked job) (e ++ r ∷ []) rs) → (b : Bool) → is_blocked job e r ≡ b
+        → Releases job (r ∷ rs) (cond (not b) (r ∷ chosen_behind (is_not_blocked job) (e ++ r ∷ []) rs) (chosen_behind (is_not_blocked job) (e ++ r ∷ []) rs))
+    go rest true t =
+        let parts = and_parts (r.job == job && is_blocking r.kind) (not (granted_behind e r)) t in
+        gone r (inl (eqb-true r.job job (and_parts (r.job == job) (is_blocking r.kind) parts.0).0)) rest
+    go rest false t = kept r r refl refl (Sub-refl r.wants.items) (inr refl) rest
+
+pub releases-withdrawn : (requests : List Request) (job : ℕ) → Releases job requests (withdrawn requests job)
+releases-withdrawn requests job = releases-blocked job [] requests

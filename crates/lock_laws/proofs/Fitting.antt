@@ -1,8 +1,6 @@
 -- Which wants fit, behind more or fewer earlier wants.
-use Rattle.std.proofs.Common.{◌≡◌, ◌≤◌, ◌<◌, ◌+◌, ◌∙◌, sym, ap, subst, ℕ, zero, suc, Bool, true, false, not, ◌&&◌, ◌==◌, List, [], ◌∷◌, ◌++◌, filter, sum_by, Option, Some, None, ◌⊎◌, inl, inr, refl, arith, rules}
-use Rattle.std.specs.List.{list_all, flat_map}
-use Rattle.std.proofs.lemmas.Bool.{and_parts, and_from, both_ways, cases_Bool, eqb-true, eq-eqb, leb-true, leb-false, le-leb, lt-leb, false_from_ne_true}
-use Rattle.std.proofs.lemmas.Grind.{common_steps}
+use Rattle.std.proofs.Common.{◌≡◌, ◌≢◌, ◌≤◌, ◌<◌, ◌+◌, ◌∙◌, sym, ap, subst, true, false, List, ◌∷◌, ◌++◌, filter, sum_by, Option, Some, None, inl, refl, arith}
+use Rattle.std.proofs.lemmas.Bool.{and_parts, and_from, both_ways, eqb-true, eq-eqb, leb-true, leb-false, le-leb, lt-leb, false_from_ne_true}
 use Rattle.std.proofs.lemmas.List.Elements.{filter-append}
 use Rattle.std.proofs.lemmas.Slice.Eq.{bytes_eq-Decides}
 use Rattle.lock_queue.specs.declared.key.Scope.{Scope}
@@ -12,11 +10,11 @@ use Rattle.lock_queue.specs.declared.name.Name.TheVariants.{Text, Code}
 use Rattle.lock_queue.specs.declared.key.Key.{Key}
 use Rattle.lock_queue.specs.declared.request.Request.{Request}
 use Rattle.lock_queue.specs.declared.want.Want.{Want}
-use Rattle.lock_queue.specs.Enqueues.{are_alike, same_pool_size}
+use Rattle.lock_queue.specs.Enqueues.{same_pool_size}
 use Rattle.lock_queue.specs.Keys.{same_scope, same_name, same_key}
 use Rattle.lock_queue.specs.Pools.{PoolShare}
 use Rattle.lock_queue.specs.Queue.{all_wants, wants_at, agree, amount_of, amount_in, fits_beside, fits, granted_behind, names}
-use Rattle.lock_laws.proofs.Lists.{Has, Has-left, Has-right, Sub, Sub-Has, Sub-all, Sub-sum, Sub-filters, Has-filter, filter-Has, Has-flat_map, list_all-Has, list_all-each, list_all-fails, list_any-found, list_any-Has, sum-append, sum-cons, flat_map-append}
+use Rattle.lock_laws.proofs.Lists.{Has, Has-right, Sub, Sub-Has, Sub-all, Sub-sum, Sub-filters, Has-filter, Has-flat_map, list_all-Has, list_all-each, list_all-fails, list_any-found, list_any-Has, flat_map-append}
 
 same_scope-eq : (a b : Scope) → same_scope a b ≡ true → a ≡ b
 same_scope-eq All All h = refl
@@ -53,6 +51,10 @@ eq-same_key a b e = subst (λ k. same_key a k ≡ true) e (same_key-refl a)
 
 pub same_key-swap : (a b : Key) → same_key a b ≡ true → same_key b a ≡ true
 same_key-swap a b h = eq-same_key b a (sym (same_key-eq a b h))
+
+-- keys that the test tells apart are two
+pub keys-apart : (a b : Key) → same_key a b ≡ false → a ≢ b
+keys-apart a b h e = both_ways (same_key a b) h (eq-same_key a b e)
 
 -- a want that is named
 pub names-found : (ws : List Want) (k : Key) → names ws k ≡ true → (w : Want) × Has ws w × (w.key ≡ k)

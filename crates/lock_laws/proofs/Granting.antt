@@ -1,21 +1,19 @@
 -- What holds of grants in a list whose claims are in order.
-use Rattle.std.proofs.Common.{◌≡◌, ◌≢◌, ◌≤◌, ◌<◌, ◌+◌, ◌∙◌, sym, ap, subst, ℕ, zero, suc, Bool, true, false, not, ◌&&◌, ◌==◌, cond, List, [], ◌∷◌, ◌++◌, length, filter, take, sum_by, slice_get, Option, Some, None, is_some, ◌⊎◌, inl, inr, refl, arith, rules}
-use Rattle.std.specs.List.{list_all, list_any, flat_map}
-use Rattle.std.proofs.lemmas.Bool.{and_parts, and_from, both_ways, cases_Bool, eqb-true, eq-eqb, leb-true, not-true, false_from_ne_true}
-use Rattle.std.proofs.lemmas.Grind.{common_steps}
+use Rattle.std.proofs.Common.{◌≡◌, ◌≤◌, ◌+◌, ◌∙◌, sym, ap, subst, ℕ, true, false, not, ◌==◌, List, [], ◌∷◌, ◌++◌, take, sum_by, Option, Some, None, is_some, inl, inr, refl, arith}
+use Rattle.std.specs.List.{list_all}
+use Rattle.std.proofs.lemmas.Bool.{and_parts, and_from, both_ways, eqb-true, eq-eqb, not-true, false_from_ne_true}
 use Rattle.lock_queue.specs.declared.key.Key.{Key}
 use Rattle.lock_queue.specs.declared.request.Request.{Request}
 use Rattle.lock_queue.specs.declared.want.Want.{Want}
-use Rattle.lock_queue.specs.Enqueues.{are_alike, same_pool_size}
+use Rattle.lock_queue.specs.Enqueues.{same_pool_size}
 use Rattle.lock_queue.specs.Keys.{same_key}
 use Rattle.lock_queue.specs.Pools.{PoolShare}
-use Rattle.lock_queue.specs.Queue.{all_wants, wants_at, agree, amount_of, amount_in, is_pooled, fits_beside, fits, granted_behind, is_granted, granted, names, is_owner, chosen_behind, owners}
-use Rattle.lock_queue.specs.StatusWords.{is_exclusive}
+use Rattle.lock_queue.specs.Queue.{wants_at, agree, amount_of, is_pooled, fits_beside, fits, granted_behind, is_granted, names, is_owner, chosen_behind, owners}
 use Rattle.lock_laws.specs.Claims.{Claim, claim_of, claims_of, claims}
-use Rattle.lock_laws.specs.Safe.{ExclusiveAlone, PoolsSuffice, AllOrNone, NoOvertaking}
-use Rattle.lock_laws.proofs.Fitting.{same_key-eq, eq-same_key, names-found, wants_at-append, Has-wants_at, overtaken}
-use Rattle.lock_laws.proofs.Lists.{Has, Has-left, Has-right, Has-map, Has-flat_map, flat_map-Has, filter-Has, Has-filter, Pairs, Pairs-both, Pairs-weaker, Pairs-left, Pairs-right, Sub, Sub-refl, Sub-none, Sub-append, Sub-filters, list_all-Has, sum-append, sum-cons, flat_map-append, list_any-Has}
-use Rattle.lock_laws.proofs.Places.{Split, split_Has, Chosen, chosen-Has, Has-chosen, chosen_none, chosen_behind-append, slice_get-Has, split_at, between, push-append, nil-append, Has-middle}
+use Rattle.lock_laws.specs.Safe.{ExclusiveAlone, AllOrNone, FitsInFront, NoOvertaking}
+use Rattle.lock_laws.proofs.Fitting.{eq-same_key, names-found, wants_at-append, Has-wants_at, overtaken}
+use Rattle.lock_laws.proofs.Lists.{Has, Has-right, Has-map, Has-flat_map, Pairs, Pairs-both, Pairs-weaker, Sub, Sub-refl, Sub-none, Sub-append, list_all-Has, sum-append, sum-cons, list_any-Has}
+use Rattle.lock_laws.proofs.Places.{Split, chosen-Has, Has-chosen, chosen_none, chosen_behind-append, slice_get-Has, between, push-append, nil-append, Has-middle}
 use Rattle.lock_laws.proofs.Steps.{Ordered}
 use Rattle.lock_laws.proofs.Words.{Contains-Has, Has-Contains}
 
@@ -39,7 +37,7 @@ same_pool_size-swap None (Some b) h = cc
 
 kin_from : (c d : Claim) → Ordered c d → KinIf c d
 kin_from c d o e =
-    let parts = and_parts (c.want.level == d.want.level) (same_pool_size c.want.pool d.want.pool) (o.alike (eq-same_key c.want.key d.want.key e)) in
+    let parts = and_parts (c.want.level == d.want.level) (same_pool_size c.want.pool d.want.pool) (o.alike e) in
     record { level = eqb-true c.want.level d.want.level parts.0; sizes = parts.1 }
 
 pub Has-claims : (rs : List Request) (r : Request) (w : Want) → Has rs r → Has r.wants.items w → Has (claims rs) (claim_of r.job w)
@@ -145,13 +143,19 @@ all_or_none rs r key other has_r named =
     Has-chosen (is_owner other) [] o.split.before o.split.after r (and_from _ _ named o.granted) in
     Has-Contains (owners rs other) r (subst (λ l. Has (owners l other) r) (sym o.split.is) there)
 
+pub fits_in_front : (rs : List Request) → Pairs Ordered (claims rs) → FitsInFront rs
+fits_in_front rs p i j r s v w lt at_i at_j has_v has_w e not_fit =
+    let hv : Has r.wants.items v = Contains-Has r.wants.items v has_v in
+    let hw : Has s.wants.items w = Contains-Has s.wants.items w has_w in
+    let m = between rs i j r s lt at_i at_j in
+    let k = kin rs p r s v w (slice_get-Has rs i r at_i) (slice_get-Has rs j s at_j) hv hw e in
+    rw m.1 (fits-overtaken (take i rs) m.0 r v w hv k e not_fit)
+
 pub no_overtaking : (rs : List Request) → Pairs Ordered (claims rs) → NoOvertaking rs
 no_overtaking rs p i j r s w lt at_i at_j has_w not_fit named =
-    let hw : Has r.wants.items w = Contains-Has r.wants.items w has_w in
     let u = names-found s.wants.items w.key named in
-    let m = between rs i j r s lt at_i at_j in
-    let k = kin rs p r s w u.0 (slice_get-Has rs i r at_i) (slice_get-Has rs j s at_j) hw u.1 (sym u.2) in
-    let not_either : fits (take j rs) u.0 ≡ false = rw m.1 (fits-overtaken (take i rs) m.0 r w u.0 hw k (sym u.2) not_fit) in
+    let not_either : fits (take j rs) u.0 ≡ false =
+    fits_in_front rs p i j r s w u.0 lt at_i at_j has_w (Has-Contains s.wants.items u.0 u.1) (sym u.2) not_fit in
     subst (λ o. is_granted (take j rs) o ≡ false) (sym at_j)
     (false_from_ne_true (granted_behind (take j rs) s) (λ t.
     both_ways (fits (take j rs) u.0) not_either (list_all-Has (fits (take j rs)) s.wants.items u.0 t u.1)))

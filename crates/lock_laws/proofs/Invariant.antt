@@ -1,21 +1,20 @@
 -- What every call keeps.
-use Rattle.std.proofs.Common.{◌≡◌, ◌≤◌, ◌<◌, ◌+◌, ◌∙◌, sym, ap, subst, ℕ, List, [], ◌∷◌, ◌++◌, length, map, refl, arith, rules, length-append}
+use Rattle.std.proofs.Common.{◌≡◌, ◌≤◌, sym, subst, ℕ, List, [], ◌∷◌, ◌++◌, length, map, arith, length-append}
 use Rattle.std.proofs.lemmas.List.{length-map}
-use Rattle.std.proofs.lemmas.Grind.{common_steps}
 use Rattle.word36.specs.declared.sizes.TheConstants.{REQUESTS}
 use Rattle.lock_queue.specs.declared.call.LockCall.{LockCall}
 use Rattle.lock_queue.specs.declared.request.Request.{Request}
 use Rattle.lock_queue.specs.Calls.{outcome_of, requests_after}
-use Rattle.lock_laws.specs.Claims.{Claim, claims_of, claims, AreAlike, AreApart, Rises}
+use Rattle.lock_laws.specs.Claims.{claims_of, claims, AreAlike, AreApart, Rises}
 use Rattle.lock_laws.specs.Safe.{Safe}
 use Rattle.lock_laws.proofs.CallSteps.{Step, grows, releases, step_of}
-use Rattle.lock_laws.proofs.Granting.{alone, all_or_none, no_overtaking}
-use Rattle.lock_laws.proofs.Lists.{Has, Pairs, Pairs-append, Pairs-weaker, Sub-Pairs, flat_map-append}
+use Rattle.lock_laws.proofs.Granting.{alone, all_or_none, fits_in_front, no_overtaking}
+use Rattle.lock_laws.proofs.Lists.{Has, Pairs, Pairs-append, Pairs-joined, Pairs-weaker, Sub-Pairs, flat_map-append}
 use Rattle.lock_laws.proofs.Places.{nil-append}
 use Rattle.lock_laws.proofs.PoolSums.{pools_suffice}
 use Rattle.lock_laws.proofs.Steps.{Ordered, Grows, stays, arrives, changes, Releases, Releases-claims, Releases-length}
 use Rattle.lock_laws.proofs.Telling.{told_alike}
-use Rattle.lock_laws.proofs.Words.{Pairs-AllPairs}
+use Rattle.lock_laws.proofs.Words.{Pairs-AllPairs, AllPairs-Pairs}
 
 pub record Kept (requests : List Request) : Type 0 where
   pub ordered : Pairs Ordered (claims requests)
@@ -61,10 +60,27 @@ safe-kept requests k = record {
   exclusive_alone = alone requests k.ordered;
   pools_suffice = pools_suffice requests k.ordered;
   all_or_none = all_or_none requests;
+  fits_in_front = fits_in_front requests k.ordered;
   no_overtaking = no_overtaking requests k.ordered;
   alike = Pairs-AllPairs AreAlike (claims requests) (Pairs-weaker Ordered AreAlike (λ c d o. o.alike) (claims requests) k.ordered);
   apart = Pairs-AllPairs AreApart (claims requests) (Pairs-weaker Ordered AreApart (λ c d o. o.apart) (claims requests) k.ordered);
   rising = Pairs-AllPairs Rises (claims requests) (Pairs-weaker Ordered Rises (λ c d o. o.rises) (claims requests) k.ordered);
   few = k.few;
   told_alike = told_alike requests;
+}
+
+pub kept-safe : (requests : List Request) → Safe requests → Kept requests
+kept-safe requests s =
+    let alike = AllPairs-Pairs AreAlike (claims requests) s.alike in
+    let apart = AllPairs-Pairs AreApart (claims requests) s.apart in
+    let rises = AllPairs-Pairs Rises (claims requests) s.rising in
+    record {
+      ordered = Pairs-joined AreAlike AreApart Rises Ordered (λ c d a b r. record { alike = a; apart = b; rises = r }) (claims requests) alike apart rises;
+      few = s.few;
+    }
+
+pub kept-releases : (job : ℕ) (before after : List Request) → Releases job before after → Kept before → Kept after
+kept-releases job before after s k = record {
+  ordered = Sub-Pairs Ordered (Releases-claims job s) k.ordered;
+  few = omega (arith, Releases-length job s, k.few);
 }

@@ -1,20 +1,19 @@
 -- Who owns a key goes on owning it, but for its own dequeues.
-use Rattle.std.proofs.Common.{◌≡◌, ◌≢◌, ◌∙◌, sym, ap, subst, ℕ, Bool, true, false, ◌&&◌, ◌==◌, List, [], ◌∷◌, ◌++◌, map, ◌⊎◌, inl, inr, refl, arith, rules, append_assoc}
-use Rattle.std.specs.List.{list_any}
-use Rattle.std.proofs.lemmas.Bool.{and_parts, and_from, both_ways, eqb-true, eq-eqb, cases_eq}
-use Rattle.std.proofs.lemmas.Grind.{common_steps}
+use Rattle.std.proofs.Common.{◌≡◌, ◌≢◌, ◌∙◌, sym, ap, subst, ℕ, true, false, not, ◌&&◌, ◌==◌, List, [], ◌∷◌, ◌++◌, map, inl, inr, refl, append_assoc}
+use Rattle.std.proofs.lemmas.Bool.{and_parts, and_from, both_ways, eqb-true, eq-eqb, cases_eq, not_from_false, and_right}
 use Rattle.std.proofs.lemmas.List.{map-append}
 use Rattle.lock_queue.specs.declared.call.LockCall.{LockCall}
 use Rattle.lock_queue.specs.declared.key.Key.{Key}
 use Rattle.lock_queue.specs.declared.request.Request.{Request}
-use Rattle.lock_queue.specs.declared.want.Want.{Want}
-use Rattle.lock_queue.specs.Calls.{outcome_of}
-use Rattle.lock_queue.specs.Queue.{granted_behind, names, is_owner, owners}
+use Rattle.lock_queue.specs.Jobs.{is_blocking, is_not_blocked, is_pending, released, withdrawn, told_of}
+use Rattle.lock_queue.specs.Queue.{all_wants, granted_behind, names, is_owner, owners, chosen_behind}
 use Rattle.lock_laws.specs.Owning.{owns, is_dequeue, KeepsOwners}
 use Rattle.lock_laws.proofs.CallSteps.{Step, grows, releases, step_of}
+use Rattle.lock_laws.proofs.Departures.{releases-released}
 use Rattle.lock_laws.proofs.Fitting.{granted_behind-fewer, names-found}
-use Rattle.lock_laws.proofs.Lists.{Has, list_any-Has, list_any-found, Sub-refl}
-use Rattle.lock_laws.proofs.Places.{Split, Chosen, chosen-Has, Has-chosen, push-append}
+use Rattle.lock_laws.proofs.Lists.{Has, list_any-Has, list_any-found, Sub, Sub-refl, Sub-flat_map}
+use Rattle.lock_laws.proofs.Places.{Split, chosen-Has, Has-chosen, Sub-chosen, chosen-place}
+use Rattle.lock_laws.proofs.Retold.{Retold-told, Retold-place}
 use Rattle.lock_laws.proofs.Steps.{Grows, stays, arrives, changes, Releases, Releases-target}
 
 -- a granted request with a want of the key, and its place
@@ -76,3 +75,34 @@ keeps-step requests after caller call (releases d s) job key h lost = (
 
 pub keeps_owners : (requests : List Request) (caller : ℕ) (call : LockCall) → KeepsOwners requests caller call
 keeps_owners requests caller call = keeps-step requests _ caller call (step_of requests caller call)
+
+-- a job that is gone owns nothing, and others keep what they own
+pub owns-released : (requests : List Request) (gone job : ℕ) (key : Key) → owns requests job key ≡ true → owns (released requests gone) job key ≡ false
+    → gone ≡ job
+owns-released requests gone job key h lost =
+    elim (cases_eq gone job) [
+      | inl e ↦ e
+      | inr other ↦ absurd (both_ways (owns (released requests gone) job key) lost
+          (owns-releases gone requests (released requests gone) job key (releases-released requests gone) other h))
+    ]
+
+-- a wait that is given up is of a request that is not granted
+pub owns-withdrawn : (requests : List Request) (waiter job : ℕ) (key : Key) → owns requests job key ≡ true → owns (withdrawn requests waiter) job key ≡ true
+owns-withdrawn requests waiter job key h =
+    let o : Owning requests job key = owning requests job key h in
+    let a : List Request = o.split.before in
+    let stays : is_not_blocked waiter a o.request ≡ true =
+    ap (λ b. not ((o.request.job == waiter && is_blocking o.request.kind) && not b)) o.granted ∙ not_from_false _ (and_right _ false refl) in
+    let front : Sub (all_wants (chosen_behind (is_not_blocked waiter) [] a)) (all_wants a) =
+    Sub-flat_map (λ (q : Request). q.wants.items) (Sub-chosen (is_not_blocked waiter) [] a) in
+    owns-at (withdrawn requests waiter) (chosen_behind (is_not_blocked waiter) [] a)
+    (chosen_behind (is_not_blocked waiter) (a ++ o.request ∷ []) o.split.after) o.request job key
+    (ap (chosen_behind (is_not_blocked waiter) []) o.split.is ∙ chosen-place (is_not_blocked waiter) [] a o.split.after o.request stays) o.by o.named
+    (granted_behind-fewer (chosen_behind (is_not_blocked waiter) [] a) a o.request o.request front (Sub-refl o.request.wants.items) o.granted)
+
+pub owns-told : (requests : List Request) (told job : ℕ) (key : Key) → owns requests job key ≡ true → owns (told_of requests told) job key ≡ true
+owns-told requests told job key h =
+    let o : Owning requests job key = owning requests job key h in
+    let p = Retold-place (Retold-told (is_pending told) [] requests) o.split.before o.split.after o.request o.split.is in
+    owns-at (told_of requests told) p.earlier p.later p.request job key p.is (p.job ∙ o.by) (ap (λ ws. names ws key) p.wants ∙ o.named)
+    (p.granted ∙ o.granted)

@@ -1,4 +1,5 @@
 pub mod Lists
+pub mod Words
 pub mod Places
 pub mod Fitting
 pub mod Steps
@@ -6,7 +7,7 @@ pub mod Arrivals
 pub mod Departures
 pub mod Modifications
 pub mod CallSteps
-pub mod Words
+pub mod Retold
 pub mod Granting
 pub mod PoolSums
 pub mod Telling
@@ -14,4 +15,5 @@ pub mod Invariant
 pub mod Keeping
 pub mod Circling
 pub mod Ranks
+pub mod EveryChange
 pub mod AlongCalls

@@ -1,5 +1,5 @@
 -- Lists: their elements, their pairs, and lists with some elements left out.
-use Rattle.std.proofs.Common.{◌≡◌, ◌≤◌, ◌+◌, ◌∙◌, sym, ap, subst, ℕ, zero, suc, Bool, true, false, ◌&&◌, ◌||◌, cond, List, [], ◌∷◌, ◌++◌, length, map, filter, flat_map, fold, sum_by, ◌⊎◌, inl, inr, refl, arith, rules}
+use Rattle.std.proofs.Common.{◌≡◌, ◌≤◌, ◌+◌, ◌∙◌, sym, ap, subst, ℕ, Bool, true, false, cond, List, [], ◌∷◌, ◌++◌, length, map, filter, flat_map, sum_by, ◌⊎◌, inl, inr, refl, arith}
 use Rattle.std.specs.List.{list_all, list_any}
 use Rattle.std.proofs.lemmas.Grind.{common_steps}
 
@@ -135,6 +135,11 @@ module _ {X : Type 0} where
   Pairs-weaker R S f [] p = tt
   Pairs-weaker R S f (x ∷ xs) p = (λ y h. f x y (p.0 y h), Pairs-weaker R S f xs p.1)
 
+  pub Pairs-joined : (R S T Q : X → X → Type 0) → ((x y : X) → R x y → S x y → T x y → Q x y) → (xs : List X) → Pairs R xs → Pairs S xs → Pairs T xs
+      → Pairs Q xs
+  Pairs-joined R S T Q f [] p q r = tt
+  Pairs-joined R S T Q f (x ∷ xs) p q r = (λ y h. f x y (p.0 y h) (q.0 y h) (r.0 y h), Pairs-joined R S T Q f xs p.1 q.1 r.1)
+
   pub Sub-Has : {xs ys : List X} (x : X) → Sub xs ys → Has xs x → Has ys x
   Sub-Has x nil h = h
   Sub-Has x (skip y s) h = inr (Sub-Has x s h)
@@ -226,6 +231,11 @@ module _ {X Y : Type 0} where
   Sub-map f nil = nil
   Sub-map f (skip y s) = skip (f y) (Sub-map f s)
   Sub-map f (keep y s) = keep (f y) (Sub-map f s)
+
+  pub Sub-flat_map : (f : X → List Y) {xs ys : List X} → Sub xs ys → Sub (flat_map f xs) (flat_map f ys)
+  Sub-flat_map f nil = nil
+  Sub-flat_map f (skip y s) = Sub-append (Sub-none (f y)) (Sub-flat_map f s)
+  Sub-flat_map f (keep y s) = Sub-append (Sub-refl (f y)) (Sub-flat_map f s)
 
   pub Pairs-map : (R : X → X → Type 0) (S : Y → Y → Type 0) (f : X → Y) → ((x y : X) → R x y → S (f x) (f y)) → (xs : List X) → Pairs R xs
       → Pairs S (map f xs)

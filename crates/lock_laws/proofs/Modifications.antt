@@ -1,8 +1,6 @@
 -- What a change of wants leaves.
-use Rattle.std.proofs.Common.{◌≡◌, ◌∙◌, sym, ap, subst, ℕ, Bool, true, false, not, ◌&&◌, ◌||◌, ◌==◌, cond, List, [], ◌∷◌, ◌++◌, length, map, Option, Some, None, ◌⊎◌, inl, inr, refl, arith, rules}
-use Rattle.std.specs.List.{list_any}
-use Rattle.std.proofs.lemmas.Bool.{and_parts, and_cases, or_parts, not-false, cases_Bool, both_ways}
-use Rattle.std.proofs.lemmas.Grind.{common_steps}
+use Rattle.std.proofs.Common.{◌≡◌, ◌∙◌, sym, ap, subst, ℕ, Bool, true, false, not, ◌&&◌, ◌==◌, cond, List, [], ◌∷◌, ◌++◌, map, Option, Some, None, inl, inr, refl}
+use Rattle.std.proofs.lemmas.Bool.{and_cases, or_parts, not-false, both_ways}
 use Rattle.std.proofs.lemmas.List.{map-append}
 use Rattle.lock_queue.specs.declared.call.LockReply.TheVariants.{Done}
 use Rattle.lock_queue.specs.declared.key.Key.{Key}
@@ -13,12 +11,12 @@ use Rattle.lock_queue.specs.declared.want.Want.{Want}
 use Rattle.lock_queue.specs.Changes.{modify_fault, changed_want, changed, with_changes, some_lost_behind, some_lost, modify}
 use Rattle.lock_queue.specs.Dequeues.{with_wants}
 use Rattle.lock_queue.specs.Keys.{same_key}
-use Rattle.lock_queue.specs.Outcomes.{Outcome, outcome, unless_refused, refuse_if, or_else, first_refusal}
+use Rattle.lock_queue.specs.Outcomes.{outcome, unless_refused, refuse_if, or_else, first_refusal}
 use Rattle.lock_queue.specs.Queue.{names, granted_behind}
 use Rattle.lock_laws.specs.Claims.{Claim, claim_of, claims_of, claims}
 use Rattle.lock_laws.proofs.Arrivals.{refuse_if-None, or_else-None}
 use Rattle.lock_laws.proofs.Fitting.{names-found, names-Has}
-use Rattle.lock_laws.proofs.Lists.{Has, Has-map, Pairs, Pairs-map}
+use Rattle.lock_laws.proofs.Lists.{Has-map, Pairs, Pairs-map}
 use Rattle.lock_laws.proofs.Places.{push-append, nil-append}
 use Rattle.lock_laws.proofs.Steps.{Ordered, Changes, Grows, stays, changes}
 

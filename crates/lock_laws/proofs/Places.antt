@@ -1,10 +1,10 @@
 -- The places of requests in their list.
-use Rattle.std.proofs.Common.{◌≡◌, ◌≤◌, ◌<◌, ◌+◌, ◌∙◌, sym, ap, subst, ℕ, zero, suc, Bool, true, false, cond, List, [], ◌∷◌, ◌++◌, length, take, drop, slice_get, Option, Some, None, ◌⊎◌, inl, inr, refl, arith, rules, append_assoc}
-use Rattle.std.proofs.lemmas.Bool.{cond_both, cond-true, cond-false, cases_Bool}
+use Rattle.std.proofs.Common.{◌≡◌, ◌<◌, ◌+◌, ◌∙◌, sym, ap, subst, ℕ, zero, suc, Bool, true, false, cond, List, [], ◌∷◌, ◌++◌, length, take, drop, slice_get, Some, ◌⊎◌, inl, inr, refl, arith, append_assoc}
+use Rattle.std.proofs.lemmas.Bool.{cases_Bool}
 use Rattle.std.proofs.lemmas.Grind.{common_steps}
 use Rattle.lock_queue.specs.declared.request.Request.{Request}
 use Rattle.lock_queue.specs.Queue.{chosen_behind, some_behind}
-use Rattle.lock_laws.proofs.Lists.{Has, Has-left, Has-right, Has-cases}
+use Rattle.lock_laws.proofs.Lists.{Has, Has-right, Sub, nil, skip, keep}
 
 -- a place in a list: what stands before it and what behind it
 pub record Split {X : Type 0} (xs : List X) (x : X) : Type 0 where
@@ -45,6 +45,23 @@ module _ {X : Type 0} where
   between (z ∷ xs) zero (suc j) x y lt e f = (take j xs, cc)
   between (z ∷ xs) (suc i) (suc j) x y lt e f =
       let rest = between xs i j x y (omega arith) e f in (rest.0, ap (λ l. z ∷ l) rest.1)
+
+  -- an element behind the place i
+  pub Has-drop : (xs : List X) (i j : ℕ) (y : X) → i < j → slice_get xs j ≡ Some y → Has (drop (suc i) xs) y
+  Has-drop [] i j y lt e = cc
+  Has-drop (z ∷ xs) i zero y lt e = absurd (omega arith)
+  Has-drop (z ∷ xs) zero (suc j) y lt e = slice_get-Has xs j y e
+  Has-drop (z ∷ xs) (suc i) (suc j) y lt e = Has-drop xs i j y (omega arith) e
+
+  pub Has-slice_get : (xs : List X) (x : X) → Has xs x → (k : ℕ) × (slice_get xs k ≡ Some x)
+  Has-slice_get [] x h = absurd h
+  Has-slice_get (y ∷ xs) x (inl e) = (zero, ap Some e)
+  Has-slice_get (y ∷ xs) x (inr h) = let found = Has-slice_get xs x h in (suc found.0, found.1)
+
+  pub slice_get-behind : (a b : List X) (x y : X) (k : ℕ) → slice_get b k ≡ Some y → slice_get (a ++ x ∷ b) (length a + suc k) ≡ Some y
+  slice_get-behind [] b x y k e = let at : length {A = X} [] + suc k ≡ suc k = omega arith in rw at e
+  slice_get-behind (z ∷ a) b x y k e =
+      let at : length (z ∷ a) + suc k ≡ suc (length a + suc k) = omega arith in rw at (slice_get-behind a b x y k e)
 
   pub slice_get-split : (a b : List X) (x : X) → slice_get (a ++ x ∷ b) (length a) ≡ Some x
   slice_get-split [] b x = refl
@@ -118,6 +135,20 @@ chosen_none test e (x ∷ rs) none =
     let rest : chosen_behind test (e ++ x ∷ []) rs ≡ [] =
     chosen_none test (e ++ x ∷ []) rs (λ a b r is. subst (λ l. test l r ≡ false) (sym (push-append e x a)) (none (x ∷ a) b r (ap (λ l. x ∷ l) is))) in
     rw here rest
+
+-- the chosen requests are those of the list, with some left out
+pub Sub-chosen : (test : Test) (e rs : List Request) → Sub (chosen_behind test e rs) rs
+Sub-chosen test e [] = nil
+Sub-chosen test e (r ∷ rs) =
+    elim (test e r) as (λ b. Sub (cond b (r ∷ chosen_behind test (e ++ r ∷ []) rs) (chosen_behind test (e ++ r ∷ []) rs)) (r ∷ rs)) [
+      | true ↦ keep r (Sub-chosen test (e ++ r ∷ []) rs)
+      | false ↦ skip r (Sub-chosen test (e ++ r ∷ []) rs)
+    ]
+
+-- where a request that passes stands among the chosen ones
+pub chosen-place : (test : Test) (e a b : List Request) (r : Request) → test (e ++ a) r ≡ true
+    → chosen_behind test e (a ++ r ∷ b) ≡ chosen_behind test e a ++ r ∷ chosen_behind test ((e ++ a) ++ r ∷ []) b
+chosen-place test e a b r t = chosen_behind-append test e a (r ∷ b) ∙ rw t refl
 
 -- the same for a test that some request passes
 pub record Found (test : Test) (e rs : List Request) : Type 0 where

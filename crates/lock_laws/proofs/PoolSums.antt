@@ -1,20 +1,19 @@
 -- The owners' amounts of a key.
-use Rattle.std.proofs.Common.{◌≡◌, ◌≤◌, ◌<◌, ◌+◌, ◌∙◌, sym, ap, subst, ℕ, zero, suc, Bool, true, false, ◌&&◌, ◌==◌, cond, List, [], ◌∷◌, ◌++◌, map, filter, sum_by, Option, Some, None, ◌⊎◌, inl, inr, refl, arith, rules}
-use Rattle.std.proofs.lemmas.Bool.{and_parts, both_ways, eqb-true, leb-true, false_from_ne_true}
-use Rattle.std.proofs.lemmas.Grind.{common_steps}
+use Rattle.std.proofs.Common.{◌≡◌, ◌≢◌, ◌≤◌, ◌+◌, ◌∙◌, sym, ap, subst, ℕ, Bool, true, false, cond, List, [], ◌∷◌, ◌++◌, map, filter, sum_by, Option, Some, None, inl, inr, refl, arith}
+use Rattle.std.proofs.lemmas.Bool.{and_parts, eqb-true, leb-true, false_from_ne_true}
 use Rattle.lock_queue.specs.declared.key.Key.{Key}
 use Rattle.lock_queue.specs.declared.request.Request.{Request}
 use Rattle.lock_queue.specs.declared.want.Want.{Want}
 use Rattle.lock_queue.specs.Enqueues.{same_pool_size}
 use Rattle.lock_queue.specs.Keys.{same_key}
 use Rattle.lock_queue.specs.Pools.{PoolShare}
-use Rattle.lock_queue.specs.Queue.{all_wants, wants_at, amount_of, amount_in, fits_beside, fits, granted_behind, names, is_owner, chosen_behind, owners}
+use Rattle.lock_queue.specs.Queue.{all_wants, wants_at, amount_of, amount_in, fits_beside, fits, granted_behind, names, is_owner, chosen_behind}
 use Rattle.lock_laws.specs.Claims.{Claim, claim_of, claims_of, claims}
 use Rattle.lock_laws.specs.Safe.{PoolsSuffice}
 use Rattle.lock_laws.proofs.Fitting.{eq-same_key, same_key-eq, names-found, wants_at-append}
 use Rattle.lock_laws.proofs.Granting.{Kin, kin}
 use Rattle.lock_laws.proofs.Lists.{Has, Has-map, flat_map-Has, filter-Has, Pairs, Pairs-left, Pairs-right, list_all-Has, sum-append, sum-cons}
-use Rattle.lock_laws.proofs.Places.{split_Has, nil-append}
+use Rattle.lock_laws.proofs.Places.{nil-append}
 use Rattle.lock_laws.proofs.Steps.{Ordered}
 use Rattle.lock_laws.proofs.Words.{Contains-Has}
 
@@ -29,10 +28,9 @@ none_named : (job : ℕ) (w : Want) (ws : List Want) (key : Key) → w.key ≡ k
     → filter (λ v. same_key v.key key) ws ≡ []
 none_named job w [] key e f = refl
 none_named job w (v ∷ ws) key e f =
-    let other : same_key w.key v.key ≡ false = (f (claim_of job v) (inl refl)).apart refl in
+    let other : w.key ≢ v.key = (f (claim_of job v) (inl refl)).apart refl in
     let here : same_key v.key key ≡ false =
-    false_from_ne_true (same_key v.key key) (λ t.
-    both_ways (same_key w.key v.key) other (eq-same_key w.key v.key (e ∙ sym (same_key-eq v.key key t)))) in
+    false_from_ne_true (same_key v.key key) (λ t. other (e ∙ sym (same_key-eq v.key key t))) in
     rw here (none_named job w ws key e (λ d h. f d (inr h)))
 
 -- a request has one want of a key, at most
@@ -44,8 +42,9 @@ once job (v ∷ ws) w key p (inl same) e =
     let none : filter (λ v. same_key v.key key) ws ≡ [] = none_named job v ws key of p.0 in
     rw (eq-same_key v.key key of, none) (ap (λ u. u ∷ []) same)
 once job (v ∷ ws) w key p (inr h) e =
-    let other : same_key v.key w.key ≡ false = (p.0 (claim_of job w) (Has-map (claim_of job) ws w h)).apart refl in
-    let here : same_key v.key key ≡ false = subst (λ k. same_key v.key k ≡ false) e other in
+    let other : v.key ≢ w.key = (p.0 (claim_of job w) (Has-map (claim_of job) ws w h)).apart refl in
+    let here : same_key v.key key ≡ false =
+    false_from_ne_true (same_key v.key key) (λ t. other (same_key-eq v.key key t ∙ sym e)) in
     rw here (once job ws w key p.1 h e)
 
 -- what each request that names the key takes of its pool

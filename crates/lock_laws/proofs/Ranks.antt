@@ -1,20 +1,19 @@
 -- Along a circle of plain jobs that wait, levels rise, or stay the same while the place in the list falls.
-use Rattle.std.proofs.Common.{◌≡◌, ◌≢◌, ◌≤◌, ◌<◌, ◌∙◌, sym, ap, subst, ℕ, zero, suc, Bool, true, false, not, ◌&&◌, ◌==◌, List, [], ◌∷◌, ◌++◌, length, filter, Option, Some, None, ◌⊎◌, inl, inr, refl, arith, rules, append_assoc, length-append}
+use Rattle.std.proofs.Common.{◌≡◌, ◌≢◌, ◌<◌, ◌∙◌, sym, ap, subst, ℕ, true, false, not, ◌&&◌, ◌==◌, List, [], ◌∷◌, ◌++◌, length, ◌⊎◌, inl, inr, refl, arith, append_assoc, length-append}
 use Rattle.std.specs.List.{list_all, list_any}
-use Rattle.std.proofs.lemmas.Bool.{and_parts, both_ways, eqb-true, eq-eqb, not-true, false_from_ne_true}
-use Rattle.std.proofs.lemmas.Grind.{common_steps}
+use Rattle.std.proofs.lemmas.Bool.{and_parts, eqb-true, not-true, false_from_ne_true}
 use Rattle.lock_queue.specs.declared.request.Request.{Request}
 use Rattle.lock_queue.specs.declared.want.Want.{Want}
 use Rattle.lock_queue.specs.Jobs.{is_blocking, is_blocked, is_in_the_way, is_kept_by, is_blocked_by, waits_for}
 use Rattle.lock_queue.specs.Keys.{same_key}
 use Rattle.lock_queue.specs.Queue.{all_wants, fits, granted_behind, requests_of, wants_at}
-use Rattle.lock_laws.specs.Claims.{Claim, claim_of, claims_of, claims}
-use Rattle.lock_laws.specs.Circles.{has_one_plain_want, is_plain, is_chain, is_circle, NoPlainCircle}
+use Rattle.lock_laws.specs.Claims.{claim_of, claims_of, claims}
+use Rattle.lock_laws.specs.Circles.{has_one_plain_want, is_plain, is_chain, NoPlainCircle}
 use Rattle.lock_laws.proofs.Circling.{WaitsLast}
 use Rattle.lock_laws.proofs.Fitting.{same_key-eq}
 use Rattle.lock_laws.proofs.Granting.{Kin, kin, Has-claims}
-use Rattle.lock_laws.proofs.Lists.{Has, Has-left, Has-right, Has-map, Has-filter, filter-Has, flat_map-Has, Pairs, Pairs-across, list_all-Has, list_any-found, flat_map-append}
-use Rattle.lock_laws.proofs.Places.{Split, Found, split_Has, some_found, push-append, Has-middle}
+use Rattle.lock_laws.proofs.Lists.{Has, Has-filter, filter-Has, flat_map-Has, Pairs, Pairs-across, list_all-Has, list_any-found, flat_map-append}
+use Rattle.lock_laws.proofs.Places.{split_Has, some_found, Has-middle}
 use Rattle.lock_laws.proofs.Steps.{Ordered}
 
 -- two places in one list: the same, the first before the second, or behind it

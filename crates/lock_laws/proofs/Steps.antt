@@ -1,14 +1,11 @@
 -- What one call can do to the list of requests.
-use Rattle.std.proofs.Common.{◌≡◌, ◌≢◌, ◌≤◌, ◌<◌, ◌∙◌, sym, ap, subst, ℕ, Bool, true, false, List, [], ◌∷◌, ◌++◌, length, map, ◌⊎◌, inl, inr, refl, arith, rules}
-use Rattle.std.proofs.lemmas.Grind.{common_steps}
+use Rattle.std.proofs.Common.{◌≡◌, ◌≢◌, ◌≤◌, ◌<◌, ◌∙◌, sym, ap, subst, ℕ, true, List, [], ◌∷◌, ◌++◌, length, map, ◌⊎◌, inl, inr, refl, arith}
 use Rattle.word36.specs.declared.sizes.TheConstants.{REQUESTS}
 use Rattle.lock_queue.specs.declared.request.Request.{Request}
 use Rattle.lock_queue.specs.declared.key.Key.{Key}
-use Rattle.lock_queue.specs.declared.want.Want.{Want}
-use Rattle.lock_queue.specs.Keys.{same_key}
 use Rattle.lock_queue.specs.Queue.{all_wants, granted_behind, names}
 use Rattle.lock_laws.specs.Claims.{Claim, claim_of, claims_of, claims, AreAlike, AreApart, Rises}
-use Rattle.lock_laws.proofs.Lists.{Has, Pairs, Sub, nil, skip, keep, Sub-refl, Sub-none, Sub-append, Sub-map}
+use Rattle.lock_laws.proofs.Lists.{Has, Pairs, Sub, nil, Sub-none, Sub-append, Sub-map}
 
 -- the order of claims: what holds of a claim and a later one
 pub record Ordered (c d : Claim) : Type 0 where

@@ -1,12 +1,11 @@
 -- What status words say to each asker.
-use Rattle.std.proofs.Common.{◌≡◌, ◌≤◌, ◌<◌, ◌+◌, ◌*◌, ◌^◌, ◌∙◌, ap, ℕ, Bool, true, false, cond, List, [], ◌∷◌, unwrap_or, refl, arith, rules}
+use Rattle.std.proofs.Common.{◌≡◌, ◌≤◌, ◌<◌, ◌+◌, ◌*◌, ◌^◌, ap, ℕ, Bool, true, false, List, [], ◌∷◌, unwrap_or, arith}
 use Rattle.word36.specs.Words.{joined}
 use Rattle.lock_queue.specs.declared.key.Key.{Key}
 use Rattle.lock_queue.specs.declared.request.Request.{Request}
 use Rattle.lock_queue.specs.declared.status.Status.{Status}
-use Rattle.lock_queue.specs.Queue.{owners}
-use Rattle.lock_queue.specs.StatusWords.{first_job, level_of, status_of, left_bit, owner_word, count_word, words_of}
-use Rattle.lock_laws.specs.Safe.{ToldAlike, asker_bits}
+use Rattle.lock_queue.specs.StatusWords.{status_of, left_bit, count_word}
+use Rattle.lock_laws.specs.Safe.{ToldAlike}
 
 parted : (x y c l r : ℕ) → (x + y + c + l) * 2 ^ 18 + r ≡ ((x + y) * 2 ^ 18 + 0) + ((c + l) * 2 ^ 18 + r)
 parted x y c l r = omega arith

@@ -1,5 +1,5 @@
 -- Between the words of std and those of the proofs.
-use Rattle.std.proofs.Common.{◌≡◌, ◌≤◌, ◌<◌, ◌+◌, ◌∙◌, sym, ap, subst, ℕ, zero, suc, List, [], ◌∷◌, length, get_or, ◌⊎◌, inl, inr, refl, arith, rules}
+use Rattle.std.proofs.Common.{◌<◌, subst, ℕ, zero, suc, List, [], ◌∷◌, length, get_or, inl, inr, refl, arith}
 use Rattle.std.specs.List.{Contains, AllPairs}
 use Rattle.lock_laws.proofs.Lists.{Has, Pairs}
 
@@ -22,3 +22,12 @@ module _ {X : Type 0} where
   Pairs-AllPairs R (x ∷ xs) p i zero d lt in' = absurd (omega arith)
   Pairs-AllPairs R (x ∷ xs) p zero (suc j) d lt in' = p.0 (get_or xs j d) (has_at xs j d (omega arith))
   Pairs-AllPairs R (x ∷ xs) p (suc i) (suc j) d lt in' = Pairs-AllPairs R xs p.1 i j d (omega arith) (omega arith)
+
+  pub AllPairs-Pairs : (R : X → X → Type 0) (xs : List X) → AllPairs R xs → Pairs R xs
+  AllPairs-Pairs R [] p = tt
+  AllPairs-Pairs R (x ∷ xs) p = (
+    λ y h.
+        let c = Has-Contains xs y h in
+        subst (λ u. R x u) c.2 (p 0 (suc c.0) y (omega arith) (omega (arith, c.1))),
+    AllPairs-Pairs R xs (λ i j d lt within. p (suc i) (suc j) d (omega arith) (omega arith)),
+  )

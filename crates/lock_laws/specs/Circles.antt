@@ -1,9 +1,15 @@
 -- Jobs that wait for one another (this project's profile).
-use Rattle.std.specs.Prelude.{◌≡◌, ℕ, Bool, true, false, not, ◌==◌, ◌&&◌, List, [], ◌∷◌, length}
+use Rattle.std.specs.Prelude.{◌≡◌, ◌≢◌, ℕ, ◌<◌, Bool, true, false, not, ◌==◌, ◌&&◌, List, [], ◌∷◌, length, Some, slice_get}
 use Rattle.std.specs.List.{list_all}
 use Rattle.lock_queue.specs.declared.request.Request.{Request}
-use Rattle.lock_queue.specs.Jobs.{waits_for}
-use Rattle.lock_queue.specs.Queue.{requests_of}
+use Rattle.lock_queue.specs.Jobs.{is_blocking, waits_for}
+use Rattle.lock_queue.specs.Queue.{granted, requests_of}
+
+-- a job waits by its latest request alone: where a blocking request is not granted, no later request is of its job
+abbrev pub WaitsByLatest : List Request → Type 0
+WaitsByLatest requests =
+    (i j : ℕ) (r s : Request) → i < j → slice_get requests i ≡ Some r → slice_get requests j ≡ Some s → is_blocking r.kind ≡ true
+    → granted requests i ≡ false → s.job ≢ r.job
 
 -- a plain job asks for one lock at a time, by rising levels: each of its present requests has one want, without bypass
 abbrev pub has_one_plain_want : Request → Bool

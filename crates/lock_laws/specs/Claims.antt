@@ -1,10 +1,9 @@
 -- The present wants with their jobs, in order of arrival (this project's profile).
-use Rattle.std.specs.Prelude.{◌≡◌, ℕ, ◌<◌, true, false, List, map}
+use Rattle.std.specs.Prelude.{◌≡◌, ◌≢◌, ℕ, ◌<◌, true, false, List, map}
 use Rattle.std.specs.List.{flat_map}
 use Rattle.lock_queue.specs.declared.request.Request.{Request}
 use Rattle.lock_queue.specs.declared.want.Want.{Want}
 use Rattle.lock_queue.specs.Enqueues.{are_alike}
-use Rattle.lock_queue.specs.Keys.{same_key}
 
 -- a want, and whose it is
 pub record Claim : Type 0 where
@@ -23,11 +22,11 @@ claims requests = flat_map claims_of requests
 
 -- two wants of one key have one level, and one pool size or no pool
 abbrev pub AreAlike : Claim → Claim → Type 0
-AreAlike c d = same_key c.want.key d.want.key ≡ true → are_alike c.want d.want ≡ true
+AreAlike c d = c.want.key ≡ d.want.key → are_alike c.want d.want ≡ true
 
 -- two wants of one job are of two keys
 abbrev pub AreApart : Claim → Claim → Type 0
-AreApart c d = c.job ≡ d.job → same_key c.want.key d.want.key ≡ false
+AreApart c d = c.job ≡ d.job → c.want.key ≢ d.want.key
 
 -- a want without bypass has a level above an earlier one of its job
 abbrev pub Rises : Claim → Claim → Type 0

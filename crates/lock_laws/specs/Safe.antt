@@ -1,5 +1,5 @@
 -- What holds of the requests at every time (ENQ/DEQ of the TOPS-10 Monitor Calls Manual, in this project's profile).
-use Rattle.std.specs.Prelude.{◌≡◌, ℕ, ◌+◌, ◌^◌, ◌<◌, ◌≤◌, true, false, List, [], ◌∷◌, length, take, Option, Some, slice_get, sum_by, Contains, AllPairs, unwrap_or}
+use Rattle.std.specs.Prelude.{◌≡◌, ℕ, ◌+◌, ◌^◌, ◌<◌, ◌≤◌, true, false, List, [], ◌∷◌, length, take, Some, slice_get, sum_by, Contains, AllPairs, unwrap_or}
 use Rattle.word36.specs.declared.sizes.TheConstants.{REQUESTS}
 use Rattle.lock_queue.specs.declared.key.Key.{Key}
 use Rattle.lock_queue.specs.declared.request.Request.{Request}
@@ -28,6 +28,13 @@ abbrev pub AllOrNone : List Request → Type 0
 AllOrNone requests =
     (r : Request) (key other : Key) → Contains (owners requests key) r → names r.wants.items other ≡ true → Contains (owners requests other) r
 
+-- of the wants of a key those that fit stand in front: where a want does not fit, no later one of its key fits
+abbrev pub FitsInFront : List Request → Type 0
+FitsInFront requests =
+    (i j : ℕ) (r s : Request) (v w : Want) → i < j → slice_get requests i ≡ Some r → slice_get requests j ≡ Some s
+    → Contains r.wants.items v → Contains s.wants.items w → v.key ≡ w.key → fits (take i requests) v ≡ false
+    → fits (take j requests) w ≡ false
+
 -- where a want of a request does not fit, no later request owns its key
 abbrev pub NoOvertaking : List Request → Type 0
 NoOvertaking requests =
@@ -51,6 +58,7 @@ pub record Safe (requests : List Request) : Type 0 where
   pub exclusive_alone : ExclusiveAlone requests
   pub pools_suffice : PoolsSuffice requests
   pub all_or_none : AllOrNone requests
+  pub fits_in_front : FitsInFront requests
   pub no_overtaking : NoOvertaking requests
   -- present wants of one key have one level, and one pool size or no pool
   pub alike : AllPairs AreAlike (claims requests)

@@ -1,6 +1,9 @@
 //! One list of calls on the plain table.
 
-use crate::{calls_are_safe, jobs_keep_their_locks, plain_jobs_make_no_circle, run_safely};
+use crate::{
+    calls_are_safe, jobs_keep_their_locks, owners_are_kept, plain_jobs_make_no_circle, run_safely,
+    safety_is_kept, waits_are_by_latest,
+};
 use lock_queue::{
     EnqueueKind, Key, Level, LockCall, LockReply, LockTable, Name, PlainTable, Pool, RequestId,
     Scope, UserCode, Want, Wants,
@@ -71,4 +74,7 @@ fn laws_hold() {
     calls_are_safe();
     jobs_keep_their_locks();
     plain_jobs_make_no_circle();
+    safety_is_kept();
+    owners_are_kept();
+    waits_are_by_latest();
 }

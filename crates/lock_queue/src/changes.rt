@@ -1,12 +1,14 @@
 //! Wants that are made shared or exclusive.
-ghost use Rattle.std.specs.Prelude.{◌≡◌, ◌≤◌, [], filter, length, map, vec_len, vec_capacity};
+ghost use Rattle.std.specs.Prelude.{◌≡◌, ◌≤◌, [], filter, length, map};
 ghost use Rattle.std.specs.List.{list_any};
-ghost use Rattle.lock_queue.specs.Changes.{modify_fault, changed_want, changed, with_changes, some_lost};
+ghost use Rattle.word36.specs.declared.sizes.TheConstants.{REQUESTS};
+ghost use Rattle.lock_queue.specs.Changes.{modify_fault, changed_want, with_changes, some_lost};
 ghost use Rattle.lock_queue.specs.Keys.{same_key};
 ghost use Rattle.lock_queue.specs.Outcomes.{first_refusal};
 ghost use Rattle.lock_queue.specs.Queue.{is_pooled, wants_at, requests_of};
 
 use crate::queue::{has_want, is_granted, is_pooled, names_key};
+use crate::row::Row;
 use crate::{Key, Refusal, Request, Want, Wants};
 
 fn is_pooled_in(wants: &[Want], key: &Key) -> bool
@@ -83,44 +85,19 @@ fn changed_wants(changes: &[Want], wants: &Wants) -> Wants
     changed
 }
 
-fn changed(r: &Request, job: u8, changes: &[Want]) -> Request
-    ensures { result ≡ changed job changes.now r.now }
-{
-    let wants = if r.job == job {
-        changed_wants(changes, &r.wants)
-    } else {
-        copied_wants(&r.wants)
-    };
-    Request {
-        job: r.job,
-        id: r.id,
-        kind: r.kind,
-        told: r.told,
-        wants,
-    }
-}
-
-/// The same wants again.
-pub fn copied_wants(wants: &Wants) -> Wants
-    ensures { result ≡ wants.now }
-{
-    let mut copy = Wants::new();
-    for w in wants.as_slice() {
-        copy.push(w.copied());
-    }
-    copy
-}
-
-/// Fills a list with the requests, those of the job being changed.
-pub fn fill_changed(later: &mut Vec<Request>, requests: &[Request], job: u8, changes: &[Want])
-    requires { length requests.now ≤ vec_capacity later.old }
-    ensures items { later.new.items ≡ with_changes requests.now job changes.now }
-    ensures len { vec_len later.new ≡ length requests.now }
-    ensures room { vec_capacity later.old ≤ vec_capacity later.new }
+/// Writes the requests over others, those of the job being changed.
+pub fn write_changed(later: &mut Row, requests: &[Request], job: u8, changes: &[Want])
+    requires { length requests.now ≤ REQUESTS }
+    ensures { later.new ≡ with_changes requests.now job changes.now }
 {
     later.clear();
     for r in requests {
-        let _ = later.push(changed(r, job, changes));
+        if r.job == job {
+            let wants = changed_wants(changes, &r.wants);
+            later.push(r.job, r.id, r.kind, r.told, &wants);
+        } else {
+            later.push(r.job, r.id, r.kind, r.told, &r.wants);
+        }
     }
 }
 

@@ -1,11 +1,13 @@
 //! Why wants are not given up, and how they leave.
-ghost use Rattle.std.specs.Prelude.{◌≡◌, ◌≤◌, [], not, filter, map, vec_len, vec_capacity};
+ghost use Rattle.std.specs.Prelude.{◌≡◌, ◌≤◌, [], not, filter, length, map};
 ghost use Rattle.std.specs.List.{list_any};
+ghost use Rattle.word36.specs.declared.sizes.TheConstants.{REQUESTS};
 ghost use Rattle.lock_queue.specs.Dequeues.{dequeue_fault, has_wants, without_keys, without_keys_of, without_named, is_of_job, has_id};
 ghost use Rattle.lock_queue.specs.Jobs.{released};
 ghost use Rattle.lock_queue.specs.Outcomes.{first_refusal};
 
 use crate::queue::{has_want, names_key};
+use crate::row::Row;
 use crate::{Refusal, Request, RequestId, Want};
 
 fn fault_of(requests: &[Request], job: u8, earlier: &[Want], w: &Want) -> Option<Refusal>
@@ -40,7 +42,8 @@ fn remove_keys(r: &mut Request, named: &[Want])
     r.wants.retain(|w| !names_key(named, &w.key));
 }
 
-fn remove_keys_of(requests: &mut [Request], job: u8, named: &[Want])
+/// Takes the wants of the named keys out of the job's requests.
+pub fn remove_keys_of(requests: &mut [Request], job: u8, named: &[Want])
     ensures { requests.new ≡ map (without_keys_of job named.now) requests.old }
 {
     for r in requests.iter_mut() {
@@ -50,22 +53,24 @@ fn remove_keys_of(requests: &mut [Request], job: u8, named: &[Want])
     }
 }
 
-fn remove_empty(requests: &mut Vec<Request>)
-    ensures items { requests.new.items ≡ filter has_wants requests.old.items }
-    ensures len { vec_len requests.new ≤ vec_len requests.old }
-    ensures room { vec_capacity requests.new ≡ vec_capacity requests.old }
+fn remove_empty(row: &mut Row)
+    ensures value { row.new ≡ filter has_wants row.old }
+    ensures few { length row.new ≤ REQUESTS }
 {
-    requests.retain(|r| !r.wants.is_empty());
+    for i in (0..row.as_slice().len()).rev() {
+        if row.as_slice()[i].wants.is_empty() {
+            row.remove(i);
+        }
+    }
 }
 
 /// Takes the named wants out of the job's requests, and the requests that are left without wants.
-pub fn remove_named(requests: &mut Vec<Request>, job: u8, named: &[Want])
-    ensures items { requests.new.items ≡ without_named requests.old.items job named.now }
-    ensures len { vec_len requests.new ≤ vec_len requests.old }
-    ensures room { vec_capacity requests.new ≡ vec_capacity requests.old }
+pub fn remove_named(row: &mut Row, job: u8, named: &[Want])
+    ensures value { row.new ≡ without_named row.old job named.now }
+    ensures few { length row.new ≤ REQUESTS }
 {
-    remove_keys_of(requests.as_mut_slice(), job, named);
-    remove_empty(requests);
+    row.remove_keys_of(job, named);
+    remove_empty(row);
 }
 
 /// Whether there is a request of the job.
@@ -76,12 +81,15 @@ pub fn has_request(requests: &[Request], job: u8) -> bool
 }
 
 /// Takes out the requests of the job.
-pub fn remove_job(requests: &mut Vec<Request>, job: u8)
-    ensures items { requests.new.items ≡ released requests.old.items job }
-    ensures len { vec_len requests.new ≤ vec_len requests.old }
-    ensures room { vec_capacity requests.new ≡ vec_capacity requests.old }
+pub fn remove_job(row: &mut Row, job: u8)
+    ensures value { row.new ≡ released row.old job }
+    ensures few { length row.new ≤ REQUESTS }
 {
-    requests.retain(|r| r.job != job);
+    for i in (0..row.as_slice().len()).rev() {
+        if row.as_slice()[i].job == job {
+            row.remove(i);
+        }
+    }
 }
 
 fn has_id(r: &Request, job: u8, id: RequestId) -> bool
@@ -98,10 +106,13 @@ pub fn has_request_id(requests: &[Request], job: u8, id: RequestId) -> bool
 }
 
 /// Takes out the requests of the job with that id.
-pub fn remove_id(requests: &mut Vec<Request>, job: u8, id: RequestId)
-    ensures items { requests.new.items ≡ filter (λ r. not (has_id job id r)) requests.old.items }
-    ensures len { vec_len requests.new ≤ vec_len requests.old }
-    ensures room { vec_capacity requests.new ≡ vec_capacity requests.old }
+pub fn remove_id(row: &mut Row, job: u8, id: RequestId)
+    ensures value { row.new ≡ filter (λ r. not (has_id job id r)) row.old }
+    ensures few { length row.new ≤ REQUESTS }
 {
-    requests.retain(|r| !has_id(r, job, id));
+    for i in (0..row.as_slice().len()).rev() {
+        if has_id(&row.as_slice()[i], job, id) {
+            row.remove(i);
+        }
+    }
 }

@@ -1,11 +1,13 @@
 //! What concerns the requests of one job: which wait, which are told, which leave.
-ghost use Rattle.std.specs.Prelude.{◌≡◌, ◌≤◌, vec_len, vec_capacity, filter};
+ghost use Rattle.std.specs.Prelude.{◌≡◌, ◌≤◌, filter, length};
 ghost use Rattle.std.specs.List.{list_any};
+ghost use Rattle.word36.specs.declared.sizes.TheConstants.{REQUESTS};
 ghost use Rattle.lock_queue.specs.Jobs.{is_blocked, is_waiting_job, withdrawn, is_pending, pending, as_told, told_of, is_in_the_way, is_kept_by, is_blocked_by, waits_for};
 ghost use Rattle.lock_queue.specs.Keys.{same_key};
 ghost use Rattle.lock_queue.specs.Queue.{wants_at, requests_of};
 
 use crate::queue::{do_agree, is_fitting, is_granted, is_pooled};
+use crate::row::Row;
 use crate::{EnqueueKind, Request, RequestId, Want};
 
 /// Whether the job waits by this request: it is blocking, and not granted behind the earlier ones.
@@ -29,15 +31,14 @@ pub fn is_waiting(requests: &[Request], job: u8) -> bool
 
 /// Takes out the requests by which the job waits. A request is judged by those before it, so the
 /// last may leave first.
-pub fn remove_blocked(requests: &mut Vec<Request>, job: u8)
-    ensures items { requests.new.items ≡ withdrawn requests.old.items job }
-    ensures len { vec_len requests.new ≤ vec_len requests.old }
-    ensures room { vec_capacity requests.new ≡ vec_capacity requests.old }
+pub fn remove_blocked(row: &mut Row, job: u8)
+    ensures value { row.new ≡ withdrawn row.old job }
+    ensures few { length row.new ≤ REQUESTS }
 {
-    for i in (0..requests.len()).rev() {
-        let all = requests.as_slice();
+    for i in (0..row.as_slice().len()).rev() {
+        let all = row.as_slice();
         if is_blocked(&all[..i], &all[i], job) {
-            requests.remove(i);
+            row.remove(i);
         }
     }
 }

@@ -13,6 +13,7 @@ mod pool;
 mod queue;
 mod refusal;
 mod request;
+mod row;
 mod standing;
 mod status;
 mod table;

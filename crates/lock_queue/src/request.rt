@@ -65,3 +65,16 @@ pub struct Request {
     /// The locks that it wants, all together.
     pub wants: Wants,
 }
+
+/// A request of job 0 without wants, which fills unused places.
+impl Default for Request {
+    fn default() -> Self {
+        Request {
+            job: 0,
+            id: RequestId::new(0),
+            kind: EnqueueKind::AtOnce,
+            told: false,
+            wants: Wants::new(),
+        }
+    }
+}

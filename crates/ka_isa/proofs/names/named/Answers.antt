@@ -1,5 +1,4 @@
 use Rattle.std.proofs.Common.{◌≡◌, ◌∙◌, ◌*◌, ◌^◌, Some, None, ap, sym, refl, rules, arith}
-use Rattle.std.proofs.lemmas.Grind.{common_steps}
 use Rattle.ka_isa.proofs.MeaningLemmas.{named_of_call, named_of_operation, code_below}
 use Rattle.ka_isa.specs.Operations.{operations, calls, call_meaning, call_in, code_in}
 use Rattle.std.specs.Option.{option_map}

@@ -1,0 +1,68 @@
+use Rattle.std.proofs.Common.{◌≡◌, ℕ, ◌+◌, ◌-◌, ◌*◌, ◌/◌, ◌%◌, ◌^◌, ◌<◌, ◌≤◌, suc, zero, Option, Some, None, Ok, Err, Result, List, Bool, true, false, refl, arith, ap, if◌then◌else◌}
+use Rattle.ka_isa.specs.Families.{family_of}
+use Rattle.ka_isa.specs.declared.Family.{Family}
+use Rattle.ka_cpu.specs.Places.{word_at}
+use Rattle.ka_cpu.specs.Addresses.{Target, target_of, reading, at_target, address_in, used_in}
+use Rattle.ka_cpu.specs.Effects.{After, stopped}
+use Rattle.ka_cpu.specs.Exec.{word_behind, is_xct, op_of, ac_field, at_address, carried_out}
+use Rattle.ka_cpu.specs.declared.registers.Regs.{Regs}
+use Rattle.ka_cpu.specs.declared.instruction.Instruction.{Instruction}
+use Rattle.ka_cpu.specs.declared.outcome.StopReason.{StopReason}
+use Rattle.ka_cpu.specs.declared.outcome.StopReason.TheVariants.{IllegalAddress, AddressChain}
+
+pub behind_plain : (k : ℕ) (ac core : List ℕ) (w : ℕ) → is_xct w ≡ false → word_behind k ac core w ≡ Ok w
+unfolding word_behind
+behind_plain zero ac core w x = rw x refl
+behind_plain (suc k) ac core w x = rw x refl
+
+end_at : (k : ℕ) (ac core : List ℕ) (w : ℕ) → k ≡ 0 → is_xct w ≡ true → word_behind k ac core w ≡ Err AddressChain
+unfolding word_behind
+end_at k ac core w e x = rw e (rw x refl)
+
+pub behind_end : (i : ℕ) (ac core : List ℕ) (w : ℕ) → 256 ≤ i → is_xct w ≡ true → word_behind (256 - i) ac core w ≡ Err AddressChain
+behind_end i ac core w b x = end_at (256 - i) ac core w (omega arith) x
+
+refused_at : (t : Result Target StopReason) (r : StopReason) (f : Target → Result ℕ StopReason) → Err r ≡ address_in t → at_target t f ≡ Err r
+refused_at (Err s) r f h = cc
+refused_at (Ok t) r f h = cc
+
+reached_at : (t : Result Target StopReason) (e : ℕ) (f : ℕ → Result ℕ StopReason) → Ok e ≡ address_in t → at_target t (λ u. f u.e) ≡ f e
+reached_at (Err s) e f h = cc
+reached_at (Ok t) e f h = let q : t.e ≡ e = cc in rw q refl
+
+unfold_at : (m k : ℕ) (ac core : List ℕ) (w : ℕ) → k ≡ suc m → is_xct w ≡ true → word_behind k ac core w ≡ at_target (target_of ac core w) (λ t. reading (word_at ac core t.e) (λ v. word_behind m ac core v))
+unfolding word_behind
+unfold_at m k ac core w e x = rw e (rw x refl)
+
+pub behind_refused : (i : ℕ) (ac core : List ℕ) (w : ℕ) (r : StopReason) → i < 256 → is_xct w ≡ true → Err r ≡ address_in (target_of ac core w) → word_behind (256 - i) ac core w ≡ Err r
+behind_refused i ac core w r b x h =
+    rw (unfold_at (256 - (i + 1)) (256 - i) ac core w (omega arith) x) (refused_at (target_of ac core w) r (λ t. reading (word_at ac core t.e) (λ v. word_behind (256 - (i + 1)) ac core v)) h)
+
+turned_at : (i : ℕ) (ac core : List ℕ) (w e : ℕ) → i < 256 → is_xct w ≡ true → Ok e ≡ address_in (target_of ac core w) → word_behind (256 - i) ac core w ≡ reading (word_at ac core e) (λ v. word_behind (256 - (i + 1)) ac core v)
+turned_at i ac core w e b x h =
+    rw (unfold_at (256 - (i + 1)) (256 - i) ac core w (omega arith) x) (reached_at (target_of ac core w) e (λ (e : ℕ). reading (word_at ac core e) (λ v. word_behind (256 - (i + 1)) ac core v)) h)
+
+pub behind_illegal : (i : ℕ) (ac core : List ℕ) (w e : ℕ) → i < 256 → is_xct w ≡ true → Ok e ≡ address_in (target_of ac core w) → word_at ac core e ≡ None → word_behind (256 - i) ac core w ≡ Err IllegalAddress
+behind_illegal i ac core w e b x h p = rw (turned_at i ac core w e b x h) (rw p refl)
+
+pub behind_turn : (i : ℕ) (ac core : List ℕ) (w e v : ℕ) → i < 256 → is_xct w ≡ true → Ok e ≡ address_in (target_of ac core w) → word_at ac core e ≡ Some v → word_behind (256 - i) ac core w ≡ word_behind (256 - (i + 1)) ac core v
+behind_turn i ac core w e v b x h p = rw (turned_at i ac core w e b x h) (rw p refl)
+
+pub ruleset xct_steps = (behind_plain, behind_end, behind_refused, behind_illegal, behind_turn)
+
+-- an instruction by the address of its word
+refused_by : (t : Result Target StopReason) (g : Regs) (core : List ℕ) (w : ℕ) (r : StopReason) → Err r ≡ address_in t → at_address g core w t ≡ stopped g core r
+refused_by (Err s) g core w r h = let q : s ≡ r = cc in rw q refl
+refused_by (Ok t) g core w r h = cc
+
+pub at_refused : (g : Regs) (core : List ℕ) (w : ℕ) (r : StopReason) → Err r ≡ address_in (target_of g.ac core w) → at_address g core w (target_of g.ac core w) ≡ stopped g core r
+at_refused g core w r h = refused_by (target_of g.ac core w) g core w r h
+
+done_by : (t : Result Target StopReason) (g : Regs) (core : List ℕ) (w e : ℕ) → Ok e ≡ address_in t → at_address g core w t ≡ carried_out (family_of (op_of w)) g core (record { op = op_of w; ac = ac_field w; e = e }) (used_in t)
+done_by (Err s) g core w e h = cc
+done_by (Ok t) g core w e h = let q : t.e ≡ e = cc in rw q refl
+
+pub at_done : (g : Regs) (core : List ℕ) (w e : ℕ) → Ok e ≡ address_in (target_of g.ac core w) → at_address g core w (target_of g.ac core w) ≡ carried_out (family_of (op_of w)) g core (record { op = op_of w; ac = ac_field w; e = e }) (used_in (target_of g.ac core w))
+at_done g core w e h = done_by (target_of g.ac core w) g core w e h
+
+pub ruleset performances = (at_refused, at_done)

@@ -1,0 +1,10 @@
+pub mod Legal
+pub mod Products
+pub mod Executes
+pub mod Shifting
+pub mod BlockSteps
+pub mod ByteBounds
+pub mod BytePlaces
+pub mod Chain
+pub mod ChainLaw
+pub mod Zeros

@@ -1,0 +1,6 @@
+use Rattle.std.proofs.Common.{◌≡◌, ◌-◌, None}
+use Rattle.ka_cpu.specs.Addresses.{target_from}
+use Rattle.ka_cpu.proofs.address.follow_chain.Given as goal
+
+abbrev pub invariant-loop-turn : goal.invariant-loop-turn
+invariant-loop-turn g l = target_from (256 - l.turn) l.regs.ac (g.M.JobMemory.words l.memory) l.word l.used ≡ target_from 256 l.regs.ac (g.M.JobMemory.words l.memory) l.fn.word None

@@ -1,0 +1,42 @@
+-- BLT (Processor Reference Manual, "Block transfer").
+use Rattle.std.specs.Prelude.{ℕ, zero, suc, ◌+◌, ◌-◌, ◌*◌, ◌/◌, ◌%◌, ◌^◌, Bool, true, ◌&&◌, if◌then◌else◌, Option, Some, None, List}
+use Rattle.word36.specs.Words.{left_half, right_half}
+use Rattle.ka_cpu.specs.Places.{word_at, is_legal, ac_with, core_with}
+use Rattle.ka_cpu.specs.Effects.{After, a_of, next_pc, stopped}
+use Rattle.ka_cpu.specs.declared.registers.Regs.{Regs}
+use Rattle.ka_cpu.specs.declared.outcome.StopReason.TheVariants.{IllegalAddress}
+use Rattle.ka_cpu.specs.declared.outcome.Outcome.TheVariants.{Done}
+use Rattle.ka_cpu.specs.declared.instruction.Instruction.{Instruction}
+
+-- how many words: at least one, up to the first place that is at least E (E is at most 777777 octal)
+abbrev pub word_count : ℕ → ℕ → ℕ
+word_count d e = e - d + 1
+
+-- every place that is read or written is legal; those that are read wrap after 777777 octal
+unfoldable pub all_legal : ℕ → List ℕ → ℕ → ℕ → Bool
+all_legal zero core s d = true
+all_legal (suc k) core s d = is_legal core (s % 2 ^ 18) && is_legal core d && all_legal k core (s + 1) (d + 1)
+
+-- registers and core
+pub record Store : Type 0 where
+  pub ac : List ℕ
+  pub core : List ℕ
+
+abbrev pub stored : Store → ℕ → Option ℕ → Store
+stored t d None = t
+stored t d (Some w) = record { ac = ac_with t.ac d w; core = core_with t.core d w }
+
+-- k words are moved from s to d, one after another: what was moved is seen by later reads
+unfoldable pub moved_words : ℕ → Store → ℕ → ℕ → Store
+moved_words zero t s d = t
+moved_words (suc k) t s d = moved_words k (stored t d (word_at t.ac t.core (s % 2 ^ 18))) (s + 1) (d + 1)
+
+-- BLT: A is `s,,d`; AC is not stored (this project's profile)
+unfoldable pub blt_after : Regs → List ℕ → Instruction → After
+blt_after g core n =
+    let s = left_half (a_of g n) in
+    let d = right_half (a_of g n) in
+    let t = moved_words (word_count d n.e) (record { ac = g.ac; core = core }) s d in
+    if all_legal (word_count d n.e) core s d
+    then record { regs = record g { ac = t.ac; pc = next_pc g }; core = t.core; outcome = Done }
+    else stopped g core IllegalAddress

@@ -1,0 +1,77 @@
+-- IBP, ILDB, LDB, IDPB and DPB (Processor Reference Manual, "Byte manipulation").
+use Rattle.std.specs.Prelude.{ℕ, min, ◌+◌, ◌-◌, ◌*◌, ◌/◌, ◌%◌, ◌^◌, nat_eq, nat_lt, nat_le, Bool, true, false, ◌||◌, if◌then◌else◌, Option, Some, None, List, Result, Ok, Err}
+use Rattle.ka_cpu.specs.Addresses.{Target, reading, target_of, at_target}
+use Rattle.ka_cpu.specs.Places.{word_at, ac_with, core_with}
+use Rattle.ka_cpu.specs.Effects.{After, Effect, a_of, next_pc, goes_on, applied, stopped}
+use Rattle.ka_cpu.specs.declared.registers.Regs.{Regs}
+use Rattle.ka_cpu.specs.declared.outcome.StopReason.{StopReason}
+use Rattle.ka_cpu.specs.declared.outcome.StopReason.TheVariants.{IllegalAddress}
+use Rattle.ka_cpu.specs.declared.outcome.Outcome.TheVariants.{Done}
+use Rattle.ka_cpu.specs.declared.instruction.Instruction.{Instruction}
+
+-- a pointer: P in bits 0-5 is the number of bits to the right of the byte, S in bits 6-11 its size
+abbrev pub position_of : ℕ → ℕ
+position_of p = p / 2 ^ 30
+
+abbrev pub size_of : ℕ → ℕ
+size_of p = p / 2 ^ 24 % 2 ^ 6
+
+-- Where P is at least S, P becomes P-S; otherwise Y becomes Y+1 modulo 2 ^ 18, bits 6-17 staying, and P becomes
+-- 36-S, or 0 where S is above 36 (this project's profile).
+unfoldable pub incremented : ℕ → ℕ
+incremented p =
+    if nat_le (size_of p) (position_of p) then p - size_of p * 2 ^ 30
+    else (36 - size_of p) * 2 ^ 30 + p / 2 ^ 18 % 2 ^ 12 * 2 ^ 18 + (p + 1) % 2 ^ 18
+
+-- the byte of a word, the rest zero
+unfoldable pub byte_of : ℕ → ℕ → ℕ
+byte_of p w = w / 2 ^ position_of p % 2 ^ size_of p
+
+-- k bits of w, with p bits to their right, are replaced by the low bits of a
+abbrev pub replaced : ℕ → ℕ → ℕ → ℕ → ℕ
+replaced p k a w = w / 2 ^ (p + k) * 2 ^ (p + k) + (a % 2 ^ k * 2 ^ p + w % 2 ^ p)
+
+-- of the byte's bits those that the word has are replaced
+unfoldable pub deposited : ℕ → ℕ → ℕ → ℕ
+deposited p a w =
+    if nat_lt (position_of p) 36 then replaced (position_of p) (min (size_of p) (36 - position_of p)) a w else w
+
+-- 133 IBP, 134 ILDB, 135 LDB, 136 IDPB, 137 DPB (octal)
+abbrev pub increments : ℕ → Bool
+increments op = nat_eq op 0o133 || nat_eq op 0o134 || nat_eq op 0o136
+
+abbrev pub loads : ℕ → Bool
+loads op = nat_eq op 0o134 || nat_eq op 0o135
+
+-- LDB puts the byte in AC; DPB puts the low bits of A in the byte's place
+abbrev pub byte_effect : Regs → Instruction → ℕ → ℕ → ℕ → Effect
+byte_effect g n p e w =
+    if loads n.op then record (goes_on g 1) { ac = Some (byte_of p w) }
+    else record (goes_on g 1) { memory = Some (e, deposited p (a_of g n) w) }
+
+-- the place of the byte that a pointer names, and the word there
+abbrev pub byte_place : List ℕ → List ℕ → ℕ → Result (ℕ × ℕ) StopReason
+byte_place ac core p = at_target (target_of ac core p) (λ t. reading (word_at ac core t.e) (λ w. Ok (t.e, w)))
+
+-- what is done in the state g, core; where it is refused the state is the old one
+abbrev pub byte_done : Regs → List ℕ → Regs → List ℕ → Instruction → ℕ → Result (ℕ × ℕ) StopReason → After
+byte_done old old_core g core n p (Err r) = stopped old old_core r
+byte_done old old_core g core n p (Ok b) = applied g core n (byte_effect g n p b.0 b.1)
+
+-- IBP increments the pointer at E; ILDB and IDPB do so first, and find the byte and AC in the state that this
+-- leaves (this project's profile)
+abbrev pub behind_pointer : Regs → List ℕ → Regs → List ℕ → Instruction → ℕ → After
+behind_pointer old old_core g core n p =
+    if nat_eq n.op 0o133
+    then record { regs = record g { pc = next_pc g }; core = core; outcome = Done }
+    else byte_done old old_core g core n p (byte_place g.ac core p)
+
+abbrev pub with_pointer : Regs → List ℕ → Instruction → Option ℕ → After
+with_pointer g core n None = stopped g core IllegalAddress
+with_pointer g core n (Some p) =
+    if increments n.op
+    then behind_pointer g core (record g { ac = ac_with g.ac n.e (incremented p) }) (core_with core n.e (incremented p)) n (incremented p)
+    else byte_done g core g core n p (byte_place g.ac core p)
+
+unfoldable pub byte_after : Regs → List ℕ → Instruction → After
+byte_after g core n = with_pointer g core n (word_at g.ac core n.e)

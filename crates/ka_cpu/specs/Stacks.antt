@@ -1,0 +1,44 @@
+-- PUSHJ, PUSH, POP and POPJ (Processor Reference Manual, "Pushdown list").
+use Rattle.std.specs.Prelude.{ℕ, ◌+◌, ◌*◌, ◌-◌, ◌/◌, ◌%◌, ◌^◌, nat_lt, nat_le, Bool, true, if◌then◌else◌, Option, Some, List, Result, Ok}
+use Rattle.word36.specs.Words.{sum_of, right_half}
+use Rattle.ka_cpu.specs.Addresses.{reading}
+use Rattle.ka_cpu.specs.Places.{word_at}
+use Rattle.ka_cpu.specs.Effects.{Effect, Ending, Goes_on, Overruns, a_of, goes_on, goes_to, next_pc}
+use Rattle.ka_cpu.specs.Jumps.{pc_word, counted_up}
+use Rattle.ka_cpu.specs.declared.registers.Regs.{Regs}
+use Rattle.ka_cpu.specs.declared.outcome.StopReason.{StopReason}
+use Rattle.ka_cpu.specs.declared.instruction.Instruction.{Instruction}
+
+-- A - 1000001 octal, with a borrow between the halves as on a KA10
+abbrev pub counted_down : ℕ → ℕ
+counted_down a = sum_of a (2 ^ 36 - 2 ^ 18 - 1) 0
+
+-- a carry out of bit 0 of A + 1000001, or a borrow in A - 1000001, is stop 4 after the instruction (this project's profile)
+abbrev pub push_ending : ℕ → Ending
+push_ending a = if nat_le (2 ^ 36) (a + 2 ^ 18 + 1) then Overruns else Goes_on
+
+abbrev pub pop_ending : ℕ → Ending
+pop_ending a = if nat_lt a (2 ^ 18 + 1) then Overruns else Goes_on
+
+-- PUSHJ: A + 1000001 to AC, `flags,,next PC` at its right half, go to E
+unfoldable pub pushj_row : Regs → Instruction → Effect
+pushj_row g n =
+    record (goes_to g n.e) { memory = Some (right_half (counted_up (a_of g n)), pc_word g.flags (next_pc g)); ac = Some (counted_up (a_of g n)); ending = push_ending (a_of g n) }
+
+-- PUSH: A + 1000001 to AC, M at its right half
+unfoldable pub push_row : Regs → List ℕ → Instruction → Result Effect StopReason
+push_row g core n =
+    reading (word_at g.ac core n.e)
+    (λ m. Ok (record (goes_on g 1) { memory = Some (right_half (counted_up (a_of g n)), m); ac = Some (counted_up (a_of g n)); ending = push_ending (a_of g n) }))
+
+-- POP: the word at A's right half to E, A - 1000001 to AC
+unfoldable pub pop_row : Regs → List ℕ → Instruction → Result Effect StopReason
+pop_row g core n =
+    reading (word_at g.ac core (right_half (a_of g n)))
+    (λ m. Ok (record (goes_on g 1) { memory = Some (n.e, m); ac = Some (counted_down (a_of g n)); ending = pop_ending (a_of g n) }))
+
+-- POPJ: PC is the right half of the word at A's right half; A - 1000001 to AC
+unfoldable pub popj_row : Regs → List ℕ → Instruction → Result Effect StopReason
+popj_row g core n =
+    reading (word_at g.ac core (right_half (a_of g n)))
+    (λ m. Ok (record (goes_to g (right_half m)) { ac = Some (counted_down (a_of g n)); ending = pop_ending (a_of g n) }))

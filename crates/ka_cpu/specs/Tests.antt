@@ -1,0 +1,38 @@
+-- The tests, 600 to 677 octal (Processor Reference Manual, "Logical testing and modification").
+use Rattle.std.specs.Prelude.{ℕ, ◌+◌, ◌*◌, ◌-◌, ◌/◌, ◌%◌, ◌^◌, nat_eq, bit_and, bit_or, bit_xor, Bool, true, false, not, if◌then◌else◌, Option, Some, None, List, Result, Ok}
+use Rattle.word36.specs.Words.{complement, left_half, right_half, joined}
+use Rattle.ka_cpu.specs.Addresses.{reading}
+use Rattle.ka_cpu.specs.Places.{word_at}
+use Rattle.ka_cpu.specs.Moves.{swapped}
+use Rattle.ka_cpu.specs.Effects.{Effect, a_of, goes_on, skips_if}
+use Rattle.ka_cpu.specs.declared.registers.Regs.{Regs}
+use Rattle.ka_cpu.specs.declared.outcome.StopReason.{StopReason}
+use Rattle.ka_cpu.specs.declared.instruction.Instruction.{Instruction}
+
+-- the mask is `0,,E` (R), `E,,0` (L), M (D), M with halves swapped (S): 10 octal is for D and S, 1 for L and S
+abbrev pub mask_source : Regs → List ℕ → Instruction → Option ℕ
+mask_source g core n = if nat_eq (n.op / 8 % 2) 0 then Some n.e else word_at g.ac core n.e
+
+abbrev pub mask_of : ℕ → ℕ → ℕ
+mask_of op m = if nat_eq (op % 2) 0 then m else swapped m
+
+-- 0 never skips, 2 where A and mask is 0 (E), 4 always (A), 6 where it is not 0 (N)
+abbrev pub skips_on : ℕ → Bool → Bool
+skips_on op none_set =
+    if nat_eq (op / 2 % 4) 0 then false else
+    if nat_eq (op / 2 % 4) 1 then none_set else
+    if nat_eq (op / 2 % 4) 2 then true else not none_set
+
+-- 0 changes nothing (N), 20 clears (Z), 40 complements (C), 60 sets (O) the masked bits
+abbrev pub modified : ℕ → ℕ → ℕ → Option ℕ
+modified op a m =
+    if nat_eq (op / 16 % 4) 0 then None else
+    if nat_eq (op / 16 % 4) 1 then Some (bit_and a (complement m)) else
+    if nat_eq (op / 16 % 4) 2 then Some (bit_xor a m) else Some (bit_or a m)
+
+-- the skip is by the old A
+abbrev pub tested : Regs → Instruction → ℕ → Effect
+tested g n m = record (skips_if g (skips_on n.op (nat_eq (bit_and (a_of g n) m) 0))) { ac = modified n.op (a_of g n) m }
+
+unfoldable pub test_row : Regs → List ℕ → Instruction → Result Effect StopReason
+test_row g core n = reading (mask_source g core n) (λ m. Ok (tested g n (mask_of n.op m)))

@@ -1,0 +1,113 @@
+//! The address of an instruction or of a byte pointer.
+
+ghost use Rattle.std.specs.Prelude.{◌≡◌, ℕ, ◌<◌, ◌≤◌, ◌^◌, IfOk, List, length, None, Ok};
+ghost use Rattle.ka_cpu.specs.Addresses.{LeadsTo, Target, address_in, pair_in, direct_address, is_indirect, target_of, used_after, used_in};
+
+use crate::{JobMemory, Regs, StopReason, fetch};
+use word36::Word;
+
+/// The most indirect words of one address (this project's profile).
+const MOST_LINKS: u32 = 256;
+
+/// Y, plus the right half of the index register where there is one.
+#[inline(always)]
+fn find_direct(regs: &Regs, word: Word) -> u32
+    ensures value { result ≡ direct_address regs.now.ac word }
+    ensures below { result < 2 ^ 18 }
+{
+    let number = word.number();
+    let index = (number >> 18 & 0o17) as usize;
+    let y = (number & 0o777_777) as u32;
+    if index == 0 {
+        y
+    } else {
+        (y + regs.ac[index].right()) & 0o777_777
+    }
+}
+
+/// The register or word that was used last, once the index of a word is added.
+fn used_with_index(regs: &Regs, word: Word, used: Option<Word>) -> Option<Word>
+    ensures { result ≡ used_after regs.now.ac word used }
+{
+    let index = (word.number() >> 18 & 0o17) as usize;
+    if index == 0 {
+        used
+    } else {
+        Some(regs.ac[index])
+    }
+}
+
+#[inline(always)]
+fn is_indirect_word(word: Word) -> bool
+    ensures { result ≡ is_indirect word }
+{
+    word.number() >> 22 & 1 == 1
+}
+
+/// The address to which a word leads and what was used last on the way, over at most 256 indirect words.
+#[inline(never)]
+#[tactic(auto, using(crate::proofs::Chain::chain_steps))]
+fn follow_chain<M: JobMemory>(
+    regs: &Regs,
+    memory: &M,
+    word: Word,
+) -> Result<(u32, Option<Word>), StopReason>
+    ensures value { result ≡ pair_in (target_of regs.now.ac (M.words memory.now) word) }
+    ensures below { IfOk result (λ t. t.0 < 2 ^ 18) }
+{
+    let mut word = word;
+    let mut used = None;
+    for turn in 0..MOST_LINKS {
+        let e = find_direct(regs, word);
+        if !is_indirect_word(word) {
+            return Ok((e, used_with_index(regs, word, used)));
+        }
+        match fetch(regs, memory, e) {
+            None => return Err(StopReason::IllegalAddress),
+            Some(next) => {
+                word = next;
+                used = Some(next);
+            }
+        }
+    }
+    if is_indirect_word(word) {
+        Err(StopReason::AddressChain)
+    } else {
+        Ok((find_direct(regs, word), used_with_index(regs, word, used)))
+    }
+}
+
+/// The address of an instruction or of a byte pointer.
+#[inline(always)]
+#[tactic(auto, using(crate::proofs::Chain::chain_parts))]
+pub fn find_address<M: JobMemory>(regs: &Regs, memory: &M, word: Word) -> Result<u32, StopReason>
+    ensures value { result ≡ address_in (target_of regs.now.ac (M.words memory.now) word) }
+    ensures below { IfOk result (λ e. e < 2 ^ 18) }
+{
+    if is_indirect_word(word) {
+        match follow_chain(regs, memory, word) {
+            Ok((e, _)) => Ok(e),
+            Err(reason) => Err(reason),
+        }
+    } else {
+        Ok(find_direct(regs, word))
+    }
+}
+
+/// The register or word that was used last in the address of an instruction.
+#[tactic(auto, using(crate::proofs::Chain::chain_parts))]
+pub fn find_used<M: JobMemory>(regs: &Regs, memory: &M, word: Word) -> Option<Word>
+    ensures { result ≡ used_in (target_of regs.now.ac (M.words memory.now) word) }
+{
+    match follow_chain(regs, memory, word) {
+        Ok((_, used)) => used,
+        Err(_) => None,
+    }
+}
+
+/// An address is what a chain of at most 256 links leads to, and there is no other.
+#[tactic(auto, using(crate::proofs::ChainLaw::chain_laws))]
+pub fn address_laws()
+    ensures found { (ac core vs : List ℕ) (w : ℕ) (t : Target) → length vs ≤ 256 → LeadsTo ac core w None vs t → target_of ac core w ≡ Ok t }
+    ensures only { (ac core : List ℕ) (w : ℕ) (t : Target) → target_of ac core w ≡ Ok t → ((vs : List ℕ) × (length vs ≤ 256) × LeadsTo ac core w None vs t) }
+{}

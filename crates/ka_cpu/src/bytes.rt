@@ -1,0 +1,168 @@
+//! IBP, ILDB, LDB, IDPB and DPB.
+
+ghost use Rattle.std.specs.Prelude.{◌≡◌, true, IfOk, ℕ, ◌<◌, ◌≤◌, ◌^◌, ◌+◌, ◌*◌, ◌/◌, ◌%◌};
+ghost use Rattle.ka_cpu.specs.Places.{is_legal};
+ghost use Rattle.ka_cpu.specs.Effects.{After, applied};
+ghost use Rattle.ka_cpu.specs.Bytes.{byte_after, byte_effect, byte_of, byte_place, deposited, incremented, position_of, replaced, size_of};
+
+use crate::address::find_address;
+use crate::instruction::{ILLEGAL, Instruction};
+use crate::memory::store;
+use crate::{JobMemory, Outcome, Regs, StopReason, fetch};
+use word36::Word;
+
+/// The pointer to the next byte.
+#[inline(always)]
+#[tactic(auto, unfolding(crate::specs::Bytes::incremented))]
+fn increment(pointer: Word) -> Word
+    ensures { result ≡ incremented pointer }
+{
+    let number = pointer.number();
+    let position = number >> 30;
+    let size = number >> 24 & 63;
+    if size <= position {
+        Word::new(number - size * 0o10_000_000_000)
+    } else {
+        let fields = (number >> 18 & 0o7777) * 0o1_000_000;
+        Word::new((36 - size.min(36)) * 0o10_000_000_000 + fields + ((number + 1) & 0o777_777))
+    }
+}
+
+/// The low bits of a number.
+#[inline(always)]
+#[tactic(auto, using(crate::proofs::ByteBounds::low_bits_of))]
+pub fn low_part(number: u64, bits: u64) -> u64
+    requires { bits < 64 }
+    ensures value { result ≡ number % 2 ^ bits }
+    ensures below { result < 2 ^ bits }
+    ensures most { result ≤ number }
+{
+    number & ((1 << bits) - 1)
+}
+
+#[inline(always)]
+fn position(pointer: Word) -> u64
+    ensures value { result ≡ position_of pointer }
+    ensures below { result < 64 }
+{
+    pointer.number() >> 30
+}
+
+#[inline(always)]
+fn size(pointer: Word) -> u64
+    ensures value { result ≡ size_of pointer }
+    ensures below { result < 64 }
+{
+    pointer.number() >> 24 & 63
+}
+
+/// The byte of a word that a pointer names.
+#[inline(always)]
+#[tactic(auto, unfolding(crate::specs::Bytes::byte_of))]
+fn load_byte(pointer: Word, word: Word) -> Word
+    ensures { result ≡ byte_of pointer word }
+{
+    Word::low_bits(low_part(word.number() >> position(pointer), size(pointer)))
+}
+
+/// The low `count` bits of a, put in place of the bits of a word from p on.
+#[inline(always)]
+#[tactic(auto, using(crate::proofs::ByteBounds::deposits))]
+fn replace_bits(word: Word, a: Word, p: u64, count: u64) -> Word
+    requires { p + count ≤ 36 }
+    ensures { result ≡ replaced p count a word }
+{
+    let number = word.number();
+    let high = number - low_part(number, p + count);
+    let middle = low_part(a.number(), count) << p;
+    Word::new(high + (middle + low_part(number, p)))
+}
+
+/// A word with its byte replaced.
+#[inline(always)]
+#[tactic(auto, unfolding(crate::specs::Bytes::deposited))]
+fn deposit_byte(pointer: Word, a: Word, word: Word) -> Word
+    ensures { result ≡ deposited pointer a word }
+{
+    let p = position(pointer);
+    if p >= 36 {
+        return word;
+    }
+    let count = size(pointer).min(36 - p);
+    replace_bits(word, a, p, count)
+}
+
+/// The place of the byte that a pointer names, and the word there.
+#[inline(always)]
+#[tactic(auto, using(crate::proofs::BytePlaces::byte_places))]
+fn locate_byte<M: JobMemory>(
+    regs: &Regs,
+    memory: &M,
+    pointer: Word,
+) -> Result<(u32, Word), StopReason>
+    ensures value { result ≡ byte_place regs.now.ac (M.words memory.now) pointer }
+    ensures legal { IfOk result (λ b. is_legal (M.words memory.now) b.0 ≡ true) }
+{
+    let e = find_address(regs, memory, pointer)?;
+    match fetch(regs, memory, e) {
+        None => Err(StopReason::IllegalAddress),
+        Some(word) => Ok((e, word)),
+    }
+}
+
+/// Loads or deposits a byte whose place is known.
+#[inline(always)]
+fn move_byte<M: JobMemory>(
+    regs: &mut Regs,
+    memory: &mut M,
+    n: Instruction,
+    pointer: Word,
+    e: u32,
+    word: Word,
+) -> Outcome
+    requires ac { n.ac < 16 }
+    requires legal { is_legal (M.words memory.old) e ≡ true }
+    ensures after { record { regs = regs.new; core = M.words memory.new; outcome = result } ≡ applied regs.old (M.words memory.old) n (byte_effect regs.old n pointer e word) }
+    ensures place { M.place memory.new ≡ M.place memory.old }
+{
+    let a = regs.ac[n.ac];
+    if n.op == 0o134 || n.op == 0o135 {
+        regs.ac[n.ac] = load_byte(pointer, word);
+    } else {
+        store(regs, memory, e, deposit_byte(pointer, a, word));
+    }
+    regs.pc = regs.pc.plus(1);
+    Outcome::Done
+}
+
+/// IBP, ILDB, LDB, IDPB, DPB
+#[inline(always)]
+#[tactic(auto, using(crate::proofs::BytePlaces::restore_steps), unfolding(crate::specs::Bytes::byte_after))]
+pub fn do_byte<M: JobMemory>(regs: &mut Regs, memory: &mut M, n: Instruction) -> Outcome
+    requires { n.ac < 16 }
+    ensures after { record { regs = regs.new; core = M.words memory.new; outcome = result } ≡ byte_after regs.old (M.words memory.old) n }
+    ensures place { M.place memory.new ≡ M.place memory.old }
+{
+    let Some(old) = fetch(regs, memory, n.e) else {
+        return ILLEGAL;
+    };
+    if n.op != 0o133 && n.op != 0o134 && n.op != 0o136 {
+        return match locate_byte(regs, memory, old) {
+            Err(reason) => Outcome::Stop(reason),
+            Ok((e, word)) => move_byte(regs, memory, n, old, e, word),
+        };
+    }
+    let new = increment(old);
+    store(regs, memory, n.e, new);
+    if n.op == 0o133 {
+        regs.pc = regs.pc.plus(1);
+        return Outcome::Done;
+    }
+    match locate_byte(regs, memory, new) {
+        Err(reason) => {
+            store(regs, memory, n.e, old);
+            Outcome::Stop(reason)
+        }
+        Ok((e, word)) => move_byte(regs, memory, n, new, e, word),
+    }
+}

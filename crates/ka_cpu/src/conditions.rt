@@ -1,0 +1,195 @@
+//! CAI, CAM, JUMP, SKIP and those that add or subtract 1 first.
+
+ghost use Rattle.std.specs.Prelude.{◌≡◌, ℕ, ℤ, ◌<◌, ◌≤◌, ◌^◌, ◌+◌, ◌*◌, ◌/◌, ◌-◌, ◌%◌, Ok, Err, Some, None, IfSome, true, nat_lt, pos, if◌then◌else◌};
+ghost use Rattle.ka_cpu.specs.Effects.{After, finished, ac_memory, core_memory, memory_legal};
+ghost use Rattle.ka_cpu.specs.Places.{word_at};
+ghost use Rattle.word36.specs.Words.{signed_value};
+ghost use Rattle.ka_cpu.specs.Conditions.{holds, compare_row, jump_row, skip_row, changed_word, changed_flags, if_changed};
+
+use crate::instruction::{ILLEGAL, Instruction, set_carries};
+use crate::memory::store;
+use crate::{JobMemory, Outcome, Regs, fetch};
+use ka_isa::Change;
+use word36::{Address, Word};
+
+/// Whether a compares with b as a condition's digit says.
+#[inline(always)]
+#[tactic(auto, unfolding(crate::specs::Conditions::holds))]
+fn compare(digit: u16, a: Word, b: Word) -> bool
+    requires { digit < 8 }
+    ensures { result ≡ holds digit (signed_value a) (signed_value b) }
+{
+    let a = a.signed();
+    let b = b.signed();
+    match digit {
+        0 => false,
+        1 => a < b,
+        2 => a <= b && b <= a,
+        3 => a <= b,
+        4 => true,
+        5 => b <= a,
+        6 => a < b || b < a,
+        _ => b < a,
+    }
+}
+
+/// Whether a compares with 0 as a condition's digit says.
+#[inline(always)]
+#[tactic(auto, unfolding(crate::specs::Conditions::holds))]
+fn compare_zero(digit: u16, a: Word) -> bool
+    requires { digit < 8 }
+    ensures { result ≡ holds digit (signed_value a) (pos 0) }
+{
+    let a = a.signed();
+    match digit {
+        0 => false,
+        1 => a < 0,
+        2 => a <= 0 && 0 <= a,
+        3 => a <= 0,
+        4 => true,
+        5 => 0 <= a,
+        6 => a < 0 || 0 < a,
+        _ => 0 < a,
+    }
+}
+
+/// The operand of CAI and CAM.
+#[inline(always)]
+fn operand_to_compare<M: JobMemory>(regs: &Regs, memory: &M, n: Instruction) -> Option<Word>
+    requires { n.e < 2 ^ 18 }
+    ensures { result ≡ (if nat_lt n.op 0o310 then Some n.e else word_at regs.now.ac (M.words memory.now) n.e) }
+{
+    if n.op < 0o310 {
+        Some(Word::join(0, n.e))
+    } else {
+        fetch(regs, memory, n.e)
+    }
+}
+
+/// CAI, CAM
+#[inline(always)]
+#[tactic(auto, unfolding(crate::specs::Conditions::compare_row))]
+pub fn do_compare<M: JobMemory>(regs: &mut Regs, memory: &mut M, n: Instruction) -> Outcome
+    requires ac { n.ac < 16 }
+    requires e { n.e < 2 ^ 18 }
+    ensures after { record { regs = regs.new; core = M.words memory.new; outcome = result } ≡ finished regs.old (M.words memory.old) n (compare_row regs.old (M.words memory.old) n) }
+    ensures place { M.place memory.new ≡ M.place memory.old }
+{
+    let Some(word) = operand_to_compare(regs, memory, n) else {
+        return ILLEGAL;
+    };
+    let test = compare(n.op % 8, regs.ac[n.ac], word);
+    regs.pc = regs.pc.plus(if test { 2 } else { 1 });
+    Outcome::Done
+}
+
+/// The word that is compared.
+#[inline(always)]
+fn change_word(change: Change, word: Word) -> Word
+    ensures { result ≡ changed_word change word }
+{
+    match change {
+        Change::Keep => word,
+        Change::Up => word.sum(Word::new(1), false),
+        Change::Down => word.sum(Word::new(0o777_777_777_777), false),
+    }
+}
+
+/// Sets the flags of the change of a word.
+#[inline(always)]
+fn set_change_flags(change: Change, regs: &mut Regs, word: Word)
+    ensures { regs.new ≡ record regs.old { flags = changed_flags change regs.old.flags word } }
+{
+    match change {
+        Change::Keep => {}
+        Change::Up => {
+            let (zero, one) = word.carries(Word::new(1), false);
+            set_carries(regs, zero, one);
+        }
+        Change::Down => {
+            let (zero, one) = word.carries(Word::new(0o777_777_777_777), false);
+            set_carries(regs, zero, one);
+        }
+    }
+}
+
+/// JUMP, AOJ, SOJ
+#[inline(always)]
+#[tactic(auto, unfolding(crate::specs::Conditions::jump_row))]
+pub fn do_jump<M: JobMemory>(
+    change: Change,
+    regs: &mut Regs,
+    memory: &mut M,
+    n: Instruction,
+) -> Outcome
+    requires ac { n.ac < 16 }
+    requires e { n.e < 2 ^ 18 }
+    ensures after { record { regs = regs.new; core = M.words memory.new; outcome = result } ≡ finished regs.old (M.words memory.old) n (Ok (jump_row change regs.old n)) }
+    ensures place { M.place memory.new ≡ M.place memory.old }
+{
+    let a = regs.ac[n.ac];
+    let word = change_word(change, a);
+    match change {
+        Change::Keep => {}
+        _ => regs.ac[n.ac] = word,
+    }
+    set_change_flags(change, regs, a);
+    let test = compare_zero(n.op % 8, word);
+    regs.pc = if test {
+        Address::new(n.e)
+    } else {
+        regs.pc.plus(1)
+    };
+    Outcome::Done
+}
+
+/// Stores a word that was changed back at its place.
+#[inline(always)]
+fn store_changed<M: JobMemory>(change: Change, regs: &mut Regs, memory: &mut M, a: u32, word: Word)
+    ensures regs { regs.new ≡ record regs.old { ac = ac_memory regs.old.ac (if_changed change (a, word)) } }
+    ensures core { M.words memory.new ≡ core_memory (M.words memory.old) (if_changed change (a, word)) }
+    ensures place { M.place memory.new ≡ M.place memory.old }
+{
+    match change {
+        Change::Keep => {}
+        _ => store(regs, memory, a, word),
+    }
+}
+
+/// The word that is changed. Where it is there it can be stored back.
+#[inline(always)]
+#[tactic(auto, using(crate::proofs::Legal::legal_changes))]
+fn read_to_change<M: JobMemory>(change: Change, regs: &Regs, memory: &M, a: u32) -> Option<Word>
+    ensures value { result ≡ word_at regs.now.ac (M.words memory.now) a }
+    ensures legal { IfSome result (λ _. (w : ℕ) → memory_legal (M.words memory.now) (if_changed change (a, w)) ≡ true) }
+{
+    fetch(regs, memory, a)
+}
+
+/// SKIP, AOS, SOS
+#[inline(always)]
+#[tactic(auto, unfolding(crate::specs::Conditions::skip_row))]
+pub fn do_skip<M: JobMemory>(
+    change: Change,
+    regs: &mut Regs,
+    memory: &mut M,
+    n: Instruction,
+) -> Outcome
+    requires ac { n.ac < 16 }
+    requires e { n.e < 2 ^ 18 }
+    ensures after { record { regs = regs.new; core = M.words memory.new; outcome = result } ≡ finished regs.old (M.words memory.old) n (skip_row change regs.old (M.words memory.old) n) }
+    ensures place { M.place memory.new ≡ M.place memory.old }
+{
+    let Some(old) = read_to_change(change, regs, memory, n.e) else {
+        return ILLEGAL;
+    };
+    let word = change_word(change, old);
+    store_changed(change, regs, memory, n.e, word);
+    if n.ac != 0 {
+        regs.ac[n.ac] = word;
+    }
+    set_change_flags(change, regs, old);
+    let test = compare_zero(n.op % 8, word);
+    regs.pc = regs.pc.plus(if test { 2 } else { 1 });
+    Outcome::Done
+}

@@ -1,0 +1,234 @@
+//! JFFO, AOBJP, AOBJN, JRST, JFCL, subroutine calls and calls of the monitor.
+
+ghost use Rattle.std.specs.Prelude.{◌≡◌, ℕ, ◌<◌, ◌≤◌, ◌^◌, ◌+◌, ◌*◌, ◌/◌, ◌-◌, ◌%◌, Ok, Err, Some, None, if◌then◌else◌};
+ghost use Rattle.ka_cpu.specs.Effects.{After, finished};
+ghost use Rattle.ka_cpu.specs.Addresses.{target_of};
+ghost use Rattle.std.specs.Int.Count.{count_leading_zeros};
+ghost use Rattle.ka_cpu.specs.Jumps.{pc_word, flags_of, jffo_row, counted_up, aobj_row, restored, jrst_row, jfcl_row, jsr_row, jsp_row, jsa_row, jra_row, call_row};
+
+use crate::instruction::{ILLEGAL, Instruction, is_legal_place};
+use crate::memory::store;
+use crate::{CallKind, Flags, JobMemory, Outcome, Regs, StopReason, fetch};
+use word36::{Address, Word};
+
+/// 1000001 octal, which counts both halves of a word.
+pub const BOTH: u64 = 0o1_000_001;
+
+/// The PC word with these flags.
+#[inline(always)]
+#[tactic(auto, unfolding(crate::specs::Jumps::pc_word))]
+pub fn word_of_pc(flags: Flags, pc: Address) -> Word
+    ensures { result ≡ pc_word flags pc }
+{
+    let overflow = if flags.overflow { 1 << 35 } else { 0u64 };
+    let carry0 = if flags.carry0 { 1 << 34 } else { 0u64 };
+    let carry1 = if flags.carry1 { 1 << 33 } else { 0u64 };
+    let no_divide = if flags.no_divide { 1 << 23 } else { 0u64 };
+    Word::new(overflow + carry0 + carry1 + (1 << 30) + no_divide + pc.number() as u64)
+}
+
+/// The flags of a PC word.
+#[tactic(auto, unfolding(crate::specs::Jumps::flags_of))]
+fn take_flags(word: Word) -> Flags
+    ensures { result ≡ flags_of word }
+{
+    let number = word.number();
+    Flags {
+        overflow: number >> 35 & 1 == 1,
+        carry0: number >> 34 & 1 == 1,
+        carry1: number >> 33 & 1 == 1,
+        no_divide: number >> 23 & 1 == 1,
+    }
+}
+
+/// The number of zeros before the first bit that is set.
+#[tactic(auto, using(crate::proofs::Zeros::zeros_of_36))]
+fn leading_zeros(word: Word) -> Word
+    ensures { result ≡ count_leading_zeros 36 word }
+{
+    let zeros = word.number().leading_zeros();
+    Word::low_bits(zeros.saturating_sub(28) as u64)
+}
+
+/// JFFO
+#[inline(always)]
+#[tactic(auto, unfolding(crate::specs::Jumps::jffo_row))]
+pub fn do_jffo<M: JobMemory>(regs: &mut Regs, memory: &mut M, n: Instruction) -> Outcome
+    requires ac { n.ac < 16 }
+    requires e { n.e < 2 ^ 18 }
+    ensures after { record { regs = regs.new; core = M.words memory.new; outcome = result } ≡ finished regs.old (M.words memory.old) n (Ok (jffo_row regs.old n)) }
+    ensures place { M.place memory.new ≡ M.place memory.old }
+{
+    let a = regs.ac[n.ac];
+    if a.number() == 0 {
+        regs.ac[(n.ac + 1) % 16] = Word::new(0);
+        regs.pc = regs.pc.plus(1);
+    } else {
+        regs.ac[(n.ac + 1) % 16] = leading_zeros(a);
+        regs.pc = Address::new(n.e);
+    }
+    Outcome::Done
+}
+
+/// AOBJP, AOBJN
+#[inline(always)]
+#[tactic(auto, unfolding(crate::specs::Jumps::aobj_row))]
+pub fn do_aobj<M: JobMemory>(regs: &mut Regs, memory: &mut M, n: Instruction) -> Outcome
+    requires ac { n.ac < 16 }
+    requires e { n.e < 2 ^ 18 }
+    ensures after { record { regs = regs.new; core = M.words memory.new; outcome = result } ≡ finished regs.old (M.words memory.old) n (Ok (aobj_row regs.old n)) }
+    ensures place { M.place memory.new ≡ M.place memory.old }
+{
+    let word = regs.ac[n.ac].sum(Word::new(BOTH), false);
+    regs.ac[n.ac] = word;
+    let negative = word.is_negative();
+    let test = if n.op % 2 == 0 { !negative } else { negative };
+    regs.pc = if test {
+        Address::new(n.e)
+    } else {
+        regs.pc.plus(1)
+    };
+    Outcome::Done
+}
+
+/// JRST, where `used` is the register or word that was used last in the address.
+#[tactic(auto, unfolding(crate::specs::Jumps::jrst_row))]
+pub fn do_jrst<M: JobMemory>(
+    regs: &mut Regs,
+    memory: &mut M,
+    n: Instruction,
+    used: Option<Word>,
+) -> Outcome
+    requires ac { n.ac < 16 }
+    requires e { n.e < 2 ^ 18 }
+    ensures after { record { regs = regs.new; core = M.words memory.new; outcome = result } ≡ finished regs.old (M.words memory.old) n (Ok (jrst_row regs.old n used)) }
+    ensures place { M.place memory.new ≡ M.place memory.old }
+{
+    regs.pc = Address::new(n.e);
+    match n.ac {
+        0 => Outcome::Done,
+        2 => {
+            if let Some(word) = used {
+                regs.flags = take_flags(word);
+            }
+            Outcome::Done
+        }
+        _ => Outcome::Stop(StopReason::Halt),
+    }
+}
+
+/// JFCL
+#[inline(always)]
+#[tactic(auto, unfolding(crate::specs::Jumps::jfcl_row))]
+pub fn do_jfcl<M: JobMemory>(regs: &mut Regs, memory: &mut M, n: Instruction) -> Outcome
+    requires ac { n.ac < 16 }
+    requires e { n.e < 2 ^ 18 }
+    ensures after { record { regs = regs.new; core = M.words memory.new; outcome = result } ≡ finished regs.old (M.words memory.old) n (Ok (jfcl_row regs.old n)) }
+    ensures place { M.place memory.new ≡ M.place memory.old }
+{
+    let old = regs.flags;
+    let overflow = n.ac >> 3 & 1 == 1;
+    let carry0 = n.ac >> 2 & 1 == 1;
+    let carry1 = n.ac >> 1 & 1 == 1;
+    let test = old.overflow && overflow || old.carry0 && carry0 || old.carry1 && carry1;
+    regs.flags = Flags {
+        overflow: old.overflow && !overflow,
+        carry0: old.carry0 && !carry0,
+        carry1: old.carry1 && !carry1,
+        no_divide: old.no_divide,
+    };
+    regs.pc = if test {
+        Address::new(n.e)
+    } else {
+        regs.pc.plus(1)
+    };
+    Outcome::Done
+}
+
+/// JSR
+#[inline(always)]
+#[tactic(auto, unfolding(crate::specs::Jumps::jsr_row))]
+pub fn do_jsr<M: JobMemory>(regs: &mut Regs, memory: &mut M, n: Instruction) -> Outcome
+    requires ac { n.ac < 16 }
+    requires e { n.e < 2 ^ 18 }
+    ensures after { record { regs = regs.new; core = M.words memory.new; outcome = result } ≡ finished regs.old (M.words memory.old) n (Ok (jsr_row regs.old n)) }
+    ensures place { M.place memory.new ≡ M.place memory.old }
+{
+    if !is_legal_place(memory, n.e) {
+        return ILLEGAL;
+    }
+    let word = word_of_pc(regs.flags, regs.pc.plus(1));
+    store(regs, memory, n.e, word);
+    regs.pc = Address::new(n.e).plus(1);
+    Outcome::Done
+}
+
+/// JSP
+#[inline(always)]
+#[tactic(auto, unfolding(crate::specs::Jumps::jsp_row))]
+pub fn do_jsp<M: JobMemory>(regs: &mut Regs, memory: &mut M, n: Instruction) -> Outcome
+    requires ac { n.ac < 16 }
+    requires e { n.e < 2 ^ 18 }
+    ensures after { record { regs = regs.new; core = M.words memory.new; outcome = result } ≡ finished regs.old (M.words memory.old) n (Ok (jsp_row regs.old n)) }
+    ensures place { M.place memory.new ≡ M.place memory.old }
+{
+    regs.ac[n.ac] = word_of_pc(regs.flags, regs.pc.plus(1));
+    regs.pc = Address::new(n.e);
+    Outcome::Done
+}
+
+/// JSA
+#[inline(always)]
+#[tactic(auto, unfolding(crate::specs::Jumps::jsa_row))]
+pub fn do_jsa<M: JobMemory>(regs: &mut Regs, memory: &mut M, n: Instruction) -> Outcome
+    requires ac { n.ac < 16 }
+    requires e { n.e < 2 ^ 18 }
+    ensures after { record { regs = regs.new; core = M.words memory.new; outcome = result } ≡ finished regs.old (M.words memory.old) n (Ok (jsa_row regs.old n)) }
+    ensures place { M.place memory.new ≡ M.place memory.old }
+{
+    if !is_legal_place(memory, n.e) {
+        return ILLEGAL;
+    }
+    let link = Word::join(n.e, regs.pc.plus(1).number());
+    let a = regs.ac[n.ac];
+    store(regs, memory, n.e, a);
+    regs.ac[n.ac] = link;
+    regs.pc = Address::new(n.e).plus(1);
+    Outcome::Done
+}
+
+/// JRA
+#[inline(always)]
+#[tactic(auto, unfolding(crate::specs::Jumps::jra_row))]
+pub fn do_jra<M: JobMemory>(regs: &mut Regs, memory: &mut M, n: Instruction) -> Outcome
+    requires ac { n.ac < 16 }
+    requires e { n.e < 2 ^ 18 }
+    ensures after { record { regs = regs.new; core = M.words memory.new; outcome = result } ≡ finished regs.old (M.words memory.old) n (jra_row regs.old (M.words memory.old) n) }
+    ensures place { M.place memory.new ≡ M.place memory.old }
+{
+    let a = regs.ac[n.ac];
+    let Some(word) = fetch(regs, memory, a.left()) else {
+        return ILLEGAL;
+    };
+    regs.ac[n.ac] = word;
+    regs.pc = Address::new(n.e);
+    Outcome::Done
+}
+
+/// CALLI, TTCALL
+#[inline(always)]
+#[tactic(auto, unfolding(crate::specs::Jumps::call_row))]
+pub fn do_call<M: JobMemory>(
+    kind: CallKind,
+    regs: &mut Regs,
+    memory: &mut M,
+    n: Instruction,
+) -> Outcome
+    requires ac { n.ac < 16 }
+    requires e { n.e < 2 ^ 18 }
+    ensures after { record { regs = regs.new; core = M.words memory.new; outcome = result } ≡ finished regs.old (M.words memory.old) n (Ok (call_row kind regs.old n)) }
+    ensures place { M.place memory.new ≡ M.place memory.old }
+{
+    regs.pc = regs.pc.plus(1);
+    Outcome::Call(kind, n.ac as u8, n.e)
+}

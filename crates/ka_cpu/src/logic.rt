@@ -1,0 +1,139 @@
+//! The Boolean family and the tests.
+
+ghost use Rattle.std.specs.Prelude.{◌≡◌, ℕ, ℤ, ◌<◌, ◌≤◌, ◌^◌, ◌+◌, ◌*◌, ◌/◌, ◌-◌, ◌%◌, Ok, Err, Some, None, if◌then◌else◌};
+ghost use Rattle.ka_cpu.specs.Effects.{After, finished};
+ghost use Rattle.ka_cpu.specs.Booleans.{boolean_row, boolean_of, reads_none};
+ghost use Rattle.ka_cpu.specs.Tests.{test_row, mask_source, mask_of, skips_on, modified};
+ghost use Rattle.ka_cpu.specs.Effects.{computed_operand, ac_put};
+
+use crate::instruction::{ILLEGAL, Instruction, can_store, operand_to_compute, put_computed};
+use crate::moves::swap;
+use crate::{JobMemory, Outcome, Regs, fetch};
+use word36::Word;
+
+/// A Boolean function of A and M, by the number of the operation.
+#[inline(always)]
+#[tactic(auto, unfolding(crate::specs::Booleans::boolean_of))]
+fn combine(kind: u16, a: Word, m: Word) -> Word
+    requires { kind < 16 }
+    ensures { result ≡ boolean_of kind a m }
+{
+    match kind {
+        0 => Word::new(0),
+        1 => a.and(m),
+        2 => a.not().and(m),
+        3 => m,
+        4 => a.and(m.not()),
+        5 => a,
+        6 => a.xor(m),
+        7 => a.or(m),
+        8 => a.not().and(m.not()),
+        9 => a.xor(m).not(),
+        10 => a.not(),
+        11 => a.not().or(m),
+        12 => m.not(),
+        13 => a.or(m.not()),
+        14 => a.not().or(m.not()),
+        _ => Word::new(0o777_777_777_777),
+    }
+}
+
+/// The operand of a Boolean function, 0 for the four that read no memory.
+#[inline(always)]
+fn boolean_operand<M: JobMemory>(regs: &Regs, memory: &M, n: Instruction) -> Option<Word>
+    requires { n.e < 2 ^ 18 }
+    ensures { result ≡ (if reads_none (n.op / 4 % 16) then Some 0 else computed_operand regs.now (M.words memory.now) n) }
+{
+    match n.op / 4 % 16 {
+        0 | 5 | 10 | 15 => Some(Word::new(0)),
+        _ => operand_to_compute(regs, memory, n),
+    }
+}
+
+/// SETZ to SETO
+#[inline(always)]
+#[tactic(auto, unfolding(crate::specs::Booleans::boolean_row))]
+pub fn do_boolean<M: JobMemory>(regs: &mut Regs, memory: &mut M, n: Instruction) -> Outcome
+    requires ac { n.ac < 16 }
+    requires e { n.e < 2 ^ 18 }
+    ensures after { record { regs = regs.new; core = M.words memory.new; outcome = result } ≡ finished regs.old (M.words memory.old) n (boolean_row regs.old (M.words memory.old) n) }
+    ensures place { M.place memory.new ≡ M.place memory.old }
+{
+    let Some(word) = boolean_operand(regs, memory, n) else {
+        return ILLEGAL;
+    };
+    if !can_store(memory, n) {
+        return ILLEGAL;
+    }
+    let combined = combine(n.op / 4 % 16, regs.ac[n.ac], word);
+    put_computed(regs, memory, n, combined);
+    regs.pc = regs.pc.plus(1);
+    Outcome::Done
+}
+
+/// The mask of a test.
+#[inline(always)]
+fn read_mask<M: JobMemory>(regs: &Regs, memory: &M, n: Instruction) -> Option<Word>
+    requires { n.e < 2 ^ 18 }
+    ensures { result ≡ mask_source regs.now (M.words memory.now) n }
+{
+    if n.op / 8 % 2 == 0 {
+        Some(Word::join(0, n.e))
+    } else {
+        fetch(regs, memory, n.e)
+    }
+}
+
+#[inline(always)]
+fn turn_mask(op: u16, word: Word) -> Word
+    ensures { result ≡ mask_of op word }
+{
+    if op % 2 == 0 { word } else { swap(word) }
+}
+
+/// Whether a test skips, where none of the masked bits is set, or one is.
+#[inline(always)]
+fn skips(op: u16, none_set: bool) -> bool
+    ensures { result ≡ skips_on op none_set }
+{
+    match op / 2 % 4 {
+        0 => false,
+        1 => none_set,
+        2 => true,
+        _ => !none_set,
+    }
+}
+
+/// Changes the masked bits of AC.
+#[inline(always)]
+fn modify(regs: &mut Regs, n: Instruction, a: Word, mask: Word)
+    requires { n.ac < 16 }
+    ensures { regs.new ≡ record regs.old { ac = ac_put regs.old.ac n.ac (modified n.op a mask) } }
+{
+    match n.op / 16 % 4 {
+        0 => {}
+        1 => regs.ac[n.ac] = a.and(mask.not()),
+        2 => regs.ac[n.ac] = a.xor(mask),
+        _ => regs.ac[n.ac] = a.or(mask),
+    }
+}
+
+/// TRN to TSON
+#[inline(always)]
+#[tactic(auto, unfolding(crate::specs::Tests::test_row))]
+pub fn do_test<M: JobMemory>(regs: &mut Regs, memory: &mut M, n: Instruction) -> Outcome
+    requires ac { n.ac < 16 }
+    requires e { n.e < 2 ^ 18 }
+    ensures after { record { regs = regs.new; core = M.words memory.new; outcome = result } ≡ finished regs.old (M.words memory.old) n (test_row regs.old (M.words memory.old) n) }
+    ensures place { M.place memory.new ≡ M.place memory.old }
+{
+    let Some(word) = read_mask(regs, memory, n) else {
+        return ILLEGAL;
+    };
+    let mask = turn_mask(n.op, word);
+    let a = regs.ac[n.ac];
+    let test = skips(n.op, a.and(mask).number() == 0);
+    modify(regs, n, a, mask);
+    regs.pc = regs.pc.plus(if test { 2 } else { 1 });
+    Outcome::Done
+}

@@ -1,0 +1,127 @@
+//! MOVE, MOVS, MOVN, MOVM and EXCH.
+
+ghost use Rattle.std.specs.Prelude.{◌≡◌, ℕ, ℤ, ◌<◌, ◌≤◌, ◌^◌, ◌+◌, ◌*◌, ◌/◌, ◌-◌, ◌%◌, Ok, Err, Some, None, if◌then◌else◌};
+ghost use Rattle.ka_cpu.specs.Effects.{After, finished};
+ghost use Rattle.ka_cpu.specs.Moves.{move_row, movs_row, movn_row, movm_row, exch_row, swapped};
+
+use crate::instruction::{
+    ILLEGAL, Instruction, can_store, operand_to_move, put_moved, set_carries,
+};
+use crate::memory::store;
+use crate::{JobMemory, Outcome, Regs, fetch};
+use word36::Word;
+
+/// A word with its halves swapped.
+#[inline(always)]
+pub fn swap(word: Word) -> Word
+    ensures { result ≡ swapped word }
+{
+    Word::join(word.right(), word.left())
+}
+
+/// MOVE
+#[inline(always)]
+#[tactic(auto, unfolding(crate::specs::Moves::move_row))]
+pub fn do_move<M: JobMemory>(regs: &mut Regs, memory: &mut M, n: Instruction) -> Outcome
+    requires ac { n.ac < 16 }
+    requires e { n.e < 2 ^ 18 }
+    ensures after { record { regs = regs.new; core = M.words memory.new; outcome = result } ≡ finished regs.old (M.words memory.old) n (move_row regs.old (M.words memory.old) n) }
+    ensures place { M.place memory.new ≡ M.place memory.old }
+{
+    let Some(word) = operand_to_move(regs, memory, n) else {
+        return ILLEGAL;
+    };
+    if !can_store(memory, n) {
+        return ILLEGAL;
+    }
+    put_moved(regs, memory, n, word);
+    regs.pc = regs.pc.plus(1);
+    Outcome::Done
+}
+
+/// MOVS
+#[inline(always)]
+#[tactic(auto, unfolding(crate::specs::Moves::movs_row))]
+pub fn do_movs<M: JobMemory>(regs: &mut Regs, memory: &mut M, n: Instruction) -> Outcome
+    requires ac { n.ac < 16 }
+    requires e { n.e < 2 ^ 18 }
+    ensures after { record { regs = regs.new; core = M.words memory.new; outcome = result } ≡ finished regs.old (M.words memory.old) n (movs_row regs.old (M.words memory.old) n) }
+    ensures place { M.place memory.new ≡ M.place memory.old }
+{
+    let Some(word) = operand_to_move(regs, memory, n) else {
+        return ILLEGAL;
+    };
+    if !can_store(memory, n) {
+        return ILLEGAL;
+    }
+    put_moved(regs, memory, n, swap(word));
+    regs.pc = regs.pc.plus(1);
+    Outcome::Done
+}
+
+/// MOVN
+#[inline(always)]
+#[tactic(auto, unfolding(crate::specs::Moves::movn_row))]
+pub fn do_movn<M: JobMemory>(regs: &mut Regs, memory: &mut M, n: Instruction) -> Outcome
+    requires ac { n.ac < 16 }
+    requires e { n.e < 2 ^ 18 }
+    ensures after { record { regs = regs.new; core = M.words memory.new; outcome = result } ≡ finished regs.old (M.words memory.old) n (movn_row regs.old (M.words memory.old) n) }
+    ensures place { M.place memory.new ≡ M.place memory.old }
+{
+    let Some(word) = operand_to_move(regs, memory, n) else {
+        return ILLEGAL;
+    };
+    if !can_store(memory, n) {
+        return ILLEGAL;
+    }
+    put_moved(regs, memory, n, word.not().sum(Word::new(1), false));
+    let (zero, one) = word.not().carries(Word::new(1), false);
+    set_carries(regs, zero, one);
+    regs.pc = regs.pc.plus(1);
+    Outcome::Done
+}
+
+/// MOVM
+#[inline(always)]
+#[tactic(auto, unfolding(crate::specs::Moves::movm_row))]
+pub fn do_movm<M: JobMemory>(regs: &mut Regs, memory: &mut M, n: Instruction) -> Outcome
+    requires ac { n.ac < 16 }
+    requires e { n.e < 2 ^ 18 }
+    ensures after { record { regs = regs.new; core = M.words memory.new; outcome = result } ≡ finished regs.old (M.words memory.old) n (movm_row regs.old (M.words memory.old) n) }
+    ensures place { M.place memory.new ≡ M.place memory.old }
+{
+    let Some(word) = operand_to_move(regs, memory, n) else {
+        return ILLEGAL;
+    };
+    if !can_store(memory, n) {
+        return ILLEGAL;
+    }
+    if word.is_negative() {
+        put_moved(regs, memory, n, word.not().sum(Word::new(1), false));
+        let (zero, one) = word.not().carries(Word::new(1), false);
+        set_carries(regs, zero, one);
+    } else {
+        put_moved(regs, memory, n, word);
+    }
+    regs.pc = regs.pc.plus(1);
+    Outcome::Done
+}
+
+/// EXCH
+#[inline(always)]
+#[tactic(auto, using(crate::proofs::Legal::legal_from_read), unfolding(crate::specs::Moves::exch_row))]
+pub fn do_exch<M: JobMemory>(regs: &mut Regs, memory: &mut M, n: Instruction) -> Outcome
+    requires ac { n.ac < 16 }
+    requires e { n.e < 2 ^ 18 }
+    ensures after { record { regs = regs.new; core = M.words memory.new; outcome = result } ≡ finished regs.old (M.words memory.old) n (exch_row regs.old (M.words memory.old) n) }
+    ensures place { M.place memory.new ≡ M.place memory.old }
+{
+    let Some(word) = fetch(regs, memory, n.e) else {
+        return ILLEGAL;
+    };
+    let a = regs.ac[n.ac];
+    store(regs, memory, n.e, a);
+    regs.ac[n.ac] = word;
+    regs.pc = regs.pc.plus(1);
+    Outcome::Done
+}

@@ -1,0 +1,125 @@
+//! PUSHJ, PUSH, POP and POPJ.
+
+ghost use Rattle.std.specs.Prelude.{◌≡◌, ℕ, ◌<◌, ◌≤◌, ◌^◌, ◌+◌, ◌*◌, ◌/◌, ◌-◌, ◌%◌, Ok, Err, Some, None, if◌then◌else◌};
+ghost use Rattle.ka_cpu.specs.Effects.{After, finished};
+ghost use Rattle.ka_cpu.specs.Effects.{told};
+ghost use Rattle.ka_cpu.specs.Jumps.{counted_up};
+ghost use Rattle.ka_cpu.specs.Stacks.{counted_down, push_ending, pop_ending, pushj_row, push_row, pop_row, popj_row};
+
+use crate::instruction::{ILLEGAL, Instruction, is_legal_place};
+use crate::jumps::{BOTH, word_of_pc};
+use crate::memory::store;
+use crate::{JobMemory, Outcome, Regs, StopReason, fetch};
+use word36::{Address, Word};
+
+/// A pushdown pointer with one word more.
+#[inline(always)]
+fn push_down(pointer: Word) -> (Word, Outcome)
+    ensures word { result.0 ≡ counted_up pointer }
+    ensures outcome { result.1 ≡ told (push_ending pointer) }
+{
+    let outcome = if pointer.number() + BOTH > 0o777_777_777_777 {
+        Outcome::Stop(StopReason::Pushdown)
+    } else {
+        Outcome::Done
+    };
+    (pointer.sum(Word::new(BOTH), false), outcome)
+}
+
+/// A pushdown pointer with one word less.
+#[inline(always)]
+fn pop_up(pointer: Word) -> (Word, Outcome)
+    ensures word { result.0 ≡ counted_down pointer }
+    ensures outcome { result.1 ≡ told (pop_ending pointer) }
+{
+    let outcome = if pointer.number() < BOTH {
+        Outcome::Stop(StopReason::Pushdown)
+    } else {
+        Outcome::Done
+    };
+    (pointer.sum(Word::new(0o777_776_777_777), false), outcome)
+}
+
+/// PUSHJ
+#[inline(always)]
+#[tactic(auto, unfolding(crate::specs::Stacks::pushj_row))]
+pub fn do_pushj<M: JobMemory>(regs: &mut Regs, memory: &mut M, n: Instruction) -> Outcome
+    requires ac { n.ac < 16 }
+    requires e { n.e < 2 ^ 18 }
+    ensures after { record { regs = regs.new; core = M.words memory.new; outcome = result } ≡ finished regs.old (M.words memory.old) n (Ok (pushj_row regs.old n)) }
+    ensures place { M.place memory.new ≡ M.place memory.old }
+{
+    let (pointer, outcome) = push_down(regs.ac[n.ac]);
+    if !is_legal_place(memory, pointer.right()) {
+        return ILLEGAL;
+    }
+    let word = word_of_pc(regs.flags, regs.pc.plus(1));
+    store(regs, memory, pointer.right(), word);
+    regs.ac[n.ac] = pointer;
+    regs.pc = Address::new(n.e);
+    outcome
+}
+
+/// PUSH
+#[inline(always)]
+#[tactic(auto, unfolding(crate::specs::Stacks::push_row))]
+pub fn do_push<M: JobMemory>(regs: &mut Regs, memory: &mut M, n: Instruction) -> Outcome
+    requires ac { n.ac < 16 }
+    requires e { n.e < 2 ^ 18 }
+    ensures after { record { regs = regs.new; core = M.words memory.new; outcome = result } ≡ finished regs.old (M.words memory.old) n (push_row regs.old (M.words memory.old) n) }
+    ensures place { M.place memory.new ≡ M.place memory.old }
+{
+    let Some(word) = fetch(regs, memory, n.e) else {
+        return ILLEGAL;
+    };
+    let (pointer, outcome) = push_down(regs.ac[n.ac]);
+    if !is_legal_place(memory, pointer.right()) {
+        return ILLEGAL;
+    }
+    store(regs, memory, pointer.right(), word);
+    regs.ac[n.ac] = pointer;
+    regs.pc = regs.pc.plus(1);
+    outcome
+}
+
+/// POP
+#[inline(always)]
+#[tactic(auto, unfolding(crate::specs::Stacks::pop_row))]
+pub fn do_pop<M: JobMemory>(regs: &mut Regs, memory: &mut M, n: Instruction) -> Outcome
+    requires ac { n.ac < 16 }
+    requires e { n.e < 2 ^ 18 }
+    ensures after { record { regs = regs.new; core = M.words memory.new; outcome = result } ≡ finished regs.old (M.words memory.old) n (pop_row regs.old (M.words memory.old) n) }
+    ensures place { M.place memory.new ≡ M.place memory.old }
+{
+    let old = regs.ac[n.ac];
+    let Some(word) = fetch(regs, memory, old.right()) else {
+        return ILLEGAL;
+    };
+    if !is_legal_place(memory, n.e) {
+        return ILLEGAL;
+    }
+    let (pointer, outcome) = pop_up(old);
+    store(regs, memory, n.e, word);
+    regs.ac[n.ac] = pointer;
+    regs.pc = regs.pc.plus(1);
+    outcome
+}
+
+/// POPJ
+#[inline(always)]
+#[tactic(auto, unfolding(crate::specs::Stacks::popj_row))]
+pub fn do_popj<M: JobMemory>(regs: &mut Regs, memory: &mut M, n: Instruction) -> Outcome
+    requires ac { n.ac < 16 }
+    requires e { n.e < 2 ^ 18 }
+    ensures after { record { regs = regs.new; core = M.words memory.new; outcome = result } ≡ finished regs.old (M.words memory.old) n (popj_row regs.old (M.words memory.old) n) }
+    ensures place { M.place memory.new ≡ M.place memory.old }
+{
+    let old = regs.ac[n.ac];
+    let Some(word) = fetch(regs, memory, old.right()) else {
+        return ILLEGAL;
+    };
+    let (pointer, outcome) = pop_up(old);
+    regs.ac[n.ac] = pointer;
+    regs.pc = Address::new(word.right());
+    outcome
+}

@@ -1,0 +1,40 @@
+-- What every change of the list of requests keeps: calls, a job that is gone, a wait that is given up, and a job that is
+-- told of its grant (this project's profile).
+use Rattle.std.specs.Prelude.{◌≡◌, ℕ, true, false, List}
+use Rattle.lock_queue.specs.declared.call.LockCall.{LockCall}
+use Rattle.lock_queue.specs.declared.key.Key.{Key}
+use Rattle.lock_queue.specs.declared.request.Request.{Request}
+use Rattle.lock_queue.specs.Calls.{outcome_of}
+use Rattle.lock_queue.specs.Jobs.{is_waiting_job, released, withdrawn, told_of}
+use Rattle.lock_laws.specs.Circles.{NoPlainCircle, WaitsByLatest}
+use Rattle.lock_laws.specs.Owning.{owns, KeepsOwners}
+use Rattle.lock_laws.specs.Safe.{Safe}
+
+-- safe requests stay safe
+pub record SafetyIsKept : Type 0 where
+  pub by_calls : (requests : List Request) (job : ℕ) (call : LockCall) → Safe requests → Safe (outcome_of requests job call).requests
+  pub by_releases : (requests : List Request) (job : ℕ) → Safe requests → Safe (released requests job)
+  pub by_withdrawals : (requests : List Request) (job : ℕ) → Safe requests → Safe (withdrawn requests job)
+  pub by_telling : (requests : List Request) (job : ℕ) → Safe requests → Safe (told_of requests job)
+
+-- what a job owns it loses only by its own dequeue, and when it is gone
+pub record OwnersAreKept : Type 0 where
+  pub by_calls : (requests : List Request) (caller : ℕ) (call : LockCall) → KeepsOwners requests caller call
+  pub by_releases : (requests : List Request) (gone job : ℕ) (key : Key) → owns requests job key ≡ true
+      → owns (released requests gone) job key ≡ false → gone ≡ job
+  pub by_withdrawals : (requests : List Request) (waiter job : ℕ) (key : Key) → owns requests job key ≡ true
+      → owns (withdrawn requests waiter) job key ≡ true
+  pub by_telling : (requests : List Request) (told job : ℕ) (key : Key) → owns requests job key ≡ true
+      → owns (told_of requests told) job key ≡ true
+
+-- a job that makes no call while it waits waits by its latest request
+pub record LatestIsKept : Type 0 where
+  pub by_calls : (requests : List Request) (job : ℕ) (call : LockCall) → is_waiting_job requests job ≡ false → WaitsByLatest requests
+      → WaitsByLatest (outcome_of requests job call).requests
+  pub by_releases : (requests : List Request) (job : ℕ) → WaitsByLatest requests → WaitsByLatest (released requests job)
+  pub by_withdrawals : (requests : List Request) (job : ℕ) → WaitsByLatest requests → WaitsByLatest (withdrawn requests job)
+  pub by_telling : (requests : List Request) (job : ℕ) → WaitsByLatest requests → WaitsByLatest (told_of requests job)
+
+-- where the requests are safe and jobs wait by their latest ones, plain jobs make no circle
+abbrev pub SafeJobsMakeNoCircle : Type 0
+SafeJobsMakeNoCircle = (requests : List Request) → Safe requests → WaitsByLatest requests → NoPlainCircle requests

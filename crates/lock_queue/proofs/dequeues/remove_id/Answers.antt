@@ -1,7 +1,0 @@
-use Rattle.std.proofs.Common.{◌==◌, not, rules}
-use Rattle.std.proofs.lemmas.Fn.{filter_same}
-use Rattle.lock_queue.specs.Dequeues.{has_id}
-use Rattle.lock_queue.proofs.dequeues.remove_id.Goals as goal
-
-pub returns-clause-items : goal.returns-clause-items
-returns-clause-items c = filter_same _ (λ r. not (has_id c.args.job c.args.id r)) _ (λ x b q called. search rules) _ _ c.retain.ensures.filtered
