@@ -11,12 +11,15 @@ use Rattle.lock_laws.proofs.Invariant.{Kept, kept-calls, kept-none, safe-kept}
 use Rattle.lock_laws.proofs.Keeping.{keeps_owners}
 use Rattle.lock_laws.proofs.Ranks.{no_plain_circle}
 
+-- what is kept holds after each beginning of the calls
 kept-at : (calls : List (ℕ × LockCall)) (k : ℕ) → Kept (requests_at calls k)
 kept-at calls k = kept-calls [] (take k calls) kept-none
 
+-- the first law
 pub always_safe : (calls : List (ℕ × LockCall)) → AlwaysSafe calls
 always_safe calls k le = safe-kept (requests_at calls k) (kept-at calls k)
 
+-- the second law
 pub always_keeps_owners : (calls : List (ℕ × LockCall)) → AlwaysKeepsOwners calls
 always_keeps_owners calls k call at = keeps_owners (requests_at calls k) call.0 call.1
 
@@ -31,6 +34,7 @@ waits-calls requests (c ∷ later) free w (suc k) =
     waits-calls (outcome_of requests c.0 c.1).requests later (λ n call at. free (suc n) call at)
     (waits-step c.0 c.1 requests (outcome_of requests c.0 c.1).requests (step_of requests c.0 c.1) (free zero c refl) w) k
 
+-- the third law
 pub never_plain_circle : (calls : List (ℕ × LockCall)) → CallersAreFree calls → NeverPlainCircle calls
 never_plain_circle calls free k le =
     no_plain_circle (requests_at calls k) (kept-at calls k).ordered (waits-calls [] calls free waits-none k)

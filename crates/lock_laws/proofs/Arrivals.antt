@@ -21,6 +21,7 @@ use Rattle.lock_laws.proofs.Lists.{Has, Has-left, Has-right, Has-filter, Has-fla
 use Rattle.lock_laws.proofs.Places.{push-append, nil-append, split_Has}
 use Rattle.lock_laws.proofs.Steps.{Ordered, Grows, stays, arrives}
 
+-- without a refusal there was no cause, and neither of two causes
 pub refuse_if-None : (b : Bool) (f : Refusal) → refuse_if b f ≡ None → b ≡ false
 refuse_if-None true f h = cc
 refuse_if-None false f h = refl
@@ -30,7 +31,8 @@ or_else-None None b h = (refl, h)
 or_else-None (Some f) b h = cc
 
 -- each want has passed behind the call's wants before it
-pub first_refusal-None : (fault : List Want → Want → Option Refusal) (e ws : List Want) → first_refusal fault e ws ≡ None
+pub first_refusal-None : (fault : List Want → Want → Option Refusal) (e ws : List Want)
+    → first_refusal fault e ws ≡ None
     → (a b : List Want) (w : Want) → ws ≡ a ++ w ∷ b → fault (e ++ a) w ≡ None
 first_refusal-None fault e [] h [] b w is = cc
 first_refusal-None fault e [] h (y ∷ a) b w is = cc
@@ -44,7 +46,9 @@ first_refusal-None fault e (x ∷ ws) h (y ∷ a) b w is =
     let later = (or_else-None (fault e x) (first_refusal fault (e ++ x ∷ []) ws) h).1 in
     subst (λ l. fault l w ≡ None) (push-append e x a ∙ ap (λ u. e ++ u ∷ a) same) (first_refusal-None fault (e ++ x ∷ []) ws later a b w rest)
 
-some_too_low-none : (e ws : List Want) → some_too_low e ws ≡ false → (a b : List Want) (w : Want) → ws ≡ a ++ w ∷ b → is_too_low (e ++ a) w ≡ false
+-- the same for levels
+some_too_low-none : (e ws : List Want) → some_too_low e ws ≡ false → (a b : List Want) (w : Want) → ws ≡ a ++ w ∷ b
+    → is_too_low (e ++ a) w ≡ false
 some_too_low-none e [] h [] b w is = cc
 some_too_low-none e [] h (y ∷ a) b w is = cc
 some_too_low-none e (x ∷ ws) h [] b w is =
@@ -58,13 +62,16 @@ some_too_low-none e (x ∷ ws) h (y ∷ a) b w is =
     subst (λ l. is_too_low l w ≡ false) (push-append e x a ∙ ap (λ u. e ++ u ∷ a) same) (some_too_low-none (e ++ x ∷ []) ws later a b w rest)
 
 -- a want that is not too low stands above all before
-above : (before : List Want) (v w : Want) → is_too_low before w ≡ false → Has before v → w.bypass ≡ false → v.level < w.level
+above : (before : List Want) (v w : Want) → is_too_low before w ≡ false → Has before v → w.bypass ≡ false
+    → v.level < w.level
 above before v w low h free =
     let none : list_any (λ u. nat_le w.level u.level) before ≡ false =
     elim (and_cases (not w.bypass) (list_any (λ u. nat_le w.level u.level) before) low) [ inl e ↦ absurd (cc) | inr e ↦ e ] in
     leb-false w.level v.level (list_any-none (λ u. nat_le w.level u.level) before v none h)
 
-Pairs-from_splits : {X : Type 0} (R : X → X → Type 0) (xs : List X) → ((a b : List X) (x y : X) → xs ≡ a ++ y ∷ b → Has a x → R x y) → Pairs R xs
+-- a relation of each element and those before it
+Pairs-from_splits : {X : Type 0} (R : X → X → Type 0) (xs : List X)
+    → ((a b : List X) (x y : X) → xs ≡ a ++ y ∷ b → Has a x → R x y) → Pairs R xs
 Pairs-from_splits R [] f = tt
 Pairs-from_splits R (x ∷ xs) f = (
   λ y h. let s = split_Has xs y h in f (x ∷ s.before) s.after x y (ap (λ l. x ∷ l) s.is) (inl refl),
@@ -82,6 +89,7 @@ module _ (requests : List Request) (job : ℕ) (wants : List Want) where
     pub levels : some_too_low (wants_of requests job) wants ≡ false
     pub room : length requests < REQUESTS
 
+  -- a request that is not refused has passed
   pub refusal-None : (kind : EnqueueKind) (armed : Bool) → enqueue_refusal requests job kind wants armed ≡ None → Passed
   refusal-None kind armed h =
       let first = or_else-None _ _ h in
@@ -100,6 +108,7 @@ module _ (requests : List Request) (job : ℕ) (wants : List Want) where
     pub had : names (wants_of requests job) w.key ≡ false
     pub low : is_too_low (wants_of requests job ++ a) w ≡ false
 
+  -- what that says of each want of the call
   pub fault-None : Passed → (a b : List Want) (w : Want) → wants ≡ a ++ w ∷ b → Fault a w
   fault-None p a b w is =
       let parts = or_else-None _ _ (first_refusal-None (enqueue_fault requests job) [] wants p.each a b w is) in
@@ -111,6 +120,7 @@ module _ (requests : List Request) (job : ℕ) (wants : List Want) where
         low = some_too_low-none (wants_of requests job) wants p.levels a b w is;
       }
 
+  -- the claims of such a request are in order, among themselves and behind the present ones
   pub own_claims : Passed → Pairs Ordered (map (claim_of job) wants)
   own_claims p =
       Pairs-map InCall Ordered (claim_of job)
@@ -143,7 +153,9 @@ module _ (requests : List Request) (job : ℕ) (wants : List Want) where
       subst (λ x. Ordered x d) v.2 (subst (λ y. Ordered (claim_of r.0.job v.0) y) w.2 here)
 
 module _ (requests : List Request) (job : ℕ) (kind : EnqueueKind) (id : ℕ) (wants : ArrayVec Want) where
-  arrived : Passed requests job wants.items → (told : Bool) → Grows job requests (with_arrival requests job kind id told wants)
+  -- a request that has passed arrives, or does not stay
+  arrived : Passed requests job wants.items → (told : Bool)
+      → Grows job requests (with_arrival requests job kind id told wants)
   arrived p told =
       arrives (request_of job id kind told wants) refl
       (record { by = refl; room = p.room; own = own_claims requests job wants.items p; behind = claims_behind requests job wants.items p })

@@ -14,7 +14,9 @@ pub data Step (job : ℕ) (call : LockCall) (before after : List Request) : Type
   grows : Grows job before after → Step job call before after
   releases : is_dequeue call ≡ true → Releases job before after → Step job call before after
 
-pub step_of : (requests : List Request) (job : ℕ) (call : LockCall) → Step job call requests (outcome_of requests job call).requests
+-- what each of the five calls does to the list
+pub step_of : (requests : List Request) (job : ℕ) (call : LockCall)
+    → Step job call requests (outcome_of requests job call).requests
 step_of requests job (Enqueue kind id wants armed) = grows (step-enqueue requests job kind id wants armed)
 step_of requests job (Modify wants) = grows (step-modify requests job wants.items)
 step_of requests job (DequeueNamed wants) = releases refl (releases-named requests job wants.items)

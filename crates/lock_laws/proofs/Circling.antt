@@ -44,25 +44,42 @@ record MapSplit {X Y : Type 0} (f : X → Y) (xs : List X) (a : List Y) (y : Y) 
   item_is : f item ≡ y
   after_is : map f after ≡ b
 
-map-split : {X Y : Type 0} (f : X → Y) (xs : List X) (a : List Y) (y : Y) (b : List Y) → map f xs ≡ a ++ y ∷ b → MapSplit f xs a y b
+-- the same behind one more item
+map-split-behind : {X Y : Type 0} (f : X → Y) (x : X) (xs : List X) (z : Y) (a : List Y) (y : Y) (b : List Y)
+    → f x ≡ z → MapSplit f xs a y b
+    → MapSplit f (x ∷ xs) (z ∷ a) y b
+map-split-behind f x xs z a y b same s = record {
+  before = x ∷ s.before;
+  item = s.item;
+  after = s.after;
+  is = ap (λ l. x ∷ l) s.is;
+  before_is = ap (λ l. f x ∷ l) s.before_is ∙ ap (λ u. u ∷ a) same;
+  item_is = s.item_is;
+  after_is = s.after_is;
+}
+
+-- a place of a changed list comes from a place of the list
+map-split : {X Y : Type 0} (f : X → Y) (xs : List X) (a : List Y) (y : Y) (b : List Y) → map f xs ≡ a ++ y ∷ b
+    → MapSplit f xs a y b
 map-split f [] [] y b is = absurd (cc)
 map-split f [] (z ∷ a) y b is = absurd (cc)
-map-split f (x ∷ xs) [] y b is = record { before = []; item = x; after = xs; is = refl; before_is = refl; item_is = cc; after_is = cc }
+map-split f (x ∷ xs) [] y b is = record {
+  before = [];
+  item = x;
+  after = xs;
+  is = refl;
+  before_is = refl;
+  item_is = cc;
+  after_is = cc;
+}
 map-split f (x ∷ xs) (z ∷ a) y b is =
     let same : f x ≡ z = cc in
     let rest : map f xs ≡ a ++ y ∷ b = cc in
-    let s = map-split f xs a y b rest in
-    record {
-      before = x ∷ s.before;
-      item = s.item;
-      after = s.after;
-      is = ap (λ l. x ∷ l) s.is;
-      before_is = ap (λ l. f x ∷ l) s.before_is ∙ ap (λ u. u ∷ a) same;
-      item_is = s.item_is;
-      after_is = s.after_is;
-    }
+    map-split-behind f x xs z a y b same (map-split f xs a y b rest)
 
-waits-grows : (job : ℕ) (before after : List Request) → Grows job before after → is_waiting_job before job ≡ false → WaitsLast before → WaitsLast after
+-- a job that does not wait may add a request; changes leave jobs in their places
+waits-grows : (job : ℕ) (before after : List Request) → Grows job before after → is_waiting_job before job ≡ false
+    → WaitsLast before → WaitsLast after
 unfolding WaitsLast
 waits-grows job before after (stays e) free w a b r is blocking waits q h = w a b r (sym e ∙ is) blocking waits q h
 waits-grows job before after (arrives p e c) free w a b r is blocking waits q h =
@@ -94,7 +111,9 @@ waits-grows job before after (changes f e c) free w a b r is blocking waits q h 
     w s.before s.after s.item s.is k was from.0 from.1
     (sym (c.job from.0) ∙ ap (λ (u : Request). u.job) from.2 ∙ mine ∙ ap (λ (u : Request). u.job) (sym s.item_is) ∙ c.job s.item)
 
-pub waits-releases : (job : ℕ) (before after : List Request) → Releases job before after → WaitsLast before → WaitsLast after
+-- what is left of a list by a dequeue keeps its order
+pub waits-releases : (job : ℕ) (before after : List Request) → Releases job before after → WaitsLast before
+    → WaitsLast after
 unfolding WaitsLast
 waits-releases job before after s w a b r is blocking waits q h =
     let o = Releases-source job s a b r is in
@@ -103,16 +122,20 @@ waits-releases job before after s w a b r is blocking waits q h =
     let from = Releases-jobs job o.rest q h in
     λ mine. w o.earlier o.later o.request o.is (subst (λ n. is_blocking n ≡ true) o.kind blocking) was from.0 from.1 (sym from.2 ∙ mine ∙ o.by)
 
-pub waits-step : (job : ℕ) (call : LockCall) (before after : List Request) → Step job call before after → is_waiting_job before job ≡ false
+-- each call by a job that does not wait keeps it
+pub waits-step : (job : ℕ) (call : LockCall) (before after : List Request) → Step job call before after
+    → is_waiting_job before job ≡ false
     → WaitsLast before → WaitsLast after
 waits-step job call before after (grows g) free w = waits-grows job before after g free w
 waits-step job call before after (releases d s) free w = waits-releases job before after s w
 
+-- it holds of no requests
 pub waits-none : WaitsLast []
 unfolding WaitsLast
 waits-none [] b r is = absurd (cc)
 waits-none (x ∷ a) b r is = absurd (cc)
 
+-- it does not look at what jobs were told
 pub waits-retold : (before after : List Request) → Retold before after → WaitsLast before → WaitsLast after
 unfolding WaitsLast
 waits-retold before after s w a b r is blocking waits q h =

@@ -14,12 +14,14 @@ use Rattle.lock_queue.specs.Queue.{names, granted_behind, chosen_behind}
 use Rattle.lock_laws.proofs.Lists.{Sub, Sub-filter, Sub-refl}
 use Rattle.lock_laws.proofs.Steps.{Releases, none, gone, kept}
 
+-- nothing leaves
 pub Releases-same : (job : ℕ) (requests : List Request) → Releases job requests requests
 Releases-same job [] = none
 Releases-same job (r ∷ rs) = kept r r refl refl (Sub-refl r.wants.items) (inr refl) (Releases-same job rs)
 
 -- requests of the job that pass a test leave
-releases-where : (job : ℕ) (test : Request → Bool) → ((r : Request) → test r ≡ true → r.job ≡ job) → (requests : List Request)
+releases-where : (job : ℕ) (test : Request → Bool) → ((r : Request) → test r ≡ true → r.job ≡ job)
+    → (requests : List Request)
     → Releases job requests (filter (λ r. not (test r)) requests)
 releases-where job test own [] = none
 releases-where job test own (r ∷ rs) = go (releases-where job test own rs) (test r) refl
@@ -29,7 +31,9 @@ releases-where job test own (r ∷ rs) = go (releases-where job test own rs) (te
     go rest true e = gone r (inl (own r e)) rest
     go rest false e = kept r r refl refl (Sub-refl r.wants.items) (inr refl) rest
 
-step-where : (job : ℕ) (test : Request → Bool) → ((r : Request) → test r ≡ true → r.job ≡ job) → (requests : List Request)
+-- a dequeue of the requests that pass a test
+step-where : (job : ℕ) (test : Request → Bool) → ((r : Request) → test r ≡ true → r.job ≡ job)
+    → (requests : List Request)
     → Releases job requests (dequeue_where requests test).requests
 step-where job test own requests =
     elim (list_any test requests) as (λ b.
@@ -38,6 +42,7 @@ step-where job test own requests =
       | false ↦ Releases-same job requests
     ]
 
+-- functions 1 and 2
 pub releases-all : (requests : List Request) (job : ℕ) → Releases job requests (dequeue_all requests job).requests
 releases-all requests job = step-where job (is_of_job job) (λ r t. eqb-true r.job job t) requests
 
@@ -45,12 +50,14 @@ pub releases-id : (requests : List Request) (job id : ℕ) → Releases job requ
 releases-id requests job id =
     step-where job (has_id job id) (λ r t. eqb-true r.job job (and_parts (r.job == job) (r.id == id) t).0) requests
 
+-- no wants are counted
 no-wants : (ws : List Want) → not (length ws == 0) ≡ false → ws ≡ []
 no-wants [] h = refl
 no-wants (w ∷ ws) h = absurd (let e : length (w ∷ ws) ≡ 0 = eqb-true _ _ (not-false _ h) in omega (arith, e))
 
 -- one request gives up the named keys
-one-left : (job : ℕ) (named : List Want) (r : Request) (q : Request) (before after : List Request) → q.job ≡ r.job → q.kind ≡ r.kind
+one-left : (job : ℕ) (named : List Want) (r : Request) (q : Request) (before after : List Request) → q.job ≡ r.job
+    → q.kind ≡ r.kind
     → Sub q.wants.items r.wants.items → (r.job ≡ job) ⊎ (q ≡ r) → Releases job before after
     → Releases job (r ∷ before) (cond (has_wants q) (q ∷ after) after)
 one-left job named r q before after j k f why rest = go (has_wants q) refl
@@ -61,7 +68,9 @@ one-left job named r q before after j k f why rest = go (has_wants q) refl
         let empty : q.wants.items ≡ [] = no-wants q.wants.items e in
         elim why [ inl own ↦ gone r (inl own) rest | inr same ↦ gone r (inr (ap (λ (u : Request). u.wants.items) (sym same) ∙ empty)) rest ]
 
-releases-without : (requests : List Request) (job : ℕ) (named : List Want) → Releases job requests (without_named requests job named)
+-- the list without the named keys of a job
+releases-without : (requests : List Request) (job : ℕ) (named : List Want)
+    → Releases job requests (without_named requests job named)
 releases-without [] job named = none
 releases-without (r ∷ rs) job named =
     go (releases-without rs job named) (r.job == job) refl
@@ -75,10 +84,13 @@ releases-without (r ∷ rs) job named =
         one-left job named r (without_keys named r) rs rest-left refl refl (Sub-filter (λ w. not (names named w.key)) r.wants.items) (inl (eqb-true r.job job e)) rest
     go rest false e = one-left job named r r rs rest-left refl refl (Sub-refl r.wants.items) (inr refl) rest
 
-pub releases-named : (requests : List Request) (job : ℕ) (named : List Want) → Releases job requests (dequeue_named requests job named).requests
+-- function 0
+pub releases-named : (requests : List Request) (job : ℕ) (named : List Want)
+    → Releases job requests (dequeue_named requests job named).requests
 releases-named requests job named = go (first_refusal (dequeue_fault requests job) [] named)
   where
-    go : (o : Option Refusal) → Releases job requests (unless_refused requests o (outcome (without_named requests job named) Done)).requests
+    go : (o : Option Refusal)
+        → Releases job requests (unless_refused requests o (outcome (without_named requests job named) Done)).requests
     go (Some f) = Releases-same job requests
     go None = releases-without requests job named
 

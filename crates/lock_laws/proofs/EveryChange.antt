@@ -13,6 +13,7 @@ use Rattle.lock_laws.proofs.Ranks.{no_plain_circle}
 use Rattle.lock_laws.proofs.Retold.{Retold, Retold-told, Retold-claims, Retold-length}
 use Rattle.lock_laws.proofs.Steps.{Ordered}
 
+-- telling a job changes no claim
 kept-retold : (before after : List Request) → Retold before after → Kept before → Kept after
 kept-retold before after s k = record {
   ordered = subst (λ l. Pairs Ordered l) (sym (Retold-claims s)) k.ordered;
@@ -22,6 +23,7 @@ kept-retold before after s k = record {
 told : (requests : List Request) (job : ℕ) → Retold requests (told_of requests job)
 told requests job = Retold-told (is_pending job) [] requests
 
+-- the laws, for calls, for a job that is gone, for a wait that is given up and for a job that is told
 pub safety_is_kept : SafetyIsKept
 safety_is_kept = record {
   by_calls = λ requests job call s. safe-kept _ (kept-call requests job call (kept-safe requests s));

@@ -16,6 +16,7 @@ use Rattle.lock_queue.specs.Pools.{PoolShare}
 use Rattle.lock_queue.specs.Queue.{all_wants, wants_at, agree, amount_of, amount_in, fits_beside, fits, granted_behind, names}
 use Rattle.lock_laws.proofs.Lists.{Has, Has-right, Sub, Sub-Has, Sub-all, Sub-sum, Sub-filters, Has-filter, Has-flat_map, list_all-Has, list_all-each, list_all-fails, list_any-found, list_any-Has, flat_map-append}
 
+-- keys that the test takes for one are one
 same_scope-eq : (a b : Scope) → same_scope a b ≡ true → a ≡ b
 same_scope-eq All All h = refl
 same_scope-eq (Job a) (Job b) h = ap Job (eqb-true a b h)
@@ -35,6 +36,7 @@ same_key-eq a b h =
     let n = same_name-eq a.name b.name parts.1 in
     λ i. record { scope = s i; name = n i }
 
+-- and one key passes the test
 same_scope-refl : (a : Scope) → same_scope a a ≡ true
 same_scope-refl All = refl
 same_scope-refl (Job a) = eq-eqb a a refl
@@ -64,6 +66,7 @@ names-found ws k h =
 pub names-Has : (ws : List Want) (k : Key) (w : Want) → Has ws w → w.key ≡ k → names ws k ≡ true
 names-Has ws k w h e = list_any-Has (λ w. same_key w.key k) ws w (eq-same_key w.key k e) h
 
+-- the wants of a key, in two lists end to end
 pub wants_at-append : (a b : List Request) (k : Key) → wants_at (a ++ b) k ≡ wants_at a k ++ wants_at b k
 wants_at-append a b k =
     ap (filter (λ w. same_key w.key k)) (flat_map-append (λ (r : Request). r.wants.items) a b)
@@ -76,7 +79,9 @@ Has-wants_at a b r k w h e =
     Has-filter (λ v. same_key v.key k) (all_wants (a ++ r ∷ b)) w (eq-same_key w.key k e)
     (Has-flat_map (λ (q : Request). q.wants.items) (a ++ r ∷ b) r w (Has-right a (r ∷ b) r (inl refl)) h)
 
-pub fits_beside-fewer : (xs ys : List Want) (w : Want) (o : Option PoolShare) → Sub xs ys → fits_beside ys w o ≡ true → fits_beside xs w o ≡ true
+-- beside fewer wants a want still fits
+pub fits_beside-fewer : (xs ys : List Want) (w : Want) (o : Option PoolShare) → Sub xs ys → fits_beside ys w o ≡ true
+    → fits_beside xs w o ≡ true
 fits_beside-fewer xs ys w None s t = Sub-all (λ v. agree v w) s t
 fits_beside-fewer xs ys w (Some share) s t =
     le-leb _ _ (omega (arith, Sub-sum amount_of s, leb-true _ _ t))
@@ -86,15 +91,18 @@ pub fits-fewer : (a b : List Request) (w : Want) → Sub (all_wants a) (all_want
 fits-fewer a b w s t = fits_beside-fewer (wants_at a w.key) (wants_at b w.key) w w.pool (Sub-filters (λ v. same_key v.key w.key) s) t
 
 -- a request with fewer wants behind fewer wants is still granted
-pub granted_behind-fewer : (a b : List Request) (q r : Request) → Sub (all_wants a) (all_wants b) → Sub q.wants.items r.wants.items
+pub granted_behind-fewer : (a b : List Request) (q r : Request) → Sub (all_wants a) (all_wants b)
+    → Sub q.wants.items r.wants.items
     → granted_behind b r ≡ true → granted_behind a q ≡ true
 granted_behind-fewer a b q r s f t =
     list_all-each (fits a) q.wants.items
     (λ w h. fits-fewer a b w s (list_all-Has (fits b) r.wants.items w t (Sub-Has w f h)))
 
 -- where a want does not fit, no later one of its key does
-pub overtaken : (xs ys : List Want) (v w : Want) (o p : Option PoolShare) → v.pool ≡ o → same_pool_size o p ≡ true → Sub xs ys → Has ys v
-    → (sum_by amount_of xs + amount_of v ≤ sum_by amount_of ys) → fits_beside xs v o ≡ false → fits_beside ys w p ≡ false
+pub overtaken : (xs ys : List Want) (v w : Want) (o p : Option PoolShare) → v.pool ≡ o → same_pool_size o p ≡ true
+    → Sub xs ys → Has ys v
+    → (sum_by amount_of xs + amount_of v ≤ sum_by amount_of ys) → fits_beside xs v o ≡ false
+    → fits_beside ys w p ≡ false
 overtaken xs ys v w None None e same s h sum f =
     let bad = list_all-fails (λ u. agree u v) xs f in
     false_from_ne_true _ (λ t.

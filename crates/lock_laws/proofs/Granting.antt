@@ -22,6 +22,7 @@ pub record Kin (v w : Want) : Type 0 where
   pub level : v.level ≡ w.level
   pub sizes : same_pool_size v.pool w.pool ≡ true
 
+-- two claims of one key are kin
 abbrev KinIf : Claim → Claim → Type 0
 KinIf c d = c.want.key ≡ d.want.key → Kin c.want d.want
 
@@ -40,11 +41,14 @@ kin_from c d o e =
     let parts = and_parts (c.want.level == d.want.level) (same_pool_size c.want.pool d.want.pool) (o.alike e) in
     record { level = eqb-true c.want.level d.want.level parts.0; sizes = parts.1 }
 
-pub Has-claims : (rs : List Request) (r : Request) (w : Want) → Has rs r → Has r.wants.items w → Has (claims rs) (claim_of r.job w)
+-- each want of a request is a claim
+pub Has-claims : (rs : List Request) (r : Request) (w : Want) → Has rs r → Has r.wants.items w
+    → Has (claims rs) (claim_of r.job w)
 Has-claims rs r w h k = Has-flat_map claims_of rs r (claim_of r.job w) h (Has-map (claim_of r.job) r.wants.items w k)
 
 -- present wants of one key are alike
-pub kin : (rs : List Request) → Pairs Ordered (claims rs) → (r s : Request) (v w : Want) → Has rs r → Has rs s → Has r.wants.items v
+pub kin : (rs : List Request) → Pairs Ordered (claims rs) → (r s : Request) (v w : Want) → Has rs r → Has rs s
+    → Has r.wants.items v
     → Has s.wants.items w → v.key ≡ w.key → Kin v w
 kin rs p r s v w hr hs hv hw e =
     Pairs-both KinIf (λ c e. record { level = refl; sizes = same_pool_size-refl c.want.pool })
@@ -59,7 +63,8 @@ Has-sum f (y ∷ xs) x (inl e) = rw (sum-cons f y xs) (omega (arith, ap f e))
 Has-sum f (y ∷ xs) x (inr h) = rw (sum-cons f y xs) (omega (arith, Has-sum f xs x h))
 
 -- behind a request with a want that does not fit, no want of that key fits
-pub fits-overtaken : (a m : List Request) (r : Request) (v w : Want) → Has r.wants.items v → Kin v w → v.key ≡ w.key → fits a v ≡ false
+pub fits-overtaken : (a m : List Request) (r : Request) (v w : Want) → Has r.wants.items v → Kin v w → v.key ≡ w.key
+    → fits a v ≡ false
     → fits (a ++ r ∷ m) w ≡ false
 fits-overtaken a m r v w h k e f =
     let here : Has (wants_at (r ∷ m) w.key) v = Has-wants_at [] m r w.key v h e in
@@ -73,6 +78,7 @@ fits-overtaken a m r v w h k e f =
     (rw split (Has-right (wants_at a w.key) (wants_at (r ∷ m) w.key) v here)) sum
     (subst (λ key. fits_beside (wants_at a key) v v.pool ≡ false) e f)
 
+-- what is not pooled has no pool, nor has its kin
 no-pool : (o : Option PoolShare) → not (is_some o) ≡ true → o ≡ None
 no-pool None h = refl
 no-pool (Some a) h = cc
@@ -96,6 +102,7 @@ record Owner (key : Key) (rs : List Request) (r : Request) : Type 0 where
   of : want.key ≡ key
   granted : granted_behind split.before r ≡ true
 
+-- an owner of a key stands in the list, granted there, with a want of the key
 owner : (key : Key) (rs : List Request) (r : Request) → Has (owners rs key) r → Owner key rs r
 owner key rs r h =
     let c = chosen-Has (is_owner key) [] rs r h in
@@ -103,6 +110,7 @@ owner key rs r h =
     let w = names-found r.wants.items key parts.0 in
     record { split = c.split; want = w.0; has = w.1; of = w.2; granted = parts.1 }
 
+-- an exclusive owner: each other request with a want of the key disagrees with it, so none is granted before or behind it
 pub alone : (rs : List Request) → Pairs Ordered (claims rs) → ExclusiveAlone rs
 alone rs p key r w has_r has_w e ex =
     let o : Owner key rs r = owner key rs r (Contains-Has (owners rs key) r has_r) in
@@ -136,6 +144,7 @@ alone rs p key r w has_r has_w e ex =
     let here : is_owner key a r ≡ true = and_from _ _ (list_any-Has (λ v. same_key v.key key) r.wants.items w (eq-same_key w.key key e) hw) o.granted in
     whole ∙ rw (before, here, behind) refl
 
+-- a request is granted as a whole
 pub all_or_none : (rs : List Request) → AllOrNone rs
 all_or_none rs r key other has_r named =
     let o : Owner key rs r = owner key rs r (Contains-Has (owners rs key) r has_r) in
@@ -143,6 +152,7 @@ all_or_none rs r key other has_r named =
     Has-chosen (is_owner other) [] o.split.before o.split.after r (and_from _ _ named o.granted) in
     Has-Contains (owners rs other) r (subst (λ l. Has (owners l other) r) (sym o.split.is) there)
 
+-- what keeps a want from fitting keeps each later one of its key from it
 pub fits_in_front : (rs : List Request) → Pairs Ordered (claims rs) → FitsInFront rs
 fits_in_front rs p i j r s v w lt at_i at_j has_v has_w e not_fit =
     let hv : Has r.wants.items v = Contains-Has r.wants.items v has_v in
@@ -151,6 +161,7 @@ fits_in_front rs p i j r s v w lt at_i at_j has_v has_w e not_fit =
     let k = kin rs p r s v w (slice_get-Has rs i r at_i) (slice_get-Has rs j s at_j) hv hw e in
     rw m.1 (fits-overtaken (take i rs) m.0 r v w hv k e not_fit)
 
+-- so no later request with a want of the key is granted
 pub no_overtaking : (rs : List Request) → Pairs Ordered (claims rs) → NoOvertaking rs
 no_overtaking rs p i j r s w lt at_i at_j has_w not_fit named =
     let u = names-found s.wants.items w.key named in

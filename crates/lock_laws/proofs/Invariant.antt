@@ -20,6 +20,7 @@ pub record Kept (requests : List Request) : Type 0 where
   pub ordered : Pairs Ordered (claims requests)
   pub few : length requests ≤ REQUESTS
 
+-- a call that is no dequeue keeps it
 kept-grows : (job : ℕ) (before after : List Request) → Grows job before after → Kept before → Kept after
 kept-grows job before after (stays e) k = subst Kept (sym e) k
 kept-grows job before after (arrives r e a) k =
@@ -37,7 +38,9 @@ kept-grows job before after (changes f e c) k =
     record { ordered = c.claims k.ordered; few = omega (arith, length-map before f, k.few) } in
     subst Kept (sym e) here
 
-kept-step : (job : ℕ) (call : LockCall) (before after : List Request) → Step job call before after → Kept before → Kept after
+-- each call keeps it, and so do lists of calls
+kept-step : (job : ℕ) (call : LockCall) (before after : List Request) → Step job call before after → Kept before
+    → Kept after
 kept-step job call before after (grows g) k = kept-grows job before after g k
 kept-step job call before after (releases d s) k =
     record {
@@ -45,16 +48,20 @@ kept-step job call before after (releases d s) k =
       few = omega (arith, Releases-length job s, k.few);
     }
 
-pub kept-call : (requests : List Request) (job : ℕ) (call : LockCall) → Kept requests → Kept (outcome_of requests job call).requests
+pub kept-call : (requests : List Request) (job : ℕ) (call : LockCall) → Kept requests
+    → Kept (outcome_of requests job call).requests
 kept-call requests job call k = kept-step job call requests _ (step_of requests job call) k
 
-pub kept-calls : (requests : List Request) (calls : List (ℕ × LockCall)) → Kept requests → Kept (requests_after requests calls)
+pub kept-calls : (requests : List Request) (calls : List (ℕ × LockCall)) → Kept requests
+    → Kept (requests_after requests calls)
 kept-calls requests [] k = k
 kept-calls requests (c ∷ later) k = kept-calls (outcome_of requests c.0 c.1).requests later (kept-call requests c.0 c.1 k)
 
+-- it holds of no requests
 pub kept-none : Kept []
 kept-none = record { ordered = tt; few = omega arith }
 
+-- all of safety follows from it, and it is part of safety
 pub safe-kept : (requests : List Request) → Kept requests → Safe requests
 safe-kept requests k = record {
   exclusive_alone = alone requests k.ordered;

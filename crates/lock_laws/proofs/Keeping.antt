@@ -24,6 +24,7 @@ record Owning (requests : List Request) (job : ℕ) (key : Key) : Type 0 where
   named : names request.wants.items key ≡ true
   granted : granted_behind split.before request ≡ true
 
+-- an owner has such a request, and who has one is an owner
 owning : (requests : List Request) (job : ℕ) (key : Key) → owns requests job key ≡ true → Owning requests job key
 owning requests job key h =
     let r = list_any-found (λ (q : Request). q.job == job) (owners requests key) h in
@@ -31,14 +32,17 @@ owning requests job key h =
     let parts = and_parts (names r.0.wants.items key) (granted_behind c.split.before r.0) c.passes in
     record { request = r.0; split = c.split; by = eqb-true r.0.job job r.2; named = parts.0; granted = parts.1 }
 
-owns-at : (requests a b : List Request) (r : Request) (job : ℕ) (key : Key) → requests ≡ a ++ r ∷ b → r.job ≡ job → names r.wants.items key ≡ true
+owns-at : (requests a b : List Request) (r : Request) (job : ℕ) (key : Key) → requests ≡ a ++ r ∷ b → r.job ≡ job
+    → names r.wants.items key ≡ true
     → granted_behind a r ≡ true → owns requests job key ≡ true
 owns-at requests a b r job key is by named granted =
     let there : Has (owners (a ++ r ∷ b) key) r = Has-chosen (is_owner key) [] a b r (and_from _ _ named granted) in
     subst (λ l. owns l job key ≡ true) (sym is)
     (list_any-Has (λ (q : Request). q.job == job) (owners (a ++ r ∷ b) key) r (eq-eqb r.job job by) there)
 
-owns-grows : (caller : ℕ) (before after : List Request) (job : ℕ) (key : Key) → Grows caller before after → owns before job key ≡ true → owns after job key ≡ true
+-- a call that is no dequeue takes nothing away
+owns-grows : (caller : ℕ) (before after : List Request) (job : ℕ) (key : Key) → Grows caller before after
+    → owns before job key ≡ true → owns after job key ≡ true
 owns-grows caller before after job key (stays e) h = subst (λ l. owns l job key ≡ true) (sym e) h
 owns-grows caller before after job key (arrives r e a) h =
     let o : Owning before job key = owning before job key h in
@@ -51,7 +55,8 @@ owns-grows caller before after job key (changes f e c) h =
     (c.kept o.split.before o.split.after o.request o.split.is o.granted)
 
 -- a job that makes no dequeue keeps what it owns through one
-owns-releases : (caller : ℕ) (before after : List Request) (job : ℕ) (key : Key) → Releases caller before after → (caller ≡ job → ⊥)
+owns-releases : (caller : ℕ) (before after : List Request) (job : ℕ) (key : Key) → Releases caller before after
+    → (caller ≡ job → ⊥)
     → owns before job key ≡ true → owns after job key ≡ true
 owns-releases caller before after job key s other h =
     let o : Owning before job key = owning before job key h in
@@ -61,7 +66,9 @@ owns-releases caller before after job key s other h =
     owns-at after t.earlier t.later o.request job key t.is o.by o.named
     (granted_behind-fewer t.earlier o.split.before o.request o.request t.fewer (Sub-refl o.request.wants.items) o.granted)
 
-keeps-step : (requests after : List Request) (caller : ℕ) (call : LockCall) → Step caller call requests after → (job : ℕ) (key : Key)
+-- so only a dequeue of its own takes a key from an owner
+keeps-step : (requests after : List Request) (caller : ℕ) (call : LockCall) → Step caller call requests after
+    → (job : ℕ) (key : Key)
     → owns requests job key ≡ true → owns after job key ≡ false → (is_dequeue call ≡ true) × (caller ≡ job)
 keeps-step requests after caller call (grows g) job key h lost =
     absurd (both_ways (owns after job key) lost (owns-grows caller requests after job key g h))
@@ -77,7 +84,8 @@ pub keeps_owners : (requests : List Request) (caller : ℕ) (call : LockCall) �
 keeps_owners requests caller call = keeps-step requests _ caller call (step_of requests caller call)
 
 -- a job that is gone owns nothing, and others keep what they own
-pub owns-released : (requests : List Request) (gone job : ℕ) (key : Key) → owns requests job key ≡ true → owns (released requests gone) job key ≡ false
+pub owns-released : (requests : List Request) (gone job : ℕ) (key : Key) → owns requests job key ≡ true
+    → owns (released requests gone) job key ≡ false
     → gone ≡ job
 owns-released requests gone job key h lost =
     elim (cases_eq gone job) [
@@ -87,7 +95,8 @@ owns-released requests gone job key h lost =
     ]
 
 -- a wait that is given up is of a request that is not granted
-pub owns-withdrawn : (requests : List Request) (waiter job : ℕ) (key : Key) → owns requests job key ≡ true → owns (withdrawn requests waiter) job key ≡ true
+pub owns-withdrawn : (requests : List Request) (waiter job : ℕ) (key : Key) → owns requests job key ≡ true
+    → owns (withdrawn requests waiter) job key ≡ true
 owns-withdrawn requests waiter job key h =
     let o : Owning requests job key = owning requests job key h in
     let a : List Request = o.split.before in
@@ -100,7 +109,9 @@ owns-withdrawn requests waiter job key h =
     (ap (chosen_behind (is_not_blocked waiter) []) o.split.is ∙ chosen-place (is_not_blocked waiter) [] a o.split.after o.request stays) o.by o.named
     (granted_behind-fewer (chosen_behind (is_not_blocked waiter) [] a) a o.request o.request front (Sub-refl o.request.wants.items) o.granted)
 
-pub owns-told : (requests : List Request) (told job : ℕ) (key : Key) → owns requests job key ≡ true → owns (told_of requests told) job key ≡ true
+-- telling a job changes no grant
+pub owns-told : (requests : List Request) (told job : ℕ) (key : Key) → owns requests job key ≡ true
+    → owns (told_of requests told) job key ≡ true
 owns-told requests told job key h =
     let o : Owning requests job key = owning requests job key h in
     let p = Retold-place (Retold-told (is_pending told) [] requests) o.split.before o.split.after o.request o.split.is in

@@ -41,7 +41,8 @@ module _ {X : Type 0} where
       let rest = Has-filter p xs x t h in
       elim (p z) as (λ b. Has (cond b (z ∷ filter p xs) (filter p xs)) x) [ true ↦ inr rest | false ↦ rest ]
 
-  by_cond : (P : List X → Type 0) (b : Bool) (xs ys : List X) → (b ≡ true → P xs) → (b ≡ false → P ys) → P (cond b xs ys)
+  by_cond : (P : List X → Type 0) (b : Bool) (xs ys : List X) → (b ≡ true → P xs) → (b ≡ false → P ys)
+      → P (cond b xs ys)
   by_cond P true xs ys t f = t refl
   by_cond P false xs ys t f = f refl
 
@@ -71,7 +72,8 @@ module _ {X : Type 0} where
   list_all-fails p [] f = cc
   list_all-fails p (z ∷ xs) f = go (list_all-fails p xs) (p z) refl
     where
-      go : (list_all p xs ≡ false → (x : X) × Has xs x × (p x ≡ false)) → (b : Bool) → p z ≡ b → (x : X) × Has (z ∷ xs) x × (p x ≡ false)
+      go : (list_all p xs ≡ false → (x : X) × Has xs x × (p x ≡ false)) → (b : Bool) → p z ≡ b
+          → (x : X) × Has (z ∷ xs) x × (p x ≡ false)
       go later false e = (z, inl refl, e)
       go later true e =
           let rest : list_all p xs ≡ false = grind (arith, common_steps) in
@@ -94,14 +96,16 @@ module _ {X : Type 0} where
   list_any-found p [] t = cc
   list_any-found p (z ∷ xs) t = go (list_any-found p xs) (p z) refl
     where
-      go : (list_any p xs ≡ true → (x : X) × Has xs x × (p x ≡ true)) → (b : Bool) → p z ≡ b → (x : X) × Has (z ∷ xs) x × (p x ≡ true)
+      go : (list_any p xs ≡ true → (x : X) × Has xs x × (p x ≡ true)) → (b : Bool) → p z ≡ b
+          → (x : X) × Has (z ∷ xs) x × (p x ≡ true)
       go later true e = (z, inl refl, e)
       go later false e =
           let rest : list_any p xs ≡ true = grind (arith, common_steps) in
           let found = later rest in
           (found.0, inr found.1, found.2)
 
-  pub Pairs-append : (R : X → X → Type 0) (xs ys : List X) → Pairs R xs → Pairs R ys → ((x y : X) → Has xs x → Has ys y → R x y)
+  pub Pairs-append : (R : X → X → Type 0) (xs ys : List X) → Pairs R xs → Pairs R ys
+      → ((x y : X) → Has xs x → Has ys y → R x y)
       → Pairs R (xs ++ ys)
   Pairs-append R [] ys p q c = q
   Pairs-append R (x ∷ xs) ys p q c = (
@@ -117,7 +121,8 @@ module _ {X : Type 0} where
   Pairs-right R [] ys p = p
   Pairs-right R (x ∷ xs) ys p = Pairs-right R xs ys p.1
 
-  pub Pairs-across : (R : X → X → Type 0) (xs ys : List X) → Pairs R (xs ++ ys) → (x y : X) → Has xs x → Has ys y → R x y
+  pub Pairs-across : (R : X → X → Type 0) (xs ys : List X) → Pairs R (xs ++ ys) → (x y : X) → Has xs x → Has ys y
+      → R x y
   Pairs-across R [] ys p x y h k = absurd h
   Pairs-across R (z ∷ xs) ys p x y (inl e) k = subst (λ u. R u y) e (p.0 y (Has-right xs ys y k))
   Pairs-across R (z ∷ xs) ys p x y (inr h) k = Pairs-across R xs ys p.1 x y h k
@@ -135,7 +140,8 @@ module _ {X : Type 0} where
   Pairs-weaker R S f [] p = tt
   Pairs-weaker R S f (x ∷ xs) p = (λ y h. f x y (p.0 y h), Pairs-weaker R S f xs p.1)
 
-  pub Pairs-joined : (R S T Q : X → X → Type 0) → ((x y : X) → R x y → S x y → T x y → Q x y) → (xs : List X) → Pairs R xs → Pairs S xs → Pairs T xs
+  pub Pairs-joined : (R S T Q : X → X → Type 0) → ((x y : X) → R x y → S x y → T x y → Q x y) → (xs : List X)
+      → Pairs R xs → Pairs S xs → Pairs T xs
       → Pairs Q xs
   Pairs-joined R S T Q f [] p q r = tt
   Pairs-joined R S T Q f (x ∷ xs) p q r = (λ y h. f x y (p.0 y h) (q.0 y h) (r.0 y h), Pairs-joined R S T Q f xs p.1 q.1 r.1)
@@ -237,7 +243,8 @@ module _ {X Y : Type 0} where
   Sub-flat_map f (skip y s) = Sub-append (Sub-none (f y)) (Sub-flat_map f s)
   Sub-flat_map f (keep y s) = Sub-append (Sub-refl (f y)) (Sub-flat_map f s)
 
-  pub Pairs-map : (R : X → X → Type 0) (S : Y → Y → Type 0) (f : X → Y) → ((x y : X) → R x y → S (f x) (f y)) → (xs : List X) → Pairs R xs
+  pub Pairs-map : (R : X → X → Type 0) (S : Y → Y → Type 0) (f : X → Y) → ((x y : X) → R x y → S (f x) (f y))
+      → (xs : List X) → Pairs R xs
       → Pairs S (map f xs)
   Pairs-map R S f g [] p = tt
   Pairs-map R S f g (x ∷ xs) p = (

@@ -27,6 +27,7 @@ record Keeps (w v : Want) : Type 0 where
   level : v.level ≡ w.level
   pool : v.pool ≡ w.pool
 
+-- a changed want is shared or not, and otherwise as it was
 keeps-changed : (cs : List Want) (w : Want) → Keeps w (changed_want cs w)
 keeps-changed [] w = record { key = refl; bypass = refl; level = refl; pool = refl }
 keeps-changed (c ∷ cs) w =
@@ -47,6 +48,7 @@ keeps-claim job cs c =
       | false ↦ record { key = refl; bypass = refl; level = refl; pool = refl }
     ]
 
+-- a changed request is of its job and kind, and names its keys
 changed-job : (job : ℕ) (cs : List Want) (r : Request) → (changed job cs r).job ≡ r.job
 changed-job job cs r =
     elim (r.job == job) as (λ b. (cond b (with_wants r (map (changed_want cs) r.wants.items)) r).job ≡ r.job) [ true ↦ refl | false ↦ refl ]
@@ -60,14 +62,17 @@ names-changed cs ws key h =
     let w = names-found ws key h in
     names-Has (map (changed_want cs) ws) key (changed_want cs w.0) (Has-map (changed_want cs) ws w.0 w.1) ((keeps-changed cs w.0).key ∙ w.2)
 
-changed-names : (job : ℕ) (cs : List Want) (r : Request) (key : Key) → names r.wants.items key ≡ true → names (changed job cs r).wants.items key ≡ true
+changed-names : (job : ℕ) (cs : List Want) (r : Request) (key : Key) → names r.wants.items key ≡ true
+    → names (changed job cs r).wants.items key ≡ true
 changed-names job cs r key h =
     elim (r.job == job) as (λ b. names (cond b (with_wants r (map (changed_want cs) r.wants.items)) r).wants.items key ≡ true) [
       | true ↦ names-changed cs r.wants.items key h
       | false ↦ h
     ]
 
-Ordered-changed : (job : ℕ) (cs : List Want) (c d : Claim) → Ordered c d → Ordered (changed_claim job cs c) (changed_claim job cs d)
+-- the order of claims does not look at whether they are shared
+Ordered-changed : (job : ℕ) (cs : List Want) (c d : Claim) → Ordered c d
+    → Ordered (changed_claim job cs c) (changed_claim job cs d)
 Ordered-changed job cs c d o =
     let k : Keeps c.want (changed_claim job cs c).want = keeps-claim job cs c in
     let l : Keeps d.want (changed_claim job cs d).want = keeps-claim job cs d in
@@ -77,6 +82,7 @@ Ordered-changed job cs c d o =
       rises = rw (l.bypass, k.level, l.level) o.rises;
     }
 
+-- the claims of a changed list are the changed claims
 claims-changed : (job : ℕ) (cs : List Want) (n : ℕ) (ws : List Want) → (n == job) ≡ true
     → map (claim_of n) (map (changed_want cs) ws) ≡ map (changed_claim job cs) (map (claim_of n) ws)
 claims-changed job cs n [] e = refl
@@ -95,7 +101,8 @@ claims-unchanged job cs n (w ∷ ws) e =
     let rest = claims-unchanged job cs n ws e in
     cc
 
-claims_of-changed : (job : ℕ) (cs : List Want) (r : Request) → claims_of (changed job cs r) ≡ map (changed_claim job cs) (claims_of r)
+claims_of-changed : (job : ℕ) (cs : List Want) (r : Request)
+    → claims_of (changed job cs r) ≡ map (changed_claim job cs) (claims_of r)
 claims_of-changed job cs r = go (r.job == job) refl
   where
     go : (b : Bool) → (r.job == job) ≡ b
@@ -103,7 +110,8 @@ claims_of-changed job cs r = go (r.job == job) refl
     go true e = claims-changed job cs r.job r.wants.items e
     go false e = claims-unchanged job cs r.job r.wants.items e
 
-all_claims-changed : (job : ℕ) (cs : List Want) (rs : List Request) → claims (map (changed job cs) rs) ≡ map (changed_claim job cs) (claims rs)
+all_claims-changed : (job : ℕ) (cs : List Want) (rs : List Request)
+    → claims (map (changed job cs) rs) ≡ map (changed_claim job cs) (claims rs)
 all_claims-changed job cs [] = refl
 all_claims-changed job cs (r ∷ rs) =
     ap (λ l. l ++ claims (map (changed job cs) rs)) (claims_of-changed job cs r)
@@ -112,7 +120,8 @@ all_claims-changed job cs (r ∷ rs) =
 
 -- where none is lost, each granted request stays granted
 none-lost : (f : Request → Request) (e g rs : List Request) → some_lost_behind e g rs (map f rs) ≡ false
-    → (a b : List Request) (r : Request) → rs ≡ a ++ r ∷ b → granted_behind (e ++ a) r ≡ true → granted_behind (g ++ map f a) (f r) ≡ true
+    → (a b : List Request) (r : Request) → rs ≡ a ++ r ∷ b → granted_behind (e ++ a) r ≡ true
+    → granted_behind (g ++ map f a) (f r) ≡ true
 none-lost f e g [] h [] b r is t = cc
 none-lost f e g [] h (x ∷ a) b r is t = cc
 none-lost f e g (x ∷ rs) h [] b r is t =
@@ -131,7 +140,9 @@ none-lost f e g (x ∷ rs) h (y ∷ a) b r is t =
     let now = none-lost f (e ++ x ∷ []) (g ++ f x ∷ []) rs later a b r rest was in
     subst (λ l. granted_behind l (f r) ≡ true) (push-append g (f x) (map f a) ∙ ap (λ u. g ++ f u ∷ map f a) same) now
 
-pub changes-changed : (requests : List Request) (job : ℕ) (cs : List Want) → some_lost requests (with_changes requests job cs) ≡ false
+-- a change that loses no grant
+pub changes-changed : (requests : List Request) (job : ℕ) (cs : List Want)
+    → some_lost requests (with_changes requests job cs) ≡ false
     → Changes requests (changed job cs)
 changes-changed requests job cs h = record {
   job = changed-job job cs;
@@ -142,10 +153,13 @@ changes-changed requests job cs h = record {
   kept = none-lost (changed job cs) [] [] requests h;
 }
 
-pub step-modify : (requests : List Request) (job : ℕ) (cs : List Want) → Grows job requests (modify requests job cs).requests
+-- the change is made or refused
+pub step-modify : (requests : List Request) (job : ℕ) (cs : List Want)
+    → Grows job requests (modify requests job cs).requests
 step-modify requests job cs = go _ refl
   where
-    go : (o : Option Refusal) → or_else (first_refusal (modify_fault requests job) [] cs) (refuse_if (some_lost requests (with_changes requests job cs)) WouldLose) ≡ o
+    go : (o : Option Refusal)
+        → or_else (first_refusal (modify_fault requests job) [] cs) (refuse_if (some_lost requests (with_changes requests job cs)) WouldLose) ≡ o
         → Grows job requests (unless_refused requests o (outcome (with_changes requests job cs) Done)).requests
     go (Some f) e = stays refl
     go None e =

@@ -17,6 +17,7 @@ module _ {X : Type 0} where
   nil-append [] = refl
   nil-append (x ∷ xs) = ap (λ l. x ∷ l) (nil-append xs)
 
+  -- each element has a place
   pub split_Has : (xs : List X) (x : X) → Has xs x → Split xs x
   split_Has [] x h = absurd h
   split_Has (y ∷ xs) x (inl e) = record { before = []; after = xs; is = ap (λ u. u ∷ xs) e }
@@ -32,6 +33,7 @@ module _ {X : Type 0} where
   slice_get-Has (y ∷ xs) zero x e = inl (cc)
   slice_get-Has (y ∷ xs) (suc i) x e = inr (slice_get-Has xs i x e)
 
+  -- the element at the place i, with what is before and behind it
   pub split_at : (xs : List X) (i : ℕ) (x : X) → slice_get xs i ≡ Some x → xs ≡ take i xs ++ x ∷ drop (suc i) xs
   split_at [] i x e = cc
   split_at (y ∷ xs) zero x e = cc
@@ -58,7 +60,8 @@ module _ {X : Type 0} where
   Has-slice_get (y ∷ xs) x (inl e) = (zero, ap Some e)
   Has-slice_get (y ∷ xs) x (inr h) = let found = Has-slice_get xs x h in (suc found.0, found.1)
 
-  pub slice_get-behind : (a b : List X) (x y : X) (k : ℕ) → slice_get b k ≡ Some y → slice_get (a ++ x ∷ b) (length a + suc k) ≡ Some y
+  pub slice_get-behind : (a b : List X) (x y : X) (k : ℕ) → slice_get b k ≡ Some y
+      → slice_get (a ++ x ∷ b) (length a + suc k) ≡ Some y
   slice_get-behind [] b x y k e = let at : length {A = X} [] + suc k ≡ suc k = omega arith in rw at e
   slice_get-behind (z ∷ a) b x y k e =
       let at : length (z ∷ a) + suc k ≡ suc (length a + suc k) = omega arith in rw at (slice_get-behind a b x y k e)
@@ -79,6 +82,7 @@ module _ {X : Type 0} where
 abbrev pub Test : Type 0
 Test = List Request → Request → Bool
 
+-- the choice goes through the list from front to back
 pub chosen_behind-append : (test : Test) (e xs ys : List Request)
     → chosen_behind test e (xs ++ ys) ≡ chosen_behind test e xs ++ chosen_behind test (e ++ xs) ys
 chosen_behind-append test e [] ys = rw (nil-append e) refl
@@ -97,7 +101,8 @@ pub record Chosen (test : Test) (e rs : List Request) (r : Request) : Type 0 whe
   pub split : Split rs r
   pub passes : test (e ++ split.before) r ≡ true
 
-pub chosen-Has : (test : Test) (e rs : List Request) (r : Request) → Has (chosen_behind test e rs) r → Chosen test e rs r
+pub chosen-Has : (test : Test) (e rs : List Request) (r : Request) → Has (chosen_behind test e rs) r
+    → Chosen test e rs r
 chosen-Has test e [] r h = absurd h
 chosen-Has test e (x ∷ rs) r h = go (chosen-Has test (e ++ x ∷ []) rs r) (cases_Bool (test e x))
   where
@@ -107,7 +112,8 @@ chosen-Has test e (x ∷ rs) r h = go (chosen-Has test (e ++ x ∷ []) rs r) (ca
       passes = subst (λ l. test l r ≡ true) (push-append e x c.split.before) c.passes;
     }
 
-    go : (Has (chosen_behind test (e ++ x ∷ []) rs) r → Chosen test (e ++ x ∷ []) rs r) → (test e x ≡ true) ⊎ (test e x ≡ false) → Chosen test e (x ∷ rs) r
+    go : (Has (chosen_behind test (e ++ x ∷ []) rs) r → Chosen test (e ++ x ∷ []) rs r)
+        → (test e x ≡ true) ⊎ (test e x ≡ false) → Chosen test e (x ∷ rs) r
     go rest (inl t) =
         let k : Has (x ∷ chosen_behind test (e ++ x ∷ []) rs) r =
         subst (λ b. Has (cond b (x ∷ chosen_behind test (e ++ x ∷ []) rs) (chosen_behind test (e ++ x ∷ []) rs)) r) t h in
@@ -121,13 +127,15 @@ chosen-Has test e (x ∷ rs) r h = go (chosen-Has test (e ++ x ∷ []) rs r) (ca
     go rest (inr f) =
         later (rest (subst (λ b. Has (cond b (x ∷ chosen_behind test (e ++ x ∷ []) rs) (chosen_behind test (e ++ x ∷ []) rs)) r) f h))
 
-pub Has-chosen : (test : Test) (e a b : List Request) (r : Request) → test (e ++ a) r ≡ true → Has (chosen_behind test e (a ++ r ∷ b)) r
+pub Has-chosen : (test : Test) (e a b : List Request) (r : Request) → test (e ++ a) r ≡ true
+    → Has (chosen_behind test e (a ++ r ∷ b)) r
 Has-chosen test e a b r t =
     rw (chosen_behind-append test e a (r ∷ b))
     (Has-right (chosen_behind test e a) _ r (rw t (inl refl)))
 
 -- none is chosen where none passes
-pub chosen_none : (test : Test) (e rs : List Request) → ((a b : List Request) (r : Request) → rs ≡ a ++ r ∷ b → test (e ++ a) r ≡ false)
+pub chosen_none : (test : Test) (e rs : List Request)
+    → ((a b : List Request) (r : Request) → rs ≡ a ++ r ∷ b → test (e ++ a) r ≡ false)
     → chosen_behind test e rs ≡ []
 chosen_none test e [] none = refl
 chosen_none test e (x ∷ rs) none =
@@ -160,7 +168,8 @@ pub some_found : (test : Test) (e rs : List Request) → some_behind test e rs �
 some_found test e [] h = cc
 some_found test e (x ∷ rs) h = go (some_found test (e ++ x ∷ []) rs) (cases_Bool (test e x))
   where
-    go : (some_behind test (e ++ x ∷ []) rs ≡ true → Found test (e ++ x ∷ []) rs) → (test e x ≡ true) ⊎ (test e x ≡ false) → Found test e (x ∷ rs)
+    go : (some_behind test (e ++ x ∷ []) rs ≡ true → Found test (e ++ x ∷ []) rs)
+        → (test e x ≡ true) ⊎ (test e x ≡ false) → Found test e (x ∷ rs)
     go rest (inl t) = record {
       request = x;
       split = record { before = []; after = rs; is = refl };
@@ -175,7 +184,8 @@ some_found test e (x ∷ rs) h = go (some_found test (e ++ x ∷ []) rs) (cases_
           passes = subst (λ l. test l c.request ≡ true) (push-append e x c.split.before) c.passes;
         }
 
-pub some-split : (test : Test) (e a b : List Request) (r : Request) → test (e ++ a) r ≡ true → some_behind test e (a ++ r ∷ b) ≡ true
+pub some-split : (test : Test) (e a b : List Request) (r : Request) → test (e ++ a) r ≡ true
+    → some_behind test e (a ++ r ∷ b) ≡ true
 some-split test e [] b r t =
     let here : test e r ≡ true = subst (λ l. test l r ≡ true) (nil-append e) t in rw here refl
 some-split test e (x ∷ a) b r t =

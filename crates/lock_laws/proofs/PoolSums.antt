@@ -23,6 +23,7 @@ own-Pairs [] r h p = absurd h
 own-Pairs (x ∷ rs) r (inl e) p = subst (λ u. Pairs Ordered (claims_of u)) e (Pairs-left Ordered (claims_of x) (claims rs) p)
 own-Pairs (x ∷ rs) r (inr h) p = own-Pairs rs r h (Pairs-right Ordered (claims_of x) (claims rs) p)
 
+-- no later want of the job is of the key
 none_named : (job : ℕ) (w : Want) (ws : List Want) (key : Key) → w.key ≡ key
     → ((d : Claim) → Has (map (claim_of job) ws) d → Ordered (claim_of job w) d)
     → filter (λ v. same_key v.key key) ws ≡ []
@@ -34,7 +35,8 @@ none_named job w (v ∷ ws) key e f =
     rw here (none_named job w ws key e (λ d h. f d (inr h)))
 
 -- a request has one want of a key, at most
-once : (job : ℕ) (ws : List Want) (w : Want) (key : Key) → Pairs Ordered (map (claim_of job) ws) → Has ws w → w.key ≡ key
+once : (job : ℕ) (ws : List Want) (w : Want) (key : Key) → Pairs Ordered (map (claim_of job) ws) → Has ws w
+    → w.key ≡ key
     → filter (λ v. same_key v.key key) ws ≡ w ∷ []
 once job [] w key p h e = absurd h
 once job (v ∷ ws) w key p (inl same) e =
@@ -57,7 +59,9 @@ record Takes (key : Key) (size : ℕ) (r : Request) : Type 0 where
   fit : share.size ≡ size
   only : sum_by amount_of (wants_at (r ∷ []) key) ≡ share.amount
 
-wants_at-cons : (r : Request) (rs : List Request) (key : Key) → wants_at (r ∷ rs) key ≡ wants_at (r ∷ []) key ++ wants_at rs key
+-- the wants of a key and their amounts, with one more request in front or at the end
+wants_at-cons : (r : Request) (rs : List Request) (key : Key)
+    → wants_at (r ∷ rs) key ≡ wants_at (r ∷ []) key ++ wants_at rs key
 wants_at-cons r rs key = wants_at-append (r ∷ []) rs key
 
 sum-wants_at-cons : (r : Request) (rs : List Request) (key : Key)
@@ -105,11 +109,14 @@ amounts-within key size e (r ∷ rs) n le fit takes = go (is_owner key e r) refl
         let pushed = sum-wants_at-push e r key in
         later n (omega (arith, pushed, le)) fit
 
-pool-of : (o p : Option PoolShare) (a : PoolShare) → same_pool_size o p ≡ true → o ≡ Some a → (b : PoolShare) × (p ≡ Some b) × (b.size ≡ a.size)
+-- kin of a pooled want is of a pool of that size
+pool-of : (o p : Option PoolShare) (a : PoolShare) → same_pool_size o p ≡ true → o ≡ Some a
+    → (b : PoolShare) × (p ≡ Some b) × (b.size ≡ a.size)
 pool-of (Some x) (Some y) a h e = (y, refl, let s : x ≡ a = cc in sym (eqb-true x.size y.size h) ∙ ap (λ (u : PoolShare). u.size) s)
 pool-of (Some x) None a h e = cc
 pool-of None p a h e = cc
 
+-- so the owners never take more than there is
 pub pools_suffice : (rs : List Request) → Pairs Ordered (claims rs) → PoolsSuffice rs
 pools_suffice rs p key w share has_w pool =
     let at : Has (wants_at rs key) w = Contains-Has (wants_at rs key) w has_w in

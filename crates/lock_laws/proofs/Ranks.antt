@@ -22,6 +22,7 @@ data Compared {X : Type 0} (a : List X) (x : X) (b c : List X) (y : X) (d : List
   in_front : length a < length c → Has c x → Has b y → Compared a x b c y d
   in_back : Has d x → Compared a x b c y d
 
+-- any two places compare
 compared : {X : Type 0} (a b c d : List X) (x y : X) → a ++ x ∷ b ≡ c ++ y ∷ d → Compared a x b c y d
 compared [] b [] d x y is = at_one refl (cc)
 compared [] b (z ∷ c) d x y is =
@@ -59,6 +60,7 @@ record Behind (rs : List Request) (job other : ℕ) (w : Waiting rs job) : Type 
   has : Has request.wants.items want
   key : want.key ≡ w.want.key
 
+-- a list of one
 single : (ws : List Want) → (length ws == 1) ≡ true → (w : Want) × (ws ≡ w ∷ [])
 single [] h = absurd (let e : 0 ≡ 1 = eqb-true 0 1 h in omega (arith, e))
 single (w ∷ []) h = (w, refl)
@@ -69,7 +71,9 @@ record Link (rs : List Request) (job other : ℕ) : Type 0 where
   waiting : Waiting rs job
   behind : Behind rs job other waiting
 
-link : (rs : List Request) (job other : ℕ) → WaitsLast rs → is_plain rs job ≡ true → waits_for rs job other ≡ true → Link rs job other
+-- a plain job that waits for another: its request is its last, and behind a want of the other
+link : (rs : List Request) (job other : ℕ) → WaitsLast rs → is_plain rs job ≡ true → waits_for rs job other ≡ true
+    → Link rs job other
 unfolding WaitsLast
 link rs job other waits plain h =
     let f = some_found (is_blocked_by job other) [] rs h in
@@ -107,6 +111,7 @@ link rs job other waits plain h =
       behind = record { request = s.0; want = v.0; there = his.1; by = eqb-true s.0.job other his.0; has = s.2; key = same_key-eq v.0.key w.key at.0 };
     }
 
+-- a place lies within its list
 longer : {X : Type 0} (xs a b : List X) (x : X) → xs ≡ a ++ x ∷ b → length a < length xs
 longer xs a b x is = omega (arith, ap length is, length-append a (x ∷ b))
 
@@ -115,7 +120,8 @@ abbrev Rises : {rs : List Request} {j k : ℕ} → Waiting rs j → Waiting rs k
 Rises w v = (w.want.level < v.want.level) ⊎ ((w.want.level ≡ v.want.level) × (length v.before < length w.before))
 
 -- a job's last request is one
-unique : (rs : List Request) (job : ℕ) (w v : Waiting rs job) → (w.want.level ≡ v.want.level) × (length w.before ≡ length v.before)
+unique : (rs : List Request) (job : ℕ) (w v : Waiting rs job)
+    → (w.want.level ≡ v.want.level) × (length w.before ≡ length v.before)
 unique rs job w v =
     elim (compared w.before w.after v.before v.after w.request v.request (sym w.is ∙ v.is)) [
       | at_one l e ↦
@@ -126,7 +132,9 @@ unique rs job w v =
       | in_back h ↦ absurd (v.last w.request h w.by)
     ]
 
-rises-link : (rs : List Request) → Pairs Ordered (claims rs) → (job other : ℕ) (w : Waiting rs job) → Behind rs job other w → (v : Waiting rs other) → Rises w v
+-- the other job is a plain one that waits too: the want is of its last request, or of an earlier one with a lower level
+rises-link : (rs : List Request) → Pairs Ordered (claims rs) → (job other : ℕ) (w : Waiting rs job)
+    → Behind rs job other w → (v : Waiting rs other) → Rises w v
 rises-link rs p job other w o v =
     let s = split_Has w.before o.request o.there in
     let m : List Request = s.after ++ w.request ∷ w.after in
@@ -154,7 +162,9 @@ rises-link rs p job other w o v =
       | in_back h ↦ absurd (v.last o.request h o.by)
     ]
 
-rises-on : (rs : List Request) (i j k : ℕ) (u : Waiting rs i) (w : Waiting rs j) (v : Waiting rs k) → Rises u w → Rises w v → Rises u v
+-- rising goes on along a chain
+rises-on : (rs : List Request) (i j k : ℕ) (u : Waiting rs i) (w : Waiting rs j) (v : Waiting rs k) → Rises u w
+    → Rises w v → Rises u v
 rises-on rs i j k u w v (inl a) (inl b) = inl (omega arith)
 rises-on rs i j k u w v (inl a) (inr b) = inl (omega (arith, a, b.0))
 rises-on rs i j k u w v (inr a) (inl b) = inl (omega (arith, a.0, b))
@@ -171,11 +181,13 @@ module _ (rs : List Request) (ordered : Pairs Ordered (claims rs)) (waits : Wait
       ]
 
   -- the first job of a chain of plain jobs waits
-  first-waits : (job : ℕ) (later : List ℕ) (last : ℕ) → is_plain rs job ≡ true → is_chain rs job later last ≡ true → Waiting rs job
+  first-waits : (job : ℕ) (later : List ℕ) (last : ℕ) → is_plain rs job ≡ true → is_chain rs job later last ≡ true
+      → Waiting rs job
   first-waits job [] last plain h = (link rs job last waits plain h).waiting
   first-waits job (k ∷ later) last plain h =
       (link rs job k waits plain (and_parts (waits_for rs job k) (is_chain rs k later last) h).0).waiting
 
+  -- so the last of a chain is above the first
   rises-chain : (job : ℕ) (later : List ℕ) (last : ℕ) → is_plain rs job ≡ true → list_all (is_plain rs) later ≡ true
       → is_chain rs job later last ≡ true → (w : Waiting rs job) (v : Waiting rs last) → Rises w v
   rises-chain job [] last plain all h w v = rises-linked job last (link rs job last waits plain h) w v
@@ -186,6 +198,7 @@ module _ (rs : List Request) (ordered : Pairs Ordered (claims rs)) (waits : Wait
       rises-on rs job k last w u v (rises-linked job k (link rs job k waits plain parts.0) w u)
       (rises-chain k later last plains.0 plains.1 parts.1 u v)
 
+  -- but none is above itself
   never-above : (job : ℕ) (w : Waiting rs job) → Rises w w → ⊥
   never-above job w (inl a) = omega arith
   never-above job w (inr a) = omega (arith, a.1)

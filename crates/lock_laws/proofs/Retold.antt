@@ -11,9 +11,11 @@ use Rattle.lock_laws.proofs.Lists.{Has}
 -- the same requests in the same places, but for what their jobs were told
 pub data Retold : List Request → List Request → Type 0 where
   none : Retold [] []
-  next : {before after : List Request} (r q : Request) → q.job ≡ r.job → q.kind ≡ r.kind → q.wants.items ≡ r.wants.items → Retold before after
+  next : {before after : List Request} (r q : Request) → q.job ≡ r.job → q.kind ≡ r.kind
+      → q.wants.items ≡ r.wants.items → Retold before after
       → Retold (r ∷ before) (q ∷ after)
 
+-- nothing is told, and what was told is taken back
 pub Retold-same : (rs : List Request) → Retold rs rs
 Retold-same [] = none
 Retold-same (r ∷ rs) = next r r refl refl refl (Retold-same rs)
@@ -22,6 +24,7 @@ pub Retold-back : {before after : List Request} → Retold before after → Reto
 Retold-back none = none
 Retold-back (next r q j k w s) = next q r (sym j) (sym k) (sym w) (Retold-back s)
 
+-- one job is told
 pub Retold-told : (test : List Request → Request → Bool) (e rs : List Request) → Retold rs (told_behind test e rs)
 Retold-told test e [] = none
 Retold-told test e (r ∷ rs) =
@@ -30,6 +33,7 @@ Retold-told test e (r ∷ rs) =
       | false ↦ next r r refl refl refl (Retold-told test (e ++ r ∷ []) rs)
     ]
 
+-- claims, wants, their number and their jobs are as they were
 pub Retold-claims : {before after : List Request} → Retold before after → claims after ≡ claims before
 Retold-claims none = refl
 Retold-claims (next {before} {after} r q j k w s) =
@@ -44,13 +48,15 @@ pub Retold-length : {before after : List Request} → Retold before after → le
 Retold-length none = refl
 Retold-length (next r q j k w s) = omega (arith, Retold-length s)
 
-pub Retold-jobs : {before after : List Request} → Retold before after → (q : Request) → Has after q → (r : Request) × Has before r × (q.job ≡ r.job)
+pub Retold-jobs : {before after : List Request} → Retold before after → (q : Request) → Has after q
+    → (r : Request) × Has before r × (q.job ≡ r.job)
 Retold-jobs none q h = absurd h
 Retold-jobs (next r p j k w s) q (inl e) = (r, inl refl, ap (λ (u : Request). u.job) (sym e) ∙ j)
 Retold-jobs (next r p j k w s) q (inr h) = let o = Retold-jobs s q h in (o.0, inr o.1, o.2)
 
 -- a grant rests on wants alone
-granted_behind-retold : (a b : List Request) (q r : Request) → all_wants a ≡ all_wants b → q.wants.items ≡ r.wants.items → granted_behind a q ≡ granted_behind b r
+granted_behind-retold : (a b : List Request) (q r : Request) → all_wants a ≡ all_wants b
+    → q.wants.items ≡ r.wants.items → granted_behind a q ≡ granted_behind b r
 granted_behind-retold a b q r e f =
     ap (λ l. list_all (λ w. fits_beside (filter (λ v. same_key v.key w.key) l) w w.pool) q.wants.items) e ∙ ap (list_all (fits b)) f
 
@@ -67,6 +73,7 @@ pub record Place (after a : List Request) (r : Request) (b : List Request) : Typ
   pub front : Retold a earlier
   pub rest : Retold b later
 
+-- the same behind one more request
 place-from : (x y : Request) (after a : List Request) (r : Request) (b : List Request) → y.job ≡ x.job → y.kind ≡ x.kind
     → y.wants.items ≡ x.wants.items → Place after a r b → Place (y ∷ after) (x ∷ a) r b
 place-from x y after a r b j k w o =
@@ -84,7 +91,8 @@ place-from x y after a r b j k w o =
       rest = o.rest;
     }
 
-pub Retold-place : {before after : List Request} → Retold before after → (a b : List Request) (r : Request) → before ≡ a ++ r ∷ b → Place after a r b
+pub Retold-place : {before after : List Request} → Retold before after → (a b : List Request) (r : Request)
+    → before ≡ a ++ r ∷ b → Place after a r b
 Retold-place none [] b r is = absurd (cc)
 Retold-place none (x ∷ a) b r is = absurd (cc)
 Retold-place (next {before} {after} p q j k w s) [] b r is =

@@ -27,14 +27,16 @@ pub record Changes (before : List Request) (f : Request → Request) : Type 0 wh
   pub kind : (r : Request) → (f r).kind ≡ r.kind
   pub named : (r : Request) (key : Key) → names r.wants.items key ≡ true → names (f r).wants.items key ≡ true
   pub claims : Pairs Ordered (claims before) → Pairs Ordered (claims (map f before))
-  pub kept : (a b : List Request) (r : Request) → before ≡ a ++ r ∷ b → granted_behind a r ≡ true → granted_behind (map f a) (f r) ≡ true
+  pub kept : (a b : List Request) (r : Request) → before ≡ a ++ r ∷ b → granted_behind a r ≡ true
+      → granted_behind (map f a) (f r) ≡ true
 
 -- the job's requests lose wants or leave, and so do requests without wants
 pub data Releases (job : ℕ) : List Request → List Request → Type 0 where
   none : Releases job [] []
   gone : {before after : List Request} (r : Request) → (r.job ≡ job) ⊎ (r.wants.items ≡ []) → Releases job before after
       → Releases job (r ∷ before) after
-  kept : {before after : List Request} (r q : Request) → q.job ≡ r.job → q.kind ≡ r.kind → Sub q.wants.items r.wants.items
+  kept : {before after : List Request} (r q : Request) → q.job ≡ r.job → q.kind ≡ r.kind
+      → Sub q.wants.items r.wants.items
       → (r.job ≡ job) ⊎ (q ≡ r) → Releases job before after → Releases job (r ∷ before) (q ∷ after)
 
 -- what a call does that is no dequeue
@@ -44,7 +46,9 @@ pub data Grows (job : ℕ) (before after : List Request) : Type 0 where
   changes : (f : Request → Request) → after ≡ map f before → Changes before f → Grows job before after
 
 module _ (job : ℕ) where
-  pub Releases-wants : {before after : List Request} → Releases job before after → Sub (all_wants after) (all_wants before)
+  -- what is left is part of what was there
+  pub Releases-wants : {before after : List Request} → Releases job before after
+      → Sub (all_wants after) (all_wants before)
   Releases-wants none = nil
   Releases-wants (gone r why s) = Sub-append (Sub-none r.wants.items) (Releases-wants s)
   Releases-wants (kept r q j k f why s) = Sub-append f (Releases-wants s)
@@ -73,23 +77,30 @@ module _ (job : ℕ) where
     pub fewer : Sub (all_wants a) (all_wants earlier)
     pub rest : Releases job later b
 
-  pub Releases-source : {before after : List Request} → Releases job before after → (a b : List Request) (q : Request) → after ≡ a ++ q ∷ b
+  -- the same behind one more request
+  source-behind : (before a front b : List Request) (q r : Request)
+      → ((e : List Request) → Sub (all_wants a) (all_wants e) → Sub (all_wants front) (r.wants.items ++ all_wants e))
+      → Source before a q b
+      → Source (r ∷ before) front q b
+  source-behind before a front b q r fewer o = record {
+    earlier = r ∷ o.earlier;
+    request = o.request;
+    later = o.later;
+    is = ap (λ l. r ∷ l) o.is;
+    by = o.by;
+    kind = o.kind;
+    wants = o.wants;
+    fewer = fewer o.earlier o.fewer;
+    rest = o.rest;
+  }
+
+  pub Releases-source : {before after : List Request} → Releases job before after → (a b : List Request) (q : Request)
+      → after ≡ a ++ q ∷ b
       → Source before a q b
   Releases-source none [] b q is = cc
   Releases-source none (x ∷ a) b q is = cc
-  Releases-source (gone r why s) a b q is =
-      let o = Releases-source s a b q is in
-      record {
-        earlier = r ∷ o.earlier;
-        request = o.request;
-        later = o.later;
-        is = ap (λ l. r ∷ l) o.is;
-        by = o.by;
-        kind = o.kind;
-        wants = o.wants;
-        fewer = Sub-append (Sub-none r.wants.items) o.fewer;
-        rest = o.rest;
-      }
+  Releases-source (gone {before} r why s) a b q is =
+      source-behind before a a b q r (λ e fewer. Sub-append (Sub-none r.wants.items) fewer) (Releases-source s a b q is)
   Releases-source (kept {before} {after} r p j k f why s) [] b q is =
       let same : p ≡ q = cc in
       let rest : after ≡ b = cc in
@@ -107,18 +118,8 @@ module _ (job : ℕ) where
   Releases-source (kept {before} {after} r p j k f why s) (x ∷ a) b q is =
       let same : p ≡ x = cc in
       let rest : after ≡ a ++ q ∷ b = cc in
-      let o = Releases-source s a b q rest in
-      record {
-        earlier = r ∷ o.earlier;
-        request = o.request;
-        later = o.later;
-        is = ap (λ l. r ∷ l) o.is;
-        by = o.by;
-        kind = o.kind;
-        wants = o.wants;
-        fewer = Sub-append (subst (λ u. Sub u.wants.items r.wants.items) same f) o.fewer;
-        rest = o.rest;
-      }
+      let wants : Sub x.wants.items r.wants.items = subst (λ u. Sub u.wants.items r.wants.items) same f in
+      source-behind before a (x ∷ a) b q r (λ e fewer. Sub-append wants fewer) (Releases-source s a b q rest)
 
   -- where another job's request that is left goes
   pub record Target (a : List Request) (r : Request) (after : List Request) : Type 0 where
@@ -127,7 +128,8 @@ module _ (job : ℕ) where
     pub is : after ≡ earlier ++ r ∷ later
     pub fewer : Sub (all_wants earlier) (all_wants a)
 
-  pub Releases-target : {before after : List Request} → Releases job before after → (a b : List Request) (r : Request) → before ≡ a ++ r ∷ b
+  pub Releases-target : {before after : List Request} → Releases job before after → (a b : List Request) (r : Request)
+      → before ≡ a ++ r ∷ b
       → r.job ≢ job → r.wants.items ≢ [] → Target a r after
   Releases-target none [] b r is other some = cc
   Releases-target none (x ∷ a) b r is other some = cc
@@ -156,7 +158,8 @@ module _ (job : ℕ) where
       }
 
   -- the later requests that are left are of the same jobs
-  pub Releases-jobs : {before after : List Request} → Releases job before after → (q : Request) → Has after q → (r : Request) × Has before r × (q.job ≡ r.job)
+  pub Releases-jobs : {before after : List Request} → Releases job before after → (q : Request) → Has after q
+      → (r : Request) × Has before r × (q.job ≡ r.job)
   Releases-jobs none q h = absurd h
   Releases-jobs (gone r why s) q h = let o = Releases-jobs s q h in (o.0, inr o.1, o.2)
   Releases-jobs (kept r p j k f why s) q (inl e) = (r, inl refl, ap (λ (u : Request). u.job) (sym e) ∙ j)

@@ -7,6 +7,7 @@ use Rattle.lock_queue.specs.declared.status.Status.{Status}
 use Rattle.lock_queue.specs.StatusWords.{status_of, left_bit, count_word}
 use Rattle.lock_laws.specs.Safe.{ToldAlike}
 
+-- a word is the asker's two bits and the rest
 parted : (x y c l r : ℕ) → (x + y + c + l) * 2 ^ 18 + r ≡ ((x + y) * 2 ^ 18 + 0) + ((c + l) * 2 ^ 18 + r)
 parted x y c l r = omega arith
 
@@ -17,6 +18,7 @@ bit_three false = omega arith
 common-below : (c l r : ℕ) → c ≤ 2 ^ 14 → l < 2 ^ 9 → r < 2 ^ 18 → (c + l) * 2 ^ 18 + r < 2 ^ 33
 common-below c l r hc hl hr = omega arith
 
+-- the rest is the same for all askers
 pub told_alike : (requests : List Request) (key : Key) → ToldAlike requests key
 told_alike requests key =
     let s : Status = status_of requests key 0 in

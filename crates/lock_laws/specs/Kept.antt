@@ -12,7 +12,8 @@ use Rattle.lock_laws.specs.Safe.{Safe}
 
 -- safe requests stay safe
 pub record SafetyIsKept : Type 0 where
-  pub by_calls : (requests : List Request) (job : ℕ) (call : LockCall) → Safe requests → Safe (outcome_of requests job call).requests
+  pub by_calls : (requests : List Request) (job : ℕ) (call : LockCall) → Safe requests
+      → Safe (outcome_of requests job call).requests
   pub by_releases : (requests : List Request) (job : ℕ) → Safe requests → Safe (released requests job)
   pub by_withdrawals : (requests : List Request) (job : ℕ) → Safe requests → Safe (withdrawn requests job)
   pub by_telling : (requests : List Request) (job : ℕ) → Safe requests → Safe (told_of requests job)
@@ -29,10 +30,12 @@ pub record OwnersAreKept : Type 0 where
 
 -- a job that makes no call while it waits waits by its latest request
 pub record LatestIsKept : Type 0 where
-  pub by_calls : (requests : List Request) (job : ℕ) (call : LockCall) → is_waiting_job requests job ≡ false → WaitsByLatest requests
+  pub by_calls : (requests : List Request) (job : ℕ) (call : LockCall) → is_waiting_job requests job ≡ false
+      → WaitsByLatest requests
       → WaitsByLatest (outcome_of requests job call).requests
   pub by_releases : (requests : List Request) (job : ℕ) → WaitsByLatest requests → WaitsByLatest (released requests job)
-  pub by_withdrawals : (requests : List Request) (job : ℕ) → WaitsByLatest requests → WaitsByLatest (withdrawn requests job)
+  pub by_withdrawals : (requests : List Request) (job : ℕ) → WaitsByLatest requests
+      → WaitsByLatest (withdrawn requests job)
   pub by_telling : (requests : List Request) (job : ℕ) → WaitsByLatest requests → WaitsByLatest (told_of requests job)
 
 -- where the requests are safe and jobs wait by their latest ones, plain jobs make no circle

@@ -26,7 +26,8 @@ PoolsSuffice requests =
 -- a request owns all of its keys or none
 abbrev pub AllOrNone : List Request → Type 0
 AllOrNone requests =
-    (r : Request) (key other : Key) → Contains (owners requests key) r → names r.wants.items other ≡ true → Contains (owners requests other) r
+    (r : Request) (key other : Key) → Contains (owners requests key) r → names r.wants.items other ≡ true
+    → Contains (owners requests other) r
 
 -- of the wants of a key those that fit stand in front: where a want does not fit, no later one of its key fits
 abbrev pub FitsInFront : List Request → Type 0
@@ -39,7 +40,8 @@ FitsInFront requests =
 abbrev pub NoOvertaking : List Request → Type 0
 NoOvertaking requests =
     (i j : ℕ) (r s : Request) (w : Want) → i < j → slice_get requests i ≡ Some r → slice_get requests j ≡ Some s
-    → Contains r.wants.items w → fits (take i requests) w ≡ false → names s.wants.items w.key ≡ true → granted requests j ≡ false
+    → Contains r.wants.items w → fits (take i requests) w ≡ false → names s.wants.items w.key ≡ true
+    → granted requests j ≡ false
 
 -- what word 0 of a status says of the asker: bit 1 that it owns the key, and bit 2 that it waits for it
 abbrev pub asker_bits : Status → ℕ
@@ -50,7 +52,8 @@ pub record ToldAlike (requests : List Request) (key : Key) : Type 0 where
   pub first : ℕ
   pub second : ℕ
   pub third : ℕ
-  pub words : (asker : ℕ) → words_of (status_of requests key asker) ≡ (asker_bits (status_of requests key asker) + first) ∷ second ∷ third ∷ []
+  pub words : (asker : ℕ)
+      → words_of (status_of requests key asker) ≡ (asker_bits (status_of requests key asker) + first) ∷ second ∷ third ∷ []
   -- what is common to all has bits 0 to 2 clear, where a level has 9 bits and a job's number 18
   pub below : level_of requests key < 2 ^ 9 → unwrap_or (first_job (owners requests key)) 0 < 2 ^ 18 → first < 2 ^ 33
 

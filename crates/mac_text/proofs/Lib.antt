@@ -1,0 +1,5 @@
+pub mod NaturalLemmas
+pub mod ItemLemmas
+pub mod AsciiLemmas
+pub mod LineLemmas
+pub mod SourceLemmas

@@ -1,0 +1,8 @@
+use Rattle.std.proofs.Common.{◌≡◌, drop}
+use Rattle.mac_text.specs.Lines.{literals_of}
+use Rattle.mac_text.proofs.LineLemmas.{with_earlier, texts_of}
+use Rattle.mac_text.proofs.line.literals.Given as goal
+
+-- the statements so far and those to come are all
+abbrev pub invariant-loop-text : goal.invariant-loop-text
+invariant-loop-text l = with_earlier l.literals (literals_of l.radix (texts_of (drop l.text-index l.texts))) ≡ literals_of l.radix (texts_of l.texts)

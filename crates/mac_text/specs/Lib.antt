@@ -1,0 +1,10 @@
+pub mod Limbs
+pub mod Characters
+pub mod Names
+pub mod Scan
+pub mod Numbers
+pub mod Keywords
+pub mod Texts
+pub mod Expressions
+pub mod Statements
+pub mod Lines

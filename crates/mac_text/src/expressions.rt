@@ -1,0 +1,161 @@
+//! Numbers, terms and expressions.
+
+ghost use Rattle.std.specs.Prelude.{◌≡◌, ◌++◌, [], ◌∷◌, length};
+ghost use Rattle.mac_text.specs.Scan.{Gives, with_front, items_at};
+ghost use Rattle.mac_text.specs.Names.{is_name};
+ghost use Rattle.mac_text.specs.Expressions.{word_term_at, marked_at, literal_at, term_at, sign_at, signed_at, next_term_at, expression_at, optional_at};
+
+use crate::characters::is_digit;
+use crate::fault::Fault;
+use crate::numbers::number;
+use crate::scanner::Scanner;
+use crate::sequence::Sequence;
+use crate::symbol::Symbol;
+use crate::syntax::{Expression, Sign, SignedTerm, Term};
+use crate::texts::literal_len;
+
+/// Whether a run of letters, digits and the like is a name: it begins with no digit and is not the point alone.
+pub fn is_name(word: &[u8]) -> bool
+    ensures { result ≡ is_name word.now }
+{
+    match word {
+        [] => false,
+        [only] => !is_digit(*only) && *only != b'.',
+        [first, ..] => !is_digit(*first),
+    }
+}
+
+/// A label, the point or a number.
+#[tactic(auto, unfolding(crate::specs::Expressions::word_term_at))]
+fn word_term(scan: &mut Scanner<'_>) -> Result<Term, Fault>
+    ensures { Gives (λ x. (x, scan.new)) result (word_term_at scan.old) }
+{
+    let word = scan.word();
+    let term = if is_name(word) {
+        Term::Label(Symbol::of(word))
+    } else if word == b".".as_slice() {
+        Term::Here
+    } else {
+        Term::Number(number(scan.alloc(), scan.radix(), word)?)
+    };
+    scan.advance(word.len());
+    Ok(term)
+}
+
+/// What follows `^`: `D` or `O` and a number of that radix.
+#[tactic(auto, unfolding(crate::specs::Expressions::marked_at))]
+fn marked_number(scan: &mut Scanner<'_>) -> Result<Term, Fault>
+    ensures { Gives (λ x. (x, scan.new)) result (marked_at scan.old) }
+{
+    let radix = match scan.head() {
+        Some(b'D' | b'd') => 10,
+        Some(b'O' | b'o') => 8,
+        _ => return Err(Fault::Syntax),
+    };
+    scan.advance(1);
+    let digits = scan.word();
+    let value = number(scan.alloc(), radix, digits)?;
+    scan.advance(digits.len());
+    Ok(Term::Number(value))
+}
+
+/// What follows `[`: a literal's text, which is cut out, and its bracket. A literal holds none itself.
+#[tactic(auto, unfolding(crate::specs::Expressions::literal_at))]
+fn literal(scan: &mut Scanner<'_>) -> Result<Term, Fault>
+    ensures { Gives (λ x. (x, scan.new)) result (literal_at scan.old) }
+{
+    if scan.is_in_literal() {
+        return Err(Fault::Syntax);
+    }
+    match literal_len(scan.rest()) {
+        None => Err(Fault::Syntax),
+        Some(len) => Ok(Term::Literal(scan.cut(len)?)),
+    }
+}
+
+#[tactic(auto, unfolding(crate::specs::Expressions::term_at))]
+fn term(scan: &mut Scanner<'_>) -> Result<Term, Fault>
+    ensures { Gives (λ x. (x, scan.new)) result (term_at scan.old) }
+{
+    if scan.eat(b'[') {
+        literal(scan)
+    } else if scan.eat(b'^') {
+        marked_number(scan)
+    } else {
+        word_term(scan)
+    }
+}
+
+/// The sign that comes next, if one does.
+#[tactic(auto, unfolding(crate::specs::Expressions::sign_at))]
+fn sign(scan: &mut Scanner<'_>) -> Option<Sign>
+    ensures value { result ≡ (sign_at scan.old).0 }
+    ensures rest { scan.new ≡ (sign_at scan.old).1 }
+{
+    if scan.eat(b'+') {
+        Some(Sign::Plus)
+    } else if scan.eat(b'-') {
+        Some(Sign::Minus)
+    } else {
+        None
+    }
+}
+
+#[tactic(auto, unfolding(crate::specs::Expressions::signed_at))]
+fn signed_term(sign: Sign, scan: &mut Scanner<'_>) -> Result<SignedTerm, Fault>
+    ensures { Gives (λ x. (x, scan.new)) result (signed_at sign scan.old) }
+{
+    let term = term(scan)?;
+    Ok(SignedTerm { sign, term })
+}
+
+/// The next term behind its sign, if a sign comes next.
+#[tactic(auto, unfolding(crate::specs::Expressions::next_term_at))]
+fn next_term(scan: &mut Scanner<'_>) -> Result<Option<SignedTerm>, Fault>
+    ensures { Gives (λ x. (x, scan.new)) result (next_term_at scan.old) }
+{
+    match sign(scan) {
+        None => Ok(None),
+        Some(sign) => Ok(Some(signed_term(sign, scan)?)),
+    }
+}
+
+/// Terms, each behind its sign.
+fn more_terms(scan: &mut Scanner<'_>, expression: &mut Expression) -> Result<(), Fault>
+    ensures { Gives (λ _. (expression.new, scan.new)) result
+        (with_front expression.old (items_at next_term_at (length scan.old.rest) scan.old)) }
+{
+    let most = scan.len();
+    for _ in 0..most {
+        match next_term(scan)? {
+            None => return Ok(()),
+            Some(term) => expression.push(term)?,
+        }
+    }
+    Ok(())
+}
+
+/// An expression: a sign or none, and terms joined by signs.
+#[tactic(auto, unfolding(crate::specs::Expressions::expression_at))]
+pub fn expression(scan: &mut Scanner<'_>) -> Result<Expression, Fault>
+    ensures { Gives (λ x. (x, scan.new)) result (expression_at scan.old) }
+{
+    let sign = sign(scan).unwrap_or(Sign::Plus);
+    let first = signed_term(sign, scan)?;
+    let mut expression = Sequence::new(scan.alloc());
+    expression.push(first)?;
+    more_terms(scan, &mut expression)?;
+    Ok(expression)
+}
+
+/// An expression, if one comes next.
+#[tactic(auto, unfolding(crate::specs::Expressions::optional_at))]
+pub fn optional_expression(scan: &mut Scanner<'_>) -> Result<Option<Expression>, Fault>
+    ensures { Gives (λ x. (x, scan.new)) result (optional_at scan.old) }
+{
+    if scan.is_at_expression() {
+        Ok(Some(expression(scan)?))
+    } else {
+        Ok(None)
+    }
+}

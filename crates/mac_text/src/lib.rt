@@ -1,0 +1,27 @@
+//! The language of the assembler, a subset of MACRO-10: from the bytes of a source to its statements.
+#![tactic(auto)]
+
+mod characters;
+mod expressions;
+mod fault;
+mod keyword;
+mod line;
+mod natural;
+mod numbers;
+mod scanner;
+mod sequence;
+mod source;
+mod statements;
+mod symbol;
+mod syntax;
+mod texts;
+
+pub use fault::ParseError;
+pub use natural::Natural;
+pub use sequence::Sequence;
+pub use source::parse;
+pub use symbol::Symbol;
+pub use syntax::{
+    Data, Expression, Instruction, Line, Operand, Program, Sign, SignedTerm, Statement, Term,
+    TextForm,
+};

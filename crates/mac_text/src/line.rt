@@ -1,0 +1,170 @@
+//! Lines.
+
+ghost use Rattle.std.specs.Prelude.{◌≡◌, ◌≤◌, Some, length, map};
+ghost use Rattle.std.specs.List.{list_all};
+ghost use Rattle.mac_text.specs.Scan.{Gives, with_front, items_at};
+ghost use Rattle.mac_text.specs.Lines.{is_ascii, next_label_at, optional_statement_at, whole_statement_at, gives_words, literal_of, literals_of, line_of, radix_after, is_end};
+
+use crate::expressions::is_name;
+use crate::fault::Fault;
+use crate::scanner::Scanner;
+use crate::sequence::Sequence;
+use crate::statements::statement;
+use crate::symbol::Symbol;
+use crate::syntax::{Data, Line, Statement, TextForm};
+use std::alloc::Global;
+
+/// The next label, if one comes next: a name with a colon right behind it.
+#[tactic(auto, unfolding(crate::specs::Lines::next_label_at))]
+fn next_label(scan: &mut Scanner<'_>) -> Option<Symbol>
+    ensures { next_label_at scan.old ≡ Some (result, scan.new) }
+{
+    scan.skip();
+    let word = scan.word();
+    if is_name(word) && scan.is_followed_by_colon() {
+        scan.advance(word.len() + 1);
+        Some(Symbol::of(word))
+    } else {
+        None
+    }
+}
+
+/// The labels at the head of a line.
+fn labels(scan: &mut Scanner<'_>) -> Result<Sequence<Symbol>, Fault>
+    ensures { Gives (λ x. (x, scan.new)) result (items_at next_label_at (length scan.old.rest) scan.old) }
+{
+    let mut labels = Sequence::new(scan.alloc());
+    let most = scan.len();
+    for _ in 0..most {
+        match next_label(scan) {
+            None => return Ok(labels),
+            Some(label) => labels.push(label)?,
+        }
+    }
+    Ok(labels)
+}
+
+/// The statement of a line, if there is one.
+#[tactic(auto, unfolding(crate::specs::Lines::optional_statement_at))]
+fn optional_statement(scan: &mut Scanner<'_>) -> Result<Option<Statement>, Fault>
+    ensures { Gives (λ x. (x, scan.new)) result (optional_statement_at scan.old) }
+{
+    if scan.is_at_end() {
+        Ok(None)
+    } else {
+        Ok(Some(statement(scan)?))
+    }
+}
+
+/// The statement of a line, if there is one, with nothing behind it but a comment.
+#[tactic(auto, unfolding(crate::specs::Lines::whole_statement_at))]
+fn whole_statement(scan: &mut Scanner<'_>) -> Result<Option<Statement>, Fault>
+    ensures { Gives (λ x. (x, scan.new)) result (whole_statement_at scan.old) }
+{
+    let statement = optional_statement(scan)?;
+    if scan.is_at_end() {
+        Ok(statement)
+    } else {
+        Err(Fault::Syntax)
+    }
+}
+
+/// Whether a statement gives at least one word, as far as its form tells.
+#[tactic(auto, unfolding(crate::specs::Lines::gives_words))]
+fn gives_words(data: &Data) -> bool
+    ensures { result ≡ gives_words data.now }
+{
+    match data {
+        Data::Text(TextForm::Ascii | TextForm::Sixbit, text) => !text.as_slice().is_empty(),
+        _ => true,
+    }
+}
+
+/// The statement in a literal.
+#[tactic(auto, unfolding(crate::specs::Lines::literal_of))]
+fn literal(alloc: Global, radix: u8, text: &[u8]) -> Result<Data, Fault>
+    requires { radix ≤ 10 }
+    ensures { Gives (λ x. x) result (literal_of radix text.now) }
+{
+    let mut scan = Scanner::new(alloc, radix, true, text);
+    let statement = statement(&mut scan)?;
+    if !scan.is_at_end() {
+        return Err(Fault::Syntax);
+    }
+    match statement {
+        Statement::Data(data) => {
+            if gives_words(&data) {
+                Ok(data)
+            } else {
+                Err(Fault::Syntax)
+            }
+        }
+        _ => Err(Fault::Syntax),
+    }
+}
+
+/// The statements in the literals of a line.
+fn literals(alloc: Global, radix: u8, texts: &[&[u8]]) -> Result<Sequence<Data>, Fault>
+    requires { radix ≤ 10 }
+    ensures { Gives (λ x. x) result (literals_of radix (map (λ text. text.now) texts.now)) }
+{
+    let mut literals = Sequence::new(alloc);
+    for text in texts {
+        literals.push(literal(alloc, radix, text)?)?;
+    }
+    Ok(literals)
+}
+
+fn is_ascii(text: &[u8]) -> bool
+    ensures { result ≡ list_all is_ascii text.now }
+{
+    text.iter().all(|c| *c < 128)
+}
+
+/// What stands on a line.
+#[tactic(auto, unfolding(crate::specs::Lines::line_of))]
+pub fn line(alloc: Global, radix: u8, text: &[u8]) -> Result<Line, Fault>
+    requires { radix ≤ 10 }
+    ensures { Gives (λ x. x) result (line_of radix text.now) }
+{
+    if !is_ascii(text) {
+        return Err(Fault::Syntax);
+    }
+    let mut scan = Scanner::new(alloc, radix, false, text);
+    let labels = labels(&mut scan)?;
+    let statement = whole_statement(&mut scan)?;
+    let literals = literals(alloc, radix, scan.cuts())?;
+    Ok(Line {
+        labels,
+        statement,
+        literals,
+    })
+}
+
+/// The radix of the numbers on the lines behind this one.
+pub fn radix_after(line: &Line, radix: u8) -> u8
+    requires { radix ≤ 10 }
+    ensures value { result ≡ radix_after line.now radix }
+    ensures most { result ≤ 10 }
+{
+    match &line.statement {
+        Some(Statement::Radix(number)) => match number.to_u64() {
+            Some(number) => {
+                if number >= 2 && number <= 10 {
+                    number as u8
+                } else {
+                    radix
+                }
+            }
+            None => radix,
+        },
+        _ => radix,
+    }
+}
+
+/// Whether the line ends the source.
+pub fn is_end(line: &Line) -> bool
+    ensures { result ≡ is_end line.now }
+{
+    matches!(&line.statement, Some(Statement::End(_)))
+}

@@ -1,0 +1,217 @@
+//! A line as it is read from left to right.
+
+ghost use Rattle.std.specs.Prelude.{◌≡◌, ◌<◌, ◌≤◌, List, [], ◌∷◌, ◌++◌, map, Some, None, Bool, true, false, IsTrue, length};
+ghost use Rattle.mac_text.specs.Scan.{Gives, Scan, skipped, head_of, begins_with, meets, eaten, word_of, take_cut, begins_expression, is_at_end, without, meets_commas, commas_eaten, comment_of};
+ghost use Rattle.std.specs.Str.{IsAscii};
+ghost use Rattle.mac_text.specs.Texts.{take_text, after_word};
+
+use crate::characters::{blanks_len, is_name_character, title_len, word_len};
+use crate::fault::Fault;
+use crate::texts::text_of;
+use std::alloc::Global;
+use std::marker::Model;
+
+/// What is left to read of a line, and the literals that were cut out of it so far.
+#[derive(Drop)]
+pub struct Scanner<'a> {
+    alloc: Global,
+    radix: u8,
+    in_literal: bool,
+    rest: &'a [u8],
+    cuts: Vec<&'a [u8]>,
+}
+
+impl<'a> Model for Scanner<'a> {
+    ghost use Rattle.std.specs.Prelude.{map, ◌≤◌};
+    ghost use Rattle.mac_text.specs.Scan.{Scan};
+
+    ghost Value = { Scan };
+
+    ghost view = { λ s. record { radix = s.radix; in_literal = s.in_literal; cuts = map (λ cut. cut.now) s.cuts.items; rest = s.rest.now } };
+
+    ghost invariant = { λ s. s.radix ≤ 10 };
+}
+
+impl<'a> Scanner<'a> {
+    pub fn new(alloc: Global, radix: u8, in_literal: bool, text: &'a [u8]) -> Self
+        requires { radix ≤ 10 }
+        ensures { result ≡ record { radix = radix; in_literal = in_literal; cuts = []; rest = text.now } }
+    {
+        Scanner {
+            alloc,
+            radix,
+            in_literal,
+            rest: text,
+            cuts: Vec::new(alloc),
+        }
+    }
+
+    pub fn alloc(&self) -> Global {
+        self.alloc
+    }
+
+    /// The radix of numbers.
+    pub fn radix(&self) -> u8
+        ensures value { result ≡ self.now.radix }
+        ensures most { result ≤ 10 }
+    {
+        self.radix
+    }
+
+    /// Whether the text is that of a literal.
+    pub fn is_in_literal(&self) -> bool
+        ensures { result ≡ self.now.in_literal }
+    {
+        self.in_literal
+    }
+
+    /// How many bytes are left.
+    pub fn len(&self) -> usize
+        ensures { result ≡ length self.now.rest }
+    {
+        self.rest.len()
+    }
+
+    /// Goes over blanks.
+    pub fn skip(&mut self)
+        ensures { self.new ≡ skipped self.old }
+    {
+        let rest = self.rest;
+        self.rest = &rest[blanks_len(rest)..];
+    }
+
+    /// The next byte.
+    pub fn head(&self) -> Option<u8>
+        ensures { result ≡ head_of self.now.rest }
+    {
+        self.rest.first().copied()
+    }
+
+    /// Goes over blanks, and over the byte where it comes next.
+    pub fn eat(&mut self, byte: u8) -> bool
+        ensures met { result ≡ meets byte self.old }
+        ensures rest { self.new ≡ eaten byte self.old }
+    {
+        self.skip();
+        let rest = self.rest;
+        let met = !rest.is_empty() && rest[0] == byte;
+        if met {
+            self.rest = &rest[1..];
+        }
+        met
+    }
+
+    /// The letters, digits and the like that come next.
+    #[tactic(auto, using(crate::proofs::AsciiLemmas::word_is_ascii))]
+    pub fn word(&self) -> &'a [u8]
+        ensures value { result.now ≡ word_of self.now.rest }
+        ensures ascii { IsAscii result.now }
+    {
+        let rest = self.rest;
+        &rest[..word_len(rest)]
+    }
+
+    /// Whether a colon stands right behind the word that comes next.
+    pub fn is_followed_by_colon(&self) -> bool
+        ensures colon { result ≡ begins_with 58 (after_word self.now.rest) }
+        ensures more { IsTrue result → length (word_of self.now.rest) < length self.now.rest }
+    {
+        let rest = self.rest;
+        let len = word_len(rest);
+        len < rest.len() && rest[len] == b':'
+    }
+
+    /// Goes over so many bytes.
+    pub fn advance(&mut self, n: usize)
+        requires { n ≤ length self.old.rest }
+        ensures { self.new ≡ without n self.old }
+    {
+        let rest = self.rest;
+        self.rest = &rest[n..];
+    }
+
+    /// What is left.
+    pub fn rest(&self) -> &'a [u8]
+        ensures { result.now ≡ self.now.rest }
+    {
+        self.rest
+    }
+
+    /// Cuts out the text of a literal, of so many bytes, and goes over it and the bracket behind it.
+    pub fn cut(&mut self, n: usize) -> Result<usize, Fault>
+        requires { n < length self.old.rest }
+        ensures { Gives (λ at. (at, self.new)) result (Some (take_cut n self.old)) }
+    {
+        let rest = self.rest;
+        let at = self.cuts.len();
+        self.cuts.push(&rest[..n])?;
+        self.rest = &rest[n + 1..];
+        Ok(at)
+    }
+
+    /// Goes over blanks, and over two commas where they come next with nothing between them.
+    pub fn eat_commas(&mut self) -> bool
+        ensures met { result ≡ meets_commas self.old }
+        ensures rest { self.new ≡ commas_eaten self.old }
+    {
+        self.skip();
+        let rest = self.rest;
+        let met = rest.len() >= 2 && rest[0] == b',' && rest[1] == b',';
+        if met {
+            self.rest = &rest[2..];
+        }
+        met
+    }
+
+    /// Goes over a text between two equal characters, and gives it.
+    pub fn text(&mut self) -> Result<&'a [u8], Fault>
+        ensures { Gives (λ x. (x.now, self.new)) result (take_text self.old) }
+    {
+        match text_of(self.rest) {
+            None => Err(Fault::Syntax),
+            Some((text, behind)) => {
+                self.rest = behind;
+                Ok(text)
+            }
+        }
+    }
+
+    /// Goes on to the comment, or to the end.
+    pub fn skip_to_comment(&mut self)
+        ensures { self.new ≡ comment_of self.old }
+    {
+        let rest = self.rest;
+        self.rest = &rest[title_len(rest)..];
+    }
+
+    /// The literals so far.
+    pub fn cuts(&self) -> &[&'a [u8]]
+        ensures { map (λ cut. cut.now) result.now ≡ self.now.cuts }
+    {
+        self.cuts.as_slice()
+    }
+
+    /// Whether an expression comes next.
+    pub fn is_at_expression(&mut self) -> bool
+        ensures is { result ≡ begins_expression (skipped self.old).rest }
+        ensures rest { self.new ≡ skipped self.old }
+    {
+        self.skip();
+        match self.head() {
+            None => false,
+            Some(c) => c == b'+' || c == b'-' || c == b'^' || c == b'[' || is_name_character(c),
+        }
+    }
+
+    /// Whether nothing is left but a comment.
+    pub fn is_at_end(&mut self) -> bool
+        ensures is { result ≡ is_at_end self.old.in_literal (skipped self.old).rest }
+        ensures rest { self.new ≡ skipped self.old }
+    {
+        self.skip();
+        match self.head() {
+            None => true,
+            Some(c) => c == b';' && !self.in_literal,
+        }
+    }
+}

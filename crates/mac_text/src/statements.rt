@@ -1,0 +1,262 @@
+//! Statements.
+
+ghost use Rattle.std.specs.Prelude.{◌≡◌, IsTrue, length};
+ghost use Rattle.std.specs.Str.{IsAscii};
+ghost use Rattle.mac_text.specs.Scan.{Gives, with_front, items_at};
+ghost use Rattle.mac_text.specs.Statements.{index_at, operand_at, operands_at, is_allowed, instruction_at, pair_at, next_expression_at, expressions_at, decimal_at, point_at, value_at, form_at, operation_of, statement_at};
+
+use crate::expressions::{expression, is_name, optional_expression};
+use crate::fault::Fault;
+use crate::keyword::{Form, form_of};
+use crate::natural::Natural;
+use crate::numbers::number;
+use crate::scanner::Scanner;
+use crate::sequence::Sequence;
+use crate::symbol::folded;
+use crate::syntax::{Data, Expression, Instruction, Operand, Statement};
+use ka_isa::{Named, named};
+
+/// The register of an address part: an expression in parentheses, or nothing.
+#[tactic(auto, unfolding(crate::specs::Statements::index_at))]
+fn index(scan: &mut Scanner<'_>) -> Result<Option<Expression>, Fault>
+    ensures { Gives (λ x. (x, scan.new)) result (index_at scan.old) }
+{
+    if !scan.eat(b'(') {
+        return Ok(None);
+    }
+    let register = expression(scan)?;
+    if !scan.eat(b')') {
+        return Err(Fault::Syntax);
+    }
+    Ok(Some(register))
+}
+
+/// An address part, of which each piece may be missing.
+#[tactic(auto, unfolding(crate::specs::Statements::operand_at))]
+fn operand(scan: &mut Scanner<'_>) -> Result<Operand, Fault>
+    ensures { Gives (λ x. (x, scan.new)) result (operand_at scan.old) }
+{
+    let indirect = scan.eat(b'@');
+    let address = optional_expression(scan)?;
+    let index = index(scan)?;
+    Ok(Operand {
+        indirect,
+        address,
+        index,
+    })
+}
+
+/// The accumulator and the address part of an instruction.
+#[tactic(auto, unfolding(crate::specs::Statements::operands_at))]
+fn operands(scan: &mut Scanner<'_>) -> Result<(Option<Expression>, Operand), Fault>
+    ensures { Gives (λ x. (x, scan.new)) result (operands_at scan.old) }
+{
+    match optional_expression(scan)? {
+        None => Ok((None, operand(scan)?)),
+        Some(first) => {
+            if scan.eat(b',') {
+                return Ok((Some(first), operand(scan)?));
+            }
+            let index = index(scan)?;
+            Ok((
+                None,
+                Operand {
+                    indirect: false,
+                    address: Some(first),
+                    index,
+                },
+            ))
+        }
+    }
+}
+
+/// Whether the name may have what was written behind it.
+fn is_allowed(named: Named, instruction: &Instruction) -> bool
+    ensures { result ≡ is_allowed named instruction.now.accumulator instruction.now.operand }
+{
+    let operand = &instruction.operand;
+    (named.ac || instruction.accumulator.is_none())
+        && (named.addr || !operand.indirect && operand.address.is_none() && operand.index.is_none())
+}
+
+#[tactic(auto, unfolding(crate::specs::Statements::instruction_at))]
+fn instruction(named: Named, scan: &mut Scanner<'_>) -> Result<Instruction, Fault>
+    ensures { Gives (λ x. (x, scan.new)) result (instruction_at named scan.old) }
+{
+    let (accumulator, operand) = operands(scan)?;
+    let instruction = Instruction {
+        word: named.word,
+        accumulator,
+        operand,
+    };
+    if is_allowed(named, &instruction) {
+        Ok(instruction)
+    } else {
+        Err(Fault::Syntax)
+    }
+}
+
+/// Two expressions with a comma between them.
+#[tactic(auto, unfolding(crate::specs::Statements::pair_at))]
+fn pair(scan: &mut Scanner<'_>) -> Result<(Expression, Expression), Fault>
+    ensures { Gives (λ x. (x, scan.new)) result (pair_at scan.old) }
+{
+    let left = expression(scan)?;
+    if !scan.eat(b',') {
+        return Err(Fault::Syntax);
+    }
+    let right = expression(scan)?;
+    Ok((left, right))
+}
+
+/// The next expression behind its comma, if a comma comes next.
+#[tactic(auto, unfolding(crate::specs::Statements::next_expression_at))]
+fn next_expression(scan: &mut Scanner<'_>) -> Result<Option<Expression>, Fault>
+    ensures { Gives (λ x. (x, scan.new)) result (next_expression_at scan.old) }
+{
+    if scan.eat(b',') {
+        Ok(Some(expression(scan)?))
+    } else {
+        Ok(None)
+    }
+}
+
+/// Expressions, each behind its comma.
+fn more_expressions(
+    scan: &mut Scanner<'_>,
+    expressions: &mut Sequence<Expression>,
+) -> Result<(), Fault>
+    ensures { Gives (λ _. (expressions.new, scan.new)) result
+        (with_front expressions.old (items_at next_expression_at (length scan.old.rest) scan.old)) }
+{
+    let most = scan.len();
+    for _ in 0..most {
+        match next_expression(scan)? {
+            None => return Ok(()),
+            Some(expression) => expressions.push(expression)?,
+        }
+    }
+    Ok(())
+}
+
+/// Expressions with commas between them.
+#[tactic(auto, unfolding(crate::specs::Statements::expressions_at))]
+fn expressions(scan: &mut Scanner<'_>) -> Result<Sequence<Expression>, Fault>
+    ensures { Gives (λ x. (x, scan.new)) result (expressions_at scan.old) }
+{
+    let first = expression(scan)?;
+    let mut expressions = Sequence::new(scan.alloc());
+    expressions.push(first)?;
+    more_expressions(scan, &mut expressions)?;
+    Ok(expressions)
+}
+
+/// A number in decimal.
+#[tactic(auto, unfolding(crate::specs::Statements::decimal_at))]
+fn decimal(scan: &mut Scanner<'_>) -> Result<Natural, Fault>
+    ensures { Gives (λ x. (x, scan.new)) result (decimal_at scan.old) }
+{
+    scan.skip();
+    let digits = scan.word();
+    let value = number(scan.alloc(), 10, digits)?;
+    scan.advance(digits.len());
+    Ok(value)
+}
+
+/// What follows POINT.
+#[tactic(auto, unfolding(crate::specs::Statements::point_at))]
+fn point(scan: &mut Scanner<'_>) -> Result<Data, Fault>
+    ensures { Gives (λ x. (x, scan.new)) result (point_at scan.old) }
+{
+    let size = decimal(scan)?;
+    if !scan.eat(b',') {
+        return Err(Fault::Syntax);
+    }
+    let operand = operand(scan)?;
+    if !scan.eat(b',') {
+        return Ok(Data::Point(size, operand, None));
+    }
+    let position = decimal(scan)?;
+    Ok(Data::Point(size, operand, Some(position)))
+}
+
+/// An expression, or two halves.
+#[tactic(auto, unfolding(crate::specs::Statements::value_at))]
+fn value(scan: &mut Scanner<'_>) -> Result<Data, Fault>
+    ensures { Gives (λ x. (x, scan.new)) result (value_at scan.old) }
+{
+    let left = expression(scan)?;
+    if !scan.eat_commas() {
+        return Ok(Data::Value(left));
+    }
+    let right = expression(scan)?;
+    Ok(Data::Halves(left, right))
+}
+
+/// What follows the name of a form.
+#[tactic(auto, unfolding(crate::specs::Statements::form_at))]
+fn form_statement(form: Form, scan: &mut Scanner<'_>) -> Result<Statement, Fault>
+    ensures { Gives (λ x. (x, scan.new)) result (form_at form scan.old) }
+{
+    match form {
+        Form::Loc => Ok(Statement::Loc(expression(scan)?)),
+        Form::End => Ok(Statement::End(optional_expression(scan)?)),
+        Form::Radix => Ok(Statement::Radix(decimal(scan)?)),
+        Form::Title => {
+            scan.skip_to_comment();
+            Ok(Statement::Title)
+        }
+        Form::Xwd => {
+            let (left, right) = pair(scan)?;
+            Ok(Statement::Data(Data::Halves(left, right)))
+        }
+        Form::Iowd => {
+            let (count, address) = pair(scan)?;
+            Ok(Statement::Data(Data::Iowd(count, address)))
+        }
+        Form::Exp => Ok(Statement::Data(Data::Exp(expressions(scan)?))),
+        Form::Point => Ok(Statement::Data(point(scan)?)),
+        Form::Text(form) => {
+            let text = scan.text()?;
+            let characters = Sequence::from_slice(scan.alloc(), text)?;
+            Ok(Statement::Data(Data::Text(form, characters)))
+        }
+        Form::Block => Ok(Statement::Data(Data::Block(expression(scan)?))),
+    }
+}
+
+/// The operation that a name stands for.
+#[tactic(auto, using(crate::proofs::AsciiLemmas::is_text))]
+fn operation(name: &[u8]) -> Option<Named>
+    requires { IsAscii name.now }
+    ensures { result ≡ operation_of name.now }
+{
+    match std::str::from_utf8(name) {
+        Ok(name) => named(name),
+        Err(_) => None,
+    }
+}
+
+/// A statement. Its first name tells its form or its operation; where it tells none, it is a value.
+#[tactic(auto, unfolding(crate::specs::Statements::statement_at))]
+pub fn statement(scan: &mut Scanner<'_>) -> Result<Statement, Fault>
+    ensures { Gives (λ x. (x, scan.new)) result (statement_at scan.old) }
+{
+    scan.skip();
+    let word = scan.word();
+    if !is_name(word) {
+        return Ok(Statement::Data(value(scan)?));
+    }
+    let name = folded(word);
+    if let Some(form) = form_of(name.as_slice()) {
+        scan.advance(word.len());
+        return form_statement(form, scan);
+    }
+    match operation(name.as_slice()) {
+        None => Ok(Statement::Data(value(scan)?)),
+        Some(named) => {
+            scan.advance(word.len());
+            Ok(Statement::Data(Data::Instruction(instruction(named, scan)?)))
+        }
+    }
+}
