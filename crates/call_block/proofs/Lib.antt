@@ -1,4 +1,6 @@
+pub mod AscizLemmas
 pub mod BitLemmas
 pub mod LegalLemmas
+pub mod LockLemmas
 pub mod NameLemmas
 pub mod WantLemmas

@@ -11,7 +11,7 @@ use Rattle.lock_queue.specs.declared.refusal.Refusal.TheVariants.{BadPointer, Ba
 use Rattle.call_block.specs.Names.{CharacterPointer, incremented, increments, character_at, characters, is_zero, text_of, name_text}
 
 -- one more character
-characters-suc : (ac core : List ℕ) (p : CharacterPointer) (n : ℕ) →
+pub characters-suc : (ac core : List ℕ) (p : CharacterPointer) (n : ℕ) →
     characters ac core p (suc n) ≡ cond (not (is_zero (character_at ac core (incremented p)))) (character_at ac core (incremented p) ∷ characters ac core (incremented p) n) []
 unfolding characters increments
 characters-suc ac core p n = take_while-cons (λ c. not (is_zero c)) (character_at ac core (incremented p)) (map (character_at ac core) (increments n (incremented p)))
@@ -27,7 +27,7 @@ characters-next ac core p q n k x h next at =
     ∙ ap (λ (r : CharacterPointer). cond (not (is_zero (character_at ac core r))) (character_at ac core r ∷ characters ac core r (n - (k + 1))) []) (sym next)
     ∙ ap (λ (y : Option ℕ). cond (not (is_zero y)) (y ∷ rest) []) at
 
-not_zero : (c : ℕ) → c ≢ 0 → not (is_zero (Some c)) ≡ true
+pub not_zero : (c : ℕ) → c ≢ 0 → not (is_zero (Some c)) ≡ true
 not_zero c ne = grind (arith, nat_tests)
 
 pub more : (ac core : List ℕ) (p q : CharacterPointer) (n k c : ℕ) (text : List ℕ) (all : List (Option ℕ)) → k < n →
@@ -45,7 +45,7 @@ pub zero_ends : (ac core : List ℕ) (p q : CharacterPointer) (n k : ℕ) (text 
 zero_ends ac core p q n k text all h e next at =
     e ∙ ap (λ t. map Some text ++ t) (characters-next ac core p q n k (Some 0) h next at) ∙ append-nil (map Some text)
 
-none_left : (ac core : List ℕ) (p : CharacterPointer) → characters ac core p 0 ≡ []
+pub none_left : (ac core : List ℕ) (p : CharacterPointer) → characters ac core p 0 ≡ []
 unfolding characters increments
 none_left ac core p = refl
 

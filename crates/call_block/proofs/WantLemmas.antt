@@ -13,12 +13,12 @@ use Rattle.call_block.specs.Steps.{◌>>=◌}
 abbrev pub behind : List Want → Result (List Want) Refusal → Result (List Want) Refusal
 behind wants r = r >>= (λ rest. Ok (wants ++ rest))
 
-wants_at-suc : (ac core : List ℕ) (job : ℕ) (full : Bool) (a n : ℕ) →
+pub wants_at-suc : (ac core : List ℕ) (job : ℕ) (full : Bool) (a n : ℕ) →
     wants_at ac core job full a (suc n) ≡ (want_of ac core job full (lock_at ac core a) >>= (λ want. wants_at ac core job full (a + 3) n >>= (λ wants. Ok (want ∷ wants))))
 unfolding wants_at
 wants_at-suc ac core job full a n = refl
 
-none_left : (ac core : List ℕ) (job : ℕ) (full : Bool) (a : ℕ) → wants_at ac core job full a 0 ≡ Ok []
+pub none_left : (ac core : List ℕ) (job : ℕ) (full : Bool) (a : ℕ) → wants_at ac core job full a 0 ≡ Ok []
 unfolding wants_at
 none_left ac core job full a = refl
 

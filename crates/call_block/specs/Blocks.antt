@@ -17,7 +17,7 @@ unfoldable pub are_legal : List ℕ → ℕ → ℕ → Bool
 are_legal core a zero = true
 are_legal core a (suc n) = nat_lt a (2 ^ 18) && is_legal core a && are_legal core (a + 1) n
 
--- the word at a legal place
+-- the word at a place; where a place of a block is not legal the block is refused, whatever this says
 abbrev pub word : List ℕ → List ℕ → ℕ → ℕ
 word ac core a = unwrap_or (word_at ac core a) 0
 

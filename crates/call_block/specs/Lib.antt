@@ -1,5 +1,6 @@
 pub mod Bits
 pub mod Blocks
+pub mod Laws
 pub mod Locks
 pub mod Names
 pub mod Steps

@@ -12,6 +12,12 @@ use word36::{Address, LOCKS_A_CALL, Word};
 /// The words of one lock.
 const LOCK_WORDS: u32 = 3;
 
+/// The places below this one are registers.
+const REGISTERS: u32 = 0o20;
+
+/// The place behind the last one.
+const PLACES: u32 = 0o1_000_000;
+
 /// What a lock call asks, as its block says.
 #[derive(Drop)]
 pub struct Block {
@@ -31,7 +37,7 @@ fn are_legal<M: JobMemory>(memory: &M, place: u32, count: u32) -> bool
     ensures { result ≡ are_legal (M.words memory.now) place count }
 {
     let end = place + count;
-    end <= 0o1_000_000 && (end <= 16 || end as usize <= memory.size())
+    end <= PLACES && (end <= REGISTERS || end as usize <= memory.size())
 }
 
 /// The word at a legal place.
@@ -39,7 +45,7 @@ fn word<M: JobMemory>(regs: &Regs, memory: &M, place: u32) -> Word
     requires { IsTrue (is_legal (M.words memory.now) place) }
     ensures { result ≡ word regs.now.ac (M.words memory.now) place }
 {
-    if place < 16 {
+    if place < REGISTERS {
         regs.ac[place as usize]
     } else {
         memory.read(place).unwrap()
@@ -69,7 +75,7 @@ fn read_wants<M: JobMemory>(
     full: bool,
 ) -> Result<Wants, Refusal>
     requires some { 1 ≤ count }
-    requires few { count ≤ 16 }
+    requires few { count ≤ LOCKS_A_CALL }
     requires fits { first < 2 ^ 19 }
     requires legal { IsTrue (is_legal (M.words memory.now) (first + 3 * count - 1)) }
     ensures wants { WantsAre result (wants_at regs.now.ac (M.words memory.now) job full first count) }
@@ -84,13 +90,16 @@ fn read_wants<M: JobMemory>(
 }
 
 /// The block of a job's call at an address, over the job's registers and core, or the first refusal:
-/// 3 where a word of the block is not legal, its size is not that of its number of locks, or the left
-/// half of its second word is not 0; 4 where there is no lock or more than 16; then, lock by lock, 5
-/// where a lock has neither a user code nor a pointer to a name, or its name runs off memory, 6 where
-/// the name is empty or longer than 30 characters, 7 where it is neither a name of all jobs nor of the
-/// job alone, and 8 where its pool is wrong. Calls that do not enter requests are not `full`: levels,
-/// the bypass and pools are not looked at (ENQ/DEQ of the TOPS-10 Monitor Calls Manual; the layout and
-/// the codes are this project's profile).
+/// `BadBlock` where a word of the block is not legal, its size is not that of its n locks, or the left
+/// half of its second word is not 0; `BadCount` where there is no lock or more than 16; then, lock by
+/// lock, `BadPointer` where it has neither a user code nor a pointer to a name, or the name runs off
+/// memory, `BadName` where the name is empty or longer than 30 characters, `BadQualifier` where it is
+/// a name neither of all jobs nor of the job alone, and `BadPool` where its pool is wrong.
+///
+/// A call that enters a request is `full`. For others levels, the bypass and pools are not looked at:
+/// wants have level 0, no bypass and no pool. A block's address does not wrap, the pointer to a name
+/// does, as in ILDB. Nothing is changed. (ENQ/DEQ of the TOPS-10 Monitor Calls Manual; the layout and
+/// the refusals are this project's profile.)
 #[tactic(auto, unfolding(crate::specs::Blocks::block_at))]
 pub fn read_block<M: JobMemory>(
     regs: &Regs,

@@ -4,9 +4,11 @@
 
 mod bits;
 mod block;
+mod laws;
 mod name;
 #[cfg(test)]
 mod tests;
 mod want;
 
 pub use block::{Block, read_block};
+pub use laws::{asciz_names_are_read, locks_are_read_in_order};

@@ -1,12 +1,13 @@
 //! What a machine does with its jobs' core, for any store.
 
 ghost use Rattle.std.specs.Prelude.{◌≡◌, ◌≢◌, ◌≤◌, ◌<◌, ◌+◌, ◌-◌, ◌*◌, ◌↔◌, ℕ, [], length, slice_get, slice_set, replicate, nat_lt, take, OnOk, OnErr, IfOk, IsOk, IsTrue};
+ghost use Rattle.ka_cpu.specs.Exec.{exec};
 ghost use Rattle.ka_cpu.specs.Places.{word_at};
 ghost use Rattle.core_store.specs.Cores.{IsJob, IsStore, Cores, core_of, blocks_of, with_core, all_free, taken, resized, given, resized_words};
 ghost use Rattle.std.specs.Prelude.{Some, None};
 
 use core_store::{CoreStore, CoreWindow, NoCore};
-use ka_cpu::{JobMemory, Regs, fetch};
+use ka_cpu::{JobMemory, Outcome, Regs, fetch, step};
 use std::alloc::{AllocError, Global};
 use word36::{BLOCK_WORDS, Word};
 
@@ -30,6 +31,29 @@ pub fn write_in<C: CoreStore>(cores: &mut C, job: u8, a: u32, word: Word) -> boo
     let words = cores.window(job);
     let mut window = CoreWindow { words };
     store_word(&mut window, a, word)
+}
+
+/// Executes one instruction of a job in its core.
+pub fn step_in<C: CoreStore>(cores: &mut C, job: u8, regs: &mut Regs) -> Outcome
+    requires { IsJob job }
+    ensures exec { record { regs = regs.new; core = core_of (C.meaning cores.new) job; outcome = result } ≡ exec regs.old (core_of (C.meaning cores.old) job) }
+    ensures cores { C.meaning cores.new ≡ with_core (C.meaning cores.old) job (exec regs.old (core_of (C.meaning cores.old) job)).core }
+{
+    let words = cores.window(job);
+    let mut window = CoreWindow { words };
+    step(regs, &mut window)
+}
+
+/// Executes one instruction of a job, which does not touch another's core.
+pub fn step_beside<C: CoreStore>(cores: &mut C, job: u8, other: u8, regs: &mut Regs) -> Outcome
+    requires job { IsJob job }
+    requires other { IsJob other }
+    requires apart { job ≢ other }
+    ensures executed { core_of (C.meaning cores.new) job ≡ (exec regs.old (core_of (C.meaning cores.old) job)).core }
+    ensures beside { core_of (C.meaning cores.new) other ≡ core_of (C.meaning cores.old) other }
+    ensures free { (C.meaning cores.new).free ≡ (C.meaning cores.old).free }
+{
+    step_in(cores, job, regs)
 }
 
 /// Gives a job core, and its first word a value.

@@ -5,4 +5,7 @@ mod jobs;
 #[cfg(test)]
 mod tests;
 
-pub use jobs::{come_and_go, copy_word, fetch_in, grow, hand_over, log_in, set_blocks, write_in};
+pub use jobs::{
+    come_and_go, copy_word, fetch_in, grow, hand_over, log_in, set_blocks, step_beside, step_in,
+    write_in,
+};

@@ -1,8 +1,12 @@
 //! The store with a vector for each job, at its limits.
 
-use crate::{come_and_go, copy_word, fetch_in, hand_over, log_in, set_blocks, write_in};
+ghost use Rattle.std.specs.Prelude.{◌<◌, ◌^◌};
+
+use crate::{
+    come_and_go, copy_word, fetch_in, hand_over, log_in, set_blocks, step_beside, step_in, write_in,
+};
 use core_store::{CoreStore, CoreWindow, NoCore, PlainCore};
-use ka_cpu::{Flags, JobMemory, Regs};
+use ka_cpu::{Flags, JobMemory, Outcome, Regs, StopReason};
 use std::test::Fail;
 use word36::{Address, JOBS, Word};
 
@@ -110,22 +114,53 @@ fn blocks_are_handed_over(rt: HostRuntime) -> Result<(), Fail> {
     Ok(())
 }
 
-#[test]
-fn registers_lie_before_core(rt: HostRuntime) -> Result<(), Fail> {
-    let mut cores = PlainCore::new(rt.alloc(), 1)?;
-    set_blocks(&mut cores, 2, 1)?;
-    let zero = Word::new(0);
+/// Registers of zeros, with the program counter at this place.
+fn regs_at(place: u32) -> Regs
+    requires { place < 2 ^ 18 }
+{
     let flags = Flags {
         overflow: false,
         carry0: false,
         carry1: false,
         no_divide: false,
     };
-    let mut regs = Regs {
-        ac: [zero; 16],
-        pc: Address::new(0),
+    Regs {
+        ac: [Word::new(0); 16],
+        pc: Address::new(place),
         flags,
-    };
+    }
+}
+
+#[test]
+fn instruction_writes_its_own_job(rt: HostRuntime) -> Result<(), Fail> {
+    let mut cores = PlainCore::new(rt.alloc(), 2)?;
+    set_blocks(&mut cores, 1, 1)?;
+    set_blocks(&mut cores, 2, 1)?;
+    // MOVEI 1,5 and MOVEM 1,100
+    assert!(rt; write_in(&mut cores, 1, 0o140, Word::join(0o201_040, 5)));
+    assert!(rt; write_in(&mut cores, 1, 0o141, Word::join(0o202_040, 0o100)));
+    let mut regs = regs_at(0o140);
+    for _ in 0..2 {
+        assert!(rt; matches!(step_in(&mut cores, 1, &mut regs), Outcome::Done));
+    }
+    assert_eq!(rt; cores.read(1, 0o100), Some(Word::new(5)));
+    assert_eq!(rt; cores.read(2, 0o100), Some(Word::new(0)));
+    assert_eq!(rt; (regs.ac[1], regs.pc), (Word::new(5), Address::new(0o142)));
+    // Job 2 has a zero there, which is no instruction.
+    assert!(rt;
+        matches!(
+            step_beside(&mut cores, 2, 1, &mut regs),
+            Outcome::Stop(StopReason::IllegalInstruction)
+        )
+    );
+    Ok(())
+}
+
+#[test]
+fn registers_lie_before_core(rt: HostRuntime) -> Result<(), Fail> {
+    let mut cores = PlainCore::new(rt.alloc(), 1)?;
+    set_blocks(&mut cores, 2, 1)?;
+    let mut regs = regs_at(0);
     regs.ac[0] = Word::new(1);
     assert!(rt;
         write_in(&mut cores, 2, 0, Word::new(2)) && write_in(&mut cores, 2, 0o20, Word::new(3))

@@ -1,4 +1,5 @@
-use Rattle.std.proofs.Common.{◌≡◌, ℕ, ◌+◌, ◌-◌, ◌<◌, ◌≤◌, suc, zero, Option, Some, None, Ok, Err, Result, List, true, false, refl, arith, ap, sym}
+use Rattle.std.proofs.Common.{◌≡◌, ℕ, ◌+◌, ◌-◌, ◌/◌, ◌%◌, ◌^◌, ◌∙◌, ◌<◌, ◌≤◌, suc, zero, Option, Some, None, Ok, Err, Result, List, true, false, refl, arith, ap, sym, nat_eq}
+use Rattle.std.proofs.lemmas.Bool.{eqb-true}
 use Rattle.ka_cpu.specs.Places.{word_at}
 use Rattle.ka_cpu.specs.Addresses.{Target, target_here, target_of, target_from, is_indirect, direct_address, used_after, reading, address_in, used_in, pair_in, at_target}
 use Rattle.ka_cpu.specs.declared.outcome.StopReason.{StopReason}
@@ -62,4 +63,14 @@ used_from_err (Ok t) s h = cc
 pub address_direct : (ac core : List ℕ) (w : ℕ) → is_indirect w ≡ false → address_in (target_of ac core w) ≡ Ok (direct_address ac w)
 address_direct ac core w h = ap address_in (target_direct 256 ac core w None h)
 
-pub ruleset chain_parts = (address_from_ok, used_from_ok, address_from_err, used_from_err, address_direct)
+-- neither I nor X
+pub address_plain : (ac core : List ℕ) (w : ℕ) → nat_eq (w / 2 ^ 18 % 2 ^ 5) 0 ≡ true → address_in (target_of ac core w) ≡ Ok (w % 2 ^ 18)
+address_plain ac core w t =
+    let h : w / 2 ^ 18 % 2 ^ 5 ≡ 0 = eqb-true (w / 2 ^ 18 % 2 ^ 5) 0 t in
+    let i : w / 2 ^ 22 % 2 ≡ 0 = omega arith in
+    let x : w / 2 ^ 18 % 2 ^ 4 ≡ 0 = omega arith in
+    let d : is_indirect w ≡ false = rw i refl in
+    let e : direct_address ac w ≡ w % 2 ^ 18 = rw x refl in
+    address_direct ac core w d ∙ ap (λ (n : ℕ). Ok n) e
+
+pub ruleset chain_parts = (address_plain, address_from_ok, used_from_ok, address_from_err, used_from_err, address_direct)

@@ -1,14 +1,15 @@
-use Rattle.std.proofs.Common.{◌≡◌, ℕ, ◌+◌, ◌-◌, ◌*◌, ◌/◌, ◌%◌, ◌^◌, ◌<◌, ◌≤◌, suc, zero, Option, Some, None, Ok, Err, Result, List, Bool, true, false, refl, arith, ap, if◌then◌else◌}
+use Rattle.std.proofs.Common.{◌≡◌, ℕ, ◌+◌, ◌-◌, ◌*◌, ◌/◌, ◌%◌, ◌^◌, ◌<◌, ◌≤◌, suc, zero, Option, Some, None, Ok, Err, Result, List, Bool, true, false, refl, arith, ap, ◌∙◌, if◌then◌else◌}
 use Rattle.ka_isa.specs.Families.{family_of}
 use Rattle.ka_isa.specs.declared.Family.{Family}
 use Rattle.ka_cpu.specs.Places.{word_at}
 use Rattle.ka_cpu.specs.Addresses.{Target, target_of, reading, at_target, address_in, used_in}
 use Rattle.ka_cpu.specs.Effects.{After, stopped}
-use Rattle.ka_cpu.specs.Exec.{word_behind, is_xct, op_of, ac_field, at_address, carried_out}
+use Rattle.ka_isa.specs.declared.Family.TheVariants.{Xct}
+use Rattle.ka_cpu.specs.Exec.{word_behind, word_performed, performed, is_listed, is_execute, is_xct, op_of, ac_field, at_address, carried_out}
 use Rattle.ka_cpu.specs.declared.registers.Regs.{Regs}
 use Rattle.ka_cpu.specs.declared.instruction.Instruction.{Instruction}
 use Rattle.ka_cpu.specs.declared.outcome.StopReason.{StopReason}
-use Rattle.ka_cpu.specs.declared.outcome.StopReason.TheVariants.{IllegalAddress, AddressChain}
+use Rattle.ka_cpu.specs.declared.outcome.StopReason.TheVariants.{IllegalAddress, IllegalInstruction, AddressChain}
 
 pub behind_plain : (k : ℕ) (ac core : List ℕ) (w : ℕ) → is_xct w ≡ false → word_behind k ac core w ≡ Ok w
 unfolding word_behind
@@ -19,8 +20,8 @@ end_at : (k : ℕ) (ac core : List ℕ) (w : ℕ) → k ≡ 0 → is_xct w ≡ t
 unfolding word_behind
 end_at k ac core w e x = rw e (rw x refl)
 
-pub behind_end : (i : ℕ) (ac core : List ℕ) (w : ℕ) → 256 ≤ i → is_xct w ≡ true → word_behind (256 - i) ac core w ≡ Err AddressChain
-behind_end i ac core w b x = end_at (256 - i) ac core w (omega arith) x
+pub behind_end : (i : ℕ) (ac core : List ℕ) (w : ℕ) → 255 ≤ i → is_xct w ≡ true → word_behind (255 - i) ac core w ≡ Err AddressChain
+behind_end i ac core w b x = end_at (255 - i) ac core w (omega arith) x
 
 refused_at : (t : Result Target StopReason) (r : StopReason) (f : Target → Result ℕ StopReason) → Err r ≡ address_in t → at_target t f ≡ Err r
 refused_at (Err s) r f h = cc
@@ -34,18 +35,18 @@ unfold_at : (m k : ℕ) (ac core : List ℕ) (w : ℕ) → k ≡ suc m → is_xc
 unfolding word_behind
 unfold_at m k ac core w e x = rw e (rw x refl)
 
-pub behind_refused : (i : ℕ) (ac core : List ℕ) (w : ℕ) (r : StopReason) → i < 256 → is_xct w ≡ true → Err r ≡ address_in (target_of ac core w) → word_behind (256 - i) ac core w ≡ Err r
+pub behind_refused : (i : ℕ) (ac core : List ℕ) (w : ℕ) (r : StopReason) → i < 255 → is_xct w ≡ true → Err r ≡ address_in (target_of ac core w) → word_behind (255 - i) ac core w ≡ Err r
 behind_refused i ac core w r b x h =
-    rw (unfold_at (256 - (i + 1)) (256 - i) ac core w (omega arith) x) (refused_at (target_of ac core w) r (λ t. reading (word_at ac core t.e) (λ v. word_behind (256 - (i + 1)) ac core v)) h)
+    rw (unfold_at (255 - (i + 1)) (255 - i) ac core w (omega arith) x) (refused_at (target_of ac core w) r (λ t. reading (word_at ac core t.e) (λ v. word_behind (255 - (i + 1)) ac core v)) h)
 
-turned_at : (i : ℕ) (ac core : List ℕ) (w e : ℕ) → i < 256 → is_xct w ≡ true → Ok e ≡ address_in (target_of ac core w) → word_behind (256 - i) ac core w ≡ reading (word_at ac core e) (λ v. word_behind (256 - (i + 1)) ac core v)
+turned_at : (i : ℕ) (ac core : List ℕ) (w e : ℕ) → i < 255 → is_xct w ≡ true → Ok e ≡ address_in (target_of ac core w) → word_behind (255 - i) ac core w ≡ reading (word_at ac core e) (λ v. word_behind (255 - (i + 1)) ac core v)
 turned_at i ac core w e b x h =
-    rw (unfold_at (256 - (i + 1)) (256 - i) ac core w (omega arith) x) (reached_at (target_of ac core w) e (λ (e : ℕ). reading (word_at ac core e) (λ v. word_behind (256 - (i + 1)) ac core v)) h)
+    rw (unfold_at (255 - (i + 1)) (255 - i) ac core w (omega arith) x) (reached_at (target_of ac core w) e (λ (e : ℕ). reading (word_at ac core e) (λ v. word_behind (255 - (i + 1)) ac core v)) h)
 
-pub behind_illegal : (i : ℕ) (ac core : List ℕ) (w e : ℕ) → i < 256 → is_xct w ≡ true → Ok e ≡ address_in (target_of ac core w) → word_at ac core e ≡ None → word_behind (256 - i) ac core w ≡ Err IllegalAddress
+pub behind_illegal : (i : ℕ) (ac core : List ℕ) (w e : ℕ) → i < 255 → is_xct w ≡ true → Ok e ≡ address_in (target_of ac core w) → word_at ac core e ≡ None → word_behind (255 - i) ac core w ≡ Err IllegalAddress
 behind_illegal i ac core w e b x h p = rw (turned_at i ac core w e b x h) (rw p refl)
 
-pub behind_turn : (i : ℕ) (ac core : List ℕ) (w e v : ℕ) → i < 256 → is_xct w ≡ true → Ok e ≡ address_in (target_of ac core w) → word_at ac core e ≡ Some v → word_behind (256 - i) ac core w ≡ word_behind (256 - (i + 1)) ac core v
+pub behind_turn : (i : ℕ) (ac core : List ℕ) (w e v : ℕ) → i < 255 → is_xct w ≡ true → Ok e ≡ address_in (target_of ac core w) → word_at ac core e ≡ Some v → word_behind (255 - i) ac core w ≡ word_behind (255 - (i + 1)) ac core v
 behind_turn i ac core w e v b x h p = rw (turned_at i ac core w e b x h) (rw p refl)
 
 pub ruleset xct_steps = (behind_plain, behind_end, behind_refused, behind_illegal, behind_turn)
@@ -66,3 +67,64 @@ pub at_done : (g : Regs) (core : List ℕ) (w e : ℕ) → Ok e ≡ address_in (
 at_done g core w e h = done_by (target_of g.ac core w) g core w e h
 
 pub ruleset performances = (at_refused, at_done)
+
+-- a word that is executed, an XCT or not, by its address
+not_execute : (f : Family) → (f ≡ Xct → ⊥) → is_execute f ≡ false
+not_execute Xct h = absurd (h refl)
+not_execute _ h = refl
+
+-- the same of a word
+no_xct : (w : ℕ) → (family_of (op_of w) ≡ Xct → ⊥) → is_xct w ≡ false
+unfolding is_xct
+no_xct w h = not_execute (family_of (op_of w)) h
+
+xct : (w : ℕ) → family_of (op_of w) ≡ Xct → is_xct w ≡ true
+unfolding is_xct
+xct w h = ap is_execute h
+
+unlisted_execute : (f : Family) (ac : ℕ) → is_listed f ac ≡ false → is_execute f ≡ false
+unlisted_execute Xct ac h = cc
+unlisted_execute _ ac h = refl
+
+unlisted_xct : (w : ℕ) → is_listed (family_of (op_of w)) (ac_field w) ≡ false → is_xct w ≡ false
+unfolding is_xct
+unlisted_xct w h = unlisted_execute (family_of (op_of w)) (ac_field w) h
+
+plain_performed : (g : Regs) (core : List ℕ) (w : ℕ) → is_xct w ≡ false → word_performed g core (word_behind 256 g.ac core w) ≡ performed g core w
+plain_performed g core w h = ap (λ (x : Result ℕ StopReason). word_performed g core x) (behind_plain 256 g.ac core w h)
+
+performed_listed : (g : Regs) (core : List ℕ) (w : ℕ) → is_listed (family_of (op_of w)) (ac_field w) ≡ true → performed g core w ≡ at_address g core w (target_of g.ac core w)
+unfolding performed
+performed_listed g core w h = rw h refl
+
+performed_unlisted : (g : Regs) (core : List ℕ) (w : ℕ) → is_listed (family_of (op_of w)) (ac_field w) ≡ false → performed g core w ≡ stopped g core IllegalInstruction
+unfolding performed
+performed_unlisted g core w h = rw h refl
+
+refused_256 : (g : Regs) (core : List ℕ) (w : ℕ) (r : StopReason) → is_xct w ≡ true → Err r ≡ address_in (target_of g.ac core w) → word_behind 256 g.ac core w ≡ Err r
+refused_256 g core w r x h =
+    unfold_at 255 256 g.ac core w refl x ∙ refused_at (target_of g.ac core w) r (λ t. reading (word_at g.ac core t.e) (λ v. word_behind 255 g.ac core v)) h
+
+refused_either : (b : Bool) (g : Regs) (core : List ℕ) (w : ℕ) (r : StopReason) → is_xct w ≡ b → is_listed (family_of (op_of w)) (ac_field w) ≡ true → Err r ≡ address_in (target_of g.ac core w) → word_performed g core (word_behind 256 g.ac core w) ≡ stopped g core r
+refused_either true g core w r x l h = ap (λ (y : Result ℕ StopReason). word_performed g core y) (refused_256 g core w r x h)
+refused_either false g core w r x l h = plain_performed g core w x ∙ (performed_listed g core w l ∙ at_refused g core w r h)
+
+pub executed_refused : (g : Regs) (core : List ℕ) (w : ℕ) (r : StopReason) → is_listed (family_of (op_of w)) (ac_field w) ≡ true → Err r ≡ address_in (target_of g.ac core w) → word_performed g core (word_behind 256 g.ac core w) ≡ stopped g core r
+executed_refused g core w r l h = refused_either (is_xct w) g core w r refl l h
+
+pub executed_unlisted : (g : Regs) (core : List ℕ) (w : ℕ) → is_listed (family_of (op_of w)) (ac_field w) ≡ false → word_performed g core (word_behind 256 g.ac core w) ≡ stopped g core IllegalInstruction
+executed_unlisted g core w l = plain_performed g core w (unlisted_xct w l) ∙ performed_unlisted g core w l
+
+pub executed_xct : (g : Regs) (core : List ℕ) (w e : ℕ) → family_of (op_of w) ≡ Xct → Ok e ≡ address_in (target_of g.ac core w) → word_performed g core (word_behind 256 g.ac core w) ≡ word_performed g core (reading (word_at g.ac core e) (λ v. word_behind 255 g.ac core v))
+executed_xct g core w e f h =
+    let x : is_xct w ≡ true = xct w f in
+    ap (λ (y : Result ℕ StopReason). word_performed g core y) (unfold_at 255 256 g.ac core w refl x ∙ reached_at (target_of g.ac core w) e (λ (e : ℕ). reading (word_at g.ac core e) (λ v. word_behind 255 g.ac core v)) h)
+
+done_either : (b : Bool) (g : Regs) (core : List ℕ) (w e : ℕ) → is_listed (family_of (op_of w)) (ac_field w) ≡ b → is_xct w ≡ false → Ok e ≡ address_in (target_of g.ac core w) → word_performed g core (word_behind 256 g.ac core w) ≡ (if b then carried_out (family_of (op_of w)) g core (record { op = op_of w; ac = ac_field w; e = e }) (used_in (target_of g.ac core w)) else stopped g core IllegalInstruction)
+done_either true g core w e l x h = plain_performed g core w x ∙ (performed_listed g core w l ∙ at_done g core w e h)
+done_either false g core w e l x h = plain_performed g core w x ∙ performed_unlisted g core w l
+
+pub executed_done : (g : Regs) (core : List ℕ) (w e : ℕ) → (family_of (op_of w) ≡ Xct → ⊥) → Ok e ≡ address_in (target_of g.ac core w) → word_performed g core (word_behind 256 g.ac core w) ≡ (if is_listed (family_of (op_of w)) (ac_field w) then carried_out (family_of (op_of w)) g core (record { op = op_of w; ac = ac_field w; e = e }) (used_in (target_of g.ac core w)) else stopped g core IllegalInstruction)
+executed_done g core w e f h = done_either (is_listed (family_of (op_of w)) (ac_field w)) g core w e refl (no_xct w f) h
+
+pub ruleset executions = (executed_refused, executed_unlisted, executed_xct, executed_done)

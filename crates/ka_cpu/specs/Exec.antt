@@ -32,8 +32,12 @@ ac_field w = w / 2 ^ 23 % 2 ^ 4
 
 -- XCT, 256 octal: the word at its E is executed in place, and its own AC field is not looked at. At most n XCTs
 -- are followed (in `exec` 256: this project's profile).
-abbrev pub is_xct : ℕ → Bool
-is_xct w = nat_eq (op_of w) 0o256
+abbrev pub is_execute : Family → Bool
+is_execute Xct = true
+is_execute _ = false
+
+unfoldable pub is_xct : ℕ → Bool
+is_xct w = is_execute (family_of (op_of w))
 
 unfoldable pub word_behind : ℕ → List ℕ → List ℕ → ℕ → Result ℕ StopReason
 word_behind zero ac core w = if is_xct w then Err AddressChain else Ok w

@@ -1,6 +1,6 @@
 //! The address of an instruction or of a byte pointer.
 
-ghost use Rattle.std.specs.Prelude.{◌≡◌, ℕ, ◌<◌, ◌≤◌, ◌^◌, IfOk, List, length, None, Ok};
+ghost use Rattle.std.specs.Prelude.{◌≡◌, ℕ, ◌<◌, ◌≤◌, ◌^◌, IfOk, List, length, None, Ok, nat_eq, ◌/◌, ◌%◌};
 ghost use Rattle.ka_cpu.specs.Addresses.{LeadsTo, Target, address_in, pair_in, direct_address, is_indirect, target_of, used_after, used_in};
 
 use crate::{JobMemory, Regs, StopReason, fetch};
@@ -44,6 +44,14 @@ fn is_indirect_word(word: Word) -> bool
     word.number() >> 22 & 1 == 1
 }
 
+/// Whether a word has neither I nor X.
+#[inline(always)]
+fn is_plain(word: Word) -> bool
+    ensures { result ≡ nat_eq (word / 2 ^ 18 % 2 ^ 5) 0 }
+{
+    word.number() >> 18 & 0o37 == 0
+}
+
 /// The address to which a word leads and what was used last on the way, over at most 256 indirect words.
 #[inline(never)]
 #[tactic(auto, using(crate::proofs::Chain::chain_steps))]
@@ -77,18 +85,30 @@ fn follow_chain<M: JobMemory>(
     }
 }
 
-/// The address of an instruction or of a byte pointer.
+/// The address of a word over indirect words.
+#[inline(never)]
+#[tactic(auto, using(crate::proofs::Chain::chain_parts))]
+fn find_by_chain<M: JobMemory>(regs: &Regs, memory: &M, word: Word) -> Result<u32, StopReason>
+    ensures value { result ≡ address_in (target_of regs.now.ac (M.words memory.now) word) }
+    ensures below { IfOk result (λ e. e < 2 ^ 18) }
+{
+    match follow_chain(regs, memory, word) {
+        Ok((e, _)) => Ok(e),
+        Err(reason) => Err(reason),
+    }
+}
+
+/// The address of an instruction or of a byte pointer. Most words have neither I nor X.
 #[inline(always)]
 #[tactic(auto, using(crate::proofs::Chain::chain_parts))]
 pub fn find_address<M: JobMemory>(regs: &Regs, memory: &M, word: Word) -> Result<u32, StopReason>
     ensures value { result ≡ address_in (target_of regs.now.ac (M.words memory.now) word) }
     ensures below { IfOk result (λ e. e < 2 ^ 18) }
 {
-    if is_indirect_word(word) {
-        match follow_chain(regs, memory, word) {
-            Ok((e, _)) => Ok(e),
-            Err(reason) => Err(reason),
-        }
+    if is_plain(word) {
+        Ok(word.right())
+    } else if is_indirect_word(word) {
+        find_by_chain(regs, memory, word)
     } else {
         Ok(find_direct(regs, word))
     }

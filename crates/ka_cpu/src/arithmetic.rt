@@ -18,17 +18,18 @@ const LEAST: u64 = 0o400_000_000_000;
 /// ADD
 #[inline(always)]
 #[tactic(auto, unfolding(crate::specs::Arithmetic::add_row))]
-pub fn do_add<M: JobMemory>(regs: &mut Regs, memory: &mut M, n: Instruction) -> Outcome
+pub fn do_add<M: JobMemory>(mode: u16, regs: &mut Regs, memory: &mut M, n: Instruction) -> Outcome
+    requires mode { mode ≡ n.op % 4 }
     requires ac { n.ac < 16 }
     requires e { n.e < 2 ^ 18 }
     ensures after { record { regs = regs.new; core = M.words memory.new; outcome = result } ≡ finished regs.old (M.words memory.old) n (add_row regs.old (M.words memory.old) n) }
     ensures place { M.place memory.new ≡ M.place memory.old }
 {
-    let Some(word) = operand_to_compute(regs, memory, n) else {
+    let Some(word) = operand_to_compute(mode, regs, memory, n) else {
         return ILLEGAL;
     };
     let a = regs.ac[n.ac];
-    put_computed(regs, memory, n, a.sum(word, false));
+    put_computed(mode, regs, memory, n, a.sum(word, false));
     let (zero, one) = a.carries(word, false);
     set_carries(regs, zero, one);
     regs.pc = regs.pc.plus(1);
@@ -38,17 +39,18 @@ pub fn do_add<M: JobMemory>(regs: &mut Regs, memory: &mut M, n: Instruction) -> 
 /// SUB
 #[inline(always)]
 #[tactic(auto, unfolding(crate::specs::Arithmetic::sub_row))]
-pub fn do_sub<M: JobMemory>(regs: &mut Regs, memory: &mut M, n: Instruction) -> Outcome
+pub fn do_sub<M: JobMemory>(mode: u16, regs: &mut Regs, memory: &mut M, n: Instruction) -> Outcome
+    requires mode { mode ≡ n.op % 4 }
     requires ac { n.ac < 16 }
     requires e { n.e < 2 ^ 18 }
     ensures after { record { regs = regs.new; core = M.words memory.new; outcome = result } ≡ finished regs.old (M.words memory.old) n (sub_row regs.old (M.words memory.old) n) }
     ensures place { M.place memory.new ≡ M.place memory.old }
 {
-    let Some(word) = operand_to_compute(regs, memory, n) else {
+    let Some(word) = operand_to_compute(mode, regs, memory, n) else {
         return ILLEGAL;
     };
     let a = regs.ac[n.ac];
-    put_computed(regs, memory, n, a.sum(word.not(), true));
+    put_computed(mode, regs, memory, n, a.sum(word.not(), true));
     let (zero, one) = a.carries(word.not(), true);
     set_carries(regs, zero, one);
     regs.pc = regs.pc.plus(1);
@@ -128,17 +130,18 @@ fn put_next(regs: &mut Regs, n: Instruction, word: Word)
 /// IMUL
 #[inline(always)]
 #[tactic(auto, unfolding(crate::specs::Arithmetic::imul_row))]
-pub fn do_imul<M: JobMemory>(regs: &mut Regs, memory: &mut M, n: Instruction) -> Outcome
+pub fn do_imul<M: JobMemory>(mode: u16, regs: &mut Regs, memory: &mut M, n: Instruction) -> Outcome
+    requires mode { mode ≡ n.op % 4 }
     requires ac { n.ac < 16 }
     requires e { n.e < 2 ^ 18 }
     ensures after { record { regs = regs.new; core = M.words memory.new; outcome = result } ≡ finished regs.old (M.words memory.old) n (imul_row regs.old (M.words memory.old) n) }
     ensures place { M.place memory.new ≡ M.place memory.old }
 {
-    let Some(word) = operand_to_compute(regs, memory, n) else {
+    let Some(word) = operand_to_compute(mode, regs, memory, n) else {
         return ILLEGAL;
     };
     let (_, low, overflows) = split_product(regs.ac[n.ac], word);
-    put_computed(regs, memory, n, low);
+    put_computed(mode, regs, memory, n, low);
     if overflows {
         regs.flags.overflow = true;
     }
@@ -149,19 +152,20 @@ pub fn do_imul<M: JobMemory>(regs: &mut Regs, memory: &mut M, n: Instruction) ->
 /// MUL
 #[inline(always)]
 #[tactic(auto, unfolding(crate::specs::Arithmetic::mul_row))]
-pub fn do_mul<M: JobMemory>(regs: &mut Regs, memory: &mut M, n: Instruction) -> Outcome
+pub fn do_mul<M: JobMemory>(mode: u16, regs: &mut Regs, memory: &mut M, n: Instruction) -> Outcome
+    requires mode { mode ≡ n.op % 4 }
     requires ac { n.ac < 16 }
     requires e { n.e < 2 ^ 18 }
     ensures after { record { regs = regs.new; core = M.words memory.new; outcome = result } ≡ finished regs.old (M.words memory.old) n (mul_row regs.old (M.words memory.old) n) }
     ensures place { M.place memory.new ≡ M.place memory.old }
 {
-    let Some(word) = operand_to_compute(regs, memory, n) else {
+    let Some(word) = operand_to_compute(mode, regs, memory, n) else {
         return ILLEGAL;
     };
     let a = regs.ac[n.ac];
     let (high, low, _) = split_product(a, word);
     let both_least = a.number() == LEAST && word.number() == LEAST;
-    put_computed(regs, memory, n, high);
+    put_computed(mode, regs, memory, n, high);
     if both_least {
         put_next(regs, n, Word::new(LEAST));
         regs.flags.overflow = true;
@@ -195,13 +199,14 @@ fn divide(a: Word, b: Word) -> (Word, Word)
 /// IDIV
 #[inline(always)]
 #[tactic(auto, unfolding(crate::specs::Arithmetic::idiv_row))]
-pub fn do_idiv<M: JobMemory>(regs: &mut Regs, memory: &mut M, n: Instruction) -> Outcome
+pub fn do_idiv<M: JobMemory>(mode: u16, regs: &mut Regs, memory: &mut M, n: Instruction) -> Outcome
+    requires mode { mode ≡ n.op % 4 }
     requires ac { n.ac < 16 }
     requires e { n.e < 2 ^ 18 }
     ensures after { record { regs = regs.new; core = M.words memory.new; outcome = result } ≡ finished regs.old (M.words memory.old) n (idiv_row regs.old (M.words memory.old) n) }
     ensures place { M.place memory.new ≡ M.place memory.old }
 {
-    let Some(word) = operand_to_compute(regs, memory, n) else {
+    let Some(word) = operand_to_compute(mode, regs, memory, n) else {
         return ILLEGAL;
     };
     let a = regs.ac[n.ac];
@@ -210,7 +215,7 @@ pub fn do_idiv<M: JobMemory>(regs: &mut Regs, memory: &mut M, n: Instruction) ->
         regs.flags.no_divide = true;
     } else {
         let (quotient, remainder) = divide(a, word);
-        put_computed(regs, memory, n, quotient);
+        put_computed(mode, regs, memory, n, quotient);
         put_next(regs, n, remainder);
     }
     regs.pc = regs.pc.plus(1);

@@ -12,6 +12,17 @@ use crate::{JobMemory, Outcome, Regs, fetch};
 use ka_isa::Change;
 use word36::{Address, Word};
 
+/// 2 ^ 35, the sign bit.
+const SIGN: u64 = 0o400_000_000_000;
+
+/// A number whose order is that of the signed words.
+#[inline(always)]
+fn order_key(word: Word) -> u64
+    ensures { result ≡ (word + (2 ^ 64 - 2 ^ 35)) % 2 ^ 64 }
+{
+    word.number().wrapping_sub(SIGN)
+}
+
 /// Whether a compares with b as a condition's digit says.
 #[inline(always)]
 #[tactic(auto, unfolding(crate::specs::Conditions::holds))]
@@ -19,16 +30,16 @@ fn compare(digit: u16, a: Word, b: Word) -> bool
     requires { digit < 8 }
     ensures { result ≡ holds digit (signed_value a) (signed_value b) }
 {
-    let a = a.signed();
-    let b = b.signed();
+    let a = order_key(a);
+    let b = order_key(b);
     match digit {
         0 => false,
         1 => a < b,
-        2 => a <= b && b <= a,
+        2 => a == b,
         3 => a <= b,
         4 => true,
         5 => b <= a,
-        6 => a < b || b < a,
+        6 => a != b,
         _ => b < a,
     }
 }
@@ -40,16 +51,16 @@ fn compare_zero(digit: u16, a: Word) -> bool
     requires { digit < 8 }
     ensures { result ≡ holds digit (signed_value a) (pos 0) }
 {
-    let a = a.signed();
+    let number = a.number();
     match digit {
         0 => false,
-        1 => a < 0,
-        2 => a <= 0 && 0 <= a,
-        3 => a <= 0,
+        1 => number >= SIGN,
+        2 => number == 0,
+        3 => number == 0 || number >= SIGN,
         4 => true,
-        5 => 0 <= a,
-        6 => a < 0 || 0 < a,
-        _ => 0 < a,
+        5 => number < SIGN,
+        6 => number != 0,
+        _ => number != 0 && number < SIGN,
     }
 }
 
@@ -103,11 +114,13 @@ fn set_change_flags(change: Change, regs: &mut Regs, word: Word)
     match change {
         Change::Keep => {}
         Change::Up => {
-            let (zero, one) = word.carries(Word::new(1), false);
+            let zero = word.number() == 2 * SIGN - 1;
+            let one = word.number() % SIGN == SIGN - 1;
             set_carries(regs, zero, one);
         }
         Change::Down => {
-            let (zero, one) = word.carries(Word::new(0o777_777_777_777), false);
+            let zero = word.number() != 0;
+            let one = word.number() % SIGN != 0;
             set_carries(regs, zero, one);
         }
     }

@@ -51,12 +51,18 @@ fn move_half(kind: u16, word: Word, old: Word) -> Word
 /// The word that receives the half. Where it is there the result can be stored.
 #[inline(always)]
 #[tactic(auto, using(crate::proofs::Legal::legal_from_read))]
-fn find_destination<M: JobMemory>(regs: &Regs, memory: &M, n: Instruction) -> Option<Word>
-    requires { n.ac < 16 }
+fn find_destination<M: JobMemory>(
+    mode: u16,
+    regs: &Regs,
+    memory: &M,
+    n: Instruction,
+) -> Option<Word>
+    requires mode { mode ≡ n.op % 4 }
+    requires ac { n.ac < 16 }
     ensures value { result ≡ destination regs.now (M.words memory.now) n }
     ensures legal { IfSome result (λ _. (w : ℕ) → memory_legal (M.words memory.now) (to_memory n w) ≡ true) }
 {
-    if n.op % 4 < 2 {
+    if mode < 2 {
         Some(regs.ac[n.ac])
     } else {
         fetch(regs, memory, n.e)
@@ -66,19 +72,20 @@ fn find_destination<M: JobMemory>(regs: &Regs, memory: &M, n: Instruction) -> Op
 /// HLL to HLRE
 #[inline(always)]
 #[tactic(auto, unfolding(crate::specs::Halves::half_row))]
-pub fn do_half<M: JobMemory>(regs: &mut Regs, memory: &mut M, n: Instruction) -> Outcome
+pub fn do_half<M: JobMemory>(mode: u16, regs: &mut Regs, memory: &mut M, n: Instruction) -> Outcome
+    requires mode { mode ≡ n.op % 4 }
     requires ac { n.ac < 16 }
     requires e { n.e < 2 ^ 18 }
     ensures after { record { regs = regs.new; core = M.words memory.new; outcome = result } ≡ finished regs.old (M.words memory.old) n (half_row regs.old (M.words memory.old) n) }
     ensures place { M.place memory.new ≡ M.place memory.old }
 {
-    let Some(word) = operand_to_move(regs, memory, n) else {
+    let Some(word) = operand_to_move(mode, regs, memory, n) else {
         return ILLEGAL;
     };
-    let Some(old) = find_destination(regs, memory, n) else {
+    let Some(old) = find_destination(mode, regs, memory, n) else {
         return ILLEGAL;
     };
-    put_moved(regs, memory, n, move_half(n.op / 4 % 16, word, old));
+    put_moved(mode, regs, memory, n, move_half(n.op / 4 % 16, word, old));
     regs.pc = regs.pc.plus(1);
     Outcome::Done
 }

@@ -20,14 +20,20 @@ pub struct Instruction {
 /// What comes of an instruction that names an illegal place.
 pub const ILLEGAL: Outcome = Outcome::Stop(StopReason::IllegalAddress);
 
-/// The operand of MOVE to MOVM and of the halfwords.
+/// The operand of MOVE to MOVM and of the halfwords, in a mode (the low two bits of the operation).
 #[inline(always)]
-pub fn operand_to_move<M: JobMemory>(regs: &Regs, memory: &M, n: Instruction) -> Option<Word>
+pub fn operand_to_move<M: JobMemory>(
+    mode: u16,
+    regs: &Regs,
+    memory: &M,
+    n: Instruction,
+) -> Option<Word>
+    requires mode { mode ≡ n.op % 4 }
     requires ac { n.ac < 16 }
     requires e { n.e < 2 ^ 18 }
     ensures { result ≡ moved_operand regs.now (M.words memory.now) n }
 {
-    match n.op % 4 {
+    match mode {
         1 => Some(Word::join(0, n.e)),
         2 => Some(regs.ac[n.ac]),
         _ => fetch(regs, memory, n.e),
@@ -37,12 +43,18 @@ pub fn operand_to_move<M: JobMemory>(regs: &Regs, memory: &M, n: Instruction) ->
 /// The operand of the other families with modes. Where it is there the result can be stored.
 #[inline(always)]
 #[tactic(auto, using(crate::proofs::Legal::legal_from_read))]
-pub fn operand_to_compute<M: JobMemory>(regs: &Regs, memory: &M, n: Instruction) -> Option<Word>
-    requires { n.e < 2 ^ 18 }
+pub fn operand_to_compute<M: JobMemory>(
+    mode: u16,
+    regs: &Regs,
+    memory: &M,
+    n: Instruction,
+) -> Option<Word>
+    requires mode { mode ≡ n.op % 4 }
+    requires e { n.e < 2 ^ 18 }
     ensures value { result ≡ computed_operand regs.now (M.words memory.now) n }
     ensures legal { IfSome result (λ _. (w : ℕ) → memory_legal (M.words memory.now) (to_memory n w) ≡ true) }
 {
-    if n.op % 4 == 1 {
+    if mode == 1 {
         Some(Word::join(0, n.e))
     } else {
         fetch(regs, memory, n.e)
@@ -59,21 +71,29 @@ pub fn is_legal_place<M: JobMemory>(memory: &M, a: u32) -> bool
 
 /// Whether the result of an instruction with modes can be stored.
 #[inline(always)]
-pub fn can_store<M: JobMemory>(memory: &M, n: Instruction) -> bool
+pub fn can_store<M: JobMemory>(mode: u16, memory: &M, n: Instruction) -> bool
+    requires { mode ≡ n.op % 4 }
     ensures { (w : ℕ) → result ≡ memory_legal (M.words memory.now) (to_memory n w) }
 {
-    n.op % 4 < 2 || is_legal_place(memory, n.e)
+    mode < 2 || is_legal_place(memory, n.e)
 }
 
 /// Puts a result where MOVE to MOVM and the halfwords put it.
 #[inline(always)]
-pub fn put_moved<M: JobMemory>(regs: &mut Regs, memory: &mut M, n: Instruction, word: Word)
-    requires { n.ac < 16 }
+pub fn put_moved<M: JobMemory>(
+    mode: u16,
+    regs: &mut Regs,
+    memory: &mut M,
+    n: Instruction,
+    word: Word,
+)
+    requires mode { mode ≡ n.op % 4 }
+    requires ac { n.ac < 16 }
     ensures regs { regs.new ≡ record regs.old { ac = ac_put (ac_memory regs.old.ac (to_memory n word)) n.ac (moved_to_ac n word) } }
     ensures core { M.words memory.new ≡ core_memory (M.words memory.old) (to_memory n word) }
     ensures place { M.place memory.new ≡ M.place memory.old }
 {
-    match n.op % 4 {
+    match mode {
         0 | 1 => regs.ac[n.ac] = word,
         2 => {
             store(regs, memory, n.e, word);
@@ -89,13 +109,20 @@ pub fn put_moved<M: JobMemory>(regs: &mut Regs, memory: &mut M, n: Instruction, 
 
 /// Puts a result where the other families with modes put it.
 #[inline(always)]
-pub fn put_computed<M: JobMemory>(regs: &mut Regs, memory: &mut M, n: Instruction, word: Word)
-    requires { n.ac < 16 }
+pub fn put_computed<M: JobMemory>(
+    mode: u16,
+    regs: &mut Regs,
+    memory: &mut M,
+    n: Instruction,
+    word: Word,
+)
+    requires mode { mode ≡ n.op % 4 }
+    requires ac { n.ac < 16 }
     ensures regs { regs.new ≡ record regs.old { ac = ac_put (ac_memory regs.old.ac (to_memory n word)) n.ac (computed_to_ac n word) } }
     ensures core { M.words memory.new ≡ core_memory (M.words memory.old) (to_memory n word) }
     ensures place { M.place memory.new ≡ M.place memory.old }
 {
-    match n.op % 4 {
+    match mode {
         0 | 1 => regs.ac[n.ac] = word,
         2 => {
             store(regs, memory, n.e, word);
@@ -112,16 +139,16 @@ pub fn put_computed<M: JobMemory>(regs: &mut Regs, memory: &mut M, n: Instructio
 pub fn set_carries(regs: &mut Regs, zero: bool, one: bool)
     ensures { regs.new ≡ record regs.old { flags = carried_flags regs.old.flags zero one } }
 {
-    if zero || one {
-        let flags = &mut regs.flags;
-        if zero {
-            flags.carry0 = true;
-        }
+    let flags = &mut regs.flags;
+    if zero {
+        flags.carry0 = true;
         if one {
             flags.carry1 = true;
-        }
-        if zero != one {
+        } else {
             flags.overflow = true;
         }
+    } else if one {
+        flags.carry1 = true;
+        flags.overflow = true;
     }
 }

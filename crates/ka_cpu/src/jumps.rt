@@ -2,10 +2,11 @@
 
 ghost use Rattle.std.specs.Prelude.{◌≡◌, ℕ, ◌<◌, ◌≤◌, ◌^◌, ◌+◌, ◌*◌, ◌/◌, ◌-◌, ◌%◌, Ok, Err, Some, None, if◌then◌else◌};
 ghost use Rattle.ka_cpu.specs.Effects.{After, finished};
-ghost use Rattle.ka_cpu.specs.Addresses.{target_of};
+ghost use Rattle.ka_cpu.specs.Addresses.{target_of, used_in};
 ghost use Rattle.std.specs.Int.Count.{count_leading_zeros};
 ghost use Rattle.ka_cpu.specs.Jumps.{pc_word, flags_of, jffo_row, counted_up, aobj_row, restored, jrst_row, jfcl_row, jsr_row, jsp_row, jsa_row, jra_row, call_row};
 
+use crate::address::find_used;
 use crate::instruction::{ILLEGAL, Instruction, is_legal_place};
 use crate::memory::store;
 use crate::{CallKind, Flags, JobMemory, Outcome, Regs, StopReason, fetch};
@@ -91,29 +92,31 @@ pub fn do_aobj<M: JobMemory>(regs: &mut Regs, memory: &mut M, n: Instruction) ->
     Outcome::Done
 }
 
-/// JRST, where `used` is the register or word that was used last in the address.
+/// JRST, whose word is `word`, with AC 0, 2 or 4.
+#[inline(always)]
 #[tactic(auto, unfolding(crate::specs::Jumps::jrst_row))]
-pub fn do_jrst<M: JobMemory>(
-    regs: &mut Regs,
-    memory: &mut M,
-    n: Instruction,
-    used: Option<Word>,
-) -> Outcome
+pub fn do_jrst<M: JobMemory>(regs: &mut Regs, memory: &mut M, n: Instruction, word: Word) -> Outcome
     requires ac { n.ac < 16 }
     requires e { n.e < 2 ^ 18 }
-    ensures after { record { regs = regs.new; core = M.words memory.new; outcome = result } ≡ finished regs.old (M.words memory.old) n (Ok (jrst_row regs.old n used)) }
+    ensures after { record { regs = regs.new; core = M.words memory.new; outcome = result } ≡ finished regs.old (M.words memory.old) n (Ok (jrst_row regs.old n (used_in (target_of regs.old.ac (M.words memory.old) word)))) }
     ensures place { M.place memory.new ≡ M.place memory.old }
 {
-    regs.pc = Address::new(n.e);
     match n.ac {
-        0 => Outcome::Done,
-        2 => {
-            if let Some(word) = used {
-                regs.flags = take_flags(word);
-            }
+        0 => {
+            regs.pc = Address::new(n.e);
             Outcome::Done
         }
-        _ => Outcome::Stop(StopReason::Halt),
+        2 => {
+            if let Some(used) = find_used(regs, memory, word) {
+                regs.flags = take_flags(used);
+            }
+            regs.pc = Address::new(n.e);
+            Outcome::Done
+        }
+        _ => {
+            regs.pc = Address::new(n.e);
+            Outcome::Stop(StopReason::Halt)
+        }
     }
 }
 

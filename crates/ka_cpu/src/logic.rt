@@ -40,33 +40,40 @@ fn combine(kind: u16, a: Word, m: Word) -> Word
 
 /// The operand of a Boolean function, 0 for the four that read no memory.
 #[inline(always)]
-fn boolean_operand<M: JobMemory>(regs: &Regs, memory: &M, n: Instruction) -> Option<Word>
-    requires { n.e < 2 ^ 18 }
+fn boolean_operand<M: JobMemory>(mode: u16, regs: &Regs, memory: &M, n: Instruction) -> Option<Word>
+    requires mode { mode ≡ n.op % 4 }
+    requires e { n.e < 2 ^ 18 }
     ensures { result ≡ (if reads_none (n.op / 4 % 16) then Some 0 else computed_operand regs.now (M.words memory.now) n) }
 {
     match n.op / 4 % 16 {
         0 | 5 | 10 | 15 => Some(Word::new(0)),
-        _ => operand_to_compute(regs, memory, n),
+        _ => operand_to_compute(mode, regs, memory, n),
     }
 }
 
 /// SETZ to SETO
 #[inline(always)]
 #[tactic(auto, unfolding(crate::specs::Booleans::boolean_row))]
-pub fn do_boolean<M: JobMemory>(regs: &mut Regs, memory: &mut M, n: Instruction) -> Outcome
+pub fn do_boolean<M: JobMemory>(
+    mode: u16,
+    regs: &mut Regs,
+    memory: &mut M,
+    n: Instruction,
+) -> Outcome
+    requires mode { mode ≡ n.op % 4 }
     requires ac { n.ac < 16 }
     requires e { n.e < 2 ^ 18 }
     ensures after { record { regs = regs.new; core = M.words memory.new; outcome = result } ≡ finished regs.old (M.words memory.old) n (boolean_row regs.old (M.words memory.old) n) }
     ensures place { M.place memory.new ≡ M.place memory.old }
 {
-    let Some(word) = boolean_operand(regs, memory, n) else {
+    let Some(word) = boolean_operand(mode, regs, memory, n) else {
         return ILLEGAL;
     };
-    if !can_store(memory, n) {
+    if !can_store(mode, memory, n) {
         return ILLEGAL;
     }
     let combined = combine(n.op / 4 % 16, regs.ac[n.ac], word);
-    put_computed(regs, memory, n, combined);
+    put_computed(mode, regs, memory, n, combined);
     regs.pc = regs.pc.plus(1);
     Outcome::Done
 }

@@ -22,19 +22,20 @@ pub fn swap(word: Word) -> Word
 /// MOVE
 #[inline(always)]
 #[tactic(auto, unfolding(crate::specs::Moves::move_row))]
-pub fn do_move<M: JobMemory>(regs: &mut Regs, memory: &mut M, n: Instruction) -> Outcome
+pub fn do_move<M: JobMemory>(mode: u16, regs: &mut Regs, memory: &mut M, n: Instruction) -> Outcome
+    requires mode { mode ≡ n.op % 4 }
     requires ac { n.ac < 16 }
     requires e { n.e < 2 ^ 18 }
     ensures after { record { regs = regs.new; core = M.words memory.new; outcome = result } ≡ finished regs.old (M.words memory.old) n (move_row regs.old (M.words memory.old) n) }
     ensures place { M.place memory.new ≡ M.place memory.old }
 {
-    let Some(word) = operand_to_move(regs, memory, n) else {
+    let Some(word) = operand_to_move(mode, regs, memory, n) else {
         return ILLEGAL;
     };
-    if !can_store(memory, n) {
+    if !can_store(mode, memory, n) {
         return ILLEGAL;
     }
-    put_moved(regs, memory, n, word);
+    put_moved(mode, regs, memory, n, word);
     regs.pc = regs.pc.plus(1);
     Outcome::Done
 }
@@ -42,19 +43,20 @@ pub fn do_move<M: JobMemory>(regs: &mut Regs, memory: &mut M, n: Instruction) ->
 /// MOVS
 #[inline(always)]
 #[tactic(auto, unfolding(crate::specs::Moves::movs_row))]
-pub fn do_movs<M: JobMemory>(regs: &mut Regs, memory: &mut M, n: Instruction) -> Outcome
+pub fn do_movs<M: JobMemory>(mode: u16, regs: &mut Regs, memory: &mut M, n: Instruction) -> Outcome
+    requires mode { mode ≡ n.op % 4 }
     requires ac { n.ac < 16 }
     requires e { n.e < 2 ^ 18 }
     ensures after { record { regs = regs.new; core = M.words memory.new; outcome = result } ≡ finished regs.old (M.words memory.old) n (movs_row regs.old (M.words memory.old) n) }
     ensures place { M.place memory.new ≡ M.place memory.old }
 {
-    let Some(word) = operand_to_move(regs, memory, n) else {
+    let Some(word) = operand_to_move(mode, regs, memory, n) else {
         return ILLEGAL;
     };
-    if !can_store(memory, n) {
+    if !can_store(mode, memory, n) {
         return ILLEGAL;
     }
-    put_moved(regs, memory, n, swap(word));
+    put_moved(mode, regs, memory, n, swap(word));
     regs.pc = regs.pc.plus(1);
     Outcome::Done
 }
@@ -62,19 +64,20 @@ pub fn do_movs<M: JobMemory>(regs: &mut Regs, memory: &mut M, n: Instruction) ->
 /// MOVN
 #[inline(always)]
 #[tactic(auto, unfolding(crate::specs::Moves::movn_row))]
-pub fn do_movn<M: JobMemory>(regs: &mut Regs, memory: &mut M, n: Instruction) -> Outcome
+pub fn do_movn<M: JobMemory>(mode: u16, regs: &mut Regs, memory: &mut M, n: Instruction) -> Outcome
+    requires mode { mode ≡ n.op % 4 }
     requires ac { n.ac < 16 }
     requires e { n.e < 2 ^ 18 }
     ensures after { record { regs = regs.new; core = M.words memory.new; outcome = result } ≡ finished regs.old (M.words memory.old) n (movn_row regs.old (M.words memory.old) n) }
     ensures place { M.place memory.new ≡ M.place memory.old }
 {
-    let Some(word) = operand_to_move(regs, memory, n) else {
+    let Some(word) = operand_to_move(mode, regs, memory, n) else {
         return ILLEGAL;
     };
-    if !can_store(memory, n) {
+    if !can_store(mode, memory, n) {
         return ILLEGAL;
     }
-    put_moved(regs, memory, n, word.not().sum(Word::new(1), false));
+    put_moved(mode, regs, memory, n, word.not().sum(Word::new(1), false));
     let (zero, one) = word.not().carries(Word::new(1), false);
     set_carries(regs, zero, one);
     regs.pc = regs.pc.plus(1);
@@ -84,24 +87,25 @@ pub fn do_movn<M: JobMemory>(regs: &mut Regs, memory: &mut M, n: Instruction) ->
 /// MOVM
 #[inline(always)]
 #[tactic(auto, unfolding(crate::specs::Moves::movm_row))]
-pub fn do_movm<M: JobMemory>(regs: &mut Regs, memory: &mut M, n: Instruction) -> Outcome
+pub fn do_movm<M: JobMemory>(mode: u16, regs: &mut Regs, memory: &mut M, n: Instruction) -> Outcome
+    requires mode { mode ≡ n.op % 4 }
     requires ac { n.ac < 16 }
     requires e { n.e < 2 ^ 18 }
     ensures after { record { regs = regs.new; core = M.words memory.new; outcome = result } ≡ finished regs.old (M.words memory.old) n (movm_row regs.old (M.words memory.old) n) }
     ensures place { M.place memory.new ≡ M.place memory.old }
 {
-    let Some(word) = operand_to_move(regs, memory, n) else {
+    let Some(word) = operand_to_move(mode, regs, memory, n) else {
         return ILLEGAL;
     };
-    if !can_store(memory, n) {
+    if !can_store(mode, memory, n) {
         return ILLEGAL;
     }
     if word.is_negative() {
-        put_moved(regs, memory, n, word.not().sum(Word::new(1), false));
+        put_moved(mode, regs, memory, n, word.not().sum(Word::new(1), false));
         let (zero, one) = word.not().carries(Word::new(1), false);
         set_carries(regs, zero, one);
     } else {
-        put_moved(regs, memory, n, word);
+        put_moved(mode, regs, memory, n, word);
     }
     regs.pc = regs.pc.plus(1);
     Outcome::Done

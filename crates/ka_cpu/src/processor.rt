@@ -1,12 +1,14 @@
 //! One instruction.
 
 ghost use Rattle.std.specs.Prelude.{◌≡◌, ℕ, ◌<◌, ◌^◌, IfOk, Ok, Err, if◌then◌else◌};
-ghost use Rattle.ka_cpu.specs.Addresses.{target_of, used_in};
+ghost use Rattle.ka_cpu.specs.Addresses.{reading, target_of, used_in};
+ghost use Rattle.ka_cpu.specs.Places.{word_at};
+ghost use Rattle.ka_isa.specs.Families.{family_of};
 ghost use Rattle.ka_cpu.specs.Effects.{After, IsRefusal, stopped};
-ghost use Rattle.ka_cpu.specs.Exec.{ac_field, carried_out, exec, is_listed, is_xct, op_of, performed, word_behind};
+ghost use Rattle.ka_cpu.specs.Exec.{ac_field, carried_out, exec, is_listed, is_xct, op_of, performed, word_behind, word_performed};
 ghost use Rattle.ka_cpu.specs.declared.outcome.StopReason.TheVariants.{IllegalInstruction};
 
-use crate::address::{find_address, find_used};
+use crate::address::find_address;
 use crate::arithmetic::{do_add, do_idiv, do_imul, do_mul, do_sub};
 use crate::blocks::do_blt;
 use crate::bytes::do_byte;
@@ -19,14 +21,11 @@ use crate::moves::{do_exch, do_move, do_movm, do_movn, do_movs};
 use crate::shifts::do_shift;
 use crate::stacks::{do_pop, do_popj, do_push, do_pushj};
 use crate::{CallKind, JobMemory, Outcome, Regs, StopReason, fetch};
-use ka_isa::{Family, classify};
+use ka_isa::{Change, Family};
 use word36::Word;
 
 /// The most XCTs of one instruction (this project's profile).
 const MOST_EXECUTES: u32 = 256;
-
-/// XCT.
-const EXECUTE: u16 = 0o256;
 
 /// The operation of a word.
 #[inline(always)]
@@ -46,41 +45,120 @@ fn accumulator_field(word: Word) -> usize
     (word.number() >> 23 & 0o17) as usize
 }
 
-/// The word that is executed in the place of an XCT, over at most 256 of them.
-#[inline(never)]
-#[tactic(auto, using(crate::proofs::Executes::xct_steps))]
-fn follow_executes<M: JobMemory>(regs: &Regs, memory: &M, word: Word) -> Result<Word, StopReason>
-    ensures { result ≡ word_behind 256 regs.now.ac (M.words memory.now) word }
+/// The family of an operation, by its first two digits: one jump for most families.
+#[inline(always)]
+fn find_family(op: u16) -> Family
+    requires { op < 2 ^ 9 }
+    ensures { result ≡ family_of op }
 {
-    let mut word = word;
-    for turn in 0..MOST_EXECUTES {
-        if operation(word) != EXECUTE {
-            return Ok(word);
-        }
-        let e = find_address(regs, memory, word)?;
-        match fetch(regs, memory, e) {
-            None => return Err(StopReason::IllegalAddress),
-            Some(next) => word = next,
-        }
-    }
-    if operation(word) == EXECUTE {
-        Err(StopReason::AddressChain)
-    } else {
-        Ok(word)
+    match op >> 3 {
+        0o04 => if op == 0o47 {
+            Family::Calli
+        } else {
+            Family::Other
+        },
+        0o05 => if op == 0o51 {
+            Family::Ttcall
+        } else {
+            Family::Other
+        },
+        0o13 => if op >= 0o133 {
+            Family::Byte
+        } else {
+            Family::Other
+        },
+        0o20 => if op < 0o204 {
+            Family::Move
+        } else {
+            Family::Movs
+        },
+        0o21 => if op < 0o214 {
+            Family::Movn
+        } else {
+            Family::Movm
+        },
+        0o22 => if op < 0o224 {
+            Family::Imul
+        } else {
+            Family::Mul
+        },
+        0o23 => if op < 0o234 {
+            Family::Idiv
+        } else {
+            Family::Other
+        },
+        0o24 => match op {
+            0o243 => Family::Jffo,
+            0o244 | 0o247 => Family::Other,
+            _ => Family::Shift,
+        },
+        0o25 => match op {
+            0o250 => Family::Exch,
+            0o251 => Family::Blt,
+            0o252 | 0o253 => Family::Aobj,
+            0o254 => Family::Jrst,
+            0o255 => Family::Jfcl,
+            0o256 => Family::Xct,
+            _ => Family::Other,
+        },
+        0o26 => match op {
+            0o260 => Family::Pushj,
+            0o261 => Family::Push,
+            0o262 => Family::Pop,
+            0o263 => Family::Popj,
+            0o264 => Family::Jsr,
+            0o265 => Family::Jsp,
+            0o266 => Family::Jsa,
+            _ => Family::Jra,
+        },
+        0o27 => if op < 0o274 { Family::Add } else { Family::Sub },
+        0o30 => Family::Compare,
+        0o31 => Family::Compare,
+        0o32 => Family::JumpOn(Change::Keep),
+        0o33 => Family::SkipOn(Change::Keep),
+        0o34 => Family::JumpOn(Change::Up),
+        0o35 => Family::SkipOn(Change::Up),
+        0o36 => Family::JumpOn(Change::Down),
+        0o37 => Family::SkipOn(Change::Down),
+        0o40 => Family::Boolean,
+        0o41 => Family::Boolean,
+        0o42 => Family::Boolean,
+        0o43 => Family::Boolean,
+        0o44 => Family::Boolean,
+        0o45 => Family::Boolean,
+        0o46 => Family::Boolean,
+        0o47 => Family::Boolean,
+        0o50 => Family::Half,
+        0o51 => Family::Half,
+        0o52 => Family::Half,
+        0o53 => Family::Half,
+        0o54 => Family::Half,
+        0o55 => Family::Half,
+        0o56 => Family::Half,
+        0o57 => Family::Half,
+        0o60 => Family::Test,
+        0o61 => Family::Test,
+        0o62 => Family::Test,
+        0o63 => Family::Test,
+        0o64 => Family::Test,
+        0o65 => Family::Test,
+        0o66 => Family::Test,
+        0o67 => Family::Test,
+        _ => Family::Other,
     }
 }
 
-/// The word that an instruction executes.
-#[inline(always)]
-#[tactic(auto, using(crate::proofs::Executes::xct_steps))]
-fn word_to_execute<M: JobMemory>(regs: &Regs, memory: &M, word: Word) -> Result<Word, StopReason>
-    ensures { result ≡ word_behind 256 regs.now.ac (M.words memory.now) word }
-{
-    if operation(word) == EXECUTE {
-        follow_executes(regs, memory, word)
-    } else {
-        Ok(word)
-    }
+/// Calls the body of a family in the mode of the instruction, each mode with a copy of its own, in
+/// which the mode is not looked at again.
+macro_rules! in_mode {
+    ($body:ident, $regs:ident, $memory:ident, $n:ident) => {
+        match $n.op % 4 {
+            0 => $body(0, $regs, $memory, $n),
+            1 => $body(1, $regs, $memory, $n),
+            2 => $body(2, $regs, $memory, $n),
+            _ => $body(3, $regs, $memory, $n),
+        }
+    };
 }
 
 /// Whether an operation is one that is not left out.
@@ -109,13 +187,13 @@ fn carry_out<M: JobMemory>(
     ensures place { M.place memory.new ≡ M.place memory.old }
 {
     match family {
-        Family::Move => do_move(regs, memory, n),
-        Family::Movs => do_movs(regs, memory, n),
-        Family::Movn => do_movn(regs, memory, n),
-        Family::Movm => do_movm(regs, memory, n),
-        Family::Imul => do_imul(regs, memory, n),
-        Family::Mul => do_mul(regs, memory, n),
-        Family::Idiv => do_idiv(regs, memory, n),
+        Family::Move => in_mode!(do_move, regs, memory, n),
+        Family::Movs => in_mode!(do_movs, regs, memory, n),
+        Family::Movn => in_mode!(do_movn, regs, memory, n),
+        Family::Movm => in_mode!(do_movm, regs, memory, n),
+        Family::Imul => in_mode!(do_imul, regs, memory, n),
+        Family::Mul => in_mode!(do_mul, regs, memory, n),
+        Family::Idiv => in_mode!(do_idiv, regs, memory, n),
         Family::Shift => do_shift(regs, memory, n),
         Family::Jffo => do_jffo(regs, memory, n),
         Family::Exch => do_exch(regs, memory, n),
@@ -125,8 +203,7 @@ fn carry_out<M: JobMemory>(
             if n.ac != 0 && n.ac != 2 && n.ac != 4 {
                 return Outcome::Stop(StopReason::IllegalInstruction);
             }
-            let used = find_used(regs, memory, word);
-            do_jrst(regs, memory, n, used)
+            do_jrst(regs, memory, n, word)
         }
         Family::Jfcl => do_jfcl(regs, memory, n),
         Family::Pushj => do_pushj(regs, memory, n),
@@ -137,13 +214,13 @@ fn carry_out<M: JobMemory>(
         Family::Jsp => do_jsp(regs, memory, n),
         Family::Jsa => do_jsa(regs, memory, n),
         Family::Jra => do_jra(regs, memory, n),
-        Family::Add => do_add(regs, memory, n),
-        Family::Sub => do_sub(regs, memory, n),
+        Family::Add => in_mode!(do_add, regs, memory, n),
+        Family::Sub => in_mode!(do_sub, regs, memory, n),
         Family::Compare => do_compare(regs, memory, n),
         Family::JumpOn(change) => do_jump(change, regs, memory, n),
         Family::SkipOn(change) => do_skip(change, regs, memory, n),
-        Family::Boolean => do_boolean(regs, memory, n),
-        Family::Half => do_half(regs, memory, n),
+        Family::Boolean => in_mode!(do_boolean, regs, memory, n),
+        Family::Half => in_mode!(do_half, regs, memory, n),
         Family::Test => do_test(regs, memory, n),
         Family::Byte => do_byte(regs, memory, n),
         Family::Calli => do_call(CallKind::Calli, regs, memory, n),
@@ -152,8 +229,43 @@ fn carry_out<M: JobMemory>(
     }
 }
 
-/// Executes a word.
-#[inline(always)]
+/// Whether a word is an XCT.
+#[tactic(auto, unfolding(crate::specs::Exec::is_xct))]
+fn is_xct_word(word: Word) -> bool
+    ensures { result ≡ is_xct word }
+{
+    match find_family(operation(word)) {
+        Family::Xct => true,
+        _ => false,
+    }
+}
+
+/// The word that is executed in the place of an XCT whose word is found, over 255 more of them.
+#[inline(never)]
+#[tactic(auto, using(crate::proofs::Executes::xct_steps))]
+fn follow_executes<M: JobMemory>(regs: &Regs, memory: &M, word: Word) -> Result<Word, StopReason>
+    ensures { result ≡ word_behind 255 regs.now.ac (M.words memory.now) word }
+{
+    let mut word = word;
+    for turn in 0..MOST_EXECUTES - 1 {
+        if !is_xct_word(word) {
+            return Ok(word);
+        }
+        let e = find_address(regs, memory, word)?;
+        match fetch(regs, memory, e) {
+            None => return Err(StopReason::IllegalAddress),
+            Some(next) => word = next,
+        }
+    }
+    if is_xct_word(word) {
+        Err(StopReason::AddressChain)
+    } else {
+        Ok(word)
+    }
+}
+
+/// Executes a word that is no XCT.
+#[inline(never)]
 #[tactic(auto, using(crate::proofs::Executes::performances), unfolding(crate::specs::Exec::performed))]
 fn perform<M: JobMemory>(regs: &mut Regs, memory: &mut M, word: Word) -> Outcome
     ensures after { record { regs = regs.new; core = M.words memory.new; outcome = result } ≡ performed regs.old (M.words memory.old) word }
@@ -161,16 +273,60 @@ fn perform<M: JobMemory>(regs: &mut Regs, memory: &mut M, word: Word) -> Outcome
 {
     let op = operation(word);
     let ac = accumulator_field(word);
-    let family = classify(op);
     match find_address(regs, memory, word) {
         Err(reason) => {
-            if is_listed_operation(family, ac) {
+            if is_listed_operation(find_family(op), ac) {
                 Outcome::Stop(reason)
             } else {
                 Outcome::Stop(StopReason::IllegalInstruction)
             }
         }
-        Ok(e) => carry_out(family, regs, memory, Instruction { op, ac, e }, word),
+        Ok(e) => carry_out(
+            find_family(op),
+            regs,
+            memory,
+            Instruction { op, ac, e },
+            word,
+        ),
+    }
+}
+
+/// Executes the word at the address of an XCT.
+#[inline(never)]
+fn execute_at<M: JobMemory>(regs: &mut Regs, memory: &mut M, e: u32) -> Outcome
+    ensures after { record { regs = regs.new; core = M.words memory.new; outcome = result } ≡ word_performed regs.old (M.words memory.old) (reading (word_at regs.old.ac (M.words memory.old) e) (λ v. word_behind 255 regs.old.ac (M.words memory.old) v)) }
+    ensures place { M.place memory.new ≡ M.place memory.old }
+{
+    let Some(word) = fetch(regs, memory, e) else {
+        return ILLEGAL;
+    };
+    match follow_executes(regs, memory, word) {
+        Err(reason) => Outcome::Stop(reason),
+        Ok(word) => perform(regs, memory, word),
+    }
+}
+
+/// Executes a word, an XCT too.
+#[inline(always)]
+#[tactic(auto, using(crate::proofs::Executes::executions))]
+fn execute<M: JobMemory>(regs: &mut Regs, memory: &mut M, word: Word) -> Outcome
+    ensures after { record { regs = regs.new; core = M.words memory.new; outcome = result } ≡ word_performed regs.old (M.words memory.old) (word_behind 256 regs.old.ac (M.words memory.old) word) }
+    ensures place { M.place memory.new ≡ M.place memory.old }
+{
+    let op = operation(word);
+    let ac = accumulator_field(word);
+    match find_address(regs, memory, word) {
+        Err(reason) => {
+            if is_listed_operation(find_family(op), ac) {
+                Outcome::Stop(reason)
+            } else {
+                Outcome::Stop(StopReason::IllegalInstruction)
+            }
+        }
+        Ok(e) => match find_family(op) {
+            Family::Xct => execute_at(regs, memory, e),
+            family => carry_out(family, regs, memory, Instruction { op, ac, e }, word),
+        },
     }
 }
 
@@ -187,8 +343,5 @@ pub fn step<M: JobMemory>(regs: &mut Regs, memory: &mut M) -> Outcome
     let Some(word) = fetch(regs, memory, regs.pc.number()) else {
         return ILLEGAL;
     };
-    match word_to_execute(regs, memory, word) {
-        Err(reason) => Outcome::Stop(reason),
-        Ok(word) => perform(regs, memory, word),
-    }
+    execute(regs, memory, word)
 }

@@ -48,7 +48,8 @@ some_lost_behind before after (r ∷ rest) (s ∷ later) =
 abbrev pub some_lost : List Request → List Request → Bool
 some_lost requests later = some_lost_behind [] [] requests later
 
--- the job's wants of the named keys become shared or exclusive, all of them or none
+-- function 3: the job's wants of the named keys become shared or exclusive, all of them or none; no grant is lost by it,
+-- whosever it is
 abbrev pub modify : List Request → ℕ → List Want → Outcome
 modify requests job changes =
     unless_refused requests

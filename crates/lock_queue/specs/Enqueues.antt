@@ -43,8 +43,8 @@ abbrev pub some_too_low : List Want → List Want → Bool
 some_too_low before [] = false
 some_too_low before (w ∷ later) = is_too_low before w || some_too_low (before ++ w ∷ []) later
 
--- why a request is not taken in: lock by lock, then the levels, behind all present wants of the job; a vector for an
--- interrupt; room in the queue
+-- why a request is not taken in, if it is not: lock by lock; then its levels, behind all present wants of the job; then
+-- for want of a vector for the interrupt, and of room in the queue
 abbrev pub enqueue_refusal : List Request → ℕ → EnqueueKind → List Want → Bool → Option Refusal
 enqueue_refusal requests job kind wants armed =
     or_else (first_refusal (enqueue_fault requests job) [] wants)
@@ -55,7 +55,7 @@ enqueue_refusal requests job kind wants armed =
 abbrev pub request_of : ℕ → ℕ → EnqueueKind → Bool → ArrayVec Want → Request
 request_of job id kind told wants = record { job = job; id = id; kind = kind; told = told; wants = wants }
 
--- a request that arrives goes last; the job knows of its grant only where that comes by the answer
+-- a request that arrives goes last
 abbrev pub with_arrival : List Request → ℕ → EnqueueKind → ℕ → Bool → ArrayVec Want → List Request
 with_arrival requests job kind id told wants = requests ++ request_of job id kind told wants ∷ []
 
@@ -65,12 +65,15 @@ not_granted requests with_it Blocking = outcome with_it Queued
 not_granted requests with_it AtOnce = outcome requests (Refused NotGranted)
 not_granted requests with_it Interrupt = outcome with_it (Refused NotGranted)
 
+-- a request that is taken in: where it is granted at once, that is the answer, and the job need not be told of it by an
+-- interrupt any more
 abbrev pub arrival : List Request → ℕ → EnqueueKind → ℕ → ArrayVec Want → Outcome
 arrival requests job kind id wants =
     if granted (with_arrival requests job kind id false wants) (length requests)
     then outcome (with_arrival requests job kind id (is_interrupt kind) wants) Granted
     else not_granted requests (with_arrival requests job kind id false wants) kind
 
+-- functions 0 to 2
 abbrev pub enqueue : List Request → ℕ → EnqueueKind → ℕ → ArrayVec Want → Bool → Outcome
 enqueue requests job kind id wants armed =
     unless_refused requests (enqueue_refusal requests job kind wants.items armed) (arrival requests job kind id wants)

@@ -12,12 +12,12 @@ fn full_queue_takes_no_more(rt: HostRuntime) -> Result<(), Fail> {
         let asked = table.call(1, &at_once(i, one(bypassing(i as u64))));
         assert_eq!(rt; asked, LockReply::Granted);
     }
-    let more = at_once(257, one(bypassing(257)));
+    let more = at_once(0, one(bypassing(0)));
     assert_eq!(rt;
         table.call(1, &more),
         LockReply::Refused(Refusal::QueueFull)
     );
-    assert_eq!(rt; table.len(), 256);
+    assert_eq!(rt; table.len(), REQUESTS);
     let first = LockCall::DequeueId(RequestId::new(1));
     assert_eq!(rt; table.call(1, &first), LockReply::Done);
     assert_eq!(rt; table.call(1, &more), LockReply::Granted);
