@@ -1,0 +1,10 @@
+pub mod Ports
+pub mod Transcripts
+pub mod Serves
+pub mod Numbers
+pub mod Options
+pub mod Locks
+pub mod Commands
+pub mod Printing
+pub mod Grants
+pub mod QueueScripts

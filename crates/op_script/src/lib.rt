@@ -1,0 +1,32 @@
+//! Scripts and their transcripts: bytes in, commands, lines out.
+#![tactic(auto)]
+
+mod call_wants;
+mod commands;
+mod endings;
+mod grants;
+mod host_ports;
+mod line_sessions;
+mod locks;
+mod numbers;
+mod options;
+mod parts;
+mod ports;
+mod print;
+mod printing;
+mod queue_scripts;
+mod serving;
+mod sessions;
+mod test_ports;
+
+pub use endings::{Ending, ServeError};
+pub use host_ports::{HostIn, HostOut};
+pub use line_sessions::{LineService, LineSession};
+pub use ports::{ByteIn, ByteOut, Failed, write_all};
+pub use queue_scripts::serve_queue;
+pub use serving::serve_session;
+pub use sessions::Session;
+pub use test_ports::{TestIn, TestOut};
+
+#[cfg(test)]
+mod tests;
