@@ -1,5 +1,5 @@
 -- One instruction: which word it is, its address, its row.
-use Rattle.std.specs.Prelude.{ℕ, zero, suc, ◌+◌, ◌/◌, ◌%◌, ◌^◌, nat_eq, Bool, true, false, ◌||◌, if◌then◌else◌, Option, Some, None, List, Result, Ok, Err}
+use Rattle.std.specs.Prelude.{ℕ, zero, suc, ◌+◌, ◌/◌, ◌%◌, ◌^◌, nat_eq, nat_lt, Bool, true, false, ◌||◌, ◌&&◌, if◌then◌else◌, Option, Some, None, List, Result, Ok, Err}
 use Rattle.ka_isa.specs.Families.{family_of}
 use Rattle.ka_isa.specs.declared.Family.{Family}
 use Rattle.ka_isa.specs.declared.Family.TheVariants.{Byte, Move, Movs, Movn, Movm, Imul, Mul, Idiv, Shift, Jffo, Exch, Blt, Aobj, Jrst, Jfcl, Xct, Pushj, Push, Pop, Popj, Jsr, Jsp, Jsa, Jra, Add, Sub, Compare, JumpOn, SkipOn, Boolean, Half, Test, Calli, Ttcall, Other}
@@ -51,6 +51,15 @@ abbrev pub is_listed : Family → ℕ → Bool
 is_listed Other ac = false
 is_listed Jrst ac = nat_eq ac 0 || nat_eq ac 2 || nat_eq ac 4
 is_listed _ ac = true
+
+-- why a word is refused whose address is not found, behind so many XCTs
+abbrev pub refusal_of : ℕ → Family → ℕ → StopReason → StopReason
+refusal_of i f ac r =
+    if is_listed f ac then (if is_execute f && nat_eq i 256 then AddressChain else r) else IllegalInstruction
+
+-- the word behind an XCT that stands behind so many others
+abbrev pub next_word_of : ℕ → Option ℕ → Result ℕ StopReason
+next_word_of i o = if nat_lt i 256 then reading o (λ w. Ok w) else Err AddressChain
 
 -- the table: a row for each family of operations
 abbrev pub row_of : Family → Regs → List ℕ → Instruction → Option ℕ → Result Effect StopReason

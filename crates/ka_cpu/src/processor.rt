@@ -1,11 +1,11 @@
 //! One instruction.
 
 ghost use Rattle.std.specs.Prelude.{◌≡◌, ℕ, ◌<◌, ◌^◌, IfOk, Ok, Err, if◌then◌else◌};
-ghost use Rattle.ka_cpu.specs.Addresses.{reading, target_of, used_in};
+ghost use Rattle.ka_cpu.specs.Addresses.{target_of, used_in};
 ghost use Rattle.ka_cpu.specs.Places.{word_at};
 ghost use Rattle.ka_isa.specs.Families.{family_of};
 ghost use Rattle.ka_cpu.specs.Effects.{After, IsRefusal, stopped};
-ghost use Rattle.ka_cpu.specs.Exec.{ac_field, carried_out, exec, is_listed, is_xct, op_of, performed, word_behind, word_performed};
+ghost use Rattle.ka_cpu.specs.Exec.{ac_field, carried_out, exec, is_listed, next_word_of, op_of, refusal_of, word_behind, word_performed};
 ghost use Rattle.ka_cpu.specs.declared.outcome.StopReason.TheVariants.{IllegalInstruction};
 
 use crate::address::find_address;
@@ -229,105 +229,59 @@ fn carry_out<M: JobMemory>(
     }
 }
 
-/// Whether a word is an XCT.
-#[tactic(auto, unfolding(crate::specs::Exec::is_xct))]
-fn is_xct_word(word: Word) -> bool
-    ensures { result ≡ is_xct word }
+/// Why a word is refused whose address is not found, behind so many XCTs.
+fn refusal(turn: u32, op: u16, ac: usize, reason: StopReason) -> StopReason
+    requires { op < 2 ^ 9 }
+    ensures { result ≡ refusal_of turn (family_of op) ac reason }
 {
-    match find_family(operation(word)) {
-        Family::Xct => true,
-        _ => false,
+    let family = find_family(op);
+    if !is_listed_operation(family, ac) {
+        return StopReason::IllegalInstruction;
+    }
+    match family {
+        Family::Xct if turn == MOST_EXECUTES => StopReason::AddressChain,
+        _ => reason,
     }
 }
 
-/// The word that is executed in the place of an XCT whose word is found, over 255 more of them.
+/// The word that is executed in the place of an XCT behind so many others, whose address is known.
 #[inline(never)]
-#[tactic(auto, using(crate::proofs::Executes::xct_steps))]
-fn follow_executes<M: JobMemory>(regs: &Regs, memory: &M, word: Word) -> Result<Word, StopReason>
-    ensures { result ≡ word_behind 255 regs.now.ac (M.words memory.now) word }
+fn next_word<M: JobMemory>(turn: u32, regs: &Regs, memory: &M, e: u32) -> Result<Word, StopReason>
+    ensures { result ≡ next_word_of turn (word_at regs.now.ac (M.words memory.now) e) }
 {
-    let mut word = word;
-    for turn in 0..MOST_EXECUTES - 1 {
-        if !is_xct_word(word) {
-            return Ok(word);
-        }
-        let e = find_address(regs, memory, word)?;
-        match fetch(regs, memory, e) {
-            None => return Err(StopReason::IllegalAddress),
-            Some(next) => word = next,
-        }
+    if turn >= MOST_EXECUTES {
+        return Err(StopReason::AddressChain);
     }
-    if is_xct_word(word) {
-        Err(StopReason::AddressChain)
-    } else {
-        Ok(word)
+    match fetch(regs, memory, e) {
+        None => Err(StopReason::IllegalAddress),
+        Some(word) => Ok(word),
     }
 }
 
-/// Executes a word that is no XCT.
-#[inline(never)]
-#[tactic(auto, using(crate::proofs::Executes::performances), unfolding(crate::specs::Exec::performed))]
-fn perform<M: JobMemory>(regs: &mut Regs, memory: &mut M, word: Word) -> Outcome
-    ensures after { record { regs = regs.new; core = M.words memory.new; outcome = result } ≡ performed regs.old (M.words memory.old) word }
-    ensures place { M.place memory.new ≡ M.place memory.old }
-{
-    let op = operation(word);
-    let ac = accumulator_field(word);
-    match find_address(regs, memory, word) {
-        Err(reason) => {
-            if is_listed_operation(find_family(op), ac) {
-                Outcome::Stop(reason)
-            } else {
-                Outcome::Stop(StopReason::IllegalInstruction)
-            }
-        }
-        Ok(e) => carry_out(
-            find_family(op),
-            regs,
-            memory,
-            Instruction { op, ac, e },
-            word,
-        ),
-    }
-}
-
-/// Executes the word at the address of an XCT.
-#[inline(never)]
-fn execute_at<M: JobMemory>(regs: &mut Regs, memory: &mut M, e: u32) -> Outcome
-    ensures after { record { regs = regs.new; core = M.words memory.new; outcome = result } ≡ word_performed regs.old (M.words memory.old) (reading (word_at regs.old.ac (M.words memory.old) e) (λ v. word_behind 255 regs.old.ac (M.words memory.old) v)) }
-    ensures place { M.place memory.new ≡ M.place memory.old }
-{
-    let Some(word) = fetch(regs, memory, e) else {
-        return ILLEGAL;
-    };
-    match follow_executes(regs, memory, word) {
-        Err(reason) => Outcome::Stop(reason),
-        Ok(word) => perform(regs, memory, word),
-    }
-}
-
-/// Executes a word, an XCT too.
+/// Executes a word, and where it is an XCT the word behind it.
 #[inline(always)]
 #[tactic(auto, using(crate::proofs::Executes::executions))]
 fn execute<M: JobMemory>(regs: &mut Regs, memory: &mut M, word: Word) -> Outcome
     ensures after { record { regs = regs.new; core = M.words memory.new; outcome = result } ≡ word_performed regs.old (M.words memory.old) (word_behind 256 regs.old.ac (M.words memory.old) word) }
     ensures place { M.place memory.new ≡ M.place memory.old }
 {
-    let op = operation(word);
-    let ac = accumulator_field(word);
-    match find_address(regs, memory, word) {
-        Err(reason) => {
-            if is_listed_operation(find_family(op), ac) {
-                Outcome::Stop(reason)
-            } else {
-                Outcome::Stop(StopReason::IllegalInstruction)
-            }
+    let mut word = word;
+    for turn in 0..MOST_EXECUTES + 1 {
+        let op = operation(word);
+        let ac = accumulator_field(word);
+        let e = match find_address(regs, memory, word) {
+            Err(reason) => return Outcome::Stop(refusal(turn, op, ac, reason)),
+            Ok(e) => e,
+        };
+        match find_family(op) {
+            Family::Xct => match next_word(turn, regs, memory, e) {
+                Err(reason) => return Outcome::Stop(reason),
+                Ok(next) => word = next,
+            },
+            family => return carry_out(family, regs, memory, Instruction { op, ac, e }, word),
         }
-        Ok(e) => match find_family(op) {
-            Family::Xct => execute_at(regs, memory, e),
-            family => carry_out(family, regs, memory, Instruction { op, ac, e }, word),
-        },
     }
+    unreachable!()
 }
 
 /// Executes the instruction at the PC, in user mode (DECsystem-10 Processor Reference Manual, KA10).

@@ -1,6 +1,6 @@
 -- Wants that are made shared or exclusive: ENQ. function 3 (ENQ/DEQ of the TOPS-10 Monitor Calls Manual, in this
 -- project's profile).
-use Rattle.std.specs.Prelude.{ℕ, Bool, true, false, not, ◌==◌, ◌&&◌, ◌||◌, if◌then◌else◌, List, [], ◌∷◌, ◌++◌, map, Option, Some, None, filter}
+use Rattle.std.specs.Prelude.{ℕ, Bool, false, not, ◌==◌, ◌&&◌, ◌||◌, if◌then◌else◌, List, [], ◌∷◌, ◌++◌, map, Option}
 use Rattle.std.specs.List.{list_any}
 use Rattle.lock_queue.specs.declared.call.LockReply.TheVariants.{Done}
 use Rattle.lock_queue.specs.declared.refusal.Refusal.{Refusal}

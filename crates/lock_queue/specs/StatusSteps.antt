@@ -1,10 +1,9 @@
 -- How a status grows by one request, in front of the others: the steps of the private functions that work it out.
-use Rattle.std.specs.Prelude.{ℕ, ◌+◌, Bool, ◌==◌, ◌||◌, Some, filter, sum_by}
+use Rattle.std.specs.Prelude.{ℕ, ◌+◌, ◌==◌, ◌||◌, Some, filter, sum_by}
 use Rattle.std.specs.List.{list_any}
 use Rattle.lock_queue.specs.declared.key.Key.{Key}
 use Rattle.lock_queue.specs.declared.request.Request.{Request}
 use Rattle.lock_queue.specs.declared.status.Status.{Status}
-use Rattle.lock_queue.specs.declared.want.Want.{Want}
 use Rattle.lock_queue.specs.Keys.{same_key}
 use Rattle.lock_queue.specs.Queue.{amount_of}
 use Rattle.lock_queue.specs.StatusWords.{is_exclusive}

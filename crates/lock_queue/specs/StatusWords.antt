@@ -1,5 +1,5 @@
 -- What a job is told of a key: ENQC. function 0 (this project's profile).
-use Rattle.std.specs.Prelude.{ℕ, ◌+◌, ◌-◌, ◌^◌, Bool, true, false, not, ◌==◌, ◌&&◌, if◌then◌else◌, List, [], ◌∷◌, length, Option, Some, None, sum_by, unwrap_or}
+use Rattle.std.specs.Prelude.{ℕ, ◌+◌, ◌-◌, ◌^◌, Bool, not, ◌==◌, ◌&&◌, if◌then◌else◌, List, [], ◌∷◌, length, Option, Some, None, sum_by, unwrap_or}
 use Rattle.std.specs.List.{list_any}
 use Rattle.word36.specs.Words.{joined}
 use Rattle.lock_queue.specs.declared.key.Key.{Key}

@@ -14,6 +14,8 @@ mod source;
 mod statements;
 mod symbol;
 mod syntax;
+#[cfg(test)]
+mod tests;
 mod texts;
 
 pub use fault::ParseError;

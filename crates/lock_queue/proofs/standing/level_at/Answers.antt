@@ -1,4 +1,4 @@
-use Rattle.std.proofs.Common.{◌≡◌, ◌+◌, ap, drop}
+use Rattle.std.proofs.Common.{◌+◌, ap, drop}
 use Rattle.lock_queue.specs.Queue.{wants_at}
 use Rattle.lock_queue.specs.StatusWords.{first_level}
 use Rattle.lock_queue.proofs.StatusLaws.{first_level_drop, first_of}

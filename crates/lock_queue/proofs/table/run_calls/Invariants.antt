@@ -1,5 +1,5 @@
 -- The answers so far and those to what is left are the answers to all.
-use Rattle.std.proofs.Common.{◌≡◌, ◌++◌, take, drop, length}
+use Rattle.std.proofs.Common.{◌≡◌, ◌++◌, take, drop}
 use Rattle.lock_queue.specs.Calls.{requests_after, replies_to}
 use Rattle.lock_queue.proofs.table.run_calls.Given as goal
 

@@ -1,0 +1,189 @@
+use crate::{Data, ParseError, Statement, Symbol, Term, parse};
+use std::alloc::Global;
+use std::test::Fail;
+
+/// The number of the first line that is not in the grammar; 0 where all are.
+fn fault(alloc: Global, source: &[u8]) -> usize {
+    match parse(alloc, source) {
+        Ok(_) => 0,
+        Err(ParseError::Syntax(line)) => line,
+        Err(ParseError::Memory) => usize::MAX,
+    }
+}
+
+/// How many lines a source has up to END.
+fn line_count(alloc: Global, source: &[u8]) -> Option<usize> {
+    Some(parse(alloc, source).ok()?.len())
+}
+
+const RIGHT: [&[u8]; 44] = [
+    b"",
+    b" ; a comment",
+    b"A: B: C: MOVE 1,A ;x",
+    b"MOVE: 5",
+    b" JRST@5",
+    b" ASCIZ/A/",
+    b" MOVEI-1",
+    b" MOVE",
+    b" MOVE 1,",
+    b" MOVE @",
+    b" MOVE (3)",
+    b" MOVE 1,@(3)",
+    b" MOVE 1 , @ A + 2 ( 3 )",
+    b" move 1,a(5)",
+    b" ENQ. 1,",
+    b" MONRT.",
+    b" HALT A",
+    b" JRSTF @A(1)",
+    b" OUTSTR [ASCIZ /]/]",
+    b" OUTSTRING 5",
+    b" TTCALL 3,A",
+    b" CALLI 1,12",
+    b" 1,,2",
+    b" 1 ,, 2",
+    b" -A+^D10-^O7+.",
+    b" FOO",
+    b" ..",
+    b" .5",
+    b" XWD 1,2",
+    b" IOWD 5,A",
+    b" EXP 1,2,-3",
+    b" POINT 7,A",
+    b" POINT 7,,6",
+    b" POINT 7,@A(1),35",
+    b" ASCII ;A;",
+    b" SIXBIT xAAx;c",
+    b" ASCIZ //",
+    b" BLOCK 5",
+    b" LOC .+100",
+    b" RADIX 99",
+    b" TITLE anything \x01 at all ; here",
+    b" SUBTTL",
+    b" MOVE 1,[1,,A]",
+    b"\x0c MOVE\x0c1,\t[A]([B])",
+];
+
+const WRONG: [&[u8]; 40] = [
+    b" MOVE ,A",
+    b" MOVE 1,,2",
+    b" MOVE 1,2,3",
+    b" MOVE 1 2",
+    b" ENQ. 1",
+    b" ENQ. A",
+    b" MONRT. 1,",
+    b" HALT 1,A",
+    b" HALT 1,",
+    b" FOO 1,2",
+    b" FOO,1",
+    b" FOO :",
+    b" 1A",
+    b" 5.",
+    b" 8",
+    b" ^D 1",
+    b" ^X1",
+    b" ^D",
+    b" 1, ,2",
+    b" 1,,",
+    b" 1+",
+    b" +-1",
+    b" (1)",
+    b" @1",
+    b" MOVE (1",
+    b" MOVE 1)",
+    b" MOVE 1,[",
+    b" MOVE 1,[]",
+    b" MOVE 1,[1+[2]]",
+    b" MOVE 1,[A: 1]",
+    b" MOVE 1,[1;]",
+    b" MOVE 1,[LOC 5]",
+    b" MOVE 1,[ASCII //]",
+    b" MOVE 1,[TITLE]",
+    b" XWD 1",
+    b" POINT A,B",
+    b" POINT 7",
+    b" ASCIZ /A",
+    b" RADIX 10.",
+    b" \x01",
+];
+
+#[test]
+fn right_and_wrong(rt: HostRuntime) {
+    for text in &RIGHT {
+        assert_eq!(rt; fault(rt.alloc(), text), 0, "{text:?}");
+    }
+    for text in &WRONG {
+        assert_eq!(rt; fault(rt.alloc(), text), 1, "{text:?}");
+    }
+}
+
+#[test]
+fn lines(rt: HostRuntime) {
+    assert_eq!(rt; line_count(rt.alloc(), b""), Some(0));
+    assert_eq!(rt; line_count(rt.alloc(), b"\n\n"), Some(2));
+    assert_eq!(rt; line_count(rt.alloc(), b" 1\r\n 2"), Some(2));
+    assert_eq!(rt; line_count(rt.alloc(), b" 1\n END\n ?\xff"), Some(2));
+    assert_eq!(rt; fault(rt.alloc(), b" 1\r\r\n"), 1);
+    assert_eq!(rt; fault(rt.alloc(), b" 1\n 2\n ;\xc3\n"), 3);
+    assert_eq!(rt; fault(rt.alloc(), b" ASCIZ /\x80/\n"), 1);
+    assert_eq!(rt;
+        fault(rt.alloc(), b" RADIX 10\n 8\n RADIX 1\n 9\n RADIX 8\n 9\n"),
+        6
+    );
+}
+
+#[test]
+fn statements(rt: HostRuntime) -> Result<(), Fail> {
+    let program = parse(rt.alloc(), b"FOOBARS: foobaz+^D12-[1,,2]\n")
+        .ok()
+        .ok_or("it is right")?;
+    let lines = program.as_slice();
+    assert_eq!(rt; lines.len(), 1);
+    let line = &lines[0];
+    let labels = line.labels.as_slice();
+    assert_eq!(rt; labels.len(), 1);
+    assert_eq!(rt; labels[0], Symbol::of(b"foobarxyz"));
+    assert_eq!(rt; line.literals.len(), 1);
+    match &line.statement {
+        Some(Statement::Data(Data::Value(terms))) => {
+            let terms = terms.as_slice();
+            assert_eq!(rt; terms.len(), 3);
+            assert!(rt; matches!(&terms[1].term, Term::Number(n) if n.to_u64() == Some(12)));
+            assert!(rt; matches!(&terms[2].term, Term::Literal(0)));
+        }
+        _ => assert!(rt; false, "a value"),
+    }
+    Ok(())
+}
+
+#[test]
+fn large_numbers(rt: HostRuntime) -> Result<(), Fail> {
+    let program = parse(
+        rt.alloc(),
+        b" ^D18446744073709551615+^D18446744073709551616\n",
+    )
+    .ok()
+    .ok_or("it is right")?;
+    let lines = program.as_slice();
+    assert_eq!(rt; lines.len(), 1);
+    match &lines[0].statement {
+        Some(Statement::Data(Data::Value(terms))) => {
+            let terms = terms.as_slice();
+            assert_eq!(rt; terms.len(), 2);
+            match (&terms[0].term, &terms[1].term) {
+                (Term::Number(small), Term::Number(large)) => {
+                    assert_eq!(rt; small.to_u64(), Some(u64::MAX));
+                    assert_eq!(rt; large.to_u64(), None);
+                    let rest = large.minus(rt.alloc(), small)?.ok_or("not below")?;
+                    assert_eq!(rt; rest.to_u64(), Some(1));
+                    assert!(rt; small.minus(rt.alloc(), large)?.is_none());
+                    let mut sum = rest.try_clone(rt.alloc())?;
+                    sum.add(small)?;
+                    assert_eq!(rt; sum.to_u64(), None);
+                }
+                _ => assert!(rt; false, "numbers"),
+            }
+        }
+        _ => assert!(rt; false, "a value"),
+    }
+    Ok(())
+}
