@@ -3,4 +3,5 @@ pub mod BitLemmas
 pub mod LegalLemmas
 pub mod LockLemmas
 pub mod NameLemmas
+pub mod PointerLemmas
 pub mod WantLemmas

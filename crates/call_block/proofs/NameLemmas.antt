@@ -8,29 +8,30 @@ use Rattle.std.proofs.lemmas.List.Sums.{take_while-cons}
 use Rattle.std.proofs.lemmas.List.Folds.{list_any-append}
 use Rattle.std.proofs.lemmas.Bool.Decides.{nat_tests}
 use Rattle.lock_queue.specs.declared.refusal.Refusal.TheVariants.{BadPointer, BadName}
-use Rattle.call_block.specs.Names.{CharacterPointer, incremented, increments, character_at, characters, is_zero, text_of, name_text}
+use Rattle.ka_cpu.specs.Bytes.{incremented}
+use Rattle.call_block.specs.Names.{pointers_from, character_at, characters, is_zero, text_of, name_text}
 
 -- one more character
-pub characters-suc : (ac core : List ℕ) (p : CharacterPointer) (n : ℕ) →
+pub characters-suc : (ac core : List ℕ) (p : ℕ) (n : ℕ) →
     characters ac core p (suc n) ≡ cond (not (is_zero (character_at ac core (incremented p)))) (character_at ac core (incremented p) ∷ characters ac core (incremented p) n) []
-unfolding characters increments
-characters-suc ac core p n = take_while-cons (λ c. not (is_zero c)) (character_at ac core (incremented p)) (map (character_at ac core) (increments n (incremented p)))
+unfolding characters pointers_from
+characters-suc ac core p n = take_while-cons (λ c. not (is_zero c)) (character_at ac core (incremented p)) (map (character_at ac core) (pointers_from n (incremented p)))
 
 -- where so many are read: a step by what the next pointer points to
-characters-next : (ac core : List ℕ) (p q : CharacterPointer) (n k : ℕ) (x : Option ℕ) → k < n → q ≡ incremented p → character_at ac core q ≡ x →
+characters-next : (ac core : List ℕ) (p q : ℕ) (n k : ℕ) (x : Option ℕ) → k < n → q ≡ incremented p → character_at ac core q ≡ x →
     characters ac core p (n - k) ≡ cond (not (is_zero x)) (x ∷ characters ac core q (n - (k + 1))) []
 characters-next ac core p q n k x h next at =
     let e : n - k ≡ suc (n - (k + 1)) = omega arith in
     let rest = characters ac core q (n - (k + 1)) in
     ap (characters ac core p) e
     ∙ characters-suc ac core p (n - (k + 1))
-    ∙ ap (λ (r : CharacterPointer). cond (not (is_zero (character_at ac core r))) (character_at ac core r ∷ characters ac core r (n - (k + 1))) []) (sym next)
+    ∙ ap (λ (r : ℕ). cond (not (is_zero (character_at ac core r))) (character_at ac core r ∷ characters ac core r (n - (k + 1))) []) (sym next)
     ∙ ap (λ (y : Option ℕ). cond (not (is_zero y)) (y ∷ rest) []) at
 
 pub not_zero : (c : ℕ) → c ≢ 0 → not (is_zero (Some c)) ≡ true
 not_zero c ne = grind (arith, nat_tests)
 
-pub more : (ac core : List ℕ) (p q : CharacterPointer) (n k c : ℕ) (text : List ℕ) (all : List (Option ℕ)) → k < n →
+pub more : (ac core : List ℕ) (p q : ℕ) (n k c : ℕ) (text : List ℕ) (all : List (Option ℕ)) → k < n →
     all ≡ map Some text ++ characters ac core p (n - k) → q ≡ incremented p → character_at ac core q ≡ Some c → c ≢ 0 →
     all ≡ map Some (text ++ c ∷ []) ++ characters ac core q (n - (k + 1))
 more ac core p q n k c text all h e next at ne =
@@ -39,23 +40,23 @@ more ac core p q n k c text all h e next at ne =
     let go = ap (λ b. cond b (Some c ∷ rest) []) (not_zero c ne) in
     e ∙ ap (λ t. map Some text ++ t) (step ∙ go) ∙ simp (map-append, append_assoc)
 
-pub zero_ends : (ac core : List ℕ) (p q : CharacterPointer) (n k : ℕ) (text : List ℕ) (all : List (Option ℕ)) → k < n →
+pub zero_ends : (ac core : List ℕ) (p q : ℕ) (n k : ℕ) (text : List ℕ) (all : List (Option ℕ)) → k < n →
     all ≡ map Some text ++ characters ac core p (n - k) → q ≡ incremented p → character_at ac core q ≡ Some 0 →
     all ≡ map Some text
 zero_ends ac core p q n k text all h e next at =
     e ∙ ap (λ t. map Some text ++ t) (characters-next ac core p q n k (Some 0) h next at) ∙ append-nil (map Some text)
 
-pub none_left : (ac core : List ℕ) (p : CharacterPointer) → characters ac core p 0 ≡ []
-unfolding characters increments
+pub none_left : (ac core : List ℕ) (p : ℕ) → characters ac core p 0 ≡ []
+unfolding characters pointers_from
 none_left ac core p = refl
 
-pub enough : (ac core : List ℕ) (p : CharacterPointer) (n k : ℕ) (text : List ℕ) (all : List (Option ℕ)) → n ≤ k →
+pub enough : (ac core : List ℕ) (p : ℕ) (n k : ℕ) (text : List ℕ) (all : List (Option ℕ)) → n ≤ k →
     all ≡ map Some text ++ characters ac core p (n - k) → all ≡ map Some text
 enough ac core p n k text all h e =
     let none : n - k ≡ 0 = omega arith in
     e ∙ ap (λ t. map Some text ++ t) (ap (characters ac core p) none ∙ none_left ac core p) ∙ append-nil (map Some text)
 
-pub illegal : (ac core : List ℕ) (p q : CharacterPointer) (n k : ℕ) (text : List ℕ) (all : List (Option ℕ)) → k < n →
+pub illegal : (ac core : List ℕ) (p q : ℕ) (n k : ℕ) (text : List ℕ) (all : List (Option ℕ)) → k < n →
     all ≡ map Some text ++ characters ac core p (n - k) → q ≡ incremented p → character_at ac core q ≡ None →
     list_any is_none all ≡ true
 illegal ac core p q n k text all h e next at =

@@ -1,81 +1,44 @@
 //! The name of a lock, as a block names it.
 ghost use Rattle.std.specs.Prelude.{◌≡◌, ◌<◌, IfSome};
-ghost use Rattle.ka_cpu.specs.Places.{word_at};
-ghost use Rattle.call_block.specs.Names.{pointer_of, incremented, character_at, characters, AreLegalCharacters, text_at, name_at};
+ghost use Rattle.ka_cpu.specs.Bytes.{incremented, size_of};
+ghost use Rattle.call_block.specs.Names.{character_at, characters, AreLegalCharacters, text_at, name_at};
 
 use crate::bits::bits;
 use arrayvec::ArrayString;
 use ka_cpu::{JobMemory, Regs, fetch};
 use lock_queue::{Name, NameText, Refusal, UserCode};
-use std::marker::Model;
 use word36::{Address, NAME_LENGTH, Word};
 
 /// One character more than a name may have, so that a longer name shows.
 const READ_AT_MOST: usize = NAME_LENGTH + 1;
 
-/// A byte pointer to a character of 7 bits.
-#[derive(Clone, Copy)]
-struct CharacterPointer {
-    position: u32,
-    place: Address,
+/// The bits of a character.
+const CHARACTER_BITS: u64 = 7;
+
+/// The pointer to the next character, as ILDB increments it.
+#[tactic(auto, using(crate::proofs::PointerLemmas::incremented_seven, crate::proofs::PointerLemmas::size_of_next))]
+fn increment(pointer: Word) -> Word
+    requires { size_of pointer ≡ 7 }
+    ensures value { result ≡ incremented pointer }
+    ensures size { size_of result ≡ 7 }
+{
+    if pointer.number() >> 30 >= CHARACTER_BITS {
+        Word::new(pointer.number() - (CHARACTER_BITS << 30))
+    } else {
+        let first = 36 - CHARACTER_BITS as u32;
+        let place = Address::new(pointer.right()).plus(1);
+        Word::join(first * 0o10_000 + pointer.left() % 0o10_000, place.number())
+    }
 }
 
-impl Model for CharacterPointer {
-    ghost use Rattle.std.specs.Prelude.{◌≤◌};
-    ghost use Rattle.call_block.specs.Names.{CharacterPointer};
-
-    ghost Value = { CharacterPointer };
-
-    ghost view = { λ p. record { position = p.position; place = p.place } };
-
-    ghost inverse = { λ p. record { position = p.position; place = p.place } };
-
-    ghost invariant = { λ p. p.position ≤ 36 };
-}
-
-impl CharacterPointer {
-    /// The pointer that a word is.
-    fn from_word(word: Word) -> Result<Self, Refusal>
-        ensures { result ≡ pointer_of word }
-    {
-        let size = bits(word, 6, 11);
-        let position = bits(word, 0, 5);
-        let indirect_and_index = bits(word, 13, 17);
-        if size == 7 && position <= 36 && indirect_and_index == 0 {
-            Ok(CharacterPointer {
-                position: position as u32,
-                place: Address::new(word.right()),
-            })
-        } else {
-            Err(Refusal::BadPointer)
-        }
-    }
-
-    /// The pointer to the next character.
-    fn incremented(self) -> Self
-        ensures { result ≡ incremented self }
-    {
-        if self.position >= 7 {
-            CharacterPointer {
-                position: self.position - 7,
-                place: self.place,
-            }
-        } else {
-            CharacterPointer {
-                position: 29,
-                place: self.place.plus(1),
-            }
-        }
-    }
-
-    /// The character that it points to, if its word is legal.
-    fn character<M: JobMemory>(self, regs: &Regs, memory: &M) -> Option<u8>
-        ensures value { result ≡ character_at regs.now.ac (M.words memory.now) self }
-        ensures ascii { IfSome result (λ c. c < 128) }
-    {
-        let word = fetch(regs, memory, self.place.number())?;
-        Some((word.number() >> self.position & 0o177) as u8)
-    }
+/// The character that a pointer points to, if its word is legal.
+fn character_at<M: JobMemory>(regs: &Regs, memory: &M, pointer: Word) -> Option<u8>
+    requires { size_of pointer ≡ 7 }
+    ensures value { result ≡ character_at regs.now.ac (M.words memory.now) pointer }
+    ensures ascii { IfSome result (λ c. c < 128) }
+{
+    let word = fetch(regs, memory, pointer.right())?;
+    Some((word.number() >> (pointer.number() >> 30) & 0o177) as u8)
 }
 
 /// What the increments of a pointer point to, up to the first zero or to one character more than a
@@ -83,15 +46,16 @@ impl CharacterPointer {
 fn read_characters<M: JobMemory>(
     regs: &Regs,
     memory: &M,
-    pointer: CharacterPointer,
+    pointer: Word,
 ) -> Option<ArrayString<READ_AT_MOST>>
+    requires { size_of pointer ≡ 7 }
     ensures { AreLegalCharacters result (characters regs.now.ac (M.words memory.now) pointer READ_AT_MOST) }
 {
     let mut pointer = pointer;
     let mut text = ArrayString::new();
     for _count in 0..READ_AT_MOST {
-        pointer = pointer.incremented();
-        let character = pointer.character(regs, memory)?;
+        pointer = increment(pointer);
+        let character = character_at(regs, memory, pointer)?;
         if character == 0 {
             return Some(text);
         }
@@ -101,11 +65,8 @@ fn read_characters<M: JobMemory>(
 }
 
 /// The text at a pointer.
-fn read_text<M: JobMemory>(
-    regs: &Regs,
-    memory: &M,
-    pointer: CharacterPointer,
-) -> Result<NameText, Refusal>
+fn read_text<M: JobMemory>(regs: &Regs, memory: &M, pointer: Word) -> Result<NameText, Refusal>
+    requires { size_of pointer ≡ 7 }
     ensures { result ≡ text_at regs.now.ac (M.words memory.now) pointer }
 {
     let Some(text) = read_characters(regs, memory, pointer) else {
@@ -121,7 +82,12 @@ pub fn read_name<M: JobMemory>(regs: &Regs, memory: &M, word: Word) -> Result<Na
     if bits(word, 0, 2) == 5 {
         return Ok(Name::Code(UserCode::new(bits(word, 3, 35))));
     }
-    let pointer = CharacterPointer::from_word(word)?;
-    let text = read_text(regs, memory, pointer)?;
+    let size = bits(word, 6, 11);
+    let position = word.number() >> 30;
+    let indirect_and_index = bits(word, 13, 17);
+    if size != CHARACTER_BITS || position > 36 || indirect_and_index != 0 {
+        return Err(Refusal::BadPointer);
+    }
+    let text = read_text(regs, memory, word)?;
     Ok(Name::Text(text))
 }

@@ -15,14 +15,17 @@ impl<'a> JobMemory for CoreWindow<'a> {
 
     ghost place = { λ w. w.words.ghost_name };
 
+    #[inline(always)]
     fn size(&self) -> usize {
         self.words.len()
     }
 
+    #[inline(always)]
     fn read(&self, a: u32) -> Option<Word> {
         self.words.get(a as usize).copied()
     }
 
+    #[inline(always)]
     fn write(&mut self, a: u32, word: Word) -> bool {
         let at = a as usize;
         if at < self.words.len() {

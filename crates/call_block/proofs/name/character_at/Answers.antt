@@ -1,0 +1,6 @@
+use Rattle.call_block.proofs.PointerLemmas.{character_read}
+use Rattle.call_block.proofs.name.character_at.Goals as goal
+
+pub returns-clause-value : goal.returns-clause-value
+returns-clause-value g c =
+    character_read _ _ c.args.pointer _ _ _ _ c.requires c.number-2.ensures.value c.number.ensures.value c.right.ensures.value c.in_ok-word.ensures
