@@ -1,5 +1,5 @@
 -- What an instruction does: its operand, the places of its result, its flags, and the next PC.
-use Rattle.std.specs.Prelude.{ℕ, ◌+◌, ◌/◌, ◌%◌, ◌^◌, nat_eq, nat_lt, Bool, false, true, ◌||◌, not, if◌then◌else◌, Option, Some, None, List, slice_index, slice_set, Result, Ok, Err}
+use Rattle.std.specs.Prelude.{◌≡◌, ◌<◌, ℕ, ◌+◌, ◌/◌, ◌%◌, ◌^◌, nat_eq, nat_lt, Bool, false, true, ◌||◌, not, if◌then◌else◌, Option, Some, None, List, slice_index, slice_set, Result, Ok, Err}
 use Rattle.ka_cpu.specs.Places.{word_at, is_legal, ac_with, core_with}
 use Rattle.ka_cpu.specs.declared.registers.Regs.{Regs}
 use Rattle.ka_cpu.specs.declared.registers.Flags.{Flags}
@@ -125,15 +125,18 @@ told (Calls kind ac e) = outcome.Call kind ac e
 told Halts = outcome.Stop reason.Halt
 told Overruns = outcome.Stop reason.Pushdown
 
--- stops 1, 2 and 5, at which nothing has changed
-abbrev pub IsRefusal : Outcome → Type 0
-IsRefusal outcome.Done = ⊥
-IsRefusal (outcome.Call kind ac e) = ⊥
-IsRefusal (outcome.Stop reason.IllegalAddress) = Unit {0}
-IsRefusal (outcome.Stop reason.IllegalInstruction) = Unit {0}
-IsRefusal (outcome.Stop reason.AddressChain) = Unit {0}
-IsRefusal (outcome.Stop reason.Halt) = ⊥
-IsRefusal (outcome.Stop reason.Pushdown) = ⊥
+-- How an instruction leaves the registers g and core, as h and rest, by its outcome: at stops 1, 2 and 5 nothing
+-- has changed; at a halt the PC alone has; before a call of the monitor core is unchanged and the PC is that of the
+-- next instruction. At stop 4 the instruction is complete.
+abbrev pub EndsAs : Outcome → Regs → List ℕ → Regs → List ℕ → Type 0
+EndsAs outcome.Done g core h rest = Unit {0}
+EndsAs (outcome.Call kind ac e) g core h rest =
+    (ac < 16) × (e < 2 ^ 18) × (h ≡ record g { pc = next_pc g }) × (rest ≡ core)
+EndsAs (outcome.Stop reason.IllegalAddress) g core h rest = (h ≡ g) × (rest ≡ core)
+EndsAs (outcome.Stop reason.IllegalInstruction) g core h rest = (h ≡ g) × (rest ≡ core)
+EndsAs (outcome.Stop reason.Halt) g core h rest = (h ≡ record g { pc = h.pc }) × (rest ≡ core)
+EndsAs (outcome.Stop reason.Pushdown) g core h rest = Unit {0}
+EndsAs (outcome.Stop reason.AddressChain) g core h rest = (h ≡ g) × (rest ≡ core)
 
 -- an instruction that is refused: nothing changes
 abbrev pub stopped : Regs → List ℕ → StopReason → After

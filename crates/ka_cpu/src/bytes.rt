@@ -2,7 +2,7 @@
 
 ghost use Rattle.std.specs.Prelude.{◌≡◌, true, IfOk, ℕ, ◌<◌, ◌≤◌, ◌^◌, ◌+◌, ◌*◌, ◌/◌, ◌%◌};
 ghost use Rattle.ka_cpu.specs.Places.{is_legal};
-ghost use Rattle.ka_cpu.specs.Effects.{After, applied};
+ghost use Rattle.ka_cpu.specs.Effects.{After, EndsAs, applied};
 ghost use Rattle.ka_cpu.specs.Bytes.{byte_after, byte_effect, byte_of, byte_place, deposited, incremented, position_of, replaced, size_of};
 
 use crate::address::find_address;
@@ -124,6 +124,7 @@ fn move_byte<M: JobMemory>(
     requires legal { is_legal (M.words memory.old) e ≡ true }
     ensures after { record { regs = regs.new; core = M.words memory.new; outcome = result } ≡ applied regs.old (M.words memory.old) n (byte_effect regs.old n pointer e word) }
     ensures place { M.place memory.new ≡ M.place memory.old }
+    ensures ends { EndsAs result regs.old (M.words memory.old) regs.new (M.words memory.new) }
 {
     let a = regs.ac[n.ac];
     if n.op == 0o134 || n.op == 0o135 {
@@ -142,6 +143,7 @@ pub fn do_byte<M: JobMemory>(regs: &mut Regs, memory: &mut M, n: Instruction) ->
     requires { n.ac < 16 }
     ensures after { record { regs = regs.new; core = M.words memory.new; outcome = result } ≡ byte_after regs.old (M.words memory.old) n }
     ensures place { M.place memory.new ≡ M.place memory.old }
+    ensures ends { EndsAs result regs.old (M.words memory.old) regs.new (M.words memory.new) }
 {
     let Some(old) = fetch(regs, memory, n.e) else {
         return ILLEGAL;

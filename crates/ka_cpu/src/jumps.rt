@@ -1,7 +1,7 @@
 //! JFFO, AOBJP, AOBJN, JRST, JFCL, subroutine calls and calls of the monitor.
 
 ghost use Rattle.std.specs.Prelude.{◌≡◌, ℕ, ◌<◌, ◌≤◌, ◌^◌, ◌+◌, ◌*◌, ◌/◌, ◌-◌, ◌%◌, Ok, Err, Some, None, if◌then◌else◌};
-ghost use Rattle.ka_cpu.specs.Effects.{After, finished};
+ghost use Rattle.ka_cpu.specs.Effects.{After, EndsAs, finished};
 ghost use Rattle.ka_cpu.specs.Addresses.{target_of, used_in};
 ghost use Rattle.std.specs.Int.Count.{count_leading_zeros};
 ghost use Rattle.ka_cpu.specs.Jumps.{pc_word, flags_of, jffo_row, counted_up, aobj_row, restored, jrst_row, jfcl_row, jsr_row, jsp_row, jsa_row, jra_row, call_row};
@@ -59,6 +59,7 @@ pub fn do_jffo<M: JobMemory>(regs: &mut Regs, memory: &mut M, n: Instruction) ->
     requires e { n.e < 2 ^ 18 }
     ensures after { record { regs = regs.new; core = M.words memory.new; outcome = result } ≡ finished regs.old (M.words memory.old) n (Ok (jffo_row regs.old n)) }
     ensures place { M.place memory.new ≡ M.place memory.old }
+    ensures ends { EndsAs result regs.old (M.words memory.old) regs.new (M.words memory.new) }
 {
     let a = regs.ac[n.ac];
     if a.number() == 0 {
@@ -79,6 +80,7 @@ pub fn do_aobj<M: JobMemory>(regs: &mut Regs, memory: &mut M, n: Instruction) ->
     requires e { n.e < 2 ^ 18 }
     ensures after { record { regs = regs.new; core = M.words memory.new; outcome = result } ≡ finished regs.old (M.words memory.old) n (Ok (aobj_row regs.old n)) }
     ensures place { M.place memory.new ≡ M.place memory.old }
+    ensures ends { EndsAs result regs.old (M.words memory.old) regs.new (M.words memory.new) }
 {
     let word = regs.ac[n.ac].sum(Word::new(BOTH), false);
     regs.ac[n.ac] = word;
@@ -100,6 +102,7 @@ pub fn do_jrst<M: JobMemory>(regs: &mut Regs, memory: &mut M, n: Instruction, wo
     requires e { n.e < 2 ^ 18 }
     ensures after { record { regs = regs.new; core = M.words memory.new; outcome = result } ≡ finished regs.old (M.words memory.old) n (Ok (jrst_row regs.old n (used_in (target_of regs.old.ac (M.words memory.old) word)))) }
     ensures place { M.place memory.new ≡ M.place memory.old }
+    ensures ends { EndsAs result regs.old (M.words memory.old) regs.new (M.words memory.new) }
 {
     match n.ac {
         0 => {
@@ -128,6 +131,7 @@ pub fn do_jfcl<M: JobMemory>(regs: &mut Regs, memory: &mut M, n: Instruction) ->
     requires e { n.e < 2 ^ 18 }
     ensures after { record { regs = regs.new; core = M.words memory.new; outcome = result } ≡ finished regs.old (M.words memory.old) n (Ok (jfcl_row regs.old n)) }
     ensures place { M.place memory.new ≡ M.place memory.old }
+    ensures ends { EndsAs result regs.old (M.words memory.old) regs.new (M.words memory.new) }
 {
     let old = regs.flags;
     let overflow = n.ac >> 3 & 1 == 1;
@@ -156,6 +160,7 @@ pub fn do_jsr<M: JobMemory>(regs: &mut Regs, memory: &mut M, n: Instruction) -> 
     requires e { n.e < 2 ^ 18 }
     ensures after { record { regs = regs.new; core = M.words memory.new; outcome = result } ≡ finished regs.old (M.words memory.old) n (Ok (jsr_row regs.old n)) }
     ensures place { M.place memory.new ≡ M.place memory.old }
+    ensures ends { EndsAs result regs.old (M.words memory.old) regs.new (M.words memory.new) }
 {
     if !is_legal_place(memory, n.e) {
         return ILLEGAL;
@@ -174,6 +179,7 @@ pub fn do_jsp<M: JobMemory>(regs: &mut Regs, memory: &mut M, n: Instruction) -> 
     requires e { n.e < 2 ^ 18 }
     ensures after { record { regs = regs.new; core = M.words memory.new; outcome = result } ≡ finished regs.old (M.words memory.old) n (Ok (jsp_row regs.old n)) }
     ensures place { M.place memory.new ≡ M.place memory.old }
+    ensures ends { EndsAs result regs.old (M.words memory.old) regs.new (M.words memory.new) }
 {
     regs.ac[n.ac] = word_of_pc(regs.flags, regs.pc.plus(1));
     regs.pc = Address::new(n.e);
@@ -188,6 +194,7 @@ pub fn do_jsa<M: JobMemory>(regs: &mut Regs, memory: &mut M, n: Instruction) -> 
     requires e { n.e < 2 ^ 18 }
     ensures after { record { regs = regs.new; core = M.words memory.new; outcome = result } ≡ finished regs.old (M.words memory.old) n (Ok (jsa_row regs.old n)) }
     ensures place { M.place memory.new ≡ M.place memory.old }
+    ensures ends { EndsAs result regs.old (M.words memory.old) regs.new (M.words memory.new) }
 {
     if !is_legal_place(memory, n.e) {
         return ILLEGAL;
@@ -208,6 +215,7 @@ pub fn do_jra<M: JobMemory>(regs: &mut Regs, memory: &mut M, n: Instruction) -> 
     requires e { n.e < 2 ^ 18 }
     ensures after { record { regs = regs.new; core = M.words memory.new; outcome = result } ≡ finished regs.old (M.words memory.old) n (jra_row regs.old (M.words memory.old) n) }
     ensures place { M.place memory.new ≡ M.place memory.old }
+    ensures ends { EndsAs result regs.old (M.words memory.old) regs.new (M.words memory.new) }
 {
     let a = regs.ac[n.ac];
     let Some(word) = fetch(regs, memory, a.left()) else {
@@ -231,6 +239,7 @@ pub fn do_call<M: JobMemory>(
     requires e { n.e < 2 ^ 18 }
     ensures after { record { regs = regs.new; core = M.words memory.new; outcome = result } ≡ finished regs.old (M.words memory.old) n (Ok (call_row kind regs.old n)) }
     ensures place { M.place memory.new ≡ M.place memory.old }
+    ensures ends { EndsAs result regs.old (M.words memory.old) regs.new (M.words memory.new) }
 {
     regs.pc = regs.pc.plus(1);
     Outcome::Call(kind, n.ac as u8, n.e)

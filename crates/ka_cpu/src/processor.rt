@@ -4,7 +4,7 @@ ghost use Rattle.std.specs.Prelude.{◌≡◌, ℕ, ◌<◌, ◌^◌, IfOk, Ok, 
 ghost use Rattle.ka_cpu.specs.Addresses.{target_of, used_in};
 ghost use Rattle.ka_cpu.specs.Places.{word_at};
 ghost use Rattle.ka_isa.specs.Families.{family_of};
-ghost use Rattle.ka_cpu.specs.Effects.{After, IsRefusal, stopped};
+ghost use Rattle.ka_cpu.specs.Effects.{After, EndsAs, stopped};
 ghost use Rattle.ka_cpu.specs.Exec.{ac_field, carried_out, exec, is_listed, next_word_of, op_of, refusal_of, word_behind, word_performed};
 ghost use Rattle.ka_cpu.specs.declared.outcome.StopReason.TheVariants.{IllegalInstruction};
 
@@ -185,6 +185,7 @@ fn carry_out<M: JobMemory>(
     requires e { n.e < 2 ^ 18 }
     ensures after { record { regs = regs.new; core = M.words memory.new; outcome = result } ≡ (if is_listed family n.ac then carried_out family regs.old (M.words memory.old) n (used_in (target_of regs.old.ac (M.words memory.old) word)) else stopped regs.old (M.words memory.old) IllegalInstruction) }
     ensures place { M.place memory.new ≡ M.place memory.old }
+    ensures ends { EndsAs result regs.old (M.words memory.old) regs.new (M.words memory.new) }
 {
     match family {
         Family::Move => in_mode!(do_move, regs, memory, n),
@@ -264,6 +265,7 @@ fn next_word<M: JobMemory>(turn: u32, regs: &Regs, memory: &M, e: u32) -> Result
 fn execute<M: JobMemory>(regs: &mut Regs, memory: &mut M, word: Word) -> Outcome
     ensures after { record { regs = regs.new; core = M.words memory.new; outcome = result } ≡ word_performed regs.old (M.words memory.old) (word_behind 256 regs.old.ac (M.words memory.old) word) }
     ensures place { M.place memory.new ≡ M.place memory.old }
+    ensures ends { EndsAs result regs.old (M.words memory.old) regs.new (M.words memory.new) }
 {
     let mut word = word;
     for turn in 0..MOST_EXECUTES + 1 {

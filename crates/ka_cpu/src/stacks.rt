@@ -1,7 +1,7 @@
 //! PUSHJ, PUSH, POP and POPJ.
 
-ghost use Rattle.std.specs.Prelude.{◌≡◌, ℕ, ◌<◌, ◌≤◌, ◌^◌, ◌+◌, ◌*◌, ◌/◌, ◌-◌, ◌%◌, Ok, Err, Some, None, if◌then◌else◌};
-ghost use Rattle.ka_cpu.specs.Effects.{After, finished};
+ghost use Rattle.std.specs.Prelude.{◌≡◌, ℕ, ◌<◌, ◌≤◌, ◌^◌, ◌+◌, ◌*◌, ◌/◌, ◌-◌, ◌%◌, Ok, Err, Some, None, if◌then◌else◌, List};
+ghost use Rattle.ka_cpu.specs.Effects.{After, EndsAs, finished};
 ghost use Rattle.ka_cpu.specs.Effects.{told};
 ghost use Rattle.ka_cpu.specs.Jumps.{counted_up};
 ghost use Rattle.ka_cpu.specs.Stacks.{counted_down, push_ending, pop_ending, pushj_row, push_row, pop_row, popj_row};
@@ -17,6 +17,7 @@ use word36::{Address, Word};
 fn push_down(pointer: Word) -> (Word, Outcome)
     ensures word { result.0 ≡ counted_up pointer }
     ensures outcome { result.1 ≡ told (push_ending pointer) }
+    ensures ends { (g h : Regs) (core rest : List ℕ) → EndsAs result.1 g core h rest }
 {
     let outcome = if pointer.number() + BOTH > 0o777_777_777_777 {
         Outcome::Stop(StopReason::Pushdown)
@@ -31,6 +32,7 @@ fn push_down(pointer: Word) -> (Word, Outcome)
 fn pop_up(pointer: Word) -> (Word, Outcome)
     ensures word { result.0 ≡ counted_down pointer }
     ensures outcome { result.1 ≡ told (pop_ending pointer) }
+    ensures ends { (g h : Regs) (core rest : List ℕ) → EndsAs result.1 g core h rest }
 {
     let outcome = if pointer.number() < BOTH {
         Outcome::Stop(StopReason::Pushdown)
@@ -48,6 +50,7 @@ pub fn do_pushj<M: JobMemory>(regs: &mut Regs, memory: &mut M, n: Instruction) -
     requires e { n.e < 2 ^ 18 }
     ensures after { record { regs = regs.new; core = M.words memory.new; outcome = result } ≡ finished regs.old (M.words memory.old) n (Ok (pushj_row regs.old n)) }
     ensures place { M.place memory.new ≡ M.place memory.old }
+    ensures ends { EndsAs result regs.old (M.words memory.old) regs.new (M.words memory.new) }
 {
     let (pointer, outcome) = push_down(regs.ac[n.ac]);
     if !is_legal_place(memory, pointer.right()) {
@@ -68,6 +71,7 @@ pub fn do_push<M: JobMemory>(regs: &mut Regs, memory: &mut M, n: Instruction) ->
     requires e { n.e < 2 ^ 18 }
     ensures after { record { regs = regs.new; core = M.words memory.new; outcome = result } ≡ finished regs.old (M.words memory.old) n (push_row regs.old (M.words memory.old) n) }
     ensures place { M.place memory.new ≡ M.place memory.old }
+    ensures ends { EndsAs result regs.old (M.words memory.old) regs.new (M.words memory.new) }
 {
     let Some(word) = fetch(regs, memory, n.e) else {
         return ILLEGAL;
@@ -90,6 +94,7 @@ pub fn do_pop<M: JobMemory>(regs: &mut Regs, memory: &mut M, n: Instruction) -> 
     requires e { n.e < 2 ^ 18 }
     ensures after { record { regs = regs.new; core = M.words memory.new; outcome = result } ≡ finished regs.old (M.words memory.old) n (pop_row regs.old (M.words memory.old) n) }
     ensures place { M.place memory.new ≡ M.place memory.old }
+    ensures ends { EndsAs result regs.old (M.words memory.old) regs.new (M.words memory.new) }
 {
     let old = regs.ac[n.ac];
     let Some(word) = fetch(regs, memory, old.right()) else {
@@ -113,6 +118,7 @@ pub fn do_popj<M: JobMemory>(regs: &mut Regs, memory: &mut M, n: Instruction) ->
     requires e { n.e < 2 ^ 18 }
     ensures after { record { regs = regs.new; core = M.words memory.new; outcome = result } ≡ finished regs.old (M.words memory.old) n (popj_row regs.old (M.words memory.old) n) }
     ensures place { M.place memory.new ≡ M.place memory.old }
+    ensures ends { EndsAs result regs.old (M.words memory.old) regs.new (M.words memory.new) }
 {
     let old = regs.ac[n.ac];
     let Some(word) = fetch(regs, memory, old.right()) else {

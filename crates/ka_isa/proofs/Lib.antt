@@ -2,3 +2,4 @@ pub mod TableLemmas
 pub mod SearchLemmas
 pub mod MeaningLemmas
 pub mod DistinctLemmas
+pub mod FamilyLemmas

@@ -39,7 +39,7 @@ unfolding named_of meanings
 named_of_call name h = meaning_of_call operations calls name h
 
 -- an operation is a number of nine bits
-all_below : end_before operations 512 ≡ true
+pub all_below : end_before operations 512 ≡ true
 unfolding operations
 all_below = refl
 

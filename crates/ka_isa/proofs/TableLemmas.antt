@@ -39,7 +39,7 @@ within os (e ∷ es) from (suc k) h p =
     let z : from + suc k ≡ from + 1 + k = omega arith in
     rw z (within os es (from + 1) k parts.1 (omega arith))
 
-past : (os : List Operation) (end code : ℕ) → end_before os end ≡ true → end ≤ code → name_in os code ≡ None
+pub past : (os : List Operation) (end code : ℕ) → end_before os end ≡ true → end ≤ code → name_in os code ≡ None
 past [] end code h p = refl
 past (o ∷ os) end code h p =
     let parts = and_parts (nat_le (o.code + 1) end) (end_before os end) h in

@@ -1,8 +1,10 @@
 //! The names of operations by their codes.
 
-ghost use Rattle.std.specs.Prelude.{◌≡◌, ◌<◌, ◌≤◌, IsTrue, IfSome, map, length};
+ghost use Rattle.std.specs.Prelude.{◌≡◌, ◌<◌, ◌≤◌, IsTrue, IsNone, IfSome, ◌↔◌, map, length};
 ghost use Rattle.std.specs.Option.{option_copied};
 ghost use Rattle.ka_isa.specs.Operations.{name_of};
+ghost use Rattle.ka_isa.specs.Families.{family_of};
+ghost use Rattle.ka_isa.specs.declared.Family.TheVariants.{Other};
 ghost use Rattle.ka_isa.specs.Tables.{are_by_code};
 
 /// The name of each operation from 0 to 777 octal, empty where it has none.
@@ -57,10 +59,11 @@ fn name_in(names: &[&'static str], op: u16) -> Option<&'static str>
 }
 
 /// The name of an operation, the number in bits 0 to 8 of an instruction, as in `MOVEI` for 201
-/// octal. None for an operation that this machine leaves out (DECsystem-10 Processor Reference
-/// Manual).
+/// octal. None for an operation that this machine leaves out, just where `classify` gives
+/// `Family::Other` (DECsystem-10 Processor Reference Manual).
 pub fn mnemonic(op: u16) -> Option<&'static str>
     ensures name { option_copied result ≡ name_of op }
+    ensures left_out { IsNone result ↔ (family_of op ≡ Other) }
     ensures short { IfSome result (λ name. length name.now ≤ 6) }
 {
     name_in(&MNEMONICS, op)

@@ -10,59 +10,82 @@ use word36::{Word, octal_text};
 
 /// The longest text has a name of six characters, an AC and an index register of two digits each and
 /// six digits of an address: `TTCALL 17,@777777(17)`.
-type Text = ArrayString<21>;
+type Line = ArrayString<21>;
 
-fn push_accumulator(text: &mut Text, ac: u8)
+/// Room for the digits of any number.
+type Digits = ArrayString<22>;
+
+/// The digits of the number of an accumulator or an index register.
+fn register_digits(register: u8) -> Digits
+    requires { register < 2 ^ 4 }
+    ensures text { result.bytes ≡ octal_text register }
+    ensures short { length result.bytes ≤ 2 }
+{
+    octal_text(register as u64)
+}
+
+/// The digits of an address or of half a word.
+fn half_digits(half: u32) -> Digits
+    requires { half < 2 ^ 18 }
+    ensures text { result.bytes ≡ octal_text half }
+    ensures short { length result.bytes ≤ 6 }
+{
+    octal_text(half as u64)
+}
+
+/// Appends an accumulator and its comma, where it is not 0.
+fn push_accumulator(text: &mut Line, ac: u8)
     requires ac { ac < 2 ^ 4 }
     requires room { length text.old.bytes ≤ 7 }
     ensures bytes { text.new.bytes ≡ text.old.bytes ++ accumulator_text ac }
     ensures length { length text.new.bytes ≤ length text.old.bytes + 3 }
 {
     if ac != 0 {
-        text.push_str(octal_text(ac as u64).as_str());
+        text.push_str(register_digits(ac).as_str());
         text.push_str(",");
     }
 }
 
-fn push_index(text: &mut Text, x: u8)
+/// Appends an index register in parentheses, where there is one.
+fn push_index(text: &mut Line, x: u8)
     requires x { x < 2 ^ 4 }
     requires room { length text.old.bytes ≤ 17 }
     ensures { text.new.bytes ≡ text.old.bytes ++ index_text x }
 {
     if x != 0 {
         text.push_str("(");
-        text.push_str(octal_text(x as u64).as_str());
+        text.push_str(register_digits(x).as_str());
         text.push_str(")");
     }
 }
 
-fn instruction_text(name: &str, fields: Fields) -> Text
+fn instruction_text(name: &str, fields: Fields) -> Line
     requires name { length name.now ≤ 6 }
     requires ac { fields.ac < 2 ^ 4 }
     requires x { fields.x < 2 ^ 4 }
     requires y { fields.y < 2 ^ 18 }
     ensures { result.bytes ≡ instruction_text name.now fields }
 {
-    let mut text = Text::new();
+    let mut text = Line::new();
     text.push_str(name);
     text.push_str(" ");
     push_accumulator(&mut text, fields.ac);
     if fields.i {
         text.push_str("@");
     }
-    text.push_str(octal_text(fields.y as u64).as_str());
+    text.push_str(half_digits(fields.y).as_str());
     push_index(&mut text, fields.x);
     text
 }
 
-fn halves_text(word: Word) -> Text
+fn halves_text(word: Word) -> Line
     ensures { result.bytes ≡ halves_text word }
 {
-    let mut text = Text::new();
+    let mut text = Line::new();
     text.push_str("XWD ");
-    text.push_str(octal_text(word.left() as u64).as_str());
+    text.push_str(half_digits(word.left()).as_str());
     text.push_str(",");
-    text.push_str(octal_text(word.right() as u64).as_str());
+    text.push_str(half_digits(word.right()).as_str());
     text
 }
 
