@@ -25,7 +25,7 @@ abbrev pub changed_want : List Want → Want → Want
 changed_want [] w = w
 changed_want (c ∷ later) w =
     if same_key w.key c.key
-    then record { key = w.key; shared = c.shared; bypass = w.bypass; level = w.level; pool = w.pool }
+    then record w { shared = c.shared }
     else changed_want later w
 
 -- a request of the job with its wants changed, and another's as it is

@@ -20,7 +20,7 @@ has_wants r = not (length r.wants.items == 0)
 
 -- a request with these wants in place of its own
 abbrev pub with_wants : Request → List Want → Request
-with_wants r wants = record { job = r.job; id = r.id; kind = r.kind; told = r.told; wants = record { items = wants } }
+with_wants r wants = record r { wants = record { items = wants } }
 
 -- a request without its wants of the named keys
 abbrev pub without_keys : List Want → Request → Request

@@ -51,7 +51,7 @@ pending requests job = first_id (chosen (is_pending job) requests)
 
 -- a request of which its job is told
 abbrev pub as_told : Request → Request
-as_told r = record { job = r.job; id = r.id; kind = r.kind; told = true; wants = r.wants }
+as_told r = record r { told = true }
 
 -- the requests, the first for which the test holds being told
 abbrev pub told_behind : (List Request → Request → Bool) → List Request → List Request → List Request

@@ -10,26 +10,17 @@ use Rattle.lock_queue.specs.StatusWords.{is_exclusive}
 
 abbrev pub with_owner : Key → ℕ → Request → Status → Status
 with_owner key asker r s =
-    record {
+    record s {
       owns = r.job == asker || s.owns;
-      waits = s.waits;
       exclusive = list_any is_exclusive (filter (λ w. same_key w.key key) r.wants.items) || s.exclusive;
-      level = s.level;
       first_owner = Some r.job;
       owner_count = s.owner_count + 1;
-      waiter_count = s.waiter_count;
       amount = sum_by amount_of (filter (λ w. same_key w.key key) r.wants.items) + s.amount;
     }
 
 abbrev pub with_waiter : ℕ → Request → Status → Status
 with_waiter asker r s =
-    record {
-      owns = s.owns;
+    record s {
       waits = r.job == asker || s.waits;
-      exclusive = s.exclusive;
-      level = s.level;
-      first_owner = s.first_owner;
-      owner_count = s.owner_count;
       waiter_count = s.waiter_count + 1;
-      amount = s.amount;
     }

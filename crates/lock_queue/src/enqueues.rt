@@ -27,7 +27,8 @@ fn is_alike(v: &Want, w: &Want) -> bool
 }
 
 fn are_alike_in(wants: &[Want], w: &Want) -> bool
-    ensures { result ≡ list_all (λ v. are_alike v w.now) (filter (λ v. same_key v.key w.now.key) wants.now) }
+    ensures { result ≡ list_all (λ v. are_alike v w.now)
+        (filter (λ v. same_key v.key w.now.key) wants.now) }
 {
     for v in wants {
         if v.key == w.key && !is_alike(v, w) {

@@ -88,7 +88,8 @@ fn is_in_the_way(v: &Want, w: &Want) -> bool
 }
 
 fn some_in_the_way(wants: &[Want], w: &Want) -> bool
-    ensures { result ≡ list_any (λ v. is_in_the_way v w.now) (filter (λ v. same_key v.key w.now.key) wants.now) }
+    ensures { result ≡ list_any (λ v. is_in_the_way v w.now)
+        (filter (λ v. same_key v.key w.now.key) wants.now) }
 {
     for v in wants {
         if v.key == w.key && is_in_the_way(v, w) {
@@ -99,7 +100,8 @@ fn some_in_the_way(wants: &[Want], w: &Want) -> bool
 }
 
 fn job_is_in_the_way(earlier: &[Request], w: &Want, job: u8) -> bool
-    ensures { result ≡ list_any (λ v. is_in_the_way v w.now) (wants_at (requests_of earlier.now job) w.now.key) }
+    ensures { result ≡ list_any (λ v. is_in_the_way v w.now)
+        (wants_at (requests_of earlier.now job) w.now.key) }
 {
     for r in earlier {
         if r.job == job && some_in_the_way(r.wants.as_slice(), w) {

@@ -34,7 +34,8 @@ impl PlainTable {
     #[tactic(auto, using(crate::proofs::Granted::arrival_granted, crate::proofs::Granted::arrival_waiting))]
     fn arrive(&mut self, job: u8, kind: EnqueueKind, id: RequestId, wants: &Wants) -> LockReply
         requires { length self.old.requests < REQUESTS }
-        ensures requests { self.new.requests ≡ (arrival self.old.requests job kind id wants.now).requests }
+        ensures requests { self.new.requests ≡
+            (arrival self.old.requests job kind id wants.now).requests }
         ensures reply { result ≡ (arrival self.old.requests job kind id wants.now).reply }
     {
         if are_fitting(self.requests.as_slice(), wants.as_slice()) {
@@ -63,7 +64,8 @@ impl PlainTable {
         wants: &Wants,
         armed: bool,
     ) -> LockReply
-        ensures requests { self.new.requests ≡ (enqueue self.old.requests job kind id wants.now armed).requests }
+        ensures requests { self.new.requests ≡
+            (enqueue self.old.requests job kind id wants.now armed).requests }
         ensures reply { result ≡ (enqueue self.old.requests job kind id wants.now armed).reply }
     {
         match refusal_of_enqueue(self.requests.as_slice(), job, kind, wants.as_slice(), armed) {
@@ -73,7 +75,8 @@ impl PlainTable {
     }
 
     fn modify(&mut self, job: u8, changes: &Wants) -> LockReply
-        ensures requests { self.new.requests ≡ (modify self.old.requests job changes.now.items).requests }
+        ensures requests { self.new.requests ≡
+            (modify self.old.requests job changes.now.items).requests }
         ensures reply { result ≡ (modify self.old.requests job changes.now.items).reply }
     {
         let changes = changes.as_slice();
@@ -89,7 +92,8 @@ impl PlainTable {
     }
 
     fn dequeue_named(&mut self, job: u8, named: &Wants) -> LockReply
-        ensures requests { self.new.requests ≡ (dequeue_named self.old.requests job named.now.items).requests }
+        ensures requests { self.new.requests ≡
+            (dequeue_named self.old.requests job named.now.items).requests }
         ensures reply { result ≡ (dequeue_named self.old.requests job named.now.items).reply }
     {
         if let Some(refusal) = refusal_of_dequeue(self.requests.as_slice(), job, named.as_slice()) {

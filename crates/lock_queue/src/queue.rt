@@ -40,7 +40,8 @@ pub fn is_pooled(w: &Want) -> bool
 }
 
 fn all_agree_in(wants: &[Want], w: &Want) -> bool
-    ensures { result ≡ list_all (λ v. agree v w.now) (filter (λ v. same_key v.key w.now.key) wants.now) }
+    ensures { result ≡ list_all (λ v. agree v w.now)
+        (filter (λ v. same_key v.key w.now.key) wants.now) }
 {
     for v in wants {
         if v.key == w.key && !do_agree(v, w) {
@@ -64,7 +65,8 @@ fn all_agree(earlier: &[Request], w: &Want) -> bool
 
 /// The room that is left when these wants of the key have taken their amounts, if they find it.
 fn room_beside(wants: &[Want], key: &Key, room: u32) -> Option<u32>
-    ensures { let taken = sum_by amount_of (filter (λ v. same_key v.key key.now) wants.now) in MatchOption result (room < taken) (λ left. left + taken ≡ room) }
+    ensures { let taken = sum_by amount_of (filter (λ v. same_key v.key key.now) wants.now) in
+        MatchOption result (room < taken) (λ left. left + taken ≡ room) }
 {
     let mut left = room;
     for v in wants {
@@ -79,7 +81,8 @@ fn room_beside(wants: &[Want], key: &Key, room: u32) -> Option<u32>
 
 /// Whether the earlier amounts of a key and this one add up to at most the pool's size.
 fn is_room(earlier: &[Request], key: &Key, pool: Pool) -> bool
-    ensures { result ≡ nat_le (sum_by amount_of (wants_at earlier.now key.now) + pool.amount) pool.size }
+    ensures { result ≡
+        nat_le (sum_by amount_of (wants_at earlier.now key.now) + pool.amount) pool.size }
 {
     if pool.size() < pool.amount() {
         return false;

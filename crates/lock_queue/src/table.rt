@@ -22,7 +22,8 @@ pub trait LockTable: Drop {
     /// Makes one call of a job, whose number is from 1 to 31. A refused call changes no request;
     /// the only exception is an interrupt request that is not granted at once, which stays.
     fn call(&mut self, job: u8, call: &LockCall) -> LockReply
-        ensures requests { requests self.new ≡ (outcome_of (requests self.old) job call.now).requests }
+        ensures requests { requests self.new ≡
+            (outcome_of (requests self.old) job call.now).requests }
         ensures reply { result ≡ (outcome_of (requests self.old) job call.now).reply };
 
     /// Takes out all requests of a job, as when it is gone.

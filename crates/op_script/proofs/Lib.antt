@@ -5,3 +5,4 @@ pub mod NumberLemmas
 pub mod LockLemmas
 pub mod WantLemmas
 pub mod GrantLemmas
+pub mod PairLemmas

@@ -16,7 +16,7 @@ use Rattle.op_script.specs.Locks.{locks_of, call_wants}
 use Rattle.op_script.specs.declared.locks.LockUse.{LockUse}
 use Rattle.op_script.specs.declared.locks.LockUse.TheVariants.{Requested, Named}
 use Rattle.op_script.specs.declared.commands.Command.{Command}
-use Rattle.op_script.specs.declared.commands.Command.TheVariants.{Nothing, Call, Status, Free, Show, Quit}
+use Rattle.op_script.specs.declared.commands.Command.TheVariants.{Nothing, Call, Status, Free, Show, Waits, Quit}
 
 -- ---- numbers
 
@@ -117,8 +117,9 @@ named_command name rest =
     else (if bytes_eq name (codes "STAT") then status_of_items rest
     else (if bytes_eq name (codes "FREE") then free_of rest
     else (if bytes_eq name (codes "SHOW") then bare Show rest
+    else (if bytes_eq name (codes "WAITS") then bare Waits rest
     else (if bytes_eq name (codes "QUIT") then bare Quit rest
-    else None)))))
+    else None))))))
 
 abbrev pub command_of_items : List (List ℕ) → Option Command
 command_of_items [] = None

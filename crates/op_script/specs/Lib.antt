@@ -7,4 +7,5 @@ pub mod Locks
 pub mod Commands
 pub mod Printing
 pub mod Grants
+pub mod WaitPairs
 pub mod QueueScripts

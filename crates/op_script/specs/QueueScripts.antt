@@ -20,8 +20,9 @@ use Rattle.op_script.specs.Commands.{command_of}
 use Rattle.op_script.specs.Grants.{waiting_before, grants_from}
 use Rattle.op_script.specs.Printing.{code_line, reply_line, status_line, request_line}
 use Rattle.op_script.specs.Transcripts.{Transcript, after, closed, unless_ended, script_fault}
+use Rattle.op_script.specs.WaitPairs.{waits_text}
 use Rattle.op_script.specs.declared.commands.Command.{Command}
-use Rattle.op_script.specs.declared.commands.Command.TheVariants.{Nothing, Call, Status, Free, Show, Quit}
+use Rattle.op_script.specs.declared.commands.Command.TheVariants.{Nothing, Call, Status, Free, Show, Waits, Quit}
 use Rattle.op_script.specs.declared.endings.Ending.{Ending}
 use Rattle.op_script.specs.declared.endings.Ending.TheVariants as ending
 
@@ -92,6 +93,7 @@ effect_of n requests (Some (Call job call)) = unless_busy requests job (call_eff
 effect_of n requests (Some (Status job wants)) = goes requests (status_text requests job wants)
 effect_of n requests (Some (Free job)) = free_effect requests job
 effect_of n requests (Some Show) = goes requests (show_text requests)
+effect_of n requests (Some Waits) = goes requests (waits_text requests)
 effect_of n requests (Some Quit) = record { requests = requests; text = []; ending = Some ending.Done }
 
 -- the line's text, and then what follows, unless the script ends

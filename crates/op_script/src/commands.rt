@@ -26,6 +26,8 @@ pub enum Command {
     Free(u8),
     /// SHOW: the requests.
     Show,
+    /// WAITS: who waits for whom.
+    Waits,
     /// QUIT: the script ends.
     Quit,
 }
@@ -183,6 +185,8 @@ fn read_items(mut items: Parts<'_>) -> Option<Command>
         read_free(items)
     } else if name == b"SHOW".as_slice() {
         bare(Command::Show, items)
+    } else if name == b"WAITS".as_slice() {
+        bare(Command::Waits, items)
     } else if name == b"QUIT".as_slice() {
         bare(Command::Quit, items)
     } else {

@@ -18,6 +18,7 @@ mod queue_scripts;
 mod serving;
 mod sessions;
 mod test_ports;
+mod wait_pairs;
 
 pub use endings::{Ending, ServeError};
 pub use host_ports::{HostIn, HostOut};
@@ -27,6 +28,3 @@ pub use queue_scripts::serve_queue;
 pub use serving::serve_session;
 pub use sessions::Session;
 pub use test_ports::{TestIn, TestOut};
-
-#[cfg(test)]
-mod tests;

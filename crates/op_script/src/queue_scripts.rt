@@ -12,6 +12,7 @@ use crate::line_sessions::{LineService, LineSession, push_fault};
 use crate::ports::{ByteIn, ByteOut};
 use crate::printing::{push_code, push_reply, push_request, push_status};
 use crate::serving::serve_session;
+use crate::wait_pairs::push_waits;
 use lock_queue::{LockCall, LockReply, LockTable, PlainTable, Refusal, Want, Wants};
 use std::alloc::{AllocError, Global};
 
@@ -135,6 +136,7 @@ fn perform<L: LockTable>(
         Some(Command::Status(job, wants)) => push_status_text(out, table, job, &wants)?,
         Some(Command::Free(job)) => free(table, job, out)?,
         Some(Command::Show) => push_requests(out, table)?,
+        Some(Command::Waits) => push_waits(out, table)?,
     }
     Ok(None)
 }
