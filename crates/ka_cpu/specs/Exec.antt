@@ -52,15 +52,6 @@ is_listed Other ac = false
 is_listed Jrst ac = nat_eq ac 0 || nat_eq ac 2 || nat_eq ac 4
 is_listed _ ac = true
 
--- why a word is refused whose address is not found, behind so many XCTs
-abbrev pub refusal_of : ℕ → Family → ℕ → StopReason → StopReason
-refusal_of i f ac r =
-    if is_listed f ac then (if is_execute f && nat_eq i 256 then AddressChain else r) else IllegalInstruction
-
--- the word behind an XCT that stands behind so many others
-abbrev pub next_word_of : ℕ → Option ℕ → Result ℕ StopReason
-next_word_of i o = if nat_lt i 256 then reading o (λ w. Ok w) else Err AddressChain
-
 -- the table: a row for each family of operations
 abbrev pub row_of : Family → Regs → List ℕ → Instruction → Option ℕ → Result Effect StopReason
 row_of Move g core n used = move_row g core n

@@ -5,7 +5,8 @@ ghost use Rattle.ka_cpu.specs.Addresses.{target_of, used_in};
 ghost use Rattle.ka_cpu.specs.Places.{word_at};
 ghost use Rattle.ka_isa.specs.Families.{family_of};
 ghost use Rattle.ka_cpu.specs.Effects.{After, EndsAs, stopped};
-ghost use Rattle.ka_cpu.specs.Exec.{ac_field, carried_out, exec, is_listed, next_word_of, op_of, refusal_of, word_behind, word_performed};
+ghost use Rattle.ka_cpu.specs.Exec.{ac_field, carried_out, exec, is_listed, op_of, word_behind, word_performed};
+ghost use Rattle.ka_cpu.specs.Turns.{next_word_of, refusal_of};
 ghost use Rattle.ka_cpu.specs.declared.outcome.StopReason.TheVariants.{IllegalInstruction};
 
 use crate::address::find_address;
@@ -246,7 +247,7 @@ fn refusal(turn: u32, op: u16, ac: usize, reason: StopReason) -> StopReason
 }
 
 /// The word that is executed in the place of an XCT behind so many others, whose address is known.
-#[inline(never)]
+#[inline(always)]
 fn next_word<M: JobMemory>(turn: u32, regs: &Regs, memory: &M, e: u32) -> Result<Word, StopReason>
     ensures { result ≡ next_word_of turn (word_at regs.now.ac (M.words memory.now) e) }
 {

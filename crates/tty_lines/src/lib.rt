@@ -14,7 +14,3 @@ pub use char7::Char7;
 pub use line_error::LineError;
 pub use lines::Lines;
 pub use taken_text::TakenText;
-
-// A crate can name `Lines` in a contract only if the types of its fields are exported.
-#[doc(hidden)]
-pub use line::Line;

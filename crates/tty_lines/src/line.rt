@@ -13,7 +13,7 @@ use word36::{INPUT_RING, OUTPUT_RING, TAKEN_AT_ONCE};
 
 /// The two rings of a terminal line.
 #[derive(Drop)]
-pub struct Line {
+pub(crate) struct Line {
     input: HeapCircularBuffer<Char7>,
     output: HeapCircularBuffer<Char7>,
 }

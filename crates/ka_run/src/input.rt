@@ -1,0 +1,92 @@
+//! Lines of the input.
+
+ghost use Rattle.std.specs.Prelude.{◌≡◌, ◌<◌, ◌≤◌, ◌^◌, IfSome};
+
+use ka_cpu::Flags;
+use word36::{Address, MOST_BLOCKS, Word};
+
+/// One line of the input.
+#[derive(Clone, Copy)]
+pub enum Line {
+    /// Nothing, or a comment.
+    Blank,
+    /// The flags at the start.
+    Flags(Flags),
+    /// The PC at the start.
+    Pc(Address),
+    /// The number of blocks of core.
+    Size(u32),
+    /// A word and its place.
+    Word(u32, Word),
+}
+
+/// A number in octal, below 2 ^ 36.
+fn read_octal(text: &str) -> Option<u64>
+    ensures { IfSome result (λ n. n < 2 ^ 36) }
+{
+    let mut number = 0u64;
+    if text.is_empty() {
+        return None;
+    }
+    for b in text.as_bytes() {
+        if *b < b'0' || *b > b'7' || number >= 1 << 33 {
+            return None;
+        }
+        number = number * 8 + (*b - b'0') as u64;
+    }
+    Some(number)
+}
+
+/// An address in octal, below 2 ^ 18.
+fn read_address(text: &str) -> Option<Address> {
+    let number = read_octal(text)?;
+    if number < 0o1_000_000 {
+        Some(Address::new(number as u32))
+    } else {
+        None
+    }
+}
+
+/// The flags of the left half of a PC word.
+fn read_flags(text: &str) -> Option<Flags> {
+    let half = read_address(text)?.number();
+    Some(Flags {
+        overflow: half & 0o400_000 != 0,
+        carry0: half & 0o200_000 != 0,
+        carry1: half & 0o100_000 != 0,
+        no_divide: half & 0o40 != 0,
+    })
+}
+
+/// A number of blocks, in decimal.
+fn read_size(text: &str) -> Option<u32> {
+    let blocks = text.parse::<u32>().ok()?;
+    if blocks >= 1 && blocks <= MOST_BLOCKS {
+        Some(blocks)
+    } else {
+        None
+    }
+}
+
+/// What a line says, or None where it is not right.
+pub fn read_line(line: &str) -> Option<Line> {
+    let text = match line.split_once(';') {
+        Some((text, _)) => text,
+        None => line,
+    };
+    let text = text.trim();
+    if text.is_empty() {
+        return Some(Line::Blank);
+    }
+    let (first, rest) = text.split_once(' ')?;
+    let second = rest.trim();
+    match first {
+        "flags" => Some(Line::Flags(read_flags(second)?)),
+        "pc" => Some(Line::Pc(read_address(second)?)),
+        "size" => Some(Line::Size(read_size(second)?)),
+        _ => {
+            let place = read_address(first)?.number();
+            Some(Line::Word(place, Word::new(read_octal(second)?)))
+        }
+    }
+}

@@ -1,0 +1,106 @@
+//! Runs bare words on the processor and writes the state that is left.
+//!
+//! Standard input has lines `address word` in octal, places below 20 being registers; before them may
+//! stand `flags f` and `pc a` in octal and `size n`, the blocks of core, in decimal. `;` begins a
+//! comment. The argument is the greatest number of instructions, in decimal.
+#![tactic(auto)]
+
+mod core_words;
+mod input;
+mod report;
+
+use core_words::CoreWords;
+use input::{Line, read_line};
+use ka_cpu::{Flags, JobMemory, Outcome, Regs, step};
+use std::process::ExitCode;
+use std::{env, io};
+use word36::{Address, BLOCK_WORDS, MOST_BLOCKS, Word};
+
+/// Runs at most so many instructions, and says how many were run and how the last one ended.
+#[inline(never)]
+fn run<M: JobMemory>(regs: &mut Regs, memory: &mut M, most: u64) -> (u64, Outcome) {
+    for done in 0..most {
+        match step(regs, memory) {
+            Outcome::Done => {}
+            ended => return (done + 1, ended),
+        }
+    }
+    (most, Outcome::Done)
+}
+
+/// How far the input has come: the number of blocks of core, and whether a word was read.
+#[derive(Clone, Copy)]
+struct Progress {
+    blocks: u32,
+    words_begun: bool,
+}
+
+/// Takes one line of the input, and says whether it is right.
+fn take(progress: &mut Progress, regs: &mut Regs, core: &mut [Word], line: Line) -> bool {
+    match line {
+        Line::Blank => true,
+        Line::Word(place, word) => {
+            progress.words_begun = true;
+            let inside = (place as usize) < core.len()
+                && place as usize / BLOCK_WORDS < progress.blocks as usize;
+            if place < 16 {
+                regs.ac[place as usize] = word;
+            } else if inside {
+                core[place as usize] = word;
+            }
+            place < 16 || inside
+        }
+        _ if progress.words_begun => false,
+        Line::Flags(flags) => {
+            regs.flags = flags;
+            true
+        }
+        Line::Pc(pc) => {
+            regs.pc = pc;
+            true
+        }
+        Line::Size(blocks) => {
+            progress.blocks = blocks;
+            true
+        }
+    }
+}
+
+fn main(rt: HostRuntime) -> io::Result<ExitCode> {
+    let mut most = 0;
+    for word in env::args(&rt)?.skip(1) {
+        most = word.as_str().parse::<u64>().unwrap_or(0);
+    }
+    let mut core = vec![in rt.alloc(); Word::new(0); MOST_BLOCKS as usize * BLOCK_WORDS]?;
+    let mut progress = Progress {
+        blocks: MOST_BLOCKS,
+        words_begun: false,
+    };
+    let mut regs = Regs {
+        ac: [Word::new(0); 16],
+        pc: Address::new(0o140),
+        flags: Flags {
+            overflow: false,
+            carry0: false,
+            carry1: false,
+            no_divide: false,
+        },
+    };
+    let mut number = 0u64;
+    for line in rt.lines(rt.alloc()) {
+        number = number.saturating_add(1);
+        let right = match read_line(line?.as_str()) {
+            Some(line) => take(&mut progress, &mut regs, core.as_mut_slice(), line),
+            None => false,
+        };
+        if !right {
+            println!(rt; "?INPUT {number}")?;
+            return Ok(ExitCode::from(1));
+        }
+    }
+    core.truncate(progress.blocks as usize * BLOCK_WORDS);
+    let mut memory = CoreWords::new(core.as_mut_slice());
+    let (steps, ended) = run(&mut regs, &mut memory, most);
+    report::write(&rt, steps, ended, &regs, memory.words())?;
+    Ok(ExitCode::SUCCESS)
+}
