@@ -1,7 +1,9 @@
 //! The program: a script from standard input, its transcript to standard output.
 #![tactic(auto)]
 
+mod asked;
 mod serving;
+mod words;
 
 use op_script::{HostIn, HostOut};
 use serving::{out_of_memory, program};

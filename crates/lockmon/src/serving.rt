@@ -1,6 +1,8 @@
 //! The whole program over any ports.
 ghost use Rattle.std.specs.Prelude.{◌≡◌, ◌^◌, ◌≤◌, false};
 
+use crate::asked::{Choice, Refusal};
+use crate::words::choice;
 use op_script::{ByteIn, ByteOut, ServeError, serve_queue, write_all};
 use std::alloc::Global;
 use std::convert::AsStr;
@@ -11,15 +13,18 @@ const DONE: u8 = 0;
 /// The status where the script or a source was refused.
 const REFUSED: u8 = 1;
 
+/// The status where the words of the command line were refused.
+const USAGE: u8 = 2;
+
 /// The status where the reader, the writer or memory failed.
 const FAILED: u8 = 3;
 
-/// Serves a script on the lock queue, whatever the words are, and gives the exit status. Where the
-/// reader, the writer or memory failed, one line says so to `errors`; a failure of `errors` changes
-/// nothing.
+/// Serves what the words, which begin with the program's name, ask for, and gives the exit status.
+/// Where the words are refused the reason goes to `errors`, and so does a line where the reader, the
+/// writer or memory failed; a failure of `errors` changes nothing.
 pub fn program<S: AsStr, R: ByteIn, W: ByteOut, E: ByteOut>(
     alloc: Global,
-    _words: &[S],
+    words: &[S],
     reader: &mut R,
     writer: &mut W,
     errors: &mut E,
@@ -29,11 +34,32 @@ pub fn program<S: AsStr, R: ByteIn, W: ByteOut, E: ByteOut>(
     requires errors_sound { E.has_failed errors.old ≡ false }
     requires few { R.reads_left reader.old ≤ 2 ^ 63 }
 {
-    match serve_queue(alloc, reader, writer) {
+    match choice(alloc, words) {
+        Ok(Choice::Queue) => status_of(serve_queue(alloc, reader, writer), errors),
+        Ok(Choice::Asm) => told(errors, b"lockmon: asm is still to come\n", USAGE),
+        Ok(
+            Choice::Run {
+                blocks: _,
+                quantum: _,
+            },
+        ) => told(errors, b"lockmon: run is still to come\n", USAGE),
+        Err(Refusal::Memory) => out_of_memory(errors),
+        Err(Refusal::Usage(error)) => match error.to_string(alloc) {
+            Ok(text) => told(errors, text.as_str().as_bytes(), USAGE),
+            Err(_) => out_of_memory(errors),
+        },
+    }
+}
+
+/// The exit status of a call that served, with a line where a port or memory failed.
+fn status_of<E: ByteOut>(answer: Result<(), ServeError>, errors: &mut E) -> u8
+    requires { E.has_failed errors.old ≡ false }
+{
+    match answer {
         Ok(()) => DONE,
         Err(ServeError::Script | ServeError::Source) => REFUSED,
-        Err(ServeError::Read) => failed(errors, b"lockmon: read\n"),
-        Err(ServeError::Write) => failed(errors, b"lockmon: write\n"),
+        Err(ServeError::Read) => told(errors, b"lockmon: read\n", FAILED),
+        Err(ServeError::Write) => told(errors, b"lockmon: write\n", FAILED),
         Err(ServeError::Memory) => out_of_memory(errors),
     }
 }
@@ -43,16 +69,16 @@ pub fn out_of_memory<E: ByteOut>(errors: &mut E) -> u8
     requires { E.has_failed errors.old ≡ false }
     ensures { result ≡ FAILED }
 {
-    failed(errors, b"lockmon: memory\n")
+    told(errors, b"lockmon: memory\n", FAILED)
 }
 
-/// Writes a line that says what failed.
-fn failed<E: ByteOut>(errors: &mut E, line: &[u8]) -> u8
+/// Writes a text to the errors, and gives the exit status.
+fn told<E: ByteOut>(errors: &mut E, text: &[u8], status: u8) -> u8
     requires { E.has_failed errors.old ≡ false }
-    ensures { result ≡ FAILED }
+    ensures { result ≡ status }
 {
-    let _ = write_all(errors, line);
-    FAILED
+    let _ = write_all(errors, text);
+    status
 }
 
 #[cfg(test)]
@@ -82,7 +108,8 @@ mod tests {
         let mut reader = TestIn::new(script, 100, calls.0);
         let mut writer = TestOut::new(&mut room, 100, calls.1);
         let mut errors = TestOut::new(&mut line_room, 100, calls.2);
-        let given = program(alloc, &["lockmon"], &mut reader, &mut writer, &mut errors);
+        let words = ["lockmon", "queue"];
+        let given = program(alloc, &words, &mut reader, &mut writer, &mut errors);
         assert_eq!(rt; given, status);
         assert_eq!(rt; writer.as_slice(), text);
         assert_eq!(rt; errors.as_slice(), line);
@@ -126,5 +153,64 @@ mod tests {
             b"lockmon: write\n",
         );
         expect(&rt, alloc, SCRIPT, (0, MANY, 0), 3, b"", b"");
+    }
+
+    /// Looks for status 2, nothing written, and a text on standard error that begins so.
+    fn expect_refusal(rt: &impl Abort, alloc: Global, words: &[&str], beginning: &[u8]) {
+        let mut room = [0u8; 16];
+        let mut text_room = [0u8; 2048];
+        let mut reader = TestIn::new(SCRIPT, 100, MANY);
+        let mut writer = TestOut::new(&mut room, 100, MANY);
+        let mut errors = TestOut::new(&mut text_room, 100, MANY);
+        let given = program(alloc, words, &mut reader, &mut writer, &mut errors);
+        assert_eq!(rt; given, 2);
+        assert_eq!(rt; writer.as_slice(), b"".as_slice());
+        assert!(rt; errors.as_slice().starts_with(beginning));
+    }
+
+    #[test]
+    fn words_that_are_refused(rt: HostRuntime) {
+        let alloc = rt.alloc();
+        expect_refusal(
+            &rt,
+            alloc,
+            &["lockmon"],
+            b"error: 'lockmon' requires a subcommand",
+        );
+        expect_refusal(
+            &rt,
+            alloc,
+            &["lockmon", "fly"],
+            b"error: unrecognized subcommand 'fly'",
+        );
+        expect_refusal(
+            &rt,
+            alloc,
+            &["lockmon", "queue", "now"],
+            b"error: unexpected argument 'now'",
+        );
+        expect_refusal(
+            &rt,
+            alloc,
+            &["lockmon", "--help"],
+            b"Usage: lockmon <COMMAND>",
+        );
+        let most = ["lockmon", "run", "--blocks", "257"];
+        expect_refusal(&rt, alloc, &most, b"error: a number is out of range");
+        let least = ["lockmon", "run", "--quantum", "0"];
+        expect_refusal(&rt, alloc, &least, b"error: a number is out of range");
+    }
+
+    #[test]
+    fn programs_that_are_still_to_come(rt: HostRuntime) {
+        let alloc = rt.alloc();
+        let run = ["lockmon", "run", "--blocks", "256", "--quantum", "60"];
+        expect_refusal(&rt, alloc, &run, b"lockmon: run is still to come\n");
+        expect_refusal(
+            &rt,
+            alloc,
+            &["lockmon", "asm"],
+            b"lockmon: asm is still to come\n",
+        );
     }
 }

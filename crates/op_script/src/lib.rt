@@ -23,6 +23,7 @@ mod wait_pairs;
 pub use endings::{Ending, ServeError};
 pub use host_ports::{HostIn, HostOut};
 pub use line_sessions::{LineService, LineSession};
+pub use numbers::number;
 pub use ports::{ByteIn, ByteOut, Failed, write_all};
 pub use queue_scripts::serve_queue;
 pub use serving::serve_session;
