@@ -1,0 +1,7 @@
+pub mod Options
+pub mod Maps
+pub mod Unique
+pub mod Found
+pub mod Sizes
+pub mod Rising
+pub mod Taken

@@ -1,0 +1,39 @@
+//! The laws of assembly. Each function does nothing: its contract is the law.
+ghost use Rattle.std.specs.Prelude.{◌≡◌, ◌↔◌, ℕ, List, Some};
+ghost use Rattle.mac_text.specs.declared.syntax.Line.{Line as LineView};
+ghost use Rattle.asm_laws.specs.Assembly.{Assembled, IsAssembly};
+ghost use Rattle.asm_laws.specs.Found.{image_of};
+ghost use Rattle.asm_laws.specs.Laws.{EarlierLabelsSettle, IsByPlace, StatementsFillTheirPlaces, TakesItsPlaces};
+
+/// A source has at most one image.
+pub fn images_are_unique()
+    ensures { (source : List ℕ) (a b : Assembled) → IsAssembly source a → IsAssembly source b → a ≡ b }
+{}
+
+/// An image is found exactly where there is one: the labels as they are met are the one map that
+/// satisfies all lines.
+pub fn assemblies_are_found()
+    ensures { (source : List ℕ) (image : Assembled) → IsAssembly source image ↔ (image_of source ≡ Some image) }
+{}
+
+/// The places of an image rise, and each has the word that the lines give it.
+pub fn images_are_by_place()
+    ensures { (source : List ℕ) (image : Assembled) (assembly : IsAssembly source image) → IsByPlace source image assembly }
+{}
+
+/// The labels that stand earlier settle what LOC and BLOCK may speak of, and later ones change
+/// nothing of it.
+pub fn earlier_labels_settle()
+    ensures { EarlierLabelsSettle }
+{}
+
+/// A statement takes as many places as it gives words.
+pub fn statements_fill_their_places()
+    ensures { StatementsFillTheirPlaces }
+{}
+
+/// The words of a source stand where the sizes of its statements put them, so that the places that
+/// have words are known before any word is.
+pub fn words_take_their_places()
+    ensures { (labels : List (ℕ × ℕ)) (lines : List LineView) (words : List (ℕ × ℕ)) → TakesItsPlaces labels lines words }
+{}

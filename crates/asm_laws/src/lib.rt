@@ -1,0 +1,9 @@
+//! That the assembler's image of a source is the one that satisfies all its lines at once.
+#![tactic(auto)]
+
+mod laws;
+
+pub use laws::{
+    assemblies_are_found, earlier_labels_settle, images_are_by_place, images_are_unique,
+    statements_fill_their_places, words_take_their_places,
+};
