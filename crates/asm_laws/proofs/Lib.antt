@@ -5,3 +5,4 @@ pub mod Found
 pub mod Sizes
 pub mod Rising
 pub mod Taken
+pub mod Example

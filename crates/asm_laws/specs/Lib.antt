@@ -5,3 +5,4 @@ pub mod Places
 pub mod Assembly
 pub mod Found
 pub mod Laws
+pub mod Example

@@ -2,6 +2,7 @@
 ghost use Rattle.std.specs.Prelude.{◌≡◌, ◌↔◌, ℕ, List, Some};
 ghost use Rattle.mac_text.specs.declared.syntax.Line.{Line as LineView};
 ghost use Rattle.asm_laws.specs.Assembly.{Assembled, IsAssembly};
+ghost use Rattle.asm_laws.specs.Example.{example_image, example_source};
 ghost use Rattle.asm_laws.specs.Found.{image_of};
 ghost use Rattle.asm_laws.specs.Laws.{EarlierLabelsSettle, IsByPlace, StatementsFillTheirPlaces, TakesItsPlaces};
 
@@ -36,4 +37,10 @@ pub fn statements_fill_their_places()
 /// have words are known before any word is.
 pub fn words_take_their_places()
     ensures { (labels : List (ℕ × ℕ)) (lines : List LineView) (words : List (ℕ × ℕ)) → TakesItsPlaces labels lines words }
+{}
+
+/// A source with a label that stands later, a literal, the point and a start has the image that is
+/// worked by hand.
+pub fn example_is_assembled()
+    ensures { IsAssembly example_source example_image }
 {}
