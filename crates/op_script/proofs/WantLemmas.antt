@@ -1,5 +1,5 @@
 -- Lemmas on the wants of a call.
-use Rattle.std.proofs.Common.{◌≡◌, ◌<◌, ◌≤◌, ◌+◌, ◌++◌, ◌&&◌, ℕ, Bool, true, false, cond, List, [], ◌∷◌, length, Option, Some, None, Result, Ok, Err, min, nat_le, arith, refl, sym, ap, ◌∙◌, append-nil, append_assoc, length-append}
+use Rattle.std.proofs.Common.{◌≡◌, ◌<◌, ◌≤◌, ◌+◌, ◌++◌, ◌&&◌, ℕ, Bool, true, false, cond, List, [], ◌∷◌, length, Option, Some, None, Result, Ok, Err, min, is_some, nat_le, arith, refl, sym, ap, ◌∙◌, append-nil, append_assoc, length-append}
 use Rattle.std.specs.Prelude.{option_map}
 use Rattle.std.specs.Option.{option_or}
 use Rattle.std.proofs.lemmas.Bool.Decides.{nat_tests}
@@ -9,6 +9,9 @@ use Rattle.lock_queue.specs.declared.refusal.Refusal.TheVariants.{BadCount}
 use Rattle.lock_queue.specs.declared.want.Want.{Want}
 use Rattle.op_script.specs.declared.locks.Lock.{Lock}
 use Rattle.op_script.specs.declared.locks.LockUse.{LockUse}
+use Rattle.lock_queue.specs.declared.call.LockCall.{LockCall}
+use Rattle.op_script.specs.Commands.{call_with}
+use Rattle.op_script.specs.Drafts.{filled, drafted}
 use Rattle.op_script.specs.Locks.{lock_of, locks_of, want_of, onto_wants, wants_of, stored, call_wants}
 
 -- the wants so far, or the first refusal
@@ -138,3 +141,38 @@ gathers-all job use_ all rest count wants refusal g empty one most =
     let c = g.counted in
     ap (option_map (call_wants job use_)) (all-read all g.seen rest g.read empty)
     ∙ ap Some (few (length g.seen) _ _ (omega arith) (omega arith) ∙ ap stored (g.told (omega arith)))
+
+-- ---- drafts
+
+filled-call : (make : ArrayVec Want → LockCall) (r : Option (Result (Unit {0}) Refusal)) (wants : ArrayVec Want) → option_map (call_with make) (filled r wants) ≡ drafted r (make wants)
+filled-call make None wants = refl
+filled-call make (Some (Ok u)) wants = refl
+filled-call make (Some (Err refusal)) wants = refl
+
+read-call : (make : ArrayVec Want → LockCall) (f : List Lock → Result (ArrayVec Want) Refusal) (x : Option (List Lock)) → option_map (call_with make) (option_map f x) ≡ option_map (λ locks. call_with make (f locks)) x
+read-call make f None = refl
+read-call make f (Some locks) = refl
+
+pub drafted-call : (make : ArrayVec Want → LockCall) (r : Option (Result (Unit {0}) Refusal)) (wants : ArrayVec Want) (f : List Lock → Result (ArrayVec Want) Refusal) (x : Option (List Lock)) → filled r wants ≡ option_map f x
+    → drafted r (make wants) ≡ option_map (λ locks. call_with make (f locks)) x
+drafted-call make r wants f x h = sym (filled-call make r wants) ∙ ap (option_map (call_with make)) h ∙ read-call make f x
+
+-- ---- items that are all locks
+
+some-map : (lock : Lock) (o : Option (List Lock)) → is_some (option_map (λ ls. lock ∷ ls) o) ≡ is_some o
+some-map lock None = refl
+some-map lock (Some ls) = refl
+
+pub locks-go_on : (all old rest : List (List ℕ)) (item : List ℕ) (lock : Lock) → is_some (locks_of old) ≡ is_some (locks_of all) → old ≡ item ∷ rest → lock_of item ≡ Some lock
+    → is_some (locks_of rest) ≡ is_some (locks_of all)
+locks-go_on all old rest item lock before taken is =
+    sym (some-map lock (locks_of rest)) ∙ ap is_some (sym (locks_of-cons item rest lock is)) ∙ ap (λ l. is_some (locks_of l)) (sym taken) ∙ before
+
+pub locks-stop : (all old rest : List (List ℕ)) (item : List ℕ) → is_some (locks_of old) ≡ is_some (locks_of all) → old ≡ item ∷ rest → lock_of item ≡ None
+    → false ≡ is_some (locks_of all)
+locks-stop all old rest item before taken is =
+    let none : locks_of (item ∷ rest) ≡ None = rw is refl in
+    sym (ap is_some none) ∙ ap (λ l. is_some (locks_of l)) (sym taken) ∙ before
+
+pub locks-end : (all old : List (List ℕ)) → is_some (locks_of old) ≡ is_some (locks_of all) → old ≡ [] → true ≡ is_some (locks_of all)
+locks-end all old before empty = sym (ap (λ l. is_some (locks_of l)) empty) ∙ before

@@ -15,8 +15,6 @@ use Rattle.op_script.specs.Options.{half_of}
 use Rattle.op_script.specs.Locks.{locks_of, call_wants}
 use Rattle.op_script.specs.declared.locks.LockUse.{LockUse}
 use Rattle.op_script.specs.declared.locks.LockUse.TheVariants.{Requested, Named}
-use Rattle.op_script.specs.declared.commands.Command.{Command}
-use Rattle.op_script.specs.declared.commands.Command.TheVariants.{Nothing, Call, Status, Free, Show, Waits, Quit}
 
 -- ---- numbers
 
@@ -29,99 +27,126 @@ not_zero (Some n) = if n == 0 then None else Some n
 abbrev pub job_of : List ℕ → Option ℕ
 job_of text = not_zero (number 10 JOBS text)
 
--- ---- ENQ and DEQ
+-- ---- what a line asks for
 
--- functions 0 to 2 ask for locks, all others name them
-abbrev pub use_of : ℕ → LockUse
-use_of function = if nat_le function 2 then Requested else Named
+pub data Asked : Type 0 where
+  nothing : Asked
+  call : ℕ → Result LockCall Refusal → Asked
+  status : ℕ → Result (ArrayVec Want) Refusal → Asked
+  free : ℕ → Asked
+  show : Asked
+  waits : Asked
+  quit : Asked
+
+-- a job's call on the queue, or why it is refused before it is made
+abbrev pub asked_call : ℕ → Option (Result LockCall Refusal) → Option Asked
+asked_call job None = None
+asked_call job (Some c) = Some (call job c)
+
+-- what a job is told of the keys of some wants, or why it is not
+abbrev pub asked_status : ℕ → Option (Result (ArrayVec Want) Refusal) → Option Asked
+asked_status job None = None
+asked_status job (Some wants) = Some (status job wants)
+
+-- ---- ENQ and DEQ
 
 -- the call on the queue for some wants, or why it is refused
 abbrev pub call_with : (ArrayVec Want → LockCall) → Result (ArrayVec Want) Refusal → Result LockCall Refusal
 call_with make (Ok wants) = Ok (make wants)
 call_with make (Err refusal) = Err refusal
 
+-- the call for the locks that some items spell
+abbrev pub call_for : (ArrayVec Want → LockCall) → ℕ → LockUse → List (List ℕ) → Option (Result LockCall Refusal)
+call_for make job use_ items = option_map (λ locks. call_with make (call_wants job use_ locks)) (locks_of items)
+
+-- ENQ 0 to 2: a request
+abbrev pub request_call : EnqueueKind → ℕ → ℕ → List (List ℕ) → Option (Result LockCall Refusal)
+request_call kind id job items = call_for (λ wants. Enqueue kind id wants true) job Requested items
+
+-- ENQ 3: a change; DEQ 0: wants that are given up
+abbrev pub change_call : ℕ → List (List ℕ) → Option (Result LockCall Refusal)
+change_call job items = call_for Modify job Named items
+
+abbrev pub release_call : ℕ → List (List ℕ) → Option (Result LockCall Refusal)
+release_call job items = call_for DequeueNamed job Named items
+
+-- a function that there is not, whatever its locks
+abbrev pub unknown_call : List (List ℕ) → Option (Result LockCall Refusal)
+unknown_call items = option_map (λ locks. Err NoFunction) (locks_of items)
+
 -- ENQ's call: function 0 blocks, 1 answers at once, 2 interrupts when granted, 3 changes
-abbrev pub enqueue_call : ℕ → ℕ → Result (ArrayVec Want) Refusal → Result LockCall Refusal
-enqueue_call function id wants =
-    if function == 0 then call_with (λ w. Enqueue Blocking id w true) wants
-    else (if function == 1 then call_with (λ w. Enqueue AtOnce id w true) wants
-    else (if function == 2 then call_with (λ w. Enqueue Interrupt id w true) wants
-    else (if function == 3 then call_with Modify wants
-    else Err NoFunction)))
+abbrev pub enqueue_call : ℕ → ℕ → ℕ → List (List ℕ) → Option (Result LockCall Refusal)
+enqueue_call function id job items =
+    if function == 0 then request_call Blocking id job items
+    else (if function == 1 then request_call AtOnce id job items
+    else (if function == 2 then request_call Interrupt id job items
+    else (if function == 3 then change_call job items
+    else unknown_call items)))
 
 -- `j f id lock..`
-abbrev pub enqueue_of : List (List ℕ) → Option Command
+abbrev pub enqueue_of : List (List ℕ) → Option Asked
 enqueue_of (job ∷ function ∷ id ∷ locks) =
-    option_and_then (λ j. option_and_then (λ f. option_and_then (λ i. option_map (λ ls. Call j (enqueue_call f i (call_wants j (use_of f) ls)))
-    (locks_of locks)) (half_of id)) (half_of function)) (job_of job)
+    option_and_then (λ j. option_and_then (λ f. option_and_then (λ i. asked_call j (enqueue_call f i j locks)) (half_of id)) (half_of function)) (job_of job)
 enqueue_of _ = None
 
--- `lock..`: function 0
-abbrev pub dequeue_named_of : ℕ → List (List ℕ) → Option Command
-dequeue_named_of job locks = option_map (λ ls. Call job (call_with DequeueNamed (call_wants job Named ls))) (locks_of locks)
-
 -- nothing: function 1
-abbrev pub dequeue_all_of : ℕ → List (List ℕ) → Option Command
-dequeue_all_of job [] = Some (Call job (Ok DequeueAll))
-dequeue_all_of job (item ∷ more) = None
+abbrev pub release_all_call : List (List ℕ) → Option (Result LockCall Refusal)
+release_all_call [] = Some (Ok DequeueAll)
+release_all_call (item ∷ more) = None
 
 -- an id: function 2
-abbrev pub dequeue_id_of : ℕ → List (List ℕ) → Option Command
-dequeue_id_of job [] = None
-dequeue_id_of job (id ∷ []) = option_map (λ i. Call job (Ok (DequeueId i))) (half_of id)
-dequeue_id_of job (id ∷ item ∷ more) = None
+abbrev pub release_id_call : List (List ℕ) → Option (Result LockCall Refusal)
+release_id_call [] = None
+release_id_call (id ∷ []) = option_map (λ i. Ok (DequeueId i)) (half_of id)
+release_id_call (id ∷ item ∷ more) = None
 
--- `lock..`: a function that there is not
-abbrev pub dequeue_other_of : ℕ → List (List ℕ) → Option Command
-dequeue_other_of job locks = option_map (λ ls. Call job (Err NoFunction)) (locks_of locks)
-
--- what follows a job and a function of DEQ
-abbrev pub dequeue_rest_of : ℕ → ℕ → List (List ℕ) → Option Command
-dequeue_rest_of job function rest =
-    if function == 0 then dequeue_named_of job rest
-    else (if function == 1 then dequeue_all_of job rest
-    else (if function == 2 then dequeue_id_of job rest
-    else dequeue_other_of job rest))
+-- DEQ's call: function 0 gives up what the locks name, 1 all, 2 the requests of an id
+abbrev pub dequeue_call : ℕ → ℕ → List (List ℕ) → Option (Result LockCall Refusal)
+dequeue_call function job rest =
+    if function == 0 then release_call job rest
+    else (if function == 1 then release_all_call rest
+    else (if function == 2 then release_id_call rest
+    else unknown_call rest))
 
 -- `j f ..`
-abbrev pub dequeue_of : List (List ℕ) → Option Command
+abbrev pub dequeue_of : List (List ℕ) → Option Asked
 dequeue_of (job ∷ function ∷ rest) =
-    option_and_then (λ j. option_and_then (λ f. dequeue_rest_of j f rest) (half_of function)) (job_of job)
+    option_and_then (λ j. option_and_then (λ f. asked_call j (dequeue_call f j rest)) (half_of function)) (job_of job)
 dequeue_of _ = None
 
 -- ---- the other commands
 
 -- STAT: `j lock..`
-abbrev pub status_of_items : List (List ℕ) → Option Command
+abbrev pub status_of_items : List (List ℕ) → Option Asked
 status_of_items [] = None
 status_of_items (job ∷ locks) =
-    option_and_then (λ j. option_map (λ ls. Status j (call_wants j Named ls)) (locks_of locks)) (job_of job)
+    option_and_then (λ j. asked_status j (option_map (call_wants j Named) (locks_of locks))) (job_of job)
 
 -- FREE: `j`
-abbrev pub free_of : List (List ℕ) → Option Command
-free_of (job ∷ []) = option_map Free (job_of job)
+abbrev pub free_of : List (List ℕ) → Option Asked
+free_of (job ∷ []) = option_map free (job_of job)
 free_of _ = None
 
 -- a command that stands alone
-abbrev pub bare : Command → List (List ℕ) → Option Command
+abbrev pub bare : Asked → List (List ℕ) → Option Asked
 bare command [] = Some command
 bare command (item ∷ more) = None
 
 -- ---- lines
 
 -- the command of a line's items: its name and what follows
-abbrev pub named_command : List ℕ → List (List ℕ) → Option Command
+abbrev pub named_command : List ℕ → List (List ℕ) → Option Asked
 named_command name rest =
     if bytes_eq name (codes "ENQ") then enqueue_of rest
     else (if bytes_eq name (codes "DEQ") then dequeue_of rest
     else (if bytes_eq name (codes "STAT") then status_of_items rest
     else (if bytes_eq name (codes "FREE") then free_of rest
-    else (if bytes_eq name (codes "SHOW") then bare Show rest
-    else (if bytes_eq name (codes "WAITS") then bare Waits rest
-    else (if bytes_eq name (codes "QUIT") then bare Quit rest
+    else (if bytes_eq name (codes "SHOW") then bare show rest
+    else (if bytes_eq name (codes "WAITS") then bare waits rest
+    else (if bytes_eq name (codes "QUIT") then bare quit rest
     else None))))))
 
-abbrev pub command_of_items : List (List ℕ) → Option Command
+abbrev pub command_of_items : List (List ℕ) → Option Asked
 command_of_items [] = None
 command_of_items (name ∷ rest) = named_command name rest
 
@@ -134,6 +159,6 @@ abbrev pub is_silent : List ℕ → Bool
 is_silent line = length line == 0 || slice_index line 0 == 59
 
 -- what a line asks for, where it is in the grammar: items parted by single spaces
-unfoldable pub command_of : List ℕ → Option Command
+unfoldable pub command_of : List ℕ → Option Asked
 command_of line =
-    if is_allowed line then (if is_silent line then Some Nothing else command_of_items (parts 32 line)) else None
+    if is_allowed line then (if is_silent line then Some nothing else command_of_items (parts 32 line)) else None

@@ -5,6 +5,7 @@ pub mod Numbers
 pub mod Options
 pub mod Locks
 pub mod Commands
+pub mod Drafts
 pub mod Printing
 pub mod Grants
 pub mod WaitPairs

@@ -16,13 +16,11 @@ use Rattle.lock_queue.specs.declared.call.LockReply.TheVariants.{Granted, Queued
 use Rattle.lock_queue.specs.declared.refusal.Refusal.{Refusal}
 use Rattle.lock_queue.specs.declared.request.Request.{Request}
 use Rattle.lock_queue.specs.declared.want.Want.{Want}
-use Rattle.op_script.specs.Commands.{command_of}
+use Rattle.op_script.specs.Commands.{Asked, nothing, call, status, free, show, waits, quit, command_of}
 use Rattle.op_script.specs.Grants.{waiting_before, grants_from}
 use Rattle.op_script.specs.Printing.{code_line, reply_line, status_line, request_line}
 use Rattle.op_script.specs.Transcripts.{Transcript, after, closed, unless_ended, script_fault}
 use Rattle.op_script.specs.WaitPairs.{waits_text}
-use Rattle.op_script.specs.declared.commands.Command.{Command}
-use Rattle.op_script.specs.declared.commands.Command.TheVariants.{Nothing, Call, Status, Free, Show, Waits, Quit}
 use Rattle.op_script.specs.declared.endings.Ending.{Ending}
 use Rattle.op_script.specs.declared.endings.Ending.TheVariants as ending
 
@@ -51,7 +49,7 @@ made waiting o = goes o.requests (reply_line o.reply ++ grants_after o.reply wai
 -- a job's call on the queue, where it was not refused before
 abbrev pub call_effect : List Request → ℕ → Result LockCall Refusal → Effect
 call_effect requests job (Err refusal) = goes requests (code_line refusal)
-call_effect requests job (Ok call) = made (waiting_before requests job call) (outcome_of requests job call)
+call_effect requests job (Ok asked) = made (waiting_before requests job asked) (outcome_of requests job asked)
 
 -- a job that waits does nothing
 abbrev pub unless_busy : List Request → ℕ → Effect → Effect
@@ -85,16 +83,16 @@ show_text requests = shown_from requests 0 requests ++ codes "END\n"
 -- ---- lines
 
 -- what line n does, which asks for this; one that is not in the grammar ends the script
-abbrev pub effect_of : ℕ → List Request → Option Command → Effect
+abbrev pub effect_of : ℕ → List Request → Option Asked → Effect
 effect_of n requests None =
     record { requests = requests; text = (script_fault n).text; ending = Some ending.Script }
-effect_of n requests (Some Nothing) = goes requests []
-effect_of n requests (Some (Call job call)) = unless_busy requests job (call_effect requests job call)
-effect_of n requests (Some (Status job wants)) = goes requests (status_text requests job wants)
-effect_of n requests (Some (Free job)) = free_effect requests job
-effect_of n requests (Some Show) = goes requests (show_text requests)
-effect_of n requests (Some Waits) = goes requests (waits_text requests)
-effect_of n requests (Some Quit) = record { requests = requests; text = []; ending = Some ending.Done }
+effect_of n requests (Some nothing) = goes requests []
+effect_of n requests (Some (call job c)) = unless_busy requests job (call_effect requests job c)
+effect_of n requests (Some (status job wants)) = goes requests (status_text requests job wants)
+effect_of n requests (Some (free job)) = free_effect requests job
+effect_of n requests (Some show) = goes requests (show_text requests)
+effect_of n requests (Some waits) = goes requests (waits_text requests)
+effect_of n requests (Some quit) = record { requests = requests; text = []; ending = Some ending.Done }
 
 -- the line's text, and then what follows, unless the script ends
 abbrev pub continued : Effect → (List Request → Transcript) → Transcript
@@ -107,7 +105,7 @@ transcript_of requests n (line ∷ more) =
     continued (effect_of (n + 1) requests (command_of line)) (λ next. transcript_of next (n + 1) more)
 
 -- a line that is too long is not in the grammar
-over_limit : (n most : ℕ) (a : Bool) (x : Option Command) → most < n → cond (nat_le n most && a) x None ≡ None
+over_limit : (n most : ℕ) (a : Bool) (x : Option Asked) → most < n → cond (nat_le n most && a) x None ≡ None
 over_limit n most a x h = grind (arith, nat_tests)
 
 command_of-too_long : (line : List ℕ) → 256 < length line → command_of line ≡ None

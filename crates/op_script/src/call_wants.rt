@@ -1,5 +1,6 @@
 //! The wants of a call.
 ghost use Rattle.std.specs.Prelude.{◌≡◌, option_map};
+ghost use Rattle.op_script.specs.Drafts.{filled};
 ghost use Rattle.op_script.specs.Locks.{locks_of, call_wants};
 
 use crate::locks::{LockUse, read_lock};
@@ -7,18 +8,19 @@ use crate::parts::Parts;
 use lock_queue::{Refusal, Wants};
 use word36::LOCKS_A_CALL;
 
-/// The wants that the items of a line spell, or why the call is refused; None where an item is no
-/// lock.
+/// Fills in the wants that the items of a line spell, or says why the call is refused; None where
+/// an item is no lock.
 pub fn read_wants(
     mut items: Parts<'_>,
     job: u8,
     lock_use: LockUse,
-) -> Option<Result<Wants, Refusal>>
-    ensures { result ≡ option_map (call_wants job lock_use) (locks_of items.entry) }
+    wants: &mut Wants,
+) -> Option<Result<(), Refusal>>
+    ensures { filled result wants.new ≡ option_map (call_wants job lock_use) (locks_of items.entry) }
 {
     let mut count = 0;
-    let mut wants = Wants::new();
     let mut refusal = None;
+    wants.clear();
     while let Some(item) = items.next() {
         let lock = read_lock(item)?;
         if count < LOCKS_A_CALL {
@@ -33,7 +35,7 @@ pub fn read_wants(
         return Some(Err(Refusal::BadCount));
     }
     match refusal {
-        None => Some(Ok(wants)),
+        None => Some(Ok(())),
         Some(refusal) => Some(Err(refusal)),
     }
 }

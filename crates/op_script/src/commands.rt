@@ -1,27 +1,36 @@
 //! The commands of a script on the lock queue.
-ghost use Rattle.std.specs.Prelude.{◌≡◌, ◌≤◌, nat_lt, IfSome, ◌^◌, ◌<◌};
+ghost use Rattle.std.specs.Prelude.{◌≡◌, nat_lt, is_some, option_map};
 ghost use Rattle.std.specs.List.{list_all};
-ghost use Rattle.op_script.specs.Options.{half_of};
-ghost use Rattle.op_script.specs.Commands.{job_of, use_of, enqueue_call, enqueue_of, dequeue_named_of, dequeue_all_of, dequeue_id_of, dequeue_other_of, dequeue_rest_of, dequeue_of, status_of_items, free_of, bare, named_command, command_of_items, is_allowed, is_silent, command_of};
+ghost use Rattle.lock_queue.specs.declared.call.LockCall.{LockCall as LockCallView};
+ghost use Rattle.op_script.specs.declared.locks.LockUse.TheVariants.{Named};
+ghost use Rattle.op_script.specs.Locks.{locks_of, call_wants};
+ghost use Rattle.op_script.specs.Drafts.{asked_by, asked_by_line};
+ghost use Rattle.op_script.specs.Commands.{job_of, asked_call, asked_status, request_call, change_call, release_call, unknown_call, release_all_call, release_id_call, enqueue_of, dequeue_of, status_of_items, free_of, bare, command_of_items, is_allowed, is_silent, command_of};
 
-use crate::call_wants::read_wants;
+use crate::drafts::{Drafts, draft_change, draft_release, draft_request};
 use crate::line_sessions::LINE_LENGTH;
-use crate::locks::LockUse;
+use crate::locks::read_lock;
 use crate::numbers::number;
 use crate::options::read_half;
 use crate::parts::Parts;
-use lock_queue::{EnqueueKind, LockCall, Refusal, RequestId, Wants};
+use lock_queue::{EnqueueKind, LockCall, Refusal, RequestId};
 use word36::JOBS;
 
-/// What a line asks for.
-#[derive(Drop)]
+/// What a line asks for, with its call drafted beside it.
+#[derive(Clone, Copy, Debug, PartialEq, Eq)]
 pub enum Command {
     /// Nothing: the line is empty or a comment.
     Nothing,
-    /// ENQ or DEQ: a job's call on the queue, or why it is refused before it is made.
-    Call(u8, Result<LockCall, Refusal>),
-    /// STAT: what a job is told of the keys of these wants, or why it is not.
-    Status(u8, Result<Wants, Refusal>),
+    /// ENQ 0 to 2 of a job: the request of the drafts.
+    Request(u8),
+    /// ENQ 3 or DEQ of a job: the other call of the drafts.
+    Names(u8),
+    /// ENQ or DEQ of a job that is refused before it is made.
+    Refused(u8, Refusal),
+    /// STAT: what a job is told of the locks that the call of the drafts names.
+    Status(u8),
+    /// STAT of a job that is refused.
+    StatusRefused(u8, Refusal),
     /// FREE: all requests of a job leave.
     Free(u8),
     /// SHOW: the requests.
@@ -40,117 +49,144 @@ fn read_job(text: &[u8]) -> Option<u8>
     if job == 0 { None } else { Some(job as u8) }
 }
 
-/// What a function of ENQ or DEQ looks at of its locks.
-fn use_of(function: u32) -> LockUse
-    ensures { result ≡ use_of function }
+/// What follows ENQ, a job and the function of a request.
+fn read_request(
+    drafts: &mut Drafts,
+    kind: EnqueueKind,
+    id: RequestId,
+    job: u8,
+    items: Parts<'_>,
+) -> Option<Command>
+    ensures { asked_by_line drafts.new.request drafts.new.names result ≡ asked_call job (request_call kind id job items.entry) }
 {
-    if function <= 2 {
-        LockUse::Requested
-    } else {
-        LockUse::Named
+    match draft_request(&mut drafts.request, kind, id, job, items) {
+        None => None,
+        Some(Ok(())) => Some(Command::Request(job)),
+        Some(Err(refusal)) => Some(Command::Refused(job, refusal)),
     }
 }
 
-/// The call of a function of ENQ.
-fn enqueue_call(
-    function: u32,
-    id: RequestId,
-    wants: Result<Wants, Refusal>,
-) -> Result<LockCall, Refusal>
-    ensures { result ≡ enqueue_call function id wants }
+/// What follows ENQ, a job and the function of a change.
+fn read_change(drafts: &mut Drafts, job: u8, items: Parts<'_>) -> Option<Command>
+    ensures { asked_by_line drafts.new.request drafts.new.names result ≡ asked_call job (change_call job items.entry) }
 {
-    let kind = match function {
-        0 => EnqueueKind::Blocking,
-        1 => EnqueueKind::AtOnce,
-        2 => EnqueueKind::Interrupt,
-        3 => return Ok(LockCall::Modify(wants?)),
-        _ => return Err(Refusal::NoFunction),
-    };
-    Ok(LockCall::Enqueue {
-        kind,
-        id,
-        wants: wants?,
-        armed: true,
-    })
-}
-
-/// What follows ENQ.
-fn read_enqueue(mut items: Parts<'_>) -> Option<Command>
-    ensures { result ≡ enqueue_of items.entry }
-{
-    let job = read_job(items.next()?)?;
-    let function = read_half(items.next()?)?;
-    let id = RequestId::new(read_half(items.next()?)?);
-    let wants = read_wants(items, job, use_of(function))?;
-    Some(Command::Call(job, enqueue_call(function, id, wants)))
+    match draft_change(&mut drafts.names, job, items) {
+        None => None,
+        Some(Ok(())) => Some(Command::Names(job)),
+        Some(Err(refusal)) => Some(Command::Refused(job, refusal)),
+    }
 }
 
 /// What follows DEQ, a job and function 0.
-fn read_dequeue_named(job: u8, items: Parts<'_>) -> Option<Command>
-    ensures { result ≡ dequeue_named_of job items.entry }
+fn read_release(drafts: &mut Drafts, job: u8, items: Parts<'_>) -> Option<Command>
+    ensures { asked_by_line drafts.new.request drafts.new.names result ≡ asked_call job (release_call job items.entry) }
 {
-    match read_wants(items, job, LockUse::Named)? {
-        Ok(wants) => Some(Command::Call(job, Ok(LockCall::DequeueNamed(wants)))),
-        Err(refusal) => Some(Command::Call(job, Err(refusal))),
+    match draft_release(&mut drafts.names, job, items) {
+        None => None,
+        Some(Ok(())) => Some(Command::Names(job)),
+        Some(Err(refusal)) => Some(Command::Refused(job, refusal)),
     }
 }
 
-/// What follows DEQ, a job and function 1.
-fn read_dequeue_all(job: u8, items: Parts<'_>) -> Option<Command>
-    ensures { result ≡ dequeue_all_of job items.entry }
+/// Whether all items are locks.
+fn are_locks(mut items: Parts<'_>) -> bool
+    ensures { result ≡ is_some (locks_of items.entry) }
 {
-    if items.is_empty() {
-        Some(Command::Call(job, Ok(LockCall::DequeueAll)))
+    while let Some(item) = items.next() {
+        match read_lock(item) {
+            Some(_) => {}
+            None => return false,
+        }
+    }
+    true
+}
+
+/// What follows a job and a function that there is not.
+fn read_unknown(job: u8, items: Parts<'_>) -> Option<Command>
+    ensures { (request names : LockCallView) → asked_by_line request names result ≡ asked_call job (unknown_call items.entry) }
+{
+    if are_locks(items) {
+        Some(Command::Refused(job, Refusal::NoFunction))
     } else {
         None
     }
 }
 
+/// What follows DEQ, a job and function 1.
+fn read_release_all(drafts: &mut Drafts, job: u8, items: Parts<'_>) -> Option<Command>
+    ensures { asked_by_line drafts.new.request drafts.new.names result ≡ asked_call job (release_all_call items.entry) }
+{
+    if !items.is_empty() {
+        return None;
+    }
+    drafts.names = LockCall::DequeueAll;
+    Some(Command::Names(job))
+}
+
 /// What follows DEQ, a job and function 2.
-fn read_dequeue_id(job: u8, mut items: Parts<'_>) -> Option<Command>
-    ensures { result ≡ dequeue_id_of job items.entry }
+fn read_release_id(drafts: &mut Drafts, job: u8, mut items: Parts<'_>) -> Option<Command>
+    ensures { asked_by_line drafts.new.request drafts.new.names result ≡ asked_call job (release_id_call items.entry) }
 {
     let id = items.next()?;
     if !items.is_empty() {
         return None;
     }
     let id = RequestId::new(read_half(id)?);
-    Some(Command::Call(job, Ok(LockCall::DequeueId(id))))
+    drafts.names = LockCall::DequeueId(id);
+    Some(Command::Names(job))
 }
 
-/// What follows DEQ, a job and another function.
-fn read_dequeue_other(job: u8, items: Parts<'_>) -> Option<Command>
-    ensures { result ≡ dequeue_other_of job items.entry }
+/// What follows ENQ.
+fn read_enqueue(drafts: &mut Drafts, mut items: Parts<'_>) -> Option<Command>
+    ensures { asked_by_line drafts.new.request drafts.new.names result ≡ enqueue_of items.entry }
 {
-    let _ = read_wants(items, job, LockUse::Named)?;
-    Some(Command::Call(job, Err(Refusal::NoFunction)))
+    let job = read_job(items.next()?)?;
+    let function = read_half(items.next()?)?;
+    let id = RequestId::new(read_half(items.next()?)?);
+    match function {
+        0 => read_request(drafts, EnqueueKind::Blocking, id, job, items),
+        1 => read_request(drafts, EnqueueKind::AtOnce, id, job, items),
+        2 => read_request(drafts, EnqueueKind::Interrupt, id, job, items),
+        3 => read_change(drafts, job, items),
+        _ => read_unknown(job, items),
+    }
 }
 
 /// What follows DEQ.
-fn read_dequeue(mut items: Parts<'_>) -> Option<Command>
-    ensures { result ≡ dequeue_of items.entry }
+fn read_dequeue(drafts: &mut Drafts, mut items: Parts<'_>) -> Option<Command>
+    ensures { asked_by_line drafts.new.request drafts.new.names result ≡ dequeue_of items.entry }
 {
     let job = read_job(items.next()?)?;
     match read_half(items.next()?)? {
-        0 => read_dequeue_named(job, items),
-        1 => read_dequeue_all(job, items),
-        2 => read_dequeue_id(job, items),
-        _ => read_dequeue_other(job, items),
+        0 => read_release(drafts, job, items),
+        1 => read_release_all(drafts, job, items),
+        2 => read_release_id(drafts, job, items),
+        _ => read_unknown(job, items),
+    }
+}
+
+/// What follows STAT and a job.
+fn read_keys(drafts: &mut Drafts, job: u8, items: Parts<'_>) -> Option<Command>
+    ensures { asked_by_line drafts.new.request drafts.new.names result ≡ asked_status job (option_map (call_wants job Named) (locks_of items.entry)) }
+{
+    match draft_release(&mut drafts.names, job, items) {
+        None => None,
+        Some(Ok(())) => Some(Command::Status(job)),
+        Some(Err(refusal)) => Some(Command::StatusRefused(job, refusal)),
     }
 }
 
 /// What follows STAT.
-fn read_status(mut items: Parts<'_>) -> Option<Command>
-    ensures { result ≡ status_of_items items.entry }
+fn read_status(drafts: &mut Drafts, mut items: Parts<'_>) -> Option<Command>
+    ensures { asked_by_line drafts.new.request drafts.new.names result ≡ status_of_items items.entry }
 {
     let job = read_job(items.next()?)?;
-    let wants = read_wants(items, job, LockUse::Named)?;
-    Some(Command::Status(job, wants))
+    read_keys(drafts, job, items)
 }
 
 /// What follows FREE.
 fn read_free(mut items: Parts<'_>) -> Option<Command>
-    ensures { result ≡ free_of items.entry }
+    ensures { (request names : LockCallView) → asked_by_line request names result ≡ free_of items.entry }
 {
     let job = items.next()?;
     if !items.is_empty() {
@@ -161,7 +197,7 @@ fn read_free(mut items: Parts<'_>) -> Option<Command>
 
 /// A command that stands alone.
 fn bare(command: Command, items: Parts<'_>) -> Option<Command>
-    ensures { result ≡ bare command items.entry }
+    ensures { (request names : LockCallView) → asked_by_line request names result ≡ bare (asked_by request names command) items.entry }
 {
     if items.is_empty() {
         Some(command)
@@ -171,16 +207,16 @@ fn bare(command: Command, items: Parts<'_>) -> Option<Command>
 }
 
 /// The command of a line's items.
-fn read_items(mut items: Parts<'_>) -> Option<Command>
-    ensures { result ≡ command_of_items items.entry }
+fn read_items(drafts: &mut Drafts, mut items: Parts<'_>) -> Option<Command>
+    ensures { asked_by_line drafts.new.request drafts.new.names result ≡ command_of_items items.entry }
 {
     let name = items.next()?;
     if name == b"ENQ".as_slice() {
-        read_enqueue(items)
+        read_enqueue(drafts, items)
     } else if name == b"DEQ".as_slice() {
-        read_dequeue(items)
+        read_dequeue(drafts, items)
     } else if name == b"STAT".as_slice() {
-        read_status(items)
+        read_status(drafts, items)
     } else if name == b"FREE".as_slice() {
         read_free(items)
     } else if name == b"SHOW".as_slice() {
@@ -212,10 +248,10 @@ fn is_silent(line: &[u8]) -> bool
     line.is_empty() || line[0] == b';'
 }
 
-/// What a line asks for, if it is in the grammar.
+/// What a line asks for, if it is in the grammar, with its call drafted.
 #[tactic(auto, unfolding(crate::specs::Commands::command_of))]
-pub fn read_command(line: &[u8]) -> Option<Command>
-    ensures { result ≡ command_of line.now }
+pub fn read_command(drafts: &mut Drafts, line: &[u8]) -> Option<Command>
+    ensures { asked_by_line drafts.new.request drafts.new.names result ≡ command_of line.now }
 {
     if !is_allowed(line) {
         return None;
@@ -223,5 +259,5 @@ pub fn read_command(line: &[u8]) -> Option<Command>
     if is_silent(line) {
         return Some(Command::Nothing);
     }
-    read_items(Parts::of(line, b' '))
+    read_items(drafts, Parts::of(line, b' '))
 }

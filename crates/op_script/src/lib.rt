@@ -3,6 +3,7 @@
 
 mod call_wants;
 mod commands;
+mod drafts;
 mod endings;
 mod grants;
 mod host_ports;

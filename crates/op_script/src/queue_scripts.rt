@@ -1,11 +1,12 @@
 //! Scripts on the lock queue.
-ghost use Rattle.std.specs.Prelude.{◌≡◌, ◌+◌, ◌^◌, ◌≤◌, ◌++◌, ◌∷◌, [], ℕ, List, Some, None, false, length, OnOk, IfOk};
+ghost use Rattle.std.specs.Prelude.{◌≡◌, ◌+◌, ◌^◌, ◌≤◌, ◌++◌, ◌∷◌, [], ℕ, List, Ok, Err, false, OnOk, IfOk};
 ghost use Rattle.std.specs.Str.Lines.{lines};
-ghost use Rattle.op_script.specs.QueueScripts.{Effect, effect_of, call_effect, grants_after, free_effect, statuses, status_text, show_text, transcript_of, transcript_of-too_long, transcript};
-ghost use Rattle.op_script.specs.Commands.{command_of};
+ghost use Rattle.op_script.specs.QueueScripts.{effect_of, call_effect, unless_busy, grants_after, free_effect, statuses, show_text, transcript_of, transcript_of-too_long, transcript};
+ghost use Rattle.op_script.specs.Drafts.{asked_by_line, wants_in};
 ghost use Rattle.op_script.specs.Serves.{Serves, Blames};
 
 use crate::commands::{Command, read_command};
+use crate::drafts::Drafts;
 use crate::endings::{Ending, ServeError};
 use crate::grants::{Waiting, push_grants, waiting_before};
 use crate::line_sessions::{LineService, LineSession, push_fault};
@@ -13,7 +14,7 @@ use crate::ports::{ByteIn, ByteOut};
 use crate::printing::{push_code, push_reply, push_request, push_status};
 use crate::serving::serve_session;
 use crate::wait_pairs::push_waits;
-use lock_queue::{LockCall, LockReply, LockTable, PlainTable, Refusal, Want, Wants};
+use lock_queue::{LockCall, LockReply, LockTable, PlainTable, Refusal, Want};
 use std::alloc::{AllocError, Global};
 
 /// Adds the lines of the requests that a call granted, which answered this.
@@ -31,25 +32,57 @@ fn push_grants_after<L: LockTable>(
     }
 }
 
-/// Makes a call of a job that does not wait, unless it was refused before.
+/// Makes a call of a job that does not wait.
 #[tactic(auto, using(std::proofs::Common::append_assoc))]
 fn make_call<L: LockTable>(
     table: &mut L,
     job: u8,
-    call: Result<LockCall, Refusal>,
+    call: &LockCall,
     out: &mut Vec<u8>,
 ) -> Result<(), AllocError>
-    ensures requests { OnOk result (L.requests table.new ≡ (call_effect (L.requests table.old) job call).requests) }
-    ensures text { OnOk result (out.new.items ≡ out.old.items ++ (call_effect (L.requests table.old) job call).text) }
+    ensures requests { OnOk result (L.requests table.new ≡ (call_effect (L.requests table.old) job (Ok call.now)).requests) }
+    ensures text { OnOk result (out.new.items ≡ out.old.items ++ (call_effect (L.requests table.old) job (Ok call.now)).text) }
 {
-    let call = match call {
-        Ok(call) => call,
-        Err(refusal) => return push_code(out, refusal),
-    };
-    let waiting = waiting_before(table, job, &call);
-    let reply = table.call(job, &call);
+    let waiting = waiting_before(table, job, call);
+    let reply = table.call(job, call);
     push_reply(out, reply)?;
     push_grants_after(out, table, reply, &waiting)
+}
+
+/// Makes a call of a job, unless it waits.
+fn call_unless_busy<L: LockTable>(
+    table: &mut L,
+    job: u8,
+    call: &LockCall,
+    out: &mut Vec<u8>,
+) -> Result<(), AllocError>
+    ensures requests { OnOk result (L.requests table.new
+        ≡ (unless_busy (L.requests table.old) job (call_effect (L.requests table.old) job (Ok call.now))).requests) }
+    ensures text { OnOk result (out.new.items
+        ≡ out.old.items ++ (unless_busy (L.requests table.old) job (call_effect (L.requests table.old) job (Ok call.now))).text) }
+{
+    if table.waiting(job) {
+        out.extend_from_slice(b"BUSY\n")?;
+        return Ok(());
+    }
+    make_call(table, job, call, out)
+}
+
+/// Refuses a call of a job, unless it waits.
+fn refuse_unless_busy<L: LockTable>(
+    table: &L,
+    job: u8,
+    refusal: Refusal,
+    out: &mut Vec<u8>,
+) -> Result<(), AllocError>
+    ensures { OnOk result (out.new.items
+        ≡ out.old.items ++ (unless_busy (L.requests table.now) job (call_effect (L.requests table.now) job (Err refusal))).text) }
+{
+    if table.waiting(job) {
+        out.extend_from_slice(b"BUSY\n")?;
+        return Ok(());
+    }
+    push_code(out, refusal)
 }
 
 /// Takes out all requests of a job.
@@ -80,18 +113,19 @@ fn push_statuses<L: LockTable>(
     Ok(())
 }
 
-/// Adds what a job is told of the keys of some wants, or why it is not.
-fn push_status_text<L: LockTable>(
+/// Adds what a job is told of the keys that a call names.
+fn push_statuses_of<L: LockTable>(
     out: &mut Vec<u8>,
     table: &L,
     job: u8,
-    wants: &Result<Wants, Refusal>,
+    call: &LockCall,
 ) -> Result<(), AllocError>
-    ensures { OnOk result (out.new.items ≡ out.old.items ++ status_text (L.requests table.now) job wants.now) }
+    ensures { OnOk result (out.new.items ≡ out.old.items ++ statuses (L.requests table.now) job (wants_in call.now).items) }
 {
-    match wants {
-        Ok(wants) => push_statuses(out, table, job, wants.as_slice()),
-        Err(refusal) => push_code(out, *refusal),
+    match call {
+        LockCall::Enqueue { wants, .. } | LockCall::Modify(wants) | LockCall::DequeueNamed(wants) =>
+            { push_statuses(out, table, job, wants.as_slice()) }
+        LockCall::DequeueAll | LockCall::DequeueId(_) => Ok(()),
     }
 }
 
@@ -107,17 +141,21 @@ fn push_requests<L: LockTable>(out: &mut Vec<u8>, table: &L) -> Result<(), Alloc
     Ok(())
 }
 
-/// Does what a line asks for, and adds what it writes. It answers an ending where the script ends
-/// there.
+/// Does what a line asks for, with its call drafted, and adds what it writes. It answers an ending
+/// where the script ends there.
 fn perform<L: LockTable>(
     table: &mut L,
     number: u128,
     command: Option<Command>,
+    drafts: &Drafts,
     out: &mut Vec<u8>,
 ) -> Result<Option<Ending>, AllocError>
-    ensures requests { OnOk result (L.requests table.new ≡ (effect_of number (L.requests table.old) command).requests) }
-    ensures text { OnOk result (out.new.items ≡ out.old.items ++ (effect_of number (L.requests table.old) command).text) }
-    ensures ending { IfOk result (λ ending. ending ≡ (effect_of number (L.requests table.old) command).ending) }
+    ensures requests { OnOk result (L.requests table.new
+        ≡ (effect_of number (L.requests table.old) (asked_by_line drafts.now.request drafts.now.names command)).requests) }
+    ensures text { OnOk result (out.new.items
+        ≡ out.old.items ++ (effect_of number (L.requests table.old) (asked_by_line drafts.now.request drafts.now.names command)).text) }
+    ensures ending { IfOk result (λ ending. ending
+        ≡ (effect_of number (L.requests table.old) (asked_by_line drafts.now.request drafts.now.names command)).ending) }
 {
     match command {
         None => {
@@ -126,14 +164,11 @@ fn perform<L: LockTable>(
         }
         Some(Command::Quit) => return Ok(Some(Ending::Done)),
         Some(Command::Nothing) => {}
-        Some(Command::Call(job, call)) => {
-            if table.waiting(job) {
-                out.extend_from_slice(b"BUSY\n")?;
-            } else {
-                make_call(table, job, call, out)?;
-            }
-        }
-        Some(Command::Status(job, wants)) => push_status_text(out, table, job, &wants)?,
+        Some(Command::Request(job)) => call_unless_busy(table, job, &drafts.request, out)?,
+        Some(Command::Names(job)) => call_unless_busy(table, job, &drafts.names, out)?,
+        Some(Command::Refused(job, refusal)) => refuse_unless_busy(table, job, refusal, out)?,
+        Some(Command::Status(job)) => push_statuses_of(out, table, job, &drafts.names)?,
+        Some(Command::StatusRefused(_, refusal)) => push_code(out, refusal)?,
         Some(Command::Free(job)) => free(table, job, out)?,
         Some(Command::Show) => push_requests(out, table)?,
         Some(Command::Waits) => push_waits(out, table)?,
@@ -145,6 +180,7 @@ fn perform<L: LockTable>(
 #[derive(Drop)]
 pub struct QueueService<L: LockTable> {
     table: L,
+    drafts: Drafts,
 }
 
 impl<L: LockTable> QueueService<L> {
@@ -152,7 +188,10 @@ impl<L: LockTable> QueueService<L> {
     pub fn new(table: L) -> Self
         ensures { (n : ℕ) (lines : List (List ℕ)) → ⟦<QueueService<L> as LineService>⟧.follow_lines result n lines ≡ transcript_of (L.requests table) n lines }
     {
-        QueueService { table }
+        QueueService {
+            table,
+            drafts: Drafts::new(),
+        }
     }
 }
 
@@ -165,7 +204,8 @@ impl<L: LockTable> LineService for QueueService<L> {
         line: &[u8],
         out: &mut Vec<u8>,
     ) -> Result<Option<Ending>, AllocError> {
-        perform(&mut self.table, number, read_command(line), out)
+        let command = read_command(&mut self.drafts, line);
+        perform(&mut self.table, number, command, &self.drafts, out)
     }
 
     fn end_lines(&mut self, _number: u128, _out: &mut Vec<u8>) -> Result<Ending, AllocError> {
