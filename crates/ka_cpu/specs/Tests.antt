@@ -16,6 +16,10 @@ mask_source g core n = if nat_eq (n.op / 8 % 2) 0 then Some n.e else word_at g.a
 abbrev pub mask_of : ℕ → ℕ → ℕ
 mask_of op m = if nat_eq (op % 2) 0 then m else swapped m
 
+abbrev pub masked : ℕ → Option ℕ → Option ℕ
+masked op None = None
+masked op (Some m) = Some (mask_of op m)
+
 -- 0 never skips, 2 where A and mask is 0 (E), 4 always (A), 6 where it is not 0 (N)
 abbrev pub skips_on : ℕ → Bool → Bool
 skips_on op none_set =
@@ -35,4 +39,4 @@ abbrev pub tested : Regs → Instruction → ℕ → Effect
 tested g n m = record (skips_if g (skips_on n.op (nat_eq (bit_and (a_of g n) m) 0))) { ac = modified n.op (a_of g n) m }
 
 unfoldable pub test_row : Regs → List ℕ → Instruction → Result Effect StopReason
-test_row g core n = reading (mask_source g core n) (λ m. Ok (tested g n (mask_of n.op m)))
+test_row g core n = reading (masked n.op (mask_source g core n)) (λ m. Ok (tested g n m))

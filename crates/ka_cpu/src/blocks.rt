@@ -55,6 +55,7 @@ fn move_words<M: JobMemory>(regs: &mut Regs, memory: &mut M, from: u32, to: u32,
 }
 
 /// BLT
+#[inline(always)]
 #[tactic(auto, unfolding(crate::specs::Blocks::blt_after))]
 pub fn do_blt<M: JobMemory>(regs: &mut Regs, memory: &mut M, n: Instruction) -> Outcome
     requires ac { n.ac < 16 }

@@ -1,9 +1,9 @@
 //! IBP, ILDB, LDB, IDPB and DPB.
 
-ghost use Rattle.std.specs.Prelude.{◌≡◌, true, IfOk, ℕ, ◌<◌, ◌≤◌, ◌^◌, ◌+◌, ◌*◌, ◌/◌, ◌%◌};
+ghost use Rattle.std.specs.Prelude.{◌≡◌, true, false, nat_eq, IfOk, ℕ, ◌<◌, ◌≤◌, ◌^◌, ◌+◌, ◌*◌, ◌/◌, ◌%◌};
 ghost use Rattle.ka_cpu.specs.Places.{is_legal};
 ghost use Rattle.ka_cpu.specs.Effects.{After, EndsAs, applied};
-ghost use Rattle.ka_cpu.specs.Bytes.{byte_after, byte_effect, byte_of, byte_place, deposited, incremented, position_of, replaced, size_of};
+ghost use Rattle.ka_cpu.specs.Bytes.{byte_after, byte_effect, byte_of, byte_place, deposited, incremented, increments, loads, position_of, replaced, size_of};
 
 use crate::address::find_address;
 use crate::instruction::{ILLEGAL, Instruction};
@@ -113,6 +113,7 @@ fn locate_byte<M: JobMemory>(
 /// Loads or deposits a byte whose place is known.
 #[inline(always)]
 fn move_byte<M: JobMemory>(
+    is_load: bool,
     regs: &mut Regs,
     memory: &mut M,
     n: Instruction,
@@ -121,13 +122,14 @@ fn move_byte<M: JobMemory>(
     word: Word,
 ) -> Outcome
     requires ac { n.ac < 16 }
+    requires load { loads n.op ≡ is_load }
     requires legal { is_legal (M.words memory.old) e ≡ true }
     ensures after { record { regs = regs.new; core = M.words memory.new; outcome = result } ≡ applied regs.old (M.words memory.old) n (byte_effect regs.old n pointer e word) }
     ensures place { M.place memory.new ≡ M.place memory.old }
     ensures ends { EndsAs result regs.old (M.words memory.old) regs.new (M.words memory.new) }
 {
     let a = regs.ac[n.ac];
-    if n.op == 0o134 || n.op == 0o135 {
+    if is_load {
         regs.ac[n.ac] = load_byte(pointer, word);
     } else {
         store(regs, memory, e, deposit_byte(pointer, a, word));
@@ -136,11 +138,11 @@ fn move_byte<M: JobMemory>(
     Outcome::Done
 }
 
-/// IBP, ILDB, LDB, IDPB, DPB
+/// IBP
 #[inline(always)]
-#[tactic(auto, using(crate::proofs::BytePlaces::restore_steps), unfolding(crate::specs::Bytes::byte_after))]
-pub fn do_byte<M: JobMemory>(regs: &mut Regs, memory: &mut M, n: Instruction) -> Outcome
-    requires { n.ac < 16 }
+#[tactic(auto, unfolding(crate::specs::Bytes::byte_after))]
+fn do_ibp<M: JobMemory>(regs: &mut Regs, memory: &mut M, n: Instruction) -> Outcome
+    requires op { n.op ≡ 0o133 }
     ensures after { record { regs = regs.new; core = M.words memory.new; outcome = result } ≡ byte_after regs.old (M.words memory.old) n }
     ensures place { M.place memory.new ≡ M.place memory.old }
     ensures ends { EndsAs result regs.old (M.words memory.old) regs.new (M.words memory.new) }
@@ -148,23 +150,75 @@ pub fn do_byte<M: JobMemory>(regs: &mut Regs, memory: &mut M, n: Instruction) ->
     let Some(old) = fetch(regs, memory, n.e) else {
         return ILLEGAL;
     };
-    if n.op != 0o133 && n.op != 0o134 && n.op != 0o136 {
-        return match locate_byte(regs, memory, old) {
-            Err(reason) => Outcome::Stop(reason),
-            Ok((e, word)) => move_byte(regs, memory, n, old, e, word),
-        };
+    store(regs, memory, n.e, increment(old));
+    regs.pc = regs.pc.plus(1);
+    Outcome::Done
+}
+
+/// LDB, DPB
+#[inline(always)]
+#[tactic(auto, unfolding(crate::specs::Bytes::byte_after))]
+fn use_byte<M: JobMemory>(is_load: bool, regs: &mut Regs, memory: &mut M, n: Instruction) -> Outcome
+    requires ac { n.ac < 16 }
+    requires load { loads n.op ≡ is_load }
+    requires increment { increments n.op ≡ false }
+    ensures after { record { regs = regs.new; core = M.words memory.new; outcome = result } ≡ byte_after regs.old (M.words memory.old) n }
+    ensures place { M.place memory.new ≡ M.place memory.old }
+    ensures ends { EndsAs result regs.old (M.words memory.old) regs.new (M.words memory.new) }
+{
+    let Some(pointer) = fetch(regs, memory, n.e) else {
+        return ILLEGAL;
+    };
+    match locate_byte(regs, memory, pointer) {
+        Err(reason) => Outcome::Stop(reason),
+        Ok((e, word)) => move_byte(is_load, regs, memory, n, pointer, e, word),
     }
+}
+
+/// ILDB, IDPB: where the byte is refused the old pointer is stored back.
+#[inline(always)]
+#[tactic(auto, using(crate::proofs::BytePlaces::restore_steps), unfolding(crate::specs::Bytes::byte_after))]
+fn use_next_byte<M: JobMemory>(
+    is_load: bool,
+    regs: &mut Regs,
+    memory: &mut M,
+    n: Instruction,
+) -> Outcome
+    requires ac { n.ac < 16 }
+    requires load { loads n.op ≡ is_load }
+    requires increment { increments n.op ≡ true }
+    requires op { nat_eq n.op 0o133 ≡ false }
+    ensures after { record { regs = regs.new; core = M.words memory.new; outcome = result } ≡ byte_after regs.old (M.words memory.old) n }
+    ensures place { M.place memory.new ≡ M.place memory.old }
+    ensures ends { EndsAs result regs.old (M.words memory.old) regs.new (M.words memory.new) }
+{
+    let Some(old) = fetch(regs, memory, n.e) else {
+        return ILLEGAL;
+    };
     let new = increment(old);
     store(regs, memory, n.e, new);
-    if n.op == 0o133 {
-        regs.pc = regs.pc.plus(1);
-        return Outcome::Done;
-    }
     match locate_byte(regs, memory, new) {
         Err(reason) => {
             store(regs, memory, n.e, old);
             Outcome::Stop(reason)
         }
-        Ok((e, word)) => move_byte(regs, memory, n, new, e, word),
+        Ok((e, word)) => move_byte(is_load, regs, memory, n, new, e, word),
+    }
+}
+
+/// IBP, ILDB, LDB, IDPB, DPB
+#[inline(always)]
+pub fn do_byte<M: JobMemory>(regs: &mut Regs, memory: &mut M, n: Instruction) -> Outcome
+    requires { n.ac < 16 }
+    ensures after { record { regs = regs.new; core = M.words memory.new; outcome = result } ≡ byte_after regs.old (M.words memory.old) n }
+    ensures place { M.place memory.new ≡ M.place memory.old }
+    ensures ends { EndsAs result regs.old (M.words memory.old) regs.new (M.words memory.new) }
+{
+    match n.op {
+        0o133 => do_ibp(regs, memory, n),
+        0o134 => use_next_byte(true, regs, memory, n),
+        0o135 => use_byte(true, regs, memory, n),
+        0o136 => use_next_byte(false, regs, memory, n),
+        _ => use_byte(false, regs, memory, n),
     }
 }

@@ -3,7 +3,7 @@
 ghost use Rattle.std.specs.Prelude.{◌≡◌, ℕ, ℤ, ◌<◌, ◌≤◌, ◌^◌, ◌+◌, ◌*◌, ◌/◌, ◌-◌, ◌%◌, Ok, Err, Some, None, if◌then◌else◌};
 ghost use Rattle.ka_cpu.specs.Effects.{After, EndsAs, finished};
 ghost use Rattle.ka_cpu.specs.Booleans.{boolean_row, boolean_of, reads_none};
-ghost use Rattle.ka_cpu.specs.Tests.{test_row, mask_source, mask_of, skips_on, modified};
+ghost use Rattle.ka_cpu.specs.Tests.{test_row, mask_source, mask_of, masked, skips_on, modified};
 ghost use Rattle.ka_cpu.specs.Effects.{computed_operand, ac_put};
 
 use crate::instruction::{ILLEGAL, Instruction, can_store, operand_to_compute, put_computed};
@@ -79,24 +79,27 @@ pub fn do_boolean<M: JobMemory>(
     Outcome::Done
 }
 
-/// The mask of a test.
-#[inline(always)]
-fn read_mask<M: JobMemory>(regs: &Regs, memory: &M, n: Instruction) -> Option<Word>
-    requires { n.e < 2 ^ 18 }
-    ensures { result ≡ mask_source regs.now (M.words memory.now) n }
-{
-    if n.op / 8 % 2 == 0 {
-        Some(Word::join(0, n.e))
-    } else {
-        fetch(regs, memory, n.e)
-    }
-}
-
+/// The mask in a word that is found.
 #[inline(always)]
 fn turn_mask(op: u16, word: Word) -> Word
     ensures { result ≡ mask_of op word }
 {
     if op % 2 == 0 { word } else { swap(word) }
+}
+
+/// The mask of a test.
+#[inline(always)]
+fn read_mask<M: JobMemory>(regs: &Regs, memory: &M, n: Instruction) -> Option<Word>
+    requires { n.e < 2 ^ 18 }
+    ensures { result ≡ masked n.op (mask_source regs.now (M.words memory.now) n) }
+{
+    if n.op / 8 % 2 == 0 {
+        return Some(turn_mask(n.op, Word::join(0, n.e)));
+    }
+    match fetch(regs, memory, n.e) {
+        None => None,
+        Some(word) => Some(turn_mask(n.op, word)),
+    }
 }
 
 /// Whether a test skips, where none of the masked bits is set, or one is.
@@ -136,10 +139,9 @@ pub fn do_test<M: JobMemory>(regs: &mut Regs, memory: &mut M, n: Instruction) ->
     ensures place { M.place memory.new ≡ M.place memory.old }
     ensures ends { EndsAs result regs.old (M.words memory.old) regs.new (M.words memory.new) }
 {
-    let Some(word) = read_mask(regs, memory, n) else {
+    let Some(mask) = read_mask(regs, memory, n) else {
         return ILLEGAL;
     };
-    let mask = turn_mask(n.op, word);
     let a = regs.ac[n.ac];
     let test = skips(n.op, a.and(mask).number() == 0);
     modify(regs, n, a, mask);

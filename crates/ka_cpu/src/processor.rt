@@ -149,8 +149,8 @@ fn find_family(op: u16) -> Family
     }
 }
 
-/// Calls the body of a family in the mode of the instruction, each mode with a copy of its own, in
-/// which the mode is not looked at again.
+/// Calls the body of a common family in the mode of the instruction, each mode with a copy of its
+/// own, in which the mode is not looked at again.
 macro_rules! in_mode {
     ($body:ident, $regs:ident, $memory:ident, $n:ident) => {
         match $n.op % 4 {
@@ -190,12 +190,12 @@ fn carry_out<M: JobMemory>(
 {
     match family {
         Family::Move => in_mode!(do_move, regs, memory, n),
-        Family::Movs => in_mode!(do_movs, regs, memory, n),
-        Family::Movn => in_mode!(do_movn, regs, memory, n),
-        Family::Movm => in_mode!(do_movm, regs, memory, n),
-        Family::Imul => in_mode!(do_imul, regs, memory, n),
-        Family::Mul => in_mode!(do_mul, regs, memory, n),
-        Family::Idiv => in_mode!(do_idiv, regs, memory, n),
+        Family::Movs => do_movs(n.op % 4, regs, memory, n),
+        Family::Movn => do_movn(n.op % 4, regs, memory, n),
+        Family::Movm => do_movm(n.op % 4, regs, memory, n),
+        Family::Imul => do_imul(n.op % 4, regs, memory, n),
+        Family::Mul => do_mul(n.op % 4, regs, memory, n),
+        Family::Idiv => do_idiv(n.op % 4, regs, memory, n),
         Family::Shift => do_shift(regs, memory, n),
         Family::Jffo => do_jffo(regs, memory, n),
         Family::Exch => do_exch(regs, memory, n),
@@ -219,8 +219,12 @@ fn carry_out<M: JobMemory>(
         Family::Add => in_mode!(do_add, regs, memory, n),
         Family::Sub => in_mode!(do_sub, regs, memory, n),
         Family::Compare => do_compare(regs, memory, n),
-        Family::JumpOn(change) => do_jump(change, regs, memory, n),
-        Family::SkipOn(change) => do_skip(change, regs, memory, n),
+        Family::JumpOn(Change::Keep) => do_jump(Change::Keep, regs, memory, n),
+        Family::JumpOn(Change::Up) => do_jump(Change::Up, regs, memory, n),
+        Family::JumpOn(Change::Down) => do_jump(Change::Down, regs, memory, n),
+        Family::SkipOn(Change::Keep) => do_skip(Change::Keep, regs, memory, n),
+        Family::SkipOn(Change::Up) => do_skip(Change::Up, regs, memory, n),
+        Family::SkipOn(Change::Down) => do_skip(Change::Down, regs, memory, n),
         Family::Boolean => in_mode!(do_boolean, regs, memory, n),
         Family::Half => in_mode!(do_half, regs, memory, n),
         Family::Test => do_test(regs, memory, n),
@@ -247,7 +251,7 @@ fn refusal(turn: u32, op: u16, ac: usize, reason: StopReason) -> StopReason
 }
 
 /// The word that is executed in the place of an XCT behind so many others, whose address is known.
-#[inline(always)]
+#[inline(never)]
 fn next_word<M: JobMemory>(turn: u32, regs: &Regs, memory: &M, e: u32) -> Result<Word, StopReason>
     ensures { result ≡ next_word_of turn (word_at regs.now.ac (M.words memory.now) e) }
 {

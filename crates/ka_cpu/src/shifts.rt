@@ -224,6 +224,7 @@ fn write_pair(regs: &mut Regs, n: Instruction, pair: u128)
 }
 
 /// ASH, ROT, LSH, ROTC, LSHC
+#[inline(always)]
 #[tactic(auto, unfolding(crate::specs::Shifts::shift_row))]
 pub fn do_shift<M: JobMemory>(regs: &mut Regs, memory: &mut M, n: Instruction) -> Outcome
     requires ac { n.ac < 16 }

@@ -1,7 +1,7 @@
 //! PUSHJ, PUSH, POP and POPJ.
 
-ghost use Rattle.std.specs.Prelude.{◌≡◌, ℕ, ◌<◌, ◌≤◌, ◌^◌, ◌+◌, ◌*◌, ◌/◌, ◌-◌, ◌%◌, Ok, Err, Some, None, if◌then◌else◌, List};
-ghost use Rattle.ka_cpu.specs.Effects.{After, EndsAs, finished};
+ghost use Rattle.std.specs.Prelude.{◌≡◌, ℕ, ◌<◌, ◌≤◌, ◌^◌, ◌+◌, ◌*◌, ◌/◌, ◌-◌, ◌%◌, Ok, Err, Some, None, nat_le, nat_lt, if◌then◌else◌, List};
+ghost use Rattle.ka_cpu.specs.Effects.{After, EndsAs, Goes_on, Overruns, finished};
 ghost use Rattle.ka_cpu.specs.Effects.{told};
 ghost use Rattle.ka_cpu.specs.Jumps.{counted_up};
 ghost use Rattle.ka_cpu.specs.Stacks.{counted_down, push_ending, pop_ending, pushj_row, push_row, pop_row, popj_row};
@@ -12,34 +12,49 @@ use crate::memory::store;
 use crate::{JobMemory, Outcome, Regs, StopReason, fetch};
 use word36::{Address, Word};
 
-/// A pushdown pointer with one word more.
+/// How a pushdown instruction ends whose pointer has run out, or has not.
 #[inline(always)]
-fn push_down(pointer: Word) -> (Word, Outcome)
-    ensures word { result.0 ≡ counted_up pointer }
-    ensures outcome { result.1 ≡ told (push_ending pointer) }
-    ensures ends { (g h : Regs) (core rest : List ℕ) → EndsAs result.1 g core h rest }
+fn ending(runs_out: bool) -> Outcome
+    ensures outcome { result ≡ told (if runs_out then Overruns else Goes_on) }
+    ensures ends { (g h : Regs) (core rest : List ℕ) → EndsAs result g core h rest }
 {
-    let outcome = if pointer.number() + BOTH > 0o777_777_777_777 {
+    if runs_out {
         Outcome::Stop(StopReason::Pushdown)
     } else {
         Outcome::Done
-    };
-    (pointer.sum(Word::new(BOTH), false), outcome)
+    }
+}
+
+/// Whether a pushdown pointer has no word more.
+#[inline(always)]
+fn runs_over(pointer: Word) -> bool
+    ensures { result ≡ nat_le (2 ^ 36) (pointer + 2 ^ 18 + 1) }
+{
+    pointer.number() + BOTH > 0o777_777_777_777
+}
+
+/// Whether a pushdown pointer has no word less.
+#[inline(always)]
+fn runs_under(pointer: Word) -> bool
+    ensures { result ≡ nat_lt pointer (2 ^ 18 + 1) }
+{
+    pointer.number() < BOTH
+}
+
+/// A pushdown pointer with one word more.
+#[inline(always)]
+fn push_down(pointer: Word) -> Word
+    ensures { result ≡ counted_up pointer }
+{
+    pointer.sum(Word::new(BOTH), false)
 }
 
 /// A pushdown pointer with one word less.
 #[inline(always)]
-fn pop_up(pointer: Word) -> (Word, Outcome)
-    ensures word { result.0 ≡ counted_down pointer }
-    ensures outcome { result.1 ≡ told (pop_ending pointer) }
-    ensures ends { (g h : Regs) (core rest : List ℕ) → EndsAs result.1 g core h rest }
+fn pop_up(pointer: Word) -> Word
+    ensures { result ≡ counted_down pointer }
 {
-    let outcome = if pointer.number() < BOTH {
-        Outcome::Stop(StopReason::Pushdown)
-    } else {
-        Outcome::Done
-    };
-    (pointer.sum(Word::new(0o777_776_777_777), false), outcome)
+    pointer.sum(Word::new(0o777_776_777_777), false)
 }
 
 /// PUSHJ
@@ -52,7 +67,8 @@ pub fn do_pushj<M: JobMemory>(regs: &mut Regs, memory: &mut M, n: Instruction) -
     ensures place { M.place memory.new ≡ M.place memory.old }
     ensures ends { EndsAs result regs.old (M.words memory.old) regs.new (M.words memory.new) }
 {
-    let (pointer, outcome) = push_down(regs.ac[n.ac]);
+    let old = regs.ac[n.ac];
+    let pointer = push_down(old);
     if !is_legal_place(memory, pointer.right()) {
         return ILLEGAL;
     }
@@ -60,7 +76,7 @@ pub fn do_pushj<M: JobMemory>(regs: &mut Regs, memory: &mut M, n: Instruction) -
     store(regs, memory, pointer.right(), word);
     regs.ac[n.ac] = pointer;
     regs.pc = Address::new(n.e);
-    outcome
+    ending(runs_over(old))
 }
 
 /// PUSH
@@ -76,14 +92,15 @@ pub fn do_push<M: JobMemory>(regs: &mut Regs, memory: &mut M, n: Instruction) ->
     let Some(word) = fetch(regs, memory, n.e) else {
         return ILLEGAL;
     };
-    let (pointer, outcome) = push_down(regs.ac[n.ac]);
+    let old = regs.ac[n.ac];
+    let pointer = push_down(old);
     if !is_legal_place(memory, pointer.right()) {
         return ILLEGAL;
     }
     store(regs, memory, pointer.right(), word);
     regs.ac[n.ac] = pointer;
     regs.pc = regs.pc.plus(1);
-    outcome
+    ending(runs_over(old))
 }
 
 /// POP
@@ -103,11 +120,11 @@ pub fn do_pop<M: JobMemory>(regs: &mut Regs, memory: &mut M, n: Instruction) -> 
     if !is_legal_place(memory, n.e) {
         return ILLEGAL;
     }
-    let (pointer, outcome) = pop_up(old);
+    let pointer = pop_up(old);
     store(regs, memory, n.e, word);
     regs.ac[n.ac] = pointer;
     regs.pc = regs.pc.plus(1);
-    outcome
+    ending(runs_under(old))
 }
 
 /// POPJ
@@ -124,8 +141,8 @@ pub fn do_popj<M: JobMemory>(regs: &mut Regs, memory: &mut M, n: Instruction) ->
     let Some(word) = fetch(regs, memory, old.right()) else {
         return ILLEGAL;
     };
-    let (pointer, outcome) = pop_up(old);
+    let pointer = pop_up(old);
     regs.ac[n.ac] = pointer;
     regs.pc = Address::new(word.right());
-    outcome
+    ending(runs_under(old))
 }

@@ -19,10 +19,10 @@ use word36::{Address, BLOCK_WORDS, MOST_BLOCKS, Word};
 /// Runs at most so many instructions, and says how many were run and how the last one ended.
 #[inline(never)]
 fn run<M: JobMemory>(regs: &mut Regs, memory: &mut M, most: u64) -> (u64, Outcome) {
-    for done in 0..most {
+    for left in (0..most).rev() {
         match step(regs, memory) {
             Outcome::Done => {}
-            ended => return (done + 1, ended),
+            ended => return (most - left, ended),
         }
     }
     (most, Outcome::Done)
