@@ -1,0 +1,3 @@
+pub mod Values
+pub mod Packing
+pub mod Words

@@ -1,0 +1,14 @@
+//! The assembler: from the bytes of a source to the image of a program.
+#![tactic(auto)]
+
+mod assembly;
+mod error;
+mod layout;
+mod sums;
+#[cfg(test)]
+mod tests;
+mod texts;
+mod words;
+
+pub use assembly::assemble;
+pub use error::{AsmCode, AsmError};
