@@ -28,6 +28,54 @@ impl Drafts {
     }
 }
 
+/// Drafts a request where another call stood.
+#[inline(never)]
+fn replace_by_request(
+    draft: &mut LockCall,
+    kind: EnqueueKind,
+    id: RequestId,
+    job: u8,
+    items: Parts<'_>,
+) -> Option<Result<(), Refusal>>
+    ensures { drafted result draft.new ≡ request_call kind id job items.entry }
+{
+    let mut wants = Wants::new();
+    let answer = read_wants(items, job, LockUse::Requested, &mut wants);
+    *draft = LockCall::Enqueue {
+        kind,
+        id,
+        wants,
+        armed: true,
+    };
+    answer
+}
+
+/// Drafts a change where another call stood.
+#[inline(never)]
+fn replace_by_change(draft: &mut LockCall, job: u8, items: Parts<'_>) -> Option<Result<(), Refusal>>
+    ensures { drafted result draft.new ≡ change_call job items.entry }
+{
+    let mut wants = Wants::new();
+    let answer = read_wants(items, job, LockUse::Named, &mut wants);
+    *draft = LockCall::Modify(wants);
+    answer
+}
+
+/// Drafts what is given up where another call stood.
+#[inline(never)]
+fn replace_by_release(
+    draft: &mut LockCall,
+    job: u8,
+    items: Parts<'_>,
+) -> Option<Result<(), Refusal>>
+    ensures { drafted result draft.new ≡ release_call job items.entry }
+{
+    let mut wants = Wants::new();
+    let answer = read_wants(items, job, LockUse::Named, &mut wants);
+    *draft = LockCall::DequeueNamed(wants);
+    answer
+}
+
 /// Drafts a request for the locks that the items spell, or says why it is refused; None where an
 /// item is no lock.
 pub fn draft_request(
@@ -51,17 +99,7 @@ pub fn draft_request(
             *armed = true;
             read_wants(items, job, LockUse::Requested, wants)
         }
-        _ => {
-            let mut wants = Wants::new();
-            let answer = read_wants(items, job, LockUse::Requested, &mut wants);
-            *draft = LockCall::Enqueue {
-                kind,
-                id,
-                wants,
-                armed: true,
-            };
-            answer
-        }
+        _ => replace_by_request(draft, kind, id, job, items),
     }
 }
 
@@ -72,12 +110,7 @@ pub fn draft_change(draft: &mut LockCall, job: u8, items: Parts<'_>) -> Option<R
 {
     match draft {
         LockCall::Modify(wants) => read_wants(items, job, LockUse::Named, wants),
-        _ => {
-            let mut wants = Wants::new();
-            let answer = read_wants(items, job, LockUse::Named, &mut wants);
-            *draft = LockCall::Modify(wants);
-            answer
-        }
+        _ => replace_by_change(draft, job, items),
     }
 }
 
@@ -88,11 +121,6 @@ pub fn draft_release(draft: &mut LockCall, job: u8, items: Parts<'_>) -> Option<
 {
     match draft {
         LockCall::DequeueNamed(wants) => read_wants(items, job, LockUse::Named, wants),
-        _ => {
-            let mut wants = Wants::new();
-            let answer = read_wants(items, job, LockUse::Named, &mut wants);
-            *draft = LockCall::DequeueNamed(wants);
-            answer
-        }
+        _ => replace_by_release(draft, job, items),
     }
 }

@@ -1,5 +1,5 @@
 //! Which requests a command grants.
-ghost use Rattle.std.specs.Prelude.{◌≡◌, ◌==◌, ◌&&◌, ◌++◌, not, OnOk};
+ghost use Rattle.std.specs.Prelude.{[], ◌≡◌, ◌==◌, ◌&&◌, ◌++◌, not, OnOk};
 ghost use Rattle.std.specs.List.{list_any};
 ghost use Rattle.lock_queue.specs.Queue.{names};
 ghost use Rattle.op_script.specs.Grants.{stays, waiting_from, waiting_before, is_told_of, grant_of, grants_from};
@@ -43,26 +43,26 @@ fn stays(request: &Request, job: u8, call: &LockCall) -> bool
     }
 }
 
-/// For each request that stays, whether it is not granted.
-fn waiting_that_stay<L: LockTable>(table: &L, job: u8, call: &LockCall) -> Waiting
-    ensures { result.items ≡ waiting_from (L.requests table.now) (stays job call.now) 0 (L.requests table.now) }
+/// Fills in, for each request that stays, whether it is not granted.
+fn fill_waiting<L: LockTable>(table: &L, job: u8, call: &LockCall, waiting: &mut Waiting)
+    requires { waiting.old.items ≡ [] }
+    ensures { waiting.new.items ≡ waiting_from (L.requests table.now) (stays job call.now) 0 (L.requests table.now) }
 {
-    let mut waiting = Waiting::new();
     for i in 0..table.len() {
         if stays(table.request(i), job, call) {
             waiting.push(!table.granted(i));
         }
     }
-    waiting
 }
 
-/// The requests that a call of a job may grant, as they stand before it.
-pub fn waiting_before<L: LockTable>(table: &L, job: u8, call: &LockCall) -> Waiting
-    ensures { result.items ≡ waiting_before (L.requests table.now) job call.now }
+/// Fills in the requests that a call of a job may grant, as they stand before it.
+pub fn waiting_before<L: LockTable>(table: &L, job: u8, call: &LockCall, waiting: &mut Waiting)
+    ensures { waiting.new.items ≡ waiting_before (L.requests table.now) job call.now }
 {
+    waiting.clear();
     match call {
-        LockCall::Enqueue { .. } => Waiting::new(),
-        _ => waiting_that_stay(table, job, call),
+        LockCall::Enqueue { .. } => {}
+        _ => fill_waiting(table, job, call, waiting),
     }
 }
 

@@ -38,15 +38,16 @@ fn make_call<L: LockTable>(
     table: &mut L,
     job: u8,
     call: &LockCall,
+    waiting: &mut Waiting,
     out: &mut Vec<u8>,
 ) -> Result<(), AllocError>
     ensures requests { OnOk result (L.requests table.new ≡ (call_effect (L.requests table.old) job (Ok call.now)).requests) }
     ensures text { OnOk result (out.new.items ≡ out.old.items ++ (call_effect (L.requests table.old) job (Ok call.now)).text) }
 {
-    let waiting = waiting_before(table, job, call);
+    waiting_before(table, job, call, waiting);
     let reply = table.call(job, call);
     push_reply(out, reply)?;
-    push_grants_after(out, table, reply, &waiting)
+    push_grants_after(out, table, reply, waiting)
 }
 
 /// Makes a call of a job, unless it waits.
@@ -54,6 +55,7 @@ fn call_unless_busy<L: LockTable>(
     table: &mut L,
     job: u8,
     call: &LockCall,
+    waiting: &mut Waiting,
     out: &mut Vec<u8>,
 ) -> Result<(), AllocError>
     ensures requests { OnOk result (L.requests table.new
@@ -65,7 +67,7 @@ fn call_unless_busy<L: LockTable>(
         out.extend_from_slice(b"BUSY\n")?;
         return Ok(());
     }
-    make_call(table, job, call, out)
+    make_call(table, job, call, waiting, out)
 }
 
 /// Refuses a call of a job, unless it waits.
@@ -87,14 +89,19 @@ fn refuse_unless_busy<L: LockTable>(
 
 /// Takes out all requests of a job.
 #[tactic(auto, using(std::proofs::Common::append_assoc))]
-fn free<L: LockTable>(table: &mut L, job: u8, out: &mut Vec<u8>) -> Result<(), AllocError>
+fn free<L: LockTable>(
+    table: &mut L,
+    job: u8,
+    waiting: &mut Waiting,
+    out: &mut Vec<u8>,
+) -> Result<(), AllocError>
     ensures requests { OnOk result (L.requests table.new ≡ (free_effect (L.requests table.old) job).requests) }
     ensures text { OnOk result (out.new.items ≡ out.old.items ++ (free_effect (L.requests table.old) job).text) }
 {
-    let waiting = waiting_before(table, job, &LockCall::DequeueAll);
+    waiting_before(table, job, &LockCall::DequeueAll, waiting);
     table.release(job);
     out.extend_from_slice(b"OK\n")?;
-    push_grants(out, table, &waiting)
+    push_grants(out, table, waiting)
 }
 
 /// Adds a line for the key of each want.
@@ -148,6 +155,7 @@ fn perform<L: LockTable>(
     number: u128,
     command: Option<Command>,
     drafts: &Drafts,
+    waiting: &mut Waiting,
     out: &mut Vec<u8>,
 ) -> Result<Option<Ending>, AllocError>
     ensures requests { OnOk result (L.requests table.new
@@ -164,12 +172,16 @@ fn perform<L: LockTable>(
         }
         Some(Command::Quit) => return Ok(Some(Ending::Done)),
         Some(Command::Nothing) => {}
-        Some(Command::Request(job)) => call_unless_busy(table, job, &drafts.request, out)?,
-        Some(Command::Names(job)) => call_unless_busy(table, job, &drafts.names, out)?,
+        Some(Command::Request(job)) => {
+            call_unless_busy(table, job, &drafts.request, waiting, out)?;
+        }
+        Some(Command::Names(job)) => {
+            call_unless_busy(table, job, &drafts.names, waiting, out)?;
+        }
         Some(Command::Refused(job, refusal)) => refuse_unless_busy(table, job, refusal, out)?,
         Some(Command::Status(job)) => push_statuses_of(out, table, job, &drafts.names)?,
         Some(Command::StatusRefused(_, refusal)) => push_code(out, refusal)?,
-        Some(Command::Free(job)) => free(table, job, out)?,
+        Some(Command::Free(job)) => free(table, job, waiting, out)?,
         Some(Command::Show) => push_requests(out, table)?,
         Some(Command::Waits) => push_waits(out, table)?,
     }
@@ -181,6 +193,7 @@ fn perform<L: LockTable>(
 pub struct QueueService<L: LockTable> {
     table: L,
     drafts: Drafts,
+    waiting: Waiting,
 }
 
 impl<L: LockTable> QueueService<L> {
@@ -191,6 +204,7 @@ impl<L: LockTable> QueueService<L> {
         QueueService {
             table,
             drafts: Drafts::new(),
+            waiting: Waiting::new(),
         }
     }
 }
@@ -205,7 +219,14 @@ impl<L: LockTable> LineService for QueueService<L> {
         out: &mut Vec<u8>,
     ) -> Result<Option<Ending>, AllocError> {
         let command = read_command(&mut self.drafts, line);
-        perform(&mut self.table, number, command, &self.drafts, out)
+        perform(
+            &mut self.table,
+            number,
+            command,
+            &self.drafts,
+            &mut self.waiting,
+            out,
+        )
     }
 
     fn end_lines(&mut self, _number: u128, _out: &mut Vec<u8>) -> Result<Ending, AllocError> {

@@ -1,6 +1,6 @@
 use Rattle.std.proofs.Common.{◌≡◌, ◌≤◌, ◌++◌, drop, length}
 use Rattle.op_script.specs.Grants.{stays, waiting_from}
-use Rattle.op_script.proofs.grants.waiting_that_stay.Given as goal
+use Rattle.op_script.proofs.grants.fill_waiting.Given as goal
 
 abbrev pub invariant-loop-i : goal.invariant-loop-i
 invariant-loop-i g l =

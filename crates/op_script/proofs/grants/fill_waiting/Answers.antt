@@ -1,8 +1,8 @@
 use Rattle.std.proofs.Common.{sym, ◌∙◌, ap, not, arith}
 use Rattle.op_script.specs.Grants.{stays, waiting_from}
 use Rattle.op_script.proofs.GrantLemmas.{waiting-stays, waiting-leaves}
-use Rattle.op_script.proofs.grants.waiting_that_stay.Goals as goal
-use Rattle.op_script.proofs.grants.waiting_that_stay.Goals.{then-stays, else-stays}
+use Rattle.op_script.proofs.grants.fill_waiting.Goals as goal
+use Rattle.op_script.proofs.grants.fill_waiting.Goals.{then-stays, else-stays}
 
 pub loop-i-preserved : goal.loop-i-preserved
 loop-i-preserved g c =
