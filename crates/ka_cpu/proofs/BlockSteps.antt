@@ -1,4 +1,4 @@
-use Rattle.std.proofs.Common.{◌≡◌, ℕ, ◌+◌, ◌-◌, ◌<◌, ◌≤◌, ◌%◌, ◌^◌, suc, zero, Option, Some, None, List, Bool, true, false, ◌&&◌, refl, ◌∙◌, arith, add-one, add_assoc}
+use Rattle.std.proofs.Common.{◌≡◌, ℕ, ◌+◌, ◌-◌, ◌<◌, ◌≤◌, ◌%◌, ◌^◌, suc, List, true, false, ◌&&◌, refl, ◌∙◌, arith, add_assoc}
 use Rattle.ka_cpu.specs.Places.{word_at, is_legal}
 use Rattle.ka_cpu.specs.Blocks.{Store, all_legal, moved_words, stored}
 

@@ -1,7 +1,7 @@
-use Rattle.std.proofs.Common.{◌≡◌, ℕ, ◌<◌, Option, Some, None, Ok, Err, Result, List, Bool, true, false, refl, ◌∙◌, arith, ap, cond, set, slice_set, slice_get, nat_lt}
+use Rattle.std.proofs.Common.{◌≡◌, ℕ, Option, Some, None, Ok, Err, Result, List, Bool, true, false, refl, ◌∙◌, cond, set, slice_get, nat_lt}
 use Rattle.std.proofs.lemmas.List.{set-set, set-get_or}
 use Rattle.std.proofs.lemmas.Option.{get_or_from_slice_get}
-use Rattle.ka_cpu.specs.Places.{word_at, is_legal, ac_with, core_with}
+use Rattle.ka_cpu.specs.Places.{word_at, ac_with, core_with}
 use Rattle.ka_cpu.specs.Addresses.{Target, target_of, reading, address_in, at_target}
 use Rattle.ka_cpu.specs.declared.outcome.StopReason.{StopReason}
 use Rattle.ka_cpu.specs.declared.outcome.StopReason.TheVariants.{IllegalAddress}

@@ -1,7 +1,7 @@
 use Rattle.std.proofs.Common.{◌≡◌, ℕ, ◌+◌, ◌-◌, ◌/◌, ◌%◌, ◌^◌, ◌∙◌, ◌<◌, ◌≤◌, suc, zero, Option, Some, None, Ok, Err, Result, List, true, false, refl, arith, ap, sym, nat_eq}
 use Rattle.std.proofs.lemmas.Bool.{eqb-true}
 use Rattle.ka_cpu.specs.Places.{word_at}
-use Rattle.ka_cpu.specs.Addresses.{Target, target_here, target_of, target_from, is_indirect, direct_address, used_after, reading, address_in, used_in, pair_in, at_target}
+use Rattle.ka_cpu.specs.Addresses.{Target, target_here, target_of, target_from, is_indirect, direct_address, address_in, used_in, pair_in}
 use Rattle.ka_cpu.specs.declared.outcome.StopReason.{StopReason}
 use Rattle.ka_cpu.specs.declared.outcome.StopReason.TheVariants.{IllegalAddress, AddressChain}
 

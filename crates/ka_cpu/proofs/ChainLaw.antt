@@ -1,8 +1,8 @@
-use Rattle.std.proofs.Common.{◌≡◌, ℕ, ◌≤◌, ◌<◌, ◌⊎◌, suc, zero, Option, Some, None, Ok, Err, Result, List, [], ◌∷◌, length, Bool, true, false, cond, refl, arith, sym, ◌∙◌, inl, inr, ap}
+use Rattle.std.proofs.Common.{◌≡◌, ℕ, ◌≤◌, ◌⊎◌, suc, zero, Option, Some, None, Ok, Err, Result, List, [], ◌∷◌, length, Bool, true, false, cond, refl, arith, sym, ◌∙◌, inl, inr, ap}
 use Rattle.ka_cpu.specs.Places.{word_at}
-use Rattle.ka_cpu.specs.Addresses.{Target, target_here, target_from, target_of, is_indirect, direct_address, used_after, LeadsTo, reading}
+use Rattle.ka_cpu.specs.Addresses.{Target, target_here, target_from, target_of, is_indirect, direct_address, LeadsTo, reading}
 use Rattle.ka_cpu.specs.declared.outcome.StopReason.{StopReason}
-use Rattle.ka_cpu.specs.declared.outcome.StopReason.TheVariants.{IllegalAddress, AddressChain}
+use Rattle.ka_cpu.specs.declared.outcome.StopReason.TheVariants.{AddressChain}
 use Rattle.ka_cpu.proofs.Chain.{target_direct}
 
 chain_found : (n : ℕ) (ac core : List ℕ) (w : ℕ) (u : Option ℕ) (vs : List ℕ) (t : Target) → length vs ≤ n → LeadsTo ac core w u vs t → target_from n ac core w u ≡ Ok t

@@ -1,16 +1,15 @@
-use Rattle.std.proofs.Common.{◌≡◌, ℕ, ◌+◌, ◌-◌, ◌*◌, ◌/◌, ◌%◌, ◌^◌, ◌<◌, ◌≤◌, suc, zero, Option, Some, None, Ok, Err, Result, List, Bool, true, false, refl, arith, ap, sym, ◌∙◌, ◌&&◌, ◌⊎◌, inl, inr, nat_eq, ltb, cond, if◌then◌else◌}
+use Rattle.std.proofs.Common.{◌≡◌, ℕ, ◌+◌, ◌-◌, ◌<◌, ◌≤◌, suc, zero, Option, Some, None, Ok, Err, Result, List, Bool, true, false, refl, arith, ap, sym, ◌∙◌, ◌&&◌, inl, inr, nat_eq, ltb, cond, if◌then◌else◌}
 use Rattle.std.proofs.lemmas.Bool.{ltb-true, ltb-false}
 use Rattle.std.proofs.lemmas.Bool.Decides.{eqb_tells}
 use Rattle.ka_isa.specs.Families.{family_of}
 use Rattle.ka_isa.specs.declared.Family.{Family}
 use Rattle.ka_cpu.specs.Places.{word_at}
 use Rattle.ka_cpu.specs.Addresses.{Target, target_of, reading, at_target, address_in, used_in}
-use Rattle.ka_cpu.specs.Effects.{After, stopped}
+use Rattle.ka_cpu.specs.Effects.{stopped}
 use Rattle.ka_isa.specs.declared.Family.TheVariants.{Xct}
 use Rattle.ka_cpu.specs.Turns.{refusal_of, next_word_of}
 use Rattle.ka_cpu.specs.Exec.{word_behind, word_performed, performed, is_listed, is_execute, is_xct, op_of, ac_field, at_address, carried_out}
 use Rattle.ka_cpu.specs.declared.registers.Regs.{Regs}
-use Rattle.ka_cpu.specs.declared.instruction.Instruction.{Instruction}
 use Rattle.ka_cpu.specs.declared.outcome.StopReason.{StopReason}
 use Rattle.ka_cpu.specs.declared.outcome.StopReason.TheVariants.{IllegalAddress, IllegalInstruction, AddressChain}
 

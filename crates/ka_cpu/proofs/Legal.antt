@@ -1,11 +1,11 @@
-use Rattle.std.proofs.Common.{◌≡◌, ℕ, ◌<◌, List, Option, Some, Bool, true, false, ◌||◌, cond, refl, arith, length, slice_get, nat_lt}
+use Rattle.std.proofs.Common.{◌≡◌, ℕ, ◌<◌, List, Some, Bool, true, false, ◌||◌, refl, arith, length, slice_get, nat_lt}
 use Rattle.std.proofs.lemmas.Option.{slice_get_within}
 use Rattle.std.proofs.lemmas.Bool.Decides.{nat_tests}
 use Rattle.ka_isa.specs.declared.Change.{Change}
 use Rattle.ka_isa.specs.declared.Change.TheVariants.{Keep, Up, Down}
 use Rattle.ka_cpu.specs.Effects.{memory_legal}
 use Rattle.ka_cpu.specs.Conditions.{if_changed}
-use Rattle.ka_cpu.specs.Places.{word_at, is_legal}
+use Rattle.ka_cpu.specs.Places.{is_legal}
 
 legal_by : (b : Bool) (core : List ℕ) (e w : ℕ) → slice_get core e ≡ Some w → b || nat_lt e (length core) ≡ true
 legal_by true core e w h = refl

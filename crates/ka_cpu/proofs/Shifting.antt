@@ -1,4 +1,4 @@
-use Rattle.std.proofs.Common.{◌≡◌, ℕ, ◌+◌, ◌-◌, ◌*◌, ◌/◌, ◌%◌, ◌^◌, ◌<◌, ◌≤◌, Bool, true, false, refl, arith, sym, ap, ◌∙◌, nat_eq, suc, zero}
+use Rattle.std.proofs.Common.{◌≡◌, ℕ, ◌+◌, ◌-◌, ◌*◌, ◌/◌, ◌%◌, ◌^◌, ◌<◌, ◌≤◌, false, refl, arith, sym, ap, ◌∙◌, nat_eq, suc, zero}
 use Rattle.std.specs.Prelude.{bit_and}
 use Rattle.std.proofs.lemmas.Nat.{mul-add-lt, pow-add, pow_pos, mod_below, shr_below, shl_whole, shl_below, one_shl, and_mask, mod-pow-add, mod_low, shl-shr, mul-le}
 use Rattle.std.proofs.lemmas.Bool.{ne_eqb}

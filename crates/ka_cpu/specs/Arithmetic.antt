@@ -1,5 +1,5 @@
 -- ADD, SUB, IMUL, MUL and IDIV (Processor Reference Manual, "Fixed point arithmetic").
-use Rattle.std.specs.Prelude.{ℕ, ◌+◌, ◌-◌, ◌*◌, ◌/◌, ◌%◌, ◌^◌, nat_eq, nat_lt, nat_le, Bool, true, false, not, ◌||◌, ◌&&◌, if◌then◌else◌, Option, Some, None, List, Result, Ok}
+use Rattle.std.specs.Prelude.{ℕ, ◌+◌, ◌-◌, ◌*◌, ◌/◌, ◌%◌, ◌^◌, nat_eq, nat_lt, nat_le, Bool, true, not, ◌||◌, ◌&&◌, if◌then◌else◌, Option, Some, None, List, Result, Ok}
 use Rattle.word36.specs.Words.{is_negative, complement, sum_of}
 use Rattle.ka_cpu.specs.Addresses.{reading}
 use Rattle.ka_cpu.specs.Effects.{Effect, a_of, goes_on, computed_operand, computed_to, sum_flags}

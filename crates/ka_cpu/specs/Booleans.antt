@@ -1,5 +1,5 @@
 -- The Boolean family (Processor Reference Manual, "Boolean functions").
-use Rattle.std.specs.Prelude.{ℕ, ◌+◌, ◌-◌, ◌*◌, ◌/◌, ◌%◌, ◌^◌, nat_eq, bit_and, bit_or, bit_xor, Bool, ◌||◌, if◌then◌else◌, Option, Some, List, Result, Ok}
+use Rattle.std.specs.Prelude.{ℕ, ◌-◌, ◌/◌, ◌%◌, ◌^◌, nat_eq, bit_and, bit_or, bit_xor, Bool, ◌||◌, if◌then◌else◌, Some, List, Result, Ok}
 use Rattle.word36.specs.Words.{complement}
 use Rattle.ka_cpu.specs.Addresses.{reading}
 use Rattle.ka_cpu.specs.Effects.{Effect, a_of, computed_operand, computed_to}

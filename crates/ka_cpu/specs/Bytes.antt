@@ -1,6 +1,6 @@
 -- IBP, ILDB, LDB, IDPB and DPB (Processor Reference Manual, "Byte manipulation").
-use Rattle.std.specs.Prelude.{ℕ, min, ◌+◌, ◌-◌, ◌*◌, ◌/◌, ◌%◌, ◌^◌, nat_eq, nat_lt, nat_le, Bool, true, false, ◌||◌, if◌then◌else◌, Option, Some, None, List, Result, Ok, Err}
-use Rattle.ka_cpu.specs.Addresses.{Target, reading, target_of, at_target}
+use Rattle.std.specs.Prelude.{ℕ, min, ◌+◌, ◌-◌, ◌*◌, ◌/◌, ◌%◌, ◌^◌, nat_eq, nat_lt, nat_le, Bool, ◌||◌, if◌then◌else◌, Option, Some, None, List, Result, Ok, Err}
+use Rattle.ka_cpu.specs.Addresses.{reading, target_of, at_target}
 use Rattle.ka_cpu.specs.Places.{word_at, ac_with, core_with}
 use Rattle.ka_cpu.specs.Effects.{After, Effect, a_of, next_pc, goes_on, applied, stopped}
 use Rattle.ka_cpu.specs.declared.registers.Regs.{Regs}

@@ -1,9 +1,9 @@
 -- CAI, CAM, JUMP, SKIP and those that add or subtract 1 first (Processor Reference Manual, "Arithmetic testing").
-use Rattle.std.specs.Prelude.{ℕ, ℤ, pos, ◌+◌, ◌*◌, ◌-◌, ◌/◌, ◌%◌, ◌^◌, nat_eq, nat_lt, int_lt, int_le, Bool, true, false, not, ◌||◌, ◌&&◌, if◌then◌else◌, Option, Some, None, List, Result, Ok}
+use Rattle.std.specs.Prelude.{ℕ, ℤ, pos, ◌-◌, ◌%◌, ◌^◌, nat_eq, nat_lt, int_lt, int_le, Bool, true, false, ◌||◌, ◌&&◌, if◌then◌else◌, Option, Some, None, List, Result, Ok}
 use Rattle.word36.specs.Words.{signed_value, sum_of}
 use Rattle.ka_cpu.specs.Addresses.{reading}
 use Rattle.ka_cpu.specs.Places.{word_at}
-use Rattle.ka_cpu.specs.Effects.{Effect, a_of, goes_on, skips_if, jumps_if, sum_flags}
+use Rattle.ka_cpu.specs.Effects.{Effect, a_of, skips_if, jumps_if, sum_flags}
 use Rattle.ka_cpu.specs.declared.registers.Regs.{Regs}
 use Rattle.ka_cpu.specs.declared.registers.Flags.{Flags}
 use Rattle.ka_cpu.specs.declared.outcome.StopReason.{StopReason}

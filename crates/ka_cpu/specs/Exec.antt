@@ -1,5 +1,5 @@
 -- One instruction: which word it is, its address, its row.
-use Rattle.std.specs.Prelude.{ℕ, zero, suc, ◌+◌, ◌/◌, ◌%◌, ◌^◌, nat_eq, nat_lt, Bool, true, false, ◌||◌, ◌&&◌, if◌then◌else◌, Option, Some, None, List, Result, Ok, Err}
+use Rattle.std.specs.Prelude.{ℕ, zero, suc, ◌/◌, ◌%◌, ◌^◌, nat_eq, Bool, true, false, ◌||◌, if◌then◌else◌, Option, List, Result, Ok, Err}
 use Rattle.ka_isa.specs.Families.{family_of}
 use Rattle.ka_isa.specs.declared.Family.{Family}
 use Rattle.ka_isa.specs.declared.Family.TheVariants.{Byte, Move, Movs, Movn, Movm, Imul, Mul, Idiv, Shift, Jffo, Exch, Blt, Aobj, Jrst, Jfcl, Xct, Pushj, Push, Pop, Popj, Jsr, Jsp, Jsa, Jra, Add, Sub, Compare, JumpOn, SkipOn, Boolean, Half, Test, Calli, Ttcall, Other}
@@ -19,7 +19,7 @@ use Rattle.ka_cpu.specs.Blocks.{blt_after}
 use Rattle.ka_cpu.specs.Bytes.{byte_after}
 use Rattle.ka_cpu.specs.declared.registers.Regs.{Regs}
 use Rattle.ka_cpu.specs.declared.outcome.StopReason.{StopReason}
-use Rattle.ka_cpu.specs.declared.outcome.StopReason.TheVariants.{IllegalAddress, IllegalInstruction, AddressChain}
+use Rattle.ka_cpu.specs.declared.outcome.StopReason.TheVariants.{IllegalInstruction, AddressChain}
 use Rattle.ka_cpu.specs.declared.outcome.CallKind.TheVariants as call
 use Rattle.ka_cpu.specs.declared.instruction.Instruction.{Instruction}
 

@@ -1,5 +1,5 @@
 -- The halfword family (Processor Reference Manual, "Half word data transmission").
-use Rattle.std.specs.Prelude.{ℕ, ◌+◌, ◌-◌, ◌*◌, ◌/◌, ◌%◌, ◌^◌, nat_eq, nat_lt, Bool, if◌then◌else◌, Option, Some, List, Result, Ok}
+use Rattle.std.specs.Prelude.{ℕ, ◌-◌, ◌/◌, ◌%◌, ◌^◌, nat_eq, nat_lt, if◌then◌else◌, Option, Some, List, Result, Ok}
 use Rattle.word36.specs.Words.{left_half, right_half, joined}
 use Rattle.ka_cpu.specs.Addresses.{reading}
 use Rattle.ka_cpu.specs.Places.{word_at}

@@ -1,11 +1,11 @@
 -- JFFO, AOBJP, AOBJN, JRST, JFCL, the subroutine calls JSR, JSP, JSA and JRA, and the monitor calls
 -- (Processor Reference Manual, "Program control"; TOPS-10 Monitor Calls Manual).
-use Rattle.std.specs.Prelude.{ℕ, ◌+◌, ◌*◌, ◌-◌, ◌/◌, ◌%◌, ◌^◌, nat_eq, nat_lt, nat_le, Bool, true, false, not, ◌||◌, ◌&&◌, if◌then◌else◌, Option, Some, None, List, Result, Ok}
+use Rattle.std.specs.Prelude.{ℕ, ◌+◌, ◌/◌, ◌%◌, ◌^◌, nat_eq, Bool, not, ◌||◌, ◌&&◌, if◌then◌else◌, Option, Some, None, List, Result, Ok}
 use Rattle.std.specs.Int.Count.{count_leading_zeros}
 use Rattle.word36.specs.Words.{is_negative, sum_of, left_half, joined}
 use Rattle.ka_cpu.specs.Addresses.{reading}
 use Rattle.ka_cpu.specs.Places.{word_at}
-use Rattle.ka_cpu.specs.Effects.{Effect, Ending, Halts, Calls, a_of, goes_on, goes_to, jumps_if, next_pc}
+use Rattle.ka_cpu.specs.Effects.{Effect, Halts, Calls, a_of, goes_on, goes_to, jumps_if, next_pc}
 use Rattle.ka_cpu.specs.declared.registers.Regs.{Regs}
 use Rattle.ka_cpu.specs.declared.registers.Flags.{Flags}
 use Rattle.ka_cpu.specs.declared.outcome.StopReason.{StopReason}

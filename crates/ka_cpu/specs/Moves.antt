@@ -1,5 +1,5 @@
 -- MOVE, MOVS, MOVN, MOVM and EXCH (Processor Reference Manual, "Full word data transmission").
-use Rattle.std.specs.Prelude.{ℕ, ◌+◌, ◌*◌, ◌-◌, ◌/◌, ◌%◌, ◌^◌, Bool, if◌then◌else◌, Option, Some, List, Result, Ok}
+use Rattle.std.specs.Prelude.{ℕ, if◌then◌else◌, Some, List, Result, Ok}
 use Rattle.word36.specs.Words.{is_negative, complement, sum_of, left_half, right_half, joined}
 use Rattle.ka_cpu.specs.Places.{word_at}
 use Rattle.ka_cpu.specs.Addresses.{reading}

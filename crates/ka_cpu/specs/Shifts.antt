@@ -1,5 +1,5 @@
 -- ASH, ROT, LSH, ROTC and LSHC (Processor Reference Manual, "Shift and rotate").
-use Rattle.std.specs.Prelude.{ℕ, ◌+◌, ◌-◌, ◌*◌, ◌/◌, ◌%◌, ◌^◌, nat_eq, nat_lt, Bool, false, not, ◌||◌, if◌then◌else◌, Option, Some, List, slice_index}
+use Rattle.std.specs.Prelude.{ℕ, ◌+◌, ◌-◌, ◌*◌, ◌/◌, ◌%◌, ◌^◌, nat_eq, nat_lt, Bool, false, not, ◌||◌, if◌then◌else◌, Some, slice_index}
 use Rattle.word36.specs.Words.{is_negative, complement}
 use Rattle.ka_cpu.specs.Effects.{Effect, a_of, next_ac, goes_on}
 use Rattle.ka_cpu.specs.declared.registers.Regs.{Regs}

@@ -1,5 +1,5 @@
 -- PUSHJ, PUSH, POP and POPJ (Processor Reference Manual, "Pushdown list").
-use Rattle.std.specs.Prelude.{ℕ, ◌+◌, ◌*◌, ◌-◌, ◌/◌, ◌%◌, ◌^◌, nat_lt, nat_le, Bool, true, if◌then◌else◌, Option, Some, List, Result, Ok}
+use Rattle.std.specs.Prelude.{ℕ, ◌+◌, ◌-◌, ◌^◌, nat_lt, nat_le, if◌then◌else◌, Some, List, Result, Ok}
 use Rattle.word36.specs.Words.{sum_of, right_half}
 use Rattle.ka_cpu.specs.Addresses.{reading}
 use Rattle.ka_cpu.specs.Places.{word_at}

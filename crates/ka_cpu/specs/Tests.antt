@@ -1,10 +1,10 @@
 -- The tests, 600 to 677 octal (Processor Reference Manual, "Logical testing and modification").
-use Rattle.std.specs.Prelude.{ℕ, ◌+◌, ◌*◌, ◌-◌, ◌/◌, ◌%◌, ◌^◌, nat_eq, bit_and, bit_or, bit_xor, Bool, true, false, not, if◌then◌else◌, Option, Some, None, List, Result, Ok}
-use Rattle.word36.specs.Words.{complement, left_half, right_half, joined}
+use Rattle.std.specs.Prelude.{ℕ, ◌/◌, ◌%◌, nat_eq, bit_and, bit_or, bit_xor, Bool, true, false, not, if◌then◌else◌, Option, Some, None, List, Result, Ok}
+use Rattle.word36.specs.Words.{complement}
 use Rattle.ka_cpu.specs.Addresses.{reading}
 use Rattle.ka_cpu.specs.Places.{word_at}
 use Rattle.ka_cpu.specs.Moves.{swapped}
-use Rattle.ka_cpu.specs.Effects.{Effect, a_of, goes_on, skips_if}
+use Rattle.ka_cpu.specs.Effects.{Effect, a_of, skips_if}
 use Rattle.ka_cpu.specs.declared.registers.Regs.{Regs}
 use Rattle.ka_cpu.specs.declared.outcome.StopReason.{StopReason}
 use Rattle.ka_cpu.specs.declared.instruction.Instruction.{Instruction}

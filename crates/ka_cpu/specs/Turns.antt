@@ -1,5 +1,5 @@
 -- Words of private clauses, which `exec` does not use: a turn of the loop that follows XCTs.
-use Rattle.std.specs.Prelude.{ℕ, nat_eq, nat_lt, Bool, ◌&&◌, if◌then◌else◌, Option, Result, Ok, Err}
+use Rattle.std.specs.Prelude.{ℕ, nat_eq, nat_lt, ◌&&◌, if◌then◌else◌, Option, Result, Ok, Err}
 use Rattle.ka_isa.specs.declared.Family.{Family}
 use Rattle.ka_cpu.specs.Addresses.{reading}
 use Rattle.ka_cpu.specs.Exec.{is_listed, is_execute}

@@ -1,11 +1,7 @@
-use Rattle.std.proofs.Common.{◌≡◌, ℕ, ◌-◌, ◌+◌, ◌<◌, Ok, Err, Result, List, refl, sym, ◌∙◌, ap, arith}
+use Rattle.std.proofs.Common.{◌≡◌, refl, arith}
 use Rattle.ka_isa.specs.Families.{family_of}
 use Rattle.ka_isa.specs.declared.Family.TheVariants.{Xct}
-use Rattle.ka_cpu.specs.Addresses.{target_of, address_in}
-use Rattle.ka_cpu.specs.Places.{word_at}
-use Rattle.ka_cpu.specs.Exec.{op_of, word_behind, word_performed}
-use Rattle.ka_cpu.specs.Turns.{next_word_of}
-use Rattle.ka_cpu.specs.declared.outcome.StopReason.{StopReason}
+use Rattle.ka_cpu.specs.Exec.{op_of}
 use Rattle.ka_cpu.proofs.Executes.{next_end, next_turn}
 use Rattle.ka_cpu.proofs.processor.execute.Goals as goal
 
