@@ -1,8 +1,8 @@
 //! ADD, SUB, IMUL, MUL and IDIV.
 
-ghost use Rattle.std.specs.Prelude.{◌≡◌, ℕ, ℤ, ◌<◌, ◌≤◌, ◌^◌, ◌+◌, ◌*◌, ◌/◌, ◌-◌, ◌%◌, Ok, Err, Some, None, false, if◌then◌else◌};
-ghost use Rattle.ka_cpu.specs.Effects.{After, EndsAs, finished};
-ghost use Rattle.ka_cpu.specs.Arithmetic.{add_row, sub_row, magnitude, with_sign, signs_differ, size_of_product, product_is_negative, product_of, high_word, low_word, overflows, imul_row, to_next, both_least, mul_row, no_quotient, quotient_of, remainder_of, idiv_row};
+ghost use Rattle.std.specs.Prelude.{◌≡◌, ◌<◌, ◌≤◌, ◌^◌, ◌%◌, false};
+ghost use Rattle.ka_cpu.specs.Effects.{EndsAs, finished};
+ghost use Rattle.ka_cpu.specs.Arithmetic.{add_row, sub_row, magnitude, with_sign, signs_differ, size_of_product, product_is_negative, high_word, low_word, overflows, imul_row, to_next, mul_row, no_quotient, quotient_of, remainder_of, idiv_row};
 ghost use Rattle.ka_cpu.specs.Effects.{ac_put, next_ac};
 
 use crate::instruction::{ILLEGAL, Instruction, operand_to_compute, put_computed, set_carries};

@@ -1,9 +1,9 @@
 //! BLT.
 
-ghost use Rattle.std.specs.Prelude.{◌≡◌, ℕ, ◌<◌, ◌≤◌, ◌^◌, ◌+◌};
+ghost use Rattle.std.specs.Prelude.{◌≡◌, ◌<◌, ◌≤◌, ◌^◌};
 ghost use Rattle.ka_cpu.specs.Places.{word_at};
-ghost use Rattle.ka_cpu.specs.Effects.{After, EndsAs};
-ghost use Rattle.ka_cpu.specs.Blocks.{Store, all_legal, blt_after, moved_words, stored};
+ghost use Rattle.ka_cpu.specs.Effects.{EndsAs};
+ghost use Rattle.ka_cpu.specs.Blocks.{all_legal, blt_after, moved_words, stored};
 
 use crate::instruction::{ILLEGAL, Instruction, is_legal_place};
 use crate::memory::store;

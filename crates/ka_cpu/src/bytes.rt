@@ -1,8 +1,8 @@
 //! IBP, ILDB, LDB, IDPB and DPB.
 
-ghost use Rattle.std.specs.Prelude.{◌≡◌, true, false, nat_eq, IfOk, ℕ, ◌<◌, ◌≤◌, ◌^◌, ◌+◌, ◌*◌, ◌/◌, ◌%◌};
+ghost use Rattle.std.specs.Prelude.{◌≡◌, true, false, nat_eq, IfOk, ◌<◌, ◌≤◌, ◌^◌, ◌+◌, ◌%◌};
 ghost use Rattle.ka_cpu.specs.Places.{is_legal};
-ghost use Rattle.ka_cpu.specs.Effects.{After, EndsAs, applied};
+ghost use Rattle.ka_cpu.specs.Effects.{EndsAs, applied};
 ghost use Rattle.ka_cpu.specs.Bytes.{byte_after, byte_effect, byte_of, byte_place, deposited, incremented, increments, loads, position_of, replaced, size_of};
 
 use crate::address::find_address;

@@ -1,7 +1,7 @@
 //! CAI, CAM, JUMP, SKIP and those that add or subtract 1 first.
 
-ghost use Rattle.std.specs.Prelude.{◌≡◌, ℕ, ℤ, ◌<◌, ◌≤◌, ◌^◌, ◌+◌, ◌*◌, ◌/◌, ◌-◌, ◌%◌, Ok, Err, Some, None, IfSome, true, nat_lt, pos, if◌then◌else◌};
-ghost use Rattle.ka_cpu.specs.Effects.{After, EndsAs, finished, ac_memory, core_memory, memory_legal};
+ghost use Rattle.std.specs.Prelude.{◌≡◌, ℕ, ◌<◌, ◌^◌, ◌+◌, ◌-◌, ◌%◌, Ok, Some, IfSome, true, nat_lt, pos, if◌then◌else◌};
+ghost use Rattle.ka_cpu.specs.Effects.{EndsAs, finished, ac_memory, core_memory, memory_legal};
 ghost use Rattle.ka_cpu.specs.Places.{word_at};
 ghost use Rattle.word36.specs.Words.{signed_value};
 ghost use Rattle.ka_cpu.specs.Conditions.{holds, compare_row, jump_row, skip_row, changed_word, changed_flags, if_changed};

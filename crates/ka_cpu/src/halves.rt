@@ -1,7 +1,7 @@
 //! The halfword family.
 
-ghost use Rattle.std.specs.Prelude.{◌≡◌, ℕ, ℤ, ◌<◌, ◌≤◌, ◌^◌, ◌+◌, ◌*◌, ◌/◌, ◌-◌, ◌%◌, Ok, Err, Some, None, IfSome, true, if◌then◌else◌};
-ghost use Rattle.ka_cpu.specs.Effects.{After, EndsAs, finished, memory_legal, to_memory};
+ghost use Rattle.std.specs.Prelude.{◌≡◌, ℕ, ◌<◌, ◌^◌, ◌%◌, IfSome, true};
+ghost use Rattle.ka_cpu.specs.Effects.{EndsAs, finished, memory_legal, to_memory};
 ghost use Rattle.ka_cpu.specs.Halves.{half_row, halfword_of, destination, extended};
 
 use crate::instruction::{ILLEGAL, Instruction, operand_to_move, put_moved};

@@ -1,10 +1,10 @@
 //! JFFO, AOBJP, AOBJN, JRST, JFCL, subroutine calls and calls of the monitor.
 
-ghost use Rattle.std.specs.Prelude.{◌≡◌, ℕ, ◌<◌, ◌≤◌, ◌^◌, ◌+◌, ◌*◌, ◌/◌, ◌-◌, ◌%◌, Ok, Err, Some, None, if◌then◌else◌};
-ghost use Rattle.ka_cpu.specs.Effects.{After, EndsAs, finished};
+ghost use Rattle.std.specs.Prelude.{◌≡◌, ◌<◌, ◌^◌, Ok};
+ghost use Rattle.ka_cpu.specs.Effects.{EndsAs, finished};
 ghost use Rattle.ka_cpu.specs.Addresses.{target_of, used_in};
 ghost use Rattle.std.specs.Int.Count.{count_leading_zeros};
-ghost use Rattle.ka_cpu.specs.Jumps.{pc_word, flags_of, jffo_row, counted_up, aobj_row, restored, jrst_row, jfcl_row, jsr_row, jsp_row, jsa_row, jra_row, call_row};
+ghost use Rattle.ka_cpu.specs.Jumps.{pc_word, flags_of, jffo_row, aobj_row, jrst_row, jfcl_row, jsr_row, jsp_row, jsa_row, jra_row, call_row};
 
 use crate::address::find_used;
 use crate::instruction::{ILLEGAL, Instruction, is_legal_place};

@@ -1,7 +1,7 @@
 //! The Boolean family and the tests.
 
-ghost use Rattle.std.specs.Prelude.{◌≡◌, ℕ, ℤ, ◌<◌, ◌≤◌, ◌^◌, ◌+◌, ◌*◌, ◌/◌, ◌-◌, ◌%◌, Ok, Err, Some, None, if◌then◌else◌};
-ghost use Rattle.ka_cpu.specs.Effects.{After, EndsAs, finished};
+ghost use Rattle.std.specs.Prelude.{◌≡◌, ◌<◌, ◌^◌, ◌/◌, ◌%◌, Some, if◌then◌else◌};
+ghost use Rattle.ka_cpu.specs.Effects.{EndsAs, finished};
 ghost use Rattle.ka_cpu.specs.Booleans.{boolean_row, boolean_of, reads_none};
 ghost use Rattle.ka_cpu.specs.Tests.{test_row, mask_source, mask_of, masked, skips_on, modified};
 ghost use Rattle.ka_cpu.specs.Effects.{computed_operand, ac_put};

@@ -1,6 +1,6 @@
 //! Registers and core as one memory.
 
-ghost use Rattle.std.specs.Prelude.{◌≡◌, ℕ, ◌<◌, List, slice_get, slice_set, nat_lt, length};
+ghost use Rattle.std.specs.Prelude.{◌≡◌, ℕ, List, slice_get, slice_set, nat_lt, length};
 ghost use Rattle.std.specs.Borrow.{GName};
 ghost use Rattle.ka_cpu.specs.Places.{word_at, ac_with, core_with};
 

@@ -1,7 +1,7 @@
 //! MOVE, MOVS, MOVN, MOVM and EXCH.
 
-ghost use Rattle.std.specs.Prelude.{◌≡◌, ℕ, ℤ, ◌<◌, ◌≤◌, ◌^◌, ◌+◌, ◌*◌, ◌/◌, ◌-◌, ◌%◌, Ok, Err, Some, None, if◌then◌else◌};
-ghost use Rattle.ka_cpu.specs.Effects.{After, EndsAs, finished};
+ghost use Rattle.std.specs.Prelude.{◌≡◌, ◌<◌, ◌^◌, ◌%◌};
+ghost use Rattle.ka_cpu.specs.Effects.{EndsAs, finished};
 ghost use Rattle.ka_cpu.specs.Moves.{move_row, movs_row, movn_row, movm_row, exch_row, swapped};
 
 use crate::instruction::{

@@ -1,10 +1,10 @@
 //! One instruction.
 
-ghost use Rattle.std.specs.Prelude.{◌≡◌, ℕ, ◌<◌, ◌^◌, IfOk, Ok, Err, if◌then◌else◌};
+ghost use Rattle.std.specs.Prelude.{◌≡◌, ◌<◌, ◌^◌, if◌then◌else◌};
 ghost use Rattle.ka_cpu.specs.Addresses.{target_of, used_in};
 ghost use Rattle.ka_cpu.specs.Places.{word_at};
 ghost use Rattle.ka_isa.specs.Families.{family_of};
-ghost use Rattle.ka_cpu.specs.Effects.{After, EndsAs, stopped};
+ghost use Rattle.ka_cpu.specs.Effects.{EndsAs, stopped};
 ghost use Rattle.ka_cpu.specs.Exec.{ac_field, carried_out, exec, is_listed, op_of, word_behind, word_performed};
 ghost use Rattle.ka_cpu.specs.Turns.{next_word_of, refusal_of};
 ghost use Rattle.ka_cpu.specs.declared.outcome.StopReason.TheVariants.{IllegalInstruction};

@@ -1,9 +1,9 @@
 //! ASH, ROT, LSH, ROTC and LSHC.
 
-ghost use Rattle.std.specs.Prelude.{◌≡◌, ℕ, ◌<◌, ◌≤◌, ◌^◌, ◌+◌, ◌-◌, ◌*◌, ◌/◌, ◌%◌, Ok, nat_eq, not, slice_set, if◌then◌else◌};
+ghost use Rattle.std.specs.Prelude.{◌≡◌, ◌<◌, ◌≤◌, ◌^◌, ◌+◌, ◌-◌, ◌*◌, ◌/◌, ◌%◌, Ok, nat_eq, not, slice_set, if◌then◌else◌};
 ghost use Rattle.word36.specs.Words.{complement, is_negative};
-ghost use Rattle.ka_cpu.specs.Effects.{After, EndsAs, finished, next_ac};
-ghost use Rattle.ka_cpu.specs.Shifts.{ash_of, ash_overflows, is_left, lsh_of, lshc_of, pair_of, places_of, rot_of, rotc_of, shift_row, shifted_left, shifted_right, turned_left};
+ghost use Rattle.ka_cpu.specs.Effects.{EndsAs, finished, next_ac};
+ghost use Rattle.ka_cpu.specs.Shifts.{ash_of, ash_overflows, is_left, lsh_of, lshc_of, pair_of, places_of, rot_of, rotc_of, shift_row, shifted_left, turned_left};
 
 use crate::bytes::low_part;
 use crate::instruction::Instruction;

@@ -1,10 +1,10 @@
 //! PUSHJ, PUSH, POP and POPJ.
 
-ghost use Rattle.std.specs.Prelude.{◌≡◌, ℕ, ◌<◌, ◌≤◌, ◌^◌, ◌+◌, ◌*◌, ◌/◌, ◌-◌, ◌%◌, Ok, Err, Some, None, nat_le, nat_lt, if◌then◌else◌, List};
-ghost use Rattle.ka_cpu.specs.Effects.{After, EndsAs, Goes_on, Overruns, finished};
+ghost use Rattle.std.specs.Prelude.{◌≡◌, ℕ, ◌<◌, ◌^◌, ◌+◌, Ok, nat_le, nat_lt, if◌then◌else◌, List};
+ghost use Rattle.ka_cpu.specs.Effects.{EndsAs, Goes_on, Overruns, finished};
 ghost use Rattle.ka_cpu.specs.Effects.{told};
 ghost use Rattle.ka_cpu.specs.Jumps.{counted_up};
-ghost use Rattle.ka_cpu.specs.Stacks.{counted_down, push_ending, pop_ending, pushj_row, push_row, pop_row, popj_row};
+ghost use Rattle.ka_cpu.specs.Stacks.{counted_down, pushj_row, push_row, pop_row, popj_row};
 
 use crate::instruction::{ILLEGAL, Instruction, is_legal_place};
 use crate::jumps::{BOTH, word_of_pc};
