@@ -1,5 +1,5 @@
 -- Lemmas on serving.
-use Rattle.std.proofs.Common.{◌≡◌, ◌++◌, ℕ, List, [], Option, None, Some, take, drop, sym, ap, ◌∙◌, ◌+◌, ◌<◌, ◌≤◌, length, get_or, ◌∷◌, subst, append_assoc, append-nil, take-append-drop, refl, ◌⊎◌, true, inl, inr, IfSome, Err, Result}
+use Rattle.std.proofs.Common.{◌≡◌, ◌++◌, ℕ, List, [], Option, None, Some, take, drop, sym, ap, ◌∙◌, ◌+◌, ◌<◌, ◌≤◌, length, get_or, ◌∷◌, subst, append_assoc, append-nil, take-append-drop, refl, ◌⊎◌, inl, inr, IfSome, Err, Result}
 use Rattle.std.proofs.lemmas.List.{drop_more, drop_all}
 use Rattle.std.specs.Io.KnownBytes.{Appends, Consumes, IsAtEnd}
 use Rattle.std.proofs.KnownBytes.{Appends-trans, Consumes-trans, Appends-nil, Consumes-nil}

@@ -1,5 +1,5 @@
 -- The options of a lock: `/S`, `/B`, `/Ln`, `/Ps:a` and `/J` (this project's profile).
-use Rattle.std.specs.Prelude.{◌==◌, ◌^◌, ◌-◌, ℕ, Bool, true, false, List, [], ◌∷◌, Option, Some, None, if◌then◌else◌, option_and_then, option_map}
+use Rattle.std.specs.Prelude.{◌==◌, ◌^◌, ◌-◌, ℕ, true, false, List, [], ◌∷◌, Option, Some, None, if◌then◌else◌, option_and_then, option_map}
 use Rattle.op_script.specs.Numbers.{number, parts}
 use Rattle.op_script.specs.declared.options.LockOption.{LockOption}
 use Rattle.op_script.specs.declared.options.LockOption.TheVariants.{Shared, Bypass, Level, Pool, Own}

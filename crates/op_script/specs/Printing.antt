@@ -1,5 +1,5 @@
 -- The lines that commands on the lock queue write (this project's profile). A text is the list of its ASCII codes.
-use Rattle.std.specs.Prelude.{◌==◌, ◌&&◌, ◌+◌, ◌/◌, ◌%◌, not, ℕ, Bool, List, [], ◌∷◌, ◌++◌, Option, Some, None, if◌then◌else◌, codes, decimal, nat_lt}
+use Rattle.std.specs.Prelude.{◌==◌, ◌+◌, ◌/◌, ◌%◌, ℕ, Bool, List, [], ◌∷◌, ◌++◌, Option, Some, None, if◌then◌else◌, codes, decimal}
 use Rattle.std.specs.List.{flat_map}
 use Rattle.word36.specs.Octal.{octal_text, word_text}
 use Rattle.lock_queue.specs.Pools.{PoolShare}

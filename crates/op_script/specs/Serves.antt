@@ -1,6 +1,6 @@
 -- What a serving call reads and writes (this project's profile).
 use Rattle.std.specs.Prelude.{◌≡◌, ℕ, Bool, true, false, List, ◌++◌, Option, Result, Ok, Err, IfSome, ◌≢◌}
-use Rattle.std.specs.Io.KnownBytes.{Appends, Consumes, IsAtEnd}
+use Rattle.std.specs.Io.KnownBytes.{Appends, Consumes}
 use Rattle.op_script.specs.Transcripts.{Transcript, after}
 use Rattle.op_script.specs.declared.endings.Ending.{Ending}
 use Rattle.op_script.specs.declared.endings.Ending.TheVariants as ending

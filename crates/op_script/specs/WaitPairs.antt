@@ -1,5 +1,5 @@
 -- Who waits for whom (this project's profile).
-use Rattle.std.specs.Prelude.{◌&&◌, ◌||◌, ◌+◌, ℕ, zero, suc, Bool, true, false, List, [], ◌∷◌, ◌++◌, if◌then◌else◌, codes, decimal, slice_index_or, ◌*◌}
+use Rattle.std.specs.Prelude.{◌&&◌, ◌||◌, ◌+◌, ℕ, zero, suc, Bool, false, List, [], ◌∷◌, ◌++◌, if◌then◌else◌, codes, decimal, slice_index_or, ◌*◌}
 use Rattle.std.specs.List.{flat_map, list_any}
 use Rattle.lock_queue.specs.Jobs.{waits_for}
 use Rattle.lock_queue.specs.declared.request.Request.{Request}

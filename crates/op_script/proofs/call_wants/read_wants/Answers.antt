@@ -1,7 +1,5 @@
-use Rattle.std.proofs.Common.{◌≡◌, ◌≤◌, ◌+◌, ◌++◌, ◌∷◌, [], None, Some, Ok, Err, length, min, arith, ap, sym, subst, length-append}
-use Rattle.std.specs.Option.{option_or}
-use Rattle.op_script.specs.Locks.{lock_of, want_of}
-use Rattle.op_script.proofs.WantLemmas.{Gathers, gathers-want, gathers-refusal, gathers-more}
+use Rattle.std.proofs.Common.{◌≡◌, ◌+◌, min, arith, ap, sym}
+use Rattle.op_script.proofs.WantLemmas.{gathers-want, gathers-refusal, gathers-more}
 use Rattle.op_script.proofs.call_wants.read_wants.Goals as goal
 use Rattle.op_script.proofs.call_wants.read_wants.Goals.{then-count-lt-LOCKS_A_CALL+in-Ok, then-count-lt-LOCKS_A_CALL+in-Err, else-count-lt-LOCKS_A_CALL}
 

@@ -1,4 +1,4 @@
-use Rattle.std.proofs.Common.{◌≡◌, ◌∙◌, ap, [], List, ℕ}
+use Rattle.std.proofs.Common.{◌∙◌, ap}
 use Rattle.std.specs.Str.Lines.{lines}
 use Rattle.op_script.specs.QueueScripts.{transcript, transcript_of}
 use Rattle.op_script.proofs.ServeLemmas.{serves_as, serves_nothing}

@@ -1,4 +1,4 @@
-use Rattle.std.proofs.Common.{◌++◌, ◌∷◌, [], ◌∙◌, ap}
+use Rattle.std.proofs.Common.{◌++◌, ◌∙◌, ap}
 use Rattle.std.specs.Prelude.{codes}
 use Rattle.lock_queue.specs.Jobs.{waits_for}
 use Rattle.op_script.specs.WaitPairs.{pair_in, circle_jobs, or_none, pairs_text}
