@@ -1,6 +1,6 @@
 //! Lines of the input.
 
-ghost use Rattle.std.specs.Prelude.{◌≡◌, ◌<◌, ◌≤◌, ◌^◌, IfSome};
+ghost use Rattle.std.specs.Prelude.{◌<◌, ◌^◌, IfSome};
 
 use ka_cpu::Flags;
 use word36::{Address, MOST_BLOCKS, Word};
