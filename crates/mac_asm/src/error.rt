@@ -1,0 +1,68 @@
+//! Why a source has no image.
+
+use std::alloc::{AllocError, AllocFailed};
+use thiserror::Error;
+
+/// What is wrong with a line (this project's profile).
+#[derive(Clone, Copy, Debug, PartialEq, Eq)]
+pub enum AsmCode {
+    /// 1: it is not in the grammar.
+    Syntax,
+    /// 2: a name that is not defined.
+    UnknownName,
+    /// 3: a name that is defined twice, or a place that is given two words.
+    DefinedTwice,
+    /// 4: a value that does not fit.
+    DoesNotFit,
+    /// 5: a literal, or a label that is not yet defined, in LOC or BLOCK.
+    NotYetDefined,
+    /// 6: a word or a label at a place of 1000000 octal or more.
+    PlaceTooHigh,
+    /// 7: there is no END.
+    NoEnd,
+}
+
+impl AsmCode {
+    /// Its number, from 1 to 7.
+    pub fn number(self) -> u8 {
+        match self {
+            AsmCode::Syntax => 1,
+            AsmCode::UnknownName => 2,
+            AsmCode::DefinedTwice => 3,
+            AsmCode::DoesNotFit => 4,
+            AsmCode::NotYetDefined => 5,
+            AsmCode::PlaceTooHigh => 6,
+            AsmCode::NoEnd => 7,
+        }
+    }
+}
+
+/// Why a source has no image.
+#[derive(Debug, Drop, Error)]
+pub enum AsmError {
+    #[error("line {line}: code {}", .code.number())]
+    Line { line: usize, code: AsmCode },
+    #[error("there is no memory")]
+    Memory,
+}
+
+impl From<AllocError> for AsmError {
+    fn from(_e: AllocError) -> AsmError {
+        AsmError::Memory
+    }
+}
+
+impl<T: Drop> From<AllocFailed<T>> for AsmError {
+    fn from(_e: AllocFailed<T>) -> AsmError {
+        AsmError::Memory
+    }
+}
+
+/// The lesser of two codes, where there are any.
+pub fn least(a: Option<AsmCode>, b: Option<AsmCode>) -> Option<AsmCode> {
+    match (a, b) {
+        (Some(a), Some(b)) => Some(if a.number() <= b.number() { a } else { b }),
+        (Some(a), None) => Some(a),
+        (None, b) => b,
+    }
+}
