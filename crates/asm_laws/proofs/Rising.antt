@@ -10,7 +10,7 @@ use Rattle.std.specs.declared.cmp.Ordering.TheVariants.{Less}
 use Rattle.std.proofs.lemmas.Map.Keys.{IsStrictlyIncreasing-from_sorted}
 use Rattle.std.proofs.lemmas.Grind.{common_steps}
 use Rattle.std.proofs.Math.Nat.{eq-or-lt_of_le}
-use Rattle.asm_laws.specs.Assembly.{word_at, by_place}
+use Rattle.mac_asm.specs.Assembly.{word_at, by_place}
 
 -- the words of n places from a on
 abbrev slice : List (ℕ × ℕ) → ℕ → ℕ → List (ℕ × ℕ)

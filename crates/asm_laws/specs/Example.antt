@@ -2,7 +2,7 @@
 -- its halves in octal.
 use Rattle.std.specs.Prelude.{ℕ, List, [], ◌∷◌, ◌++◌, codes}
 use Rattle.word36.specs.Words.{joined}
-use Rattle.asm_laws.specs.Assembly.{Assembled, by_place}
+use Rattle.mac_asm.specs.Assembly.{Assembled, by_place}
 
 abbrev pub example_line : List ℕ → List ℕ
 example_line text = text ++ 10 ∷ []

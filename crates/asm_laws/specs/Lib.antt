@@ -1,8 +1,2 @@
-pub mod Values
-pub mod Packing
-pub mod Words
-pub mod Places
-pub mod Assembly
-pub mod Found
 pub mod Laws
 pub mod Example

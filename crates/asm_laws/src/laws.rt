@@ -1,9 +1,9 @@
 //! The laws of assembly. Each function does nothing: its contract is the law.
 ghost use Rattle.std.specs.Prelude.{◌≡◌, ◌↔◌, ℕ, List, Some};
 ghost use Rattle.mac_text.specs.declared.syntax.Line.{Line as LineView};
-ghost use Rattle.asm_laws.specs.Assembly.{Assembled, IsAssembly};
+ghost use Rattle.mac_asm.specs.Assembly.{Assembled, IsAssembly};
 ghost use Rattle.asm_laws.specs.Example.{example_image, example_source};
-ghost use Rattle.asm_laws.specs.Found.{image_of};
+ghost use Rattle.mac_asm.specs.Found.{image_of};
 ghost use Rattle.asm_laws.specs.Laws.{EarlierLabelsSettle, IsByPlace, StatementsFillTheirPlaces, TakesItsPlaces};
 
 /// A source has at most one image.
