@@ -1,4 +1,6 @@
 //! Why a source has no image.
+ghost use Rattle.std.specs.Prelude.{◌≡◌};
+ghost use Rattle.mac_asm.specs.Outcome.{number_of, least};
 
 use std::alloc::{AllocError, AllocFailed};
 use thiserror::Error;
@@ -24,7 +26,9 @@ pub enum AsmCode {
 
 impl AsmCode {
     /// Its number, from 1 to 7.
-    pub fn number(self) -> u8 {
+    pub fn number(self) -> u8
+        ensures { result ≡ number_of self }
+    {
         match self {
             AsmCode::Syntax => 1,
             AsmCode::UnknownName => 2,
@@ -59,7 +63,10 @@ impl<T: Drop> From<AllocFailed<T>> for AsmError {
 }
 
 /// The lesser of two codes, where there are any.
-pub fn least(a: Option<AsmCode>, b: Option<AsmCode>) -> Option<AsmCode> {
+#[tactic(auto, unfolding(crate::specs::Outcome::least))]
+pub fn least(a: Option<AsmCode>, b: Option<AsmCode>) -> Option<AsmCode>
+    ensures { result ≡ least a b }
+{
     match (a, b) {
         (Some(a), Some(b)) => Some(if a.number() <= b.number() { a } else { b }),
         (Some(a), None) => Some(a),
