@@ -1,4 +1,5 @@
 pub mod Limbs
+pub mod Terms
 pub mod Characters
 pub mod Names
 pub mod Scan

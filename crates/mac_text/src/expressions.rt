@@ -9,9 +9,9 @@ use crate::characters::is_digit;
 use crate::fault::Fault;
 use crate::numbers::number;
 use crate::scanner::Scanner;
-use crate::sequence::Sequence;
+use crate::sum::Expression;
 use crate::symbol::Symbol;
-use crate::syntax::{Expression, Sign, SignedTerm, Term};
+use crate::syntax::{Sign, SignedTerm, Term};
 use crate::texts::literal_len;
 
 /// Whether a run of letters, digits and the like is a name: it begins with no digit and is not the point alone.
@@ -129,7 +129,7 @@ fn more_terms(scan: &mut Scanner<'_>, expression: &mut Expression) -> Result<(),
     for _ in 0..most {
         match next_term(scan)? {
             None => return Ok(()),
-            Some(term) => expression.push(term)?,
+            Some(term) => expression.push(scan.alloc(), term)?,
         }
     }
     Ok(())
@@ -142,8 +142,7 @@ pub fn expression(scan: &mut Scanner<'_>) -> Result<Expression, Fault>
 {
     let sign = sign(scan).unwrap_or(Sign::Plus);
     let first = signed_term(sign, scan)?;
-    let mut expression = Sequence::new(scan.alloc());
-    expression.push(first)?;
+    let mut expression = Expression::of(first);
     more_terms(scan, &mut expression)?;
     Ok(expression)
 }

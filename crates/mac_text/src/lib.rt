@@ -12,6 +12,7 @@ mod scanner;
 mod sequence;
 mod source;
 mod statements;
+mod sum;
 mod symbol;
 mod syntax;
 #[cfg(test)]
@@ -22,8 +23,8 @@ pub use fault::ParseError;
 pub use natural::Natural;
 pub use sequence::Sequence;
 pub use source::parse;
+pub use sum::Expression;
 pub use symbol::Symbol;
 pub use syntax::{
-    Data, Expression, Instruction, Line, Operand, Program, Sign, SignedTerm, Statement, Term,
-    TextForm,
+    Data, Instruction, Line, Operand, Program, Sign, SignedTerm, Statement, Term, TextForm,
 };

@@ -12,8 +12,9 @@ use crate::natural::Natural;
 use crate::numbers::number;
 use crate::scanner::Scanner;
 use crate::sequence::Sequence;
+use crate::sum::Expression;
 use crate::symbol::folded;
-use crate::syntax::{Data, Expression, Instruction, Operand, Statement};
+use crate::syntax::{Data, Instruction, Operand, Statement};
 use ka_isa::{Named, named};
 
 /// The register of an address part: an expression in parentheses, or nothing.

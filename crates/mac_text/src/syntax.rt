@@ -2,6 +2,7 @@
 
 use crate::natural::Natural;
 use crate::sequence::Sequence;
+use crate::sum::Expression;
 use crate::symbol::Symbol;
 use word36::Word;
 
@@ -29,9 +30,6 @@ pub struct SignedTerm {
     pub sign: Sign,
     pub term: Term,
 }
-
-/// The sum of its terms, of which there is at least one.
-pub type Expression = Sequence<SignedTerm>;
 
 /// The address part of an instruction: `[@][expression][(expression)]`.
 #[derive(Debug, Drop)]
