@@ -1,6 +1,3 @@
-pub mod Ports
-pub mod Transcripts
-pub mod Serves
 pub mod Numbers
 pub mod Options
 pub mod Locks

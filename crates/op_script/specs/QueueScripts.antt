@@ -19,10 +19,10 @@ use Rattle.lock_queue.specs.declared.want.Want.{Want}
 use Rattle.op_script.specs.Commands.{Asked, nothing, call, status, free, show, waits, quit, command_of}
 use Rattle.op_script.specs.Grants.{waiting_before, grants_from}
 use Rattle.op_script.specs.Printing.{code_line, reply_line, status_line, request_line}
-use Rattle.op_script.specs.Transcripts.{Transcript, after, closed, unless_ended, script_fault}
+use Rattle.script_io.specs.Transcripts.{Transcript, after, closed, unless_ended, script_fault}
 use Rattle.op_script.specs.WaitPairs.{waits_text}
-use Rattle.op_script.specs.declared.endings.Ending.{Ending}
-use Rattle.op_script.specs.declared.endings.Ending.TheVariants as ending
+use Rattle.script_io.specs.declared.endings.Ending.{Ending}
+use Rattle.script_io.specs.declared.endings.Ending.TheVariants as ending
 
 -- what a line does: the requests afterwards, what it writes, and how the script ends, if it ends there
 pub record Effect : Type 0 where

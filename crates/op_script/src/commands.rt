@@ -8,12 +8,12 @@ ghost use Rattle.op_script.specs.Drafts.{asked_by, asked_by_line};
 ghost use Rattle.op_script.specs.Commands.{job_of, asked_call, asked_status, request_call, change_call, release_call, unknown_call, release_all_call, release_id_call, enqueue_of, dequeue_of, status_of_items, free_of, bare, command_of_items, is_allowed, is_silent, command_of};
 
 use crate::drafts::{Drafts, draft_change, draft_release, draft_request};
-use crate::line_sessions::LINE_LENGTH;
 use crate::locks::read_lock;
 use crate::numbers::number;
 use crate::options::read_half;
 use crate::parts::Parts;
 use lock_queue::{EnqueueKind, LockCall, Refusal, RequestId};
+use script_io::LINE_LENGTH;
 use word36::JOBS;
 
 /// What a line asks for, with its call drafted beside it.
@@ -230,10 +230,11 @@ fn read_items(drafts: &mut Drafts, mut items: Parts<'_>) -> Option<Command>
     }
 }
 
+#[tactic(auto, using(crate::proofs::AsciiLemmas::ascii_tests))]
 fn has_only_ascii(line: &[u8]) -> bool
     ensures { result ≡ list_all (λ b. nat_lt b 128) line.now }
 {
-    line.iter().all(|byte| *byte < 128)
+    line.is_ascii()
 }
 
 fn is_allowed(line: &[u8]) -> bool

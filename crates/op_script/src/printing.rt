@@ -5,10 +5,10 @@ ghost use Rattle.word36.specs.Octal.{word_text};
 ghost use Rattle.op_script.specs.Printing.{code_line, reply_line, grant_line, status_line, name_character, name_text, level_text, pool_text, scope_text, want_text, kind_number, wants_text, request_line};
 
 use crate::locks::is_name_character;
-use crate::print::push_decimal;
 use lock_queue::{
     EnqueueKind, Level, LockReply, Name, Pool, Refusal, Request, Scope, Status, Want,
 };
+use script_io::push_decimal;
 use std::alloc::AllocError;
 use word36::{Word, octal_text};
 

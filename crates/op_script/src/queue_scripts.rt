@@ -3,18 +3,17 @@ ghost use Rattle.std.specs.Prelude.{◌≡◌, ◌+◌, ◌^◌, ◌≤◌, ◌+
 ghost use Rattle.std.specs.Str.Lines.{lines};
 ghost use Rattle.op_script.specs.QueueScripts.{effect_of, call_effect, unless_busy, grants_after, free_effect, statuses, show_text, transcript_of, transcript_of-too_long, transcript};
 ghost use Rattle.op_script.specs.Drafts.{asked_by_line, wants_in};
-ghost use Rattle.op_script.specs.Serves.{Serves, Blames};
+ghost use Rattle.script_io.specs.Serves.{Serves, Blames};
 
 use crate::commands::{Command, read_command};
 use crate::drafts::Drafts;
-use crate::endings::{Ending, ServeError};
 use crate::grants::{Waiting, push_grants, waiting_before};
-use crate::line_sessions::{LineService, LineSession, push_fault};
-use crate::ports::{ByteIn, ByteOut};
 use crate::printing::{push_code, push_reply, push_request, push_status};
-use crate::serving::serve_session;
 use crate::wait_pairs::push_waits;
 use lock_queue::{LockCall, LockReply, LockTable, PlainTable, Refusal, Want};
+use script_io::{
+    ByteIn, ByteOut, Ending, LineService, LineSession, ServeError, push_fault, serve_session,
+};
 use std::alloc::{AllocError, Global};
 
 /// Adds the lines of the requests that a call granted, which answered this.

@@ -4,8 +4,8 @@ ghost use Rattle.op_script.specs.WaitPairs.{pair_line, waits_text, pairs_text, p
 ghost use Rattle.std.specs.List.{flat_map, list_any};
 ghost use Rattle.lock_queue.specs.Jobs.{waits_for};
 
-use crate::print::push_decimal;
 use lock_queue::LockTable;
+use script_io::push_decimal;
 use std::alloc::AllocError;
 use word36::JOBS;
 

@@ -1,7 +1,7 @@
 use Rattle.std.proofs.Common.{◌∙◌, ap}
 use Rattle.std.specs.Str.Lines.{lines}
 use Rattle.op_script.specs.QueueScripts.{transcript, transcript_of}
-use Rattle.op_script.proofs.ServeLemmas.{serves_as, serves_nothing}
+use Rattle.script_io.proofs.ServeLemmas.{serves_as, serves_nothing}
 use Rattle.op_script.proofs.queue_scripts.serve_queue.Goals as goal
 
 pub returns-in-Err-clause-serves : goal.returns-in-Err-clause-serves

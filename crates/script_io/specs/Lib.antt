@@ -1,0 +1,4 @@
+pub mod Ports
+pub mod Transcripts
+pub mod Serves
+pub mod Lines

@@ -1,0 +1,20 @@
+//! Ports, and the loop that serves a script of any language.
+#![tactic(auto)]
+
+mod endings;
+mod host_ports;
+mod line_sessions;
+mod ports;
+mod print;
+mod serving;
+mod sessions;
+mod test_ports;
+
+pub use endings::{Ending, ServeError};
+pub use host_ports::{HostIn, HostOut};
+pub use line_sessions::{LINE_LENGTH, LineService, LineSession, push_fault};
+pub use ports::{ByteIn, ByteOut, Failed, write_all};
+pub use print::push_decimal;
+pub use serving::serve_session;
+pub use sessions::Session;
+pub use test_ports::{TestIn, TestOut};

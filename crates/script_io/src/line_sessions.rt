@@ -1,0 +1,275 @@
+//! Scripts of lines.
+ghost use Rattle.std.specs.Prelude.{◌≡◌, ◌==◌, ◌+◌, ◌-◌, ◌^◌, ◌<◌, ◌≤◌, ◌++◌, ℕ, List, [], ◌∷◌, Some, None, false, true, All, IsTrue, ◌↔◌, length, take, drop, is_some, OnOk, IfOk, IfSome, MatchOption};
+ghost use Rattle.std.specs.Str.Lines.{lines, strip_carriage_return};
+ghost use Rattle.script_io.specs.Lines.{is_no_newline};
+ghost use Rattle.script_io.specs.Transcripts.{Transcript, after, closed, unless_ended, unless_ended-same, script_fault};
+
+use crate::endings::Ending;
+use crate::print::push_decimal;
+use crate::sessions::Session;
+use arrayvec::ArrayVec;
+use memchr::memchr;
+use std::alloc::AllocError;
+
+/// The most characters of a line, without the LF and the CR before it.
+pub const LINE_LENGTH: usize = 256;
+
+/// A line may have this many bytes with the CR that is dropped.
+const LINE_ROOM: usize = LINE_LENGTH + 1;
+
+/// What a script's lines do.
+pub trait LineService {
+    /// What is still written, and how it ends, where so many lines have come, and these lines come
+    /// and no more.
+    ghost follow_lines: { Self → ℕ → List (List ℕ) → Transcript };
+
+    /// Takes the line of this number, and adds what is written for it. It answers an ending where
+    /// the script ends there.
+    fn take_line(
+        &mut self,
+        number: u128,
+        line: &[u8],
+        out: &mut Vec<u8>,
+    ) -> Result<Option<Ending>, AllocError>
+        requires { 0 < number }
+        ensures { IfOk result (λ ending. (more : List (List ℕ)) →
+            after out.old.items (follow_lines self.old (number - 1) (line.now ∷ more))
+            ≡ after out.new.items (unless_ended ending (follow_lines self.new number more))) };
+
+    /// No more lines come: adds what is written then, and says how the script ends.
+    fn end_lines(&mut self, number: u128, out: &mut Vec<u8>) -> Result<Ending, AllocError>
+        ensures { IfOk result (λ ending. after out.old.items (follow_lines self.old number []) ≡ closed out.new.items ending) };
+
+    ghost too_long: { (s : Self) (n : ℕ) (line : List ℕ) (more : List (List ℕ)) → 256 < length line → follow_lines s n (line ∷ more) ≡ script_fault (n + 1) };
+}
+
+/// What has come of a line.
+#[derive(Drop)]
+struct LineBuffer {
+    bytes: ArrayVec<u8, LINE_ROOM>,
+    ghost no_newline: { All is_no_newline bytes.items },
+}
+
+impl LineBuffer {
+    fn new() -> Self
+        ensures { result.bytes.items ≡ [] }
+    {
+        LineBuffer {
+            bytes: ArrayVec::new(),
+        }
+    }
+
+    /// Adds bytes of the line, where there is room for them.
+    fn extend(&mut self, bytes: &[u8]) -> bool
+        requires { All is_no_newline bytes.now }
+        ensures room { IsTrue result ↔ (length self.old.bytes.items + length bytes.now ≤ 257) }
+        ensures added { result ≡ true → self.new.bytes.items ≡ self.old.bytes.items ++ bytes.now }
+        ensures same { result ≡ false → self.new ≡ self.old }
+    {
+        self.bytes.try_extend_from_slice(bytes).is_ok()
+    }
+
+    fn clear(&mut self)
+        ensures { self.new.bytes.items ≡ [] }
+    {
+        self.bytes.clear();
+    }
+}
+
+/// A script of lines, of which some bytes have come.
+#[derive(Drop)]
+pub struct LineSession<S: Drop> {
+    service: S,
+    /// How many lines have come.
+    number: u128,
+    /// What has come of the next one, where it is not whole.
+    line: LineBuffer,
+    ending: Option<Ending>,
+}
+
+impl<S: LineService + Drop> LineSession<S> {
+    /// A script of which nothing has come.
+    pub fn new(service: S) -> Self
+        ensures fresh { (bytes : List ℕ) → ⟦<LineSession<S> as Session>⟧.follow result bytes ≡ S.follow_lines service 0 (lines bytes) }
+        ensures count { ⟦<LineSession<S> as Session>⟧.count result ≡ 0 }
+    {
+        LineSession {
+            service,
+            number: 0,
+            line: LineBuffer::new(),
+            ending: None,
+        }
+    }
+
+    /// A whole line comes, of which nothing was kept.
+    fn take_whole(&mut self, line: &[u8], out: &mut Vec<u8>) -> Result<(), AllocError>
+        requires room { self.old.number + 1 < 2 ^ 128 }
+        requires goes_on { self.old.ending ≡ None }
+        requires empty { self.old.line.bytes.items ≡ [] }
+        requires no_newline { All is_no_newline line.now }
+        ensures number { self.new.number ≡ self.old.number + 1 }
+        ensures follows { OnOk result ((more : List ℕ) →
+            after out.old.items (⟦<LineSession<S> as Session>⟧.follow self.old (line.now ++ 10 ∷ more)) ≡ after out.new.items (⟦<LineSession<S> as Session>⟧.follow self.new more)) }
+    {
+        self.number += 1;
+        match self
+            .service
+            .take_line(self.number, without_return(line), out)
+        {
+            Ok(ending) => self.ending = ending,
+            Err(error) => return Err(error),
+        }
+        Ok(())
+    }
+
+    /// The line that was kept is whole.
+    fn take_kept(&mut self, out: &mut Vec<u8>) -> Result<(), AllocError>
+        requires room { self.old.number + 1 < 2 ^ 128 }
+        requires goes_on { self.old.ending ≡ None }
+        ensures number { self.new.number ≡ self.old.number + 1 }
+        ensures follows { OnOk result ((more : List ℕ) →
+            after out.old.items (⟦<LineSession<S> as Session>⟧.follow self.old (10 ∷ more)) ≡ after out.new.items (⟦<LineSession<S> as Session>⟧.follow self.new more)) }
+    {
+        self.number += 1;
+        let buffer = &self.line;
+        let line = without_return(buffer.bytes.as_slice());
+        match self.service.take_line(self.number, line, out) {
+            Ok(ending) => self.ending = ending,
+            Err(error) => return Err(error),
+        }
+        self.line.clear();
+        Ok(())
+    }
+
+    /// The line is too long with these bytes, whatever follows.
+    fn refuse_line(&mut self, bytes: &[u8], out: &mut Vec<u8>) -> Result<(), AllocError>
+        requires room { self.old.number + 1 < 2 ^ 128 }
+        requires goes_on { self.old.ending ≡ None }
+        requires no_newline { All is_no_newline bytes.now }
+        requires long { 257 < length self.old.line.bytes.items + length bytes.now }
+        ensures number { self.new.number ≡ self.old.number + 1 }
+        ensures ended { OnOk result (is_some self.new.ending ≡ true) }
+        ensures follows { OnOk result ((more : List ℕ) →
+            after out.old.items (⟦<LineSession<S> as Session>⟧.follow self.old (bytes.now ++ more)) ≡ after out.new.items (⟦<LineSession<S> as Session>⟧.follow self.new more)) }
+    {
+        let _bytes = bytes;
+        self.number += 1;
+        push_fault(out, self.number)?;
+        self.ending = Some(Ending::Script);
+        Ok(())
+    }
+
+    /// Bytes of a line come.
+    fn keep(&mut self, bytes: &[u8], out: &mut Vec<u8>) -> Result<(), AllocError>
+        requires room { self.old.number + 1 < 2 ^ 128 }
+        requires goes_on { self.old.ending ≡ None }
+        requires no_newline { All is_no_newline bytes.now }
+        ensures number { self.new.number ≤ self.old.number + 1 }
+        ensures same { OnOk result (is_some self.new.ending ≡ false → self.new.number ≡ self.old.number) }
+        ensures follows { OnOk result ((more : List ℕ) →
+            after out.old.items (⟦<LineSession<S> as Session>⟧.follow self.old (bytes.now ++ more)) ≡ after out.new.items (⟦<LineSession<S> as Session>⟧.follow self.new more)) }
+    {
+        if self.line.extend(bytes) {
+            return Ok(());
+        }
+        self.refuse_line(bytes, out)
+    }
+
+    /// The last bytes of a line come.
+    fn end_line(&mut self, bytes: &[u8], out: &mut Vec<u8>) -> Result<(), AllocError>
+        requires room { self.old.number + 1 < 2 ^ 128 }
+        requires goes_on { self.old.ending ≡ None }
+        requires no_newline { All is_no_newline bytes.now }
+        ensures number { self.new.number ≤ self.old.number + 1 }
+        ensures follows { OnOk result ((more : List ℕ) →
+            after out.old.items (⟦<LineSession<S> as Session>⟧.follow self.old (bytes.now ++ 10 ∷ more)) ≡ after out.new.items (⟦<LineSession<S> as Session>⟧.follow self.new more)) }
+    {
+        if self.line.bytes.is_empty() {
+            return self.take_whole(bytes, out);
+        }
+        self.keep(bytes, out)?;
+        if self.ending.is_some() {
+            return Ok(());
+        }
+        self.take_kept(out)
+    }
+}
+
+impl<S: LineService + Drop> Session for LineSession<S> {
+    ghost follow = { λ s bytes. unless_ended s.ending (S.follow_lines s.service s.number (lines (s.line.bytes.items ++ bytes))) };
+
+    ghost has_ended = { λ s. is_some s.ending };
+
+    ghost count = { λ s. s.number };
+
+    fn has_ended(&self) -> bool {
+        self.ending.is_some()
+    }
+
+    fn feed(&mut self, bytes: &[u8], out: &mut Vec<u8>) -> Result<usize, AllocError> {
+        if self.ending.is_some() {
+            return Ok(bytes.len());
+        }
+        match find_newline(bytes) {
+            Some(end) => {
+                self.end_line(&bytes[..end], out)?;
+                Ok(end + 1)
+            }
+            None => {
+                self.keep(bytes, out)?;
+                Ok(bytes.len())
+            }
+        }
+    }
+
+    fn finish(&mut self, out: &mut Vec<u8>) -> Result<Ending, AllocError> {
+        match self.ending {
+            Some(ending) => return Ok(ending),
+            None => {}
+        }
+        if self.line.bytes.is_empty() {
+            return self.service.end_lines(self.number, out);
+        }
+        self.number += 1;
+        let buffer = &self.line;
+        match self
+            .service
+            .take_line(self.number, buffer.bytes.as_slice(), out)
+        {
+            Ok(None) => self.service.end_lines(self.number, out),
+            Ok(Some(ending)) => Ok(ending),
+            Err(error) => Err(error),
+        }
+    }
+
+    ghost ends = { λ s a b h. unless_ended-same s.ending _ _ h };
+}
+
+/// The place of the first LF.
+fn find_newline(bytes: &[u8]) -> Option<usize>
+    ensures within { IfSome result (λ i. i < length bytes.now) }
+    ensures parted { MatchOption result (All is_no_newline bytes.now)
+        (λ i. All is_no_newline (take i bytes.now) × (bytes.now ≡ take i bytes.now ++ 10 ∷ drop (i + 1) bytes.now)) }
+{
+    memchr(b'\n', bytes)
+}
+
+/// The line without the CR at its end.
+fn without_return(line: &[u8]) -> &[u8]
+    ensures { result.now ≡ strip_carriage_return line.now }
+{
+    match line {
+        [front @ .., b'\r'] => front,
+        _ => line,
+    }
+}
+
+/// Writes that the line of this number is not in the grammar.
+pub fn push_fault(out: &mut Vec<u8>, number: u128) -> Result<(), AllocError>
+    ensures { OnOk result (out.new.items ≡ out.old.items ++ (script_fault number).text) }
+{
+    out.extend_from_slice(b"?SCRIPT ")?;
+    push_decimal(out, number)?;
+    out.push(b'\n')?;
+    Ok(())
+}

@@ -1,0 +1,10 @@
+//! The laws.
+ghost use Rattle.std.specs.Prelude.{◌≡◌, ◌↔◌, ℕ, Bool, true};
+ghost use Rattle.op_script.specs.WaitPairs.{is_in_circle};
+ghost use Rattle.script_laws.specs.Walks.{is_job, LeadsBack};
+
+/// WAITS names behind CIRCLE exactly the jobs from which a walk of pairs leads back, of whatever
+/// length: one that is longer than there are jobs has a shorter one in it.
+pub fn circles_are_told()
+    ensures { (waits : ℕ → ℕ → Bool) (j : ℕ) → is_job j ≡ true → (LeadsBack waits j ↔ (is_in_circle waits j ≡ true)) }
+{}
