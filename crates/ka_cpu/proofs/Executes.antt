@@ -1,13 +1,11 @@
-use Rattle.std.proofs.Common.{◌≡◌, ℕ, ◌+◌, ◌-◌, ◌<◌, ◌≤◌, suc, zero, Option, Some, None, Ok, Err, Result, List, Bool, true, false, refl, arith, ap, sym, ◌∙◌, ◌&&◌, inl, inr, nat_eq, ltb, cond, if◌then◌else◌}
-use Rattle.std.proofs.lemmas.Bool.{ltb-true, ltb-false}
-use Rattle.std.proofs.lemmas.Bool.Decides.{eqb_tells}
+use Rattle.std.proofs.Common.{◌≡◌, ℕ, ◌+◌, ◌-◌, ◌<◌, ◌≤◌, suc, zero, Some, None, Ok, Err, Result, List, Bool, true, false, refl, arith, ap, ◌∙◌, if◌then◌else◌}
 use Rattle.ka_isa.specs.Families.{family_of}
 use Rattle.ka_isa.specs.declared.Family.{Family}
 use Rattle.ka_cpu.specs.Places.{word_at}
 use Rattle.ka_cpu.specs.Addresses.{Target, target_of, reading, at_target, address_in, used_in}
 use Rattle.ka_cpu.specs.Effects.{stopped}
 use Rattle.ka_isa.specs.declared.Family.TheVariants.{Xct}
-use Rattle.ka_cpu.specs.Turns.{refusal_of, next_word_of}
+use Rattle.ka_cpu.specs.Turns.{refusal_of}
 use Rattle.ka_cpu.specs.Exec.{word_behind, word_performed, performed, is_listed, is_execute, is_xct, op_of, ac_field, at_address, carried_out}
 use Rattle.ka_cpu.specs.declared.registers.Regs.{Regs}
 use Rattle.ka_cpu.specs.declared.outcome.StopReason.{StopReason}
@@ -76,11 +74,11 @@ not_execute Xct h = absurd (h refl)
 not_execute _ h = refl
 
 -- the same of a word
-no_xct : (w : ℕ) → (family_of (op_of w) ≡ Xct → ⊥) → is_xct w ≡ false
+pub no_xct : (w : ℕ) → (family_of (op_of w) ≡ Xct → ⊥) → is_xct w ≡ false
 unfolding is_xct
 no_xct w h = not_execute (family_of (op_of w)) h
 
-xct : (w : ℕ) → family_of (op_of w) ≡ Xct → is_xct w ≡ true
+pub xct : (w : ℕ) → family_of (op_of w) ≡ Xct → is_xct w ≡ true
 unfolding is_xct
 xct w h = ap is_execute h
 
@@ -100,48 +98,16 @@ unfolding performed
 performed_by b g core w h = rw h refl
 
 -- the address is not found
-refused_xct : (i : ℕ) (g : Regs) (core : List ℕ) (w : ℕ) (r : StopReason) → i ≤ 256 → is_xct w ≡ true → Err r ≡ address_in (target_of g.ac core w) → word_behind (256 - i) g.ac core w ≡ Err (if nat_eq i 256 then AddressChain else r)
-refused_xct i g core w r b x h =
-    elim (eqb_tells i 256) [
-      | inl p ↦ (let q : 256 ≤ i = omega (arith, p.1) in rw p.0 (behind_end i g.ac core w q x))
-      | inr p ↦ (let q : i < 256 = omega (arith, p.1) in rw p.0 (behind_refused i g.ac core w r q x h))
-    ]
+refused_listed : (c : Bool) (g : Regs) (core : List ℕ) (w : ℕ) (r : StopReason) → is_xct w ≡ c → is_listed (family_of (op_of w)) (ac_field w) ≡ true → Err r ≡ address_in (target_of g.ac core w) → word_performed g core (word_behind 256 g.ac core w) ≡ stopped g core r
+refused_listed true g core w r x l h = let b : 0 < 256 = omega arith in ap (λ (y : Result ℕ StopReason). word_performed g core y) (behind_refused 0 g.ac core w r b x h)
+refused_listed false g core w r x l h = plain_performed 256 g core w x ∙ (performed_by true g core w l ∙ at_refused g core w r h)
 
-refused_listed : (i : ℕ) (c : Bool) (g : Regs) (core : List ℕ) (w : ℕ) (r : StopReason) → i ≤ 256 → is_xct w ≡ c → is_listed (family_of (op_of w)) (ac_field w) ≡ true → Err r ≡ address_in (target_of g.ac core w) → word_performed g core (word_behind (256 - i) g.ac core w) ≡ stopped g core (if c && nat_eq i 256 then AddressChain else r)
-refused_listed i true g core w r b x l h = ap (λ (y : Result ℕ StopReason). word_performed g core y) (refused_xct i g core w r b x h)
-refused_listed i false g core w r b x l h = plain_performed (256 - i) g core w x ∙ (performed_by true g core w l ∙ at_refused g core w r h)
+refused_either : (b : Bool) (g : Regs) (core : List ℕ) (w : ℕ) (r : StopReason) → is_listed (family_of (op_of w)) (ac_field w) ≡ b → Err r ≡ address_in (target_of g.ac core w) → word_performed g core (word_behind 256 g.ac core w) ≡ stopped g core (if b then r else IllegalInstruction)
+refused_either true g core w r l h = refused_listed (is_xct w) g core w r refl l h
+refused_either false g core w r l h = plain_performed 256 g core w (unlisted_xct w l) ∙ performed_by false g core w l
 
-xct_is : (w : ℕ) → is_xct w ≡ is_execute (family_of (op_of w))
-unfolding is_xct
-xct_is w = refl
-
-refused_either : (i : ℕ) (b : Bool) (g : Regs) (core : List ℕ) (w : ℕ) (r : StopReason) → i ≤ 256 → is_listed (family_of (op_of w)) (ac_field w) ≡ b → Err r ≡ address_in (target_of g.ac core w) → word_performed g core (word_behind (256 - i) g.ac core w) ≡ stopped g core (if b then (if is_execute (family_of (op_of w)) && nat_eq i 256 then AddressChain else r) else IllegalInstruction)
-refused_either i true g core w r b l h = refused_listed i (is_execute (family_of (op_of w))) g core w r b (xct_is w) l h
-refused_either i false g core w r b l h = plain_performed (256 - i) g core w (unlisted_xct w l) ∙ performed_by false g core w l
-
-pub executed_refused : (i : ℕ) (g : Regs) (core : List ℕ) (w : ℕ) (r : StopReason) → i ≤ 256 → Err r ≡ address_in (target_of g.ac core w) → word_performed g core (word_behind (256 - i) g.ac core w) ≡ stopped g core (refusal_of i (family_of (op_of w)) (ac_field w) r)
-executed_refused i g core w r b h = refused_either i (is_listed (family_of (op_of w)) (ac_field w)) g core w r b refl h
-
--- the word behind an XCT is refused, or executed in its place
-next_end_by : (i : ℕ) (c : Bool) (o : Option ℕ) (ac core : List ℕ) (w e : ℕ) (r : StopReason) → ltb i 256 ≡ c → word_at ac core e ≡ o → family_of (op_of w) ≡ Xct → Ok e ≡ address_in (target_of ac core w) → Err r ≡ cond c (reading o (λ v. Ok v)) (Err AddressChain) → word_behind (256 - i) ac core w ≡ Err r
-next_end_by i true None ac core w e r c p f h n = (let q : i < 256 = ltb-true i 256 c in behind_illegal i ac core w e q (xct w f) h p) ∙ sym n
-next_end_by i true (Some v) ac core w e r c p f h n = cc
-next_end_by i false o ac core w e r c p f h n = (let q : 256 ≤ i = ltb-false i 256 c in behind_end i ac core w q (xct w f)) ∙ sym n
-
-next_turn_by : (i : ℕ) (c : Bool) (o : Option ℕ) (ac core : List ℕ) (w e v : ℕ) → ltb i 256 ≡ c → word_at ac core e ≡ o → family_of (op_of w) ≡ Xct → Ok e ≡ address_in (target_of ac core w) → Ok v ≡ cond c (reading o (λ v. Ok v)) (Err AddressChain) → (i < 256) × (word_behind (256 - i) ac core w ≡ word_behind (256 - (i + 1)) ac core v)
-next_turn_by i true None ac core w e v c p f h n = cc
-next_turn_by i true (Some u) ac core w e v c p f h n =
-    let q : i < 256 = ltb-true i 256 c in
-    let s : u ≡ v = cc in
-    let t : word_at ac core e ≡ Some v = rw (← s) p in
-    (q, behind_turn i ac core w e v q (xct w f) h t)
-next_turn_by i false o ac core w e v c p f h n = cc
-
-pub next_end : (i : ℕ) (ac core : List ℕ) (w e : ℕ) (r : StopReason) → family_of (op_of w) ≡ Xct → Ok e ≡ address_in (target_of ac core w) → Err r ≡ next_word_of i (word_at ac core e) → word_behind (256 - i) ac core w ≡ Err r
-next_end i ac core w e r f h n = next_end_by i (ltb i 256) (word_at ac core e) ac core w e r refl refl f h n
-
-pub next_turn : (i : ℕ) (ac core : List ℕ) (w e v : ℕ) → family_of (op_of w) ≡ Xct → Ok e ≡ address_in (target_of ac core w) → Ok v ≡ next_word_of i (word_at ac core e) → (i < 256) × (word_behind (256 - i) ac core w ≡ word_behind (256 - (i + 1)) ac core v)
-next_turn i ac core w e v f h n = next_turn_by i (ltb i 256) (word_at ac core e) ac core w e v refl refl f h n
+pub executed_refused : (g : Regs) (core : List ℕ) (w : ℕ) (r : StopReason) → Err r ≡ address_in (target_of g.ac core w) → word_performed g core (word_behind 256 g.ac core w) ≡ stopped g core (refusal_of (family_of (op_of w)) (ac_field w) r)
+executed_refused g core w r h = refused_either (is_listed (family_of (op_of w)) (ac_field w)) g core w r refl h
 
 -- an instruction that is no XCT
 done_either : (k : ℕ) (b : Bool) (g : Regs) (core : List ℕ) (w e : ℕ) → is_listed (family_of (op_of w)) (ac_field w) ≡ b → is_xct w ≡ false → Ok e ≡ address_in (target_of g.ac core w) → word_performed g core (word_behind k g.ac core w) ≡ (if b then carried_out (family_of (op_of w)) g core (record { op = op_of w; ac = ac_field w; e = e }) (used_in (target_of g.ac core w)) else stopped g core IllegalInstruction)
@@ -151,4 +117,4 @@ done_either k false g core w e l x h = plain_performed k g core w x ∙ performe
 pub executed_done : (k : ℕ) (g : Regs) (core : List ℕ) (w e : ℕ) → (family_of (op_of w) ≡ Xct → ⊥) → Ok e ≡ address_in (target_of g.ac core w) → word_performed g core (word_behind k g.ac core w) ≡ (if is_listed (family_of (op_of w)) (ac_field w) then carried_out (family_of (op_of w)) g core (record { op = op_of w; ac = ac_field w; e = e }) (used_in (target_of g.ac core w)) else stopped g core IllegalInstruction)
 executed_done k g core w e f h = done_either k (is_listed (family_of (op_of w)) (ac_field w)) g core w e refl (no_xct w f) h
 
-pub ruleset executions = (executed_refused, next_end, next_turn, executed_done)
+pub ruleset executions = (executed_refused, executed_done, behind_plain, xct, no_xct)

@@ -1,16 +1,16 @@
--- Words of private clauses, which `exec` does not use: a turn of the loop that follows XCTs.
-use Rattle.std.specs.Prelude.{ℕ, nat_eq, nat_lt, ◌&&◌, if◌then◌else◌, Option, Result, Ok, Err}
+-- Words of private clauses, which `exec` does not use.
+use Rattle.std.specs.Prelude.{ℕ, zero, suc, ◌+◌, List, [], ◌∷◌, if◌then◌else◌}
 use Rattle.ka_isa.specs.declared.Family.{Family}
-use Rattle.ka_cpu.specs.Addresses.{reading}
-use Rattle.ka_cpu.specs.Exec.{is_listed, is_execute}
+use Rattle.ka_isa.specs.Families.{family_of}
+use Rattle.ka_cpu.specs.Exec.{is_listed}
 use Rattle.ka_cpu.specs.declared.outcome.StopReason.{StopReason}
-use Rattle.ka_cpu.specs.declared.outcome.StopReason.TheVariants.{IllegalInstruction, AddressChain}
+use Rattle.ka_cpu.specs.declared.outcome.StopReason.TheVariants.{IllegalInstruction}
 
--- why a word is refused whose address is not found, behind so many XCTs
-abbrev pub refusal_of : ℕ → Family → ℕ → StopReason → StopReason
-refusal_of i f ac r =
-    if is_listed f ac then (if is_execute f && nat_eq i 256 then AddressChain else r) else IllegalInstruction
+-- why a word is refused whose address is not found
+abbrev pub refusal_of : Family → ℕ → StopReason → StopReason
+refusal_of f ac r = if is_listed f ac then r else IllegalInstruction
 
--- the word behind an XCT that stands behind so many others
-abbrev pub next_word_of : ℕ → Option ℕ → Result ℕ StopReason
-next_word_of i o = if nat_lt i 256 then reading o (λ w. Ok w) else Err AddressChain
+-- the families of k operations from op on
+abbrev pub families_from : ℕ → ℕ → List Family
+families_from zero op = []
+families_from (suc k) op = family_of op ∷ families_from k (op + 1)

@@ -86,7 +86,7 @@ fn follow_chain<M: JobMemory>(
 }
 
 /// The address of a word over indirect words.
-#[inline(never)]
+#[inline(always)]
 #[tactic(auto, using(crate::proofs::Chain::chain_parts))]
 fn find_by_chain<M: JobMemory>(regs: &Regs, memory: &M, word: Word) -> Result<u32, StopReason>
     ensures value { result ≡ address_in (target_of regs.now.ac (M.words memory.now) word) }

@@ -18,7 +18,7 @@ const LEAST: u64 = 0o400_000_000_000;
 /// ADD
 #[inline(always)]
 #[tactic(auto, unfolding(crate::specs::Arithmetic::add_row))]
-pub fn do_add<M: JobMemory>(mode: u16, regs: &mut Regs, memory: &mut M, n: Instruction) -> Outcome
+pub fn do_add<M: JobMemory>(mode: u32, regs: &mut Regs, memory: &mut M, n: Instruction) -> Outcome
     requires mode { mode ≡ n.op % 4 }
     requires ac { n.ac < 16 }
     requires e { n.e < 2 ^ 18 }
@@ -40,7 +40,7 @@ pub fn do_add<M: JobMemory>(mode: u16, regs: &mut Regs, memory: &mut M, n: Instr
 /// SUB
 #[inline(always)]
 #[tactic(auto, unfolding(crate::specs::Arithmetic::sub_row))]
-pub fn do_sub<M: JobMemory>(mode: u16, regs: &mut Regs, memory: &mut M, n: Instruction) -> Outcome
+pub fn do_sub<M: JobMemory>(mode: u32, regs: &mut Regs, memory: &mut M, n: Instruction) -> Outcome
     requires mode { mode ≡ n.op % 4 }
     requires ac { n.ac < 16 }
     requires e { n.e < 2 ^ 18 }
@@ -132,7 +132,7 @@ fn put_next(regs: &mut Regs, n: Instruction, word: Word)
 /// IMUL
 #[inline(always)]
 #[tactic(auto, unfolding(crate::specs::Arithmetic::imul_row))]
-pub fn do_imul<M: JobMemory>(mode: u16, regs: &mut Regs, memory: &mut M, n: Instruction) -> Outcome
+pub fn do_imul<M: JobMemory>(mode: u32, regs: &mut Regs, memory: &mut M, n: Instruction) -> Outcome
     requires mode { mode ≡ n.op % 4 }
     requires ac { n.ac < 16 }
     requires e { n.e < 2 ^ 18 }
@@ -155,7 +155,7 @@ pub fn do_imul<M: JobMemory>(mode: u16, regs: &mut Regs, memory: &mut M, n: Inst
 /// MUL
 #[inline(always)]
 #[tactic(auto, unfolding(crate::specs::Arithmetic::mul_row))]
-pub fn do_mul<M: JobMemory>(mode: u16, regs: &mut Regs, memory: &mut M, n: Instruction) -> Outcome
+pub fn do_mul<M: JobMemory>(mode: u32, regs: &mut Regs, memory: &mut M, n: Instruction) -> Outcome
     requires mode { mode ≡ n.op % 4 }
     requires ac { n.ac < 16 }
     requires e { n.e < 2 ^ 18 }
@@ -203,7 +203,7 @@ fn divide(a: Word, b: Word) -> (Word, Word)
 /// IDIV
 #[inline(always)]
 #[tactic(auto, unfolding(crate::specs::Arithmetic::idiv_row))]
-pub fn do_idiv<M: JobMemory>(mode: u16, regs: &mut Regs, memory: &mut M, n: Instruction) -> Outcome
+pub fn do_idiv<M: JobMemory>(mode: u32, regs: &mut Regs, memory: &mut M, n: Instruction) -> Outcome
     requires mode { mode ≡ n.op % 4 }
     requires ac { n.ac < 16 }
     requires e { n.e < 2 ^ 18 }

@@ -73,9 +73,9 @@ fn replace_bits(word: Word, a: Word, p: u64, count: u64) -> Word
     ensures { result ≡ replaced p count a word }
 {
     let number = word.number();
-    let high = number - low_part(number, p + count);
-    let middle = low_part(a.number(), count) << p;
-    Word::new(high + (middle + low_part(number, p)))
+    let old = low_part(number >> p, count) << p;
+    let new = low_part(a.number(), count) << p;
+    Word::new(number - old + new)
 }
 
 /// A word with its byte replaced.

@@ -26,7 +26,7 @@ fn order_key(word: Word) -> u64
 /// Whether a compares with b as a condition's digit says.
 #[inline(always)]
 #[tactic(auto, unfolding(crate::specs::Conditions::holds))]
-fn compare(digit: u16, a: Word, b: Word) -> bool
+fn compare(digit: u32, a: Word, b: Word) -> bool
     requires { digit < 8 }
     ensures { result ≡ holds digit (signed_value a) (signed_value b) }
 {
@@ -47,7 +47,7 @@ fn compare(digit: u16, a: Word, b: Word) -> bool
 /// Whether a compares with 0 as a condition's digit says.
 #[inline(always)]
 #[tactic(auto, unfolding(crate::specs::Conditions::holds))]
-fn compare_zero(digit: u16, a: Word) -> bool
+fn compare_zero(digit: u32, a: Word) -> bool
     requires { digit < 8 }
     ensures { result ≡ holds digit (signed_value a) (pos 0) }
 {
@@ -60,7 +60,7 @@ fn compare_zero(digit: u16, a: Word) -> bool
         4 => true,
         5 => number < SIGN,
         6 => number != 0,
-        _ => number != 0 && number < SIGN,
+        _ => number.wrapping_sub(1) < SIGN - 1,
     }
 }
 

@@ -24,7 +24,7 @@ fn extend(half: u32) -> u32
 /// Half of a word, put into one half of a destination, by the number of the operation.
 #[inline(always)]
 #[tactic(auto, unfolding(crate::specs::Halves::halfword_of))]
-fn move_half(kind: u16, word: Word, old: Word) -> Word
+fn move_half(kind: u32, word: Word, old: Word) -> Word
     requires { kind < 16 }
     ensures { result ≡ halfword_of kind word old }
 {
@@ -52,7 +52,7 @@ fn move_half(kind: u16, word: Word, old: Word) -> Word
 #[inline(always)]
 #[tactic(auto, using(crate::proofs::Legal::legal_from_read))]
 fn find_destination<M: JobMemory>(
-    mode: u16,
+    mode: u32,
     regs: &Regs,
     memory: &M,
     n: Instruction,
@@ -72,7 +72,7 @@ fn find_destination<M: JobMemory>(
 /// HLL to HLRE
 #[inline(always)]
 #[tactic(auto, unfolding(crate::specs::Halves::half_row))]
-pub fn do_half<M: JobMemory>(mode: u16, regs: &mut Regs, memory: &mut M, n: Instruction) -> Outcome
+pub fn do_half<M: JobMemory>(mode: u32, regs: &mut Regs, memory: &mut M, n: Instruction) -> Outcome
     requires mode { mode ≡ n.op % 4 }
     requires ac { n.ac < 16 }
     requires e { n.e < 2 ^ 18 }

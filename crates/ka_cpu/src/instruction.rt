@@ -12,7 +12,7 @@ use word36::Word;
 /// 20 octal) and its E (below 1000000 octal).
 #[derive(Clone, Copy)]
 pub struct Instruction {
-    pub op: u16,
+    pub op: u32,
     pub ac: usize,
     pub e: u32,
 }
@@ -23,7 +23,7 @@ pub const ILLEGAL: Outcome = Outcome::Stop(StopReason::IllegalAddress);
 /// The operand of MOVE to MOVM and of the halfwords, in a mode (the low two bits of the operation).
 #[inline(always)]
 pub fn operand_to_move<M: JobMemory>(
-    mode: u16,
+    mode: u32,
     regs: &Regs,
     memory: &M,
     n: Instruction,
@@ -44,7 +44,7 @@ pub fn operand_to_move<M: JobMemory>(
 #[inline(always)]
 #[tactic(auto, using(crate::proofs::Legal::legal_from_read))]
 pub fn operand_to_compute<M: JobMemory>(
-    mode: u16,
+    mode: u32,
     regs: &Regs,
     memory: &M,
     n: Instruction,
@@ -71,7 +71,7 @@ pub fn is_legal_place<M: JobMemory>(memory: &M, a: u32) -> bool
 
 /// Whether the result of an instruction with modes can be stored.
 #[inline(always)]
-pub fn can_store<M: JobMemory>(mode: u16, memory: &M, n: Instruction) -> bool
+pub fn can_store<M: JobMemory>(mode: u32, memory: &M, n: Instruction) -> bool
     requires { mode ≡ n.op % 4 }
     ensures { (w : ℕ) → result ≡ memory_legal (M.words memory.now) (to_memory n w) }
 {
@@ -81,7 +81,7 @@ pub fn can_store<M: JobMemory>(mode: u16, memory: &M, n: Instruction) -> bool
 /// Puts a result where MOVE to MOVM and the halfwords put it.
 #[inline(always)]
 pub fn put_moved<M: JobMemory>(
-    mode: u16,
+    mode: u32,
     regs: &mut Regs,
     memory: &mut M,
     n: Instruction,
@@ -110,7 +110,7 @@ pub fn put_moved<M: JobMemory>(
 /// Puts a result where the other families with modes put it.
 #[inline(always)]
 pub fn put_computed<M: JobMemory>(
-    mode: u16,
+    mode: u32,
     regs: &mut Regs,
     memory: &mut M,
     n: Instruction,

@@ -21,10 +21,10 @@ pub const BOTH: u64 = 0o1_000_001;
 pub fn word_of_pc(flags: Flags, pc: Address) -> Word
     ensures { result ≡ pc_word flags pc }
 {
-    let overflow = if flags.overflow { 1 << 35 } else { 0u64 };
-    let carry0 = if flags.carry0 { 1 << 34 } else { 0u64 };
-    let carry1 = if flags.carry1 { 1 << 33 } else { 0u64 };
-    let no_divide = if flags.no_divide { 1 << 23 } else { 0u64 };
+    let overflow = (flags.overflow as u64) << 35;
+    let carry0 = (flags.carry0 as u64) << 34;
+    let carry1 = (flags.carry1 as u64) << 33;
+    let no_divide = (flags.no_divide as u64) << 23;
     Word::new(overflow + carry0 + carry1 + (1 << 30) + no_divide + pc.number() as u64)
 }
 

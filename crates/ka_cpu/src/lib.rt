@@ -6,6 +6,7 @@ mod arithmetic;
 mod blocks;
 mod bytes;
 mod conditions;
+mod families;
 mod halves;
 mod instruction;
 mod jumps;

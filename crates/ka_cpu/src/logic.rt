@@ -14,7 +14,7 @@ use word36::Word;
 /// A Boolean function of A and M, by the number of the operation.
 #[inline(always)]
 #[tactic(auto, unfolding(crate::specs::Booleans::boolean_of))]
-fn combine(kind: u16, a: Word, m: Word) -> Word
+fn combine(kind: u32, a: Word, m: Word) -> Word
     requires { kind < 16 }
     ensures { result ≡ boolean_of kind a m }
 {
@@ -40,7 +40,7 @@ fn combine(kind: u16, a: Word, m: Word) -> Word
 
 /// The operand of a Boolean function, 0 for the four that read no memory.
 #[inline(always)]
-fn boolean_operand<M: JobMemory>(mode: u16, regs: &Regs, memory: &M, n: Instruction) -> Option<Word>
+fn boolean_operand<M: JobMemory>(mode: u32, regs: &Regs, memory: &M, n: Instruction) -> Option<Word>
     requires mode { mode ≡ n.op % 4 }
     requires e { n.e < 2 ^ 18 }
     ensures { result ≡ (if reads_none (n.op / 4 % 16) then Some 0 else computed_operand regs.now (M.words memory.now) n) }
@@ -55,7 +55,7 @@ fn boolean_operand<M: JobMemory>(mode: u16, regs: &Regs, memory: &M, n: Instruct
 #[inline(always)]
 #[tactic(auto, unfolding(crate::specs::Booleans::boolean_row))]
 pub fn do_boolean<M: JobMemory>(
-    mode: u16,
+    mode: u32,
     regs: &mut Regs,
     memory: &mut M,
     n: Instruction,
@@ -81,7 +81,7 @@ pub fn do_boolean<M: JobMemory>(
 
 /// The mask in a word that is found.
 #[inline(always)]
-fn turn_mask(op: u16, word: Word) -> Word
+fn turn_mask(op: u32, word: Word) -> Word
     ensures { result ≡ mask_of op word }
 {
     if op % 2 == 0 { word } else { swap(word) }
@@ -94,7 +94,11 @@ fn read_mask<M: JobMemory>(regs: &Regs, memory: &M, n: Instruction) -> Option<Wo
     ensures { result ≡ masked n.op (mask_source regs.now (M.words memory.now) n) }
 {
     if n.op / 8 % 2 == 0 {
-        return Some(turn_mask(n.op, Word::join(0, n.e)));
+        return Some(if n.op % 2 == 0 {
+            Word::join(0, n.e)
+        } else {
+            Word::join(n.e, 0)
+        });
     }
     match fetch(regs, memory, n.e) {
         None => None,
@@ -104,15 +108,11 @@ fn read_mask<M: JobMemory>(regs: &Regs, memory: &M, n: Instruction) -> Option<Wo
 
 /// Whether a test skips, where none of the masked bits is set, or one is.
 #[inline(always)]
-fn skips(op: u16, none_set: bool) -> bool
+fn skips(op: u32, none_set: bool) -> bool
     ensures { result ≡ skips_on op none_set }
 {
-    match op / 2 % 4 {
-        0 => false,
-        1 => none_set,
-        2 => true,
-        _ => !none_set,
-    }
+    let chosen = op / 2 % 2 == 1 && none_set;
+    chosen != (op / 4 % 2 == 1)
 }
 
 /// Changes the masked bits of AC.
@@ -121,6 +121,9 @@ fn modify(regs: &mut Regs, n: Instruction, a: Word, mask: Word)
     requires { n.ac < 16 }
     ensures { regs.new ≡ record regs.old { ac = ac_put regs.old.ac n.ac (modified n.op a mask) } }
 {
+    if n.op / 16 % 4 == 0 {
+        return;
+    }
     match n.op / 16 % 4 {
         0 => {}
         1 => regs.ac[n.ac] = a.and(mask.not()),

@@ -1,8 +1,8 @@
 //! Registers and core as one memory.
 
-ghost use Rattle.std.specs.Prelude.{◌≡◌, ℕ, List, slice_get, slice_set, nat_lt, length};
+ghost use Rattle.std.specs.Prelude.{◌≡◌, false, ℕ, List, slice_get, slice_set, nat_lt, length};
 ghost use Rattle.std.specs.Borrow.{GName};
-ghost use Rattle.ka_cpu.specs.Places.{word_at, ac_with, core_with};
+ghost use Rattle.ka_cpu.specs.Places.{word_at, is_legal, ac_with, core_with};
 
 use crate::Regs;
 use word36::Word;
@@ -54,5 +54,22 @@ pub fn store<M: JobMemory>(regs: &mut Regs, memory: &mut M, a: u32, word: Word)
         regs.ac[a as usize] = word;
     } else {
         memory.write(a, word);
+    }
+}
+
+/// Stores a word at a place, and says whether it is legal; at one that is not nothing changes.
+#[inline(always)]
+pub fn try_store<M: JobMemory>(regs: &mut Regs, memory: &mut M, a: u32, word: Word) -> bool
+    ensures regs { regs.new ≡ record regs.old { ac = ac_with regs.old.ac a word } }
+    ensures core { M.words memory.new ≡ core_with (M.words memory.old) a word }
+    ensures told { result ≡ is_legal (M.words memory.old) a }
+    ensures kept { result ≡ false → (regs.new ≡ regs.old) × (M.words memory.new ≡ M.words memory.old) }
+    ensures place { M.place memory.new ≡ M.place memory.old }
+{
+    if a < 16 {
+        regs.ac[a as usize] = word;
+        true
+    } else {
+        memory.write(a, word)
     }
 }

@@ -22,7 +22,7 @@ pub fn swap(word: Word) -> Word
 /// MOVE
 #[inline(always)]
 #[tactic(auto, unfolding(crate::specs::Moves::move_row))]
-pub fn do_move<M: JobMemory>(mode: u16, regs: &mut Regs, memory: &mut M, n: Instruction) -> Outcome
+pub fn do_move<M: JobMemory>(mode: u32, regs: &mut Regs, memory: &mut M, n: Instruction) -> Outcome
     requires mode { mode ≡ n.op % 4 }
     requires ac { n.ac < 16 }
     requires e { n.e < 2 ^ 18 }
@@ -44,7 +44,7 @@ pub fn do_move<M: JobMemory>(mode: u16, regs: &mut Regs, memory: &mut M, n: Inst
 /// MOVS
 #[inline(always)]
 #[tactic(auto, unfolding(crate::specs::Moves::movs_row))]
-pub fn do_movs<M: JobMemory>(mode: u16, regs: &mut Regs, memory: &mut M, n: Instruction) -> Outcome
+pub fn do_movs<M: JobMemory>(mode: u32, regs: &mut Regs, memory: &mut M, n: Instruction) -> Outcome
     requires mode { mode ≡ n.op % 4 }
     requires ac { n.ac < 16 }
     requires e { n.e < 2 ^ 18 }
@@ -66,7 +66,7 @@ pub fn do_movs<M: JobMemory>(mode: u16, regs: &mut Regs, memory: &mut M, n: Inst
 /// MOVN
 #[inline(always)]
 #[tactic(auto, unfolding(crate::specs::Moves::movn_row))]
-pub fn do_movn<M: JobMemory>(mode: u16, regs: &mut Regs, memory: &mut M, n: Instruction) -> Outcome
+pub fn do_movn<M: JobMemory>(mode: u32, regs: &mut Regs, memory: &mut M, n: Instruction) -> Outcome
     requires mode { mode ≡ n.op % 4 }
     requires ac { n.ac < 16 }
     requires e { n.e < 2 ^ 18 }
@@ -90,7 +90,7 @@ pub fn do_movn<M: JobMemory>(mode: u16, regs: &mut Regs, memory: &mut M, n: Inst
 /// MOVM
 #[inline(always)]
 #[tactic(auto, unfolding(crate::specs::Moves::movm_row))]
-pub fn do_movm<M: JobMemory>(mode: u16, regs: &mut Regs, memory: &mut M, n: Instruction) -> Outcome
+pub fn do_movm<M: JobMemory>(mode: u32, regs: &mut Regs, memory: &mut M, n: Instruction) -> Outcome
     requires mode { mode ≡ n.op % 4 }
     requires ac { n.ac < 16 }
     requires e { n.e < 2 ^ 18 }

@@ -1,12 +1,12 @@
 //! One instruction.
 
-ghost use Rattle.std.specs.Prelude.{◌≡◌, ◌<◌, ◌^◌, if◌then◌else◌};
+ghost use Rattle.std.specs.Prelude.{◌≡◌, ◌<◌, ◌^◌, if◌then◌else◌, IfOk, IfSome, IsNone, ◌↔◌, false};
 ghost use Rattle.ka_cpu.specs.Addresses.{target_of, used_in};
-ghost use Rattle.ka_cpu.specs.Places.{word_at};
 ghost use Rattle.ka_isa.specs.Families.{family_of};
 ghost use Rattle.ka_cpu.specs.Effects.{EndsAs, stopped};
-ghost use Rattle.ka_cpu.specs.Exec.{ac_field, carried_out, exec, is_listed, op_of, word_behind, word_performed};
-ghost use Rattle.ka_cpu.specs.Turns.{next_word_of, refusal_of};
+ghost use Rattle.ka_cpu.specs.Exec.{is_xct, ac_field, carried_out, exec, is_listed, op_of, word_behind, word_performed};
+ghost use Rattle.ka_isa.specs.declared.Family.TheVariants.{Xct};
+ghost use Rattle.ka_cpu.specs.Turns.{refusal_of};
 ghost use Rattle.ka_cpu.specs.declared.outcome.StopReason.TheVariants.{IllegalInstruction};
 
 use crate::address::find_address;
@@ -14,6 +14,7 @@ use crate::arithmetic::{do_add, do_idiv, do_imul, do_mul, do_sub};
 use crate::blocks::do_blt;
 use crate::bytes::do_byte;
 use crate::conditions::{do_compare, do_jump, do_skip};
+use crate::families::find_family;
 use crate::halves::do_half;
 use crate::instruction::{ILLEGAL, Instruction};
 use crate::jumps::{do_aobj, do_call, do_jfcl, do_jffo, do_jra, do_jrst, do_jsa, do_jsp, do_jsr};
@@ -30,11 +31,11 @@ const MOST_EXECUTES: u32 = 256;
 
 /// The operation of a word.
 #[inline(always)]
-fn operation(word: Word) -> u16
+fn operation(word: Word) -> u32
     ensures value { result ≡ op_of word }
     ensures below { result < 2 ^ 9 }
 {
-    (word.number() >> 27) as u16
+    (word.number() >> 27) as u32
 }
 
 /// The AC field of a word.
@@ -44,109 +45,6 @@ fn accumulator_field(word: Word) -> usize
     ensures below { result < 16 }
 {
     (word.number() >> 23 & 0o17) as usize
-}
-
-/// The family of an operation, by its first two digits: one jump for most families.
-#[inline(always)]
-fn find_family(op: u16) -> Family
-    requires { op < 2 ^ 9 }
-    ensures { result ≡ family_of op }
-{
-    match op >> 3 {
-        0o04 => if op == 0o47 {
-            Family::Calli
-        } else {
-            Family::Other
-        },
-        0o05 => if op == 0o51 {
-            Family::Ttcall
-        } else {
-            Family::Other
-        },
-        0o13 => if op >= 0o133 {
-            Family::Byte
-        } else {
-            Family::Other
-        },
-        0o20 => if op < 0o204 {
-            Family::Move
-        } else {
-            Family::Movs
-        },
-        0o21 => if op < 0o214 {
-            Family::Movn
-        } else {
-            Family::Movm
-        },
-        0o22 => if op < 0o224 {
-            Family::Imul
-        } else {
-            Family::Mul
-        },
-        0o23 => if op < 0o234 {
-            Family::Idiv
-        } else {
-            Family::Other
-        },
-        0o24 => match op {
-            0o243 => Family::Jffo,
-            0o244 | 0o247 => Family::Other,
-            _ => Family::Shift,
-        },
-        0o25 => match op {
-            0o250 => Family::Exch,
-            0o251 => Family::Blt,
-            0o252 | 0o253 => Family::Aobj,
-            0o254 => Family::Jrst,
-            0o255 => Family::Jfcl,
-            0o256 => Family::Xct,
-            _ => Family::Other,
-        },
-        0o26 => match op {
-            0o260 => Family::Pushj,
-            0o261 => Family::Push,
-            0o262 => Family::Pop,
-            0o263 => Family::Popj,
-            0o264 => Family::Jsr,
-            0o265 => Family::Jsp,
-            0o266 => Family::Jsa,
-            _ => Family::Jra,
-        },
-        0o27 => if op < 0o274 { Family::Add } else { Family::Sub },
-        0o30 => Family::Compare,
-        0o31 => Family::Compare,
-        0o32 => Family::JumpOn(Change::Keep),
-        0o33 => Family::SkipOn(Change::Keep),
-        0o34 => Family::JumpOn(Change::Up),
-        0o35 => Family::SkipOn(Change::Up),
-        0o36 => Family::JumpOn(Change::Down),
-        0o37 => Family::SkipOn(Change::Down),
-        0o40 => Family::Boolean,
-        0o41 => Family::Boolean,
-        0o42 => Family::Boolean,
-        0o43 => Family::Boolean,
-        0o44 => Family::Boolean,
-        0o45 => Family::Boolean,
-        0o46 => Family::Boolean,
-        0o47 => Family::Boolean,
-        0o50 => Family::Half,
-        0o51 => Family::Half,
-        0o52 => Family::Half,
-        0o53 => Family::Half,
-        0o54 => Family::Half,
-        0o55 => Family::Half,
-        0o56 => Family::Half,
-        0o57 => Family::Half,
-        0o60 => Family::Test,
-        0o61 => Family::Test,
-        0o62 => Family::Test,
-        0o63 => Family::Test,
-        0o64 => Family::Test,
-        0o65 => Family::Test,
-        0o66 => Family::Test,
-        0o67 => Family::Test,
-        _ => Family::Other,
-    }
 }
 
 /// Calls the body of a common family in the mode of the instruction, each mode with a copy of its
@@ -173,7 +71,7 @@ fn is_listed_operation(family: Family, ac: usize) -> bool
     }
 }
 
-/// Carries out an instruction whose address is known.
+/// Carries out an instruction whose address is known, or, where it is an XCT, does nothing.
 #[inline(always)]
 fn carry_out<M: JobMemory>(
     family: Family,
@@ -181,14 +79,17 @@ fn carry_out<M: JobMemory>(
     memory: &mut M,
     n: Instruction,
     word: Word,
-) -> Outcome
+) -> Option<Outcome>
+    requires op { n.op < 2 ^ 9 }
     requires ac { n.ac < 16 }
     requires e { n.e < 2 ^ 18 }
-    ensures after { record { regs = regs.new; core = M.words memory.new; outcome = result } ≡ (if is_listed family n.ac then carried_out family regs.old (M.words memory.old) n (used_in (target_of regs.old.ac (M.words memory.old) word)) else stopped regs.old (M.words memory.old) IllegalInstruction) }
+    ensures none { IsNone result ↔ (family ≡ Xct) }
+    ensures kept { IsNone result → (regs.new ≡ regs.old) × (M.words memory.new ≡ M.words memory.old) }
+    ensures after { IfSome result (λ o. record { regs = regs.new; core = M.words memory.new; outcome = o } ≡ (if is_listed family n.ac then carried_out family regs.old (M.words memory.old) n (used_in (target_of regs.old.ac (M.words memory.old) word)) else stopped regs.old (M.words memory.old) IllegalInstruction)) }
     ensures place { M.place memory.new ≡ M.place memory.old }
-    ensures ends { EndsAs result regs.old (M.words memory.old) regs.new (M.words memory.new) }
+    ensures ends { IfSome result (λ o. EndsAs o regs.old (M.words memory.old) regs.new (M.words memory.new)) }
 {
-    match family {
+    let outcome = match family {
         Family::Move => in_mode!(do_move, regs, memory, n),
         Family::Movs => do_movs(n.op % 4, regs, memory, n),
         Family::Movn => do_movn(n.op % 4, regs, memory, n),
@@ -203,7 +104,7 @@ fn carry_out<M: JobMemory>(
         Family::Aobj => do_aobj(regs, memory, n),
         Family::Jrst => {
             if n.ac != 0 && n.ac != 2 && n.ac != 4 {
-                return Outcome::Stop(StopReason::IllegalInstruction);
+                return Some(Outcome::Stop(StopReason::IllegalInstruction));
             }
             do_jrst(regs, memory, n, word)
         }
@@ -231,36 +132,68 @@ fn carry_out<M: JobMemory>(
         Family::Byte => do_byte(regs, memory, n),
         Family::Calli => do_call(CallKind::Calli, regs, memory, n),
         Family::Ttcall => do_call(CallKind::Ttcall, regs, memory, n),
-        Family::Xct | Family::Other => Outcome::Stop(StopReason::IllegalInstruction),
-    }
+        Family::Xct => return None,
+        Family::Other => { Outcome::Stop(refusal(n.op, n.ac, StopReason::IllegalInstruction)) }
+    };
+    Some(outcome)
 }
 
-/// Why a word is refused whose address is not found, behind so many XCTs.
-fn refusal(turn: u32, op: u16, ac: usize, reason: StopReason) -> StopReason
-    requires { op < 2 ^ 9 }
-    ensures { result ≡ refusal_of turn (family_of op) ac reason }
-{
-    let family = find_family(op);
-    if !is_listed_operation(family, ac) {
-        return StopReason::IllegalInstruction;
-    }
-    match family {
-        Family::Xct if turn == MOST_EXECUTES => StopReason::AddressChain,
-        _ => reason,
-    }
-}
-
-/// The word that is executed in the place of an XCT behind so many others, whose address is known.
+/// Why a word is refused whose address is not found. It is not inlined, so that the operations that
+/// are left out have a block of code of their own.
 #[inline(never)]
-fn next_word<M: JobMemory>(turn: u32, regs: &Regs, memory: &M, e: u32) -> Result<Word, StopReason>
-    ensures { result ≡ next_word_of turn (word_at regs.now.ac (M.words memory.now) e) }
+fn refusal(op: u32, ac: usize, reason: StopReason) -> StopReason
+    requires { op < 2 ^ 9 }
+    ensures { result ≡ refusal_of (family_of op) ac reason }
 {
-    if turn >= MOST_EXECUTES {
-        return Err(StopReason::AddressChain);
+    if is_listed_operation(find_family(op), ac) {
+        reason
+    } else {
+        StopReason::IllegalInstruction
     }
-    match fetch(regs, memory, e) {
-        None => Err(StopReason::IllegalAddress),
-        Some(word) => Ok(word),
+}
+
+/// Whether a word is an XCT.
+#[tactic(auto, using(crate::proofs::Executes::executions))]
+fn is_execute_word(word: Word) -> bool
+    ensures { result ≡ is_xct word }
+{
+    matches!(find_family(operation(word)), Family::Xct)
+}
+
+/// The word that is executed in the place of a word, over at most 256 XCTs; it is none itself.
+#[inline(never)]
+#[tactic(auto, using(crate::proofs::Executes::xct_steps))]
+fn follow_executes<M: JobMemory>(regs: &Regs, memory: &M, word: Word) -> Result<Word, StopReason>
+    ensures value { result ≡ word_behind 256 regs.now.ac (M.words memory.now) word }
+    ensures plain { IfOk result (λ w. is_xct w ≡ false) }
+{
+    let mut word = word;
+    for turn in 0..MOST_EXECUTES {
+        if !is_execute_word(word) {
+            return Ok(word);
+        }
+        let e = find_address(regs, memory, word)?;
+        match fetch(regs, memory, e) {
+            None => return Err(StopReason::IllegalAddress),
+            Some(next) => word = next,
+        }
+    }
+    if is_execute_word(word) {
+        Err(StopReason::AddressChain)
+    } else {
+        Ok(word)
+    }
+}
+
+/// The same, inlined: so its caller, which is inlined too, keeps no place for what the call returns.
+#[inline(always)]
+fn find_executed<M: JobMemory>(regs: &Regs, memory: &M, word: Word) -> Result<Word, StopReason>
+    ensures value { result ≡ word_behind 256 regs.now.ac (M.words memory.now) word }
+    ensures plain { IfOk result (λ w. is_xct w ≡ false) }
+{
+    match follow_executes(regs, memory, word) {
+        Ok(next) => Ok(next),
+        Err(reason) => Err(reason),
     }
 }
 
@@ -273,22 +206,22 @@ fn execute<M: JobMemory>(regs: &mut Regs, memory: &mut M, word: Word) -> Outcome
     ensures ends { EndsAs result regs.old (M.words memory.old) regs.new (M.words memory.new) }
 {
     let mut word = word;
-    for turn in 0..MOST_EXECUTES + 1 {
+    'words: loop {
         let op = operation(word);
         let ac = accumulator_field(word);
         let e = match find_address(regs, memory, word) {
-            Err(reason) => return Outcome::Stop(refusal(turn, op, ac, reason)),
+            Err(reason) => return Outcome::Stop(refusal(op, ac, reason)),
             Ok(e) => e,
         };
-        match find_family(op) {
-            Family::Xct => match next_word(turn, regs, memory, e) {
-                Err(reason) => return Outcome::Stop(reason),
-                Ok(next) => word = next,
-            },
-            family => return carry_out(family, regs, memory, Instruction { op, ac, e }, word),
+        let instruction = Instruction { op, ac, e };
+        if let Some(outcome) = carry_out(find_family(op), regs, memory, instruction, word) {
+            return outcome;
+        }
+        match find_executed(regs, memory, word) {
+            Err(reason) => return Outcome::Stop(reason),
+            Ok(next) => word = next,
         }
     }
-    unreachable!()
 }
 
 /// Executes the instruction at the PC, in user mode (DECsystem-10 Processor Reference Manual, KA10).

@@ -8,7 +8,7 @@ ghost use Rattle.ka_cpu.specs.Stacks.{counted_down, pushj_row, push_row, pop_row
 
 use crate::instruction::{ILLEGAL, Instruction, is_legal_place};
 use crate::jumps::{BOTH, word_of_pc};
-use crate::memory::store;
+use crate::memory::{store, try_store};
 use crate::{JobMemory, Outcome, Regs, StopReason, fetch};
 use word36::{Address, Word};
 
@@ -25,14 +25,6 @@ fn ending(runs_out: bool) -> Outcome
     }
 }
 
-/// Whether a pushdown pointer has no word more.
-#[inline(always)]
-fn runs_over(pointer: Word) -> bool
-    ensures { result ≡ nat_le (2 ^ 36) (pointer + 2 ^ 18 + 1) }
-{
-    pointer.number() + BOTH > 0o777_777_777_777
-}
-
 /// Whether a pushdown pointer has no word less.
 #[inline(always)]
 fn runs_under(pointer: Word) -> bool
@@ -41,12 +33,14 @@ fn runs_under(pointer: Word) -> bool
     pointer.number() < BOTH
 }
 
-/// A pushdown pointer with one word more.
+/// A pushdown pointer with one word more, and whether there was none left.
 #[inline(always)]
-fn push_down(pointer: Word) -> Word
-    ensures { result ≡ counted_up pointer }
+fn push_down(pointer: Word) -> (Word, bool)
+    ensures word { result.0 ≡ counted_up pointer }
+    ensures runs_out { result.1 ≡ nat_le (2 ^ 36) (pointer + 2 ^ 18 + 1) }
 {
-    pointer.sum(Word::new(BOTH), false)
+    let word = pointer.sum(Word::new(BOTH), false);
+    (word, word.number() < BOTH)
 }
 
 /// A pushdown pointer with one word less.
@@ -68,15 +62,14 @@ pub fn do_pushj<M: JobMemory>(regs: &mut Regs, memory: &mut M, n: Instruction) -
     ensures ends { EndsAs result regs.old (M.words memory.old) regs.new (M.words memory.new) }
 {
     let old = regs.ac[n.ac];
-    let pointer = push_down(old);
-    if !is_legal_place(memory, pointer.right()) {
+    let (pointer, runs_out) = push_down(old);
+    let word = word_of_pc(regs.flags, regs.pc.plus(1));
+    if !try_store(regs, memory, pointer.right(), word) {
         return ILLEGAL;
     }
-    let word = word_of_pc(regs.flags, regs.pc.plus(1));
-    store(regs, memory, pointer.right(), word);
     regs.ac[n.ac] = pointer;
     regs.pc = Address::new(n.e);
-    ending(runs_over(old))
+    ending(runs_out)
 }
 
 /// PUSH
@@ -93,14 +86,14 @@ pub fn do_push<M: JobMemory>(regs: &mut Regs, memory: &mut M, n: Instruction) ->
         return ILLEGAL;
     };
     let old = regs.ac[n.ac];
-    let pointer = push_down(old);
+    let (pointer, runs_out) = push_down(old);
     if !is_legal_place(memory, pointer.right()) {
         return ILLEGAL;
     }
     store(regs, memory, pointer.right(), word);
     regs.ac[n.ac] = pointer;
     regs.pc = regs.pc.plus(1);
-    ending(runs_over(old))
+    ending(runs_out)
 }
 
 /// POP
