@@ -6,3 +6,12 @@ pub mod Sizes
 pub mod Rising
 pub mod Taken
 pub mod Example
+pub mod Apart
+pub mod Counts
+pub mod Fits
+pub mod Ends
+pub mod Layouts
+pub mod Wholes
+pub mod Given
+pub mod Order
+pub mod Told

@@ -1,9 +1,10 @@
 //! The laws of assembly. Each function does nothing: its contract is the law.
-ghost use Rattle.std.specs.Prelude.{◌≡◌, ◌↔◌, ℕ, List, Some};
+ghost use Rattle.std.specs.Prelude.{◌≡◌, ◌↔◌, ℕ, List, Some, Ok};
 ghost use Rattle.mac_text.specs.declared.syntax.Line.{Line as LineView};
 ghost use Rattle.mac_asm.specs.Assembly.{Assembled, IsAssembly};
 ghost use Rattle.asm_laws.specs.Example.{example_image, example_source};
 ghost use Rattle.mac_asm.specs.Found.{image_of};
+ghost use Rattle.mac_asm.specs.Outcome.{outcome_of};
 ghost use Rattle.asm_laws.specs.Laws.{EarlierLabelsSettle, IsByPlace, StatementsFillTheirPlaces, TakesItsPlaces};
 
 /// A source has at most one image.
@@ -15,6 +16,12 @@ pub fn images_are_unique()
 /// satisfies all lines.
 pub fn assemblies_are_found()
     ensures { (source : List ℕ) (image : Assembled) → IsAssembly source image ↔ (image_of source ≡ Some image) }
+{}
+
+/// What a source comes to, line by line and with faults, is an image exactly where the source has
+/// it: so what is asked of each line in turn is what is asked of all lines at once.
+pub fn images_are_told()
+    ensures { (source : List ℕ) (image : Assembled) → IsAssembly source image ↔ (outcome_of source ≡ Ok image) }
 {}
 
 /// The places of an image rise, and each has the word that the lines give it.

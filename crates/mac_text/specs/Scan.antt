@@ -90,6 +90,10 @@ abbrev pub is_at_end : Bool → List ℕ → Bool
 is_at_end in_literal [] = true
 is_at_end in_literal (c ∷ cs) = c == 59 && not in_literal
 
+-- what was read is there
+abbrev pub present : {X : Type 0} → Option (X × Scan) → Option (Option X × Scan)
+present read = read >>= λ x. Some (Some x.0, x.1)
+
 -- what was read before comes first
 abbrev pub with_front : {X : Type 0} → List X → Option (List X × Scan) → Option (List X × Scan)
 with_front front read = read >>= λ x. Some (front ++ x.0, x.1)

@@ -147,14 +147,18 @@ pub fn expression(scan: &mut Scanner<'_>) -> Result<Expression, Fault>
     Ok(expression)
 }
 
-/// An expression, if one comes next.
+/// Reads an expression, if one comes next, and puts it in place.
 #[tactic(auto, unfolding(crate::specs::Expressions::optional_at))]
-pub fn optional_expression(scan: &mut Scanner<'_>) -> Result<Option<Expression>, Fault>
-    ensures { Gives (λ x. (x, scan.new)) result (optional_at scan.old) }
+pub fn optional_expression(
+    scan: &mut Scanner<'_>,
+    place: &mut Option<Expression>,
+) -> Result<(), Fault>
+    ensures { Gives (λ _. (place.new, scan.new)) result (optional_at scan.old) }
 {
-    if scan.is_at_expression() {
-        Ok(Some(expression(scan)?))
+    *place = if scan.is_at_expression() {
+        Some(expression(scan)?)
     } else {
-        Ok(None)
-    }
+        None
+    };
+    Ok(())
 }

@@ -1,9 +1,9 @@
 //! Lines.
 
-ghost use Rattle.std.specs.Prelude.{◌≡◌, ◌≤◌, Some, length, map};
+ghost use Rattle.std.specs.Prelude.{◌≡◌, ◌≤◌, Some, length, map, option_and_then};
 ghost use Rattle.std.specs.List.{list_all};
 ghost use Rattle.mac_text.specs.Scan.{Gives, with_front, items_at};
-ghost use Rattle.mac_text.specs.Lines.{is_ascii, next_label_at, optional_statement_at, whole_statement_at, gives_words, literal_of, literals_of, line_of, radix_after, is_end};
+ghost use Rattle.mac_text.specs.Lines.{is_ascii, next_label_at, optional_statement_at, whole_statement_at, gives_words, literal_data, literal_of, literals_of, line_of, radix_after, is_end};
 
 use crate::expressions::is_name;
 use crate::fault::Fault;
@@ -46,24 +46,25 @@ fn labels(scan: &mut Scanner<'_>) -> Result<Sequence<Symbol>, Fault>
 
 /// The statement of a line, if there is one.
 #[tactic(auto, unfolding(crate::specs::Lines::optional_statement_at))]
-fn optional_statement(scan: &mut Scanner<'_>) -> Result<Option<Statement>, Fault>
-    ensures { Gives (λ x. (x, scan.new)) result (optional_statement_at scan.old) }
+fn optional_statement(scan: &mut Scanner<'_>, place: &mut Option<Statement>) -> Result<(), Fault>
+    ensures { Gives (λ _. (place.new, scan.new)) result (optional_statement_at scan.old) }
 {
     if scan.is_at_end() {
-        Ok(None)
+        *place = None;
     } else {
-        Ok(Some(statement(scan)?))
+        statement(scan, place)?;
     }
+    Ok(())
 }
 
 /// The statement of a line, if there is one, with nothing behind it but a comment.
 #[tactic(auto, unfolding(crate::specs::Lines::whole_statement_at))]
-fn whole_statement(scan: &mut Scanner<'_>) -> Result<Option<Statement>, Fault>
-    ensures { Gives (λ x. (x, scan.new)) result (whole_statement_at scan.old) }
+fn whole_statement(scan: &mut Scanner<'_>, place: &mut Option<Statement>) -> Result<(), Fault>
+    ensures { Gives (λ _. (place.new, scan.new)) result (whole_statement_at scan.old) }
 {
-    let statement = optional_statement(scan)?;
+    optional_statement(scan, place)?;
     if scan.is_at_end() {
-        Ok(statement)
+        Ok(())
     } else {
         Err(Fault::Syntax)
     }
@@ -80,19 +81,12 @@ fn gives_words(data: &Data) -> bool
     }
 }
 
-/// The statement in a literal.
-#[tactic(auto, unfolding(crate::specs::Lines::literal_of))]
-fn literal(alloc: Global, radix: u8, text: &[u8]) -> Result<Data, Fault>
-    requires { radix ≤ 10 }
-    ensures { Gives (λ x. x) result (literal_of radix text.now) }
+/// The words of the statement in a literal, of which there has to be at least one.
+fn literal_data(statement: Option<Statement>) -> Result<Data, Fault>
+    ensures { Gives (λ x. x) result (option_and_then literal_data statement) }
 {
-    let mut scan = Scanner::new(alloc, radix, true, text);
-    let statement = statement(&mut scan)?;
-    if !scan.is_at_end() {
-        return Err(Fault::Syntax);
-    }
     match statement {
-        Statement::Data(data) => {
+        Some(Statement::Data(data)) => {
             if gives_words(&data) {
                 Ok(data)
             } else {
@@ -101,6 +95,21 @@ fn literal(alloc: Global, radix: u8, text: &[u8]) -> Result<Data, Fault>
         }
         _ => Err(Fault::Syntax),
     }
+}
+
+/// The statement in a literal.
+#[tactic(auto, unfolding(crate::specs::Lines::literal_of))]
+fn literal(alloc: Global, radix: u8, text: &[u8]) -> Result<Data, Fault>
+    requires { radix ≤ 10 }
+    ensures { Gives (λ x. x) result (literal_of radix text.now) }
+{
+    let mut scan = Scanner::new(alloc, radix, true, text);
+    let mut place = None;
+    statement(&mut scan, &mut place)?;
+    if !scan.is_at_end() {
+        return Err(Fault::Syntax);
+    }
+    literal_data(place)
 }
 
 /// The statements in the literals of a line.
@@ -121,24 +130,21 @@ fn is_ascii(text: &[u8]) -> bool
     text.iter().all(|c| *c < 128)
 }
 
-/// What stands on a line.
+/// Reads what stands on a line, and puts it in place.
+#[inline(never)]
 #[tactic(auto, unfolding(crate::specs::Lines::line_of))]
-pub fn line(alloc: Global, radix: u8, text: &[u8]) -> Result<Line, Fault>
+pub fn read_line(alloc: Global, radix: u8, text: &[u8], place: &mut Line) -> Result<(), Fault>
     requires { radix ≤ 10 }
-    ensures { Gives (λ x. x) result (line_of radix text.now) }
+    ensures { Gives (λ _. place.new) result (line_of radix text.now) }
 {
     if !is_ascii(text) {
         return Err(Fault::Syntax);
     }
     let mut scan = Scanner::new(alloc, radix, false, text);
-    let labels = labels(&mut scan)?;
-    let statement = whole_statement(&mut scan)?;
-    let literals = literals(alloc, radix, scan.cuts())?;
-    Ok(Line {
-        labels,
-        statement,
-        literals,
-    })
+    place.labels = labels(&mut scan)?;
+    whole_statement(&mut scan, &mut place.statement)?;
+    place.literals = literals(alloc, radix, scan.cuts())?;
+    Ok(())
 }
 
 /// The radix of the numbers on the lines behind this one.

@@ -32,6 +32,24 @@ fn value(alloc: Global, radix: u8, digits: &[u8]) -> Result<Natural, AllocError>
     requires { radix ≤ 10 }
     ensures { IfOk result (λ n. n ≡ digits_value radix digits.now) }
 {
+    let mut number = 0u64;
+    for digit in digits {
+        let digit = u64::from(digit.saturating_sub(b'0'));
+        let (low, high) = number.carrying_mul(u64::from(radix), digit);
+        if high != 0 {
+            return long_value(alloc, radix, digits);
+        }
+        number = low;
+    }
+    Natural::from_u64(alloc, number)
+}
+
+/// The number of these digits, of any size.
+#[inline(never)]
+fn long_value(alloc: Global, radix: u8, digits: &[u8]) -> Result<Natural, AllocError>
+    requires { radix ≤ 10 }
+    ensures { IfOk result (λ n. n ≡ digits_value radix digits.now) }
+{
     let mut number = Natural::new(alloc);
     for digit in digits {
         number.push_digit(u32::from(radix), u32::from(digit.saturating_sub(b'0')))?;

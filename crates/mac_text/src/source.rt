@@ -5,9 +5,9 @@ ghost use Rattle.std.specs.Str.Lines.{lines, strip_carriage_return};
 ghost use Rattle.mac_text.specs.Lines.{program_of, Parses};
 
 use crate::fault::{Fault, ParseError};
-use crate::line::{is_end, line, radix_after};
+use crate::line::{is_end, radix_after, read_line};
 use crate::sequence::Sequence;
-use crate::syntax::Program;
+use crate::syntax::{Line, Program};
 use std::alloc::Global;
 
 /// The first line of a text, without its line feed and a carriage return before it, and what stands behind it.
@@ -46,11 +46,16 @@ pub fn parse(alloc: Global, source: &[u8]) -> Result<Program, ParseError>
     let mut rest = source;
     while !rest.is_empty() {
         let (text, behind) = split_line(rest);
-        let line = match line(alloc, radix, text) {
-            Ok(line) => line,
+        let mut line = Line {
+            labels: Sequence::new(alloc),
+            statement: None,
+            literals: Sequence::new(alloc),
+        };
+        match read_line(alloc, radix, text, &mut line) {
+            Ok(()) => {}
             Err(Fault::Memory) => return Err(ParseError::Memory),
             Err(Fault::Syntax) => return Err(ParseError::Syntax(program.len() + 1)),
-        };
+        }
         radix = radix_after(&line, radix);
         let ends = is_end(&line);
         program.push(line)?;

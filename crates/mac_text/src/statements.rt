@@ -2,8 +2,9 @@
 
 ghost use Rattle.std.specs.Prelude.{◌≡◌, IsTrue, length};
 ghost use Rattle.std.specs.Str.{IsAscii};
-ghost use Rattle.mac_text.specs.Scan.{Gives, with_front, items_at};
-ghost use Rattle.mac_text.specs.Statements.{index_at, operand_at, operands_at, is_allowed, instruction_at, pair_at, next_expression_at, expressions_at, decimal_at, point_at, value_at, form_at, operation_of, statement_at};
+ghost use Rattle.mac_text.specs.Scan.{Gives, present, with_front, items_at};
+ghost use Rattle.mac_text.specs.declared.syntax.Data.TheVariants as data_of;
+ghost use Rattle.mac_text.specs.Statements.{with_data, index_at, operand_at, operands_at, is_allowed, instruction_at, pair_at, next_expression_at, expressions_at, decimal_at, point_at, value_at, form_at, operation_of, statement_at};
 
 use crate::expressions::{expression, is_name, optional_expression};
 use crate::fault::Fault;
@@ -19,82 +20,84 @@ use ka_isa::{Named, named};
 
 /// The register of an address part: an expression in parentheses, or nothing.
 #[tactic(auto, unfolding(crate::specs::Statements::index_at))]
-fn index(scan: &mut Scanner<'_>) -> Result<Option<Expression>, Fault>
-    ensures { Gives (λ x. (x, scan.new)) result (index_at scan.old) }
+fn index(scan: &mut Scanner<'_>, place: &mut Option<Expression>) -> Result<(), Fault>
+    ensures { Gives (λ _. (place.new, scan.new)) result (index_at scan.old) }
 {
     if !scan.eat(b'(') {
-        return Ok(None);
+        *place = None;
+        return Ok(());
     }
-    let register = expression(scan)?;
+    *place = Some(expression(scan)?);
     if !scan.eat(b')') {
         return Err(Fault::Syntax);
     }
-    Ok(Some(register))
+    Ok(())
 }
 
 /// An address part, of which each piece may be missing.
 #[tactic(auto, unfolding(crate::specs::Statements::operand_at))]
-fn operand(scan: &mut Scanner<'_>) -> Result<Operand, Fault>
-    ensures { Gives (λ x. (x, scan.new)) result (operand_at scan.old) }
+fn operand(scan: &mut Scanner<'_>, place: &mut Operand) -> Result<(), Fault>
+    ensures { Gives (λ _. (place.new, scan.new)) result (operand_at scan.old) }
 {
-    let indirect = scan.eat(b'@');
-    let address = optional_expression(scan)?;
-    let index = index(scan)?;
-    Ok(Operand {
-        indirect,
-        address,
-        index,
-    })
+    place.indirect = scan.eat(b'@');
+    optional_expression(scan, &mut place.address)?;
+    index(scan, &mut place.index)?;
+    Ok(())
 }
 
 /// The accumulator and the address part of an instruction.
 #[tactic(auto, unfolding(crate::specs::Statements::operands_at))]
-fn operands(scan: &mut Scanner<'_>) -> Result<(Option<Expression>, Operand), Fault>
-    ensures { Gives (λ x. (x, scan.new)) result (operands_at scan.old) }
+fn operands(
+    scan: &mut Scanner<'_>,
+    accumulator: &mut Option<Expression>,
+    place: &mut Operand,
+) -> Result<(), Fault>
+    ensures { Gives (λ _. ((accumulator.new, place.new), scan.new)) result (operands_at scan.old) }
 {
-    match optional_expression(scan)? {
-        None => Ok((None, operand(scan)?)),
-        Some(first) => {
-            if scan.eat(b',') {
-                return Ok((Some(first), operand(scan)?));
-            }
-            let index = index(scan)?;
-            Ok((
-                None,
-                Operand {
-                    indirect: false,
-                    address: Some(first),
-                    index,
-                },
-            ))
-        }
+    optional_expression(scan, accumulator)?;
+    if accumulator.is_none() || scan.eat(b',') {
+        operand(scan, place)?;
+        return Ok(());
     }
+    place.indirect = false;
+    place.address = accumulator.take();
+    index(scan, &mut place.index)?;
+    Ok(())
 }
 
 /// Whether the name may have what was written behind it.
-fn is_allowed(named: Named, instruction: &Instruction) -> bool
-    ensures { result ≡ is_allowed named instruction.now.accumulator instruction.now.operand }
+fn is_allowed(named: Named, accumulator: &Option<Expression>, operand: &Operand) -> bool
+    ensures { result ≡ is_allowed named accumulator.now operand.now }
 {
-    let operand = &instruction.operand;
-    (named.ac || instruction.accumulator.is_none())
+    (named.ac || accumulator.is_none())
         && (named.addr || !operand.indirect && operand.address.is_none() && operand.index.is_none())
 }
 
+/// What follows the name of an instruction.
 #[tactic(auto, unfolding(crate::specs::Statements::instruction_at))]
-fn instruction(named: Named, scan: &mut Scanner<'_>) -> Result<Instruction, Fault>
-    ensures { Gives (λ x. (x, scan.new)) result (instruction_at named scan.old) }
+fn instruction(
+    named: Named,
+    scan: &mut Scanner<'_>,
+    place: &mut Option<Statement>,
+) -> Result<(), Fault>
+    ensures { Gives (λ _. (place.new, scan.new)) result (present (with_data data_of.Instruction (instruction_at named scan.old))) }
 {
-    let (accumulator, operand) = operands(scan)?;
-    let instruction = Instruction {
+    *place = Some(Statement::Data(Data::Instruction(Instruction {
         word: named.word,
-        accumulator,
-        operand,
-    };
-    if is_allowed(named, &instruction) {
-        Ok(instruction)
-    } else {
-        Err(Fault::Syntax)
+        accumulator: None,
+        operand: Operand {
+            indirect: false,
+            address: None,
+            index: None,
+        },
+    })));
+    if let Some(Statement::Data(Data::Instruction(given))) = place {
+        operands(scan, &mut given.accumulator, &mut given.operand)?;
+        if is_allowed(named, &given.accumulator, &given.operand) {
+            return Ok(());
+        }
     }
+    Err(Fault::Syntax)
 }
 
 /// Two expressions with a comma between them.
@@ -173,12 +176,17 @@ fn point(scan: &mut Scanner<'_>) -> Result<Data, Fault>
     if !scan.eat(b',') {
         return Err(Fault::Syntax);
     }
-    let operand = operand(scan)?;
+    let mut place = Operand {
+        indirect: false,
+        address: None,
+        index: None,
+    };
+    operand(scan, &mut place)?;
     if !scan.eat(b',') {
-        return Ok(Data::Point(size, operand, None));
+        return Ok(Data::Point(size, place, None));
     }
     let position = decimal(scan)?;
-    Ok(Data::Point(size, operand, Some(position)))
+    Ok(Data::Point(size, place, Some(position)))
 }
 
 /// An expression, or two halves.
@@ -201,7 +209,11 @@ fn form_statement(form: Form, scan: &mut Scanner<'_>) -> Result<Statement, Fault
 {
     match form {
         Form::Loc => Ok(Statement::Loc(expression(scan)?)),
-        Form::End => Ok(Statement::End(optional_expression(scan)?)),
+        Form::End => {
+            let mut start = None;
+            optional_expression(scan, &mut start)?;
+            Ok(Statement::End(start))
+        }
         Form::Radix => Ok(Statement::Radix(decimal(scan)?)),
         Form::Title => {
             scan.skip_to_comment();
@@ -238,26 +250,46 @@ fn operation(name: &[u8]) -> Option<Named>
     }
 }
 
-/// A statement. Its first name tells its form or its operation; where it tells none, it is a value.
+/// Reads an expression or two halves, and puts the statement in place.
+#[inline(never)]
+fn value_statement(scan: &mut Scanner<'_>, place: &mut Option<Statement>) -> Result<(), Fault>
+    ensures { Gives (λ _. (place.new, scan.new)) result (present (with_data (λ d. d) (value_at scan.old))) }
+{
+    *place = Some(Statement::Data(value(scan)?));
+    Ok(())
+}
+
+/// Reads what follows the name of a form, and puts the statement in place.
+#[inline(never)]
+fn formed_statement(
+    form: Form,
+    scan: &mut Scanner<'_>,
+    place: &mut Option<Statement>,
+) -> Result<(), Fault>
+    ensures { Gives (λ _. (place.new, scan.new)) result (present (form_at form scan.old)) }
+{
+    *place = Some(form_statement(form, scan)?);
+    Ok(())
+}
+
+/// Reads a statement, and puts it in place. Its first name tells its form or its operation; where it tells none, it
+/// is a value.
 #[tactic(auto, unfolding(crate::specs::Statements::statement_at))]
-pub fn statement(scan: &mut Scanner<'_>) -> Result<Statement, Fault>
-    ensures { Gives (λ x. (x, scan.new)) result (statement_at scan.old) }
+pub fn statement(scan: &mut Scanner<'_>, place: &mut Option<Statement>) -> Result<(), Fault>
+    ensures { Gives (λ _. (place.new, scan.new)) result (present (statement_at scan.old)) }
 {
     scan.skip();
     let word = scan.word();
-    if !is_name(word) {
-        return Ok(Statement::Data(value(scan)?));
-    }
-    let name = folded(word);
-    if let Some(form) = form_of(name.as_slice()) {
-        scan.advance(word.len());
-        return form_statement(form, scan);
-    }
-    match operation(name.as_slice()) {
-        None => Ok(Statement::Data(value(scan)?)),
-        Some(named) => {
+    if is_name(word) {
+        let name = folded(word);
+        if let Some(form) = form_of(name.as_slice()) {
             scan.advance(word.len());
-            Ok(Statement::Data(Data::Instruction(instruction(named, scan)?)))
+            return formed_statement(form, scan, place);
+        }
+        if let Some(named) = operation(name.as_slice()) {
+            scan.advance(word.len());
+            return instruction(named, scan, place);
         }
     }
+    value_statement(scan, place)
 }

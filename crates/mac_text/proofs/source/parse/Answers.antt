@@ -16,13 +16,13 @@ returns-in-Err-Syntax c =
 
 pub returns-then-ends : goal.returns-then-ends
 returns-then-ends c =
-    source_ends c.loop-rest.program c.loop-rest.radix (length c.loop-rest.program + 1) (lines c.loop-rest.rest.now) (lines c.split_line.result.1.now) c.split_line.result.0.now c.in-Ok.line _ c.split_line.ensures.line c.in-Ok.ensures (sym c.is_end-ends.ensures ∙ c.if-ends.true) c.loop-rest.invariant.2
+    source_ends c.loop-rest.program c.loop-rest.radix (length c.loop-rest.program + 1) (lines c.loop-rest.rest.now) (lines c.split_line.result.1.now) c.split_line.result.0.now c.read_line.new.place _ c.split_line.ensures.line c.in-Ok.ensures (sym c.is_end-ends.ensures ∙ c.if-ends.true) c.loop-rest.invariant.2
     ∙ ap Ok (sym c.in_ok-push.ensures)
 
 pub loop-rest-preserved : goal.loop-rest-preserved
 loop-rest-preserved c =
-    let longer = one_longer c.loop-rest.program c.push.new.self c.in-Ok.line c.in_ok-push.ensures in
-    let goes_on = source_goes_on c.loop-rest.program c.loop-rest.radix (length c.loop-rest.program + 1) c.radix_after-radix.result (length c.push.new.self + 1) (lines c.loop-rest.rest.now) (lines c.split_line.result.1.now) c.split_line.result.0.now c.in-Ok.line _ c.split_line.ensures.line c.in-Ok.ensures (sym c.is_end-ends.ensures ∙ c.if-ends.false) c.radix_after-radix.ensures.value (ap (λ n. n + 1) longer) c.loop-rest.invariant.2 in
+    let longer = one_longer c.loop-rest.program c.push.new.self c.read_line.new.place c.in_ok-push.ensures in
+    let goes_on = source_goes_on c.loop-rest.program c.loop-rest.radix (length c.loop-rest.program + 1) c.radix_after-radix.result (length c.push.new.self + 1) (lines c.loop-rest.rest.now) (lines c.split_line.result.1.now) c.split_line.result.0.now c.read_line.new.place _ c.split_line.ensures.line c.in-Ok.ensures (sym c.is_end-ends.ensures ∙ c.if-ends.false) c.radix_after-radix.ensures.value (ap (λ n. n + 1) longer) c.loop-rest.invariant.2 in
     (c.radix_after-radix.ensures.most, omega (arith, longer), ap (λ p. with_lines p (lines_from c.radix_after-radix.result (length c.push.new.self + 1) (lines c.split_line.result.1.now))) c.in_ok-push.ensures ∙ goes_on)
 
 pub returns : goal.returns
