@@ -3,4 +3,4 @@
 
 mod laws;
 
-pub use laws::circles_are_told;
+pub use laws::{arrivals_grant_nobody, circles_are_told, staying_are_left};
