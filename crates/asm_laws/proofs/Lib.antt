@@ -15,3 +15,5 @@ pub mod Wholes
 pub mod Given
 pub mod Order
 pub mod Told
+pub mod FaultLines
+pub mod Phases

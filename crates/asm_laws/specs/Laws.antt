@@ -1,8 +1,10 @@
--- Laws on places, values and words (this project's profile).
-use Rattle.std.specs.Prelude.{◌≡◌, ℕ, ◌+◌, ◌<◌, ◌^◌, true, nat_eq, is_some, List, [], ◌∷◌, ◌++◌, length, flat_map, Option, Some}
+-- Laws on places, values, words and faults (this project's profile).
+use Rattle.std.specs.Prelude.{◌≡◌, ◌↔◌, ℕ, ◌+◌, ◌<◌, ◌≤◌, ◌^◌, true, false, nat_eq, is_some, List, [], ◌∷◌, ◌++◌, length, flat_map, Option, Some, Ok, Err}
 use Rattle.std.specs.List.{range_with_len}
 use Rattle.std.specs.List.Sorted.{IsStrictlyIncreasing}
 use Rattle.std.specs.Map.{lookup, keys_of}
+use Rattle.std.specs.Str.Lines.{lines}
+use Rattle.mac_text.specs.Lines.{program_of}
 use Rattle.mac_text.specs.declared.syntax.SignedTerm.{SignedTerm}
 use Rattle.mac_text.specs.declared.syntax.Data.{Data}
 use Rattle.mac_text.specs.declared.syntax.Statement.{Statement}
@@ -11,6 +13,8 @@ use Rattle.mac_text.specs.declared.syntax.Line.{Line}
 use Rattle.mac_asm.specs.Values.{value_of}
 use Rattle.mac_asm.specs.Places.{Labels, names_at, size_of, are_among, is_count_settled, are_settled, Located, place_after, literal_sizes}
 use Rattle.mac_asm.specs.Assembly.{Assembled, IsAssembly, all_words_of, first_place, lines_at, lines_placed, words_at}
+use Rattle.mac_asm.specs.declared.error.AsmCode.TheVariants.{NoEnd, Syntax}
+use Rattle.mac_asm.specs.Outcome.{Fault, has_end, outcome_of}
 
 -- an expression of earlier labels and no literal is one that earlier labels make known, and later ones do not change it
 pub record EarlierLabelsSettle : Type 0 where
@@ -56,3 +60,17 @@ abbrev pub TakesItsPlaces : Labels → List Line → List (ℕ × ℕ) → Type 
 TakesItsPlaces labels lines words =
     are_settled [] lines ≡ true → words_at (lines_placed labels lines) ≡ Some words
     → keys_of words ≡ places_taken labels lines
+
+-- a fault is told only of a source without an image, and names a line of it, counted from 1; of a source of no lines, 0
+pub record TellsFault (source : List ℕ) (fault : Fault) : Type 0 where
+  pub no_image : (image : Assembled) → IsAssembly source image → ⊥
+  pub within : fault.line ≤ length (lines source)
+  pub counted : 0 < length (lines source) → 0 < fault.line
+
+-- the first line out of the grammar is told as such, and a source whose last line is not END at the number of its lines;
+-- and these codes mean nothing else
+pub record TellsReading (source : List ℕ) (line : ℕ) : Type 0 where
+  pub syntax_at : (outcome_of source ≡ Err (record { line = line; code = Syntax })) ↔ (program_of source ≡ Err line)
+  pub no_end :
+      (outcome_of source ≡ Err (record { line = line; code = NoEnd }))
+      ↔ ((read : List Line) × (program_of source ≡ Ok read) × (has_end read ≡ false) × (length read ≡ line))

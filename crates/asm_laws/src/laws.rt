@@ -1,11 +1,11 @@
 //! The laws of assembly. Each function does nothing: its contract is the law.
-ghost use Rattle.std.specs.Prelude.{◌≡◌, ◌↔◌, ℕ, List, Some, Ok};
+ghost use Rattle.std.specs.Prelude.{◌≡◌, ◌↔◌, ℕ, List, Some, Ok, Err};
 ghost use Rattle.mac_text.specs.declared.syntax.Line.{Line as LineView};
 ghost use Rattle.mac_asm.specs.Assembly.{Assembled, IsAssembly};
 ghost use Rattle.asm_laws.specs.Example.{example_image, example_source};
 ghost use Rattle.mac_asm.specs.Found.{image_of};
-ghost use Rattle.mac_asm.specs.Outcome.{outcome_of};
-ghost use Rattle.asm_laws.specs.Laws.{EarlierLabelsSettle, IsByPlace, StatementsFillTheirPlaces, TakesItsPlaces};
+ghost use Rattle.mac_asm.specs.Outcome.{Fault, outcome_of};
+ghost use Rattle.asm_laws.specs.Laws.{EarlierLabelsSettle, IsByPlace, StatementsFillTheirPlaces, TakesItsPlaces, TellsFault, TellsReading};
 
 /// A source has at most one image.
 pub fn images_are_unique()
@@ -22,6 +22,16 @@ pub fn assemblies_are_found()
 /// it: so what is asked of each line in turn is what is asked of all lines at once.
 pub fn images_are_told()
     ensures { (source : List ℕ) (image : Assembled) → IsAssembly source image ↔ (outcome_of source ≡ Ok image) }
+{}
+
+/// A fault is told only of a source without an image, and names a line of it.
+pub fn faults_tell_lines()
+    ensures { (source : List ℕ) (fault : Fault) → outcome_of source ≡ Err fault → TellsFault source fault }
+{}
+
+/// A line out of the grammar, and that END is missing, are told where they are so and nowhere else.
+pub fn reading_is_told()
+    ensures { (source : List ℕ) (line : ℕ) → TellsReading source line }
 {}
 
 /// The places of an image rise, and each has the word that the lines give it.
