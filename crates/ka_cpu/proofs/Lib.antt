@@ -8,4 +8,4 @@ pub mod BytePlaces
 pub mod Chain
 pub mod ChainLaw
 pub mod Zeros
-pub mod FamilyTable
+pub mod RowTable

@@ -1,7 +1,6 @@
 -- Words of private clauses, which `exec` does not use.
-use Rattle.std.specs.Prelude.{ℕ, zero, suc, ◌+◌, List, [], ◌∷◌, if◌then◌else◌}
+use Rattle.std.specs.Prelude.{ℕ, if◌then◌else◌}
 use Rattle.ka_isa.specs.declared.Family.{Family}
-use Rattle.ka_isa.specs.Families.{family_of}
 use Rattle.ka_cpu.specs.Exec.{is_listed}
 use Rattle.ka_cpu.specs.declared.outcome.StopReason.{StopReason}
 use Rattle.ka_cpu.specs.declared.outcome.StopReason.TheVariants.{IllegalInstruction}
@@ -9,8 +8,3 @@ use Rattle.ka_cpu.specs.declared.outcome.StopReason.TheVariants.{IllegalInstruct
 -- why a word is refused whose address is not found
 abbrev pub refusal_of : Family → ℕ → StopReason → StopReason
 refusal_of f ac r = if is_listed f ac then r else IllegalInstruction
-
--- the families of k operations from op on
-abbrev pub families_from : ℕ → ℕ → List Family
-families_from zero op = []
-families_from (suc k) op = family_of op ∷ families_from k (op + 1)

@@ -29,11 +29,12 @@ pub fn do_add<M: JobMemory>(mode: u32, regs: &mut Regs, memory: &mut M, n: Instr
     let Some(word) = operand_to_compute(mode, regs, memory, n) else {
         return ILLEGAL;
     };
+    let next = regs.pc.plus(1);
     let a = regs.ac[n.ac];
     put_computed(mode, regs, memory, n, a.sum(word, false));
     let (zero, one) = a.carries(word, false);
     set_carries(regs, zero, one);
-    regs.pc = regs.pc.plus(1);
+    regs.pc = next;
     Outcome::Done
 }
 
@@ -51,11 +52,12 @@ pub fn do_sub<M: JobMemory>(mode: u32, regs: &mut Regs, memory: &mut M, n: Instr
     let Some(word) = operand_to_compute(mode, regs, memory, n) else {
         return ILLEGAL;
     };
+    let next = regs.pc.plus(1);
     let a = regs.ac[n.ac];
     put_computed(mode, regs, memory, n, a.sum(word.not(), true));
     let (zero, one) = a.carries(word.not(), true);
     set_carries(regs, zero, one);
-    regs.pc = regs.pc.plus(1);
+    regs.pc = next;
     Outcome::Done
 }
 

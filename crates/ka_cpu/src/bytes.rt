@@ -128,20 +128,21 @@ fn move_byte<M: JobMemory>(
     ensures place { M.place memory.new ≡ M.place memory.old }
     ensures ends { EndsAs result regs.old (M.words memory.old) regs.new (M.words memory.new) }
 {
+    let next = regs.pc.plus(1);
     let a = regs.ac[n.ac];
     if is_load {
         regs.ac[n.ac] = load_byte(pointer, word);
     } else {
         store(regs, memory, e, deposit_byte(pointer, a, word));
     }
-    regs.pc = regs.pc.plus(1);
+    regs.pc = next;
     Outcome::Done
 }
 
 /// IBP
 #[inline(always)]
 #[tactic(auto, unfolding(crate::specs::Bytes::byte_after))]
-fn do_ibp<M: JobMemory>(regs: &mut Regs, memory: &mut M, n: Instruction) -> Outcome
+pub fn do_ibp<M: JobMemory>(regs: &mut Regs, memory: &mut M, n: Instruction) -> Outcome
     requires op { n.op ≡ 0o133 }
     ensures after { record { regs = regs.new; core = M.words memory.new; outcome = result } ≡ byte_after regs.old (M.words memory.old) n }
     ensures place { M.place memory.new ≡ M.place memory.old }
@@ -158,7 +159,12 @@ fn do_ibp<M: JobMemory>(regs: &mut Regs, memory: &mut M, n: Instruction) -> Outc
 /// LDB, DPB
 #[inline(always)]
 #[tactic(auto, unfolding(crate::specs::Bytes::byte_after))]
-fn use_byte<M: JobMemory>(is_load: bool, regs: &mut Regs, memory: &mut M, n: Instruction) -> Outcome
+pub fn use_byte<M: JobMemory>(
+    is_load: bool,
+    regs: &mut Regs,
+    memory: &mut M,
+    n: Instruction,
+) -> Outcome
     requires ac { n.ac < 16 }
     requires load { loads n.op ≡ is_load }
     requires increment { increments n.op ≡ false }
@@ -178,7 +184,7 @@ fn use_byte<M: JobMemory>(is_load: bool, regs: &mut Regs, memory: &mut M, n: Ins
 /// ILDB, IDPB: where the byte is refused the old pointer is stored back.
 #[inline(always)]
 #[tactic(auto, using(crate::proofs::BytePlaces::restore_steps), unfolding(crate::specs::Bytes::byte_after))]
-fn use_next_byte<M: JobMemory>(
+pub fn use_next_byte<M: JobMemory>(
     is_load: bool,
     regs: &mut Regs,
     memory: &mut M,
@@ -203,22 +209,5 @@ fn use_next_byte<M: JobMemory>(
             Outcome::Stop(reason)
         }
         Ok((e, word)) => move_byte(is_load, regs, memory, n, new, e, word),
-    }
-}
-
-/// IBP, ILDB, LDB, IDPB, DPB
-#[inline(always)]
-pub fn do_byte<M: JobMemory>(regs: &mut Regs, memory: &mut M, n: Instruction) -> Outcome
-    requires { n.ac < 16 }
-    ensures after { record { regs = regs.new; core = M.words memory.new; outcome = result } ≡ byte_after regs.old (M.words memory.old) n }
-    ensures place { M.place memory.new ≡ M.place memory.old }
-    ensures ends { EndsAs result regs.old (M.words memory.old) regs.new (M.words memory.new) }
-{
-    match n.op {
-        0o133 => do_ibp(regs, memory, n),
-        0o134 => use_next_byte(true, regs, memory, n),
-        0o135 => use_byte(true, regs, memory, n),
-        0o136 => use_next_byte(false, regs, memory, n),
-        _ => use_byte(false, regs, memory, n),
     }
 }

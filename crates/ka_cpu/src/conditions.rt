@@ -66,11 +66,17 @@ fn compare_zero(digit: u32, a: Word) -> bool
 
 /// The operand of CAI and CAM.
 #[inline(always)]
-fn operand_to_compare<M: JobMemory>(regs: &Regs, memory: &M, n: Instruction) -> Option<Word>
-    requires { n.e < 2 ^ 18 }
+fn operand_to_compare<M: JobMemory>(
+    is_immediate: bool,
+    regs: &Regs,
+    memory: &M,
+    n: Instruction,
+) -> Option<Word>
+    requires op { nat_lt n.op 0o310 ≡ is_immediate }
+    requires e { n.e < 2 ^ 18 }
     ensures { result ≡ (if nat_lt n.op 0o310 then Some n.e else word_at regs.now.ac (M.words memory.now) n.e) }
 {
-    if n.op < 0o310 {
+    if is_immediate {
         Some(Word::join(0, n.e))
     } else {
         fetch(regs, memory, n.e)
@@ -80,14 +86,20 @@ fn operand_to_compare<M: JobMemory>(regs: &Regs, memory: &M, n: Instruction) -> 
 /// CAI, CAM
 #[inline(always)]
 #[tactic(auto, unfolding(crate::specs::Conditions::compare_row))]
-pub fn do_compare<M: JobMemory>(regs: &mut Regs, memory: &mut M, n: Instruction) -> Outcome
+pub fn do_compare<M: JobMemory>(
+    is_immediate: bool,
+    regs: &mut Regs,
+    memory: &mut M,
+    n: Instruction,
+) -> Outcome
+    requires op { nat_lt n.op 0o310 ≡ is_immediate }
     requires ac { n.ac < 16 }
     requires e { n.e < 2 ^ 18 }
     ensures after { record { regs = regs.new; core = M.words memory.new; outcome = result } ≡ finished regs.old (M.words memory.old) n (compare_row regs.old (M.words memory.old) n) }
     ensures place { M.place memory.new ≡ M.place memory.old }
     ensures ends { EndsAs result regs.old (M.words memory.old) regs.new (M.words memory.new) }
 {
-    let Some(word) = operand_to_compare(regs, memory, n) else {
+    let Some(word) = operand_to_compare(is_immediate, regs, memory, n) else {
         return ILLEGAL;
     };
     let test = compare(n.op % 8, regs.ac[n.ac], word);
@@ -199,6 +211,7 @@ pub fn do_skip<M: JobMemory>(
     let Some(old) = read_to_change(change, regs, memory, n.e) else {
         return ILLEGAL;
     };
+    let pc = regs.pc;
     let word = change_word(change, old);
     store_changed(change, regs, memory, n.e, word);
     if n.ac != 0 {
@@ -206,6 +219,6 @@ pub fn do_skip<M: JobMemory>(
     }
     set_change_flags(change, regs, old);
     let test = compare_zero(n.op % 8, word);
-    regs.pc = regs.pc.plus(if test { 2 } else { 1 });
+    regs.pc = pc.plus(if test { 2 } else { 1 });
     Outcome::Done
 }

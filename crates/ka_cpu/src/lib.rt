@@ -6,7 +6,6 @@ mod arithmetic;
 mod blocks;
 mod bytes;
 mod conditions;
-mod families;
 mod halves;
 mod instruction;
 mod jumps;
@@ -16,6 +15,7 @@ mod moves;
 mod outcome;
 mod processor;
 mod registers;
+mod rows;
 mod shifts;
 mod stacks;
 

@@ -115,16 +115,14 @@ fn skips(op: u32, none_set: bool) -> bool
     chosen != (op / 4 % 2 == 1)
 }
 
-/// Changes the masked bits of AC.
+/// Changes the masked bits of AC: nothing, zeros, complement, ones.
 #[inline(always)]
-fn modify(regs: &mut Regs, n: Instruction, a: Word, mask: Word)
-    requires { n.ac < 16 }
+fn modify(change: u32, regs: &mut Regs, n: Instruction, a: Word, mask: Word)
+    requires change { change ≡ n.op / 16 % 4 }
+    requires ac { n.ac < 16 }
     ensures { regs.new ≡ record regs.old { ac = ac_put regs.old.ac n.ac (modified n.op a mask) } }
 {
-    if n.op / 16 % 4 == 0 {
-        return;
-    }
-    match n.op / 16 % 4 {
+    match change {
         0 => {}
         1 => regs.ac[n.ac] = a.and(mask.not()),
         2 => regs.ac[n.ac] = a.xor(mask),
@@ -135,7 +133,13 @@ fn modify(regs: &mut Regs, n: Instruction, a: Word, mask: Word)
 /// TRN to TSON
 #[inline(always)]
 #[tactic(auto, unfolding(crate::specs::Tests::test_row))]
-pub fn do_test<M: JobMemory>(regs: &mut Regs, memory: &mut M, n: Instruction) -> Outcome
+pub fn do_test<M: JobMemory>(
+    change: u32,
+    regs: &mut Regs,
+    memory: &mut M,
+    n: Instruction,
+) -> Outcome
+    requires change { change ≡ n.op / 16 % 4 }
     requires ac { n.ac < 16 }
     requires e { n.e < 2 ^ 18 }
     ensures after { record { regs = regs.new; core = M.words memory.new; outcome = result } ≡ finished regs.old (M.words memory.old) n (test_row regs.old (M.words memory.old) n) }
@@ -147,7 +151,7 @@ pub fn do_test<M: JobMemory>(regs: &mut Regs, memory: &mut M, n: Instruction) ->
     };
     let a = regs.ac[n.ac];
     let test = skips(n.op, a.and(mask).number() == 0);
-    modify(regs, n, a, mask);
+    modify(change, regs, n, a, mask);
     regs.pc = regs.pc.plus(if test { 2 } else { 1 });
     Outcome::Done
 }

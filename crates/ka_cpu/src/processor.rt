@@ -1,29 +1,30 @@
 //! One instruction.
 
-ghost use Rattle.std.specs.Prelude.{◌≡◌, ◌<◌, ◌^◌, if◌then◌else◌, IfOk, IfSome, IsNone, ◌↔◌, false};
+ghost use Rattle.std.specs.Prelude.{◌≡◌, ◌<◌, ◌^◌, if◌then◌else◌, true, IfOk, IfSome, IsNone, ◌↔◌, false};
 ghost use Rattle.ka_cpu.specs.Addresses.{target_of, used_in};
 ghost use Rattle.ka_isa.specs.Families.{family_of};
 ghost use Rattle.ka_cpu.specs.Effects.{EndsAs, stopped};
 ghost use Rattle.ka_cpu.specs.Exec.{is_xct, ac_field, carried_out, exec, is_listed, op_of, word_behind, word_performed};
 ghost use Rattle.ka_isa.specs.declared.Family.TheVariants.{Xct};
+ghost use Rattle.ka_cpu.specs.Rows.{family_in, fits};
 ghost use Rattle.ka_cpu.specs.Turns.{refusal_of};
 ghost use Rattle.ka_cpu.specs.declared.outcome.StopReason.TheVariants.{IllegalInstruction};
 
 use crate::address::find_address;
 use crate::arithmetic::{do_add, do_idiv, do_imul, do_mul, do_sub};
 use crate::blocks::do_blt;
-use crate::bytes::do_byte;
+use crate::bytes::{do_ibp, use_byte, use_next_byte};
 use crate::conditions::{do_compare, do_jump, do_skip};
-use crate::families::find_family;
 use crate::halves::do_half;
 use crate::instruction::{ILLEGAL, Instruction};
 use crate::jumps::{do_aobj, do_call, do_jfcl, do_jffo, do_jra, do_jrst, do_jsa, do_jsp, do_jsr};
 use crate::logic::{do_boolean, do_test};
 use crate::moves::{do_exch, do_move, do_movm, do_movn, do_movs};
+use crate::rows::{Row, find_row};
 use crate::shifts::do_shift;
 use crate::stacks::{do_pop, do_popj, do_push, do_pushj};
 use crate::{CallKind, JobMemory, Outcome, Regs, StopReason, fetch};
-use ka_isa::{Change, Family};
+use ka_isa::Change;
 use word36::Word;
 
 /// The most XCTs of one instruction (this project's profile).
@@ -60,13 +61,13 @@ macro_rules! in_mode {
     };
 }
 
-/// Whether an operation is one that is not left out.
-fn is_listed_operation(family: Family, ac: usize) -> bool
-    ensures { result ≡ is_listed family ac }
+/// Whether the operations of a row are ones that is not left out.
+fn is_listed_row(row: Row, ac: usize) -> bool
+    ensures { result ≡ is_listed (family_in row) ac }
 {
-    match family {
-        Family::Other => false,
-        Family::Jrst => ac == 0 || ac == 2 || ac == 4,
+    match row {
+        Row::Other => false,
+        Row::Jrst => ac == 0 || ac == 2 || ac == 4,
         _ => true,
     }
 }
@@ -74,66 +75,75 @@ fn is_listed_operation(family: Family, ac: usize) -> bool
 /// Carries out an instruction whose address is known, or, where it is an XCT, does nothing.
 #[inline(always)]
 fn carry_out<M: JobMemory>(
-    family: Family,
+    row: Row,
     regs: &mut Regs,
     memory: &mut M,
     n: Instruction,
     word: Word,
 ) -> Option<Outcome>
     requires op { n.op < 2 ^ 9 }
+    requires row { fits row n.op ≡ true }
     requires ac { n.ac < 16 }
     requires e { n.e < 2 ^ 18 }
-    ensures none { IsNone result ↔ (family ≡ Xct) }
+    ensures none { IsNone result ↔ (family_in row ≡ Xct) }
     ensures kept { IsNone result → (regs.new ≡ regs.old) × (M.words memory.new ≡ M.words memory.old) }
-    ensures after { IfSome result (λ o. record { regs = regs.new; core = M.words memory.new; outcome = o } ≡ (if is_listed family n.ac then carried_out family regs.old (M.words memory.old) n (used_in (target_of regs.old.ac (M.words memory.old) word)) else stopped regs.old (M.words memory.old) IllegalInstruction)) }
+    ensures after { IfSome result (λ o. record { regs = regs.new; core = M.words memory.new; outcome = o } ≡ (if is_listed (family_in row) n.ac then carried_out (family_in row) regs.old (M.words memory.old) n (used_in (target_of regs.old.ac (M.words memory.old) word)) else stopped regs.old (M.words memory.old) IllegalInstruction)) }
     ensures place { M.place memory.new ≡ M.place memory.old }
     ensures ends { IfSome result (λ o. EndsAs o regs.old (M.words memory.old) regs.new (M.words memory.new)) }
 {
-    let outcome = match family {
-        Family::Move => in_mode!(do_move, regs, memory, n),
-        Family::Movs => do_movs(n.op % 4, regs, memory, n),
-        Family::Movn => do_movn(n.op % 4, regs, memory, n),
-        Family::Movm => do_movm(n.op % 4, regs, memory, n),
-        Family::Imul => do_imul(n.op % 4, regs, memory, n),
-        Family::Mul => do_mul(n.op % 4, regs, memory, n),
-        Family::Idiv => do_idiv(n.op % 4, regs, memory, n),
-        Family::Shift => do_shift(regs, memory, n),
-        Family::Jffo => do_jffo(regs, memory, n),
-        Family::Exch => do_exch(regs, memory, n),
-        Family::Blt => do_blt(regs, memory, n),
-        Family::Aobj => do_aobj(regs, memory, n),
-        Family::Jrst => {
+    let outcome = match row {
+        Row::Move => in_mode!(do_move, regs, memory, n),
+        Row::Movs => do_movs(n.op % 4, regs, memory, n),
+        Row::Movn => do_movn(n.op % 4, regs, memory, n),
+        Row::Movm => do_movm(n.op % 4, regs, memory, n),
+        Row::Imul => do_imul(n.op % 4, regs, memory, n),
+        Row::Mul => do_mul(n.op % 4, regs, memory, n),
+        Row::Idiv => do_idiv(n.op % 4, regs, memory, n),
+        Row::Shift => do_shift(regs, memory, n),
+        Row::Jffo => do_jffo(regs, memory, n),
+        Row::Exch => do_exch(regs, memory, n),
+        Row::Blt => do_blt(regs, memory, n),
+        Row::Aobj => do_aobj(regs, memory, n),
+        Row::Jrst => {
             if n.ac != 0 && n.ac != 2 && n.ac != 4 {
                 return Some(Outcome::Stop(StopReason::IllegalInstruction));
             }
             do_jrst(regs, memory, n, word)
         }
-        Family::Jfcl => do_jfcl(regs, memory, n),
-        Family::Pushj => do_pushj(regs, memory, n),
-        Family::Push => do_push(regs, memory, n),
-        Family::Pop => do_pop(regs, memory, n),
-        Family::Popj => do_popj(regs, memory, n),
-        Family::Jsr => do_jsr(regs, memory, n),
-        Family::Jsp => do_jsp(regs, memory, n),
-        Family::Jsa => do_jsa(regs, memory, n),
-        Family::Jra => do_jra(regs, memory, n),
-        Family::Add => in_mode!(do_add, regs, memory, n),
-        Family::Sub => in_mode!(do_sub, regs, memory, n),
-        Family::Compare => do_compare(regs, memory, n),
-        Family::JumpOn(Change::Keep) => do_jump(Change::Keep, regs, memory, n),
-        Family::JumpOn(Change::Up) => do_jump(Change::Up, regs, memory, n),
-        Family::JumpOn(Change::Down) => do_jump(Change::Down, regs, memory, n),
-        Family::SkipOn(Change::Keep) => do_skip(Change::Keep, regs, memory, n),
-        Family::SkipOn(Change::Up) => do_skip(Change::Up, regs, memory, n),
-        Family::SkipOn(Change::Down) => do_skip(Change::Down, regs, memory, n),
-        Family::Boolean => in_mode!(do_boolean, regs, memory, n),
-        Family::Half => in_mode!(do_half, regs, memory, n),
-        Family::Test => do_test(regs, memory, n),
-        Family::Byte => do_byte(regs, memory, n),
-        Family::Calli => do_call(CallKind::Calli, regs, memory, n),
-        Family::Ttcall => do_call(CallKind::Ttcall, regs, memory, n),
-        Family::Xct => return None,
-        Family::Other => { Outcome::Stop(refusal(n.op, n.ac, StopReason::IllegalInstruction)) }
+        Row::Jfcl => do_jfcl(regs, memory, n),
+        Row::Pushj => do_pushj(regs, memory, n),
+        Row::Push => do_push(regs, memory, n),
+        Row::Pop => do_pop(regs, memory, n),
+        Row::Popj => do_popj(regs, memory, n),
+        Row::Jsr => do_jsr(regs, memory, n),
+        Row::Jsp => do_jsp(regs, memory, n),
+        Row::Jsa => do_jsa(regs, memory, n),
+        Row::Jra => do_jra(regs, memory, n),
+        Row::Add => in_mode!(do_add, regs, memory, n),
+        Row::Sub => in_mode!(do_sub, regs, memory, n),
+        Row::Cai => do_compare(true, regs, memory, n),
+        Row::Cam => do_compare(false, regs, memory, n),
+        Row::Jump => do_jump(Change::Keep, regs, memory, n),
+        Row::Aoj => do_jump(Change::Up, regs, memory, n),
+        Row::Soj => do_jump(Change::Down, regs, memory, n),
+        Row::Skip => do_skip(Change::Keep, regs, memory, n),
+        Row::Aos => do_skip(Change::Up, regs, memory, n),
+        Row::Sos => do_skip(Change::Down, regs, memory, n),
+        Row::Boolean => in_mode!(do_boolean, regs, memory, n),
+        Row::Half => in_mode!(do_half, regs, memory, n),
+        Row::TestN => do_test(0, regs, memory, n),
+        Row::TestZ => do_test(1, regs, memory, n),
+        Row::TestC => do_test(2, regs, memory, n),
+        Row::TestO => do_test(3, regs, memory, n),
+        Row::Ibp => do_ibp(regs, memory, n),
+        Row::Ildb => use_next_byte(true, regs, memory, n),
+        Row::Ldb => use_byte(true, regs, memory, n),
+        Row::Idpb => use_next_byte(false, regs, memory, n),
+        Row::Dpb => use_byte(false, regs, memory, n),
+        Row::Calli => do_call(CallKind::Calli, regs, memory, n),
+        Row::Ttcall => do_call(CallKind::Ttcall, regs, memory, n),
+        Row::Xct => return None,
+        Row::Other => { Outcome::Stop(refusal(n.op, n.ac, StopReason::IllegalInstruction)) }
     };
     Some(outcome)
 }
@@ -145,7 +155,7 @@ fn refusal(op: u32, ac: usize, reason: StopReason) -> StopReason
     requires { op < 2 ^ 9 }
     ensures { result ≡ refusal_of (family_of op) ac reason }
 {
-    if is_listed_operation(find_family(op), ac) {
+    if is_listed_row(find_row(op), ac) {
         reason
     } else {
         StopReason::IllegalInstruction
@@ -153,11 +163,11 @@ fn refusal(op: u32, ac: usize, reason: StopReason) -> StopReason
 }
 
 /// Whether a word is an XCT.
-#[tactic(auto, using(crate::proofs::Executes::executions))]
+#[tactic(auto, using(crate::proofs::RowTable::xct_rows))]
 fn is_execute_word(word: Word) -> bool
     ensures { result ≡ is_xct word }
 {
-    matches!(find_family(operation(word)), Family::Xct)
+    matches!(find_row(operation(word)), Row::Xct)
 }
 
 /// The word that is executed in the place of a word, over at most 256 XCTs; it is none itself.
@@ -214,7 +224,7 @@ fn execute<M: JobMemory>(regs: &mut Regs, memory: &mut M, word: Word) -> Outcome
             Ok(e) => e,
         };
         let instruction = Instruction { op, ac, e };
-        if let Some(outcome) = carry_out(find_family(op), regs, memory, instruction, word) {
+        if let Some(outcome) = carry_out(find_row(op), regs, memory, instruction, word) {
             return outcome;
         }
         match find_executed(regs, memory, word) {
