@@ -1,2 +1,9 @@
 pub mod ValueLemmas
 pub mod PushLemmas
+pub mod LayoutLemmas
+pub mod CellLemmas
+pub mod PutLemmas
+pub mod LineLemmas
+pub mod FillLemmas
+pub mod ImageLemmas
+pub mod OutcomeLemmas

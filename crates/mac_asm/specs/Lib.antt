@@ -5,3 +5,5 @@ pub mod Places
 pub mod Assembly
 pub mod Found
 pub mod Outcome
+pub mod Layouts
+pub mod Filled

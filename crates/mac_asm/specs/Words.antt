@@ -165,8 +165,3 @@ are_known names (data_of.Instruction given) = is_known_if names given.accumulato
 abbrev pub Adds : Bool → List ℕ → List ℕ → Option (List ℕ) → Type 0
 Adds true old new words = (ws : List ℕ) × (words ≡ Some ws) × (new ≡ old ++ ws)
 Adds false old new words = words ≡ None
-
--- a text is shorter than any memory
-abbrev pub HasShortText : Data → Type 0
-HasShortText (data_of.Text form text) = length text < 2 ^ 59
-HasShortText _ = Unit {0}

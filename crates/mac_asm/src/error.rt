@@ -1,6 +1,7 @@
 //! Why a source has no image.
 ghost use Rattle.std.specs.Prelude.{◌≡◌};
 ghost use Rattle.mac_asm.specs.Outcome.{number_of, least};
+ghost use Rattle.mac_asm.specs.declared.error.AsmError.TheVariants.{Memory};
 
 use std::alloc::{AllocError, AllocFailed};
 use thiserror::Error;
@@ -51,12 +52,16 @@ pub enum AsmError {
 }
 
 impl From<AllocError> for AsmError {
+    ghost from_gives = { λ _ e. e ≡ Memory };
+
     fn from(_e: AllocError) -> AsmError {
         AsmError::Memory
     }
 }
 
 impl<T: Drop> From<AllocFailed<T>> for AsmError {
+    ghost from_gives = { λ _ e. e ≡ Memory };
+
     fn from(_e: AllocFailed<T>) -> AsmError {
         AsmError::Memory
     }

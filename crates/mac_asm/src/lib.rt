@@ -1,9 +1,13 @@
 //! The assembler: from the bytes of a source to the image of a program.
 #![tactic(auto)]
 
+mod assembly;
+mod cells;
 mod error;
+mod layout;
 mod sums;
 mod texts;
 mod words;
 
+pub use assembly::assemble;
 pub use error::{AsmCode, AsmError};

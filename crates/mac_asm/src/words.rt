@@ -3,7 +3,7 @@
 ghost use Rattle.std.specs.Prelude.{◌≡◌, ◌<◌, ◌≤◌, ◌^◌, ◌++◌, [], ◌∷◌, Some, None, IfOk, IfSome, length, true, false};
 ghost use Rattle.mac_asm.specs.Values.{names_of, is_known};
 ghost use Rattle.mac_asm.specs.Packing.{words_in};
-ghost use Rattle.mac_asm.specs.Words.{fitted, word_of, half_of, register_of, start_of, operand_of, or_zero, AreFields, pointer_word, text_word, is_missing, with_accumulator, with_operand, instruction_of, at_most, position_of, pointer_of, halves_of, iowd_of, words_of_all, text_words_from, words_of, alone, is_known_if, is_operand_known, are_known, HasShortText, Adds};
+ghost use Rattle.mac_asm.specs.Words.{fitted, word_of, half_of, register_of, start_of, operand_of, or_zero, AreFields, pointer_word, text_word, is_missing, with_accumulator, with_operand, instruction_of, at_most, position_of, pointer_of, halves_of, iowd_of, words_of_all, text_words_from, words_of, alone, is_known_if, is_operand_known, are_known, Adds};
 ghost use Rattle.std.specs.List.{list_all};
 
 use crate::sums::{Scope, is_known, value};
@@ -343,7 +343,7 @@ fn push(words: &mut Vec<Word>, word: Option<Word>) -> Result<bool, AllocError>
 /// Word i of a text.
 #[tactic(auto, unfolding(crate::specs::Words::text_word))]
 fn text_word(form: TextForm, text: &[u8], i: usize) -> Option<Word>
-    requires { i < 2 ^ 60 }
+    requires { i < words_in form (length text.now) }
     ensures { result ≡ text_word form text.now i }
 {
     match form {
@@ -352,8 +352,8 @@ fn text_word(form: TextForm, text: &[u8], i: usize) -> Option<Word>
     }
 }
 
+/// Adds the words of a text.
 fn push_text(words: &mut Vec<Word>, form: TextForm, text: &[u8]) -> Result<bool, AllocError>
-    requires { length text.now < 2 ^ 59 }
     ensures { IfOk result (λ added. Adds added words.old.items words.new.items (text_words_from form text.now 0 (words_in form (length text.now)))) }
 {
     for i in 0..text_words(form, text.len()) {
@@ -390,7 +390,6 @@ pub fn push_words<'a>(
     data: &'a Data,
     scope: &Scope<'a>,
 ) -> Result<bool, AllocError>
-    requires { HasShortText data.now }
     ensures { IfOk result (λ added. Adds added words.old.items words.new.items (words_of (names_of scope.now) data.now)) }
 {
     match data {

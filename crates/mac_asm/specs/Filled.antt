@@ -1,0 +1,77 @@
+-- Words put into the cells of a memory, and how an answer of the assembler tells what a source comes to.
+use Rattle.std.specs.Prelude.{◌≡◌, ℕ, ◌+◌, Bool, true, List, [], ◌∷◌, set, Option, Some, None, option_map, Result, Ok, Err, unwrap_or, is_some, ◌&&◌, false, replicate, if◌then◌else◌}
+use Rattle.word36.specs.declared.image.Image.{Image}
+use Rattle.mac_asm.specs.declared.error.AsmCode.TheVariants.{Syntax}
+use Rattle.mac_asm.specs.declared.error.AsmError.{AsmError}
+use Rattle.mac_asm.specs.declared.error.AsmError.TheVariants as errors
+use Rattle.mac_text.specs.declared.fault.ParseError.{ParseError}
+use Rattle.mac_text.specs.declared.fault.ParseError.TheVariants as parse_errors
+use Rattle.mac_text.specs.declared.syntax.Statement.{Statement}
+use Rattle.mac_asm.specs.Values.{Names}
+use Rattle.mac_asm.specs.Places.{Placed}
+use Rattle.mac_asm.specs.Assembly.{Assembled, first_place, start_by, start_at}
+use Rattle.mac_asm.specs.Outcome.{Fault, line_words, has_start, words_given}
+
+-- a memory: the word of each place, if it has one
+abbrev pub Cells : Type 0
+Cells = List (Option ℕ)
+
+-- words put from a place on; one that has no cell is put nowhere
+abbrev pub put_from : Cells → ℕ → List ℕ → Cells
+put_from cells place [] = cells
+put_from cells place (word ∷ words) = put_from (set cells place (Some word)) (place + 1) words
+
+-- words put at their places
+abbrev pub put_all : Cells → List (ℕ × ℕ) → Cells
+put_all cells [] = cells
+put_all cells (word ∷ words) = put_all (set cells word.0 (Some word.1)) words
+
+-- the words of the cells from one on, with their places
+abbrev pub words_in_cells : ℕ → Cells → List (ℕ × ℕ)
+words_in_cells place [] = []
+words_in_cells place (None ∷ cells) = words_in_cells (place + 1) cells
+words_in_cells place (Some word ∷ cells) = (place, word) ∷ words_in_cells (place + 1) cells
+
+-- the words were put in place, if there are any
+abbrev pub Puts : Bool → Cells → Cells → Option (List (ℕ × ℕ)) → Type 0
+Puts true old new words = option_map (put_all old) words ≡ Some new
+Puts false old new words = words ≡ None
+
+-- the start that END names, or the first place where the statement is another; nothing where it does not fit
+abbrev pub start_named : Names → Option Statement → Option ℕ
+start_named names statement = if has_start names statement then Some (unwrap_or (start_by names statement) first_place) else None
+
+-- the words of a line were put in place, and this is its start; where none is given, a value is not known or does not fit
+abbrev pub PutsLine : Option ℕ → Cells → Cells → Placed → Type 0
+PutsLine (Some start) old new at = (option_map (put_all old) (line_words at) ≡ Some new) × (start_named at.names at.line.statement ≡ Some start)
+PutsLine None old new at = (is_some (line_words at) && has_start at.names at.line.statement) ≡ false
+
+-- the memory with these words, and a start, or the line at fault
+abbrev pub filled_with : Cells → ℕ → Result (List (ℕ × ℕ)) Fault → Result (Cells × ℕ) Fault
+filled_with cells start (Ok words) = Ok (put_all cells words, start)
+filled_with cells start (Err fault) = Err fault
+
+-- the memory with the words of all lines, and their start, or the first line at fault
+abbrev pub filled : Cells → List Placed → Result (Cells × ℕ) Fault
+filled cells lines = filled_with cells (unwrap_or (start_at lines) first_place) (words_given 1 lines)
+
+-- the answer tells this of the lines; where there was no memory nothing is told
+abbrev pub PutsLines : Result ℕ AsmError → Cells → Cells → List Placed → Type 0
+PutsLines (Ok start) old new lines = filled old lines ≡ Ok (new, start)
+PutsLines (Err (errors.Line line code)) old new lines = filled old lines ≡ Err (record { line = line; code = code })
+PutsLines (Err errors.Memory) old new lines = Unit {0}
+
+-- a memory of so many cells with no word
+unfoldable pub empty_cells : ℕ → Cells
+empty_cells n = replicate n None
+
+-- what is told of a source that could not be read
+abbrev pub refusal_of : ParseError → AsmError
+refusal_of parse_errors.Memory = errors.Memory
+refusal_of (parse_errors.Syntax line) = errors.Line line Syntax
+
+-- the answer is the image, or the line at fault with its code; where there was no memory nothing is told
+abbrev pub Assembles : Result Image AsmError → Result Assembled Fault → Type 0
+Assembles (Ok image) outcome = outcome ≡ Ok (record { words = image.words.items; start = image.start })
+Assembles (Err (errors.Line line code)) outcome = outcome ≡ Err (record { line = line; code = code })
+Assembles (Err errors.Memory) outcome = Unit {0}

@@ -1,0 +1,316 @@
+//! The image of a source.
+
+ghost use Rattle.std.specs.Prelude.{◌≡◌, ◌^◌, IfOk, zip, length, if◌then◌else◌};
+ghost use Rattle.std.specs.List.{list_all};
+ghost use Rattle.mac_text.specs.Lines.{is_end};
+ghost use Rattle.mac_asm.specs.Words.{are_known};
+ghost use Rattle.mac_asm.specs.declared.error.AsmCode.TheVariants.{UnknownName, DoesNotFit};
+ghost use Rattle.mac_asm.specs.Values.{names_of};
+ghost use Rattle.mac_asm.specs.Places.{count_of};
+ghost use Rattle.mac_asm.specs.Assembly.{words_from, literal_words, statement_words};
+ghost use Rattle.mac_asm.specs.Outcome.{is_statement_known, is_line_known, lines_with, outcome_placed, has_end, outcome_of};
+ghost use Rattle.mac_asm.specs.Filled.{Puts, PutsLine, PutsLines, Assembles, start_named, empty_cells, refusal_of};
+
+use crate::cells::{put, put_zeros, words_in_cells};
+use crate::error::{AsmCode, AsmError};
+use crate::layout::lay_out;
+use crate::sums::{Labels, Scope, value};
+use crate::words::{are_known, is_known_if, push_words, start};
+use mac_text::{Data, Expression, Line, Natural, ParseError, Statement, parse};
+use std::alloc::{AllocError, Global};
+use word36::{Image, Word};
+
+/// The start where END names none.
+const FIRST: u32 = 0o140;
+
+/// How many places a job's memory has.
+const PLACES: usize = 1 << 18;
+
+/// The memory that a source fills.
+#[derive(Drop)]
+struct Core {
+    /// The word of each place, if it has one.
+    cells: Vec<Option<Word>>,
+    /// The words of the statement in hand.
+    next: Vec<Word>,
+}
+
+/// How many words BLOCK gives, where its value is known and not below 0.
+#[tactic(auto, unfolding(crate::specs::Places::count_of))]
+fn block_len<'a>(
+    alloc: Global,
+    count: &'a Expression,
+    scope: &Scope<'a>,
+) -> Result<Option<Natural>, AllocError>
+    ensures { IfOk result (λ r. r ≡ count_of (names_of scope.now) count.now) }
+{
+    match value(alloc, count.as_slice(), scope)? {
+        None => Ok(None),
+        Some(sum) => sum.natural(alloc),
+    }
+}
+
+impl Core {
+    /// Puts the words of a statement from a place on; false where a value is not known or does not fit.
+    fn put<'a>(
+        &mut self,
+        alloc: Global,
+        place: &Natural,
+        given: &'a Data,
+        scope: &Scope<'a>,
+    ) -> Result<bool, AllocError>
+        ensures { IfOk result (λ fits. Puts fits self.old.cells.items self.new.cells.items (words_from (names_of scope.now) place.now given.now)) }
+    {
+        if let Data::Block(count) = given {
+            return match block_len(alloc, count, scope)? {
+                None => Ok(false),
+                Some(count) => {
+                    put_zeros(self.cells.as_mut_slice(), place, &count);
+                    Ok(true)
+                }
+            };
+        }
+        self.next.clear();
+        if !push_words(alloc, &mut self.next, given, scope)? {
+            return Ok(false);
+        }
+        put(self.cells.as_mut_slice(), place, self.next.as_slice());
+        Ok(true)
+    }
+
+    /// Puts the words of a line's literals in their places, likewise.
+    fn put_literals<'a>(
+        &mut self,
+        alloc: Global,
+        literals: &'a [Data],
+        scope: &Scope<'a>,
+    ) -> Result<bool, AllocError>
+        ensures { IfOk result (λ fits. Puts fits self.old.cells.items self.new.cells.items (literal_words (names_of scope.now) (zip scope.now.literals.now literals.now))) }
+    {
+        for (i, given) in literals.iter().enumerate() {
+            let Some(place) = scope.literals.get(i) else {
+                return Ok(true);
+            };
+            if !self.put(alloc, place, given, scope)? {
+                return Ok(false);
+            }
+        }
+        Ok(true)
+    }
+
+    /// Puts the words of a line's statement, likewise.
+    #[tactic(auto, unfolding(crate::specs::Assembly::statement_words))]
+    fn put_statement<'a>(
+        &mut self,
+        alloc: Global,
+        statement: &'a Option<Statement>,
+        scope: &Scope<'a>,
+    ) -> Result<bool, AllocError>
+        ensures { IfOk result (λ fits. Puts fits self.old.cells.items self.new.cells.items (statement_words (names_of scope.now) statement.now)) }
+    {
+        match statement {
+            Some(Statement::Data(given)) => self.put(alloc, scope.here, given, scope),
+            None
+            | Some(
+                Statement::Loc(_) | Statement::End(_) | Statement::Radix(_) | Statement::Title,
+            ) => Ok(true),
+        }
+    }
+
+    /// Puts the words of a line, those of its literals first, and gives the start that its END names; nothing where a
+    /// value is not known or does not fit.
+    fn put_line<'a>(
+        &mut self,
+        alloc: Global,
+        line: &'a Line,
+        scope: &Scope<'a>,
+    ) -> Result<Option<u32>, AllocError>
+        ensures { IfOk result (λ start. PutsLine start self.old.cells.items self.new.cells.items (record { names = names_of scope.now; line = line.now })) }
+    {
+        if !self.put_literals(alloc, line.literals.as_slice(), scope)? {
+            return Ok(None);
+        }
+        if !self.put_statement(alloc, &line.statement, scope)? {
+            return Ok(None);
+        }
+        start_named(alloc, &line.statement, scope)
+    }
+
+    /// Puts the words of all lines, and gives the start.
+    fn put_lines<'a>(
+        &mut self,
+        alloc: Global,
+        lines: &'a [Line],
+        labels: &'a Labels,
+        places: &'a [Natural],
+        literals: &'a [Natural],
+    ) -> Result<u32, AsmError>
+        ensures { PutsLines result self.old.cells.items self.new.cells.items (lines_with labels.now.entries places.now literals.now lines.now) }
+    {
+        let mut start = FIRST;
+        let mut left = literals;
+        for (i, line) in lines.iter().enumerate() {
+            let Some(here) = places.get(i) else {
+                return Ok(start);
+            };
+            let (own, rest) = left.split_at(left.len().min(line.literals.len()));
+            left = rest;
+            let scope = Scope {
+                labels,
+                here,
+                literals: own,
+            };
+            match self.put_line(alloc, line, &scope)? {
+                Some(place) => start = place,
+                None => {
+                    return Err(AsmError::Line {
+                        line: i + 1,
+                        code: value_code(line, &scope),
+                    });
+                }
+            }
+        }
+        Ok(start)
+    }
+}
+
+/// The start that END names, or the first place where the statement is another; nothing where it is not known or does
+/// not fit.
+#[tactic(auto, unfolding(crate::specs::Outcome::has_start))]
+fn start_named<'a>(
+    alloc: Global,
+    statement: &'a Option<Statement>,
+    scope: &Scope<'a>,
+) -> Result<Option<u32>, AllocError>
+    ensures { IfOk result (λ start. start ≡ start_named (names_of scope.now) statement.now) }
+{
+    match statement {
+        Some(Statement::End(Some(expression))) => start(alloc, expression, scope),
+        None
+        | Some(
+            Statement::Data(_)
+            | Statement::Loc(_)
+            | Statement::End(None)
+            | Statement::Radix(_)
+            | Statement::Title,
+        ) => Ok(Some(FIRST)),
+    }
+}
+
+/// Whether all names of a statement are known.
+fn is_statement_known<'a>(statement: &'a Option<Statement>, scope: &Scope<'a>) -> bool
+    ensures { result ≡ is_statement_known (names_of scope.now) statement.now }
+{
+    match statement {
+        Some(Statement::Data(given)) => are_known(given, scope),
+        Some(Statement::End(start)) => is_known_if(start, scope),
+        None | Some(Statement::Loc(_) | Statement::Radix(_) | Statement::Title) => true,
+    }
+}
+
+/// Whether all names of these literals are known.
+fn are_literals_known<'a>(literals: &'a [Data], scope: &Scope<'a>) -> bool
+    ensures { result ≡ list_all (are_known (names_of scope.now)) literals.now }
+{
+    literals.iter().all(|given| are_known(given, scope))
+}
+
+/// What is wrong with a line whose values are not all known or do not all fit: an unknown name is told first.
+fn value_code<'a>(line: &'a Line, scope: &Scope<'a>) -> AsmCode
+    ensures { result ≡ (if is_line_known (record { names = names_of scope.now; line = line.now }) then DoesNotFit else UnknownName) }
+{
+    if are_literals_known(line.literals.as_slice(), scope)
+        && is_statement_known(&line.statement, scope)
+    {
+        AsmCode::DoesNotFit
+    } else {
+        AsmCode::UnknownName
+    }
+}
+
+/// A memory of so many cells with no word.
+#[tactic(auto, unfolding(crate::specs::Filled::empty_cells))]
+fn empty_cells(alloc: Global, len: usize) -> Result<Vec<Option<Word>>, AllocError>
+    ensures { IfOk result (λ cells. cells.items ≡ empty_cells len) }
+{
+    vec![in alloc; None; len]
+}
+
+/// The image of lines that stand at these places, or the first line of which a value is not known or does not fit.
+fn fill<'a>(
+    alloc: Global,
+    lines: &'a [Line],
+    labels: &'a Labels,
+    places: &'a [Natural],
+    literals: &'a [Natural],
+) -> Result<Image, AsmError>
+    ensures { Assembles result (outcome_placed (lines_with labels.now.entries places.now literals.now lines.now)) }
+{
+    let mut core = Core {
+        cells: empty_cells(alloc, PLACES)?,
+        next: Vec::new(alloc),
+    };
+    let start = core.put_lines(alloc, lines, labels, places, literals)?;
+    Ok(Image {
+        words: words_in_cells(alloc, core.cells.as_slice())?,
+        start,
+    })
+}
+
+/// Whether a line is END.
+fn is_end(line: &Line) -> bool
+    ensures { result ≡ is_end line.now }
+{
+    matches!(&line.statement, Some(Statement::End(_)))
+}
+
+/// Whether the last line is END.
+fn has_end(lines: &[Line]) -> bool
+    ensures { result ≡ has_end lines.now }
+{
+    match lines.last() {
+        None => false,
+        Some(line) => is_end(line),
+    }
+}
+
+impl From<ParseError> for AsmError {
+    ghost from_gives = { λ e told. told ≡ refusal_of e };
+
+    fn from(e: ParseError) -> AsmError {
+        match e {
+            ParseError::Memory => AsmError::Memory,
+            ParseError::Syntax(line) => AsmError::Line {
+                line,
+                code: AsmCode::Syntax,
+            },
+        }
+    }
+}
+
+/// The image of a source, or the line at fault and what is wrong with it (MACRO-10 Assembler Manual, this project's
+/// profile).
+///
+/// The first line out of the grammar is told first; then that END is missing, at the number of lines; then the first line
+/// whose labels, places, LOC, BLOCK or RADIX are wrong, with the least code of that line; then the first line with
+/// another name that is unknown (2) or else a value that does not fit (4).
+pub fn assemble(alloc: Global, source: &[u8]) -> Result<Image, AsmError>
+    ensures { Assembles result (outcome_of source.now) }
+{
+    let program = parse(alloc, source)?;
+    let lines = program.as_slice();
+    if !has_end(lines) {
+        return Err(AsmError::Line {
+            line: lines.len(),
+            code: AsmCode::NoEnd,
+        });
+    }
+    let layout = lay_out(alloc, lines)?;
+    fill(
+        alloc,
+        lines,
+        &layout.labels,
+        layout.places.as_slice(),
+        layout.literals.as_slice(),
+    )
+}
