@@ -119,7 +119,7 @@ high-free p (suc n) h = low-range p (suc n) (low p (suc n) h (grind arith))
     low : (p n : ℕ) → (not (n == 0) && not (nat_le (p + n) (2 ^ 18))) ≡ false → 0 < n → p + n ≤ 2 ^ 18
     low p n h g = grind (arith, common_steps)
 
-free-high : (p n : ℕ) → are_below (range_with_len p n) ≡ true → (not (n == 0) && not (nat_le (p + n) (2 ^ 18))) ≡ false
+pub free-high : (p n : ℕ) → are_below (range_with_len p n) ≡ true → (not (n == 0) && not (nat_le (p + n) (2 ^ 18))) ≡ false
 free-high p zero h = refl
 free-high p (suc n) h = test p (suc n) (range-low p n h)
   where

@@ -123,12 +123,12 @@ own-low (n ∷ labels) p h = all-low (n ∷ labels) p (low (length labels) p h)
     low : (k p : ℕ) → (not (suc k == 0) && not (nat_lt p (2 ^ 18))) ≡ false → nat_lt p (2 ^ 18) ≡ true
     low k p h = grind (arith, common_steps)
 
-low-own : (labels : List ℕ) (p : ℕ) → are_below (values_of (map (λ name. (name, p)) labels)) ≡ true
+pub low-own : (labels : List ℕ) (p : ℕ) → are_below (values_of (map (λ name. (name, p)) labels)) ≡ true
     → (not (length labels == 0) && not (nat_lt p (2 ^ 18))) ≡ false
 low-own [] p h = refl
 low-own (n ∷ labels) p h = and_right _ _ (not_from_true (nat_lt p (2 ^ 18)) (and_parts (nat_lt p (2 ^ 18)) _ h).0)
 
-grown-low : (xs : Labels) (p : ℕ) (line : Line)
+pub grown-low : (xs : Labels) (p : ℕ) (line : Line)
     → are_below (values_of (xs ++ own p line)) ≡ (are_below (values_of xs) && are_below (values_of (own p line)))
 grown-low xs p line =
     ap are_below (map-append (λ e. e.1) xs (own p line)) ∙ list_all-append (λ n. nat_lt n 262144) (values_of xs) (values_of (own p line))

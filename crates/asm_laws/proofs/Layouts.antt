@@ -97,7 +97,7 @@ right-fits (line ∷ lines) xs p ps t sz h k b a =
     )
 
 -- END takes the places of all literals
-end-code : (s : Option Statement) (l : Layout) → is_end_statement s ≡ true → statement_code l s ≡ taking_all l.taken l.place l.sizes
+pub end-code : (s : Option Statement) (l : Layout) → is_end_statement s ≡ true → statement_code l s ≡ taking_all l.taken l.place l.sizes
 unfolding statement_code
 end-code None l h = absurd (cc)
 end-code (Some (statements.Data given)) l h = absurd (cc)
@@ -122,7 +122,7 @@ end-all s line h =
     end-code line.statement (with_labels s line) h
     ∙ ap (λ l. taking_all l.taken l.place l.sizes) (sym (end-layout line.statement (with_labels s line) h))
 
-line-statement : (s : Layout) (line : Line) → line_code s line ≡ None
+pub line-statement : (s : Layout) (line : Line) → line_code s line ≡ None
     → statement_code (with_labels s line) line.statement ≡ None
 unfolding line_code
 line-statement s line h =
@@ -171,7 +171,7 @@ pub record Kept (m xs : Labels) (p : ℕ) (line : Line) : Type 0 where
   pub size : statement_size m p line.statement ≡ statement_size xs p line.statement
   pub sizes : map (size_of m p) line.literals ≡ map (size_of xs p) line.literals
 
-sizes-settled : (xs ys : Labels) (p : ℕ) (given : List Data) → list_all (is_count_settled (keys_of xs)) given ≡ true
+pub sizes-settled : (xs ys : Labels) (p : ℕ) (given : List Data) → list_all (is_count_settled (keys_of xs)) given ≡ true
     → map (size_of (xs ++ ys) p) given ≡ map (size_of xs p) given
 sizes-settled xs ys p [] h = refl
 sizes-settled xs ys p (d ∷ given) h =
@@ -212,7 +212,7 @@ fits-kept line lines xs p t f =
 abbrev pub place_of : Located → ℕ
 place_of at = at.place
 
-state-same : (xs : Labels) (p q : ℕ) (ps qs t u : List ℕ) (sz zs : List (Result ℕ AsmCode)) → p ≡ q → ps ≡ qs → t ≡ u → sz ≡ zs
+pub state-same : (xs : Labels) (p q : ℕ) (ps qs t u : List ℕ) (sz zs : List (Result ℕ AsmCode)) → p ≡ q → ps ≡ qs → t ≡ u → sz ≡ zs
     → state xs p ps t sz ≡ state xs q qs u zs
 state-same xs p q ps qs t u sz zs a b c d =
     ap (λ x. state xs x ps t sz) a ∙ ap (λ x. state xs q x t sz) b ∙ ap (λ x. state xs q qs x sz) c ∙ ap (λ x. state xs q qs u x) d

@@ -17,3 +17,7 @@ pub mod Order
 pub mod Told
 pub mod FaultLines
 pub mod Phases
+pub mod Clear
+pub mod Laying
+pub mod Codes
+pub mod First

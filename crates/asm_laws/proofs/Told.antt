@@ -41,10 +41,10 @@ counted : (zs : List ℕ) → map (count_or 0) (map Ok zs) ≡ zs
 counted [] = refl
 counted (z ∷ zs) = ap (λ l. z ∷ l) (counted zs)
 
-abbrev line_at : Placed → Line
+abbrev pub line_at : Placed → Line
 line_at at = at.line
 
-placed-lines : (lines : List Line) (m : Labels) (p : ℕ) (lits : List ℕ) → map line_at (placed m (located m p lines) lits) ≡ lines
+pub placed-lines : (lines : List Line) (m : Labels) (p : ℕ) (lits : List ℕ) → map line_at (placed m (located m p lines) lits) ≡ lines
 unfolding located placed
 placed-lines [] m p lits = refl
 placed-lines (line ∷ lines) m p lits =
@@ -83,7 +83,7 @@ all-start [] h s = absurd (cc)
 all-start (at ∷ []) h s = sym (end-start at.names at.line.statement h) ∙ (and_parts (starts at) true s).0
 all-start (at ∷ next ∷ lines) h s = all-start (next ∷ lines) h (and_parts (starts at) (list_all starts (next ∷ lines)) s).1
 
-start-all : (lines : List Placed) (start : ℕ) → ends_once (map line_at lines) ≡ true → start_at lines ≡ Some start
+pub start-all : (lines : List Placed) (start : ℕ) → ends_once (map line_at lines) ≡ true → start_at lines ≡ Some start
     → list_all starts lines ≡ true
 unfolding start_at
 start-all [] start h s = refl
@@ -128,10 +128,10 @@ read-ok (Ok lines) image h =
 read-ok (Err n) image h = absurd (cc)
 
 -- the layout of all lines
-abbrev layout_of : List Line → Layout
+abbrev pub layout_of : List Line → Layout
 layout_of lines = whole_layout (map_of lines) first_place [] [] [] lines
 
-layout-placed : (lines : List Line)
+pub layout-placed : (lines : List Line)
     → lines_with (map_of lines) (layout_of lines).places (places_of_literals (layout_of lines)) lines ≡ lines_placed (map_of lines) lines
 layout-placed lines =
     let m = map_of lines in
@@ -142,46 +142,64 @@ layout-placed lines =
 all-append : (xs ys : List ℕ) → are_below (xs ++ ys) ≡ (are_below xs && are_below ys)
 all-append xs ys = list_all-append (λ n. nat_lt n 262144) xs ys
 
--- what is told is the image
-pub told-image : (source : List ℕ) (image : Assembled) → outcome_of source ≡ Ok image → IsAssembly source image
-unfolding outcome_of outcome_placed words_at are_apart
-told-image source image h =
-    let r = read-ok (program_of source) image h in
-    let lines = r.0 in
-    let m = map_of lines in
-    let o = from-ok lines (laid_out empty_layout 1 lines) image r.3 in
-    let l = laid-right lines empty_layout 1 o.0 o.1 in
-    let full = end-right lines empty_layout r.2 l.0 in
+-- what is so of lines that are laid out
+record LaidOut (lines : List Line) (s : Layout) : Type 0 where
+  fits : Fits [] first_place [] lines
+  layout : s ≡ layout_of lines
+  full : taking_all (layout_of lines).taken (layout_of lines).place (layout_of lines).sizes ≡ None
+
+laid-layout : (lines : List Line) (s : Layout) → has_end lines ≡ true → laid_out empty_layout 1 lines ≡ Ok s → LaidOut lines s
+unfolding are_apart
+laid-layout lines s h l =
+    let r = laid-right lines empty_layout 1 s l in
+    let full = end-right lines empty_layout h r.0 in
+    let last = final empty_layout lines in
     let f : Fits [] first_place [] lines =
-    right-fits lines [] first_place [] [] [] l.0 (all-known (final empty_layout lines).taken (final empty_layout lines).place (final empty_layout lines).sizes full) refl refl in
-    let fin : final empty_layout lines ≡ layout_of lines = final-is lines [] first_place [] [] [] f in
+    right-fits lines [] first_place [] [] [] r.0 (all-known last.taken last.place last.sizes full) refl refl in
+    let same : final empty_layout lines ≡ layout_of lines = final-is lines [] first_place [] [] [] f in
+    record { fits = f; layout = sym r.1 ∙ same; full = subst (λ x. taking_all x.taken x.place x.sizes ≡ None) same full }
+
+-- the words are worked out for the lines as they stand
+pub laid-placed : (lines : List Line) (s : Layout) → has_end lines ≡ true → laid_out empty_layout 1 lines ≡ Ok s
+    → lines_with s.labels s.places (places_of_literals s) lines ≡ lines_placed (map_of lines) lines
+laid-placed lines s h l =
+    ap (λ x. lines_with x.labels x.places (places_of_literals x) lines) (laid-layout lines s h l).layout
+    ∙ layout-placed lines
+
+-- the words that are given to lines that stand are those of an image
+given-image : (source : List ℕ) (lines : List Line) (image : Assembled) (ws : List (ℕ × ℕ)) → program_of source ≡ Ok lines
+    → has_end lines ≡ true → Fits [] first_place [] lines
+    → taking_all (layout_of lines).taken (layout_of lines).place (layout_of lines).sizes ≡ None
+    → words_given 1 (lines_placed (map_of lines) lines) ≡ Ok ws
+    → image.words ≡ by_place (reverse ws)
+    → image.start ≡ unwrap_or (start_at (lines_placed (map_of lines) lines)) first_place
+    → IsAssembly source image
+unfolding words_at are_apart
+given-image source lines image ws reads h f full given words_are start_is =
+    let m = map_of lines in
     let w : Whole m [] [] (literal_places m lines) lines (lines_at m lines) =
     fits-whole lines [] first_place [] (literal_places m lines) f refl refl refl in
     let own = flat_map (places_of m) (lines_at m lines) in
     let zs = literal_sizes m (lines_at m lines) in
-    let t = all-taken zs own (place_after m first_place lines)
-    (subst (λ s. taking_all s.taken s.place s.sizes ≡ None) fin full) w.words_once in
+    let t = all-taken zs own (place_after m first_place lines) full w.words_once in
     let at = lines_placed m lines in
-    let placed : lines_with o.0.labels o.0.places (places_of_literals o.0) lines ≡ at =
-    ap (λ s. lines_with s.labels s.places (places_of_literals s) lines) (sym l.1 ∙ fin) ∙ layout-placed lines in
-    let i = with-ok (unwrap_or (start_at at) first_place) (words_given 1 at) image (subst (λ x. outcome_placed x ≡ Ok image) placed o.2) in
-    let gather = words-gather at 1 i.0 i.1 in
-    let g : Gathers at i.0 = gather.0 in
+    let gather = words-gather at 1 ws given in
+    let g : Gathers at ws = gather.0 in
     let words = g.own ++ g.literals in
     let gives : words_at at ≡ Some words =
     bind_at (all_statement_words at) _ g.own g.gives_own ∙ bind_at (all_literal_words at) _ g.literals g.gives_literals in
     let keys : keys_of words ≡ places_taken m lines = takes_its_places m lines words w.settled gives in
     let once : are_apart (keys_of words) ≡ true = ap are_apart keys ∙ t.0 in
-    let ends : has_end (map line_at at) ≡ true = ap has_end (placed-lines lines m first_place (literal_places m lines)) ∙ r.2 in
+    let ends : has_end (map line_at at) ≡ true = ap has_end (placed-lines lines m first_place (literal_places m lines)) ∙ h in
     let s = known-some (start_at at) (all-start at ends gather.1) in
-    let start : image.start ≡ s.0 = i.3 ∙ ap (λ x. unwrap_or x first_place) s.1 in
-    let order : IsPermutation (reverse i.0) words =
-    IsPermutation-trans (reverse i.0) i.0 words (IsPermutation-sym i.0 (reverse i.0) (IsPermutation-reverse i.0)) g.same in
+    let start : image.start ≡ s.0 = start_is ∙ ap (λ x. unwrap_or x first_place) s.1 in
+    let order : IsPermutation (reverse ws) words =
+    IsPermutation-trans (reverse ws) ws words (IsPermutation-sym ws (reverse ws) (IsPermutation-reverse ws)) g.same in
     record {
       lines = lines;
       labels = m;
       words = words;
-      reads = r.1;
+      reads = reads;
       is_map = map_is_met lines w.settled;
       once = w.once;
       settled = w.settled;
@@ -191,9 +209,22 @@ told-image source image h =
       labels_below = w.low;
       words_below = ap are_below keys ∙ all-append own (ranges_from (place_after m first_place lines) zs) ∙ and_from _ _ w.words_low t.1;
       words_apart = once;
-      words_are = i.2 ∙ sym (by_place-permuted words (reverse i.0) once (IsPermutation-sym (reverse i.0) words order));
+      words_are = words_are ∙ sym (by_place-permuted words (reverse ws) once (IsPermutation-sym (reverse ws) words order));
       start_is = s.1 ∙ ap Some (sym start);
     }
+
+-- what is told is the image
+pub told-image : (source : List ℕ) (image : Assembled) → outcome_of source ≡ Ok image → IsAssembly source image
+unfolding outcome_of outcome_placed
+told-image source image h =
+    let r = read-ok (program_of source) image h in
+    let lines = r.0 in
+    let o = from-ok lines (laid_out empty_layout 1 lines) image r.3 in
+    let l : LaidOut lines o.0 = laid-layout lines o.0 r.2 o.1 in
+    let at = lines_placed (map_of lines) lines in
+    let told : outcome_placed at ≡ Ok image = subst (λ x. outcome_placed x ≡ Ok image) (laid-placed lines o.0 r.2 o.1) o.2 in
+    let i = with-ok (unwrap_or (start_at at) first_place) (words_given 1 at) image told in
+    given-image source lines image i.0 r.1 r.2 l.fits l.full i.1 i.2 i.3
 
 -- what an image holds under the labels that are met
 record Held (m : Labels) (lines : List Line) (words : List (ℕ × ℕ)) (start : ℕ) : Type 0 where

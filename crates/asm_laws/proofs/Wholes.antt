@@ -76,7 +76,7 @@ data-counted m xs ys p l (data_of.Block count) words same h g =
     some-of {o = Some x} h = (x, refl)
 data-counted m xs ys p l (data_of.Instruction given) words same h g = refl
 
-statement-counted : (m xs ys : Labels) (p : ℕ) (l : List ℕ) (s : Option Statement) (words : List (ℕ × ℕ)) → m ≡ xs ++ ys
+pub statement-counted : (m xs ys : Labels) (p : ℕ) (l : List ℕ) (s : Option Statement) (words : List (ℕ × ℕ)) → m ≡ xs ++ ys
     → is_settled (keys_of xs) s ≡ true
     → allows (names_at m p l) s ≡ true
     → statement_words (names_at m p l) s ≡ Some words
@@ -89,10 +89,10 @@ statement-counted m xs ys p l (Some (statements.End e)) words same h a g = refl
 statement-counted m xs ys p l (Some (statements.Radix n)) words same h a g = a
 statement-counted m xs ys p l (Some statements.Title) words same h a g = refl
 
-all-append : (xs ys : List ℕ) → are_below (xs ++ ys) ≡ (are_below xs && are_below ys)
+pub all-append : (xs ys : List ℕ) → are_below (xs ++ ys) ≡ (are_below xs && are_below ys)
 all-append xs ys = list_all-append (λ n. nat_lt n 262144) xs ys
 
-words-append : (xs ys : List ℕ) → have_words (xs ++ ys) ≡ (have_words xs && have_words ys)
+pub words-append : (xs ys : List ℕ) → have_words (xs ++ ys) ≡ (have_words xs && have_words ys)
 words-append xs ys = list_all-append (λ n. nat_lt 0 n) xs ys
 
 pub fits-whole : (lines : List Line) (xs : Labels) (p : ℕ) (t lits : List ℕ) → Fits xs p t lines

@@ -1,11 +1,12 @@
 //! The laws of assembly. Each function does nothing: its contract is the law.
-ghost use Rattle.std.specs.Prelude.{◌≡◌, ◌↔◌, ℕ, List, Some, Ok, Err};
+ghost use Rattle.std.specs.Prelude.{◌≡◌, ◌↔◌, ℕ, List, Some, Ok, Err, true};
+ghost use Rattle.mac_text.specs.Lines.{program_of};
 ghost use Rattle.mac_text.specs.declared.syntax.Line.{Line as LineView};
 ghost use Rattle.mac_asm.specs.Assembly.{Assembled, IsAssembly};
 ghost use Rattle.asm_laws.specs.Example.{example_image, example_source};
 ghost use Rattle.mac_asm.specs.Found.{image_of};
-ghost use Rattle.mac_asm.specs.Outcome.{Fault, outcome_of};
-ghost use Rattle.asm_laws.specs.Laws.{EarlierLabelsSettle, IsByPlace, StatementsFillTheirPlaces, TakesItsPlaces, TellsFault, TellsReading};
+ghost use Rattle.mac_asm.specs.Outcome.{Fault, has_end, outcome_of};
+ghost use Rattle.asm_laws.specs.Laws.{EarlierLabelsSettle, IsByPlace, StatementsFillTheirPlaces, TakesItsPlaces, TellsCode, TellsFault, TellsFirst, TellsReading};
 
 /// A source has at most one image.
 pub fn images_are_unique()
@@ -32,6 +33,16 @@ pub fn faults_tell_lines()
 /// A line out of the grammar, and that END is missing, are told where they are so and nowhere else.
 pub fn reading_is_told()
     ensures { (source : List ℕ) (line : ℕ) → TellsReading source line }
+{}
+
+/// Of lines that END ends, the first at fault is told.
+pub fn first_faults_are_told()
+    ensures { (source : List ℕ) (read : List LineView) (fault : Fault) → program_of source ≡ Ok read → has_end read ≡ true → outcome_of source ≡ Err fault → TellsFirst read fault }
+{}
+
+/// The code of a fault in lines that were read names what is not so of them.
+pub fn codes_are_told()
+    ensures { (source : List ℕ) (read : List LineView) (fault : Fault) → program_of source ≡ Ok read → outcome_of source ≡ Err fault → TellsCode read fault.code }
 {}
 
 /// The places of an image rise, and each has the word that the lines give it.

@@ -61,7 +61,7 @@ macro_rules! in_mode {
     };
 }
 
-/// Whether the operations of a row are ones that is not left out.
+/// Whether the operations of a row are listed, and not left out.
 fn is_listed_row(row: Row, ac: usize) -> bool
     ensures { result ≡ is_listed (family_in row) ac }
 {

@@ -3,3 +3,5 @@ pub mod ItemLemmas
 pub mod AsciiLemmas
 pub mod LineLemmas
 pub mod SourceLemmas
+pub mod NumberTexts
+pub mod PrintedLemmas

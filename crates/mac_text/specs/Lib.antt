@@ -9,3 +9,4 @@ pub mod Texts
 pub mod Expressions
 pub mod Statements
 pub mod Lines
+pub mod Printed

@@ -8,6 +8,7 @@ mod keyword;
 mod line;
 mod natural;
 mod numbers;
+mod printed;
 mod scanner;
 mod sequence;
 mod source;
@@ -21,6 +22,7 @@ mod texts;
 
 pub use fault::ParseError;
 pub use natural::Natural;
+pub use printed::printed_word;
 pub use sequence::Sequence;
 pub use source::parse;
 pub use sum::Expression;

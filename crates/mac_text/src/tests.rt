@@ -1,6 +1,7 @@
-use crate::{Data, ParseError, Statement, Symbol, Term, parse};
+use crate::{Data, ParseError, Statement, Symbol, Term, parse, printed_word};
 use std::alloc::Global;
 use std::test::Fail;
+use word36::Word;
 
 /// The number of the first line that is not in the grammar; 0 where all are.
 fn fault(alloc: Global, source: &[u8]) -> usize {
@@ -184,6 +185,23 @@ fn large_numbers(rt: HostRuntime) -> Result<(), Fail> {
             }
         }
         _ => assert!(rt; false, "a value"),
+    }
+    Ok(())
+}
+
+#[test]
+fn printed_words(rt: HostRuntime) -> Result<(), Fail> {
+    let program = printed_word(rt.alloc(), Word::new(0o201_060_000_005))
+        .ok()
+        .ok_or("it is right")?;
+    match &program.as_slice()[0].statement {
+        Some(Statement::Data(Data::Instruction(given))) => {
+            assert_eq!(rt; given.word.number(), 0o201_000_000_000);
+            assert!(rt; given.accumulator.is_some());
+            assert!(rt; given.operand.indirect);
+            assert!(rt; given.operand.index.is_none());
+        }
+        _ => assert!(rt; false, "an instruction"),
     }
     Ok(())
 }
