@@ -9,7 +9,7 @@ use Rattle.mac_asm.specs.Places.{Placed}
 use Rattle.mac_asm.specs.Assembly.{Assembled, lines_placed}
 use Rattle.mac_asm.specs.Found.{map_of}
 use Rattle.mac_asm.specs.Outcome.{Fault, Layout, empty_layout, line_code, with_line, unless_fault, laid_out, line_words, value_code, and_words, words_given, outcome_from, has_end, outcome_read, outcome_of}
-use Rattle.asm_laws.specs.Laws.{FirstLaid, FirstGiven, TellsFirst}
+use Rattle.asm_laws.specs.Faults.{FirstLaid, FirstGiven, TellsFirst}
 use Rattle.asm_laws.proofs.Codes.{told-from}
 use Rattle.asm_laws.proofs.Told.{laid-placed}
 

@@ -1,22 +1,16 @@
--- Laws on places, values, words and faults (this project's profile).
-use Rattle.std.specs.Prelude.{◌≡◌, ◌↔◌, ◌⊎◌, ℕ, ◌+◌, ◌<◌, ◌≤◌, ◌^◌, Bool, ◌&&◌, true, false, nat_eq, is_some, List, [], ◌∷◌, ◌++◌, length, flat_map, Option, Some, Ok, Err, is_ok}
-use Rattle.std.specs.List.{range_with_len, list_all}
+-- Laws on places, values and words (this project's profile).
+use Rattle.std.specs.Prelude.{◌≡◌, ℕ, ◌+◌, ◌<◌, ◌^◌, true, nat_eq, is_some, List, [], ◌∷◌, ◌++◌, length, flat_map, Option, Some}
+use Rattle.std.specs.List.{range_with_len}
 use Rattle.std.specs.List.Sorted.{IsStrictlyIncreasing}
-use Rattle.std.specs.Map.{lookup, keys_of, values_of}
-use Rattle.std.specs.Str.Lines.{lines}
-use Rattle.mac_text.specs.Lines.{program_of}
+use Rattle.std.specs.Map.{lookup, keys_of}
 use Rattle.mac_text.specs.declared.syntax.SignedTerm.{SignedTerm}
 use Rattle.mac_text.specs.declared.syntax.Data.{Data}
 use Rattle.mac_text.specs.declared.syntax.Statement.{Statement}
 use Rattle.mac_text.specs.declared.syntax.Statement.TheVariants as statements
 use Rattle.mac_text.specs.declared.syntax.Line.{Line}
 use Rattle.mac_asm.specs.Values.{value_of}
-use Rattle.mac_asm.specs.Places.{Labels, names_at, size_of, are_among, is_count_settled, are_settled, Located, place_after, literal_sizes, Placed}
-use Rattle.mac_asm.specs.Assembly.{Assembled, IsAssembly, all_words_of, first_place, lines_at, lines_placed, words_at, have_words, are_allowed, are_apart, are_below, start_at}
-use Rattle.mac_asm.specs.declared.error.AsmCode.TheVariants.{DefinedTwice, DoesNotFit, NoEnd, NotYetDefined, PlaceTooHigh, Syntax, UnknownName}
-use Rattle.mac_asm.specs.Outcome.{Fault, Layout, empty_layout, has_end, is_line_known, laid_out, line_code, outcome_of, value_code, words_given}
-use Rattle.mac_asm.specs.Found.{map_of}
-use Rattle.mac_asm.specs.declared.error.AsmCode.{AsmCode}
+use Rattle.mac_asm.specs.Places.{Labels, names_at, size_of, are_among, is_count_settled, are_settled, Located, place_after, literal_sizes}
+use Rattle.mac_asm.specs.Assembly.{Assembled, IsAssembly, all_words_of, first_place, lines_at, lines_placed, words_at}
 
 -- an expression of earlier labels and no literal is one that earlier labels make known, and later ones do not change it
 pub record EarlierLabelsSettle : Type 0 where
@@ -62,68 +56,3 @@ abbrev pub TakesItsPlaces : Labels → List Line → List (ℕ × ℕ) → Type 
 TakesItsPlaces labels lines words =
     are_settled [] lines ≡ true → words_at (lines_placed labels lines) ≡ Some words
     → keys_of words ≡ places_taken labels lines
-
--- a fault is told only of a source without an image, and names a line of it, counted from 1; of a source of no lines, 0
-pub record TellsFault (source : List ℕ) (fault : Fault) : Type 0 where
-  pub no_image : (image : Assembled) → IsAssembly source image → ⊥
-  pub within : fault.line ≤ length (lines source)
-  pub counted : 0 < length (lines source) → 0 < fault.line
-
--- the first line out of the grammar is told as such, and a source whose last line is not END at the number of its lines;
--- and these codes mean nothing else
-pub record TellsReading (source : List ℕ) (line : ℕ) : Type 0 where
-  pub syntax_at : (outcome_of source ≡ Err (record { line = line; code = Syntax })) ↔ (program_of source ≡ Err line)
-  pub no_end :
-      (outcome_of source ≡ Err (record { line = line; code = NoEnd }))
-      ↔ ((read : List Line) × (program_of source ≡ Ok read) × (has_end read ≡ false) × (length read ≡ line))
-
--- all values fit under a map: literals have words, LOC and RADIX their numbers, and words and start are known
-abbrev pub all_fit : Labels → List Line → Bool
-all_fit labels read =
-    have_words (literal_sizes labels (lines_at labels read))
-    && (are_allowed (lines_placed labels read)
-    && (is_some (words_at (lines_placed labels read)) && is_some (start_at (lines_placed labels read))))
-
--- what a code says of the lines that were read, with the labels as they are met. Where LOC and BLOCK do not speak of
--- earlier labels alone, there is no saying where lines stand: then of the codes of places NotYetDefined alone is meant
-pub record TellsCode (read : List Line) (code : AsmCode) : Type 0 where
-  -- LOC or BLOCK speaks of a label that does not stand earlier, or of a literal
-  pub not_yet : code ≡ NotYetDefined → are_settled [] read ≡ false
-  -- a label stands twice, or a place has two words
-  pub twice : code ≡ DefinedTwice → are_settled [] read ≡ true
-      → (are_apart (keys_of (map_of read)) && are_apart (places_taken (map_of read) read)) ≡ false
-  -- a label or a word stands at 2 ^ 18 or above
-  pub high : code ≡ PlaceTooHigh → are_settled [] read ≡ true
-      → (are_below (values_of (map_of read)) && are_below (places_taken (map_of read) read)) ≡ false
-  -- a value does not fit
-  pub unfit : code ≡ DoesNotFit → are_settled [] read ≡ true → all_fit (map_of read) read ≡ false
-  -- a name is not defined
-  pub unknown : code ≡ UnknownName → list_all is_line_known (lines_placed (map_of read) read) ≡ false
-
--- the first line at fault, behind lines that are laid out without a fault
-pub record FirstLaid (read : List Line) (fault : Fault) : Type 0 where
-  pub above : List Line
-  pub line : Line
-  pub below : List Line
-  pub layout : Layout
-  pub parted : read ≡ above ++ (line ∷ below)
-  pub counted : fault.line ≡ 1 + length above
-  pub without : laid_out empty_layout 1 above ≡ Ok layout
-  pub told : line_code layout line ≡ Some fault.code
-
--- the first line at fault, behind lines whose values are known and fit
-pub record FirstGiven (lines : List Placed) (fault : Fault) : Type 0 where
-  pub above : List Placed
-  pub line : Placed
-  pub below : List Placed
-  pub words : List (ℕ × ℕ)
-  pub parted : lines ≡ above ++ (line ∷ below)
-  pub counted : fault.line ≡ 1 + length above
-  pub without : words_given 1 above ≡ Ok words
-  pub told : value_code line ≡ Some fault.code
-
--- the first line that cannot be laid out is told; where there is none, the first whose values are not known or do not fit
-abbrev pub TellsFirst : List Line → Fault → Type 0
-TellsFirst read fault =
-    FirstLaid read fault
-    ⊎ (is_ok (laid_out empty_layout 1 read) ≡ true) × FirstGiven (lines_placed (map_of read) read) fault

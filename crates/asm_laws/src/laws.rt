@@ -6,7 +6,8 @@ ghost use Rattle.mac_asm.specs.Assembly.{Assembled, IsAssembly};
 ghost use Rattle.asm_laws.specs.Example.{example_image, example_source};
 ghost use Rattle.mac_asm.specs.Found.{image_of};
 ghost use Rattle.mac_asm.specs.Outcome.{Fault, has_end, outcome_of};
-ghost use Rattle.asm_laws.specs.Laws.{EarlierLabelsSettle, IsByPlace, StatementsFillTheirPlaces, TakesItsPlaces, TellsCode, TellsFault, TellsFirst, TellsReading};
+ghost use Rattle.asm_laws.specs.Faults.{TellsCode, TellsFault, TellsFirst, TellsReading};
+ghost use Rattle.asm_laws.specs.Laws.{EarlierLabelsSettle, IsByPlace, StatementsFillTheirPlaces, TakesItsPlaces};
 
 /// A source has at most one image.
 pub fn images_are_unique()

@@ -4,3 +4,4 @@ pub mod WantLemmas
 pub mod GrantLemmas
 pub mod PairLemmas
 pub mod AsciiLemmas
+pub mod PlaceLemmas

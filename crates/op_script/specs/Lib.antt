@@ -7,3 +7,4 @@ pub mod Printing
 pub mod Grants
 pub mod WaitPairs
 pub mod QueueScripts
+pub mod Listings

@@ -30,7 +30,7 @@ leads_to waits (suc steps) j k = waits j k || list_any (λ m. waits j m && leads
 
 -- whether a walk of pairs leads from a job back to it: none needs to be longer than there are jobs
 abbrev pub is_in_circle : (ℕ → ℕ → Bool) → ℕ → Bool
-is_in_circle waits j = leads_to waits 31 j j
+is_in_circle waits j = leads_to waits JOBS j j
 
 abbrev pub circle_job : (ℕ → ℕ → Bool) → ℕ → List ℕ
 circle_job waits j = if is_in_circle waits j then codes " " ++ decimal j else []
@@ -47,6 +47,7 @@ or_none (c ∷ more) = c ∷ more
 abbrev pub waits_text : List Request → List ℕ
 waits_text requests = pairs_text requests ++ codes "CIRCLE" ++ or_none (circle_jobs (waits_for requests)) ++ codes "\n"
 
--- the pairs of jobs below 32 in a table, whose place 32 * j + k says whether the job j waits for the job k
+-- the pairs in a table whose rows are the jobs from 0 on: the place k of the row j says whether the job j waits for
+-- the job k
 abbrev pub pair_in : List Bool → ℕ → ℕ → Bool
-pair_in pairs j k = slice_index_or pairs (32 * j + k) false
+pair_in pairs j k = slice_index_or pairs ((JOBS + 1) * j + k) false

@@ -1,10 +1,12 @@
-//! Scripts on the lock queue, and their transcripts.
+//! Scripts and sources, and their transcripts: the languages of `lockmon`.
 #![tactic(auto)]
 
+mod asm_sources;
 mod call_wants;
 mod commands;
 mod drafts;
 mod grants;
+mod listings;
 mod locks;
 mod numbers;
 mod options;
@@ -13,6 +15,7 @@ mod printing;
 mod queue_scripts;
 mod wait_pairs;
 
+pub use asm_sources::serve_asm;
 pub use numbers::number;
 pub use queue_scripts::serve_queue;
 pub use script_io::{

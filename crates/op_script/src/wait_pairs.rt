@@ -48,18 +48,18 @@ fn push_pairs<L: LockTable>(out: &mut Vec<u8>, table: &L) -> Result<(), AllocErr
     Ok(())
 }
 
-/// Whether each job below 32 waits for each: the place 32 * j + k says it of the jobs j and k.
-type PairTable = [bool; PAIRS];
-
 /// One more than the largest job's number.
 const NUMBERS: usize = JOBS as usize + 1;
 
 /// The places of a table of pairs.
-const PAIRS: usize = 1024;
+const PAIRS: usize = NUMBERS * NUMBERS;
+
+/// Whether each job waits for each: the place k of the row j says it of the jobs j and k.
+type PairTable = [bool; PAIRS];
 
 /// The table of who waits for whom.
 fn pair_table<L: LockTable>(table: &L) -> PairTable
-    ensures { (i : ℕ) → i < 1024 → slice_index_or result i false ≡ waits_for (L.requests table.now) (i / 32) (i % 32) }
+    ensures { (i : ℕ) → i < PAIRS → slice_index_or result i false ≡ waits_for (L.requests table.now) (i / NUMBERS) (i % NUMBERS) }
 {
     let mut pairs = [false; PAIRS];
     for i in 0..PAIRS {
@@ -70,8 +70,8 @@ fn pair_table<L: LockTable>(table: &L) -> PairTable
 
 /// Whether a job waits for one that is reached.
 fn is_step(pairs: &PairTable, reached: &[bool; NUMBERS], job: usize, other: usize) -> bool
-    requires job { job < 32 }
-    requires other { other < 32 }
+    requires job { job < NUMBERS }
+    requires other { other < NUMBERS }
     ensures { result ≡ (pair_in pairs.now job other && slice_index_or reached.now other false) }
 {
     pairs[NUMBERS * job + other] && reached[other]
@@ -79,7 +79,7 @@ fn is_step(pairs: &PairTable, reached: &[bool; NUMBERS], job: usize, other: usiz
 
 /// Whether a job waits for one of those that are reached.
 fn has_step(pairs: &PairTable, reached: &[bool; NUMBERS], job: usize) -> bool
-    requires { job < 32 }
+    requires { job < NUMBERS }
     ensures { result ≡ list_any (λ m. pair_in pairs.now job m && slice_index_or reached.now m false) jobs }
 {
     for other in 1..NUMBERS {
@@ -92,8 +92,8 @@ fn has_step(pairs: &PairTable, reached: &[bool; NUMBERS], job: usize) -> bool
 
 /// Whether a job waits for the target, or for a job from which a walk leads there.
 fn leads_on(pairs: &PairTable, reached: &[bool; NUMBERS], job: usize, target: usize) -> bool
-    requires job { job < 32 }
-    requires target { target < 32 }
+    requires job { job < NUMBERS }
+    requires target { target < NUMBERS }
     ensures { result ≡ (pair_in pairs.now job target || list_any (λ m. pair_in pairs.now job m && slice_index_or reached.now m false) jobs) }
 {
     pairs[NUMBERS * job + target] || has_step(pairs, reached, job)
@@ -101,8 +101,8 @@ fn leads_on(pairs: &PairTable, reached: &[bool; NUMBERS], job: usize, target: us
 
 /// From which jobs a walk of one pair more leads to the target.
 fn lead_further(pairs: &PairTable, reached: &[bool; NUMBERS], target: usize) -> [bool; NUMBERS]
-    requires { target < 32 }
-    ensures { (j : ℕ) → j < 32 → slice_index_or result j false
+    requires { target < NUMBERS }
+    ensures { (j : ℕ) → j < NUMBERS → slice_index_or result j false
         ≡ (pair_in pairs.now j target || list_any (λ m. pair_in pairs.now j m && slice_index_or reached.now m false) jobs) }
 {
     let mut further = [false; NUMBERS];
@@ -114,8 +114,8 @@ fn lead_further(pairs: &PairTable, reached: &[bool; NUMBERS], target: usize) -> 
 
 /// From which jobs a walk leads to the target.
 fn leading_to(pairs: &PairTable, target: usize) -> [bool; NUMBERS]
-    requires { target < 32 }
-    ensures { (j : ℕ) → j < 32 → slice_index_or result j false ≡ leads_to (pair_in pairs.now) 31 j target }
+    requires { target < NUMBERS }
+    ensures { (j : ℕ) → j < NUMBERS → slice_index_or result j false ≡ leads_to (pair_in pairs.now) JOBS j target }
 {
     let mut reached = [false; NUMBERS];
     for steps in 0..JOBS {
@@ -127,7 +127,7 @@ fn leading_to(pairs: &PairTable, target: usize) -> [bool; NUMBERS]
 /// Adds a job from which a walk leads back.
 #[tactic(auto, using(std::proofs::Common::append_assoc))]
 fn push_circle_job(out: &mut Vec<u8>, pairs: &PairTable, job: u8) -> Result<(), AllocError>
-    requires { job < 32 }
+    requires { job < NUMBERS }
     ensures { OnOk result (out.new.items ≡ out.old.items ++ circle_job (pair_in pairs.now) job) }
 {
     let leading = leading_to(pairs, usize::from(job));

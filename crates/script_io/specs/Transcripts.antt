@@ -1,5 +1,5 @@
 -- What a script writes, and how it ends (this project's profile).
-use Rattle.std.specs.Prelude.{◌≡◌, true, is_some, refl, ℕ, List, [], ◌∷◌, ◌++◌, Option, Some, None, codes, decimal}
+use Rattle.std.specs.Prelude.{◌≡◌, true, false, is_some, refl, ℕ, List, [], ◌∷◌, ◌++◌, Option, Some, None, codes, decimal}
 use Rattle.script_io.specs.declared.endings.Ending.{Ending}
 use Rattle.script_io.specs.declared.endings.Ending.TheVariants.{Script}
 
@@ -29,3 +29,7 @@ script_fault number = closed (codes "?SCRIPT " ++ decimal number ++ 10 ∷ []) S
 pub unless_ended-same : (o : Option Ending) (s t : Transcript) → is_some o ≡ true → unless_ended o s ≡ unless_ended o t
 unless_ended-same (Some e) s t h = refl
 unless_ended-same None s t h = cc
+
+-- the same where there is no end
+pub never_ended-same : (s t : Transcript) → false ≡ true → s ≡ t
+never_ended-same s t h = cc

@@ -9,6 +9,7 @@ mod print;
 mod serving;
 mod sessions;
 mod test_ports;
+mod text_sessions;
 
 pub use endings::{Ending, ServeError};
 pub use host_ports::{HostIn, HostOut};
@@ -18,3 +19,4 @@ pub use print::push_decimal;
 pub use serving::serve_session;
 pub use sessions::Session;
 pub use test_ports::{TestIn, TestOut};
+pub use text_sessions::{TextService, TextSession};

@@ -141,18 +141,15 @@ impl<S: LineService + Drop> LineSession<S> {
         Ok(())
     }
 
-    /// The line is too long with these bytes, whatever follows.
-    fn refuse_line(&mut self, bytes: &[u8], out: &mut Vec<u8>) -> Result<(), AllocError>
+    /// The line is too long with the bytes that come, whatever follows.
+    fn refuse_line(&mut self, out: &mut Vec<u8>) -> Result<(), AllocError>
         requires room { self.old.number + 1 < 2 ^ 128 }
         requires goes_on { self.old.ending ≡ None }
-        requires no_newline { All is_no_newline bytes.now }
-        requires long { 257 < length self.old.line.bytes.items + length bytes.now }
         ensures number { self.new.number ≡ self.old.number + 1 }
         ensures ended { OnOk result (is_some self.new.ending ≡ true) }
-        ensures follows { OnOk result ((more : List ℕ) →
-            after out.old.items (⟦<LineSession<S> as Session>⟧.follow self.old (bytes.now ++ more)) ≡ after out.new.items (⟦<LineSession<S> as Session>⟧.follow self.new more)) }
+        ensures follows { OnOk result ((bytes more : List ℕ) → All is_no_newline bytes → 257 < length self.old.line.bytes.items + length bytes →
+            after out.old.items (⟦<LineSession<S> as Session>⟧.follow self.old (bytes ++ more)) ≡ after out.new.items (⟦<LineSession<S> as Session>⟧.follow self.new more)) }
     {
-        let _bytes = bytes;
         self.number += 1;
         push_fault(out, self.number)?;
         self.ending = Some(Ending::Script);
@@ -172,7 +169,7 @@ impl<S: LineService + Drop> LineSession<S> {
         if self.line.extend(bytes) {
             return Ok(());
         }
-        self.refuse_line(bytes, out)
+        self.refuse_line(out)
     }
 
     /// The last bytes of a line come.

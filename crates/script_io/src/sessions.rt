@@ -13,7 +13,7 @@ pub trait Session {
     /// Whether the script has ended, so that no byte is looked at.
     ghost has_ended: { Self → Bool };
 
-    /// At least the number of bytes that have come.
+    /// At most the number of bytes that have come.
     ghost count: { Self → ℕ };
 
     /// Whether the script has ended.
