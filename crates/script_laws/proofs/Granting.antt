@@ -3,6 +3,7 @@ use Rattle.std.proofs.Common.{◌≡◌, ◌<◌, ◌∙◌, ap, ℕ, zero, suc,
 use Rattle.std.specs.List.{list_any}
 use Rattle.std.proofs.lemmas.Bool.Decides.{nat_tests}
 use Rattle.arrayvec.specs.ArrayVec.{ArrayVec}
+use Rattle.lock_queue.specs.Calls.{outcome_of}
 use Rattle.lock_queue.specs.Changes.{changed, with_changes}
 use Rattle.lock_queue.specs.Dequeues.{has_wants, without_keys, without_keys_of, is_of_job, has_id}
 use Rattle.lock_queue.specs.Enqueues.{not_granted, arrival, enqueue_refusal}
@@ -142,11 +143,15 @@ arrival-not-done requests x y Blocking false = λ e. absurd (cc)
 arrival-not-done requests x y AtOnce false = λ e. absurd (cc)
 arrival-not-done requests x y Interrupt false = λ e. absurd (cc)
 
-pub staying_are_left : StayingAreLeft
-staying_are_left requests job (Enqueue kind id wants armed) e =
+calls-left : (requests : List Request) (job : ℕ) (call : LockCall) → (outcome_of requests job call).reply ≡ Done
+    → map label_of (filter (stays job call) requests) ≡ map label_of (outcome_of requests job call).requests
+calls-left requests job (Enqueue kind id wants armed) e =
     not-stayed requests job _ (arrival requests job kind id wants) (enqueue_refusal requests job kind wants.items armed)
     (arrival-not-done requests _ _ kind _) e
-staying_are_left requests job (Modify changes) e = done-left (with_changes requests job changes.items) job (Modify changes) requests _ e (changes-left job changes requests)
-staying_are_left requests job (DequeueNamed named) e = done-left (filter has_wants (map (without_keys_of job named.items) requests)) job (DequeueNamed named) requests _ e (named-left job named requests)
-staying_are_left requests job DequeueAll e = where-left job DequeueAll requests (is_of_job job) _ _ refl e
-staying_are_left requests job (DequeueId id) e = where-left job (DequeueId id) requests (has_id job id) _ _ refl e
+calls-left requests job (Modify changes) e = done-left (with_changes requests job changes.items) job (Modify changes) requests _ e (changes-left job changes requests)
+calls-left requests job (DequeueNamed named) e = done-left (filter has_wants (map (without_keys_of job named.items) requests)) job (DequeueNamed named) requests _ e (named-left job named requests)
+calls-left requests job DequeueAll e = where-left job DequeueAll requests (is_of_job job) _ _ refl e
+calls-left requests job (DequeueId id) e = where-left job (DequeueId id) requests (has_id job id) _ _ refl e
+
+pub staying_are_left : StayingAreLeft
+staying_are_left = record { calls = calls-left; releases = λ requests job. refl }

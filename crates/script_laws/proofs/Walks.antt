@@ -6,6 +6,7 @@ use Rattle.std.proofs.lemmas.Bool.Decides.{nat_tests}
 use Rattle.std.proofs.lemmas.Bool.{and_parts, and_from}
 use Rattle.std.proofs.lemmas.Map.Made.{length-le_from_is_member}
 use Rattle.op_script.specs.WaitPairs.{numbers_from, jobs, leads_to, is_in_circle}
+use Rattle.word36.specs.declared.sizes.TheConstants.{JOBS}
 use Rattle.script_laws.specs.Walks.{is_job, IsWalk, LeadsBack}
 
 abbrev mem : ℕ → List ℕ → Bool
@@ -148,7 +149,7 @@ length-behind : (ns : List ℕ) (k : ℕ) → length (targets ns k) ≡ suc (len
 length-behind [] k = refl
 length-behind (n ∷ ns) k = ap suc (length-behind ns k)
 
-fewer : (ns : List ℕ) (k : ℕ) → length (targets ns k) ≤ 31 → length ns < 31
+fewer : (ns : List ℕ) (k : ℕ) → length (targets ns k) ≤ JOBS → length ns < JOBS
 fewer ns k l = omega (arith, l, length-behind ns k)
 
 pub circles : (waits : ℕ → ℕ → Bool) (j : ℕ) → is_job j ≡ true → (LeadsBack waits j ↔ (is_in_circle waits j ≡ true))
@@ -157,6 +158,6 @@ circles waits j g = (
   λ w.
       let s = shortened waits j w.0 j w.1 in
       let l : length (targets s.0 j) ≤ length jobs = length-le_from_is_member nat_eq_equiv (targets s.0 j) jobs s.2 (are_jobs waits j s.0 j s.1 g) in
-      leads waits 31 j s.0 j s.1 (fewer s.0 j l),
-  λ h. found waits 31 j j h,
+      leads waits JOBS j s.0 j s.1 (fewer s.0 j l),
+  λ h. found waits JOBS j j h,
 )

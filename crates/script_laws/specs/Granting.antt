@@ -2,9 +2,10 @@
 use Rattle.std.specs.Prelude.{◌≡◌, ◌<◌, ℕ, Bool, List, length, map, filter}
 use Rattle.arrayvec.specs.ArrayVec.{ArrayVec}
 use Rattle.lock_queue.specs.Calls.{outcome_of}
+use Rattle.lock_queue.specs.Jobs.{released}
 use Rattle.lock_queue.specs.Queue.{granted}
 use Rattle.lock_queue.specs.declared.call.LockCall.{LockCall}
-use Rattle.lock_queue.specs.declared.call.LockCall.TheVariants.{Enqueue}
+use Rattle.lock_queue.specs.declared.call.LockCall.TheVariants.{Enqueue, DequeueAll}
 use Rattle.lock_queue.specs.declared.call.LockReply.TheVariants.{Done}
 use Rattle.lock_queue.specs.declared.request.EnqueueKind.{EnqueueKind}
 use Rattle.lock_queue.specs.declared.request.Request.{Request}
@@ -21,8 +22,9 @@ ArrivalsGrantNobody =
     (requests : List Request) (job id i : ℕ) (kind : EnqueueKind) (wants : ArrayVec Want) (armed : Bool) → i < length requests
     → granted (outcome_of requests job (Enqueue kind id wants armed)).requests i ≡ granted requests i
 
--- where a call is done, the requests of which `stays` is true are those that are left, in their order
-abbrev pub StayingAreLeft : Type 0
-StayingAreLeft =
+-- where a call is done, and where all of a job leaves, the requests of which `stays` is true are those that are left, in their order
+pub record StayingAreLeft : Type 0 where
+  pub calls :
     (requests : List Request) (job : ℕ) (call : LockCall) → (outcome_of requests job call).reply ≡ Done
     → map label_of (filter (stays job call) requests) ≡ map label_of (outcome_of requests job call).requests
+  pub releases : (requests : List Request) (job : ℕ) → filter (stays job DequeueAll) requests ≡ released requests job
