@@ -21,3 +21,4 @@ pub mod Clear
 pub mod Laying
 pub mod Codes
 pub mod First
+pub mod Printed

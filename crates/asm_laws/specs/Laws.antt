@@ -1,14 +1,17 @@
 -- Laws on places, values and words (this project's profile).
-use Rattle.std.specs.Prelude.{◌≡◌, ℕ, ◌+◌, ◌<◌, ◌^◌, true, nat_eq, is_some, List, [], ◌∷◌, ◌++◌, length, flat_map, Option, Some}
+use Rattle.std.specs.Prelude.{◌≡◌, ℕ, ◌+◌, ◌<◌, ◌^◌, true, nat_eq, is_some, List, [], ◌∷◌, ◌++◌, length, flat_map, Option, Some, Ok}
 use Rattle.std.specs.List.{range_with_len}
 use Rattle.std.specs.List.Sorted.{IsStrictlyIncreasing}
 use Rattle.std.specs.Map.{lookup, keys_of}
+use Rattle.mac_text.specs.Lines.{program_of}
+use Rattle.mac_text.specs.Printed.{source_of_word, data_of_word, line_of_word}
 use Rattle.mac_text.specs.declared.syntax.SignedTerm.{SignedTerm}
 use Rattle.mac_text.specs.declared.syntax.Data.{Data}
 use Rattle.mac_text.specs.declared.syntax.Statement.{Statement}
 use Rattle.mac_text.specs.declared.syntax.Statement.TheVariants as statements
 use Rattle.mac_text.specs.declared.syntax.Line.{Line}
-use Rattle.mac_asm.specs.Values.{value_of}
+use Rattle.mac_asm.specs.Values.{Names, value_of}
+use Rattle.mac_asm.specs.Words.{words_of}
 use Rattle.mac_asm.specs.Places.{Labels, names_at, size_of, are_among, is_count_settled, are_settled, Located, place_after, literal_sizes}
 use Rattle.mac_asm.specs.Assembly.{Assembled, IsAssembly, all_words_of, first_place, lines_at, lines_placed, words_at}
 
@@ -56,3 +59,8 @@ abbrev pub TakesItsPlaces : Labels → List Line → List (ℕ × ℕ) → Type 
 TakesItsPlaces labels lines words =
     are_settled [] lines ≡ true → words_at (lines_placed labels lines) ≡ Some words
     → keys_of words ≡ places_taken labels lines
+
+-- the line that prints a word is in the grammar, and its value is the word, whatever names stand for
+pub record IsReadBack (w : ℕ) : Type 0 where
+  pub reads : program_of (source_of_word w) ≡ Ok (line_of_word w ∷ [])
+  pub gives : (names : Names) → words_of names (data_of_word w) ≡ Some (w ∷ [])

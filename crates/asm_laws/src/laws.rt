@@ -1,5 +1,5 @@
 //! The laws of assembly. Each function does nothing: its contract is the law.
-ghost use Rattle.std.specs.Prelude.{◌≡◌, ◌↔◌, ℕ, List, Some, Ok, Err, true};
+ghost use Rattle.std.specs.Prelude.{◌≡◌, ◌<◌, ◌^◌, ◌↔◌, ℕ, List, Some, Ok, Err, true};
 ghost use Rattle.mac_text.specs.Lines.{program_of};
 ghost use Rattle.mac_text.specs.declared.syntax.Line.{Line as LineView};
 ghost use Rattle.mac_asm.specs.Assembly.{Assembled, IsAssembly};
@@ -7,7 +7,7 @@ ghost use Rattle.asm_laws.specs.Example.{example_image, example_source};
 ghost use Rattle.mac_asm.specs.Found.{image_of};
 ghost use Rattle.mac_asm.specs.Outcome.{Fault, has_end, outcome_of};
 ghost use Rattle.asm_laws.specs.Faults.{TellsCode, TellsFault, TellsFirst, TellsReading};
-ghost use Rattle.asm_laws.specs.Laws.{EarlierLabelsSettle, IsByPlace, StatementsFillTheirPlaces, TakesItsPlaces};
+ghost use Rattle.asm_laws.specs.Laws.{EarlierLabelsSettle, IsByPlace, IsReadBack, StatementsFillTheirPlaces, TakesItsPlaces};
 
 /// A source has at most one image.
 pub fn images_are_unique()
@@ -66,6 +66,12 @@ pub fn statements_fill_their_places()
 /// have words are known before any word is.
 pub fn words_take_their_places()
     ensures { (labels : List (ℕ × ℕ)) (lines : List LineView) (words : List (ℕ × ℕ)) → TakesItsPlaces labels lines words }
+{}
+
+/// A word as `ka_isa` prints it, on a line of its own in radix 8, is a statement whose value is the
+/// word.
+pub fn printed_words_are_read()
+    ensures { (w : ℕ) → w < 2 ^ 36 → IsReadBack w }
 {}
 
 /// A source with a label that stands later, a literal, the point and a start has the image that is
