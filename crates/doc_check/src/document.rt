@@ -1,7 +1,7 @@
-//! The examples of a document, as it is read line by line: a block of the language `queue` is a
-//! script, and the next block of the language `output` is what it writes.
+//! The examples of a document, as it is read line by line: a block of the language `queue` or `asm`
+//! is a script or a source, and the next block of the language `output` is what is written on it.
 
-use crate::served::is_transcript;
+use crate::served::Language;
 use std::alloc::{AllocError, Global};
 
 /// What a line stands in.
@@ -17,6 +17,8 @@ enum Place {
 #[derive(Drop)]
 pub struct Document {
     place: Place,
+    /// What the last script is written in.
+    language: Language,
     script: String,
     output: String,
     held: u64,
@@ -28,6 +30,7 @@ impl Document {
     pub fn new(alloc: Global) -> Self {
         Document {
             place: Place::Text,
+            language: Language::Queue,
             script: String::new(alloc),
             output: String::new(alloc),
             held: 0,
@@ -70,10 +73,8 @@ impl Document {
     /// Goes into a block where the line opens one.
     fn open(&mut self, line: &str) {
         match line {
-            "```queue" => {
-                self.script.clear();
-                self.place = Place::Script;
-            }
+            "```queue" => self.open_script(Language::Queue),
+            "```asm" => self.open_script(Language::Asm),
             "```output" => {
                 self.output.clear();
                 self.place = Place::Output;
@@ -86,10 +87,18 @@ impl Document {
         }
     }
 
+    fn open_script(&mut self, language: Language) {
+        self.script.clear();
+        self.language = language;
+        self.place = Place::Script;
+    }
+
     /// Compares an example's output with what its script writes.
     fn close_example(&mut self, alloc: Global) -> Result<bool, AllocError> {
         self.place = Place::Text;
-        let holds = is_transcript(alloc, &self.script, &self.output)?;
+        let holds = self
+            .language
+            .is_transcript(alloc, &self.script, &self.output)?;
         if holds {
             self.held = self.held.saturating_add(1);
         } else {

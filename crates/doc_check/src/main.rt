@@ -1,5 +1,5 @@
 //! Checks that the examples in the documents are what `lockmon` writes. Its words are files: a
-//! document, or a script with its transcript beside it.
+//! document, or a script or a source with its transcript beside it.
 #![tactic(auto)]
 
 mod document;
@@ -7,21 +7,29 @@ mod served;
 
 use anyhow::Result;
 use document::Document;
-use served::is_transcript;
+use served::Language;
 use std::fs;
 use std::process::ExitCode;
 use std::rt::Files;
 
-/// The end of a document's name; other names are those of scripts, without their ends.
+/// The end of a document's name.
 const DOCUMENT: &str = ".md";
+
+/// The ends of the names of scripts and of sources, and what each is written in.
+const SCRIPTS: [(&str, Language); 2] = [(".queue", Language::Queue), (".mac", Language::Asm)];
 
 /// Whether the examples of a file hold, of which there has to be one.
 fn check<R: Files + Print + AllocGlobal>(rt: &R, name: &str) -> Result<bool> {
     let alloc = rt.alloc();
+    for (end, language) in SCRIPTS {
+        if let Some(stem) = name.strip_suffix(end) {
+            let script = fs::read_to_string(rt, name)?;
+            let output = fs::read_to_string(rt, format!(in alloc; "{stem}.out")?.as_str())?;
+            return Ok(language.is_transcript(alloc, &script, &output)?);
+        }
+    }
     if !name.ends_with(DOCUMENT) {
-        let script = fs::read_to_string(rt, format!(in alloc; "{name}.queue")?.as_str())?;
-        let output = fs::read_to_string(rt, format!(in alloc; "{name}.out")?.as_str())?;
-        return Ok(is_transcript(alloc, &script, &output)?);
+        return Ok(false);
     }
     let text = fs::read_to_string(rt, name)?;
     let mut document = Document::new(alloc);

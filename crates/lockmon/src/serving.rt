@@ -3,7 +3,7 @@ ghost use Rattle.std.specs.Prelude.{◌≡◌, ◌^◌, ◌≤◌, false};
 
 use crate::asked::{Choice, Refusal};
 use crate::words::choice;
-use op_script::{ByteIn, ByteOut, ServeError, serve_queue, write_all};
+use op_script::{ByteIn, ByteOut, ServeError, serve_asm, serve_queue, write_all};
 use std::alloc::Global;
 use std::convert::AsStr;
 
@@ -36,7 +36,7 @@ pub fn program<S: AsStr, R: ByteIn, W: ByteOut, E: ByteOut>(
 {
     match choice(alloc, words) {
         Ok(Choice::Queue) => status_of(serve_queue(alloc, reader, writer), errors),
-        Ok(Choice::Asm) => told(errors, b"lockmon: asm is still to come\n", USAGE),
+        Ok(Choice::Asm) => status_of(serve_asm(alloc, reader, writer), errors),
         Ok(
             Choice::Run {
                 blocks: _,
@@ -92,11 +92,25 @@ mod tests {
 
     const SCRIPT: &[u8] = b"ENQ 1 1 7 X\nENQ 2 1 8 X\nDEQ 1 0 X\nENQ 2 1 8 X\n";
 
-    /// Runs the program on a script, its reader and writer failing after so many calls, and its
+    /// Runs the program `queue` on a script, its reader and writer failing after so many calls, and its
     /// errors too, and looks for the status and what it must write.
     fn expect(
         rt: &impl Abort,
         alloc: Global,
+        script: &[u8],
+        calls: (u64, u64, u64),
+        status: u8,
+        text: &[u8],
+        line: &[u8],
+    ) {
+        expect_of(rt, alloc, "queue", script, calls, status, text, line);
+    }
+
+    /// The same of one of the programs.
+    fn expect_of(
+        rt: &impl Abort,
+        alloc: Global,
+        name: &str,
         script: &[u8],
         calls: (u64, u64, u64),
         status: u8,
@@ -108,7 +122,7 @@ mod tests {
         let mut reader = TestIn::new(script, 100, calls.0);
         let mut writer = TestOut::new(&mut room, 100, calls.1);
         let mut errors = TestOut::new(&mut line_room, 100, calls.2);
-        let words = ["lockmon", "queue"];
+        let words = ["lockmon", name];
         let given = program(alloc, &words, &mut reader, &mut writer, &mut errors);
         assert_eq!(rt; given, status);
         assert_eq!(rt; writer.as_slice(), text);
@@ -153,6 +167,31 @@ mod tests {
             b"lockmon: write\n",
         );
         expect(&rt, alloc, SCRIPT, (0, MANY, 0), 3, b"", b"");
+    }
+
+    #[test]
+    fn sources(rt: HostRuntime) {
+        let alloc = rt.alloc();
+        let many = (MANY, MANY, MANY);
+        let words = b" MOVEI 1,^D10\nA: JRST A\n END\n".as_slice();
+        let image = b"000140 201040,,000012\n000141 254000,,000141\nSTART 000140\n".as_slice();
+        expect_of(&rt, alloc, "asm", words, many, 0, image, b"");
+        let unknown = b" JRST NOWHR\n END\n".as_slice();
+        expect_of(&rt, alloc, "asm", unknown, many, 1, b"?ASM 1 2\n", b"");
+        expect_of(&rt, alloc, "asm", b"", many, 1, b"?ASM 0 7\n", b"");
+        let unread = (0, MANY, MANY);
+        expect_of(&rt, alloc, "asm", words, unread, 3, b"", b"lockmon: read\n");
+        let unwritten = (MANY, 0, MANY);
+        expect_of(
+            &rt,
+            alloc,
+            "asm",
+            words,
+            unwritten,
+            3,
+            b"",
+            b"lockmon: write\n",
+        );
     }
 
     /// Looks for status 2, nothing written, and a text on standard error that begins so.
@@ -202,15 +241,9 @@ mod tests {
     }
 
     #[test]
-    fn programs_that_are_still_to_come(rt: HostRuntime) {
+    fn a_program_that_is_still_to_come(rt: HostRuntime) {
         let alloc = rt.alloc();
         let run = ["lockmon", "run", "--blocks", "256", "--quantum", "60"];
         expect_refusal(&rt, alloc, &run, b"lockmon: run is still to come\n");
-        expect_refusal(
-            &rt,
-            alloc,
-            &["lockmon", "asm"],
-            b"lockmon: asm is still to come\n",
-        );
     }
 }

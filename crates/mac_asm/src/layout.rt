@@ -1,11 +1,11 @@
 //! Where the labels, the statements and the literals of a source stand.
 
-ghost use Rattle.std.specs.Prelude.{◌≡◌, ◌+◌, ◌-◌, ◌<◌, ◌≤◌, ◌^◌, ◌&&◌, ◌==◌, not, nat_le, nat_lt, ◌++◌, ◌∷◌, [], ℕ, List, length, map, min, replicate, take, drop, Some, None, true, IfOk, MatchResult, OnOk, if◌then◌else◌};
+ghost use Rattle.std.specs.Prelude.{◌≡◌, ◌+◌, ◌≤◌, ◌^◌, ◌&&◌, ◌==◌, not, nat_le, nat_lt, ◌++◌, ℕ, List, length, map, min, true, IfOk, MatchResult, OnOk};
 ghost use Rattle.std.specs.List.{range_with_len, list_any};
 ghost use Rattle.std.specs.Map.{keys_of};
 ghost use Rattle.mac_asm.specs.Assembly.{are_apart};
-ghost use Rattle.mac_asm.specs.Places.{labels_at, places_from};
-ghost use Rattle.mac_asm.specs.Outcome.{Layout as Above, checked_count, checked_size, literal_size, taking, places_in, taking_all, taking_size, code_if, count_or, with_labels, labels_code, statement_code, with_statement, line_code, with_line, empty_layout};
+ghost use Rattle.mac_asm.specs.Places.{places_from};
+ghost use Rattle.mac_asm.specs.Outcome.{Layout as Above, checked_count, checked_size, literal_size, taking, places_in, taking_all, taking_size, code_if, count_or, statement_code, with_statement, line_code, with_line, empty_layout};
 ghost use Rattle.mac_asm.specs.declared.error.AsmCode.TheVariants.{DoesNotFit, PlaceTooHigh};
 ghost use Rattle.mac_asm.specs.Layouts.{AreMarks, StandsFor, Defines, Lays, with_size, IsLayoutOf, Refuses};
 
@@ -168,7 +168,7 @@ fn mark(taken: &mut [bool], place: &Natural, size: &Natural)
     taken[first..first + len].fill(true);
 }
 
-/// Gives each of these labels a place, up to one that has one already; whether there is none.
+/// Gives each of these labels a place; false at the first that has one already, whose place is then lost.
 fn define(
     alloc: Global,
     labels: &mut Labels,
@@ -181,11 +181,10 @@ fn define(
         → labels.new.entries ≡ labels.old.entries ++ map (λ name. (name, place.now)) names.now) }
 {
     for name in names {
-        let label = name.sixbit();
-        if labels.contains_key(&label) {
+        let earlier = labels.insert(name.sixbit(), place.try_clone(alloc)?)?;
+        if earlier.is_some() {
             return Ok(false);
         }
-        let _ = labels.insert(label, place.try_clone(alloc)?)?;
     }
     Ok(true)
 }

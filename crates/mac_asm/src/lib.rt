@@ -5,7 +5,11 @@ mod assembly;
 mod cells;
 mod error;
 mod layout;
+#[cfg(test)]
+mod layout_tests;
 mod sums;
+#[cfg(test)]
+mod tests;
 mod texts;
 mod words;
 

@@ -4,4 +4,3 @@ pub mod WantLemmas
 pub mod GrantLemmas
 pub mod PairLemmas
 pub mod AsciiLemmas
-pub mod PlaceLemmas

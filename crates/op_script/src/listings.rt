@@ -1,21 +1,32 @@
 //! The listing of a source: its words by rising place and its start, or what is wrong with it.
 ghost use Rattle.std.specs.Prelude.{◌≡◌, ◌++◌, ◌<◌, ◌^◌, OnOk, ◌∷◌, []};
 ghost use Rattle.std.specs.List.{flat_map, list_all};
-ghost use Rattle.word36.specs.Octal.{octal};
+ghost use Rattle.word36.specs.Octal.{last_digit, octal};
 ghost use Rattle.op_script.specs.Listings.{word_line, image_text, fault_text};
 
 use mac_asm::AsmCode;
 use script_io::push_decimal;
 use std::alloc::AllocError;
-use word36::{Image, Word, octal_half};
+use word36::{Image, Word};
 
-/// Adds the six last digits of a place.
-#[tactic(auto, using(crate::proofs::PlaceLemmas::octal_six))]
-fn push_place(out: &mut Vec<u8>, place: u32) -> Result<(), AllocError>
-    ensures { OnOk result (out.new.items ≡ out.old.items ++ octal 6 place) }
+/// The last octal digit of a number.
+fn last_digit(number: u32) -> u8
+    ensures { result ≡ last_digit number }
 {
-    out.extend_from_slice(octal_half(place % (1 << 18)).as_str().as_bytes())?;
-    Ok(())
+    b'0' + (number % 8) as u8
+}
+
+/// The six last octal digits of a number.
+#[tactic(auto, unfolding(word36::specs::Octal::octal))]
+fn octal_digits(number: u32) -> [u8; 6]
+    ensures { result ≡ octal 6 number }
+{
+    let fifth = number / 8;
+    let fourth = fifth / 8;
+    let third = fourth / 8;
+    let second = third / 8;
+    let first = second / 8;
+    [first, second, third, fourth, fifth, number].map(last_digit)
 }
 
 /// Adds a line of a place and its word.
@@ -23,9 +34,11 @@ fn push_place(out: &mut Vec<u8>, place: u32) -> Result<(), AllocError>
 fn push_word(out: &mut Vec<u8>, place: u32, word: Word) -> Result<(), AllocError>
     ensures { OnOk result (out.new.items ≡ out.old.items ++ word_line (place, word)) }
 {
-    push_place(out, place)?;
+    out.extend_from_slice(&octal_digits(place))?;
     out.push(b' ')?;
-    out.extend_from_slice(word.octal().as_str().as_bytes())?;
+    out.extend_from_slice(&octal_digits(word.left()))?;
+    out.extend_from_slice(b",,")?;
+    out.extend_from_slice(&octal_digits(word.right()))?;
     out.push(b'\n')?;
     Ok(())
 }
@@ -47,7 +60,7 @@ pub fn push_image(out: &mut Vec<u8>, image: &Image) -> Result<(), AllocError>
 {
     push_words(out, image.words.as_slice())?;
     out.extend_from_slice(b"START ")?;
-    push_place(out, image.start)?;
+    out.extend_from_slice(&octal_digits(image.start))?;
     out.push(b'\n')?;
     Ok(())
 }
