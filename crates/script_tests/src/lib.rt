@@ -9,3 +9,5 @@ mod locks;
 mod ports;
 #[cfg(test)]
 mod scripts;
+#[cfg(test)]
+mod sources;
