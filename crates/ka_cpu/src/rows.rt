@@ -64,46 +64,72 @@ pub enum Row {
     TestO,
 }
 
-/// The rows of the operations 0 to 777 octal.
+/// The rows of the operations 0 to 777 octal, eight a line, each with its first.
 static ROWS: [Row; 512] = [
-    Other, Other, Other, Other, Other, Other, Other, Other, Other, Other, Other, Other, Other,
-    Other, Other, Other, Other, Other, Other, Other, Other, Other, Other, Other, Other, Other,
-    Other, Other, Other, Other, Other, Other, Other, Other, Other, Other, Other, Other, Other,
-    Calli, Other, Ttcall, Other, Other, Other, Other, Other, Other, Other, Other, Other, Other,
-    Other, Other, Other, Other, Other, Other, Other, Other, Other, Other, Other, Other, Other,
-    Other, Other, Other, Other, Other, Other, Other, Other, Other, Other, Other, Other, Other,
-    Other, Other, Other, Other, Other, Other, Other, Other, Other, Other, Other, Other, Other, Ibp,
-    Ildb, Ldb, Idpb, Dpb, Other, Other, Other, Other, Other, Other, Other, Other, Other, Other,
-    Other, Other, Other, Other, Other, Other, Other, Other, Other, Other, Other, Other, Other,
-    Other, Other, Other, Other, Other, Other, Other, Other, Other, Move, Move, Move, Move, Movs,
-    Movs, Movs, Movs, Movn, Movn, Movn, Movn, Movm, Movm, Movm, Movm, Imul, Imul, Imul, Imul, Mul,
-    Mul, Mul, Mul, Idiv, Idiv, Idiv, Idiv, Other, Other, Other, Other, Shift, Shift, Shift, Jffo,
-    Other, Shift, Shift, Other, Exch, Blt, Aobj, Aobj, Jrst, Jfcl, Xct, Other, Pushj, Push, Pop,
-    Popj, Jsr, Jsp, Jsa, Jra, Add, Add, Add, Add, Sub, Sub, Sub, Sub, Cai, Cai, Cai, Cai, Cai, Cai,
-    Cai, Cai, Cam, Cam, Cam, Cam, Cam, Cam, Cam, Cam, Jump, Jump, Jump, Jump, Jump, Jump, Jump,
-    Jump, Skip, Skip, Skip, Skip, Skip, Skip, Skip, Skip, Aoj, Aoj, Aoj, Aoj, Aoj, Aoj, Aoj, Aoj,
-    Aos, Aos, Aos, Aos, Aos, Aos, Aos, Aos, Soj, Soj, Soj, Soj, Soj, Soj, Soj, Soj, Sos, Sos, Sos,
-    Sos, Sos, Sos, Sos, Sos, Boolean, Boolean, Boolean, Boolean, Boolean, Boolean, Boolean,
-    Boolean, Boolean, Boolean, Boolean, Boolean, Boolean, Boolean, Boolean, Boolean, Boolean,
-    Boolean, Boolean, Boolean, Boolean, Boolean, Boolean, Boolean, Boolean, Boolean, Boolean,
-    Boolean, Boolean, Boolean, Boolean, Boolean, Boolean, Boolean, Boolean, Boolean, Boolean,
-    Boolean, Boolean, Boolean, Boolean, Boolean, Boolean, Boolean, Boolean, Boolean, Boolean,
-    Boolean, Boolean, Boolean, Boolean, Boolean, Boolean, Boolean, Boolean, Boolean, Boolean,
-    Boolean, Boolean, Boolean, Boolean, Boolean, Boolean, Boolean, Half, Half, Half, Half, Half,
-    Half, Half, Half, Half, Half, Half, Half, Half, Half, Half, Half, Half, Half, Half, Half, Half,
-    Half, Half, Half, Half, Half, Half, Half, Half, Half, Half, Half, Half, Half, Half, Half, Half,
-    Half, Half, Half, Half, Half, Half, Half, Half, Half, Half, Half, Half, Half, Half, Half, Half,
-    Half, Half, Half, Half, Half, Half, Half, Half, Half, Half, Half, TestN, TestN, TestN, TestN,
-    TestN, TestN, TestN, TestN, TestN, TestN, TestN, TestN, TestN, TestN, TestN, TestN, TestZ,
-    TestZ, TestZ, TestZ, TestZ, TestZ, TestZ, TestZ, TestZ, TestZ, TestZ, TestZ, TestZ, TestZ,
-    TestZ, TestZ, TestC, TestC, TestC, TestC, TestC, TestC, TestC, TestC, TestC, TestC, TestC,
-    TestC, TestC, TestC, TestC, TestC, TestO, TestO, TestO, TestO, TestO, TestO, TestO, TestO,
-    TestO, TestO, TestO, TestO, TestO, TestO, TestO, TestO, Other, Other, Other, Other, Other,
-    Other, Other, Other, Other, Other, Other, Other, Other, Other, Other, Other, Other, Other,
-    Other, Other, Other, Other, Other, Other, Other, Other, Other, Other, Other, Other, Other,
-    Other, Other, Other, Other, Other, Other, Other, Other, Other, Other, Other, Other, Other,
-    Other, Other, Other, Other, Other, Other, Other, Other, Other, Other, Other, Other, Other,
-    Other, Other, Other, Other, Other, Other, Other,
+    Other, Other, Other, Other, Other, Other, Other, Other, // 000
+    Other, Other, Other, Other, Other, Other, Other, Other, // 010
+    Other, Other, Other, Other, Other, Other, Other, Other, // 020
+    Other, Other, Other, Other, Other, Other, Other, Other, // 030
+    Other, Other, Other, Other, Other, Other, Other, Calli, // 040
+    Other, Ttcall, Other, Other, Other, Other, Other, Other, // 050
+    Other, Other, Other, Other, Other, Other, Other, Other, // 060
+    Other, Other, Other, Other, Other, Other, Other, Other, // 070
+    Other, Other, Other, Other, Other, Other, Other, Other, // 100
+    Other, Other, Other, Other, Other, Other, Other, Other, // 110
+    Other, Other, Other, Other, Other, Other, Other, Other, // 120
+    Other, Other, Other, Ibp, Ildb, Ldb, Idpb, Dpb, // 130
+    Other, Other, Other, Other, Other, Other, Other, Other, // 140
+    Other, Other, Other, Other, Other, Other, Other, Other, // 150
+    Other, Other, Other, Other, Other, Other, Other, Other, // 160
+    Other, Other, Other, Other, Other, Other, Other, Other, // 170
+    Move, Move, Move, Move, Movs, Movs, Movs, Movs, // 200
+    Movn, Movn, Movn, Movn, Movm, Movm, Movm, Movm, // 210
+    Imul, Imul, Imul, Imul, Mul, Mul, Mul, Mul, // 220
+    Idiv, Idiv, Idiv, Idiv, Other, Other, Other, Other, // 230
+    Shift, Shift, Shift, Jffo, Other, Shift, Shift, Other, // 240
+    Exch, Blt, Aobj, Aobj, Jrst, Jfcl, Xct, Other, // 250
+    Pushj, Push, Pop, Popj, Jsr, Jsp, Jsa, Jra, // 260
+    Add, Add, Add, Add, Sub, Sub, Sub, Sub, // 270
+    Cai, Cai, Cai, Cai, Cai, Cai, Cai, Cai, // 300
+    Cam, Cam, Cam, Cam, Cam, Cam, Cam, Cam, // 310
+    Jump, Jump, Jump, Jump, Jump, Jump, Jump, Jump, // 320
+    Skip, Skip, Skip, Skip, Skip, Skip, Skip, Skip, // 330
+    Aoj, Aoj, Aoj, Aoj, Aoj, Aoj, Aoj, Aoj, // 340
+    Aos, Aos, Aos, Aos, Aos, Aos, Aos, Aos, // 350
+    Soj, Soj, Soj, Soj, Soj, Soj, Soj, Soj, // 360
+    Sos, Sos, Sos, Sos, Sos, Sos, Sos, Sos, // 370
+    Boolean, Boolean, Boolean, Boolean, Boolean, Boolean, Boolean, Boolean, // 400
+    Boolean, Boolean, Boolean, Boolean, Boolean, Boolean, Boolean, Boolean, // 410
+    Boolean, Boolean, Boolean, Boolean, Boolean, Boolean, Boolean, Boolean, // 420
+    Boolean, Boolean, Boolean, Boolean, Boolean, Boolean, Boolean, Boolean, // 430
+    Boolean, Boolean, Boolean, Boolean, Boolean, Boolean, Boolean, Boolean, // 440
+    Boolean, Boolean, Boolean, Boolean, Boolean, Boolean, Boolean, Boolean, // 450
+    Boolean, Boolean, Boolean, Boolean, Boolean, Boolean, Boolean, Boolean, // 460
+    Boolean, Boolean, Boolean, Boolean, Boolean, Boolean, Boolean, Boolean, // 470
+    Half, Half, Half, Half, Half, Half, Half, Half, // 500
+    Half, Half, Half, Half, Half, Half, Half, Half, // 510
+    Half, Half, Half, Half, Half, Half, Half, Half, // 520
+    Half, Half, Half, Half, Half, Half, Half, Half, // 530
+    Half, Half, Half, Half, Half, Half, Half, Half, // 540
+    Half, Half, Half, Half, Half, Half, Half, Half, // 550
+    Half, Half, Half, Half, Half, Half, Half, Half, // 560
+    Half, Half, Half, Half, Half, Half, Half, Half, // 570
+    TestN, TestN, TestN, TestN, TestN, TestN, TestN, TestN, // 600
+    TestN, TestN, TestN, TestN, TestN, TestN, TestN, TestN, // 610
+    TestZ, TestZ, TestZ, TestZ, TestZ, TestZ, TestZ, TestZ, // 620
+    TestZ, TestZ, TestZ, TestZ, TestZ, TestZ, TestZ, TestZ, // 630
+    TestC, TestC, TestC, TestC, TestC, TestC, TestC, TestC, // 640
+    TestC, TestC, TestC, TestC, TestC, TestC, TestC, TestC, // 650
+    TestO, TestO, TestO, TestO, TestO, TestO, TestO, TestO, // 660
+    TestO, TestO, TestO, TestO, TestO, TestO, TestO, TestO, // 670
+    Other, Other, Other, Other, Other, Other, Other, Other, // 700
+    Other, Other, Other, Other, Other, Other, Other, Other, // 710
+    Other, Other, Other, Other, Other, Other, Other, Other, // 720
+    Other, Other, Other, Other, Other, Other, Other, Other, // 730
+    Other, Other, Other, Other, Other, Other, Other, Other, // 740
+    Other, Other, Other, Other, Other, Other, Other, Other, // 750
+    Other, Other, Other, Other, Other, Other, Other, Other, // 760
+    Other, Other, Other, Other, Other, Other, Other, Other, // 770
 ];
 
 /// The row of an operation in a table of all.
