@@ -84,6 +84,53 @@ fn worked(rt: HostRuntime) {
     );
 }
 
+#[test]
+fn programs(rt: HostRuntime) {
+    let alloc = rt.alloc();
+    assert!(rt;
+        gives(
+            alloc,
+            " MOVEI 5,^D100\nLOOP: MOVE 1,[BLK]\n ENQ. 1,\n HALT\n MOVEI 1,0\n DATRD. 1,\n HALT\n MOVE 2,1\n ADDI 2,1\n MOVEI 1,0\n DATWR. 1,\n HALT\n MOVE 1,[BLK]\n DEQ. 1,\n HALT\n SOJG 5,LOOP\n EXIT\nBLK: 1,,5\n 0,,7\n 777777\n POINT 7,[ASCIZ /X/]\n 0\n END\n",
+            &[
+                (0o140, 0o201240, 0o144),
+                (0o141, 0o200040, 0o166),
+                (0o142, 0o047040, 0o151),
+                (0o143, 0o254200, 0),
+                (0o144, 0o201040, 0),
+                (0o145, 0o047040, 0o777776),
+                (0o146, 0o254200, 0),
+                (0o147, 0o200100, 1),
+                (0o150, 0o271100, 1),
+                (0o151, 0o201040, 0),
+                (0o152, 0o047040, 0o777775),
+                (0o153, 0o254200, 0),
+                (0o154, 0o200040, 0o167),
+                (0o155, 0o047040, 0o152),
+                (0o156, 0o254200, 0),
+                (0o157, 0o367240, 0o141),
+                (0o160, 0o047000, 0o12),
+                (0o161, 1, 5),
+                (0o162, 0, 7),
+                (0o163, 0, 0o777777),
+                (0o164, 0o440700, 0o170),
+                (0o165, 0, 0),
+                (0o166, 0, 0o161),
+                (0o167, 0, 0o161),
+                (0o170, 0o540000, 0),
+            ],
+            0o140
+        )
+    );
+    assert!(rt;
+        gives(
+            alloc,
+            " OUTSTR [ASCIZ /HI/]\n END\n",
+            &[(0o140, 0o051140, 0o141), (0o141, 0o442220, 0)],
+            0o140
+        )
+    );
+}
+
 /// A source, and the line and the code that it is refused with.
 const REFUSED: [(&[u8], usize, u8); 70] = [
     (b" ?\n END\n", 1, 1),
