@@ -1,22 +1,21 @@
--- A binary search in the names as they are sorted finds each operation by its name, and nothing by another text.
-use Rattle.std.proofs.Common.{◌≡◌, ◌≢◌, ℕ, zero, suc, ◌+◌, ◌<◌, List, [], ◌∷◌, length, map, get_or, Bor, true, false, ◌&&◌, Option, Some, None, Err, refl, sym, ap, ◌∙◌, inl, inr, ◌⊎◌, nat_cmp, arith}
+-- A search by key in the table of names finds each operation by its name, and nothing by another text.
+use Rattle.std.proofs.Common.{◌≡◌, ◌≢◌, ℕ, zero, suc, ◌<◌, ◌≤◌, MatchResult, List, [], ◌∷◌, length, map, get_or, Bor, true, false, Option, Some, None, Err, refl, sym, ap, ◌∙◌, inl, inr, nat_cmp, arith}
 use Rattle.std.specs.Str.{bytes_eq}
 use Rattle.std.specs.List.{list_any}
 use Rattle.std.specs.List.Sorted.{IsBinarySearchResult}
-use Rattle.std.specs.Ordering.{is_lt, is_eq}
-use Rattle.std.specs.declared.cmp.Ordering.TheVariants.{Less, Equal, Greater}
-use Rattle.std.specs.Cmp.Lexicographic.{slice_cmp}
-use Rattle.std.proofs.lemmas.Bool.{and_parts, not-true, eqb-true, false≢true, cases_lt, both_ways, false_from_ne_true}
+use Rattle.std.specs.declared.result.Result.{Result}
+use Rattle.std.proofs.lemmas.Bool.{and_parts, eqb-true, ltb-true, false≢true, cases_lt, both_ways, false_from_ne_true}
 use Rattle.std.proofs.lemmas.Slice.Eq.{bytes_eq-Decides}
-use Rattle.std.proofs.lemmas.Map.Text.{is_eq-slice_cmp}
-use Rattle.std.proofs.lemmas.Cmp.{nat_list_cmp_total, tied_itself}
 use Rattle.std.proofs.lemmas.List.{get_or-map, length-map}
-use Rattle.std.proofs.lemmas.List.Sorted.{searchable_from_sorted}
+use Rattle.std.proofs.lemmas.List.Sorted.{searched}
 use Rattle.ka_isa.specs.Operations.{Name, Operation, operations, code_in}
-use Rattle.ka_isa.specs.Tables.{is_code, have_codes, are_sorted, have_names, are_by_name}
+use Rattle.ka_isa.specs.Tables.{is_code, have_codes, key_of, have_keys, are_rising, have_names, are_by_name}
 
-same : (xs ys : List ℕ) → bytes_eq xs ys ≡ true → xs ≡ ys
+pub same : (xs ys : List ℕ) → bytes_eq xs ys ≡ true → xs ≡ ys
 same xs ys h = (bytes_eq-Decides xs ys).0 h
+
+pub differ : (xs ys : List ℕ) → bytes_eq xs ys ≡ false → xs ≢ ys
+differ xs ys h e = both_ways _ h ((bytes_eq-Decides xs ys).1 e)
 
 -- ---- a name that stands in the table
 
@@ -35,24 +34,82 @@ code_at os (n ∷ ns) (c ∷ cs) (suc place) h p =
     let rest = code_at os ns cs place parts.1 (omega arith) in
     (omega (arith, rest.0), rest.1)
 
-pub code_found : (table : List (Bor (List ℕ))) (codes name : List ℕ) (place : ℕ) (d : Bor (List ℕ)) → are_by_name (map (λ x. x.now) table) codes ≡ true → place < length table → slice_cmp nat_cmp (get_or table place d).now name ≡ Equal → (place < length codes) × (Some (get_or codes place 0) ≡ code_in operations name)
+abbrev names_of : List (Bor (List ℕ)) → List Name
+names_of table = map (λ x. x.now) table
+
+pub code_found : (table : List (Bor (List ℕ))) (keys codes name : List ℕ) (place : ℕ) (d : Bor (List ℕ)) → are_by_name (names_of table) keys codes ≡ true → place < length table → (get_or table place d).now ≡ name → (place < length codes) × (Some (get_or codes place 0) ≡ code_in operations name)
 unfolding are_by_name
-code_found table codes name place d h p e =
+code_found table keys codes name place d h p here =
     let parts = and_parts _ _ h in
-    let right = code_at operations (map (λ x. x.now) table) codes place (and_parts _ _ parts.0).0 (omega (arith, length-map table (λ x. x.now))) in
-    let here = same (get_or table place d).now name (sym (is_eq-slice_cmp (get_or table place d).now name) ∙ ap is_eq e) in
+    let right = code_at operations (names_of table) codes place (and_parts _ _ parts.0).0 (omega (arith, length-map table (λ x. x.now))) in
     let read = get_or-map (λ x. x.now) table place d [] p ∙ here in
     (right.0, right.1 ∙ ap (code_in operations) read)
 
--- ---- a name that does not
+-- ---- keys
 
-sorted_from : (table : List (Bor (List ℕ))) → are_sorted (map (λ x. x.now) table) ≡ true → (k : ℕ) (d : Bor (List ℕ)) → k + 1 < length table → is_lt (slice_cmp nat_cmp (get_or table (k + 1) d).now (get_or table k d).now) ≡ false
-sorted_from [] h k d p = absurd (omega arith)
-sorted_from (x ∷ []) h k d p = absurd (omega arith)
-sorted_from (x ∷ y ∷ xs) h zero d p = not-true _ (and_parts _ _ h).0
-sorted_from (x ∷ y ∷ xs) h (suc k) d p =
-    let e : suc k + 1 ≡ suc (k + 1) = omega arith in
-    rw e (sorted_from (y ∷ xs) (and_parts _ _ h).1 k d (omega arith))
+key_there : (names : List Name) (keys : List ℕ) (k : ℕ) → have_keys names keys ≡ true → k < length names → (k < length keys) × (get_or keys k 0 ≡ key_of (get_or names k []))
+key_there [] keys k h p = absurd (omega arith)
+key_there (n ∷ ns) [] k h p = absurd (false≢true h)
+key_there (n ∷ ns) (x ∷ xs) zero h p = (omega arith, sym (eqb-true (key_of n) x (and_parts _ _ h).0))
+key_there (n ∷ ns) (x ∷ xs) (suc k) h p =
+    let rest = key_there ns xs k (and_parts _ _ h).1 (omega arith) in
+    (omega (arith, rest.0), rest.1)
+
+as_many : (names : List Name) (keys : List ℕ) → have_keys names keys ≡ true → length names ≡ length keys
+as_many [] [] h = refl
+as_many [] (x ∷ xs) h = absurd (false≢true h)
+as_many (n ∷ ns) [] h = absurd (false≢true h)
+as_many (n ∷ ns) (x ∷ xs) h = ap suc (as_many ns xs (and_parts _ _ h).1)
+
+rest_rises : (x : ℕ) (xs : List ℕ) → are_rising (x ∷ xs) ≡ true → are_rising xs ≡ true
+rest_rises x [] h = refl
+rest_rises x (y ∷ ys) h = (and_parts _ _ h).1
+
+above_first : (x : ℕ) (xs : List ℕ) (k : ℕ) → are_rising (x ∷ xs) ≡ true → k < length xs → x < get_or xs k 0
+above_first x [] k h p = absurd (omega arith)
+above_first x (y ∷ ys) zero h p = ltb-true x y (and_parts _ _ h).0
+above_first x (y ∷ ys) (suc k) h p =
+    let first = ltb-true x y (and_parts _ _ h).0 in
+    let more = above_first y ys k (and_parts _ _ h).1 (omega arith) in
+    omega (arith, first, more)
+
+rising : (xs : List ℕ) (i j : ℕ) → are_rising xs ≡ true → i < j → j < length xs → get_or xs i 0 < get_or xs j 0
+rising [] i j h lt p = absurd (omega arith)
+rising (x ∷ xs) i zero h lt p = absurd (omega arith)
+rising (x ∷ xs) zero (suc j) h lt p = above_first x xs j h (omega arith)
+rising (x ∷ xs) (suc i) (suc j) h lt p = rising xs i j (rest_rises x xs h) (omega arith) (omega arith)
+
+not_falling : (xs : List ℕ) → are_rising xs ≡ true → (i j : ℕ) → i ≤ j → j < length xs → get_or xs i 0 ≤ get_or xs j 0
+not_falling xs h i j le p = elim (cases_lt i j) [
+  | inl lt ↦ (let r = rising xs i j h lt p in omega (arith, r))
+  | inr ge ↦ (let e : i ≡ j = omega arith in let same_key = ap (λ n. get_or xs n 0) e in omega (arith, same_key))
+]
+
+one_place : (xs : List ℕ) (i j : ℕ) → are_rising xs ≡ true → i < length xs → j < length xs → get_or xs i 0 ≡ get_or xs j 0 → i ≡ j
+one_place xs i j h p q e = elim (cases_lt i j) [
+  | inl lt ↦ (let r = rising xs i j h lt q in absurd (omega (arith, r, e)))
+  | inr ge ↦ elim (cases_lt j i) [
+    | inl lt ↦ (let r = rising xs j i h lt p in absurd (omega (arith, r, e)))
+    | inr le ↦ omega arith
+  ]
+]
+
+keys_of : (table : List (Bor (List ℕ))) (keys codes : List ℕ) → are_by_name (names_of table) keys codes ≡ true → (have_keys (names_of table) keys ≡ true) × (are_rising keys ≡ true)
+unfolding are_by_name
+keys_of table keys codes h = and_parts _ _ (and_parts _ _ (and_parts _ _ h).0).1
+
+pub as_long : (table : List (Bor (List ℕ))) (keys codes : List ℕ) → are_by_name (names_of table) keys codes ≡ true → length table ≡ length keys
+as_long table keys codes h = sym (length-map table (λ x. x.now)) ∙ as_many (names_of table) keys (keys_of table keys codes h).0
+
+key_of_name : (table : List (Bor (List ℕ))) (keys codes : List ℕ) (k : ℕ) (d : Bor (List ℕ)) → are_by_name (names_of table) keys codes ≡ true → k < length table → get_or keys k 0 ≡ key_of (get_or table k d).now
+key_of_name table keys codes k d h p =
+    (key_there (names_of table) keys k (keys_of table keys codes h).0 (omega (arith, length-map table (λ x. x.now)))).1
+    ∙ ap key_of (get_or-map (λ x. x.now) table k d [] p)
+
+pub key_found : (table : List (Bor (List ℕ))) (keys codes : List ℕ) (x : ℕ) (r : Result ℕ ℕ) → are_by_name (names_of table) keys codes ≡ true → IsBinarySearchResult (λ y. nat_cmp y x) keys r → MatchResult r (λ i. (i < length keys) × (get_or keys i 0 ≡ x)) (λ i. (i ≤ length keys) × ((k : ℕ) → k < i → get_or keys k 0 < x) × ((k : ℕ) → i ≤ k → k < length keys → x < get_or keys k 0))
+key_found table keys codes x r h s = searched keys x r s (not_falling keys (keys_of table keys codes h).1)
+
+-- ---- a name that does not stand in it
 
 none_there : (table : List (Bor (List ℕ))) (name : List ℕ) → ((k : ℕ) (d : Bor (List ℕ)) → k < length table → (get_or table k d).now ≢ name) → list_any (bytes_eq name) (map (λ x. x.now) table) ≡ false
 none_there [] name h = refl
@@ -67,17 +124,31 @@ no_code (o ∷ os) names name h none =
     let other = false_from_ne_true (bytes_eq o.name name) (λ e. both_ways _ none (ap (λ n. list_any (bytes_eq n) names) (sym (same o.name name e)) ∙ parts.0)) in
     rw other (no_code os names name parts.1 none)
 
-pub no_code_found : (table : List (Bor (List ℕ))) (codes name : List ℕ) (place : ℕ) → are_by_name (map (λ x. x.now) table) codes ≡ true → IsBinarySearchResult {X = Bor (List ℕ)} (λ y. slice_cmp nat_cmp y.now name) table (Err place) → None ≡ code_in operations name
+other_name : (table : List (Bor (List ℕ))) (keys codes name : List ℕ) → are_by_name (names_of table) keys codes ≡ true → ((k : ℕ) (d : Bor (List ℕ)) → k < length table → (get_or table k d).now ≢ name) → None ≡ code_in operations name
 unfolding are_by_name
-no_code_found table codes name place h found =
-    let names = map (λ x. x.now) table in
-    let parts = and_parts (have_codes operations names codes && are_sorted names) (have_names names operations) h in
-    let sorted = sorted_from table (and_parts (have_codes operations names codes) (are_sorted names) parts.0).1 in
-    let parted = found (searchable_from_sorted nat_list_cmp_total (λ y. y.now) table name (λ k d p q. sorted k d q)) in
-    let none = none_there table name (λ k d p e. apart (cases_lt k place) (get_or table k d).now e (λ q. parted.0 k d (omega arith) q) (λ q. parted.1 k d q p)) in
-    no_code operations names name parts.1 none
+other_name table keys codes name h other = no_code operations (names_of table) name (and_parts _ _ h).1 (none_there table name other)
+
+-- the name beside the key is another
+pub other_beside_key : (table : List (Bor (List ℕ))) (keys codes name : List ℕ) (place : ℕ) (d : Bor (List ℕ)) → are_by_name (names_of table) keys codes ≡ true → place < length keys → get_or keys place 0 ≡ key_of name → (get_or table place d).now ≢ name → None ≡ code_in operations name
+other_beside_key table keys codes name place d h p key other = other_name table keys codes name h (λ k e within is.
+    let long = as_long table keys codes h in
+    let its_key = key_of_name table keys codes k e h within ∙ ap key_of is in
+    let here : k ≡ place = one_place keys k place (keys_of table keys codes h).1 (omega (arith, long)) p (its_key ∙ sym key) in
+    other (ap (λ n. (get_or table n d).now) (sym here) ∙ any_default table k d e within ∙ is))
   where
-    apart : {P Q : Type 0} → P ⊎ Q → (text : List ℕ) → text ≡ name → (P → slice_cmp nat_cmp text name ≡ Less) → (Q → slice_cmp nat_cmp text name ≡ Greater) → ⊥
-    apart s text e less greater =
-        let tied = ap (λ t. slice_cmp nat_cmp t name) e ∙ tied_itself nat_list_cmp_total name in
-        elim s [ inl p ↦ (let l = less p in cc) | inr q ↦ (let g = greater q in cc) ]
+    any_default : (table : List (Bor (List ℕ))) (k : ℕ) (d e : Bor (List ℕ)) → k < length table → (get_or table k d).now ≡ (get_or table k e).now
+    any_default [] k d e p = absurd (omega arith)
+    any_default (x ∷ xs) zero d e p = refl
+    any_default (x ∷ xs) (suc k) d e p = any_default xs k d e (omega arith)
+
+-- the key is that of no name
+pub no_code_found : (table : List (Bor (List ℕ))) (keys codes name : List ℕ) (place : ℕ) → are_by_name (names_of table) keys codes ≡ true → IsBinarySearchResult (λ y. nat_cmp y (key_of name)) keys (Err place) → None ≡ code_in operations name
+no_code_found table keys codes name place h found =
+    let parted = key_found table keys codes (key_of name) (Err place) h found in
+    other_name table keys codes name h (λ k d within is.
+    let long = as_long table keys codes h in
+    let its_key = key_of_name table keys codes k d h within ∙ ap key_of is in
+    elim (cases_lt k place) [
+      | inl lt ↦ (let less = parted.1 k lt in omega (arith, less, its_key))
+      | inr le ↦ (let more = parted.2 k le (omega (arith, long)) in omega (arith, more, its_key))
+    ])

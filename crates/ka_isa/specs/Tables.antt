@@ -1,8 +1,6 @@
 -- Tests that the program's tables hold the operations and calls of `Operations`: each is computed once, over the whole table.
-use Rattle.std.specs.Prelude.{ℕ, ◌+◌, Bool, true, false, not, ◌&&◌, ◌==◌, nat_le, List, [], ◌∷◌, length, map, Option, Some, None}
+use Rattle.std.specs.Prelude.{ℕ, ◌+◌, ◌*◌, ◌^◌, nat_lt, slice_index, Bool, true, false, ◌&&◌, ◌==◌, nat_le, List, [], ◌∷◌, length, map, Option, Some, None}
 use Rattle.std.specs.List.{list_all, list_any}
-use Rattle.std.specs.Ordering.{is_lt, nat_cmp}
-use Rattle.std.specs.Cmp.Lexicographic.{slice_cmp}
 use Rattle.std.specs.Borrow.{Bor}
 use Rattle.std.specs.Str.{bytes_eq}
 use Rattle.ka_isa.specs.Operations.{Name, Operation, NamedCall, operations, name_in, code_in}
@@ -39,18 +37,29 @@ have_codes os [] (code ∷ codes) = false
 have_codes os (name ∷ names) [] = false
 have_codes os (name ∷ names) (code ∷ codes) = is_code (code_in os name) code && have_codes os names codes
 
--- no name is before the one that stands before it
-abbrev pub are_sorted : List Name → Bool
-are_sorted [] = true
-are_sorted (name ∷ []) = true
-are_sorted (name ∷ next ∷ names) = not (is_lt (slice_cmp nat_cmp next name)) && are_sorted (next ∷ names)
+-- the first six characters of a name as one number, eight bits each, the first highest
+abbrev pub key_of : Name → ℕ
+key_of name = slice_index name 0 * 2 ^ 40 + slice_index name 1 * 2 ^ 32 + slice_index name 2 * 2 ^ 24 + slice_index name 3 * 2 ^ 16 + slice_index name 4 * 2 ^ 8 + slice_index name 5
+
+-- each name has the key beside it, and there are as many of both
+abbrev pub have_keys : List Name → List ℕ → Bool
+have_keys [] [] = true
+have_keys [] (key ∷ keys) = false
+have_keys (name ∷ names) [] = false
+have_keys (name ∷ names) (key ∷ keys) = key_of name == key && have_keys names keys
+
+-- each key is above the one that stands before it
+abbrev pub are_rising : List ℕ → Bool
+are_rising [] = true
+are_rising (key ∷ []) = true
+are_rising (key ∷ next ∷ keys) = nat_lt key next && are_rising (next ∷ keys)
 
 -- each operation's name is one of them
 abbrev pub have_names : List Name → List Operation → Bool
 have_names names os = list_all (λ o. list_any (bytes_eq o.name) names) os
 
-unfoldable pub are_by_name : List Name → List ℕ → Bool
-are_by_name names codes = have_codes operations names codes && are_sorted names && have_names names operations
+unfoldable pub are_by_name : List Name → List ℕ → List ℕ → Bool
+are_by_name names keys codes = have_codes operations names codes && (have_keys names keys && are_rising keys) && have_names names operations
 
 -- the rows of the program's table of calls
 abbrev pub call_rows : List (Bor (List ℕ) × Call) → List NamedCall

@@ -1,6 +1,7 @@
 pub mod NaturalLemmas
 pub mod ItemLemmas
 pub mod AsciiLemmas
+pub mod WordLemmas
 pub mod LineLemmas
 pub mod SourceLemmas
 pub mod NumberTexts

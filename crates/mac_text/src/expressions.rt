@@ -8,6 +8,7 @@ ghost use Rattle.mac_text.specs.Expressions.{word_term_at, marked_at, literal_at
 use crate::characters::is_digit;
 use crate::fault::Fault;
 use crate::numbers::number;
+use crate::place::{clear, fill};
 use crate::scanner::Scanner;
 use crate::sum::Expression;
 use crate::symbol::Symbol;
@@ -73,31 +74,41 @@ fn literal(scan: &mut Scanner<'_>) -> Result<Term, Fault>
     }
 }
 
-#[tactic(auto, unfolding(crate::specs::Expressions::term_at))]
+#[tactic(auto, unfolding(crate::specs::Expressions::term_at), using(crate::proofs::WordLemmas::skip_twice))]
 fn term(scan: &mut Scanner<'_>) -> Result<Term, Fault>
     ensures { Gives (λ x. (x, scan.new)) result (term_at scan.old) }
 {
-    if scan.eat(b'[') {
-        literal(scan)
-    } else if scan.eat(b'^') {
-        marked_number(scan)
-    } else {
-        word_term(scan)
+    scan.skip();
+    match scan.head() {
+        Some(b'[') => {
+            scan.advance(1);
+            literal(scan)
+        }
+        Some(b'^') => {
+            scan.advance(1);
+            marked_number(scan)
+        }
+        _ => word_term(scan),
     }
 }
 
 /// The sign that comes next, if one does.
-#[tactic(auto, unfolding(crate::specs::Expressions::sign_at))]
+#[tactic(auto, unfolding(crate::specs::Expressions::sign_at), using(crate::proofs::WordLemmas::skip_twice))]
 fn sign(scan: &mut Scanner<'_>) -> Option<Sign>
     ensures value { result ≡ (sign_at scan.old).0 }
     ensures rest { scan.new ≡ (sign_at scan.old).1 }
 {
-    if scan.eat(b'+') {
-        Some(Sign::Plus)
-    } else if scan.eat(b'-') {
-        Some(Sign::Minus)
-    } else {
-        None
+    scan.skip();
+    match scan.head() {
+        Some(b'+') => {
+            scan.advance(1);
+            Some(Sign::Plus)
+        }
+        Some(b'-') => {
+            scan.advance(1);
+            Some(Sign::Minus)
+        }
+        _ => None,
     }
 }
 
@@ -155,10 +166,10 @@ pub fn optional_expression(
 ) -> Result<(), Fault>
     ensures { Gives (λ _. (place.new, scan.new)) result (optional_at scan.old) }
 {
-    *place = if scan.is_at_expression() {
-        Some(expression(scan)?)
+    if scan.is_at_expression() {
+        fill(place, expression(scan)?);
     } else {
-        None
-    };
+        clear(place);
+    }
     Ok(())
 }

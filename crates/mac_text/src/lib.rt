@@ -8,6 +8,7 @@ mod keyword;
 mod line;
 mod natural;
 mod numbers;
+mod place;
 mod printed;
 mod scanner;
 mod sequence;

@@ -7,6 +7,7 @@ ghost use Rattle.mac_text.specs.Lines.{is_ascii, next_label_at, optional_stateme
 
 use crate::expressions::is_name;
 use crate::fault::Fault;
+use crate::place::clear;
 use crate::scanner::Scanner;
 use crate::sequence::Sequence;
 use crate::statements::statement;
@@ -15,13 +16,13 @@ use crate::syntax::{Data, Line, Statement, TextForm};
 use std::alloc::Global;
 
 /// The next label, if one comes next: a name with a colon right behind it.
-#[tactic(auto, unfolding(crate::specs::Lines::next_label_at))]
+#[tactic(auto, unfolding(crate::specs::Lines::next_label_at), using(crate::proofs::WordLemmas::word_length))]
 fn next_label(scan: &mut Scanner<'_>) -> Option<Symbol>
     ensures { next_label_at scan.old ≡ Some (result, scan.new) }
 {
     scan.skip();
     let word = scan.word();
-    if is_name(word) && scan.is_followed_by_colon() {
+    if is_name(word) && scan.has_colon_behind(word.len()) {
         scan.advance(word.len() + 1);
         Some(Symbol::of(word))
     } else {
@@ -50,7 +51,7 @@ fn optional_statement(scan: &mut Scanner<'_>, place: &mut Option<Statement>) -> 
     ensures { Gives (λ _. (place.new, scan.new)) result (optional_statement_at scan.old) }
 {
     if scan.is_at_end() {
-        *place = None;
+        clear(place);
     } else {
         statement(scan, place)?;
     }

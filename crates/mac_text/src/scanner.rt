@@ -1,9 +1,9 @@
 //! A line as it is read from left to right.
 
-ghost use Rattle.std.specs.Prelude.{◌≡◌, ◌<◌, ◌≤◌, List, [], ◌∷◌, ◌++◌, map, Some, None, Bool, true, false, IsTrue, length};
+ghost use Rattle.std.specs.Prelude.{◌≡◌, ◌<◌, ◌≤◌, List, [], ◌∷◌, ◌++◌, map, Some, None, Bool, true, false, IsTrue, length, drop};
 ghost use Rattle.mac_text.specs.Scan.{Gives, Scan, skipped, head_of, begins_with, meets, eaten, word_of, take_cut, begins_expression, is_at_end, without, meets_commas, commas_eaten, comment_of};
 ghost use Rattle.std.specs.Str.{IsAscii};
-ghost use Rattle.mac_text.specs.Texts.{take_text, after_word};
+ghost use Rattle.mac_text.specs.Texts.{take_text};
 
 use crate::characters::{blanks_len, is_name_character, title_len, word_len};
 use crate::fault::Fault;
@@ -111,14 +111,13 @@ impl<'a> Scanner<'a> {
         &rest[..word_len(rest)]
     }
 
-    /// Whether a colon stands right behind the word that comes next.
-    pub fn is_followed_by_colon(&self) -> bool
-        ensures colon { result ≡ begins_with 58 (after_word self.now.rest) }
-        ensures more { IsTrue result → length (word_of self.now.rest) < length self.now.rest }
+    /// Whether a colon stands behind so many bytes.
+    pub fn has_colon_behind(&self, n: usize) -> bool
+        ensures colon { result ≡ begins_with 58 (drop n self.now.rest) }
+        ensures more { IsTrue result → n < length self.now.rest }
     {
         let rest = self.rest;
-        let len = word_len(rest);
-        len < rest.len() && rest[len] == b':'
+        n < rest.len() && rest[n] == b':'
     }
 
     /// Goes over so many bytes.

@@ -11,6 +11,7 @@ use crate::fault::Fault;
 use crate::keyword::{Form, form_of};
 use crate::natural::Natural;
 use crate::numbers::number;
+use crate::place::{clear, fill};
 use crate::scanner::Scanner;
 use crate::sequence::Sequence;
 use crate::sum::Expression;
@@ -24,10 +25,10 @@ fn index(scan: &mut Scanner<'_>, place: &mut Option<Expression>) -> Result<(), F
     ensures { Gives (λ _. (place.new, scan.new)) result (index_at scan.old) }
 {
     if !scan.eat(b'(') {
-        *place = None;
+        clear(place);
         return Ok(());
     }
-    *place = Some(expression(scan)?);
+    fill(place, expression(scan)?);
     if !scan.eat(b')') {
         return Err(Fault::Syntax);
     }
@@ -73,9 +74,10 @@ fn is_allowed(named: Named, accumulator: &Option<Expression>, operand: &Operand)
         && (named.addr || !operand.indirect && operand.address.is_none() && operand.index.is_none())
 }
 
-/// What follows the name of an instruction.
+/// Reads what follows the name of an instruction, and puts the statement in place.
+#[inline(always)]
 #[tactic(auto, unfolding(crate::specs::Statements::instruction_at))]
-fn instruction(
+fn read_instruction(
     named: Named,
     scan: &mut Scanner<'_>,
     place: &mut Option<Statement>,
@@ -98,6 +100,36 @@ fn instruction(
         }
     }
     Err(Fault::Syntax)
+}
+
+/// The same where the place is not empty.
+#[inline(never)]
+fn replace_by_instruction(
+    named: Named,
+    scan: &mut Scanner<'_>,
+    place: &mut Option<Statement>,
+) -> Result<(), Fault>
+    ensures { Gives (λ _. (place.new, scan.new)) result (present (with_data data_of.Instruction (instruction_at named scan.old))) }
+{
+    let mut read = None;
+    read_instruction(named, scan, &mut read)?;
+    *place = read;
+    Ok(())
+}
+
+/// The same with a place that is empty as a rule.
+fn instruction(
+    named: Named,
+    scan: &mut Scanner<'_>,
+    place: &mut Option<Statement>,
+) -> Result<(), Fault>
+    ensures { Gives (λ _. (place.new, scan.new)) result (present (with_data data_of.Instruction (instruction_at named scan.old))) }
+{
+    if place.is_none() {
+        read_instruction(named, scan, place)
+    } else {
+        replace_by_instruction(named, scan, place)
+    }
 }
 
 /// Two expressions with a comma between them.

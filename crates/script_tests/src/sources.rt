@@ -1,4 +1,5 @@
 //! Sources: what `serve_asm` writes and answers, over ports that pass few bytes at once or fail.
+ghost use Rattle.std.specs.Prelude.{◌<◌};
 
 use crate::scripts::MANY;
 use op_script::{ByteOut, ServeError, TestIn, TestOut, serve_asm};
@@ -15,7 +16,9 @@ fn serves(
     most: usize,
     answer: Result<(), ServeError>,
     text: &[u8],
-) -> bool {
+) -> bool
+    requires { 0 < most }
+{
     let mut room = [0u8; 1024];
     let mut reader = TestIn::new(source, most, MANY);
     let mut writer = TestOut::new(&mut room, most, MANY);

@@ -1,14 +1,25 @@
-use Rattle.ka_isa.proofs.SearchLemmas.{code_found, no_code_found}
+use Rattle.std.proofs.Common.{◌∙◌, ◌<◌, length, Ok, sym, arith}
+use Rattle.ka_isa.proofs.SearchLemmas.{same, differ, as_long, key_found, code_found, other_beside_key, no_code_found}
 use Rattle.ka_isa.proofs.names.operation_in.Goals as goal
+
+pub bounds-names-place : goal.bounds-names-place
+bounds-names-place c = omega (arith, as_long c.args.names.now c.args.keys.now c.args.codes.now c.requires, c.in-Ok.ensures.bound)
 
 pub bounds-codes-place : goal.bounds-codes-place
 bounds-codes-place c =
-    (code_found c.args.names.now c.args.codes.now c.args.name.now c.in-Ok.place c.args.name c.requires c.in-Ok.ensures.bound (c.in-Ok.ensures.ok c.args.name)).0
+    let within : c.in-Ok.place < length c.args.names.now = omega (arith, as_long c.args.names.now c.args.keys.now c.args.codes.now c.requires, c.in-Ok.ensures.bound) in
+    (code_found c.args.names.now c.args.keys.now c.args.codes.now c.args.name.now c.in-Ok.place _ c.requires within (same _ _ (sym c.eq.ensures ∙ c.if-eq.true))).0
 
-pub returns-in-Ok : goal.returns-in-Ok
-returns-in-Ok c =
-    (code_found c.args.names.now c.args.codes.now c.args.name.now c.in-Ok.place c.args.name c.requires c.in-Ok.ensures.bound (c.in-Ok.ensures.ok c.args.name)).1
+pub returns-then-eq : goal.returns-then-eq
+returns-then-eq c =
+    let within : c.in-Ok.place < length c.args.names.now = omega (arith, as_long c.args.names.now c.args.keys.now c.args.codes.now c.requires, c.in-Ok.ensures.bound) in
+    (code_found c.args.names.now c.args.keys.now c.args.codes.now c.args.name.now c.in-Ok.place _ c.requires within (same _ _ (sym c.eq.ensures ∙ c.if-eq.true))).1
+
+pub returns-else-eq : goal.returns-else-eq
+returns-else-eq c =
+    let key = key_found c.args.names.now c.args.keys.now c.args.codes.now c.key.result (Ok c.in-Ok.place) c.requires c.in-Ok.ensures.position in
+    other_beside_key c.args.names.now c.args.keys.now c.args.codes.now c.args.name.now c.in-Ok.place _ c.requires c.in-Ok.ensures.bound (key.1 ∙ c.key.ensures) (differ _ _ (sym c.eq.ensures ∙ c.if-eq.false))
 
 pub returns-in-Err : goal.returns-in-Err
 returns-in-Err c =
-    no_code_found c.args.names.now c.args.codes.now c.args.name.now c.in-Err.field-0 c.requires c.in-Err.ensures.position
+    no_code_found c.args.names.now c.args.keys.now c.args.codes.now c.args.name.now c.in-Err.field-0 c.requires (rw (← c.key.ensures) c.in-Err.ensures.position)
