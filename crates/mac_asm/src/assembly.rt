@@ -14,17 +14,12 @@ ghost use Rattle.mac_asm.specs.Filled.{Puts, PutsLine, PutsLines, Assembles, sta
 use crate::cells::{put, put_zeros, words_in_cells};
 use crate::error::{AsmCode, AsmError};
 use crate::layout::lay_out;
+use crate::places::{FIRST, PLACES};
 use crate::sums::{Labels, Scope, value};
 use crate::words::{are_known, is_known_if, push_words, start};
 use mac_text::{Data, Expression, Line, Natural, ParseError, Statement, parse};
 use std::alloc::{AllocError, Global};
 use word36::{Image, Word};
-
-/// The start where END names none.
-const FIRST: u32 = 0o140;
-
-/// How many places a job's memory has.
-const PLACES: usize = 1 << 18;
 
 /// The memory that a source fills.
 #[derive(Drop)]

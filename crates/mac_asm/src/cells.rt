@@ -1,21 +1,12 @@
 //! The words of a program in the cells of a memory.
 
-ghost use Rattle.std.specs.Prelude.{◌≡◌, ◌≤◌, ◌^◌, min, IfOk, length, replicate};
+ghost use Rattle.std.specs.Prelude.{◌≡◌, ◌≤◌, ◌^◌, IfOk, length, replicate};
 ghost use Rattle.mac_asm.specs.Filled.{put_from, words_in_cells};
 
+use crate::places::clamped;
 use mac_text::Natural;
 use std::alloc::{AllocError, Global};
 use word36::Word;
-
-/// The lesser of a number and `most`.
-fn clamped(number: &Natural, most: usize) -> usize
-    ensures { result ≡ min number.now most }
-{
-    match number.to_u64() {
-        None => most,
-        Some(number) => number.min(most as u64) as usize,
-    }
-}
 
 /// Puts words from a place on; one that has no cell is put nowhere.
 pub fn put(cells: &mut [Option<Word>], place: &Natural, words: &[Word])

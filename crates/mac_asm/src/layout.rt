@@ -1,6 +1,6 @@
 //! Where the labels, the statements and the literals of a source stand.
 
-ghost use Rattle.std.specs.Prelude.{◌≡◌, ◌+◌, ◌≤◌, ◌^◌, ◌&&◌, ◌==◌, not, nat_le, nat_lt, ◌++◌, ℕ, List, length, map, min, true, IfOk, MatchResult, OnOk};
+ghost use Rattle.std.specs.Prelude.{◌≡◌, ◌+◌, ◌≤◌, ◌^◌, ◌&&◌, ◌==◌, not, nat_le, nat_lt, ◌++◌, ℕ, List, length, map, true, IfOk, MatchResult, OnOk};
 ghost use Rattle.std.specs.List.{range_with_len, list_any};
 ghost use Rattle.std.specs.Map.{keys_of};
 ghost use Rattle.mac_asm.specs.Assembly.{are_apart};
@@ -10,17 +10,12 @@ ghost use Rattle.mac_asm.specs.declared.error.AsmCode.TheVariants.{DoesNotFit, P
 ghost use Rattle.mac_asm.specs.Layouts.{AreMarks, StandsFor, Defines, Lays, with_size, IsLayoutOf, Refuses};
 
 use crate::error::{AsmCode, AsmError, least};
+use crate::places::{FIRST, PLACES, clamped};
 use crate::sums::{Labels, Scope, value};
 use crate::texts::text_words;
 use indexmap::IndexMap;
 use mac_text::{Data, Expression, Line, Natural, Statement, Symbol};
 use std::alloc::{AllocError, Global};
-
-/// The places of a job's memory.
-const PLACES: usize = 1 << 18;
-
-/// The place of the first statement.
-const FIRST: u64 = 0o140;
 
 /// Where everything stands.
 #[derive(Drop)]
@@ -108,24 +103,14 @@ fn literal_size<'a>(
     Ok(size)
 }
 
-/// The number, or `most` where it is larger.
-fn at_most(number: &Natural, most: usize) -> usize
-    ensures { result ≡ min number.now most }
-{
-    match number.to_u64() {
-        Some(number) if number < most as u64 => number as usize,
-        _ => most,
-    }
-}
-
 /// Of the places of so many words from one on, the first and how many there are, of so many in all.
 #[tactic(auto, using(crate::proofs::LayoutLemmas::part_is))]
 fn part(all: usize, place: &Natural, size: &Natural) -> (usize, usize)
     ensures within { result.0 + result.1 ≤ all }
     ensures places { all ≡ 2 ^ 18 → range_with_len result.0 result.1 ≡ places_in place.now size.now }
 {
-    let first = at_most(place, all);
-    (first, at_most(size, all - first))
+    let first = clamped(place, all);
+    (first, clamped(size, all - first))
 }
 
 /// Whether there are places for so many words from one on, of so many in all.
@@ -133,7 +118,7 @@ fn part(all: usize, place: &Natural, size: &Natural) -> (usize, usize)
 fn is_room(all: usize, place: &Natural, size: &Natural) -> bool
     ensures { all ≡ 2 ^ 18 → not result ≡ (not (size.now == 0) && not (nat_le (place.now + size.now) (2 ^ 18))) }
 {
-    let room = all - at_most(place, all);
+    let room = all - clamped(place, all);
     match size.to_u64() {
         Some(size) => size <= room as u64,
         None => false,
@@ -264,7 +249,7 @@ fn places_of_literals(
 fn labels_code(place: &Natural, line: &Line) -> Option<AsmCode>
     ensures { result ≡ code_if (not (length line.now.labels == 0) && not (nat_lt place.now (2 ^ 18))) PlaceTooHigh }
 {
-    if line.labels.len() == 0 || at_most(place, PLACES) < PLACES {
+    if line.labels.len() == 0 || clamped(place, PLACES) < PLACES {
         None
     } else {
         Some(AsmCode::PlaceTooHigh)
@@ -287,7 +272,7 @@ impl Progress {
     {
         Ok(Progress {
             labels: IndexMap::new(alloc),
-            place: Natural::from_u64(alloc, FIRST)?,
+            place: Natural::from_u64(alloc, FIRST as u64)?,
             places: Vec::new(alloc),
             taken: vec![in alloc; false; PLACES]?,
             sizes: Vec::new(alloc),

@@ -7,6 +7,7 @@ mod error;
 mod layout;
 #[cfg(test)]
 mod layout_tests;
+mod places;
 mod sums;
 #[cfg(test)]
 mod tests;

@@ -1,0 +1,21 @@
+//! The places of a job's memory.
+
+ghost use Rattle.std.specs.Prelude.{◌≡◌, min};
+
+use mac_text::Natural;
+
+/// How many places there are: an address has 18 bits.
+pub const PLACES: usize = 1 << 18;
+
+/// The place of the first statement, and the start where END names none.
+pub const FIRST: u32 = 0o140;
+
+/// The lesser of a number and `most`.
+pub fn clamped(number: &Natural, most: usize) -> usize
+    ensures { result ≡ min number.now most }
+{
+    match number.to_u64() {
+        None => most,
+        Some(number) => number.min(most as u64) as usize,
+    }
+}
