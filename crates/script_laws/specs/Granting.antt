@@ -25,6 +25,6 @@ ArrivalsGrantNobody =
 -- where a call is done, and where all of a job leaves, the requests of which `stays` is true are those that are left, in their order
 pub record StayingAreLeft : Type 0 where
   pub calls :
-    (requests : List Request) (job : ℕ) (call : LockCall) → (outcome_of requests job call).reply ≡ Done
-    → map label_of (filter (stays job call) requests) ≡ map label_of (outcome_of requests job call).requests
+      (requests : List Request) (job : ℕ) (call : LockCall) → (outcome_of requests job call).reply ≡ Done
+      → map label_of (filter (stays job call) requests) ≡ map label_of (outcome_of requests job call).requests
   pub releases : (requests : List Request) (job : ℕ) → filter (stays job DequeueAll) requests ≡ released requests job
