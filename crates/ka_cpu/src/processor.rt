@@ -243,6 +243,7 @@ fn execute<M: JobMemory>(regs: &mut Regs, memory: &mut M, word: Word) -> Outcome
 pub fn step<M: JobMemory>(regs: &mut Regs, memory: &mut M) -> Outcome
     ensures exec { record { regs = regs.new; core = M.words memory.new; outcome = result } ≡ exec regs.old (M.words memory.old) }
     ensures place { M.place memory.new ≡ M.place memory.old }
+    ensures ends { EndsAs result regs.old (M.words memory.old) regs.new (M.words memory.new) }
 {
     let Some(word) = fetch(regs, memory, regs.pc.number()) else {
         return ILLEGAL;
