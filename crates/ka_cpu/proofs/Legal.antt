@@ -7,7 +7,7 @@ use Rattle.ka_cpu.specs.Effects.{memory_legal}
 use Rattle.ka_cpu.specs.Conditions.{if_changed}
 use Rattle.ka_cpu.specs.Places.{is_legal}
 
-legal_by : (b : Bool) (core : List ℕ) (e w : ℕ) → slice_get core e ≡ Some w → b || nat_lt e (length core) ≡ true
+pub legal_by : (b : Bool) (core : List ℕ) (e w : ℕ) → slice_get core e ≡ Some w → b || nat_lt e (length core) ≡ true
 legal_by true core e w h = refl
 legal_by false core e w h = let p : e < length core = slice_get_within core e w h in grind (arith, nat_tests)
 

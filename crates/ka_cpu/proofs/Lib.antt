@@ -1,4 +1,6 @@
 pub mod Legal
+pub mod LegalLemmas
+pub mod ExecLaws
 pub mod Products
 pub mod Executes
 pub mod Shifting
@@ -7,5 +9,6 @@ pub mod ByteBounds
 pub mod BytePlaces
 pub mod Chain
 pub mod ChainLaw
+pub mod ChainRefusals
 pub mod Zeros
 pub mod RowTable

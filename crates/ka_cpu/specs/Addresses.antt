@@ -1,6 +1,6 @@
 -- The effective address E of an instruction, and the address of a byte pointer
 -- (DECsystem-10 Processor Reference Manual, "Effective address calculation").
-use Rattle.std.specs.Prelude.{◌≡◌, true, false, [], ◌∷◌, ℕ, zero, suc, ◌+◌, ◌/◌, ◌%◌, ◌^◌, nat_eq, Bool, if◌then◌else◌, Option, Some, None, List, slice_index, Result, Ok, Err}
+use Rattle.std.specs.Prelude.{◌≡◌, ◌<◌, true, false, [], ◌∷◌, ℕ, length, zero, suc, ◌+◌, ◌/◌, ◌%◌, ◌^◌, nat_eq, Bool, if◌then◌else◌, Option, Some, None, List, slice_index, Result, Ok, Err}
 use Rattle.word36.specs.Words.{right_half}
 use Rattle.ka_cpu.specs.Places.{word_at}
 use Rattle.ka_cpu.specs.declared.outcome.StopReason.{StopReason}
@@ -53,6 +53,24 @@ abbrev pub LeadsTo : List ℕ → List ℕ → ℕ → Option ℕ → List ℕ �
 LeadsTo ac core w used [] t = (is_indirect w ≡ false) × (t ≡ target_here ac w used)
 LeadsTo ac core w used (v ∷ vs) t =
     (is_indirect w ≡ true) × (word_at ac core (direct_address ac w) ≡ Some v) × LeadsTo ac core v (Some v) vs t
+
+-- v is the last of these words from w on, each of which follows the one before
+abbrev pub Path : (ℕ → ℕ → Type 0) → ℕ → List ℕ → ℕ → Type 0
+Path Follows w [] v = v ≡ w
+Path Follows w (x ∷ xs) v = Follows w x × Path Follows x xs v
+
+-- an indirect word and the word that it names
+abbrev pub Links : List ℕ → List ℕ → ℕ → ℕ → Type 0
+Links ac core w v = (is_indirect w ≡ true) × (word_at ac core (direct_address ac w) ≡ Some v)
+
+-- fewer than 256 links from w lead to an indirect word that names an illegal place
+abbrev pub LeadsOutside : List ℕ → List ℕ → ℕ → Type 0
+LeadsOutside ac core w =
+    (vs : List ℕ) × (v : ℕ) × (length vs < 256) × Path (Links ac core) w vs v × (is_indirect v ≡ true) × (word_at ac core (direct_address ac v) ≡ None)
+
+-- 256 links from w lead to one more
+abbrev pub LeadsTooFar : List ℕ → List ℕ → ℕ → Type 0
+LeadsTooFar ac core w = (vs : List ℕ) × (v : ℕ) × (length vs ≡ 256) × Path (Links ac core) w vs v × (is_indirect v ≡ true)
 
 -- what follows the calculation of an address
 abbrev pub at_target : {A : Type 0} → Result Target StopReason → (Target → Result A StopReason) → Result A StopReason

@@ -1,10 +1,10 @@
 -- One instruction: which word it is, its address, its row.
-use Rattle.std.specs.Prelude.{ℕ, zero, suc, ◌/◌, ◌%◌, ◌^◌, nat_eq, Bool, true, false, ◌||◌, if◌then◌else◌, Option, List, Result, Ok, Err}
+use Rattle.std.specs.Prelude.{◌≡◌, ◌<◌, ◌≤◌, ℕ, zero, suc, length, ◌/◌, ◌%◌, ◌^◌, nat_eq, Bool, true, false, ◌||◌, if◌then◌else◌, Option, List, Result, Ok, Err}
 use Rattle.ka_isa.specs.Families.{family_of}
 use Rattle.ka_isa.specs.declared.Family.{Family}
 use Rattle.ka_isa.specs.declared.Family.TheVariants.{Byte, Move, Movs, Movn, Movm, Imul, Mul, Idiv, Shift, Jffo, Exch, Blt, Aobj, Jrst, Jfcl, Xct, Pushj, Push, Pop, Popj, Jsr, Jsp, Jsa, Jra, Add, Sub, Compare, JumpOn, SkipOn, Boolean, Half, Test, Calli, Ttcall, Other}
 use Rattle.ka_cpu.specs.Places.{word_at}
-use Rattle.ka_cpu.specs.Addresses.{Target, reading, target_of, at_target}
+use Rattle.ka_cpu.specs.Addresses.{Target, Path, reading, target_of, at_target}
 use Rattle.ka_cpu.specs.Effects.{After, Effect, stopped, finished}
 use Rattle.ka_cpu.specs.Moves.{move_row, movs_row, movn_row, movm_row, exch_row}
 use Rattle.ka_cpu.specs.Halves.{half_row}
@@ -45,6 +45,26 @@ word_behind (suc k) ac core w =
     if is_xct w
     then at_target (target_of ac core w) (λ t. reading (word_at ac core t.e) (λ v. word_behind k ac core v))
     else Ok w
+
+-- the word that an XCT executes, that at its E
+abbrev pub executed_word : List ℕ → List ℕ → ℕ → Result ℕ StopReason
+executed_word ac core w = at_target (target_of ac core w) (λ t. reading (word_at ac core t.e) (λ v. Ok v))
+
+abbrev pub Executes : List ℕ → List ℕ → ℕ → ℕ → Type 0
+Executes ac core w v = (is_xct w ≡ true) × (executed_word ac core w ≡ Ok v)
+
+-- at most 256 XCTs from w lead to the word v, which is none
+abbrev pub ComesTo : List ℕ → List ℕ → ℕ → ℕ → Type 0
+ComesTo ac core w v = (vs : List ℕ) × (length vs ≤ 256) × Path (Executes ac core) w vs v × (is_xct v ≡ false)
+
+-- fewer than 256 XCTs from w lead to one whose word is refused for this reason
+abbrev pub RefusedOnTheWay : List ℕ → List ℕ → ℕ → StopReason → Type 0
+RefusedOnTheWay ac core w r =
+    (vs : List ℕ) × (v : ℕ) × (length vs < 256) × Path (Executes ac core) w vs v × (is_xct v ≡ true) × (executed_word ac core v ≡ Err r)
+
+-- 256 XCTs from w lead to one more
+abbrev pub ExecutesTooFar : List ℕ → List ℕ → ℕ → Type 0
+ExecutesTooFar ac core w = (vs : List ℕ) × (v : ℕ) × (length vs ≡ 256) × Path (Executes ac core) w vs v × (is_xct v ≡ true)
 
 -- the operations that are not left out; JRST has AC 0, 2 and 4 alone
 abbrev pub is_listed : Family → ℕ → Bool

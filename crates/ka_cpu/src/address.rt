@@ -1,7 +1,7 @@
 //! The address of an instruction or of a byte pointer.
 
-ghost use Rattle.std.specs.Prelude.{◌≡◌, ℕ, ◌<◌, ◌≤◌, ◌^◌, IfOk, List, length, None, Ok, nat_eq, ◌/◌, ◌%◌};
-ghost use Rattle.ka_cpu.specs.Addresses.{LeadsTo, Target, address_in, pair_in, direct_address, is_indirect, target_of, used_after, used_in};
+ghost use Rattle.std.specs.Prelude.{◌≡◌, ◌<◌, ◌^◌, IfOk, nat_eq, ◌/◌, ◌%◌};
+ghost use Rattle.ka_cpu.specs.Addresses.{address_in, pair_in, direct_address, is_indirect, target_of, used_after, used_in};
 
 use crate::{JobMemory, Regs, StopReason, fetch};
 use word36::Word;
@@ -124,10 +124,3 @@ pub fn find_used<M: JobMemory>(regs: &Regs, memory: &M, word: Word) -> Option<Wo
         Err(_) => None,
     }
 }
-
-/// An address is what a chain of at most 256 links leads to, and there is no other.
-#[tactic(auto, using(crate::proofs::ChainLaw::chain_laws))]
-pub fn address_laws()
-    ensures found { (ac core vs : List ℕ) (w : ℕ) (t : Target) → length vs ≤ 256 → LeadsTo ac core w None vs t → target_of ac core w ≡ Ok t }
-    ensures only { (ac core : List ℕ) (w : ℕ) (t : Target) → target_of ac core w ≡ Ok t → ((vs : List ℕ) × (length vs ≤ 256) × LeadsTo ac core w None vs t) }
-{}

@@ -1,7 +1,7 @@
 //! ADD, SUB, IMUL, MUL and IDIV.
 
 ghost use Rattle.std.specs.Prelude.{◌≡◌, ◌<◌, ◌≤◌, ◌^◌, ◌%◌, false};
-ghost use Rattle.ka_cpu.specs.Effects.{EndsAs, finished};
+ghost use Rattle.ka_cpu.specs.Effects.{finished};
 ghost use Rattle.ka_cpu.specs.Arithmetic.{add_row, sub_row, magnitude, with_sign, signs_differ, size_of_product, product_is_negative, high_word, low_word, overflows, imul_row, to_next, mul_row, no_quotient, quotient_of, remainder_of, idiv_row};
 ghost use Rattle.ka_cpu.specs.Effects.{ac_put, next_ac};
 
@@ -24,7 +24,6 @@ pub fn do_add<M: JobMemory>(mode: u32, regs: &mut Regs, memory: &mut M, n: Instr
     requires e { n.e < 2 ^ 18 }
     ensures after { record { regs = regs.new; core = M.words memory.new; outcome = result } ≡ finished regs.old (M.words memory.old) n (add_row regs.old (M.words memory.old) n) }
     ensures place { M.place memory.new ≡ M.place memory.old }
-    ensures ends { EndsAs result regs.old (M.words memory.old) regs.new (M.words memory.new) }
 {
     let Some(word) = operand_to_compute(mode, regs, memory, n) else {
         return ILLEGAL;
@@ -47,7 +46,6 @@ pub fn do_sub<M: JobMemory>(mode: u32, regs: &mut Regs, memory: &mut M, n: Instr
     requires e { n.e < 2 ^ 18 }
     ensures after { record { regs = regs.new; core = M.words memory.new; outcome = result } ≡ finished regs.old (M.words memory.old) n (sub_row regs.old (M.words memory.old) n) }
     ensures place { M.place memory.new ≡ M.place memory.old }
-    ensures ends { EndsAs result regs.old (M.words memory.old) regs.new (M.words memory.new) }
 {
     let Some(word) = operand_to_compute(mode, regs, memory, n) else {
         return ILLEGAL;
@@ -140,7 +138,6 @@ pub fn do_imul<M: JobMemory>(mode: u32, regs: &mut Regs, memory: &mut M, n: Inst
     requires e { n.e < 2 ^ 18 }
     ensures after { record { regs = regs.new; core = M.words memory.new; outcome = result } ≡ finished regs.old (M.words memory.old) n (imul_row regs.old (M.words memory.old) n) }
     ensures place { M.place memory.new ≡ M.place memory.old }
-    ensures ends { EndsAs result regs.old (M.words memory.old) regs.new (M.words memory.new) }
 {
     let Some(word) = operand_to_compute(mode, regs, memory, n) else {
         return ILLEGAL;
@@ -163,7 +160,6 @@ pub fn do_mul<M: JobMemory>(mode: u32, regs: &mut Regs, memory: &mut M, n: Instr
     requires e { n.e < 2 ^ 18 }
     ensures after { record { regs = regs.new; core = M.words memory.new; outcome = result } ≡ finished regs.old (M.words memory.old) n (mul_row regs.old (M.words memory.old) n) }
     ensures place { M.place memory.new ≡ M.place memory.old }
-    ensures ends { EndsAs result regs.old (M.words memory.old) regs.new (M.words memory.new) }
 {
     let Some(word) = operand_to_compute(mode, regs, memory, n) else {
         return ILLEGAL;
@@ -211,7 +207,6 @@ pub fn do_idiv<M: JobMemory>(mode: u32, regs: &mut Regs, memory: &mut M, n: Inst
     requires e { n.e < 2 ^ 18 }
     ensures after { record { regs = regs.new; core = M.words memory.new; outcome = result } ≡ finished regs.old (M.words memory.old) n (idiv_row regs.old (M.words memory.old) n) }
     ensures place { M.place memory.new ≡ M.place memory.old }
-    ensures ends { EndsAs result regs.old (M.words memory.old) regs.new (M.words memory.new) }
 {
     let Some(word) = operand_to_compute(mode, regs, memory, n) else {
         return ILLEGAL;

@@ -2,7 +2,6 @@
 
 ghost use Rattle.std.specs.Prelude.{◌≡◌, ◌<◌, ◌≤◌, ◌^◌};
 ghost use Rattle.ka_cpu.specs.Places.{word_at};
-ghost use Rattle.ka_cpu.specs.Effects.{EndsAs};
 ghost use Rattle.ka_cpu.specs.Blocks.{all_legal, blt_after, moved_words, stored};
 
 use crate::instruction::{ILLEGAL, Instruction, is_legal_place};
@@ -62,7 +61,6 @@ pub fn do_blt<M: JobMemory>(regs: &mut Regs, memory: &mut M, n: Instruction) -> 
     requires e { n.e < 2 ^ 18 }
     ensures after { record { regs = regs.new; core = M.words memory.new; outcome = result } ≡ blt_after regs.old (M.words memory.old) n }
     ensures place { M.place memory.new ≡ M.place memory.old }
-    ensures ends { EndsAs result regs.old (M.words memory.old) regs.new (M.words memory.new) }
 {
     let a = regs.ac[n.ac];
     let from = a.left();

@@ -2,7 +2,7 @@
 
 ghost use Rattle.std.specs.Prelude.{◌≡◌, true, false, nat_eq, IfOk, ◌<◌, ◌≤◌, ◌^◌, ◌+◌, ◌%◌};
 ghost use Rattle.ka_cpu.specs.Places.{is_legal};
-ghost use Rattle.ka_cpu.specs.Effects.{EndsAs, applied};
+ghost use Rattle.ka_cpu.specs.Effects.{applied};
 ghost use Rattle.ka_cpu.specs.Bytes.{byte_after, byte_effect, byte_of, byte_place, deposited, incremented, increments, loads, position_of, replaced, size_of};
 
 use crate::address::find_address;
@@ -126,7 +126,6 @@ fn move_byte<M: JobMemory>(
     requires legal { is_legal (M.words memory.old) e ≡ true }
     ensures after { record { regs = regs.new; core = M.words memory.new; outcome = result } ≡ applied regs.old (M.words memory.old) n (byte_effect regs.old n pointer e word) }
     ensures place { M.place memory.new ≡ M.place memory.old }
-    ensures ends { EndsAs result regs.old (M.words memory.old) regs.new (M.words memory.new) }
 {
     let next = regs.pc.plus(1);
     let a = regs.ac[n.ac];
@@ -146,7 +145,6 @@ pub fn do_ibp<M: JobMemory>(regs: &mut Regs, memory: &mut M, n: Instruction) -> 
     requires op { n.op ≡ 0o133 }
     ensures after { record { regs = regs.new; core = M.words memory.new; outcome = result } ≡ byte_after regs.old (M.words memory.old) n }
     ensures place { M.place memory.new ≡ M.place memory.old }
-    ensures ends { EndsAs result regs.old (M.words memory.old) regs.new (M.words memory.new) }
 {
     let Some(old) = fetch(regs, memory, n.e) else {
         return ILLEGAL;
@@ -170,7 +168,6 @@ pub fn use_byte<M: JobMemory>(
     requires increment { increments n.op ≡ false }
     ensures after { record { regs = regs.new; core = M.words memory.new; outcome = result } ≡ byte_after regs.old (M.words memory.old) n }
     ensures place { M.place memory.new ≡ M.place memory.old }
-    ensures ends { EndsAs result regs.old (M.words memory.old) regs.new (M.words memory.new) }
 {
     let Some(pointer) = fetch(regs, memory, n.e) else {
         return ILLEGAL;
@@ -196,7 +193,6 @@ pub fn use_next_byte<M: JobMemory>(
     requires op { nat_eq n.op 0o133 ≡ false }
     ensures after { record { regs = regs.new; core = M.words memory.new; outcome = result } ≡ byte_after regs.old (M.words memory.old) n }
     ensures place { M.place memory.new ≡ M.place memory.old }
-    ensures ends { EndsAs result regs.old (M.words memory.old) regs.new (M.words memory.new) }
 {
     let Some(old) = fetch(regs, memory, n.e) else {
         return ILLEGAL;

@@ -1,7 +1,7 @@
 //! CAI, CAM, JUMP, SKIP and those that add or subtract 1 first.
 
 ghost use Rattle.std.specs.Prelude.{◌≡◌, ℕ, ◌<◌, ◌^◌, ◌+◌, ◌-◌, ◌%◌, Ok, Some, IfSome, true, nat_lt, pos, if◌then◌else◌};
-ghost use Rattle.ka_cpu.specs.Effects.{EndsAs, finished, ac_memory, core_memory, memory_legal};
+ghost use Rattle.ka_cpu.specs.Effects.{finished, ac_memory, core_memory, memory_legal};
 ghost use Rattle.ka_cpu.specs.Places.{word_at};
 ghost use Rattle.word36.specs.Words.{signed_value};
 ghost use Rattle.ka_cpu.specs.Conditions.{holds, compare_row, jump_row, skip_row, changed_word, changed_flags, if_changed};
@@ -97,7 +97,6 @@ pub fn do_compare<M: JobMemory>(
     requires e { n.e < 2 ^ 18 }
     ensures after { record { regs = regs.new; core = M.words memory.new; outcome = result } ≡ finished regs.old (M.words memory.old) n (compare_row regs.old (M.words memory.old) n) }
     ensures place { M.place memory.new ≡ M.place memory.old }
-    ensures ends { EndsAs result regs.old (M.words memory.old) regs.new (M.words memory.new) }
 {
     let Some(word) = operand_to_compare(is_immediate, regs, memory, n) else {
         return ILLEGAL;
@@ -152,7 +151,6 @@ pub fn do_jump<M: JobMemory>(
     requires e { n.e < 2 ^ 18 }
     ensures after { record { regs = regs.new; core = M.words memory.new; outcome = result } ≡ finished regs.old (M.words memory.old) n (Ok (jump_row change regs.old n)) }
     ensures place { M.place memory.new ≡ M.place memory.old }
-    ensures ends { EndsAs result regs.old (M.words memory.old) regs.new (M.words memory.new) }
 {
     let a = regs.ac[n.ac];
     let word = change_word(change, a);
@@ -206,7 +204,6 @@ pub fn do_skip<M: JobMemory>(
     requires e { n.e < 2 ^ 18 }
     ensures after { record { regs = regs.new; core = M.words memory.new; outcome = result } ≡ finished regs.old (M.words memory.old) n (skip_row change regs.old (M.words memory.old) n) }
     ensures place { M.place memory.new ≡ M.place memory.old }
-    ensures ends { EndsAs result regs.old (M.words memory.old) regs.new (M.words memory.new) }
 {
     let Some(old) = read_to_change(change, regs, memory, n.e) else {
         return ILLEGAL;

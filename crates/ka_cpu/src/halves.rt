@@ -1,7 +1,7 @@
 //! The halfword family.
 
 ghost use Rattle.std.specs.Prelude.{◌≡◌, ℕ, ◌<◌, ◌^◌, ◌%◌, IfSome, true};
-ghost use Rattle.ka_cpu.specs.Effects.{EndsAs, finished, memory_legal, to_memory};
+ghost use Rattle.ka_cpu.specs.Effects.{finished, memory_legal, to_memory};
 ghost use Rattle.ka_cpu.specs.Halves.{half_row, halfword_of, destination, extended};
 
 use crate::instruction::{ILLEGAL, Instruction, operand_to_move, put_moved};
@@ -78,7 +78,6 @@ pub fn do_half<M: JobMemory>(mode: u32, regs: &mut Regs, memory: &mut M, n: Inst
     requires e { n.e < 2 ^ 18 }
     ensures after { record { regs = regs.new; core = M.words memory.new; outcome = result } ≡ finished regs.old (M.words memory.old) n (half_row regs.old (M.words memory.old) n) }
     ensures place { M.place memory.new ≡ M.place memory.old }
-    ensures ends { EndsAs result regs.old (M.words memory.old) regs.new (M.words memory.new) }
 {
     let Some(word) = operand_to_move(mode, regs, memory, n) else {
         return ILLEGAL;

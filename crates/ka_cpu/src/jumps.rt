@@ -1,46 +1,20 @@
 //! JFFO, AOBJP, AOBJN, JRST, JFCL, subroutine calls and calls of the monitor.
 
 ghost use Rattle.std.specs.Prelude.{◌≡◌, ◌<◌, ◌^◌, Ok};
-ghost use Rattle.ka_cpu.specs.Effects.{EndsAs, finished};
+ghost use Rattle.ka_cpu.specs.Effects.{finished};
 ghost use Rattle.ka_cpu.specs.Addresses.{target_of, used_in};
 ghost use Rattle.std.specs.Int.Count.{count_leading_zeros};
-ghost use Rattle.ka_cpu.specs.Jumps.{pc_word, flags_of, jffo_row, aobj_row, jrst_row, jfcl_row, jsr_row, jsp_row, jsa_row, jra_row, call_row};
+ghost use Rattle.ka_cpu.specs.Jumps.{jffo_row, aobj_row, jrst_row, jfcl_row, jsr_row, jsp_row, jsa_row, jra_row, call_row};
 
 use crate::address::find_used;
 use crate::instruction::{ILLEGAL, Instruction, is_legal_place};
 use crate::memory::store;
+use crate::registers::{flags_of, pc_word};
 use crate::{CallKind, Flags, JobMemory, Outcome, Regs, StopReason, fetch};
 use word36::{Address, Word};
 
 /// 1000001 octal, which counts both halves of a word.
 pub const BOTH: u64 = 0o1_000_001;
-
-/// The PC word with these flags.
-#[inline(always)]
-#[tactic(auto, unfolding(crate::specs::Jumps::pc_word))]
-pub fn word_of_pc(flags: Flags, pc: Address) -> Word
-    ensures { result ≡ pc_word flags pc }
-{
-    let overflow = (flags.overflow as u64) << 35;
-    let carry0 = (flags.carry0 as u64) << 34;
-    let carry1 = (flags.carry1 as u64) << 33;
-    let no_divide = (flags.no_divide as u64) << 23;
-    Word::new(overflow + carry0 + carry1 + (1 << 30) + no_divide + pc.number() as u64)
-}
-
-/// The flags of a PC word.
-#[tactic(auto, unfolding(crate::specs::Jumps::flags_of))]
-fn take_flags(word: Word) -> Flags
-    ensures { result ≡ flags_of word }
-{
-    let number = word.number();
-    Flags {
-        overflow: number >> 35 & 1 == 1,
-        carry0: number >> 34 & 1 == 1,
-        carry1: number >> 33 & 1 == 1,
-        no_divide: number >> 23 & 1 == 1,
-    }
-}
 
 /// The number of zeros before the first bit that is set.
 #[tactic(auto, using(crate::proofs::Zeros::zeros_of_36))]
@@ -59,7 +33,6 @@ pub fn do_jffo<M: JobMemory>(regs: &mut Regs, memory: &mut M, n: Instruction) ->
     requires e { n.e < 2 ^ 18 }
     ensures after { record { regs = regs.new; core = M.words memory.new; outcome = result } ≡ finished regs.old (M.words memory.old) n (Ok (jffo_row regs.old n)) }
     ensures place { M.place memory.new ≡ M.place memory.old }
-    ensures ends { EndsAs result regs.old (M.words memory.old) regs.new (M.words memory.new) }
 {
     let a = regs.ac[n.ac];
     if a.number() == 0 {
@@ -80,7 +53,6 @@ pub fn do_aobj<M: JobMemory>(regs: &mut Regs, memory: &mut M, n: Instruction) ->
     requires e { n.e < 2 ^ 18 }
     ensures after { record { regs = regs.new; core = M.words memory.new; outcome = result } ≡ finished regs.old (M.words memory.old) n (Ok (aobj_row regs.old n)) }
     ensures place { M.place memory.new ≡ M.place memory.old }
-    ensures ends { EndsAs result regs.old (M.words memory.old) regs.new (M.words memory.new) }
 {
     let word = regs.ac[n.ac].sum(Word::new(BOTH), false);
     regs.ac[n.ac] = word;
@@ -102,7 +74,6 @@ pub fn do_jrst<M: JobMemory>(regs: &mut Regs, memory: &mut M, n: Instruction, wo
     requires e { n.e < 2 ^ 18 }
     ensures after { record { regs = regs.new; core = M.words memory.new; outcome = result } ≡ finished regs.old (M.words memory.old) n (Ok (jrst_row regs.old n (used_in (target_of regs.old.ac (M.words memory.old) word)))) }
     ensures place { M.place memory.new ≡ M.place memory.old }
-    ensures ends { EndsAs result regs.old (M.words memory.old) regs.new (M.words memory.new) }
 {
     match n.ac {
         0 => {
@@ -111,7 +82,7 @@ pub fn do_jrst<M: JobMemory>(regs: &mut Regs, memory: &mut M, n: Instruction, wo
         }
         2 => {
             if let Some(used) = find_used(regs, memory, word) {
-                regs.flags = take_flags(used);
+                regs.flags = flags_of(used);
             }
             regs.pc = Address::new(n.e);
             Outcome::Done
@@ -131,7 +102,6 @@ pub fn do_jfcl<M: JobMemory>(regs: &mut Regs, memory: &mut M, n: Instruction) ->
     requires e { n.e < 2 ^ 18 }
     ensures after { record { regs = regs.new; core = M.words memory.new; outcome = result } ≡ finished regs.old (M.words memory.old) n (Ok (jfcl_row regs.old n)) }
     ensures place { M.place memory.new ≡ M.place memory.old }
-    ensures ends { EndsAs result regs.old (M.words memory.old) regs.new (M.words memory.new) }
 {
     let old = regs.flags;
     let overflow = n.ac >> 3 & 1 == 1;
@@ -160,12 +130,11 @@ pub fn do_jsr<M: JobMemory>(regs: &mut Regs, memory: &mut M, n: Instruction) -> 
     requires e { n.e < 2 ^ 18 }
     ensures after { record { regs = regs.new; core = M.words memory.new; outcome = result } ≡ finished regs.old (M.words memory.old) n (Ok (jsr_row regs.old n)) }
     ensures place { M.place memory.new ≡ M.place memory.old }
-    ensures ends { EndsAs result regs.old (M.words memory.old) regs.new (M.words memory.new) }
 {
     if !is_legal_place(memory, n.e) {
         return ILLEGAL;
     }
-    let word = word_of_pc(regs.flags, regs.pc.plus(1));
+    let word = pc_word(regs.flags, regs.pc.plus(1));
     store(regs, memory, n.e, word);
     regs.pc = Address::new(n.e).plus(1);
     Outcome::Done
@@ -179,9 +148,8 @@ pub fn do_jsp<M: JobMemory>(regs: &mut Regs, memory: &mut M, n: Instruction) -> 
     requires e { n.e < 2 ^ 18 }
     ensures after { record { regs = regs.new; core = M.words memory.new; outcome = result } ≡ finished regs.old (M.words memory.old) n (Ok (jsp_row regs.old n)) }
     ensures place { M.place memory.new ≡ M.place memory.old }
-    ensures ends { EndsAs result regs.old (M.words memory.old) regs.new (M.words memory.new) }
 {
-    regs.ac[n.ac] = word_of_pc(regs.flags, regs.pc.plus(1));
+    regs.ac[n.ac] = pc_word(regs.flags, regs.pc.plus(1));
     regs.pc = Address::new(n.e);
     Outcome::Done
 }
@@ -194,7 +162,6 @@ pub fn do_jsa<M: JobMemory>(regs: &mut Regs, memory: &mut M, n: Instruction) -> 
     requires e { n.e < 2 ^ 18 }
     ensures after { record { regs = regs.new; core = M.words memory.new; outcome = result } ≡ finished regs.old (M.words memory.old) n (Ok (jsa_row regs.old n)) }
     ensures place { M.place memory.new ≡ M.place memory.old }
-    ensures ends { EndsAs result regs.old (M.words memory.old) regs.new (M.words memory.new) }
 {
     if !is_legal_place(memory, n.e) {
         return ILLEGAL;
@@ -215,7 +182,6 @@ pub fn do_jra<M: JobMemory>(regs: &mut Regs, memory: &mut M, n: Instruction) -> 
     requires e { n.e < 2 ^ 18 }
     ensures after { record { regs = regs.new; core = M.words memory.new; outcome = result } ≡ finished regs.old (M.words memory.old) n (jra_row regs.old (M.words memory.old) n) }
     ensures place { M.place memory.new ≡ M.place memory.old }
-    ensures ends { EndsAs result regs.old (M.words memory.old) regs.new (M.words memory.new) }
 {
     let a = regs.ac[n.ac];
     let Some(word) = fetch(regs, memory, a.left()) else {
@@ -239,7 +205,6 @@ pub fn do_call<M: JobMemory>(
     requires e { n.e < 2 ^ 18 }
     ensures after { record { regs = regs.new; core = M.words memory.new; outcome = result } ≡ finished regs.old (M.words memory.old) n (Ok (call_row kind regs.old n)) }
     ensures place { M.place memory.new ≡ M.place memory.old }
-    ensures ends { EndsAs result regs.old (M.words memory.old) regs.new (M.words memory.new) }
 {
     regs.pc = regs.pc.plus(1);
     Outcome::Call(kind, n.ac as u8, n.e)

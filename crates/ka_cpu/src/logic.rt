@@ -1,7 +1,7 @@
 //! The Boolean family and the tests.
 
 ghost use Rattle.std.specs.Prelude.{◌≡◌, ◌<◌, ◌^◌, ◌/◌, ◌%◌, Some, if◌then◌else◌};
-ghost use Rattle.ka_cpu.specs.Effects.{EndsAs, finished};
+ghost use Rattle.ka_cpu.specs.Effects.{finished};
 ghost use Rattle.ka_cpu.specs.Booleans.{boolean_row, boolean_of, reads_none};
 ghost use Rattle.ka_cpu.specs.Tests.{test_row, mask_source, mask_of, masked, skips_on, modified};
 ghost use Rattle.ka_cpu.specs.Effects.{computed_operand, ac_put};
@@ -65,7 +65,6 @@ pub fn do_boolean<M: JobMemory>(
     requires e { n.e < 2 ^ 18 }
     ensures after { record { regs = regs.new; core = M.words memory.new; outcome = result } ≡ finished regs.old (M.words memory.old) n (boolean_row regs.old (M.words memory.old) n) }
     ensures place { M.place memory.new ≡ M.place memory.old }
-    ensures ends { EndsAs result regs.old (M.words memory.old) regs.new (M.words memory.new) }
 {
     let Some(word) = boolean_operand(mode, regs, memory, n) else {
         return ILLEGAL;
@@ -144,7 +143,6 @@ pub fn do_test<M: JobMemory>(
     requires e { n.e < 2 ^ 18 }
     ensures after { record { regs = regs.new; core = M.words memory.new; outcome = result } ≡ finished regs.old (M.words memory.old) n (test_row regs.old (M.words memory.old) n) }
     ensures place { M.place memory.new ≡ M.place memory.old }
-    ensures ends { EndsAs result regs.old (M.words memory.old) regs.new (M.words memory.new) }
 {
     let Some(mask) = read_mask(regs, memory, n) else {
         return ILLEGAL;

@@ -1,7 +1,7 @@
 //! MOVE, MOVS, MOVN, MOVM and EXCH.
 
 ghost use Rattle.std.specs.Prelude.{◌≡◌, ◌<◌, ◌^◌, ◌%◌};
-ghost use Rattle.ka_cpu.specs.Effects.{EndsAs, finished};
+ghost use Rattle.ka_cpu.specs.Effects.{finished};
 ghost use Rattle.ka_cpu.specs.Moves.{move_row, movs_row, movn_row, movm_row, exch_row, swapped};
 
 use crate::instruction::{
@@ -28,7 +28,6 @@ pub fn do_move<M: JobMemory>(mode: u32, regs: &mut Regs, memory: &mut M, n: Inst
     requires e { n.e < 2 ^ 18 }
     ensures after { record { regs = regs.new; core = M.words memory.new; outcome = result } ≡ finished regs.old (M.words memory.old) n (move_row regs.old (M.words memory.old) n) }
     ensures place { M.place memory.new ≡ M.place memory.old }
-    ensures ends { EndsAs result regs.old (M.words memory.old) regs.new (M.words memory.new) }
 {
     let Some(word) = operand_to_move(mode, regs, memory, n) else {
         return ILLEGAL;
@@ -50,7 +49,6 @@ pub fn do_movs<M: JobMemory>(mode: u32, regs: &mut Regs, memory: &mut M, n: Inst
     requires e { n.e < 2 ^ 18 }
     ensures after { record { regs = regs.new; core = M.words memory.new; outcome = result } ≡ finished regs.old (M.words memory.old) n (movs_row regs.old (M.words memory.old) n) }
     ensures place { M.place memory.new ≡ M.place memory.old }
-    ensures ends { EndsAs result regs.old (M.words memory.old) regs.new (M.words memory.new) }
 {
     let Some(word) = operand_to_move(mode, regs, memory, n) else {
         return ILLEGAL;
@@ -72,7 +70,6 @@ pub fn do_movn<M: JobMemory>(mode: u32, regs: &mut Regs, memory: &mut M, n: Inst
     requires e { n.e < 2 ^ 18 }
     ensures after { record { regs = regs.new; core = M.words memory.new; outcome = result } ≡ finished regs.old (M.words memory.old) n (movn_row regs.old (M.words memory.old) n) }
     ensures place { M.place memory.new ≡ M.place memory.old }
-    ensures ends { EndsAs result regs.old (M.words memory.old) regs.new (M.words memory.new) }
 {
     let Some(word) = operand_to_move(mode, regs, memory, n) else {
         return ILLEGAL;
@@ -96,7 +93,6 @@ pub fn do_movm<M: JobMemory>(mode: u32, regs: &mut Regs, memory: &mut M, n: Inst
     requires e { n.e < 2 ^ 18 }
     ensures after { record { regs = regs.new; core = M.words memory.new; outcome = result } ≡ finished regs.old (M.words memory.old) n (movm_row regs.old (M.words memory.old) n) }
     ensures place { M.place memory.new ≡ M.place memory.old }
-    ensures ends { EndsAs result regs.old (M.words memory.old) regs.new (M.words memory.new) }
 {
     let Some(word) = operand_to_move(mode, regs, memory, n) else {
         return ILLEGAL;
@@ -123,7 +119,6 @@ pub fn do_exch<M: JobMemory>(regs: &mut Regs, memory: &mut M, n: Instruction) ->
     requires e { n.e < 2 ^ 18 }
     ensures after { record { regs = regs.new; core = M.words memory.new; outcome = result } ≡ finished regs.old (M.words memory.old) n (exch_row regs.old (M.words memory.old) n) }
     ensures place { M.place memory.new ≡ M.place memory.old }
-    ensures ends { EndsAs result regs.old (M.words memory.old) regs.new (M.words memory.new) }
 {
     let Some(word) = fetch(regs, memory, n.e) else {
         return ILLEGAL;

@@ -89,7 +89,6 @@ fn carry_out<M: JobMemory>(
     ensures kept { IsNone result → (regs.new ≡ regs.old) × (M.words memory.new ≡ M.words memory.old) }
     ensures after { IfSome result (λ o. record { regs = regs.new; core = M.words memory.new; outcome = o } ≡ (if is_listed (family_in row) n.ac then carried_out (family_in row) regs.old (M.words memory.old) n (used_in (target_of regs.old.ac (M.words memory.old) word)) else stopped regs.old (M.words memory.old) IllegalInstruction)) }
     ensures place { M.place memory.new ≡ M.place memory.old }
-    ensures ends { IfSome result (λ o. EndsAs o regs.old (M.words memory.old) regs.new (M.words memory.new)) }
 {
     let outcome = match row {
         Row::Move => in_mode!(do_move, regs, memory, n),
@@ -213,7 +212,6 @@ fn find_executed<M: JobMemory>(regs: &Regs, memory: &M, word: Word) -> Result<Wo
 fn execute<M: JobMemory>(regs: &mut Regs, memory: &mut M, word: Word) -> Outcome
     ensures after { record { regs = regs.new; core = M.words memory.new; outcome = result } ≡ word_performed regs.old (M.words memory.old) (word_behind 256 regs.old.ac (M.words memory.old) word) }
     ensures place { M.place memory.new ≡ M.place memory.old }
-    ensures ends { EndsAs result regs.old (M.words memory.old) regs.new (M.words memory.new) }
 {
     let mut word = word;
     'words: loop {
@@ -239,7 +237,7 @@ fn execute<M: JobMemory>(regs: &mut Regs, memory: &mut M, word: Word) -> Outcome
 /// At an illegal address, an illegal instruction or an address chain that is too long nothing has
 /// changed; at a halt the PC alone is E; at a pushdown overflow the instruction is complete; before
 /// a call of the monitor memory is unchanged and the PC is that of the next instruction.
-#[tactic(auto, unfolding(crate::specs::Exec::exec))]
+#[tactic(auto, using(crate::proofs::ExecLaws::ends_by), unfolding(crate::specs::Exec::exec))]
 pub fn step<M: JobMemory>(regs: &mut Regs, memory: &mut M) -> Outcome
     ensures exec { record { regs = regs.new; core = M.words memory.new; outcome = result } ≡ exec regs.old (M.words memory.old) }
     ensures place { M.place memory.new ≡ M.place memory.old }

@@ -1,5 +1,8 @@
 //! The registers of a job.
 
+ghost use Rattle.std.specs.Prelude.{◌≡◌};
+ghost use Rattle.ka_cpu.specs.Jumps.{flags_of, pc_word};
+
 use word36::{Address, Word};
 
 /// The flags that a program can change (DECsystem-10 Processor Reference Manual); User is always set.
@@ -24,4 +27,32 @@ pub struct Regs {
     pub pc: Address,
     /// The flags.
     pub flags: Flags,
+}
+
+/// The PC word `flags,,PC`: the flags in the left half, with User always set, and the PC in the right
+/// (DECsystem-10 Processor Reference Manual).
+#[inline(always)]
+#[tactic(auto, unfolding(crate::specs::Jumps::pc_word))]
+pub fn pc_word(flags: Flags, pc: Address) -> Word
+    ensures { result ≡ pc_word flags pc }
+{
+    let overflow = (flags.overflow as u64) << 35;
+    let carry0 = (flags.carry0 as u64) << 34;
+    let carry1 = (flags.carry1 as u64) << 33;
+    let no_divide = (flags.no_divide as u64) << 23;
+    Word::new(overflow + carry0 + carry1 + (1 << 30) + no_divide + pc.number() as u64)
+}
+
+/// The flags in the left half of a PC word; the others of its bits are not looked at.
+#[tactic(auto, unfolding(crate::specs::Jumps::flags_of))]
+pub fn flags_of(word: Word) -> Flags
+    ensures { result ≡ flags_of word }
+{
+    let number = word.number();
+    Flags {
+        overflow: number >> 35 & 1 == 1,
+        carry0: number >> 34 & 1 == 1,
+        carry1: number >> 33 & 1 == 1,
+        no_divide: number >> 23 & 1 == 1,
+    }
 }

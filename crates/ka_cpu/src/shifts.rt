@@ -2,7 +2,7 @@
 
 ghost use Rattle.std.specs.Prelude.{◌≡◌, ◌<◌, ◌≤◌, ◌^◌, ◌+◌, ◌-◌, ◌*◌, ◌/◌, ◌%◌, Ok, nat_eq, not, slice_set, if◌then◌else◌};
 ghost use Rattle.word36.specs.Words.{complement, is_negative};
-ghost use Rattle.ka_cpu.specs.Effects.{EndsAs, finished, next_ac};
+ghost use Rattle.ka_cpu.specs.Effects.{finished, next_ac};
 ghost use Rattle.ka_cpu.specs.Shifts.{ash_of, ash_overflows, is_left, lsh_of, lshc_of, pair_of, places_of, rot_of, rotc_of, shift_row, shifted_left, turned_left};
 
 use crate::bytes::low_part;
@@ -231,7 +231,6 @@ pub fn do_shift<M: JobMemory>(regs: &mut Regs, memory: &mut M, n: Instruction) -
     requires e { n.e < 2 ^ 18 }
     ensures after { record { regs = regs.new; core = M.words memory.new; outcome = result } ≡ finished regs.old (M.words memory.old) n (Ok (shift_row regs.old n)) }
     ensures place { M.place memory.new ≡ M.place memory.old }
-    ensures ends { EndsAs result regs.old (M.words memory.old) regs.new (M.words memory.new) }
 {
     let a = regs.ac[n.ac];
     match n.op {

@@ -1,14 +1,15 @@
 //! PUSHJ, PUSH, POP and POPJ.
 
 ghost use Rattle.std.specs.Prelude.{◌≡◌, ℕ, ◌<◌, ◌^◌, ◌+◌, Ok, nat_le, nat_lt, if◌then◌else◌, List};
-ghost use Rattle.ka_cpu.specs.Effects.{EndsAs, Goes_on, Overruns, finished};
+ghost use Rattle.ka_cpu.specs.Effects.{Goes_on, Overruns, finished};
 ghost use Rattle.ka_cpu.specs.Effects.{told};
 ghost use Rattle.ka_cpu.specs.Jumps.{counted_up};
 ghost use Rattle.ka_cpu.specs.Stacks.{counted_down, pushj_row, push_row, pop_row, popj_row};
 
 use crate::instruction::{ILLEGAL, Instruction, is_legal_place};
-use crate::jumps::{BOTH, word_of_pc};
+use crate::jumps::BOTH;
 use crate::memory::{store, try_store};
+use crate::registers::pc_word;
 use crate::{JobMemory, Outcome, Regs, StopReason, fetch};
 use word36::{Address, Word};
 
@@ -16,7 +17,6 @@ use word36::{Address, Word};
 #[inline(always)]
 fn ending(runs_out: bool) -> Outcome
     ensures outcome { result ≡ told (if runs_out then Overruns else Goes_on) }
-    ensures ends { (g h : Regs) (core rest : List ℕ) → EndsAs result g core h rest }
 {
     if runs_out {
         Outcome::Stop(StopReason::Pushdown)
@@ -59,11 +59,10 @@ pub fn do_pushj<M: JobMemory>(regs: &mut Regs, memory: &mut M, n: Instruction) -
     requires e { n.e < 2 ^ 18 }
     ensures after { record { regs = regs.new; core = M.words memory.new; outcome = result } ≡ finished regs.old (M.words memory.old) n (Ok (pushj_row regs.old n)) }
     ensures place { M.place memory.new ≡ M.place memory.old }
-    ensures ends { EndsAs result regs.old (M.words memory.old) regs.new (M.words memory.new) }
 {
     let old = regs.ac[n.ac];
     let (pointer, runs_out) = push_down(old);
-    let word = word_of_pc(regs.flags, regs.pc.plus(1));
+    let word = pc_word(regs.flags, regs.pc.plus(1));
     if !try_store(regs, memory, pointer.right(), word) {
         return ILLEGAL;
     }
@@ -80,7 +79,6 @@ pub fn do_push<M: JobMemory>(regs: &mut Regs, memory: &mut M, n: Instruction) ->
     requires e { n.e < 2 ^ 18 }
     ensures after { record { regs = regs.new; core = M.words memory.new; outcome = result } ≡ finished regs.old (M.words memory.old) n (push_row regs.old (M.words memory.old) n) }
     ensures place { M.place memory.new ≡ M.place memory.old }
-    ensures ends { EndsAs result regs.old (M.words memory.old) regs.new (M.words memory.new) }
 {
     let Some(word) = fetch(regs, memory, n.e) else {
         return ILLEGAL;
@@ -104,7 +102,6 @@ pub fn do_pop<M: JobMemory>(regs: &mut Regs, memory: &mut M, n: Instruction) -> 
     requires e { n.e < 2 ^ 18 }
     ensures after { record { regs = regs.new; core = M.words memory.new; outcome = result } ≡ finished regs.old (M.words memory.old) n (pop_row regs.old (M.words memory.old) n) }
     ensures place { M.place memory.new ≡ M.place memory.old }
-    ensures ends { EndsAs result regs.old (M.words memory.old) regs.new (M.words memory.new) }
 {
     let old = regs.ac[n.ac];
     let Some(word) = fetch(regs, memory, old.right()) else {
@@ -128,7 +125,6 @@ pub fn do_popj<M: JobMemory>(regs: &mut Regs, memory: &mut M, n: Instruction) ->
     requires e { n.e < 2 ^ 18 }
     ensures after { record { regs = regs.new; core = M.words memory.new; outcome = result } ≡ finished regs.old (M.words memory.old) n (popj_row regs.old (M.words memory.old) n) }
     ensures place { M.place memory.new ≡ M.place memory.old }
-    ensures ends { EndsAs result regs.old (M.words memory.old) regs.new (M.words memory.new) }
 {
     let old = regs.ac[n.ac];
     let Some(word) = fetch(regs, memory, old.right()) else {

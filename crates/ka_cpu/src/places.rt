@@ -1,0 +1,52 @@
+//! Places of a memory that is borrowed as `&mut` and kept. A caller that lends a window of a larger
+//! memory still knows what the window holds; of one that it lends as `&`, it would not.
+
+ghost use Rattle.std.specs.Prelude.{◌≡◌};
+ghost use Rattle.ka_cpu.specs.Places.{word_at, word_below, is_legal, are_legal};
+
+use crate::{JobMemory, Regs, fetch};
+use word36::Word;
+
+/// The number of places that an address can name.
+const PLACES: u32 = 0o1_000_000;
+
+/// The word at a place, if it is legal: registers lie at the places below 20 octal.
+pub fn fetch_kept<M: JobMemory>(regs: &Regs, memory: &mut M, a: u32) -> Option<Word>
+    ensures value { result ≡ word_at regs.now.ac (M.words memory.old) a }
+    ensures same { memory.new ≡ memory.old }
+{
+    fetch(regs, memory, a)
+}
+
+/// The word at a place that is counted on from another; behind 777777 octal there is none.
+pub fn word_kept<M: JobMemory>(regs: &Regs, memory: &mut M, a: u32) -> Option<Word>
+    ensures value { result ≡ word_below regs.now.ac (M.words memory.old) a }
+    ensures same { memory.new ≡ memory.old }
+{
+    if a < PLACES {
+        fetch(regs, memory, a)
+    } else {
+        None
+    }
+}
+
+/// Whether a place is legal: below 20 octal, or below the size of core.
+pub fn is_legal_kept<M: JobMemory>(memory: &mut M, a: u32) -> bool
+    ensures value { result ≡ is_legal (M.words memory.old) a }
+    ensures same { memory.new ≡ memory.old }
+{
+    a < 16 || (a as usize) < memory.size()
+}
+
+/// Whether so many words from a place on are legal; behind 777777 octal there is no place.
+#[tactic(auto, using(crate::proofs::LegalLemmas::legal_places))]
+pub fn are_legal_kept<M: JobMemory>(memory: &mut M, a: u32, count: u32) -> bool
+    ensures value { result ≡ are_legal (M.words memory.old) a count }
+    ensures same { memory.new ≡ memory.old }
+{
+    if count == 0 {
+        return true;
+    }
+    let end = a as u64 + count as u64;
+    end <= PLACES as u64 && (end <= 16 || end <= memory.size() as u64)
+}
