@@ -1,5 +1,5 @@
 -- What terminal lines mean: two lists of characters a line (this project's profile).
-use Rattle.std.specs.Prelude.{ℕ, ◌≡◌, ◌≤◌, ◌-◌, Bool, ◌||◌, nat_lt, nat_le, min, List, [], length, slice_index_or, slice_set, slice_get, take, replicate, Option, Result, Ok, Err, if◌then◌else◌, All}
+use Rattle.std.specs.Prelude.{ℕ, ◌≡◌, ◌≤◌, ◌-◌, Bool, ◌||◌, nat_lt, nat_le, min, List, [], length, slice_index_or, slice_set, take, replicate, Result, Ok, Err, if◌then◌else◌, All}
 use Rattle.std.specs.List.{list_any}
 use Rattle.word36.specs.declared.sizes.TheConstants.{LINES, INPUT_RING, OUTPUT_RING, TAKEN_AT_ONCE}
 use Rattle.tty_lines.specs.declared.line_error.LineError.{LineError}
@@ -52,12 +52,7 @@ typing lines line =
 
 -- the answer to a text of so many characters that is put out
 abbrev pub putting : List Rings → ℕ → ℕ → Result (Unit {0}) LineError
-putting lines line count =
-    if nat_lt line LINES then (if nat_le count (room_of lines line) then Ok tt else Err Full) else Err NoLine
-
--- the answer to a reader of one character: the oldest, if there is any
-abbrev pub getting : List Rings → ℕ → Result (Option ℕ) LineError
-getting lines line = if nat_lt line LINES then Ok (slice_get (input_of lines line) 0) else Err NoLine
+putting lines line count = if nat_le count (room_of lines line) then Ok tt else Err Full
 
 -- the answer to a taker of at most n characters
 abbrev pub taking : List Rings → ℕ → ℕ → Result (List ℕ) LineError

@@ -5,6 +5,7 @@
 mod char7;
 mod line;
 mod line_error;
+mod line_number;
 mod lines;
 mod taken_text;
 #[cfg(test)]
@@ -12,5 +13,6 @@ mod tests;
 
 pub use char7::Char7;
 pub use line_error::LineError;
+pub use line_number::LineNumber;
 pub use lines::Lines;
 pub use taken_text::TakenText;

@@ -1,10 +1,10 @@
 //! All terminal lines.
 
-ghost use Rattle.std.specs.Prelude.{◌≡◌, ◌≤◌, ◌<◌, ◌+◌, ◌-◌, ◌++◌, ◌∷◌, [], length, drop, min, nat_lt, IfOk, OnOk, OnErr};
-ghost use Rattle.tty_lines.specs.Rings.{IsLines, all_clear, input_of, output_of, with_input, with_output, room_of, holds_line, typing, putting, getting, taking};
+ghost use Rattle.std.specs.Prelude.{◌≡◌, ◌≤◌, ◌<◌, ◌+◌, ◌-◌, ◌++◌, ◌∷◌, [], length, drop, min, nat_lt, slice_get, IfOk, OnOk, OnErr};
+ghost use Rattle.tty_lines.specs.Rings.{IsLines, all_clear, input_of, output_of, with_input, with_output, room_of, holds_line, typing, putting, taking};
 
 use crate::line::Line;
-use crate::{Char7, LineError, TakenText};
+use crate::{Char7, LineError, LineNumber, TakenText};
 use std::alloc::{AllocError, Global};
 use std::marker::Model;
 use word36::{INPUT_RING, LINES, OUTPUT_RING, TAKEN_AT_ONCE};
@@ -59,31 +59,24 @@ impl Lines {
         Ok(())
     }
 
-    /// Takes the first character of a line's input, if there is one. `NoLine` where there is no such
-    /// line.
-    pub fn get(&mut self, line: u8) -> Result<Option<Char7>, LineError>
-        ensures answer { result ≡ getting self.old line }
-        ensures ok { OnOk result (self.new ≡ with_input self.old line (drop 1 (input_of self.old line))) }
-        ensures err { OnErr result (self.new ≡ self.old) }
+    /// Takes the first character of a line's input, if there is one.
+    pub fn get(&mut self, line: LineNumber) -> Option<Char7>
+        ensures value { result ≡ slice_get (input_of self.old line) 0 }
+        ensures rest { self.new ≡ with_input self.old line (drop 1 (input_of self.old line)) }
         ensures lines { IsLines self.old }
     {
-        let Some(ring) = self.lines.get_mut(line as usize) else {
-            return Err(LineError::NoLine);
-        };
-        Ok(ring.pop_input())
+        self.lines[line.number() as usize].pop_input()
     }
 
-    /// Puts a whole text last in a line's output. `NoLine` where there is no such line, `Full` where
-    /// the text does not fit in the 512 places there, and then none of it is put.
-    pub fn put(&mut self, line: u8, text: &[Char7]) -> Result<(), LineError>
+    /// Puts a whole text last in a line's output. `Full` where the text does not fit in the 512 places
+    /// there, and then none of it is put.
+    pub fn put(&mut self, line: LineNumber, text: &[Char7]) -> Result<(), LineError>
         ensures answer { result ≡ putting self.old line (length text.now) }
         ensures ok { OnOk result (self.new ≡ with_output self.old line (output_of self.old line ++ text.now)) }
         ensures err { OnErr result (self.new ≡ self.old) }
         ensures lines { IsLines self.old }
     {
-        let Some(ring) = self.lines.get_mut(line as usize) else {
-            return Err(LineError::NoLine);
-        };
+        let ring = &mut self.lines[line.number() as usize];
         if text.len() > ring.room() {
             return Err(LineError::Full);
         }
@@ -106,47 +99,42 @@ impl Lines {
     }
 
     /// How many more characters fit a line's output.
-    pub fn room(&self, line: u8) -> usize
-        requires { line < LINES }
+    pub fn room(&self, line: LineNumber) -> usize
         ensures value { result ≡ room_of self.now line }
         ensures whole { result + length (output_of self.now line) ≡ OUTPUT_RING }
         ensures lines { IsLines self.now }
     {
-        self.lines[line as usize].room()
+        self.lines[line.number() as usize].room()
     }
 
     /// Whether a character waits in a line's input.
-    pub fn has_char(&self, line: u8) -> bool
-        requires { line < LINES }
+    pub fn has_char(&self, line: LineNumber) -> bool
         ensures { result ≡ nat_lt 0 (length (input_of self.now line)) }
     {
-        self.lines[line as usize].typed_count() > 0
+        self.lines[line.number() as usize].typed_count() > 0
     }
 
     /// Whether a line's input has a break character, or no more characters fit it.
-    pub fn has_line(&self, line: u8) -> bool
-        requires { line < LINES }
+    pub fn has_line(&self, line: LineNumber) -> bool
         ensures { result ≡ holds_line (input_of self.now line) }
     {
-        self.lines[line as usize].has_line()
+        self.lines[line.number() as usize].has_line()
     }
 
     /// Forgets the characters of a line's input.
-    pub fn clear_input(&mut self, line: u8)
-        requires { line < LINES }
+    pub fn clear_input(&mut self, line: LineNumber)
         ensures input { self.new ≡ with_input self.old line [] }
         ensures lines { IsLines self.old }
     {
-        self.lines[line as usize].clear_input();
+        self.lines[line.number() as usize].clear_input();
     }
 
     /// Forgets the characters of a line's output.
-    pub fn clear_output(&mut self, line: u8)
-        requires { line < LINES }
+    pub fn clear_output(&mut self, line: LineNumber)
         ensures output { self.new ≡ with_output self.old line [] }
         ensures lines { IsLines self.old }
     {
-        self.lines[line as usize].clear_output();
+        self.lines[line.number() as usize].clear_output();
     }
 
     /// Forgets all characters, as a restart does.

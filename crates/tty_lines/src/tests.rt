@@ -1,6 +1,6 @@
 //! Terminal lines at their limits.
 
-use crate::{Char7, LineError, Lines};
+use crate::{Char7, LineError, LineNumber, Lines};
 use std::test::Fail;
 use word36::{LINES, OUTPUT_RING};
 
@@ -12,19 +12,22 @@ fn letters<const N: usize>() -> [Char7; N] {
 #[test]
 fn input_holds_128_characters_in_order(rt: HostRuntime) -> Result<(), Fail> {
     let mut lines = Lines::new(rt.alloc())?;
+    let line = LineNumber::new(3);
     let typed = letters::<128>();
     for c in &typed {
-        assert!(rt; !lines.has_line(3));
+        assert!(rt; !lines.has_line(line));
         lines.typed(3, *c)?;
-        assert!(rt; lines.has_char(3));
+        assert!(rt; lines.has_char(line));
     }
-    assert!(rt; lines.has_line(3), "a full ring may be read");
+    assert!(rt; lines.has_line(line), "a full ring may be read");
     assert_eq!(rt; lines.typed(3, Char7::new(b'!')), Err(LineError::Full));
-    assert!(rt; !lines.has_char(2) && !lines.has_char(4));
-    for c in &typed {
-        assert_eq!(rt; lines.get(3)?, Some(*c));
+    for beside in [2, 4] {
+        assert!(rt; !lines.has_char(LineNumber::new(beside)));
     }
-    assert_eq!(rt; lines.get(3)?, None);
+    for c in &typed {
+        assert_eq!(rt; lines.get(line), Some(*c));
+    }
+    assert_eq!(rt; lines.get(line), None);
     Ok(())
 }
 
@@ -40,35 +43,37 @@ fn six_characters_end_a_line(rt: HostRuntime) {
 #[test]
 fn break_in_the_middle_makes_a_line(rt: HostRuntime) -> Result<(), Fail> {
     let mut lines = Lines::new(rt.alloc())?;
+    let line = LineNumber::new(0);
     for number in [b'H', b'I', 0o12, b'?'] {
         lines.typed(0, Char7::low_bits(number as u64))?;
     }
     for has_line in [true, true, true, false] {
-        assert_eq!(rt; lines.has_line(0), has_line);
-        lines.get(0)?;
+        assert_eq!(rt; lines.has_line(line), has_line);
+        lines.get(line);
     }
     lines.typed(0, Char7::new(0o33))?;
-    lines.clear_input(0);
-    assert!(rt; !lines.has_char(0) && !lines.has_line(0));
+    lines.clear_input(line);
+    assert!(rt; !lines.has_char(line) && !lines.has_line(line));
     Ok(())
 }
 
 #[test]
 fn text_is_put_whole_or_not_at_all(rt: HostRuntime) -> Result<(), Fail> {
     let mut lines = Lines::new(rt.alloc())?;
-    lines.put(15, &letters::<511>())?;
+    let line = LineNumber::new(15);
+    lines.put(line, &letters::<511>())?;
     let two = [Char7::new(b'?'), Char7::new(b'!')];
-    assert_eq!(rt; lines.put(15, &two), Err(LineError::Full));
-    assert_eq!(rt; lines.room(15), 1);
+    assert_eq!(rt; lines.put(line, &two), Err(LineError::Full));
+    assert_eq!(rt; lines.room(line), 1);
     assert_eq!(rt;
         lines.taken(15, 1)?.as_slice(),
         [Char7::new(b'A')].as_slice()
     );
-    lines.put(15, &two)?;
-    assert_eq!(rt; lines.room(15), 0);
-    lines.put(15, &[])?;
-    lines.clear_output(15);
-    assert_eq!(rt; lines.room(15), OUTPUT_RING);
+    lines.put(line, &two)?;
+    assert_eq!(rt; lines.room(line), 0);
+    lines.put(line, &[])?;
+    lines.clear_output(line);
+    assert_eq!(rt; lines.room(line), OUTPUT_RING);
     Ok(())
 }
 
@@ -77,7 +82,7 @@ fn at_most_64_characters_are_taken(rt: HostRuntime) -> Result<(), Fail> {
     let mut lines = Lines::new(rt.alloc())?;
     let text = letters::<200>();
     let mut rest = text.as_slice();
-    lines.put(0, rest)?;
+    lines.put(LineNumber::new(0), rest)?;
     for (asked, got) in [
         (0, 0),
         (1, 1),
@@ -102,9 +107,8 @@ fn other_lines_are_refused(rt: HostRuntime) -> Result<(), Fail> {
     let c = Char7::new(b'X');
     for line in [LINES, u8::MAX] {
         assert_eq!(rt; lines.typed(line, c), Err(LineError::NoLine));
-        assert_eq!(rt; lines.put(line, &[c]), Err(LineError::NoLine));
-        assert_eq!(rt; lines.get(line), Err(LineError::NoLine));
         assert!(rt; matches!(lines.taken(line, 1), Err(LineError::NoLine)));
+        assert_eq!(rt; LineNumber::try_new(line), None);
     }
     assert_eq!(rt; (LineError::NoLine.code(), LineError::Full.code()), (1, 2));
     Ok(())
@@ -113,12 +117,14 @@ fn other_lines_are_refused(rt: HostRuntime) -> Result<(), Fail> {
 #[test]
 fn restart_forgets_all(rt: HostRuntime) -> Result<(), Fail> {
     let mut lines = Lines::new(rt.alloc())?;
-    for line in 0..LINES {
-        lines.typed(line, Char7::new(0o12))?;
+    for number in 0..LINES {
+        let line = LineNumber::new(number);
+        lines.typed(line.number(), Char7::new(0o12))?;
         lines.put(line, &letters::<5>())?;
     }
     lines.clear();
-    for line in 0..LINES {
+    for number in 0..LINES {
+        let line = LineNumber::new(number);
         assert!(rt; !lines.has_char(line));
         assert_eq!(rt; lines.room(line), OUTPUT_RING);
     }

@@ -1,0 +1,57 @@
+-- What becomes of the table of jobs (this project's profile).
+use Rattle.std.specs.Prelude.{ℕ, ◌+◌, ◌-◌, ◌==◌, ◌&&◌, nat_lt, Bool, false, is_none, if◌then◌else◌, List, [], ◌∷◌, drop, map, slice_set, Option, Some, None, Result, Ok, Err}
+use Rattle.std.specs.Option.{option_map}
+use Rattle.job_sched.specs.declared.job.Job.{Job}
+use Rattle.job_sched.specs.declared.job_error.JobError.{JobError}
+use Rattle.job_sched.specs.declared.job_error.JobError.TheVariants.{NoSuchJob, NotStopped}
+use Rattle.job_sched.specs.Jobs.{ticked_job, broken_job}
+use Rattle.job_sched.specs.Tables.{Table, job_at}
+
+-- the table with this at the place of job n
+abbrev pub with_job : Table → ℕ → Option Job → Table
+with_job t n o = record t { jobs = slice_set t.jobs n o }
+
+-- the table with job n changed, if it is there
+abbrev pub with_change : Table → ℕ → (Job → Job) → Table
+with_change t n change = with_job t n (option_map change (job_at t.jobs n))
+
+-- the table with all jobs changed
+abbrev pub with_each : Table → (Job → Job) → Table
+with_each t change = record t { jobs = map (option_map change) t.jobs }
+
+-- a job is gone, and no quantum is left where it was current
+abbrev pub table_without : Table → ℕ → Table
+table_without t n =
+    record { jobs = slice_set t.jobs n None; current = t.current; left = if t.current == n then 0 else t.left }
+
+-- a tick goes by: every sleep is one tick shorter, and the quantum too
+abbrev pub ticked_table : Table → Table
+ticked_table t = record (with_each t ticked_job) { left = t.left - 1 }
+
+-- CTRL-C at a line
+abbrev pub broken_table : Table → ℕ → Table
+broken_table t line = with_each t (broken_job line)
+
+-- whether a job that is to start or to continue is there and stopped
+abbrev pub standing : Option Job → Result (Unit {0}) JobError
+standing (Some j) = if is_none j.stop then Err NotStopped else Ok tt
+standing None = Err NoSuchJob
+
+-- whether a job is there and its line is this
+abbrev pub is_at : ℕ → Option Job → Bool
+is_at line (Some j) = j.line == line
+is_at line None = false
+
+-- the first of these places, numbered from n on, where no job is
+abbrev pub first_free : ℕ → List (Option Job) → Option ℕ
+first_free n [] = None
+first_free n (Some j ∷ more) = first_free (n + 1) more
+first_free n (None ∷ more) = Some n
+
+-- the least number, from 1 on, that no job has
+abbrev pub free_number : List (Option Job) → Option ℕ
+free_number jobs = first_free 1 (drop 1 jobs)
+
+-- job n is to run: it goes on where it is current and has quantum left, and gets a whole quantum otherwise
+abbrev pub chosen : Table → ℕ → ℕ → Table
+chosen t n quantum = if (t.current == n) && nat_lt 0 t.left then t else record t { current = n; left = quantum }

@@ -1,0 +1,67 @@
+-- What becomes of one job (this project's profile).
+use Rattle.std.specs.Prelude.{ℕ, ◌-◌, ◌==◌, ◌&&◌, nat_lt, Bool, false, is_none, if◌then◌else◌, Some, None}
+use Rattle.ka_cpu.specs.declared.registers.Flags.{Flags}
+use Rattle.ka_cpu.specs.declared.registers.Regs.{Regs}
+use Rattle.job_sched.specs.declared.job.Interrupts.{Interrupts}
+use Rattle.job_sched.specs.declared.job.Job.{Job}
+use Rattle.job_sched.specs.declared.job.Stop.{Stop}
+use Rattle.job_sched.specs.declared.job.Stop.TheVariants.{Loaded, Typed}
+use Rattle.job_sched.specs.declared.job.Wait.{Wait}
+use Rattle.job_sched.specs.declared.job.Wait.TheVariants.{None as Nothing, Sleep, Char, Line, Room, Queue}
+
+-- no vector is set
+abbrev pub no_interrupts : Interrupts
+no_interrupts = record { vector = None; on = false; in_progress = false }
+
+-- of the flags User alone, which is always set
+abbrev pub no_flags : Flags
+no_flags = record { overflow = false; carry0 = false; carry1 = false; no_divide = false }
+
+abbrev pub halted : Job → Stop → Job
+halted j stop = record j { stop = Some stop }
+
+-- a job that was just loaded
+abbrev pub new_job : ℕ → Regs → ℕ → Job
+new_job line regs start =
+    record { line = line; regs = regs; start = start; stop = Some Loaded; wait = Nothing; interrupts = no_interrupts }
+
+-- a job that starts: it goes on at its start address, waits for nothing and has no vector
+abbrev pub started_job : Job → Job
+started_job j = record j {
+  regs = record j.regs { pc = j.start; flags = no_flags };
+  stop = None;
+  wait = Nothing;
+  interrupts = no_interrupts;
+}
+
+-- a job that continues: its stop ends, and its program counter and its wait stay
+abbrev pub going_on : Job → Job
+going_on j = record j { stop = None }
+
+-- CTRL-C at a line stops the job there, unless it is stopped already
+abbrev pub broken_job : ℕ → Job → Job
+broken_job line j = if (j.line == line) && is_none j.stop then halted j Typed else j
+
+-- a tick makes a sleep one tick shorter
+abbrev pub ticked_wait : Wait → Wait
+ticked_wait (Sleep ticks) = Sleep (ticks - 1)
+ticked_wait Nothing = Nothing
+ticked_wait Char = Char
+ticked_wait Line = Line
+ticked_wait (Room places) = Room places
+ticked_wait Queue = Queue
+
+abbrev pub ticked_job : Job → Job
+ticked_job j = record j { wait = ticked_wait j.wait }
+
+-- whether a wait is a sleep that goes on
+abbrev pub is_sleep : Wait → Bool
+is_sleep (Sleep ticks) = nat_lt 0 ticks
+is_sleep Nothing = false
+is_sleep Char = false
+is_sleep Line = false
+is_sleep (Room places) = false
+is_sleep Queue = false
+
+abbrev pub is_asleep : Job → Bool
+is_asleep j = is_sleep j.wait

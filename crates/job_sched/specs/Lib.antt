@@ -1,0 +1,5 @@
+pub mod Stops
+pub mod Jobs
+pub mod Tables
+pub mod Ready
+pub mod Changes

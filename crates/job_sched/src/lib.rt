@@ -1,0 +1,12 @@
+//! Jobs, the table of them, and which of them runs next.
+#![tactic(auto)]
+
+mod job;
+mod job_error;
+mod table;
+mod time_of_day;
+
+pub use job::{Interrupts, Job, NO_FLAGS, NO_INTERRUPTS, Stop, Wait};
+pub use job_error::JobError;
+pub use table::{JobTable, PLACES};
+pub use time_of_day::{TICKS_A_DAY, TimeOfDay};

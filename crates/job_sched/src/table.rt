@@ -1,0 +1,304 @@
+//! The jobs by number, and which of them runs next.
+
+ghost use Rattle.std.specs.Prelude.{false, ◌≡◌, ◌<◌, ◌≤◌, ◌-◌, ◌+◌, Some, None, length, map, OnOk, OnErr, IfSome};
+ghost use Rattle.std.specs.List.{list_any};
+ghost use Rattle.std.specs.Option.{option_copied, option_map};
+ghost use Rattle.word36.specs.declared.sizes.TheConstants.{JOBS};
+ghost use Rattle.job_sched.specs.Jobs.{broken_job, going_on, started_job, ticked_job};
+ghost use Rattle.job_sched.specs.Tables.{is_sleeper, job_at, no_jobs};
+ghost use Rattle.job_sched.specs.Changes.{broken_table, chosen, free_number, is_at, standing, table_without, ticked_table, with_change, with_job};
+ghost use Rattle.job_sched.specs.Ready.{after, first_from, holds, is_ready, next_job};
+
+use crate::{Job, JobError, Wait};
+use lock_queue::LockTable;
+use std::marker::Model;
+use tty_lines::{LineNumber, Lines};
+use word36::JOBS;
+
+/// The places of a table: one for each number, and place 0, which is no job's.
+pub const PLACES: usize = JOBS as usize + 1;
+
+/// The jobs by number, 1 to 31, the job that runs, and how many ticks are left of its quantum.
+///
+/// Contracts see the jobs, the current number and the quantum. The table also keeps whether a job
+/// may be asleep, so that a tick looks at the jobs only then.
+#[derive(Drop)]
+pub struct JobTable {
+    /// The job of each number, if it is there.
+    pub jobs: [Option<Job>; PLACES],
+    /// The number of the job that ran last, 0 for none.
+    pub current: u8,
+    /// How many ticks are left of its quantum.
+    pub left: u8,
+    /// Whether a job may be asleep: where it is false none is. Who lets a job sleep sets it.
+    pub sleepers: bool,
+}
+
+impl Model for JobTable {
+    ghost use Rattle.job_sched.specs.Tables.{IsTable, Table};
+
+    ghost Value = { Table };
+
+    ghost view = { λ t. record { jobs = t.jobs; current = t.current; left = t.left } };
+
+    ghost invariant = { λ t. IsTable t.jobs t.sleepers };
+}
+
+/// Whether the wait of a job holds.
+#[inline(always)]
+fn does_hold<L: LockTable>(number: u8, job: &Job, lines: &Lines, locks: &L) -> bool
+    ensures { result ≡ holds lines.now (L.requests locks.now) number job.now.line job.now.wait }
+{
+    match job.wait {
+        Wait::None => false,
+        Wait::Sleep(ticks) => ticks > 0,
+        Wait::Char => !lines.has_char(job.line),
+        Wait::Line => !lines.has_line(job.line),
+        Wait::Room(places) => lines.room(job.line) < places as usize,
+        Wait::Queue => locks.waiting(number),
+    }
+}
+
+/// Whether a job is there and sleeps.
+fn is_sleeper(slot: &Option<Job>) -> bool
+    ensures { result ≡ is_sleeper slot.now }
+{
+    match slot {
+        Some(job) => job.is_asleep(),
+        None => false,
+    }
+}
+
+/// Whether a job is there and its line is this.
+fn is_at(line: LineNumber, slot: &Option<Job>) -> bool
+    ensures { result ≡ is_at line slot.now }
+{
+    match slot {
+        Some(job) => job.line == line,
+        None => false,
+    }
+}
+
+/// A tick goes by for all jobs. Whether one still sleeps.
+fn tick_all(jobs: &mut [Option<Job>]) -> bool
+    ensures jobs { jobs.new ≡ map (option_map ticked_job) jobs.old }
+    ensures sleepers { result ≡ list_any is_sleeper jobs.new }
+{
+    for slot in jobs.iter_mut() {
+        if let Some(job) = slot {
+            job.tick();
+        }
+    }
+    jobs.iter().any(|slot| is_sleeper(slot))
+}
+
+/// CTRL-C at a line, for all jobs.
+fn break_all(line: LineNumber, jobs: &mut [Option<Job>])
+    ensures { jobs.new ≡ map (option_map (broken_job line)) jobs.old }
+{
+    for slot in jobs.iter_mut() {
+        if let Some(job) = slot {
+            job.break_at(line);
+        }
+    }
+}
+
+/// The job at a place starts, if it is there and stopped.
+fn start_slot(slot: &mut Option<Job>) -> Result<(), JobError>
+    ensures answer { result ≡ standing slot.old }
+    ensures ok { OnOk result (slot.new ≡ option_map started_job slot.old) }
+    ensures err { OnErr result (slot.new ≡ slot.old) }
+    ensures awake { is_sleeper slot.old ≡ false → is_sleeper slot.new ≡ false }
+{
+    match slot {
+        Some(job) => {
+            if job.stop.is_none() {
+                return Err(JobError::NotStopped);
+            }
+            job.restart();
+            Ok(())
+        }
+        None => Err(JobError::NoSuchJob),
+    }
+}
+
+/// The job at a place continues, if it is there and stopped.
+fn go_on_slot(slot: &mut Option<Job>) -> Result<(), JobError>
+    ensures answer { result ≡ standing slot.old }
+    ensures ok { OnOk result (slot.new ≡ option_map going_on slot.old) }
+    ensures err { OnErr result (slot.new ≡ slot.old) }
+    ensures awake { is_sleeper slot.old ≡ false → is_sleeper slot.new ≡ false }
+{
+    match slot {
+        Some(job) => {
+            if job.stop.is_none() {
+                return Err(JobError::NotStopped);
+            }
+            job.stop = None;
+            Ok(())
+        }
+        None => Err(JobError::NoSuchJob),
+    }
+}
+
+impl JobTable {
+    /// A table without jobs.
+    pub fn new() -> Self
+        ensures { result ≡ no_jobs }
+    {
+        JobTable {
+            jobs: [None; PLACES],
+            current: 0,
+            left: 0,
+            sleepers: false,
+        }
+    }
+
+    /// The job of a number, if it is there.
+    pub fn job(&self, number: u8) -> Option<&Job>
+        ensures { option_copied result ≡ job_at self.now.jobs number }
+    {
+        match self.jobs.get(number as usize) {
+            Some(Some(job)) => Some(job),
+            _ => None,
+        }
+    }
+
+    /// Whether a job is there, is not stopped, and waits for nothing any more.
+    #[inline(always)]
+    pub fn ready<L: LockTable>(&self, number: u8, lines: &Lines, locks: &L) -> bool
+        ensures { result ≡ is_ready self.now.jobs lines.now (L.requests locks.now) number }
+    {
+        match self.jobs.get(number as usize) {
+            Some(Some(job)) => job.stop.is_none() && !does_hold(number, job, lines, locks),
+            _ => false,
+        }
+    }
+
+    /// The first ready number of all, from one on in a circle.
+    #[inline(never)]
+    fn first_ready<L: LockTable>(&self, from: u8, lines: &Lines, locks: &L) -> Option<u8>
+        requires { from ≤ JOBS }
+        ensures { result ≡ first_from (is_ready self.now.jobs lines.now (L.requests locks.now)) JOBS from }
+    {
+        let mut number = from;
+        for _ in 0..JOBS {
+            if self.ready(number, lines, locks) {
+                return Some(number);
+            }
+            number = number % JOBS + 1;
+        }
+        None
+    }
+
+    /// The job that runs next: the current one while it is ready and has quantum left; otherwise the
+    /// first ready number after it, in a circle that ends with it.
+    #[inline(always)]
+    pub fn next<L: LockTable>(&self, lines: &Lines, locks: &L) -> Option<u8>
+        ensures { result ≡ next_job self.now lines.now (L.requests locks.now) }
+    {
+        let goes_on = self.left > 0 && self.ready(self.current, lines, locks);
+        if goes_on {
+            return Some(self.current);
+        }
+        self.first_ready(self.current % JOBS + 1, lines, locks)
+    }
+
+    /// A job is to run: it keeps what is left of its quantum where it is current, and gets a whole
+    /// one where nothing is left or another was current.
+    #[inline(always)]
+    pub fn choose(&mut self, number: u8, quantum: u8)
+        ensures { self.new ≡ chosen self.old number quantum }
+    {
+        if self.current != number || self.left == 0 {
+            self.current = number;
+            self.left = quantum;
+        }
+    }
+
+    /// A tick goes by: every sleep and the quantum that is left, where above 0, are one tick shorter.
+    #[inline(always)]
+    pub fn tick(&mut self)
+        ensures { self.new ≡ ticked_table self.old }
+    {
+        self.left = self.left.saturating_sub(1);
+        if self.sleepers {
+            self.sleepers = tick_all(&mut self.jobs);
+        }
+    }
+
+    /// CTRL-C at a line: the job there stops, unless it is stopped already.
+    pub fn break_at(&mut self, line: LineNumber)
+        ensures { self.new ≡ broken_table self.old line }
+    {
+        break_all(line, &mut self.jobs);
+    }
+
+    /// A stopped job starts: it goes on at its start address, waits for nothing and has no vector.
+    /// `NoSuchJob` where there is none, `NotStopped` where it is not stopped.
+    pub fn start(&mut self, number: u8) -> Result<(), JobError>
+        ensures answer { result ≡ standing (job_at self.old.jobs number) }
+        ensures ok { OnOk result (self.new ≡ with_change self.old number started_job) }
+        ensures err { OnErr result (self.new ≡ self.old) }
+    {
+        let jobs = &mut self.jobs;
+        if number > JOBS {
+            return Err(JobError::NoSuchJob);
+        }
+        start_slot(&mut jobs[number as usize])
+    }
+
+    /// A stopped job continues: its program counter and its wait stay. `NoSuchJob` where there is
+    /// none, `NotStopped` where it is not stopped.
+    pub fn go_on(&mut self, number: u8) -> Result<(), JobError>
+        ensures answer { result ≡ standing (job_at self.old.jobs number) }
+        ensures ok { OnOk result (self.new ≡ with_change self.old number going_on) }
+        ensures err { OnErr result (self.new ≡ self.old) }
+    {
+        let jobs = &mut self.jobs;
+        if number > JOBS {
+            return Err(JobError::NoSuchJob);
+        }
+        go_on_slot(&mut jobs[number as usize])
+    }
+
+    /// Puts a job at a number.
+    pub fn place(&mut self, number: u8, job: Job)
+        requires { number ≤ JOBS }
+        ensures { self.new ≡ with_job self.old number (Some job) }
+    {
+        self.sleepers |= job.is_asleep();
+        self.jobs[number as usize] = Some(job);
+    }
+
+    /// Takes the job of a number away; no quantum is left where it was current.
+    pub fn remove(&mut self, number: u8)
+        requires { number ≤ JOBS }
+        ensures { self.new ≡ table_without self.old number }
+    {
+        self.jobs[number as usize] = None;
+        if self.current == number {
+            self.left = 0;
+        }
+    }
+
+    /// Whether a line has a job.
+    pub fn is_busy(&self, line: LineNumber) -> bool
+        ensures { result ≡ list_any (is_at line) self.now.jobs }
+    {
+        self.jobs.iter().any(|slot| is_at(line, slot))
+    }
+
+    /// The least number, from 1 on, that no job has.
+    pub fn free_number(&self) -> Option<u8>
+        ensures number { result ≡ free_number self.now.jobs }
+        ensures free { IfSome result (λ n. (1 ≤ n) × (n ≤ JOBS) × (job_at self.now.jobs n ≡ None)) }
+    {
+        for number in 1..=JOBS {
+            if self.jobs[number as usize].is_none() {
+                return Some(number);
+            }
+        }
+        None
+    }
+}
