@@ -1,6 +1,6 @@
 //! What the program writes on a script or a source.
 
-use op_script::{TestIn, TestOut, serve_asm, serve_queue};
+use queue_script::{TestIn, TestOut, serve_asm, serve_queue};
 use std::alloc::{AllocError, Global};
 
 /// The most bytes that a transcript of an example has.

@@ -5,7 +5,7 @@ mod asked;
 mod serving;
 mod words;
 
-use op_script::{HostIn, HostOut};
+use queue_script::{HostIn, HostOut};
 use serving::{out_of_memory, program};
 use std::env;
 use std::process::ExitCode;

@@ -3,7 +3,7 @@ ghost use Rattle.std.specs.Prelude.{◌≡◌, ◌^◌, ◌≤◌, false};
 
 use crate::asked::{Choice, Refusal};
 use crate::words::choice;
-use op_script::{ByteIn, ByteOut, ServeError, serve_asm, serve_queue, write_all};
+use queue_script::{ByteIn, ByteOut, ServeError, serve_asm, serve_queue, write_all};
 use std::alloc::Global;
 use std::convert::AsStr;
 
@@ -84,7 +84,7 @@ fn told<E: ByteOut>(errors: &mut E, text: &[u8], status: u8) -> u8
 #[cfg(test)]
 mod tests {
     use super::*;
-    use op_script::{TestIn, TestOut};
+    use queue_script::{TestIn, TestOut};
     use std::process::Abort;
 
     /// More calls than a test makes.

@@ -7,7 +7,7 @@ ghost use Rattle.lockmon.specs.Words.{IsDue, IsKind, app, run_app, choice_of, nu
 use crate::asked::{Choice, Refusal};
 use clap::error::ErrorKind;
 use clap::{Arg, ArgMatches, Command, Error};
-use op_script::number;
+use queue_script::number;
 use std::alloc::{AllocError, Global};
 use std::convert::AsStr;
 use word36::MOST_BLOCKS;

@@ -17,7 +17,7 @@ use Rattle.lock_queue.specs.declared.request.EnqueueKind.{EnqueueKind}
 use Rattle.lock_queue.specs.declared.request.EnqueueKind.TheVariants.{Blocking, AtOnce, Interrupt}
 use Rattle.lock_queue.specs.declared.request.Request.{Request}
 use Rattle.lock_queue.specs.declared.want.Want.{Want}
-use Rattle.op_script.specs.Grants.{stays}
+use Rattle.queue_script.specs.Grants.{stays}
 use Rattle.script_laws.specs.Granting.{label_of, ArrivalsGrantNobody, StayingAreLeft}
 
 -- ---- arrivals

@@ -5,7 +5,7 @@ use Rattle.std.specs.Cmp.{nat_eq_equiv}
 use Rattle.std.proofs.lemmas.Bool.Decides.{nat_tests}
 use Rattle.std.proofs.lemmas.Bool.{and_parts, and_from}
 use Rattle.std.proofs.lemmas.Map.Made.{length-le_from_is_member}
-use Rattle.op_script.specs.WaitPairs.{numbers_from, jobs, leads_to, is_in_circle}
+use Rattle.queue_script.specs.WaitPairs.{numbers_from, jobs, leads_to, is_in_circle}
 use Rattle.word36.specs.declared.sizes.TheConstants.{JOBS}
 use Rattle.script_laws.specs.Walks.{is_job, IsWalk, LeadsBack}
 

@@ -10,7 +10,7 @@ use Rattle.lock_queue.specs.declared.call.LockReply.TheVariants.{Done}
 use Rattle.lock_queue.specs.declared.request.EnqueueKind.{EnqueueKind}
 use Rattle.lock_queue.specs.declared.request.Request.{Request}
 use Rattle.lock_queue.specs.declared.want.Want.{Want}
-use Rattle.op_script.specs.Grants.{stays}
+use Rattle.queue_script.specs.Grants.{stays}
 
 -- what no call changes of a request while it is present, but for its being told
 abbrev pub label_of : Request → ℕ × ℕ × EnqueueKind

@@ -1,7 +1,7 @@
 -- Walks of pairs of jobs of which the first waits for the second (this project's profile).
 use Rattle.std.specs.Prelude.{◌≡◌, ℕ, Bool, true, nat_eq, List, [], ◌∷◌}
 use Rattle.std.specs.List.{list_any}
-use Rattle.op_script.specs.WaitPairs.{jobs}
+use Rattle.queue_script.specs.WaitPairs.{jobs}
 
 -- whether a number is a job's
 abbrev pub is_job : ℕ → Bool

@@ -1,6 +1,6 @@
 //! The laws.
 ghost use Rattle.std.specs.Prelude.{◌≡◌, ◌↔◌, ℕ, Bool, true};
-ghost use Rattle.op_script.specs.WaitPairs.{is_in_circle};
+ghost use Rattle.queue_script.specs.WaitPairs.{is_in_circle};
 ghost use Rattle.script_laws.specs.Granting.{ArrivalsGrantNobody, StayingAreLeft};
 ghost use Rattle.script_laws.specs.Walks.{is_job, LeadsBack};
 

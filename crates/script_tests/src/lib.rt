@@ -1,4 +1,4 @@
-//! Tests of `op_script`: scripts and what they must write.
+//! Tests of `queue_script`: scripts and what they must write.
 #![tactic(auto)]
 
 #[cfg(test)]

@@ -1,7 +1,7 @@
 //! What commands answer.
 
 use crate::scripts::{expect, expect_end};
-use op_script::{TestIn, TestOut, serve_queue};
+use queue_script::{TestIn, TestOut, serve_queue};
 use std::test::Fail;
 
 #[test]

@@ -1,7 +1,7 @@
 //! Ports that fail, and ports that pass few bytes at once.
 
 use crate::scripts::MANY;
-use op_script::{ByteOut, HostOut, ServeError, TestIn, TestOut, serve_queue};
+use queue_script::{ByteOut, HostOut, ServeError, TestIn, TestOut, serve_queue};
 use std::io;
 use std::io::Write;
 

@@ -1,6 +1,6 @@
 //! Serving a script in a test.
 
-use op_script::{ServeError, TestIn, TestOut, serve_queue};
+use queue_script::{ServeError, TestIn, TestOut, serve_queue};
 use std::alloc::Global;
 use std::process::Abort;
 

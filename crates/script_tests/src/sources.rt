@@ -2,7 +2,7 @@
 ghost use Rattle.std.specs.Prelude.{◌<◌};
 
 use crate::scripts::MANY;
-use op_script::{ByteOut, ServeError, TestIn, TestOut, serve_asm};
+use queue_script::{ByteOut, ServeError, TestIn, TestOut, serve_asm};
 use std::alloc::Global;
 
 const SOURCE: &[u8] = b" MOVEI 1,5\nA: JRST A\n END A\n";

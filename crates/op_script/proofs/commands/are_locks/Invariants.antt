@@ -1,9 +1,0 @@
-use Rattle.std.proofs.Common.{◌≡◌, is_some, length}
-use Rattle.op_script.specs.Locks.{locks_of}
-use Rattle.op_script.proofs.commands.are_locks.Given as goal
-
-abbrev pub invariant-loop-item : goal.invariant-loop-item
-invariant-loop-item l = is_some (locks_of l.items) ≡ is_some (locks_of l.initial.items)
-
-abbrev pub decreases-loop-item : goal.decreases-loop-item
-decreases-loop-item l = length l.items

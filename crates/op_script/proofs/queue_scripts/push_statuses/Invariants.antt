@@ -1,8 +1,0 @@
-use Rattle.std.proofs.Common.{◌≡◌, ◌++◌, drop}
-use Rattle.op_script.specs.QueueScripts.{statuses}
-use Rattle.op_script.proofs.queue_scripts.push_statuses.Given as goal
-
-abbrev pub invariant-loop-want : goal.invariant-loop-want
-invariant-loop-want g l =
-    let requests = g.L.LockTable.requests l.table in
-    l.out.items ++ statuses requests l.job (drop l.want-index l.wants) ≡ l.initial.out.items ++ statuses requests l.job l.wants

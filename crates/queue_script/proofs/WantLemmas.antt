@@ -1,0 +1,178 @@
+-- Lemmas on the wants of a call.
+use Rattle.std.proofs.Common.{◌≡◌, ◌≤◌, ◌+◌, ◌++◌, ◌&&◌, ℕ, true, false, cond, List, [], ◌∷◌, length, Option, Some, None, Result, Ok, Err, min, is_some, nat_le, arith, refl, sym, ap, ◌∙◌, append-nil, append_assoc, length-append}
+use Rattle.std.specs.Prelude.{option_map}
+use Rattle.std.specs.Option.{option_or}
+use Rattle.std.proofs.lemmas.Bool.Decides.{nat_tests}
+use Rattle.arrayvec.specs.ArrayVec.{ArrayVec}
+use Rattle.lock_queue.specs.declared.refusal.Refusal.{Refusal}
+use Rattle.lock_queue.specs.declared.refusal.Refusal.TheVariants.{BadCount}
+use Rattle.lock_queue.specs.declared.want.Want.{Want}
+use Rattle.queue_script.specs.declared.locks.Lock.{Lock}
+use Rattle.queue_script.specs.declared.locks.LockUse.{LockUse}
+use Rattle.lock_queue.specs.declared.call.LockCall.{LockCall}
+use Rattle.queue_script.specs.Commands.{call_with}
+use Rattle.queue_script.specs.Drafts.{filled, drafted}
+use Rattle.queue_script.specs.Locks.{lock_of, locks_of, want_of, onto_wants, wants_of, stored, call_wants}
+
+-- the wants so far, or the first refusal
+abbrev pub told_by : Option Refusal → List Want → Result (List Want) Refusal
+told_by None wants = Ok wants
+told_by (Some refusal) wants = Err refusal
+
+-- the items before the rest spell locks, and these are what was gathered
+pub record Gathers (job : ℕ) (use_ : LockUse) (all rest : List (List ℕ)) (count : ℕ) (wants : List Want) (refusal : Option Refusal) : Type 0 where
+  pub seen : List Lock
+  pub read : locks_of all ≡ option_map (λ ls. seen ++ ls) (locks_of rest)
+  pub counted : count ≡ min (length seen) 17
+  pub told : length seen ≤ 16 → wants_of job use_ seen ≡ told_by refusal wants
+
+-- one want behind others
+abbrev join : Result (List Want) Refusal → Result Want Refusal → Result (List Want) Refusal
+join (Ok wants) (Ok want) = Ok (wants ++ want ∷ [])
+join (Ok wants) (Err refusal) = Err refusal
+join (Err refusal) later = Err refusal
+
+join-first : (w : Result Want Refusal) → onto_wants w (Ok []) ≡ join (Ok []) w
+join-first (Ok w) = refl
+join-first (Err r) = refl
+
+onto-join : (w : Result Want Refusal) (ws : Result (List Want) Refusal) (v : Result Want Refusal) → onto_wants w (join ws v) ≡ join (onto_wants w ws) v
+onto-join (Err r) ws v = refl
+onto-join (Ok w) (Err r) v = refl
+onto-join (Ok w) (Ok ws) (Ok v) = refl
+onto-join (Ok w) (Ok ws) (Err r) = refl
+
+wants_of-push : (job : ℕ) (use_ : LockUse) (locks : List Lock) (lock : Lock) → wants_of job use_ (locks ++ lock ∷ []) ≡ join (wants_of job use_ locks) (want_of job use_ lock)
+wants_of-push job use_ [] lock = join-first (want_of job use_ lock)
+wants_of-push job use_ (l ∷ ls) lock =
+    ap (onto_wants (want_of job use_ l)) (wants_of-push job use_ ls lock) ∙ onto-join (want_of job use_ l) (wants_of job use_ ls) (want_of job use_ lock)
+
+-- reading one more item
+map-push : (seen : List Lock) (lock : Lock) (o : Option (List Lock)) → option_map (λ ls. seen ++ ls) (option_map (λ ls. lock ∷ ls) o) ≡ option_map (λ ls. (seen ++ lock ∷ []) ++ ls) o
+map-push seen lock None = refl
+map-push seen lock (Some ls) = ap Some (sym (append_assoc seen (lock ∷ []) ls))
+
+locks_of-cons : (item : List ℕ) (rest : List (List ℕ)) (lock : Lock) → lock_of item ≡ Some lock → locks_of (item ∷ rest) ≡ option_map (λ ls. lock ∷ ls) (locks_of rest)
+locks_of-cons item rest lock is = rw is refl
+
+read-push : (all old rest : List (List ℕ)) (item : List ℕ) (seen : List Lock) (lock : Lock) → locks_of all ≡ option_map (λ ls. seen ++ ls) (locks_of old) → old ≡ item ∷ rest → lock_of item ≡ Some lock
+    → locks_of all ≡ option_map (λ ls. (seen ++ lock ∷ []) ++ ls) (locks_of rest)
+read-push all old rest item seen lock read next is =
+    read ∙ ap (λ l. option_map (λ ls. seen ++ ls) (locks_of l)) next ∙ ap (option_map (λ ls. seen ++ ls)) (locks_of-cons item rest lock is) ∙ map-push seen lock (locks_of rest)
+
+pub gathers-start : (job : ℕ) (use_ : LockUse) (items : List (List ℕ)) → Gathers job use_ items items 0 [] None
+gathers-start job use_ items = record { seen = []; read = start (locks_of items); counted = refl; told = λ h. refl }
+  where
+    start : (o : Option (List Lock)) → o ≡ option_map (λ ls. [] ++ ls) o
+    start None = refl
+    start (Some ls) = refl
+
+join-told : (refusal : Option Refusal) (wants : List Want) (want : Want) → join (told_by refusal wants) (Ok want) ≡ told_by refusal (wants ++ want ∷ [])
+join-told None wants want = refl
+join-told (Some r) wants want = refl
+
+join-refused : (refusal : Option Refusal) (wants : List Want) (why : Refusal) → join (told_by refusal wants) (Err why) ≡ told_by (option_or refusal (Some why)) wants
+join-refused None wants why = refl
+join-refused (Some r) wants why = refl
+
+pub gathers-want : (job : ℕ) (use_ : LockUse) (all old rest : List (List ℕ)) (item : List ℕ) (lock : Lock) (count next : ℕ) (wants wants' : List Want) (want : Want) (refusal : Option Refusal)
+    → Gathers job use_ all old count wants refusal → old ≡ item ∷ rest → lock_of item ≡ Some lock → next ≡ min 16 count + 1
+    → want_of job use_ lock ≡ Ok want → wants' ≡ wants ++ want ∷ [] → Gathers job use_ all rest next wants' refusal
+gathers-want job use_ all old rest item lock count next wants wants' want refusal g taken is counted wanted pushed = record {
+  seen = g.seen ++ lock ∷ [];
+  read = read-push all old rest item g.seen lock g.read taken is;
+  counted = let c = g.counted in let n = length-append g.seen (lock ∷ []) in omega arith;
+  told = λ h.
+      let n = length-append g.seen (lock ∷ []) in
+      wants_of-push job use_ g.seen lock ∙ ap (λ w. join w (want_of job use_ lock)) (g.told (omega arith)) ∙ ap (join (told_by refusal wants)) wanted ∙ join-told refusal wants want ∙ ap (told_by refusal) (sym pushed);
+}
+
+pub gathers-refusal : (job : ℕ) (use_ : LockUse) (all old rest : List (List ℕ)) (item : List ℕ) (lock : Lock) (count next : ℕ) (wants : List Want) (refusal refusal' : Option Refusal) (why : Refusal)
+    → Gathers job use_ all old count wants refusal → old ≡ item ∷ rest → lock_of item ≡ Some lock → next ≡ min 16 count + 1
+    → want_of job use_ lock ≡ Err why → refusal' ≡ option_or refusal (Some why) → Gathers job use_ all rest next wants refusal'
+gathers-refusal job use_ all old rest item lock count next wants refusal refusal' why g taken is counted wanted first = record {
+  seen = g.seen ++ lock ∷ [];
+  read = read-push all old rest item g.seen lock g.read taken is;
+  counted = let c = g.counted in let n = length-append g.seen (lock ∷ []) in omega arith;
+  told = λ h.
+      let n = length-append g.seen (lock ∷ []) in
+      wants_of-push job use_ g.seen lock ∙ ap (λ w. join w (want_of job use_ lock)) (g.told (omega arith)) ∙ ap (join (told_by refusal wants)) wanted ∙ join-refused refusal wants why
+      ∙ ap (λ r. told_by r wants) (sym first);
+}
+
+-- a lock that is not looked at
+pub gathers-more : (job : ℕ) (use_ : LockUse) (all old rest : List (List ℕ)) (item : List ℕ) (lock : Lock) (count next : ℕ) (wants : List Want) (refusal : Option Refusal)
+    → Gathers job use_ all old count wants refusal → old ≡ item ∷ rest → lock_of item ≡ Some lock → next ≡ min 16 count + 1 → 16 ≤ count
+    → Gathers job use_ all rest next wants refusal
+gathers-more job use_ all old rest item lock count next wants refusal g taken is counted many = record {
+  seen = g.seen ++ lock ∷ [];
+  read = read-push all old rest item g.seen lock g.read taken is;
+  counted = let c = g.counted in let n = length-append g.seen (lock ∷ []) in omega arith;
+  told = λ h. let c = g.counted in let n = length-append g.seen (lock ∷ []) in absurd (omega arith);
+}
+
+-- ---- the end
+
+-- an item that is no lock
+pub gathers-none : (job : ℕ) (use_ : LockUse) (all old rest : List (List ℕ)) (item : List ℕ) (count : ℕ) (wants : List Want) (refusal : Option Refusal)
+    → Gathers job use_ all old count wants refusal → old ≡ item ∷ rest → lock_of item ≡ None → option_map (call_wants job use_) (locks_of all) ≡ None
+gathers-none job use_ all old rest item count wants refusal g taken is =
+    let none : locks_of (item ∷ rest) ≡ None = rw is refl in
+    ap (option_map (call_wants job use_)) (g.read ∙ ap (λ l. option_map (λ ls. g.seen ++ ls) (locks_of l)) taken ∙ ap (option_map (λ ls. g.seen ++ ls)) none)
+
+all-read : (all : List (List ℕ)) (seen : List Lock) (rest : List (List ℕ)) → locks_of all ≡ option_map (λ ls. seen ++ ls) (locks_of rest) → rest ≡ [] → locks_of all ≡ Some seen
+all-read all seen rest read empty = read ∙ ap (λ l. option_map (λ ls. seen ++ ls) (locks_of l)) empty ∙ ap Some (append-nil seen)
+
+few_or_many : (n : ℕ) (x y : Result (ArrayVec Want) Refusal) → (1 ≤ n → n ≤ 16 → ⊥) → cond (nat_le 1 n && nat_le n 16) x y ≡ y
+few_or_many n x y h = grind (arith, nat_tests)
+
+few : (n : ℕ) (x y : Result (ArrayVec Want) Refusal) → 1 ≤ n → n ≤ 16 → cond (nat_le 1 n && nat_le n 16) x y ≡ x
+few n x y one most = grind (arith, nat_tests)
+
+pub gathers-bad_count : (job : ℕ) (use_ : LockUse) (all rest : List (List ℕ)) (count : ℕ) (wants : List Want) (refusal : Option Refusal)
+    → Gathers job use_ all rest count wants refusal → rest ≡ [] → (1 ≤ count → count ≤ 16 → ⊥) → option_map (call_wants job use_) (locks_of all) ≡ Some (Err BadCount)
+gathers-bad_count job use_ all rest count wants refusal g empty bad =
+    let c = g.counted in
+    ap (option_map (call_wants job use_)) (all-read all g.seen rest g.read empty) ∙ ap Some (few_or_many (length g.seen) _ _ (λ one most. bad (omega arith) (omega arith)))
+
+pub gathers-all : (job : ℕ) (use_ : LockUse) (all rest : List (List ℕ)) (count : ℕ) (wants : List Want) (refusal : Option Refusal)
+    → Gathers job use_ all rest count wants refusal → rest ≡ [] → 1 ≤ count → count ≤ 16 → option_map (call_wants job use_) (locks_of all) ≡ Some (stored (told_by refusal wants))
+gathers-all job use_ all rest count wants refusal g empty one most =
+    let c = g.counted in
+    ap (option_map (call_wants job use_)) (all-read all g.seen rest g.read empty)
+    ∙ ap Some (few (length g.seen) _ _ (omega arith) (omega arith) ∙ ap stored (g.told (omega arith)))
+
+-- ---- drafts
+
+filled-call : (make : ArrayVec Want → LockCall) (r : Option (Result (Unit {0}) Refusal)) (wants : ArrayVec Want) → option_map (call_with make) (filled r wants) ≡ drafted r (make wants)
+filled-call make None wants = refl
+filled-call make (Some (Ok u)) wants = refl
+filled-call make (Some (Err refusal)) wants = refl
+
+read-call : (make : ArrayVec Want → LockCall) (f : List Lock → Result (ArrayVec Want) Refusal) (x : Option (List Lock)) → option_map (call_with make) (option_map f x) ≡ option_map (λ locks. call_with make (f locks)) x
+read-call make f None = refl
+read-call make f (Some locks) = refl
+
+pub drafted-call : (make : ArrayVec Want → LockCall) (r : Option (Result (Unit {0}) Refusal)) (wants : ArrayVec Want) (f : List Lock → Result (ArrayVec Want) Refusal) (x : Option (List Lock)) → filled r wants ≡ option_map f x
+    → drafted r (make wants) ≡ option_map (λ locks. call_with make (f locks)) x
+drafted-call make r wants f x h = sym (filled-call make r wants) ∙ ap (option_map (call_with make)) h ∙ read-call make f x
+
+-- ---- items that are all locks
+
+some-map : (lock : Lock) (o : Option (List Lock)) → is_some (option_map (λ ls. lock ∷ ls) o) ≡ is_some o
+some-map lock None = refl
+some-map lock (Some ls) = refl
+
+pub locks-go_on : (all old rest : List (List ℕ)) (item : List ℕ) (lock : Lock) → is_some (locks_of old) ≡ is_some (locks_of all) → old ≡ item ∷ rest → lock_of item ≡ Some lock
+    → is_some (locks_of rest) ≡ is_some (locks_of all)
+locks-go_on all old rest item lock before taken is =
+    sym (some-map lock (locks_of rest)) ∙ ap is_some (sym (locks_of-cons item rest lock is)) ∙ ap (λ l. is_some (locks_of l)) (sym taken) ∙ before
+
+pub locks-stop : (all old rest : List (List ℕ)) (item : List ℕ) → is_some (locks_of old) ≡ is_some (locks_of all) → old ≡ item ∷ rest → lock_of item ≡ None
+    → false ≡ is_some (locks_of all)
+locks-stop all old rest item before taken is =
+    let none : locks_of (item ∷ rest) ≡ None = rw is refl in
+    sym (ap is_some none) ∙ ap (λ l. is_some (locks_of l)) (sym taken) ∙ before
+
+pub locks-end : (all old : List (List ℕ)) → is_some (locks_of old) ≡ is_some (locks_of all) → old ≡ [] → true ≡ is_some (locks_of all)
+locks-end all old before empty = sym (ap (λ l. is_some (locks_of l)) empty) ∙ before

@@ -1,0 +1,17 @@
+use Rattle.std.proofs.Common.{◌≡◌, ◌∙◌, arith, false, refl, sym, ap}
+use Rattle.std.specs.Prelude.{replicate}
+use Rattle.queue_script.specs.WaitPairs.{pair_in, leads_to}
+use Rattle.queue_script.proofs.PairLemmas.{all-false, leads-start, leads-step}
+use Rattle.queue_script.proofs.wait_pairs.leading_to.Goals as goal
+
+pub loop-steps-init : goal.loop-steps-init
+loop-steps-init c = λ j h. all-false (replicate 32 false) j refl ∙ sym (leads-start (pair_in c.args.pairs.now) j c.args.target)
+
+pub loop-steps-preserved : goal.loop-steps-preserved
+loop-steps-preserved c = λ j h.
+    c.lead_further-reached.ensures j h ∙ leads-step (pair_in c.args.pairs.now) c.loop-steps.reached c.loop-steps.steps c.args.target c.loop-steps.invariant j
+
+pub returns : goal.returns
+returns c =
+    let end : c.loop-steps.steps ≡ 31 = omega arith in
+    λ j h. c.loop-steps.invariant j h ∙ ap (λ n. leads_to (pair_in c.args.pairs.now) n j c.args.target) end

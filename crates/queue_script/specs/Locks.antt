@@ -1,0 +1,120 @@
+-- The locks of a command, and what a call wants of them (this project's profile).
+use Rattle.std.specs.Prelude.{◌==◌, ◌&&◌, ◌||◌, ◌-◌, ◌^◌, not, ℕ, Bool, false, List, [], ◌∷◌, length, Option, Some, None, Result, Ok, Err, if◌then◌else◌, option_and_then, option_map, unwrap_or, nat_le, nat_lt}
+use Rattle.std.specs.List.{list_all}
+use Rattle.arrayvec.specs.ArrayVec.{ArrayVec}
+use Rattle.word36.specs.declared.sizes.TheConstants.{LOCKS_A_CALL, NAME_LENGTH}
+use Rattle.lock_queue.specs.Pools.{PoolShare}
+use Rattle.lock_queue.specs.declared.key.Key.{Key}
+use Rattle.lock_queue.specs.declared.key.Scope.TheVariants.{All, Job}
+use Rattle.lock_queue.specs.declared.name.Name.{Name}
+use Rattle.lock_queue.specs.declared.name.Name.TheVariants.{Text, Code}
+use Rattle.lock_queue.specs.declared.refusal.Refusal.{Refusal}
+use Rattle.lock_queue.specs.declared.refusal.Refusal.TheVariants.{BadCount, BadName, BadPool}
+use Rattle.lock_queue.specs.declared.want.Want.{Want}
+use Rattle.queue_script.specs.Numbers.{number, parts}
+use Rattle.queue_script.specs.Options.{no_options, options_from}
+use Rattle.queue_script.specs.declared.locks.Lock.{Lock}
+use Rattle.queue_script.specs.declared.locks.LockName.{LockName}
+use Rattle.queue_script.specs.declared.locks.LockName.TheVariants.{Fitting, TooLong}
+use Rattle.queue_script.specs.declared.locks.LockUse.{LockUse}
+use Rattle.queue_script.specs.declared.locks.LockUse.TheVariants.{Requested, Named}
+use Rattle.queue_script.specs.declared.options.Options.{Options}
+use Rattle.queue_script.specs.declared.options.PoolOption.{PoolOption}
+
+-- ---- what a lock's text says
+
+-- letters, digits, `.`, `-` and `_`
+abbrev pub is_name_character : ℕ → Bool
+is_name_character c =
+    ((nat_le 65 c && nat_le c 90) || (nat_le 97 c && nat_le c 122))
+    || ((nat_le 48 c && nat_le c 57) || ((c == 46 || c == 45) || c == 95))
+
+-- 1 to 11 octal digits, a number of 33 bits
+abbrev pub user_code : List ℕ → Option ℕ
+user_code digits = if nat_le (length digits) 11 then number 8 (2 ^ 33 - 1) digits else None
+
+-- a name of characters, which may be too long for a lock
+abbrev pub text_name : List ℕ → LockName
+text_name text = if nat_le (length text) NAME_LENGTH then Fitting (Text text) else TooLong
+
+abbrev pub name_of_characters : List ℕ → Option LockName
+name_of_characters text = if list_all is_name_character text then Some (text_name text) else None
+
+-- the name that a text spells: `#` and a user code, or one or more characters
+abbrev pub name_of : List ℕ → Option LockName
+name_of [] = None
+name_of (c ∷ rest) =
+    if c == 35 then option_map (λ code. Fitting (Code code)) (user_code rest) else name_of_characters (c ∷ rest)
+
+-- the lock of some texts: a name and options
+abbrev pub lock_of_parts : List (List ℕ) → Option Lock
+lock_of_parts [] = None
+lock_of_parts (name ∷ options) =
+    option_and_then (λ n. option_map (λ o. record { name = n; options = o }) (options_from no_options options)) (name_of name)
+
+-- the lock that an item of a line spells: parts between slashes
+abbrev pub lock_of : List ℕ → Option Lock
+lock_of item = lock_of_parts (parts 47 item)
+
+-- the locks that all items spell
+abbrev pub locks_of : List (List ℕ) → Option (List Lock)
+locks_of [] = Some []
+locks_of (item ∷ more) = option_and_then (λ lock. option_map (λ locks. lock ∷ locks) (locks_of more)) (lock_of item)
+
+-- ---- what a call wants of a lock
+
+abbrev pub key_of : ℕ → Name → Bool → Key
+key_of job name own = record { scope = (if own then Job job else All); name = name }
+
+-- a pool of size 0 of which 0 is wanted is none
+abbrev pub is_no_pool : PoolOption → Bool
+is_no_pool p = p.size == 0 && p.amount == 0
+
+-- a size of 18 bits, an amount from 1 to the size, and not shared
+abbrev pub is_right_pool : Bool → PoolOption → Bool
+is_right_pool shared p = not shared && (nat_le 1 p.amount && (nat_le p.amount p.size && nat_lt p.size (2 ^ 18)))
+
+abbrev pub checked_pool : Bool → Option PoolOption → Result (Option PoolShare) Refusal
+checked_pool shared None = Ok None
+checked_pool shared (Some p) =
+    if is_no_pool p then Ok None
+    else (if is_right_pool shared p then Ok (Some (record { size = p.size; amount = p.amount })) else Err BadPool)
+
+-- the want of a request
+abbrev pub requested_want : Key → Options → Result (Option PoolShare) Refusal → Result Want Refusal
+requested_want key o (Err refusal) = Err refusal
+requested_want key o (Ok pool) =
+    Ok (record { key = key; shared = o.shared; bypass = o.bypass; level = unwrap_or o.level 0; pool = pool })
+
+-- the want of a call that only names locks: bypass, level and pool are not looked at
+abbrev pub naming_want : Key → Options → Want
+naming_want key o = record { key = key; shared = o.shared; bypass = false; level = 0; pool = None }
+
+-- what a job's call wants of a lock, or why that is refused
+abbrev pub want_of_name : ℕ → LockUse → LockName → Options → Result Want Refusal
+want_of_name job use_ TooLong o = Err BadName
+want_of_name job Requested (Fitting name) o = requested_want (key_of job name o.own) o (checked_pool o.shared o.pool)
+want_of_name job Named (Fitting name) o = Ok (naming_want (key_of job name o.own) o)
+
+abbrev pub want_of : ℕ → LockUse → Lock → Result Want Refusal
+want_of job use_ lock = want_of_name job use_ lock.name lock.options
+
+-- a want in front of others, or the first refusal
+abbrev pub onto_wants : Result Want Refusal → Result (List Want) Refusal → Result (List Want) Refusal
+onto_wants (Ok want) (Ok wants) = Ok (want ∷ wants)
+onto_wants (Ok want) (Err refusal) = Err refusal
+onto_wants (Err refusal) later = Err refusal
+
+-- the wants of all locks, or the first refusal, lock by lock
+abbrev pub wants_of : ℕ → LockUse → List Lock → Result (List Want) Refusal
+wants_of job use_ [] = Ok []
+wants_of job use_ (lock ∷ more) = onto_wants (want_of job use_ lock) (wants_of job use_ more)
+
+abbrev pub stored : Result (List Want) Refusal → Result (ArrayVec Want) Refusal
+stored (Ok wants) = Ok (record { items = wants })
+stored (Err refusal) = Err refusal
+
+-- the wants of a call: their number is looked at first
+abbrev pub call_wants : ℕ → LockUse → List Lock → Result (ArrayVec Want) Refusal
+call_wants job use_ locks =
+    if nat_le 1 (length locks) && nat_le (length locks) LOCKS_A_CALL then stored (wants_of job use_ locks) else Err BadCount

@@ -1,0 +1,41 @@
+//! The wants of a call.
+ghost use Rattle.std.specs.Prelude.{◌≡◌, option_map};
+ghost use Rattle.queue_script.specs.Drafts.{filled};
+ghost use Rattle.queue_script.specs.Locks.{locks_of, call_wants};
+
+use crate::locks::{LockUse, read_lock};
+use crate::parts::Parts;
+use lock_queue::{Refusal, Wants};
+use word36::LOCKS_A_CALL;
+
+/// Fills in the wants that the items of a line spell, or says why the call is refused; None where
+/// an item is no lock.
+pub fn read_wants(
+    mut items: Parts<'_>,
+    job: u8,
+    lock_use: LockUse,
+    wants: &mut Wants,
+) -> Option<Result<(), Refusal>>
+    ensures { filled result wants.new ≡ option_map (call_wants job lock_use) (locks_of items.entry) }
+{
+    let mut count = 0;
+    let mut refusal = None;
+    wants.clear();
+    while let Some(item) = items.next() {
+        let lock = read_lock(item)?;
+        if count < LOCKS_A_CALL {
+            match lock.into_want(job, lock_use) {
+                Ok(want) => wants.push(want),
+                Err(why) => refusal = refusal.or(Some(why)),
+            }
+        }
+        count = LOCKS_A_CALL.min(count) + 1;
+    }
+    if count == 0 || count > LOCKS_A_CALL {
+        return Some(Err(Refusal::BadCount));
+    }
+    match refusal {
+        None => Some(Ok(())),
+        Some(refusal) => Some(Err(refusal)),
+    }
+}

@@ -1,0 +1,30 @@
+//! Scripts and sources, and their transcripts: the languages of `lockmon`.
+#![tactic(auto)]
+
+mod asm_sources;
+mod call_wants;
+mod commands;
+mod drafts;
+mod grants;
+mod listings;
+mod locks;
+mod numbers;
+mod options;
+mod parts;
+mod printing;
+mod queue_scripts;
+mod wait_pairs;
+
+pub use asm_sources::serve_asm;
+pub use commands::{is_allowed, is_silent};
+pub use listings::{octal_digits, push_asm_fault};
+pub use numbers::number;
+pub use options::read_half;
+pub use parts::Parts;
+pub use printing::{push_code, push_escaped, push_request, push_word};
+pub use queue_scripts::{push_requests, serve_queue};
+pub use script_io::{
+    ByteIn, ByteOut, Ending, Failed, HostIn, HostOut, LineService, LineSession, ServeError,
+    Session, TestIn, TestOut, serve_session, write_all,
+};
+pub use wait_pairs::push_waits;

@@ -1,0 +1,173 @@
+//! The locks of a command.
+ghost use Rattle.std.specs.Prelude.{◌≡◌, ◌<◌, ◌≤◌, length, ◌^◌, IfSome};
+ghost use Rattle.std.specs.List.{list_all};
+ghost use Rattle.queue_script.specs.Options.{no_options};
+ghost use Rattle.queue_script.specs.Numbers.{parts};
+ghost use Rattle.queue_script.specs.Locks.{is_name_character, user_code, name_of_characters, name_of, lock_of, checked_pool, want_of, key_of};
+
+use crate::numbers::number;
+use crate::options::{Options, PoolOption, read_options};
+use crate::parts::Parts;
+use lock_queue::{Key, Level, Name, NameText, Pool, Refusal, Scope, UserCode, Want};
+use std::str;
+
+/// The largest user code, a number of 33 bits.
+const MOST_CODE: u64 = 0o77_777_777_777;
+
+/// The most digits of a user code.
+const CODE_DIGITS: usize = 11;
+
+/// A lock's name as the script spells it.
+#[derive(Drop)]
+pub enum LockName {
+    /// A name that a lock can have.
+    Fitting(Name),
+    /// A text that is too long for a name.
+    TooLong,
+}
+
+/// What a call wants of its locks.
+#[derive(Clone, Copy, Debug, PartialEq, Eq)]
+pub enum LockUse {
+    /// It asks for them: all options count.
+    Requested,
+    /// It names them: bypass, level and pool are not looked at.
+    Named,
+}
+
+/// A lock as the script spells it.
+#[derive(Drop)]
+pub struct Lock {
+    /// Its name.
+    pub name: LockName,
+    /// Its options.
+    pub options: Options,
+}
+
+/// Whether a name may have this character.
+pub fn is_name_character(character: u8) -> bool
+    ensures { result ≡ is_name_character character }
+{
+    character.is_ascii_alphanumeric() || character == b'.' || character == b'-' || character == b'_'
+}
+
+/// Whether a name may have these characters.
+fn has_name_characters(text: &[u8]) -> bool
+    ensures { result ≡ list_all is_name_character text.now }
+{
+    text.iter().all(|character| is_name_character(*character))
+}
+
+/// The user code that 1 to 11 octal digits spell.
+fn read_code(digits: &[u8]) -> Option<u64>
+    ensures value { result ≡ user_code digits.now }
+    ensures small { IfSome result (λ code. code < 2 ^ 33) }
+{
+    if digits.len() > CODE_DIGITS {
+        return None;
+    }
+    number(8, MOST_CODE, digits)
+}
+
+/// The name of these characters, if a name may have them.
+fn read_text(text: &[u8]) -> Option<LockName>
+    requires { 0 < length text.now }
+    ensures { result ≡ name_of_characters text.now }
+{
+    if !has_name_characters(text) {
+        return None;
+    }
+    let Ok(text) = str::from_utf8(text) else {
+        return None;
+    };
+    match NameText::new(text) {
+        Some(name) => Some(LockName::Fitting(Name::Text(name))),
+        None => Some(LockName::TooLong),
+    }
+}
+
+/// The name that a text spells.
+fn read_name(text: &[u8]) -> Option<LockName>
+    ensures { result ≡ name_of text.now }
+{
+    match text.split_first() {
+        None => None,
+        Some((b'#', digits)) => {
+            let code = UserCode::new(read_code(digits)?);
+            Some(LockName::Fitting(Name::Code(code)))
+        }
+        Some(_) => read_text(text),
+    }
+}
+
+/// The lock that an item of a line spells.
+pub fn read_lock(item: &[u8]) -> Option<Lock>
+    ensures { result ≡ lock_of item.now }
+{
+    let mut texts = Parts::of(item, b'/');
+    let name = read_name(texts.next()?)?;
+    let options = read_options(texts)?;
+    Some(Lock { name, options })
+}
+
+/// The pool that a request's option asks for, if it does.
+fn checked_pool(shared: bool, pool: Option<PoolOption>) -> Result<Option<Pool>, Refusal>
+    ensures { result ≡ checked_pool shared pool }
+{
+    let Some(PoolOption { size, amount }) = pool else {
+        return Ok(None);
+    };
+    if size == 0 && amount == 0 {
+        return Ok(None);
+    }
+    if shared {
+        return Err(Refusal::BadPool);
+    }
+    match Pool::new(size, amount) {
+        Some(pool) => Ok(Some(pool)),
+        None => Err(Refusal::BadPool),
+    }
+}
+
+/// The key of a name.
+fn key_of(job: u8, name: Name, own: bool) -> Key
+    ensures { result ≡ key_of job name own }
+{
+    let scope = if own { Scope::Job(job) } else { Scope::All };
+    Key { scope, name }
+}
+
+impl Lock {
+    /// What a job's call wants of the lock, or why that is refused.
+    pub fn into_want(self, job: u8, lock_use: LockUse) -> Result<Want, Refusal>
+        ensures { result ≡ want_of job lock_use self }
+    {
+        let Lock { name, options } = self;
+        let name = match name {
+            LockName::Fitting(name) => name,
+            LockName::TooLong => return Err(Refusal::BadName),
+        };
+        let key = key_of(job, name, options.own);
+        match lock_use {
+            LockUse::Requested => {
+                let pool = checked_pool(options.shared, options.pool)?;
+                Ok(Want {
+                    key,
+                    shared: options.shared,
+                    bypass: options.bypass,
+                    level: options.level.unwrap_or(Level::new(0)),
+                    pool,
+                })
+            }
+            LockUse::Named => {
+                Ok(Want {
+                    key,
+                    shared: options.shared,
+                    bypass: false,
+                    level: Level::new(0),
+                    pool: None,
+                })
+            }
+        }
+    }
+}

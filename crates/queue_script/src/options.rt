@@ -1,0 +1,150 @@
+//! The options of a lock.
+ghost use Rattle.std.specs.Prelude.{◌≡◌, ◌^◌, ◌<◌, IfSome};
+ghost use Rattle.queue_script.specs.Numbers.{parts};
+ghost use Rattle.queue_script.specs.Options.{half_of, option_of, pool_of, with_option, options_from, no_options};
+
+use crate::numbers::number;
+use crate::parts::Parts;
+use lock_queue::Level;
+
+/// The largest level.
+const MOST_LEVEL: u64 = 0o777;
+
+/// The largest number of 18 bits, as of a pool's size.
+const MOST_HALF: u64 = 0o777_777;
+
+/// The two numbers of a pool's option, which need not make sense.
+#[derive(Clone, Copy, Debug, PartialEq, Eq)]
+pub struct PoolOption {
+    /// The pool's size.
+    pub size: u32,
+    /// How much of it is wanted.
+    pub amount: u32,
+}
+
+/// An option of a lock.
+#[derive(Clone, Copy, Debug, PartialEq, Eq)]
+pub enum LockOption {
+    /// `/S`: others may share the lock.
+    Shared,
+    /// `/B`: the rule of rising levels is not asked of it.
+    Bypass,
+    /// `/Ln`: its level.
+    Level(Level),
+    /// `/Ps:a`: so much of a pool.
+    Pool(PoolOption),
+    /// `/J`: the name is this job's own.
+    Own,
+}
+
+/// The options of a lock, each at most once.
+#[derive(Clone, Copy, Debug, PartialEq, Eq)]
+pub struct Options {
+    /// Whether others may share the lock.
+    pub shared: bool,
+    /// Whether the rule of rising levels is not asked of it.
+    pub bypass: bool,
+    /// Its level, if it is given.
+    pub level: Option<Level>,
+    /// So much of a pool, if it is given.
+    pub pool: Option<PoolOption>,
+    /// Whether the name is this job's own.
+    pub own: bool,
+}
+
+/// A number of 18 bits in decimal.
+pub fn read_half(text: &[u8]) -> Option<u32>
+    ensures value { result ≡ half_of text.now }
+    ensures small { IfSome result (λ n. n < 2 ^ 18) }
+{
+    match number(10, MOST_HALF, text) {
+        Some(number) => Some(number as u32),
+        None => None,
+    }
+}
+
+/// The pool that `s:a` spells.
+fn read_pool(text: &[u8]) -> Option<PoolOption>
+    ensures { result ≡ pool_of (parts 58 text.now) }
+{
+    let mut numbers = Parts::of(text, b':');
+    let size = numbers.next()?;
+    let amount = numbers.next()?;
+    if !numbers.is_empty() {
+        return None;
+    }
+    let size = read_half(size)?;
+    let amount = read_half(amount)?;
+    Some(PoolOption { size, amount })
+}
+
+/// The option that a text behind a `/` spells.
+fn read_option(text: &[u8]) -> Option<LockOption>
+    ensures { result ≡ option_of text.now }
+{
+    let (letter, rest) = text.split_first()?;
+    match *letter {
+        b'S' if rest.is_empty() => Some(LockOption::Shared),
+        b'B' if rest.is_empty() => Some(LockOption::Bypass),
+        b'J' if rest.is_empty() => Some(LockOption::Own),
+        b'L' => Some(LockOption::Level(Level::new(number(10, MOST_LEVEL, rest)? as u16))),
+        b'P' => Some(LockOption::Pool(read_pool(rest)?)),
+        _ => None,
+    }
+}
+
+impl Options {
+    /// No option.
+    pub fn none() -> Self
+        ensures { result ≡ no_options }
+    {
+        Options {
+            shared: false,
+            bypass: false,
+            level: None,
+            pool: None,
+            own: false,
+        }
+    }
+
+    /// These and one more, which is not among them.
+    fn with(self, option: LockOption) -> Option<Self>
+        ensures { result ≡ with_option self option }
+    {
+        match option {
+            LockOption::Shared if !self.shared => Some(Options {
+                shared: true,
+                ..self
+            }),
+            LockOption::Bypass if !self.bypass => Some(Options {
+                bypass: true,
+                ..self
+            }),
+            LockOption::Level(level) if self.level.is_none() => {
+                Some(Options {
+                    level: Some(level),
+                    ..self
+                })
+            }
+            LockOption::Pool(pool) if self.pool.is_none() => {
+                Some(Options {
+                    pool: Some(pool),
+                    ..self
+                })
+            }
+            LockOption::Own if !self.own => Some(Options { own: true, ..self }),
+            _ => None,
+        }
+    }
+}
+
+/// The options that all texts spell, each behind a `/`.
+pub fn read_options(mut texts: Parts<'_>) -> Option<Options>
+    ensures { result ≡ options_from no_options texts.entry }
+{
+    let mut options = Options::none();
+    while let Some(text) = texts.next() {
+        options = options.with(read_option(text)?)?;
+    }
+    Some(options)
+}
