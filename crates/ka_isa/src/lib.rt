@@ -219,6 +219,3 @@ pub fn fields_round_trip(fields: Fields) -> Fields
 {
     decode(encode(fields))
 }
-
-#[cfg(test)]
-mod tests;

@@ -5,12 +5,8 @@ mod assembly;
 mod cells;
 mod error;
 mod layout;
-#[cfg(test)]
-mod layout_tests;
 mod places;
 mod sums;
-#[cfg(test)]
-mod tests;
 mod texts;
 mod words;
 

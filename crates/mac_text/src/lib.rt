@@ -17,8 +17,6 @@ mod statements;
 mod sum;
 mod symbol;
 mod syntax;
-#[cfg(test)]
-mod tests;
 mod texts;
 
 pub use fault::ParseError;

@@ -17,6 +17,3 @@ pub use sizes::{
     OUTPUT_RING, REQUESTS, TAKEN_AT_ONCE,
 };
 pub use word::Word;
-
-#[cfg(test)]
-mod tests;

@@ -1,4 +1,6 @@
-use super::*;
+//! Words, addresses and their texts.
+
+use word36::{Address, Word, octal_half, octal_text, sixbit};
 
 /// The words of the least and the greatest value, and of all ones.
 fn extremes() -> (Word, Word, Word) {

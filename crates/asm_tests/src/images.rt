@@ -1,4 +1,6 @@
-use crate::{AsmError, assemble};
+//! What sources come to.
+
+use mac_asm::{AsmError, assemble};
 use std::alloc::Global;
 use word36::Word;
 

@@ -1,4 +1,6 @@
-use crate::{Data, ParseError, Statement, Symbol, Term, parse, printed_word};
+//! Which sources are in the grammar, and what their statements are.
+
+use mac_text::{Data, ParseError, Statement, Symbol, Term, parse, printed_word};
 use std::alloc::Global;
 use std::test::Fail;
 use word36::Word;

@@ -1,6 +1,11 @@
+//! The table of operations, and a word as a line.
+
 ghost use Rattle.std.specs.Prelude.{◌<◌, ◌^◌};
 
-use super::*;
+use ka_isa::{
+    Change, Family, Fields, Named, classify, decode, encode, mnemonic, name_count, name_round_trip,
+    named, text_of,
+};
 use word36::Word;
 
 /// The word of an operation with these fields.
