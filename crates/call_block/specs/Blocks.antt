@@ -7,6 +7,7 @@ use Rattle.ka_cpu.specs.Places.{is_legal, word_at}
 use Rattle.lock_queue.specs.declared.want.Want.{Want}
 use Rattle.lock_queue.specs.declared.refusal.Refusal.{Refusal}
 use Rattle.lock_queue.specs.declared.refusal.Refusal.TheVariants.{BadBlock, BadCount}
+use Rattle.lock_queue.specs.declared.terms.LockUse.{LockUse}
 use Rattle.call_block.specs.declared.block.Block.{Block}
 use Rattle.call_block.specs.declared.want.Lock.{Lock}
 use Rattle.call_block.specs.Locks.{want_of}
@@ -27,11 +28,11 @@ lock_at ac core a = record { qualifier = word ac core a; name = word ac core (a 
 
 -- a job's wants of so many locks, one behind the other from a place on, or the first refusal, lock by
 -- lock
-unfoldable pub wants_at : List ℕ → List ℕ → ℕ → Bool → ℕ → ℕ → Result (List Want) Refusal
-wants_at ac core job full a zero = Ok []
-wants_at ac core job full a (suc n) = do
-  want ← want_of ac core job full (lock_at ac core a)
-  wants ← wants_at ac core job full (a + 3) n
+unfoldable pub wants_at : List ℕ → List ℕ → ℕ → LockUse → ℕ → ℕ → Result (List Want) Refusal
+wants_at ac core job lock_use a zero = Ok []
+wants_at ac core job lock_use a (suc n) = do
+  want ← want_of ac core job lock_use (lock_at ac core a)
+  wants ← wants_at ac core job lock_use (a + 3) n
   Ok (want ∷ wants)
 
 -- that a result holds these wants, or this refusal
@@ -41,13 +42,13 @@ WantsAre (Err e) wants = wants ≡ Err e
 
 -- the block at a place: `n,,2+3n`, `0,,request id`, and n locks; all of its words are legal, and n is
 -- from 1 to 16
-unfoldable pub block_at : List ℕ → List ℕ → ℕ → ℕ → Bool → Result Block Refusal
-block_at ac core a job full =
+unfoldable pub block_at : List ℕ → List ℕ → ℕ → ℕ → LockUse → Result Block Refusal
+block_at ac core a job lock_use =
     let n = left_half (word ac core a) in
     let size = 2 + 3 * n in
     let id = word ac core (a + 1) in
     if not (are_legal core a size && right_half (word ac core a) == size && left_half id == 0) then Err BadBlock
     else (if n == 0 || nat_lt LOCKS_A_CALL n then Err BadCount
     else do
-      wants ← wants_at ac core job full (a + 2) n
+      wants ← wants_at ac core job lock_use (a + 2) n
       Ok (record { id = right_half id; wants = record { items = wants } }))

@@ -1,12 +1,16 @@
 -- A lock of a call's block: three words (this project's profile).
-use Rattle.std.specs.Prelude.{ℕ, ◌==◌, ◌&&◌, nat_le, Bool, not, if◌then◌else◌, Option, Some, None, Result, Ok, Err, List}
+use Rattle.std.specs.Prelude.{ℕ, ◌==◌, Bool, if◌then◌else◌, Result, Ok, Err, List}
 use Rattle.word36.specs.Words.{left_half, right_half}
-use Rattle.lock_queue.specs.Pools.{PoolShare}
+use Rattle.lock_queue.specs.declared.key.Key.{Key}
 use Rattle.lock_queue.specs.declared.key.Scope.{Scope}
 use Rattle.lock_queue.specs.declared.key.Scope.TheVariants.{All, Job}
-use Rattle.lock_queue.specs.declared.want.Want.{Want}
+use Rattle.lock_queue.specs.declared.name.Name.{Name}
 use Rattle.lock_queue.specs.declared.refusal.Refusal.{Refusal}
-use Rattle.lock_queue.specs.declared.refusal.Refusal.TheVariants.{BadQualifier, BadPool}
+use Rattle.lock_queue.specs.declared.refusal.Refusal.TheVariants.{BadQualifier}
+use Rattle.lock_queue.specs.declared.terms.LockUse.{LockUse}
+use Rattle.lock_queue.specs.declared.terms.Terms.{Terms}
+use Rattle.lock_queue.specs.declared.want.Want.{Want}
+use Rattle.lock_queue.specs.Uses.{want_on}
 use Rattle.call_block.specs.declared.want.Lock.{Lock}
 use Rattle.call_block.specs.Bits.{bits}
 use Rattle.call_block.specs.Names.{name_at}
@@ -26,26 +30,23 @@ scope_of job w =
     if right_half w == 0o777777 then Ok All
     else (if right_half w == 0o777776 then Ok (Job job) else Err BadQualifier)
 
--- a lock's third word: 0 for no pool, else `pool size,,amount`, where the amount is from 1 to the
--- size, and a pool is not shared
-abbrev pub pool_of : Bool → ℕ → Result (Option PoolShare) Refusal
-pool_of shared w =
-    if w == 0 then Ok None
-    else (if not shared && nat_le 1 (right_half w) && nat_le (right_half w) (left_half w)
-    then Ok (Some (record { size = left_half w; amount = right_half w }))
-    else Err BadPool)
+-- the terms on which a lock is spelled: its level stands in bits 9 to 17 of the first word, and the third word is
+-- `pool size,,amount`, or 0
+abbrev pub terms_of : Lock → Terms
+terms_of lock = record {
+  shared = is_shared lock.qualifier;
+  bypass = is_bypass lock.qualifier;
+  level = bits 9 17 lock.qualifier;
+  pool_size = left_half lock.pool;
+  pool_amount = right_half lock.pool;
+}
 
--- a job's want of a lock; where a call does not look at the full lock, the want is one of level 0,
--- without bypass and without a pool
-abbrev pub want_of : List ℕ → List ℕ → ℕ → Bool → Lock → Result Want Refusal
-want_of ac core job full lock = do
+abbrev pub key_of : Name → Scope → Key
+key_of name scope = record { scope = scope; name = name }
+
+-- a job's want of a lock, by what its call does with the lock
+abbrev pub want_of : List ℕ → List ℕ → ℕ → LockUse → Lock → Result Want Refusal
+want_of ac core job lock_use lock = do
   name ← name_at ac core lock.name
   scope ← scope_of job lock.qualifier
-  pool ← if full then pool_of (is_shared lock.qualifier) lock.pool else Ok None
-  Ok (record {
-    key = record { scope = scope; name = name };
-    shared = is_shared lock.qualifier;
-    bypass = full && is_bypass lock.qualifier;
-    level = if full then bits 9 17 lock.qualifier else 0;
-    pool = pool;
-  })
+  want_on lock_use (key_of name scope) (terms_of lock)

@@ -1,12 +1,14 @@
 //! A block as a whole.
 ghost use Rattle.std.specs.Prelude.{◌≡◌, ◌+◌, ◌-◌, ◌*◌, ◌^◌, ◌<◌, ◌≤◌, IsTrue, IfOk};
+ghost use Rattle.std.specs.List.{list_all};
 ghost use Rattle.arrayvec.specs.ArrayVec.{array_vec_len};
 ghost use Rattle.ka_cpu.specs.Places.{is_legal};
+ghost use Rattle.lock_queue.specs.WellFormed.{shares_no_pool};
 ghost use Rattle.call_block.specs.Blocks.{are_legal, word, lock_at, wants_at, block_at, WantsAre};
 
 use crate::want::{Lock, want_of};
 use ka_cpu::{JobMemory, Regs, fetch};
-use lock_queue::{Refusal, RequestId, Wants};
+use lock_queue::{LockUse, Refusal, RequestId, Wants};
 use word36::{Address, LOCKS_A_CALL, Word};
 
 /// The words of one lock.
@@ -72,19 +74,20 @@ fn read_wants<M: JobMemory>(
     first: u32,
     count: u32,
     job: u8,
-    full: bool,
+    lock_use: LockUse,
 ) -> Result<Wants, Refusal>
     requires some { 1 ≤ count }
     requires few { count ≤ LOCKS_A_CALL }
     requires fits { first < 2 ^ 19 }
     requires legal { IsTrue (is_legal (M.words memory.now) (first + 3 * count - 1)) }
-    ensures wants { WantsAre result (wants_at regs.now.ac (M.words memory.now) job full first count) }
+    ensures wants { WantsAre result (wants_at regs.now.ac (M.words memory.now) job lock_use first count) }
     ensures counted { IfOk result (λ wants. array_vec_len wants ≡ count) }
+    ensures unshared { IfOk result (λ wants. IsTrue (list_all shares_no_pool wants.items)) }
 {
     let mut wants = Wants::new();
     for lock in 0..count {
         let lock = lock_at(regs, memory, first + LOCK_WORDS * lock);
-        wants.push(want_of(regs, memory, job, full, lock)?);
+        wants.push(want_of(regs, memory, job, lock_use, lock)?);
     }
     Ok(wants)
 }
@@ -96,8 +99,9 @@ fn read_wants<M: JobMemory>(
 /// memory, `BadName` where the name is empty or longer than 30 characters, `BadQualifier` where it is
 /// a name neither of all jobs nor of the job alone, and `BadPool` where its pool is wrong.
 ///
-/// A call that enters a request is `full`. For others levels, the bypass and pools are not looked at:
-/// wants have level 0, no bypass and no pool. A block's address does not wrap, the pointer to a name
+/// A call that enters a request asks for its locks (`Requested`). Of a call that only names them
+/// (`Named`) levels, the bypass and pools are not looked at: its wants have level 0, no bypass and no
+/// pool. A block's address does not wrap, the pointer to a name
 /// does, as in ILDB. Nothing is changed. (ENQ/DEQ of the TOPS-10 Monitor Calls Manual; the layout and
 /// the refusals are this project's profile.)
 #[tactic(auto, unfolding(crate::specs::Blocks::block_at))]
@@ -106,11 +110,12 @@ pub fn read_block<M: JobMemory>(
     memory: &M,
     address: Address,
     job: u8,
-    full: bool,
+    lock_use: LockUse,
 ) -> Result<Block, Refusal>
-    ensures block { result ≡ block_at regs.now.ac (M.words memory.now) address job full }
+    ensures block { result ≡ block_at regs.now.ac (M.words memory.now) address job lock_use }
     ensures least { IfOk result (λ block. 1 ≤ array_vec_len block.wants) }
     ensures most { IfOk result (λ block. array_vec_len block.wants ≤ LOCKS_A_CALL) }
+    ensures unshared { IfOk result (λ block. IsTrue (list_all shares_no_pool block.wants.items)) }
 {
     let address = address.number();
     let head = fetch(regs, memory, address).ok_or(Refusal::BadBlock)?;
@@ -126,7 +131,7 @@ pub fn read_block<M: JobMemory>(
     if count == 0 || count as usize > LOCKS_A_CALL {
         return Err(Refusal::BadCount);
     }
-    let wants = read_wants(regs, memory, address + 2, count, job, full)?;
+    let wants = read_wants(regs, memory, address + 2, count, job, lock_use)?;
     Ok(Block {
         id: RequestId::new(id.right()),
         wants,

@@ -2,7 +2,8 @@
 
 use crate::{Block, read_block};
 use ka_cpu::{Flags, JobMemory, Regs};
-use lock_queue::{Name, Pool, Refusal, Scope};
+use lock_queue::LockUse::{Named, Requested};
+use lock_queue::{LockUse, Name, Pool, Refusal, Scope};
 use std::alloc::AllocError;
 use std::test::Fail;
 use word36::{Address, Word};
@@ -114,19 +115,19 @@ impl Job {
     }
 
     /// What a call with the block at an address reads.
-    fn read(&self, address: u32, full: bool) -> Result<Block, Refusal> {
+    fn read(&self, address: u32, lock_use: LockUse) -> Result<Block, Refusal> {
         read_block(
             &self.regs,
             &self.core,
             Address::new(address & 0o777_777),
             JOB,
-            full,
+            lock_use,
         )
     }
 
     /// Which refusal a call that enters a request gets.
     fn refusal(&self, address: u32) -> Option<Refusal> {
-        self.read(address, true).err()
+        self.read(address, Requested).err()
     }
 
     /// Which refusal it gets with a block of one lock.
@@ -153,7 +154,7 @@ fn a_block_is_read(rt: HostRuntime) -> Result<(), Fail> {
         &[(1, 5), (0, 7), (0, 0o777_777), (0o440_700, 0o153), (0, 0)],
     );
     job.put(0o153, &[(0o540_000, 0)]);
-    let block = job.read(0o145, true).ok().ok_or("refused")?;
+    let block = job.read(0o145, Requested).ok().ok_or("refused")?;
     assert_eq!(rt; block.id.number(), 7);
     assert_eq!(rt; block.wants.len(), 1);
     assert_eq!(rt; first_text(&block), Some("X"));
@@ -182,7 +183,7 @@ fn blocks_at_the_ends_of_memory(rt: HostRuntime) -> Result<(), Fail> {
             job.put(place, &[(1, 5), (0, 7), PLAIN, (0o500_000, 3), (6, 2)]);
             assert_eq!(rt; job.refusal(place), refusal, "at {place:o} of {size:o}");
             let pool = job
-                .read(place, true)
+                .read(place, Requested)
                 .ok()
                 .map(|block| block.wants.first().and_then(|want| want.pool));
             let read = refusal.is_none().then_some(Pool::new(6, 2));
@@ -210,7 +211,7 @@ fn names_by_length(rt: HostRuntime) -> Result<(), Fail> {
             "{text}"
         );
         if refusal.is_none() {
-            let block = job.read(BLOCK, true).ok().ok_or("refused")?;
+            let block = job.read(BLOCK, Requested).ok().ok_or("refused")?;
             assert_eq!(rt; first_text(&block), Some(text));
         }
     }
@@ -268,7 +269,7 @@ fn pointers_of_names(rt: HostRuntime) -> Result<(), Fail> {
         let (left, right) = pointer;
         let refusal = job.lock_refusal([PLAIN, pointer, NO_POOL]);
         assert_eq!(rt; refusal.is_none(), text.is_some(), "{left:o},,{right:o}");
-        if let Ok(block) = job.read(BLOCK, true) {
+        if let Ok(block) = job.read(BLOCK, Requested) {
             assert_eq!(rt; first_text(&block), text, "{left:o},,{right:o}");
         } else {
             assert_eq!(rt; refusal, Some(Refusal::BadPointer), "{left:o},,{right:o}");
@@ -298,8 +299,9 @@ fn words_of_a_lock(rt: HostRuntime) -> Result<(), Fail> {
                 NO_POOL,
             ],
         );
-        for full in [true, false] {
-            let block = job.read(BLOCK, full).ok().ok_or("refused")?;
+        for lock_use in [Requested, Named] {
+            let full = lock_use == Requested;
+            let block = job.read(BLOCK, lock_use).ok().ok_or("refused")?;
             assert_eq!(rt; block.id.number(), 0o777_777);
             let want = block.wants.first().ok_or("no want")?;
             assert_eq!(rt; want.key.scope, Scope::Job(JOB));
@@ -341,7 +343,7 @@ fn pools(rt: HostRuntime) -> Result<(), Fail> {
             refusal,
             "{size},,{amount}"
         );
-        let block = job.read(BLOCK, false).ok().ok_or("refused")?;
+        let block = job.read(BLOCK, Named).ok().ok_or("refused")?;
         let want = block.wants.first().ok_or("no want")?;
         assert_eq!(rt; want.pool, None, "{size},,{amount}");
     }
@@ -374,7 +376,7 @@ fn numbers_of_locks(rt: HostRuntime) -> Result<(), Fail> {
         let (n, size) = head;
         job.put(place, &[head, second]);
         assert_eq!(rt; job.refusal(place), refusal, "{n},,{size} at {place:o}");
-        if let Ok(block) = job.read(place, true) {
+        if let Ok(block) = job.read(place, Requested) {
             assert_eq!(rt; block.wants.len() as u32, n, "{n},,{size}");
         }
     }

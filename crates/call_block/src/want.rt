@@ -1,11 +1,12 @@
 //! One lock of a block.
-ghost use Rattle.std.specs.Prelude.{◌≡◌};
-ghost use Rattle.call_block.specs.Locks.{scope_of, pool_of, want_of};
+ghost use Rattle.std.specs.Prelude.{◌≡◌, IsTrue, IfOk};
+ghost use Rattle.lock_queue.specs.WellFormed.{shares_no_pool};
+ghost use Rattle.call_block.specs.Locks.{scope_of, terms_of, want_of};
 
 use crate::bits::bits;
 use crate::name::read_name;
 use ka_cpu::{JobMemory, Regs};
-use lock_queue::{Key, Level, Pool, Refusal, Scope, Want};
+use lock_queue::{Key, Level, LockUse, Refusal, Scope, Terms, Want};
 use word36::Word;
 
 /// Among whom the name is told apart, from a lock's first word.
@@ -19,20 +20,6 @@ fn scope_of(job: u8, qualifier: Word) -> Result<Scope, Refusal>
     }
 }
 
-/// The pool, from a lock's third word.
-fn pool_of(shared: bool, word: Word) -> Result<Option<Pool>, Refusal>
-    ensures { result ≡ pool_of shared word }
-{
-    if word.number() == 0 {
-        return Ok(None);
-    }
-    if shared {
-        return Err(Refusal::BadPool);
-    }
-    let pool = Pool::new(word.left(), word.right()).ok_or(Refusal::BadPool)?;
-    Ok(Some(pool))
-}
-
 /// The three words of a lock.
 #[derive(Clone, Copy)]
 pub struct Lock {
@@ -44,35 +31,31 @@ pub struct Lock {
     pub pool: Word,
 }
 
+/// The terms on which a lock is spelled.
+fn terms_of(lock: Lock) -> Terms
+    ensures { result ≡ terms_of lock }
+{
+    Terms {
+        shared: bits(lock.qualifier, 0, 0) == 1,
+        bypass: bits(lock.qualifier, 1, 1) == 1,
+        level: Level::new(bits(lock.qualifier, 9, 17) as u16),
+        pool_size: lock.pool.left(),
+        pool_amount: lock.pool.right(),
+    }
+}
+
 /// A job's want of a lock.
 pub fn want_of<M: JobMemory>(
     regs: &Regs,
     memory: &M,
     job: u8,
-    full: bool,
+    lock_use: LockUse,
     lock: Lock,
 ) -> Result<Want, Refusal>
-    ensures { result ≡ want_of regs.now.ac (M.words memory.now) job full lock }
+    ensures value { result ≡ want_of regs.now.ac (M.words memory.now) job lock_use lock }
+    ensures unshared { IfOk result (λ w. IsTrue (shares_no_pool w)) }
 {
     let name = read_name(regs, memory, lock.name)?;
     let scope = scope_of(job, lock.qualifier)?;
-    let shared = bits(lock.qualifier, 0, 0) == 1;
-    let bypass = full && bits(lock.qualifier, 1, 1) == 1;
-    let level = if full {
-        bits(lock.qualifier, 9, 17) as u16
-    } else {
-        0
-    };
-    let pool = if full {
-        pool_of(shared, lock.pool)?
-    } else {
-        None
-    };
-    Ok(Want {
-        key: Key { scope, name },
-        shared,
-        bypass,
-        level: Level::new(level),
-        pool,
-    })
+    Want::on(lock_use, Key { scope, name }, terms_of(lock))
 }

@@ -7,7 +7,7 @@ ghost use Rattle.core_store.specs.Cores.{IsJob, IsStore, Cores, core_of, blocks_
 ghost use Rattle.std.specs.Prelude.{Some, None};
 
 use core_store::{CoreStore, CoreWindow, NoCore};
-use ka_cpu::{JobMemory, Outcome, Regs, fetch, step};
+use ka_cpu::{JobMemory, Outcome, Regs, fetch_kept, step};
 use std::alloc::{AllocError, Global};
 use word36::{BLOCK_WORDS, Word};
 
@@ -159,15 +159,6 @@ pub fn come_and_go<C: CoreStore>(
     grow(cores, stays)?;
     cores.give(goes);
     Ok(())
-}
-
-/// Reads a word where a job's instructions would find it. It borrows the memory as `&mut`, and keeps
-/// it, so that its caller still knows what a window holds: of one that is lent as `&`, it would not.
-fn fetch_kept<M: JobMemory>(regs: &Regs, memory: &mut M, a: u32) -> Option<Word>
-    ensures word { result ≡ word_at regs.now.ac (M.words memory.old) a }
-    ensures same { memory.new ≡ memory.old }
-{
-    fetch(regs, memory, a)
 }
 
 /// Reads a word where a job's instructions would find it, and changes nothing.

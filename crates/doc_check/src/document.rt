@@ -1,5 +1,5 @@
-//! The examples of a document, as it is read line by line: a block of the language `queue` or `asm`
-//! is a script or a source, and the next block of the language `output` is what is written on it.
+//! The examples of a document, as it is read line by line: a block of the language `queue`, `run`
+//! or `asm` is a script or a source, and the next block of the language `output` is what is written on it.
 
 use crate::served::Language;
 use std::alloc::{AllocError, Global};
@@ -74,6 +74,7 @@ impl Document {
     fn open(&mut self, line: &str) {
         match line {
             "```queue" => self.open_script(Language::Queue),
+            "```run" => self.open_script(Language::Run),
             "```asm" => self.open_script(Language::Asm),
             "```output" => {
                 self.output.clear();

@@ -16,7 +16,11 @@ use std::rt::Files;
 const DOCUMENT: &str = ".md";
 
 /// The ends of the names of scripts and of sources, and what each is written in.
-const SCRIPTS: [(&str, Language); 2] = [(".queue", Language::Queue), (".mac", Language::Asm)];
+const SCRIPTS: [(&str, Language); 3] = [
+    (".queue", Language::Queue),
+    (".run", Language::Run),
+    (".mac", Language::Asm),
+];
 
 /// Whether the examples of a file hold, of which there has to be one.
 fn check<R: Files + Print + AllocGlobal>(rt: &R, name: &str) -> Result<bool> {

@@ -1,28 +1,10 @@
-use Rattle.std.proofs.Common.{◌≡◌, ℕ, ◌+◌, ◌-◌, ◌<◌, ◌≤◌, ◌%◌, ◌^◌, suc, List, true, false, ◌&&◌, refl, ◌∙◌, arith, add_assoc}
-use Rattle.ka_cpu.specs.Places.{word_at, is_legal}
-use Rattle.ka_cpu.specs.Blocks.{Store, all_legal, moved_words, stored}
-
-legal_at : (m k : ℕ) (core : List ℕ) (s d : ℕ) → k ≡ suc m → all_legal k core s d ≡ is_legal core (s % 2 ^ 18) && is_legal core d && all_legal m core (s + 1) (d + 1)
-unfolding all_legal
-legal_at m k core s d e = rw e refl
-
-pub legal_turn : (k i : ℕ) (core : List ℕ) (s d : ℕ) → i < k → is_legal core ((s + i) % 2 ^ 18) ≡ true → is_legal core (d + i) ≡ true → all_legal (k - i) core (s + i) (d + i) ≡ all_legal (k - (i + 1)) core (s + (i + 1)) (d + (i + 1))
-legal_turn k i core s d h p q = rw (← add_assoc s i 1, ← add_assoc d i 1) (legal_at (k - (i + 1)) (k - i) core (s + i) (d + i) (omega arith) ∙ rw (p, q) refl)
-
-pub illegal_from : (k i : ℕ) (core : List ℕ) (s d : ℕ) → i < k → is_legal core ((s + i) % 2 ^ 18) ≡ false → all_legal (k - i) core (s + i) (d + i) ≡ false
-illegal_from k i core s d h p = legal_at (k - (i + 1)) (k - i) core (s + i) (d + i) (omega arith) ∙ rw p refl
-
-pub illegal_to : (k i : ℕ) (core : List ℕ) (s d : ℕ) → i < k → is_legal core ((s + i) % 2 ^ 18) ≡ true → is_legal core (d + i) ≡ false → all_legal (k - i) core (s + i) (d + i) ≡ false
-illegal_to k i core s d h p q = legal_at (k - (i + 1)) (k - i) core (s + i) (d + i) (omega arith) ∙ rw (p, q) refl
-
-legal_zero : (k : ℕ) (core : List ℕ) (s d : ℕ) → k ≡ 0 → all_legal k core s d ≡ true
-unfolding all_legal
-legal_zero k core s d e = rw e refl
-
-pub legal_end : (k i : ℕ) (core : List ℕ) (s d : ℕ) → k ≤ i → all_legal (k - i) core s d ≡ true
-legal_end k i core s d h = legal_zero (k - i) core s d (omega arith)
-
-pub ruleset legal_steps = (legal_turn, illegal_from, illegal_to, legal_end)
+use Rattle.std.proofs.Common.{◌≡◌, ℕ, zero, ◌+◌, ◌-◌, ◌<◌, ◌≤◌, ◌%◌, ◌^◌, suc, List, length, Some, false, refl, sym, ap, ◌∙◌, arith, add_assoc, slice_set, nat_lt}
+use Rattle.std.specs.Prelude.{slice_index, slice_get}
+use Rattle.std.proofs.lemmas.Option.{slice_get-get_or, get_or_from_slice_get}
+use Rattle.std.proofs.lemmas.Bool.Decides.{nat_tests}
+use Rattle.std.proofs.Math.ListN.{length-set}
+use Rattle.ka_cpu.specs.Places.{word_at}
+use Rattle.ka_cpu.specs.Blocks.{Store, copied, moved_words, stored}
 
 moved_at : (m k : ℕ) (t u : Store) (s d : ℕ) → k ≡ suc m → u ≡ stored t d (word_at t.ac t.core (s % 2 ^ 18)) → moved_words k t s d ≡ moved_words m u (s + 1) (d + 1)
 unfolding moved_words
@@ -37,5 +19,45 @@ moved_zero k t s d e = rw e refl
 
 pub moved_end : (k i : ℕ) (t : Store) (s d : ℕ) → k ≤ i → moved_words (k - i) t s d ≡ t
 moved_end k i t s d h = moved_zero (k - i) t s d (omega arith)
+
+-- words of core alone
+copied_at : (m k : ℕ) (ws us : List ℕ) (s d : ℕ) → k ≡ suc m → us ≡ slice_set ws d (slice_index ws s) → copied k ws s d ≡ copied m us (s + 1) (d + 1)
+unfolding copied
+copied_at m k ws us s d e r = rw e (rw r refl)
+
+pub copied_turn : (k i : ℕ) (ws us : List ℕ) (s d : ℕ) → i < k → us ≡ slice_set ws (d + i) (slice_index ws (s + i)) → copied (k - i) ws (s + i) (d + i) ≡ copied (k - (i + 1)) us (s + (i + 1)) (d + (i + 1))
+copied_turn k i ws us s d h r = rw (← add_assoc s i 1, ← add_assoc d i 1) (copied_at (k - (i + 1)) (k - i) ws us (s + i) (d + i) (omega arith) r)
+
+pub copied_read : (k i w : ℕ) (ws us : List ℕ) (s d : ℕ) → i < k → slice_get ws (s + i) ≡ Some w → us ≡ slice_set ws (d + i) w → copied (k - i) ws (s + i) (d + i) ≡ copied (k - (i + 1)) us (s + (i + 1)) (d + (i + 1))
+copied_read k i w ws us s d h g r =
+    copied_turn k i ws us s d h (r ∙ ap (λ (x : ℕ). slice_set ws (d + i) x) (sym (get_or_from_slice_get ws (s + i) w 0 g)))
+
+copied_zero : (k : ℕ) (ws : List ℕ) (s d : ℕ) → k ≡ 0 → copied k ws s d ≡ ws
+unfolding copied
+copied_zero k ws s d e = rw e refl
+
+pub copied_end : (k i : ℕ) (ws : List ℕ) (s d : ℕ) → k ≤ i → copied (k - i) ws s d ≡ ws
+copied_end k i ws s d h = copied_zero (k - i) ws s d (omega arith)
+
+pub ruleset copy_steps = (copied_turn, copied_read, copied_end)
+
+-- behind the registers, where no place wraps, the words that are moved are those of core
+stored_core : (ac core : List ℕ) (s d : ℕ) → 16 ≤ s → 16 ≤ d → s < length core → s < 2 ^ 18
+    → stored (record { ac = ac; core = core }) d (word_at ac core (s % 2 ^ 18)) ≡ record { ac = ac; core = slice_set core d (slice_index core s) }
+stored_core ac core s d a b l t =
+    let m : s % 2 ^ 18 ≡ s = omega arith in
+    let p : nat_lt s 16 ≡ false = grind (arith, nat_tests) in
+    let q : nat_lt d 16 ≡ false = grind (arith, nat_tests) in
+    let g : slice_get core s ≡ Some (slice_index core s) = slice_get-get_or core s 0 l in
+    rw m (rw p (rw g (rw q refl)))
+
+pub moved_core : (k : ℕ) (ac core : List ℕ) (s d : ℕ) → 16 ≤ s → 16 ≤ d → s + k ≤ 2 ^ 18 → s + k ≤ length core
+    → moved_words k (record { ac = ac; core = core }) s d ≡ record { ac = ac; core = copied k core s d }
+unfolding moved_words copied
+moved_core zero ac core s d a b t l = refl
+moved_core (suc k) ac core s d a b t l =
+    let e = stored_core ac core s d a b (omega arith) (omega arith) in
+    let n : length (slice_set core d (slice_index core s)) ≡ length core = length-set core d (slice_index core s) in
+    ap (λ (x : Store). moved_words k x (s + 1) (d + 1)) e ∙ moved_core k ac (slice_set core d (slice_index core s)) (s + 1) (d + 1) (omega arith) (omega arith) (omega arith) (omega arith)
 
 pub ruleset move_steps = (moved_turn, moved_end)

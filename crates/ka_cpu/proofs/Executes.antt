@@ -1,4 +1,4 @@
-use Rattle.std.proofs.Common.{◌≡◌, ℕ, ◌+◌, ◌-◌, ◌<◌, ◌≤◌, suc, zero, Some, None, Ok, Err, Result, List, Bool, true, false, refl, arith, ap, ◌∙◌, if◌then◌else◌}
+use Rattle.std.proofs.Common.{◌≡◌, ℕ, ◌+◌, ◌-◌, ◌<◌, ◌≤◌, suc, zero, Some, None, Ok, Err, Result, List, Bool, true, false, refl, arith, ap, subst, sym, ◌∙◌, if◌then◌else◌}
 use Rattle.ka_isa.specs.Families.{family_of}
 use Rattle.ka_isa.specs.declared.Family.{Family}
 use Rattle.ka_cpu.specs.Places.{word_at}
@@ -117,4 +117,43 @@ done_either k false g core w e l x h = plain_performed k g core w x ∙ performe
 pub executed_done : (k : ℕ) (g : Regs) (core : List ℕ) (w e : ℕ) → (family_of (op_of w) ≡ Xct → ⊥) → Ok e ≡ address_in (target_of g.ac core w) → word_performed g core (word_behind k g.ac core w) ≡ (if is_listed (family_of (op_of w)) (ac_field w) then carried_out (family_of (op_of w)) g core (record { op = op_of w; ac = ac_field w; e = e }) (used_in (target_of g.ac core w)) else stopped g core IllegalInstruction)
 executed_done k g core w e f h = done_either k (is_listed (family_of (op_of w)) (ac_field w)) g core w e refl (no_xct w f) h
 
-pub ruleset executions = (executed_refused, executed_done, behind_plain, xct, no_xct)
+pub executed_by : (k : ℕ) (g : Regs) (core : List ℕ) (w op ac e : ℕ) → op ≡ op_of w → ac ≡ ac_field w → (family_of op ≡ Xct → ⊥) → Ok e ≡ address_in (target_of g.ac core w) → word_performed g core (word_behind k g.ac core w) ≡ (if is_listed (family_of op) ac then carried_out (family_of op) g core (record { op = op; ac = ac; e = e }) (used_in (target_of g.ac core w)) else stopped g core IllegalInstruction)
+executed_by k g core w op ac e p q f h = rw (p, q) (executed_done k g core w e (λ x. f (ap family_of p ∙ x)) h)
+
+-- an XCT by its address
+pub xct_turn : (ac core : List ℕ) (w op e : ℕ) → op ≡ op_of w → family_of op ≡ Xct → Ok e ≡ address_in (target_of ac core w)
+    → word_behind 256 ac core w ≡ reading (word_at ac core e) (λ v. word_behind 255 ac core v)
+xct_turn ac core w op e p f h =
+    let q : family_of (op_of w) ≡ Xct = ap family_of (sym p) ∙ f in
+    let b : 0 < 256 = omega arith in
+    turned_at 0 ac core w e b (xct w q) h
+
+-- what it executes is found in the state h, rest, which is that of g, core, and that of k, start
+xct_found : (g k : Regs) (core start : List ℕ) (w op e : ℕ) (x : Result ℕ StopReason) → g ≡ k → core ≡ start → op ≡ op_of w → family_of op ≡ Xct
+    → Ok e ≡ address_in (target_of g.ac core w) → x ≡ reading (word_at g.ac core e) (λ v. word_behind 255 g.ac core v) → word_behind 256 k.ac start w ≡ x
+xct_found g k core start w op e x i j p f h q =
+    let P : Regs → Type 0 = λ r. word_behind 256 r.ac start w ≡ x in
+    let Q : List ℕ → Type 0 = λ m. word_behind 256 g.ac m w ≡ x in
+    subst P i (subst Q j (xct_turn g.ac core w op e p f h ∙ sym q))
+
+xct_here : (g h : Regs) (core rest : List ℕ) (e : ℕ) (x : Result ℕ StopReason) → h ≡ g → rest ≡ core
+    → x ≡ reading (word_at h.ac rest e) (λ v. word_behind 255 h.ac rest v) → x ≡ reading (word_at g.ac core e) (λ v. word_behind 255 g.ac core v)
+xct_here g h core rest e x i j q =
+    let P : Regs → Type 0 = λ r. x ≡ reading (word_at r.ac core e) (λ v. word_behind 255 r.ac core v) in
+    let Q : List ℕ → Type 0 = λ m. x ≡ reading (word_at h.ac m e) (λ v. word_behind 255 h.ac m v) in
+    subst P i (subst Q j q)
+
+pub xct_refused : (g h k : Regs) (core rest start : List ℕ) (w u op e : ℕ) (r : StopReason) → h ≡ g → rest ≡ core → g ≡ k → core ≡ start
+    → word_behind 256 k.ac start w ≡ word_behind 256 k.ac start u → op ≡ op_of w → family_of op ≡ Xct → Ok e ≡ address_in (target_of g.ac core w)
+    → Err r ≡ reading (word_at h.ac rest e) (λ v. word_behind 255 h.ac rest v) → stopped h rest r ≡ word_performed k start (word_behind 256 k.ac start u)
+xct_refused g h k core rest start w u op e r a b i j n p f x q =
+    ap (λ (s : Regs). stopped s rest r) (a ∙ i) ∙ ap (λ (m : List ℕ). stopped k m r) (b ∙ j)
+    ∙ sym (ap (λ (y : Result ℕ StopReason). word_performed k start y) (sym n ∙ xct_found g k core start w op e (Err r) i j p f x (xct_here g h core rest e (Err r) a b q)))
+
+pub xct_next : (g h k : Regs) (core rest start : List ℕ) (w u op e v : ℕ) → h ≡ g → rest ≡ core → g ≡ k → core ≡ start
+    → word_behind 256 k.ac start w ≡ word_behind 256 k.ac start u → op ≡ op_of w → family_of op ≡ Xct → Ok e ≡ address_in (target_of g.ac core w)
+    → Ok v ≡ reading (word_at h.ac rest e) (λ v. word_behind 255 h.ac rest v) → is_xct v ≡ false → word_behind 256 k.ac start v ≡ word_behind 256 k.ac start u
+xct_next g h k core rest start w u op e v a b i j n p f x q y =
+    behind_plain 256 k.ac start v y ∙ (sym (xct_found g k core start w op e (Ok v) i j p f x (xct_here g h core rest e (Ok v) a b q)) ∙ n)
+
+pub ruleset executions = (executed_refused, executed_by, behind_plain, xct, no_xct)

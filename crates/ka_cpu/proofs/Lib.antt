@@ -4,6 +4,7 @@ pub mod ExecLaws
 pub mod Products
 pub mod Executes
 pub mod Shifting
+pub mod BlockLegal
 pub mod BlockSteps
 pub mod ByteBounds
 pub mod BytePlaces
@@ -11,4 +12,4 @@ pub mod Chain
 pub mod ChainLaw
 pub mod ChainRefusals
 pub mod Zeros
-pub mod RowTable
+pub mod RunSteps

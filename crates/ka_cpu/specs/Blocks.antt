@@ -1,5 +1,5 @@
 -- BLT (Processor Reference Manual, "Block transfer").
-use Rattle.std.specs.Prelude.{ℕ, zero, suc, ◌+◌, ◌-◌, ◌%◌, ◌^◌, Bool, true, ◌&&◌, if◌then◌else◌, Option, Some, None, List}
+use Rattle.std.specs.Prelude.{ℕ, zero, suc, ◌+◌, ◌-◌, ◌%◌, ◌^◌, Bool, true, ◌&&◌, if◌then◌else◌, Option, Some, None, List, slice_index, slice_set}
 use Rattle.word36.specs.Words.{left_half, right_half}
 use Rattle.ka_cpu.specs.Places.{word_at, is_legal, ac_with, core_with}
 use Rattle.ka_cpu.specs.Effects.{After, a_of, next_pc, stopped}
@@ -30,6 +30,11 @@ stored t d (Some w) = record { ac = ac_with t.ac d w; core = core_with t.core d 
 unfoldable pub moved_words : ℕ → Store → ℕ → ℕ → Store
 moved_words zero t s d = t
 moved_words (suc k) t s d = moved_words k (stored t d (word_at t.ac t.core (s % 2 ^ 18))) (s + 1) (d + 1)
+
+-- the same in core alone, where no register is touched and no place wraps
+unfoldable pub copied : ℕ → List ℕ → ℕ → ℕ → List ℕ
+copied zero words s d = words
+copied (suc k) words s d = copied k (slice_set words d (slice_index words s)) (s + 1) (d + 1)
 
 -- BLT: A is `s,,d`; AC is not stored (this project's profile)
 unfoldable pub blt_after : Regs → List ℕ → Instruction → After

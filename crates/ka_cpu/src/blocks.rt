@@ -1,6 +1,6 @@
 //! BLT.
 
-ghost use Rattle.std.specs.Prelude.{◌≡◌, ◌<◌, ◌≤◌, ◌^◌};
+ghost use Rattle.std.specs.Prelude.{◌≡◌, ◌+◌, ◌<◌, ◌≤◌, ◌^◌, IsTrue, length};
 ghost use Rattle.ka_cpu.specs.Places.{word_at};
 ghost use Rattle.ka_cpu.specs.Blocks.{all_legal, blt_after, moved_words, stored};
 
@@ -11,20 +11,19 @@ use crate::{JobMemory, Outcome, Regs, fetch};
 /// The number of places that an address can name.
 const PLACES: u32 = 0o1_000_000;
 
-/// Whether every place of a transfer is legal.
-#[tactic(auto, using(crate::proofs::BlockSteps::legal_steps))]
+/// Whether every place of a transfer is legal: the last places decide, and where the places that are
+/// read wrap, all of them are read up to 777777 octal.
+#[tactic(auto, using(crate::proofs::BlockLegal::legal_by_last))]
 fn are_legal<M: JobMemory>(memory: &M, from: u32, to: u32, count: u32) -> bool
     requires from { from < 2 ^ 18 }
     requires to { to < 2 ^ 18 }
+    requires some { 1 ≤ count }
     requires count { count ≤ 2 ^ 18 }
     ensures { result ≡ all_legal count (M.words memory.now) from to }
 {
-    for i in 0..count {
-        if !is_legal_place(memory, (from + i) % PLACES) || !is_legal_place(memory, to + i) {
-            return false;
-        }
-    }
-    true
+    let last = from + (count - 1);
+    let top = if last < PLACES { last } else { PLACES - 1 };
+    is_legal_place(memory, top) && is_legal_place(memory, to + (count - 1))
 }
 
 /// Moves one word, where there is one.
@@ -53,6 +52,33 @@ fn move_words<M: JobMemory>(regs: &mut Regs, memory: &mut M, from: u32, to: u32,
     }
 }
 
+/// Whether so many words from a place on lie in core, behind the registers.
+fn are_in_core<M: JobMemory>(memory: &M, place: u32, count: u32) -> bool
+    requires place { place < 2 ^ 18 }
+    requires count { count ≤ 2 ^ 18 }
+    ensures { IsTrue result → (16 ≤ place) × (place + count ≤ 2 ^ 18) × (place + count ≤ length (M.words memory.now)) }
+{
+    let end = place + count;
+    place >= 16 && end <= PLACES && end as usize <= memory.size()
+}
+
+/// Moves words one after another, in one go where no register is among them and no place wraps.
+#[tactic(auto, using(crate::proofs::BlockSteps::moved_core))]
+fn move_block<M: JobMemory>(regs: &mut Regs, memory: &mut M, from: u32, to: u32, count: u32)
+    requires from { from < 2 ^ 18 }
+    requires to { to < 2 ^ 18 }
+    requires count { count ≤ 2 ^ 18 }
+    ensures moved { record { ac = regs.new.ac; core = M.words memory.new } ≡ moved_words count (record { ac = regs.old.ac; core = M.words memory.old }) from to }
+    ensures kept { regs.new ≡ record regs.old { ac = regs.new.ac } }
+    ensures place { M.place memory.new ≡ M.place memory.old }
+{
+    if are_in_core(memory, from, count) && are_in_core(memory, to, count) {
+        memory.copy_words(from, to, count);
+    } else {
+        move_words(regs, memory, from, to, count);
+    }
+}
+
 /// BLT
 #[inline(always)]
 #[tactic(auto, unfolding(crate::specs::Blocks::blt_after))]
@@ -69,7 +95,7 @@ pub fn do_blt<M: JobMemory>(regs: &mut Regs, memory: &mut M, n: Instruction) -> 
     if !are_legal(memory, from, to, count) {
         return ILLEGAL;
     }
-    move_words(regs, memory, from, to, count);
+    move_block(regs, memory, from, to, count);
     regs.pc = regs.pc.plus(1);
     Outcome::Done
 }

@@ -87,11 +87,13 @@ fn operand_to_compare<M: JobMemory>(
 #[inline(always)]
 #[tactic(auto, unfolding(crate::specs::Conditions::compare_row))]
 pub fn do_compare<M: JobMemory>(
+    digit: u32,
     is_immediate: bool,
     regs: &mut Regs,
     memory: &mut M,
     n: Instruction,
 ) -> Outcome
+    requires digit { digit ≡ n.op % 8 }
     requires op { nat_lt n.op 0o310 ≡ is_immediate }
     requires ac { n.ac < 16 }
     requires e { n.e < 2 ^ 18 }
@@ -101,7 +103,7 @@ pub fn do_compare<M: JobMemory>(
     let Some(word) = operand_to_compare(is_immediate, regs, memory, n) else {
         return ILLEGAL;
     };
-    let test = compare(n.op % 8, regs.ac[n.ac], word);
+    let test = compare(digit, regs.ac[n.ac], word);
     regs.pc = regs.pc.plus(if test { 2 } else { 1 });
     Outcome::Done
 }
@@ -142,11 +144,13 @@ fn set_change_flags(change: Change, regs: &mut Regs, word: Word)
 #[inline(always)]
 #[tactic(auto, unfolding(crate::specs::Conditions::jump_row))]
 pub fn do_jump<M: JobMemory>(
+    digit: u32,
     change: Change,
     regs: &mut Regs,
     memory: &mut M,
     n: Instruction,
 ) -> Outcome
+    requires digit { digit ≡ n.op % 8 }
     requires ac { n.ac < 16 }
     requires e { n.e < 2 ^ 18 }
     ensures after { record { regs = regs.new; core = M.words memory.new; outcome = result } ≡ finished regs.old (M.words memory.old) n (Ok (jump_row change regs.old n)) }
@@ -159,7 +163,7 @@ pub fn do_jump<M: JobMemory>(
         _ => regs.ac[n.ac] = word,
     }
     set_change_flags(change, regs, a);
-    let test = compare_zero(n.op % 8, word);
+    let test = compare_zero(digit, word);
     regs.pc = if test {
         Address::new(n.e)
     } else {
@@ -195,11 +199,13 @@ fn read_to_change<M: JobMemory>(change: Change, regs: &Regs, memory: &M, a: u32)
 #[inline(always)]
 #[tactic(auto, unfolding(crate::specs::Conditions::skip_row))]
 pub fn do_skip<M: JobMemory>(
+    digit: u32,
     change: Change,
     regs: &mut Regs,
     memory: &mut M,
     n: Instruction,
 ) -> Outcome
+    requires digit { digit ≡ n.op % 8 }
     requires ac { n.ac < 16 }
     requires e { n.e < 2 ^ 18 }
     ensures after { record { regs = regs.new; core = M.words memory.new; outcome = result } ≡ finished regs.old (M.words memory.old) n (skip_row change regs.old (M.words memory.old) n) }
@@ -215,7 +221,7 @@ pub fn do_skip<M: JobMemory>(
         regs.ac[n.ac] = word;
     }
     set_change_flags(change, regs, old);
-    let test = compare_zero(n.op % 8, word);
+    let test = compare_zero(digit, word);
     regs.pc = pc.plus(if test { 2 } else { 1 });
     Outcome::Done
 }

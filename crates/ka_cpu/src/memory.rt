@@ -1,7 +1,8 @@
 //! Registers and core as one memory.
 
-ghost use Rattle.std.specs.Prelude.{◌≡◌, false, ℕ, List, slice_get, slice_set, nat_lt, length};
+ghost use Rattle.std.specs.Prelude.{◌≡◌, ◌+◌, ◌<◌, ◌≤◌, ◌^◌, false, ℕ, List, slice_get, slice_set, nat_lt, length};
 ghost use Rattle.std.specs.Borrow.{GName};
+ghost use Rattle.ka_cpu.specs.Blocks.{copied};
 ghost use Rattle.ka_cpu.specs.Places.{word_at, is_legal, ac_with, core_with};
 
 use crate::Regs;
@@ -29,6 +30,24 @@ pub trait JobMemory {
         ensures stored { words self.new ≡ slice_set (words self.old) a word }
         ensures told { result ≡ nat_lt a (length (words self.old)) }
         ensures place { place self.new ≡ place self.old };
+
+    /// Moves so many words of core from one place to another, one after the other: what was moved is
+    /// seen by later reads.
+    #[tactic(auto, using(crate::proofs::BlockSteps::copy_steps))]
+    fn copy_words(&mut self, from: u32, to: u32, count: u32)
+        requires few { count < 2 ^ 20 }
+        requires from { from + count ≤ length (words self.old) }
+        requires to { to + count ≤ length (words self.old) }
+        requires places { (from < 2 ^ 18) × (to < 2 ^ 18) }
+        ensures copied { words self.new ≡ copied count (words self.old) from to }
+        ensures place { place self.new ≡ place self.old }
+    {
+        for i in 0..count {
+            if let Some(word) = self.read(from + i) {
+                self.write(to + i, word);
+            }
+        }
+    }
 }
 
 /// The word at a place, if it is legal: registers lie at the places below 20 octal.

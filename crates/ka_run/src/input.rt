@@ -2,7 +2,7 @@
 
 ghost use Rattle.std.specs.Prelude.{◌<◌, ◌^◌, IfSome};
 
-use ka_cpu::Flags;
+use ka_cpu::{Flags, flags_of};
 use word36::{Address, MOST_BLOCKS, Word};
 
 /// One line of the input.
@@ -50,12 +50,7 @@ fn read_address(text: &str) -> Option<Address> {
 /// The flags of the left half of a PC word.
 fn read_flags(text: &str) -> Option<Flags> {
     let half = read_address(text)?.number();
-    Some(Flags {
-        overflow: half & 0o400_000 != 0,
-        carry0: half & 0o200_000 != 0,
-        carry1: half & 0o100_000 != 0,
-        no_divide: half & 0o40 != 0,
-    })
+    Some(flags_of(Word::join(half, 0)))
 }
 
 /// A number of blocks, in decimal.

@@ -5,28 +5,14 @@
 //! comment. The argument is the greatest number of instructions, in decimal.
 #![tactic(auto)]
 
-mod core_words;
 mod input;
 mod report;
 
-use core_words::CoreWords;
 use input::{Line, read_line};
-use ka_cpu::{Flags, JobMemory, Outcome, Regs, step};
+use ka_cpu::{Flags, Regs, run_steps};
 use std::process::ExitCode;
 use std::{env, io};
 use word36::{Address, BLOCK_WORDS, MOST_BLOCKS, Word};
-
-/// Runs at most so many instructions, and says how many were run and how the last one ended.
-#[inline(never)]
-fn run<M: JobMemory>(regs: &mut Regs, memory: &mut M, most: u64) -> (u64, Outcome) {
-    for left in (0..most).rev() {
-        match step(regs, memory) {
-            Outcome::Done => {}
-            ended => return (most - left, ended),
-        }
-    }
-    (most, Outcome::Done)
-}
 
 /// How far the input has come: the number of blocks of core, and whether a word was read.
 #[derive(Clone, Copy)]
@@ -99,8 +85,7 @@ fn main(rt: HostRuntime) -> io::Result<ExitCode> {
         }
     }
     core.truncate(progress.blocks as usize * BLOCK_WORDS);
-    let mut memory = CoreWords::new(core.as_mut_slice());
-    let (steps, ended) = run(&mut regs, &mut memory, most);
-    report::write(&rt, steps, ended, &regs, memory.words())?;
+    let (steps, ended) = run_steps(&mut regs, core.as_mut_slice(), most);
+    report::write(&rt, steps, ended, &regs, core.as_slice())?;
     Ok(ExitCode::SUCCESS)
 }

@@ -1,18 +1,8 @@
 //! The state that is left.
 
-use crate::core_words::CoreWords;
-use ka_cpu::{CallKind, Flags, Outcome, Regs};
+use ka_cpu::{CallKind, Outcome, Regs, pc_word};
 use std::io;
 use word36::Word;
-
-/// The left half of a PC word with these flags; User is always set.
-fn left_half(flags: Flags) -> u32 {
-    let overflow = if flags.overflow { 0o400_000 } else { 0 };
-    let carry0 = if flags.carry0 { 0o200_000 } else { 0 };
-    let carry1 = if flags.carry1 { 0o100_000 } else { 0 };
-    let no_divide = if flags.no_divide { 0o40 } else { 0 };
-    overflow + carry0 + carry1 + 0o10_000 + no_divide
-}
 
 fn write_end(rt: &impl Print, ended: Outcome) -> io::Result<()> {
     match ended {
@@ -44,7 +34,7 @@ pub fn write(
     write_end(rt, ended)?;
     let pc = regs.pc.number();
     println!(rt; "PC {pc:06o}")?;
-    let flags = left_half(regs.flags);
+    let flags = pc_word(regs.flags, regs.pc).left();
     println!(rt; "FLAGS {flags:06o}")?;
     for (number, word) in regs.ac.iter().enumerate() {
         let (left, right) = (word.left(), word.right());

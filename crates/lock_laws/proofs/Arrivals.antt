@@ -13,22 +13,14 @@ use Rattle.lock_queue.specs.declared.want.Want.{Want}
 use Rattle.lock_queue.specs.Jobs.{is_interrupt}
 use Rattle.lock_queue.specs.Keys.{same_key}
 use Rattle.lock_queue.specs.Enqueues.{are_alike, enqueue_fault, is_too_low, some_too_low, enqueue_refusal, request_of, with_arrival, not_granted, arrival, enqueue}
-use Rattle.lock_queue.specs.Outcomes.{outcome, unless_refused, refuse_if, or_else, first_refusal}
+use Rattle.lock_queue.specs.Outcomes.{outcome, unless_refused, first_refusal}
 use Rattle.lock_queue.specs.Queue.{names, wants_at, wants_of, requests_of, all_wants, granted}
 use Rattle.lock_laws.specs.Claims.{Claim, claim_of, claims_of, claims}
 use Rattle.lock_laws.proofs.Fitting.{eq-same_key, keys-apart}
-use Rattle.lock_laws.proofs.Lists.{Has, Has-left, Has-right, Has-filter, Has-flat_map, Pairs, Pairs-map, map-Has, flat_map-Has, list_all-Has, list_any-none}
+use Rattle.lock_queue.proofs.Lists.{Has, Has-left, Has-right, Has-filter, Has-flat_map, Pairs, Pairs-map, map-Has, flat_map-Has, list_all-Has, list_any-none}
+use Rattle.lock_queue.proofs.Refusing.{refuse_if-None, or_else-None}
 use Rattle.lock_laws.proofs.Places.{push-append, nil-append, split_Has}
 use Rattle.lock_laws.proofs.Steps.{Ordered, Grows, stays, arrives}
-
--- without a refusal there was no cause, and neither of two causes
-pub refuse_if-None : (b : Bool) (f : Refusal) → refuse_if b f ≡ None → b ≡ false
-refuse_if-None true f h = cc
-refuse_if-None false f h = refl
-
-pub or_else-None : (a b : Option Refusal) → or_else a b ≡ None → (a ≡ None) × (b ≡ None)
-or_else-None None b h = (refl, h)
-or_else-None (Some f) b h = cc
 
 -- each want has passed behind the call's wants before it
 pub first_refusal-None : (fault : List Want → Want → Option Refusal) (e ws : List Want)

@@ -11,7 +11,7 @@ use Rattle.lock_queue.specs.Dequeues.{dequeue_fault, has_wants, without_keys, wi
 use Rattle.lock_queue.specs.Jobs.{is_blocking, is_blocked, is_not_blocked, released, withdrawn}
 use Rattle.lock_queue.specs.Outcomes.{outcome, unless_refused, first_refusal}
 use Rattle.lock_queue.specs.Queue.{names, granted_behind, chosen_behind}
-use Rattle.lock_laws.proofs.Lists.{Sub, Sub-filter, Sub-refl}
+use Rattle.lock_queue.proofs.Lists.{Sub, Sub-filter, Sub-refl}
 use Rattle.lock_laws.proofs.Steps.{Releases, none, gone, kept}
 
 -- nothing leaves

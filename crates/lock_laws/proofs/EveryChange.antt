@@ -8,7 +8,7 @@ use Rattle.lock_laws.proofs.Circling.{waits-step, waits-releases, waits-retold, 
 use Rattle.lock_laws.proofs.Departures.{releases-released, releases-withdrawn}
 use Rattle.lock_laws.proofs.Invariant.{Kept, kept-call, kept-releases, kept-safe, safe-kept}
 use Rattle.lock_laws.proofs.Keeping.{keeps_owners, owns-released, owns-withdrawn, owns-told}
-use Rattle.lock_laws.proofs.Lists.{Pairs}
+use Rattle.lock_queue.proofs.Lists.{Pairs}
 use Rattle.lock_laws.proofs.Ranks.{no_plain_circle}
 use Rattle.lock_laws.proofs.Retold.{Retold, Retold-told, Retold-claims, Retold-length}
 use Rattle.lock_laws.proofs.Steps.{Ordered}

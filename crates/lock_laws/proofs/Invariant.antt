@@ -9,7 +9,7 @@ use Rattle.lock_laws.specs.Claims.{claims_of, claims, AreAlike, AreApart, Rises}
 use Rattle.lock_laws.specs.Safe.{Safe}
 use Rattle.lock_laws.proofs.CallSteps.{Step, grows, releases, step_of}
 use Rattle.lock_laws.proofs.Granting.{alone, all_or_none, fits_in_front, no_overtaking}
-use Rattle.lock_laws.proofs.Lists.{Has, Pairs, Pairs-append, Pairs-joined, Pairs-weaker, Sub-Pairs, flat_map-append}
+use Rattle.lock_queue.proofs.Lists.{Has, Pairs, Pairs-append, Pairs-joined, Pairs-weaker, Sub-Pairs, flat_map-append}
 use Rattle.lock_laws.proofs.Places.{nil-append}
 use Rattle.lock_laws.proofs.PoolSums.{pools_suffice}
 use Rattle.lock_laws.proofs.Steps.{Ordered, Grows, stays, arrives, changes, Releases, Releases-claims, Releases-length}

@@ -11,8 +11,9 @@ use Rattle.lock_laws.specs.Owning.{owns, is_dequeue, KeepsOwners}
 use Rattle.lock_laws.proofs.CallSteps.{Step, grows, releases, step_of}
 use Rattle.lock_laws.proofs.Departures.{releases-released}
 use Rattle.lock_laws.proofs.Fitting.{granted_behind-fewer, names-found}
-use Rattle.lock_laws.proofs.Lists.{Has, list_any-Has, list_any-found, Sub, Sub-refl, Sub-flat_map}
-use Rattle.lock_laws.proofs.Places.{Split, chosen-Has, Has-chosen, Sub-chosen, chosen-place}
+use Rattle.lock_queue.proofs.Lists.{Has, list_any-Has, list_any-found, Sub, Sub-refl, Sub-flat_map}
+use Rattle.lock_queue.proofs.WellKept.{Sub-chosen}
+use Rattle.lock_laws.proofs.Places.{Split, chosen-Has, Has-chosen, chosen-place}
 use Rattle.lock_laws.proofs.Retold.{Retold-told, Retold-place}
 use Rattle.lock_laws.proofs.Steps.{Grows, stays, arrives, changes, Releases, Releases-target}
 

@@ -1,4 +1,3 @@
-pub mod Lists
 pub mod Words
 pub mod Places
 pub mod Fitting
@@ -17,3 +16,10 @@ pub mod Circling
 pub mod Ranks
 pub mod EveryChange
 pub mod AlongCalls
+pub mod WaitSteps
+pub mod WaitLaws
+pub mod Withdrawals
+pub mod Walks
+pub mod CirclesTold
+pub mod LeavingLaws
+pub mod WellLaws

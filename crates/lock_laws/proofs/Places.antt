@@ -4,7 +4,7 @@ use Rattle.std.proofs.lemmas.Bool.{cases_Bool}
 use Rattle.std.proofs.lemmas.Grind.{common_steps}
 use Rattle.lock_queue.specs.declared.request.Request.{Request}
 use Rattle.lock_queue.specs.Queue.{chosen_behind, some_behind}
-use Rattle.lock_laws.proofs.Lists.{Has, Has-right, Sub, nil, skip, keep}
+use Rattle.lock_queue.proofs.Lists.{Has, Has-right}
 
 -- a place in a list: what stands before it and what behind it
 pub record Split {X : Type 0} (xs : List X) (x : X) : Type 0 where
@@ -143,15 +143,6 @@ chosen_none test e (x ∷ rs) none =
     let rest : chosen_behind test (e ++ x ∷ []) rs ≡ [] =
     chosen_none test (e ++ x ∷ []) rs (λ a b r is. subst (λ l. test l r ≡ false) (sym (push-append e x a)) (none (x ∷ a) b r (ap (λ l. x ∷ l) is))) in
     rw here rest
-
--- the chosen requests are those of the list, with some left out
-pub Sub-chosen : (test : Test) (e rs : List Request) → Sub (chosen_behind test e rs) rs
-Sub-chosen test e [] = nil
-Sub-chosen test e (r ∷ rs) =
-    elim (test e r) as (λ b. Sub (cond b (r ∷ chosen_behind test (e ++ r ∷ []) rs) (chosen_behind test (e ++ r ∷ []) rs)) (r ∷ rs)) [
-      | true ↦ keep r (Sub-chosen test (e ++ r ∷ []) rs)
-      | false ↦ skip r (Sub-chosen test (e ++ r ∷ []) rs)
-    ]
 
 -- where a request that passes stands among the chosen ones
 pub chosen-place : (test : Test) (e a b : List Request) (r : Request) → test (e ++ a) r ≡ true

@@ -7,12 +7,13 @@ use Rattle.lock_queue.specs.declared.want.Want.{Want}
 use Rattle.lock_queue.specs.Jobs.{is_blocking, is_blocked, is_in_the_way, is_kept_by, is_blocked_by, waits_for}
 use Rattle.lock_queue.specs.Keys.{same_key}
 use Rattle.lock_queue.specs.Queue.{all_wants, fits, granted_behind, requests_of, wants_at}
+use Rattle.lock_queue.specs.Waits.{is_walk}
 use Rattle.lock_laws.specs.Claims.{claim_of, claims_of, claims}
-use Rattle.lock_laws.specs.Circles.{has_one_plain_want, is_plain, is_chain, NoPlainCircle}
+use Rattle.lock_laws.specs.Circles.{has_one_plain_want, is_plain, NoPlainCircle}
 use Rattle.lock_laws.proofs.Circling.{WaitsLast}
 use Rattle.lock_laws.proofs.Fitting.{same_key-eq}
 use Rattle.lock_laws.proofs.Granting.{Kin, kin, Has-claims}
-use Rattle.lock_laws.proofs.Lists.{Has, Has-filter, filter-Has, flat_map-Has, Pairs, Pairs-across, list_all-Has, list_any-found, flat_map-append}
+use Rattle.lock_queue.proofs.Lists.{Has, Has-filter, filter-Has, flat_map-Has, Pairs, Pairs-across, list_all-Has, list_any-found, flat_map-append}
 use Rattle.lock_laws.proofs.Places.{split_Has, some_found, Has-middle}
 use Rattle.lock_laws.proofs.Steps.{Ordered}
 
@@ -181,18 +182,18 @@ module _ (rs : List Request) (ordered : Pairs Ordered (claims rs)) (waits : Wait
       ]
 
   -- the first job of a chain of plain jobs waits
-  first-waits : (job : ℕ) (later : List ℕ) (last : ℕ) → is_plain rs job ≡ true → is_chain rs job later last ≡ true
+  first-waits : (job : ℕ) (later : List ℕ) (last : ℕ) → is_plain rs job ≡ true → is_walk (waits_for rs) job later last ≡ true
       → Waiting rs job
   first-waits job [] last plain h = (link rs job last waits plain h).waiting
   first-waits job (k ∷ later) last plain h =
-      (link rs job k waits plain (and_parts (waits_for rs job k) (is_chain rs k later last) h).0).waiting
+      (link rs job k waits plain (and_parts (waits_for rs job k) (is_walk (waits_for rs) k later last) h).0).waiting
 
   -- so the last of a chain is above the first
   rises-chain : (job : ℕ) (later : List ℕ) (last : ℕ) → is_plain rs job ≡ true → list_all (is_plain rs) later ≡ true
-      → is_chain rs job later last ≡ true → (w : Waiting rs job) (v : Waiting rs last) → Rises w v
+      → is_walk (waits_for rs) job later last ≡ true → (w : Waiting rs job) (v : Waiting rs last) → Rises w v
   rises-chain job [] last plain all h w v = rises-linked job last (link rs job last waits plain h) w v
   rises-chain job (k ∷ later) last plain all h w v =
-      let parts = and_parts (waits_for rs job k) (is_chain rs k later last) h in
+      let parts = and_parts (waits_for rs job k) (is_walk (waits_for rs) k later last) h in
       let plains = and_parts (is_plain rs k) (list_all (is_plain rs) later) all in
       let u : Waiting rs k = first-waits k later last plains.0 parts.1 in
       rises-on rs job k last w u v (rises-linked job k (link rs job k waits plain parts.0) w u)
@@ -206,7 +207,7 @@ module _ (rs : List Request) (ordered : Pairs Ordered (claims rs)) (waits : Wait
   pub no_plain_circle : NoPlainCircle rs
   no_plain_circle [] all = refl
   no_plain_circle (job ∷ later) all =
-      false_from_ne_true (is_chain rs job later job) (λ h.
+      false_from_ne_true (is_walk (waits_for rs) job later job) (λ h.
       let plains = and_parts (is_plain rs job) (list_all (is_plain rs) later) all in
       let w : Waiting rs job = first-waits job later job plains.0 h in
       never-above job w (rises-chain job later job plains.0 plains.1 h w w))

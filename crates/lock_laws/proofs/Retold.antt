@@ -6,7 +6,7 @@ use Rattle.lock_queue.specs.Jobs.{as_told, told_behind}
 use Rattle.lock_queue.specs.Keys.{same_key}
 use Rattle.lock_queue.specs.Queue.{all_wants, fits, fits_beside, granted_behind}
 use Rattle.lock_laws.specs.Claims.{claim_of, claims_of, claims}
-use Rattle.lock_laws.proofs.Lists.{Has}
+use Rattle.lock_queue.proofs.Lists.{Has}
 
 -- the same requests in the same places, but for what their jobs were told
 pub data Retold : List Request → List Request → Type 0 where

@@ -5,7 +5,7 @@ use Rattle.lock_queue.specs.declared.request.Request.{Request}
 use Rattle.lock_queue.specs.declared.key.Key.{Key}
 use Rattle.lock_queue.specs.Queue.{all_wants, granted_behind, names}
 use Rattle.lock_laws.specs.Claims.{Claim, claim_of, claims_of, claims, AreAlike, AreApart, Rises}
-use Rattle.lock_laws.proofs.Lists.{Has, Pairs, Sub, nil, Sub-none, Sub-append, Sub-map}
+use Rattle.lock_queue.proofs.Lists.{Has, Pairs, Sub, nil, Sub-none, Sub-append, Sub-map}
 
 -- the order of claims: what holds of a claim and a later one
 pub record Ordered (c d : Claim) : Type 0 where

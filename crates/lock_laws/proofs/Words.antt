@@ -1,7 +1,7 @@
 -- Between the words of std and those of the proofs.
 use Rattle.std.proofs.Common.{◌<◌, subst, ℕ, zero, suc, List, [], ◌∷◌, length, get_or, inl, inr, refl, arith}
 use Rattle.std.specs.List.{Contains, AllPairs}
-use Rattle.lock_laws.proofs.Lists.{Has, Pairs}
+use Rattle.lock_queue.proofs.Lists.{Has, Pairs}
 
 module _ {X : Type 0} where
   has_at : (xs : List X) (k : ℕ) (d : X) → k < length xs → Has xs (get_or xs k d)

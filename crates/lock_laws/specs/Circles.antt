@@ -1,9 +1,12 @@
 -- Jobs that wait for one another (this project's profile).
-use Rattle.std.specs.Prelude.{◌≡◌, ◌≢◌, ℕ, ◌<◌, Bool, true, false, not, ◌==◌, ◌&&◌, List, [], ◌∷◌, length, Some, slice_get}
+use Rattle.std.specs.Prelude.{◌≡◌, ◌≢◌, ◌↔◌, ℕ, ◌<◌, Bool, true, false, not, ◌==◌, ◌&&◌, IsTrue, List, length, Some, slice_get}
 use Rattle.std.specs.List.{list_all}
 use Rattle.lock_queue.specs.declared.request.Request.{Request}
 use Rattle.lock_queue.specs.Jobs.{is_blocking, waits_for}
 use Rattle.lock_queue.specs.Queue.{granted, requests_of}
+use Rattle.lock_queue.specs.Waits.{is_circle, is_in_circle, LeadsBack}
+use Rattle.lock_queue.specs.WellFormed.{are_well_formed}
+use Rattle.lock_laws.specs.Safe.{Safe}
 
 -- a job waits by its latest request alone: where a blocking request is not granted, no later request is of its job
 abbrev pub WaitsByLatest : List Request → Type 0
@@ -18,16 +21,19 @@ has_one_plain_want r = length r.wants.items == 1 && list_all (λ w. not w.bypass
 abbrev pub is_plain : List Request → ℕ → Bool
 is_plain requests job = list_all has_one_plain_want (requests_of requests job)
 
--- whether each job waits for the next, from the first to the last
-abbrev pub is_chain : List Request → ℕ → List ℕ → ℕ → Bool
-is_chain requests first [] last = waits_for requests first last
-is_chain requests first (job ∷ later) last = waits_for requests first job && is_chain requests job later last
-
--- whether each of some jobs waits for the next, and the last for the first
-abbrev pub is_circle : List Request → List ℕ → Bool
-is_circle requests [] = false
-is_circle requests (job ∷ later) = is_chain requests job later job
-
 -- no circle of waits consists of plain jobs
 abbrev pub NoPlainCircle : List Request → Type 0
-NoPlainCircle requests = (jobs : List ℕ) → list_all (is_plain requests) jobs ≡ true → is_circle requests jobs ≡ false
+NoPlainCircle requests =
+    (circle : List ℕ) → list_all (is_plain requests) circle ≡ true → is_circle (waits_for requests) circle ≡ false
+
+-- where all present requests are those of plain jobs, no job is in a circle: WAITS tells none
+abbrev pub PlainJobsAreInNoCircle : Type 0
+PlainJobsAreInNoCircle =
+    (requests : List Request) → Safe requests → WaitsByLatest requests → list_all has_one_plain_want requests ≡ true
+    → (job : ℕ) → is_in_circle (waits_for requests) job ≡ false
+
+-- a job is told in a circle exactly where a walk of waits, of whatever length, leads back to it
+abbrev pub CirclesAreTold : Type 0
+CirclesAreTold =
+    (requests : List Request) (job : ℕ) → IsTrue (are_well_formed requests)
+    → (LeadsBack (waits_for requests) job ↔ IsTrue (is_in_circle (waits_for requests) job))

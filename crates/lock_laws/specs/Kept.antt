@@ -1,11 +1,15 @@
 -- What every change of the list of requests keeps: calls, a job that is gone, a wait that is given up, and a job that is
 -- told of its grant (this project's profile).
-use Rattle.std.specs.Prelude.{◌≡◌, ℕ, true, false, List}
+use Rattle.std.specs.Prelude.{◌≡◌, ◌&&◌, ℕ, Bool, true, false, IsTrue, List, length, nat_le}
+use Rattle.std.specs.List.{list_all}
+use Rattle.word36.specs.declared.sizes.TheConstants.{LOCKS_A_CALL}
 use Rattle.lock_queue.specs.declared.call.LockCall.{LockCall}
+use Rattle.lock_queue.specs.declared.call.LockCall.TheVariants.{Enqueue, Modify, DequeueNamed, DequeueAll, DequeueId}
 use Rattle.lock_queue.specs.declared.key.Key.{Key}
 use Rattle.lock_queue.specs.declared.request.Request.{Request}
 use Rattle.lock_queue.specs.Calls.{outcome_of}
 use Rattle.lock_queue.specs.Jobs.{is_waiting_job, released, withdrawn, told_of}
+use Rattle.lock_queue.specs.WellFormed.{is_in_range, are_well_formed, is_call}
 use Rattle.lock_laws.specs.Circles.{NoPlainCircle, WaitsByLatest}
 use Rattle.lock_laws.specs.Owning.{owns, KeepsOwners}
 use Rattle.lock_laws.specs.Safe.{Safe}
@@ -17,6 +21,26 @@ pub record SafetyIsKept : Type 0 where
   pub by_releases : (requests : List Request) (job : ℕ) → Safe requests → Safe (released requests job)
   pub by_withdrawals : (requests : List Request) (job : ℕ) → Safe requests → Safe (withdrawn requests job)
   pub by_telling : (requests : List Request) (job : ℕ) → Safe requests → Safe (told_of requests job)
+
+-- what the types of a call say of a request that it enters: at most 16 wants, with levels and pools in range
+abbrev pub is_in_range_call : LockCall → Bool
+is_in_range_call (Enqueue kind id wants armed) = nat_le (length wants.items) LOCKS_A_CALL && list_all is_in_range wants.items
+is_in_range_call (Modify wants) = true
+is_in_range_call (DequeueNamed wants) = true
+is_in_range_call DequeueAll = true
+is_in_range_call (DequeueId id) = true
+
+-- well-formed requests stay so over each call that can be made
+pub record WellFormednessIsKept : Type 0 where
+  pub by_calls : (requests : List Request) (job : ℕ) (call : LockCall) → IsTrue (is_call job call)
+      → IsTrue (is_in_range_call call)
+      → IsTrue (are_well_formed requests) → IsTrue (are_well_formed (outcome_of requests job call).requests)
+  pub by_releases : (requests : List Request) (job : ℕ) → IsTrue (are_well_formed requests)
+      → IsTrue (are_well_formed (released requests job))
+  pub by_withdrawals : (requests : List Request) (job : ℕ) → IsTrue (are_well_formed requests)
+      → IsTrue (are_well_formed (withdrawn requests job))
+  pub by_telling : (requests : List Request) (job : ℕ) → IsTrue (are_well_formed requests)
+      → IsTrue (are_well_formed (told_of requests job))
 
 -- what a job owns it loses only by its own dequeue, and when it is gone
 pub record OwnersAreKept : Type 0 where

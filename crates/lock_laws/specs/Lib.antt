@@ -1,6 +1,9 @@
 pub mod Claims
 pub mod Safe
+pub mod Told
 pub mod Owning
 pub mod Circles
 pub mod Kept
+pub mod Waiting
+pub mod Leaving
 pub mod Runs

@@ -1,5 +1,5 @@
 -- What holds of the requests at every time (ENQ/DEQ of the TOPS-10 Monitor Calls Manual, in this project's profile).
-use Rattle.std.specs.Prelude.{◌≡◌, ℕ, ◌+◌, ◌^◌, ◌<◌, ◌≤◌, true, false, List, [], ◌∷◌, length, take, Some, slice_get, sum_by, Contains, AllPairs, unwrap_or}
+use Rattle.std.specs.Prelude.{◌≡◌, ℕ, ◌+◌, ◌^◌, ◌<◌, ◌≤◌, true, false, List, [], ◌∷◌, length, take, Some, slice_get, sum_by, Contains, AllPairs, IsTrue}
 use Rattle.word36.specs.declared.sizes.TheConstants.{REQUESTS}
 use Rattle.lock_queue.specs.declared.key.Key.{Key}
 use Rattle.lock_queue.specs.declared.request.Request.{Request}
@@ -7,7 +7,8 @@ use Rattle.lock_queue.specs.declared.want.Want.{Want}
 use Rattle.lock_queue.specs.Pools.{PoolShare}
 use Rattle.lock_queue.specs.Queue.{names, wants_at, amount_of, fits, granted, owners}
 use Rattle.lock_queue.specs.declared.status.Status.{Status}
-use Rattle.lock_queue.specs.StatusWords.{is_exclusive, first_job, level_of, status_of, left_bit, words_of}
+use Rattle.lock_queue.specs.StatusWords.{is_exclusive, status_of, left_bit, words_of}
+use Rattle.lock_queue.specs.WellFormed.{are_well_formed}
 use Rattle.word36.specs.Words.{joined}
 use Rattle.lock_laws.specs.Claims.{claims, AreAlike, AreApart, Rises}
 
@@ -54,8 +55,8 @@ pub record ToldAlike (requests : List Request) (key : Key) : Type 0 where
   pub third : ℕ
   pub words : (asker : ℕ)
       → words_of (status_of requests key asker) ≡ (asker_bits (status_of requests key asker) + first) ∷ second ∷ third ∷ []
-  -- what is common to all has bits 0 to 2 clear, where a level has 9 bits and a job's number 18
-  pub below : level_of requests key < 2 ^ 9 → unwrap_or (first_job (owners requests key)) 0 < 2 ^ 18 → first < 2 ^ 33
+  -- what is common to all has bits 0 to 2 clear, where the requests are well-formed
+  pub below : IsTrue (are_well_formed requests) → first < 2 ^ 33
 
 pub record Safe (requests : List Request) : Type 0 where
   pub exclusive_alone : ExclusiveAlone requests

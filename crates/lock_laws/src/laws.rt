@@ -1,8 +1,17 @@
 //! The laws of the lock queue. Each function does nothing: its contract is the law.
-ghost use Rattle.std.specs.Prelude.{ℕ, List};
+ghost use Rattle.std.specs.Prelude.{ℕ, List, [], IsTrue};
 ghost use Rattle.lock_queue.specs.declared.call.LockCall.{LockCall as CallView};
-ghost use Rattle.lock_laws.specs.Kept.{LatestIsKept, OwnersAreKept, SafetyIsKept, SafeJobsMakeNoCircle};
+ghost use Rattle.lock_queue.specs.declared.key.Key.{Key as KeyView};
+ghost use Rattle.lock_queue.specs.WellFormed.{are_well_formed};
+ghost use Rattle.lock_laws.specs.Circles.{CirclesAreTold, PlainJobsAreInNoCircle, WaitsByLatest};
+ghost use Rattle.lock_laws.specs.Kept.{LatestIsKept, OwnersAreKept, SafetyIsKept, SafeJobsMakeNoCircle, WellFormednessIsKept};
+ghost use Rattle.lock_laws.specs.Leaving.{ArrivalsGrantNobody, ListIsWhatIsLeft};
 ghost use Rattle.lock_laws.specs.Runs.{AlwaysKeepsOwners, AlwaysSafe, CallersAreFree, NeverPlainCircle};
+ghost use Rattle.lock_laws.specs.Safe.{Safe};
+ghost use Rattle.lock_laws.specs.Told.{AllAreToldTheSame};
+ghost use Rattle.lock_laws.specs.Waiting.{JobsAreKept, WaitingIsKept, WithdrawingEndsWaits};
+
+use lock_queue::LockTable;
 
 /// After every beginning of a list of calls on an empty queue the requests are safe: an exclusive
 /// owner is alone, a pool is never overdrawn, a request owns all of its locks or none, and nobody
@@ -38,4 +47,43 @@ pub fn owners_are_kept()
 pub fn waits_are_by_latest()
     ensures latest { LatestIsKept }
     ensures circles { SafeJobsMakeNoCircle }
+{}
+
+/// No requests are safe and well-formed, and nobody waits by one.
+pub fn no_requests_are_safe()
+    ensures safe { Safe [] }
+    ensures latest { WaitsByLatest [] }
+    ensures well { IsTrue (are_well_formed []) }
+{}
+
+/// Well-formed requests stay so over each change that a table can make.
+pub fn well_formedness_is_kept()
+    ensures { WellFormednessIsKept }
+{}
+
+/// Nobody begins to wait but by a call of its own, nobody has requests that had none but by a call of
+/// its own, and a job whose wait is given up does not wait.
+pub fn waits_are_kept()
+    ensures waiting { WaitingIsKept }
+    ensures jobs { JobsAreKept }
+    ensures withdrawals { WithdrawingEndsWaits }
+{}
+
+/// A request that arrives changes no grant of those before it; and after a call that is done the list
+/// is what is left of each request, which is what the grants of a call are worked out from.
+pub fn calls_leave_the_rest()
+    ensures arrivals { ArrivalsGrantNobody }
+    ensures left { ListIsWhatIsLeft }
+{}
+
+/// Exactly those jobs are told in a circle from which a walk of waits, of whatever length, leads back;
+/// and where all present requests are those of plain jobs there is none.
+pub fn circles_are_told()
+    ensures told { CirclesAreTold }
+    ensures plain { PlainJobsAreInNoCircle }
+{}
+
+/// All jobs are told the same of a key of any table, but for the two bits that speak of the asker.
+pub fn askers_are_told_alike<L: LockTable>(table: &L)
+    ensures { (key : KeyView) → AllAreToldTheSame (L.requests table.now) key }
 {}

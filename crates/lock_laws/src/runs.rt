@@ -1,13 +1,16 @@
 //! Calls on a table, with what holds all along.
-ghost use Rattle.std.specs.Prelude.{◌≡◌, [], length};
+ghost use Rattle.std.specs.Prelude.{◌≡◌, [], length, IsTrue};
+ghost use Rattle.std.specs.List.{list_all};
 ghost use Rattle.lock_queue.specs.Calls.{replies_to, requests_after};
+ghost use Rattle.lock_queue.specs.WellFormed.{is_call};
 ghost use Rattle.lock_laws.specs.Runs.{AlwaysKeepsOwners, AlwaysSafe, CallersAreFree, NeverPlainCircle};
 
 use lock_queue::{LockCall, LockReply, LockTable, run_calls};
 
 /// Empties the table, makes a list of calls in turn, each with its job, and writes each answer.
 pub fn run_safely<L: LockTable>(table: &mut L, calls: &[(u8, LockCall)], replies: &mut [LockReply])
-    requires { length calls.now ≡ length replies.old }
+    requires places { length calls.now ≡ length replies.old }
+    requires calls { IsTrue (list_all (λ c. is_call c.0 c.1) calls.now) }
     ensures requests { L.requests table.new ≡ requests_after [] calls.now }
     ensures replies { replies.new ≡ replies_to [] calls.now }
     ensures safe { AlwaysSafe calls.now }

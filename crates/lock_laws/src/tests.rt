@@ -1,8 +1,13 @@
 //! One list of calls on the plain table.
 
+ghost use Rattle.std.specs.Prelude.{length, nat_le, IsTrue};
+ghost use Rattle.std.specs.List.{list_all};
+ghost use Rattle.lock_queue.specs.WellFormed.{names_locks, shares_no_pool, shares_no_pools};
+
 use crate::{
-    calls_are_safe, jobs_keep_their_locks, owners_are_kept, plain_jobs_make_no_circle, run_safely,
-    safety_is_kept, waits_are_by_latest,
+    askers_are_told_alike, calls_are_safe, calls_leave_the_rest, circles_are_told,
+    jobs_keep_their_locks, no_requests_are_safe, owners_are_kept, plain_jobs_make_no_circle,
+    run_safely, safety_is_kept, waits_are_by_latest, waits_are_kept, well_formedness_is_kept,
 };
 use lock_queue::{
     EnqueueKind, Key, Level, LockCall, LockReply, LockTable, Name, PlainTable, Pool, RequestId,
@@ -11,7 +16,10 @@ use lock_queue::{
 use std::test::Fail;
 
 /// So many of the five tape drives.
-fn drives(amount: u32) -> Wants {
+fn drives(amount: u32) -> Wants
+    ensures some { IsTrue (nat_le 1 (length result.items)) }
+    ensures unshared { IsTrue (list_all shares_no_pool result.items) }
+{
     let mut wants = Wants::new();
     wants.push(Want {
         key: Key {
@@ -26,7 +34,10 @@ fn drives(amount: u32) -> Wants {
     wants
 }
 
-fn ask(amount: u32) -> LockCall {
+fn ask(amount: u32) -> LockCall
+    ensures named { IsTrue (names_locks result) }
+    ensures unshared { IsTrue (shares_no_pools result) }
+{
     LockCall::Enqueue {
         kind: EnqueueKind::Blocking,
         id: RequestId::new(1),
@@ -70,11 +81,18 @@ fn small_request_does_not_pass_a_large_one(rt: HostRuntime) -> Result<(), Fail> 
 }
 
 #[test]
-fn laws_hold() {
+fn laws_hold(rt: HostRuntime) -> Result<(), Fail> {
+    askers_are_told_alike(&PlainTable::new(rt.alloc())?);
     calls_are_safe();
     jobs_keep_their_locks();
     plain_jobs_make_no_circle();
     safety_is_kept();
     owners_are_kept();
     waits_are_by_latest();
+    no_requests_are_safe();
+    well_formedness_is_kept();
+    waits_are_kept();
+    calls_leave_the_rest();
+    circles_are_told();
+    Ok(())
 }

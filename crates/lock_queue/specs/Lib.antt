@@ -1,6 +1,8 @@
 pub mod Keys
 pub mod Pools
 pub mod Refusals
+pub mod Uses
+pub mod Unused
 pub mod Queue
 pub mod Jobs
 pub mod Outcomes
@@ -8,5 +10,9 @@ pub mod Enqueues
 pub mod Dequeues
 pub mod Changes
 pub mod Calls
+pub mod Grants
+pub mod GrantSteps
+pub mod WellFormed
+pub mod Waits
 pub mod StatusWords
 pub mod StatusSteps

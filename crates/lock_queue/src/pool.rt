@@ -1,5 +1,6 @@
 //! Pools.
-ghost use Rattle.std.specs.Prelude.{◌≡◌, ◌≤◌, ◌<◌, ◌^◌, ◌↔◌, IsSome, IfSome};
+ghost use Rattle.std.specs.Prelude.{◌≡◌, ◌≤◌, ◌<◌, ◌^◌, ◌↔◌, IsSome, IfSome, IsTrue};
+ghost use Rattle.lock_queue.specs.Pools.{is_right_share};
 
 use std::marker::Model;
 
@@ -49,8 +50,20 @@ impl Pool {
     pub fn amount(self) -> u32
         ensures value { result ≡ self.amount }
         ensures least { 1 ≤ result }
+        ensures most { result ≤ self.size }
         ensures below { result < 2 ^ 18 }
     {
         self.amount
+    }
+
+    /// So much of the same pool again.
+    pub fn copied(&self) -> Self
+        ensures value { result ≡ self.now }
+        ensures right { IsTrue (is_right_share self.now) }
+    {
+        Pool {
+            size: self.size,
+            amount: self.amount,
+        }
     }
 }

@@ -84,9 +84,6 @@ fn is_room(earlier: &[Request], key: &Key, pool: Pool) -> bool
     ensures { result ≡
         nat_le (sum_by amount_of (wants_at earlier.now key.now) + pool.amount) pool.size }
 {
-    if pool.size() < pool.amount() {
-        return false;
-    }
     let mut left = pool.size() - pool.amount();
     for r in earlier {
         match room_beside(r.wants.as_slice(), key, left) {

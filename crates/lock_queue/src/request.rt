@@ -68,6 +68,11 @@ pub struct Request {
 
 /// A request of job 0 without wants, which fills unused places.
 impl Default for Request {
+    ghost use Rattle.std.specs.Prelude.{◌≡◌};
+    ghost use Rattle.lock_queue.specs.Unused.{unused_request};
+
+    ghost is_default = { λ r. r ≡ unused_request };
+
     fn default() -> Self {
         Request {
             job: 0,

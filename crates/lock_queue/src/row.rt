@@ -1,9 +1,11 @@
 //! A row of requests, in places that are all made at the start.
-ghost use Rattle.std.specs.Prelude.{◌≡◌, ◌<◌, ◌≤◌, [], ◌∷◌, ◌++◌, ◌-◌, length, IfOk, map, take, remove};
-ghost use Rattle.word36.specs.declared.sizes.TheConstants.{REQUESTS};
+ghost use Rattle.std.specs.Prelude.{◌≡◌, ◌<◌, ◌≤◌, [], ◌∷◌, ◌++◌, ◌-◌, length, IfOk, IsTrue, map, take, remove};
+ghost use Rattle.std.specs.List.{list_all};
+ghost use Rattle.word36.specs.declared.sizes.TheConstants.{LOCKS_A_CALL, REQUESTS};
 ghost use Rattle.lock_queue.specs.Dequeues.{without_keys_of};
 ghost use Rattle.lock_queue.specs.Enqueues.{request_of};
 ghost use Rattle.lock_queue.specs.Jobs.{told_of};
+ghost use Rattle.lock_queue.specs.WellFormed.{is_in_range};
 
 use crate::dequeues::remove_keys_of;
 use crate::jobs::tell;
@@ -35,7 +37,9 @@ impl Model for Row {
 
 /// Writes wants over others.
 fn write_wants(place: &mut Wants, wants: &Wants)
-    ensures { place.new ≡ wants.now }
+    ensures value { place.new ≡ wants.now }
+    ensures few { length wants.now.items ≤ LOCKS_A_CALL }
+    ensures range { IsTrue (list_all is_in_range wants.now.items) }
 {
     place.clear();
     for w in wants.as_slice() {
@@ -45,7 +49,9 @@ fn write_wants(place: &mut Wants, wants: &Wants)
 
 /// Writes a request over another.
 fn write(place: &mut Request, job: u8, id: RequestId, kind: EnqueueKind, told: bool, wants: &Wants)
-    ensures { place.new ≡ request_of job id kind told wants.now }
+    ensures value { place.new ≡ request_of job id kind told wants.now }
+    ensures few { length wants.now.items ≤ LOCKS_A_CALL }
+    ensures range { IsTrue (list_all is_in_range wants.now.items) }
 {
     place.job = job;
     place.id = id;
@@ -84,7 +90,9 @@ impl Row {
     /// Appends a request of these wants.
     pub fn push(&mut self, job: u8, id: RequestId, kind: EnqueueKind, told: bool, wants: &Wants)
         requires { length self.old < REQUESTS }
-        ensures { self.new ≡ self.old ++ request_of job id kind told wants.now ∷ [] }
+        ensures value { self.new ≡ self.old ++ request_of job id kind told wants.now ∷ [] }
+        ensures few { length wants.now.items ≤ LOCKS_A_CALL }
+        ensures range { IsTrue (list_all is_in_range wants.now.items) }
     {
         write(&mut self.places[self.count], job, id, kind, told, wants);
         self.count += 1;

@@ -1,13 +1,16 @@
 //! What a lock table does, however it keeps its requests.
-ghost use Rattle.std.specs.Prelude.{◌≡◌, ◌<◌, ◌≤◌, List, [], length, slice_get, Some, IfOk};
-ghost use Rattle.word36.specs.declared.sizes.TheConstants.{REQUESTS};
+ghost use Rattle.std.specs.Prelude.{◌≡◌, ◌<◌, ◌≤◌, List, [], length, slice_get, Some, IfOk, IsTrue};
+ghost use Rattle.std.specs.List.{list_all};
+ghost use Rattle.word36.specs.declared.sizes.TheConstants.{JOBS, REQUESTS};
 ghost use Rattle.lock_queue.specs.declared.request.Request.{Request as RequestView};
 ghost use Rattle.lock_queue.specs.Calls.{outcome_of, requests_after, replies_to};
+ghost use Rattle.lock_queue.specs.Grants.{woken_by, woken_by_release};
 ghost use Rattle.lock_queue.specs.Jobs.{released, withdrawn, is_waiting_job, pending, told_of, waits_for};
 ghost use Rattle.lock_queue.specs.Queue.{granted};
 ghost use Rattle.lock_queue.specs.StatusWords.{status_of};
+ghost use Rattle.lock_queue.specs.WellFormed.{are_well_formed, is_call, names_locks, shares_no_pools};
 
-use crate::{Key, LockCall, LockReply, Request, RequestId, Status};
+use crate::{Key, LockCall, LockReply, Request, RequestId, Status, Woken};
 use std::alloc::{AllocError, Global};
 
 /// The requests for locks, in order of arrival. After `new` no call takes memory.
@@ -19,16 +22,38 @@ pub trait LockTable: Drop {
     fn new(alloc: Global) -> Result<Self, AllocError>
         ensures { IfOk result (λ table. requests table ≡ []) };
 
-    /// Makes one call of a job, whose number is from 1 to 31. A refused call changes no request;
+    /// Makes one call of a job, whose number is from 1 to 31, and which asks for 1 to 16 locks where it
+    /// asks for locks or names them, and for no pool that is shared. A refused call changes no request;
     /// the only exception is an interrupt request that is not granted at once, which stays.
     fn call(&mut self, job: u8, call: &LockCall) -> LockReply
+        requires job { (1 ≤ job) × (job ≤ JOBS) }
+        requires named { IsTrue (names_locks call.now) }
+        requires unshared { IsTrue (shares_no_pools call.now) }
         ensures requests { requests self.new ≡
             (outcome_of (requests self.old) job call.now).requests }
         ensures reply { result ≡ (outcome_of (requests self.old) job call.now).reply };
 
+    /// Makes one call in the same way, and fills in the grants that it makes: those of requests that
+    /// were present and not granted before it, and are granted after it, in order of arrival. Requests
+    /// of ENQ. function 1 are left out, for nobody is told of their grants, and so is the request that
+    /// the call itself enters. A refused call makes no grants.
+    fn call_waking(&mut self, job: u8, call: &LockCall, woken: &mut Woken) -> LockReply
+        requires job { (1 ≤ job) × (job ≤ JOBS) }
+        requires named { IsTrue (names_locks call.now) }
+        requires unshared { IsTrue (shares_no_pools call.now) }
+        ensures requests { requests self.new ≡
+            (outcome_of (requests self.old) job call.now).requests }
+        ensures reply { result ≡ (outcome_of (requests self.old) job call.now).reply }
+        ensures woken { woken.new.items ≡ woken_by (requests self.old) job call.now };
+
     /// Takes out all requests of a job, as when it is gone.
     fn release(&mut self, job: u8)
         ensures { requests self.new ≡ released (requests self.old) job };
+
+    /// Takes out all requests of a job in the same way, and fills in the grants that this makes.
+    fn release_waking(&mut self, job: u8, woken: &mut Woken)
+        ensures requests { requests self.new ≡ released (requests self.old) job }
+        ensures woken { woken.new.items ≡ woken_by_release (requests self.old) job };
 
     /// Takes out the requests by which a job waits.
     fn withdraw(&mut self, job: u8)
@@ -74,11 +99,16 @@ pub trait LockTable: Drop {
 
     /// No more requests are present than the queue can hold.
     ghost few: { (table : Self) → length (requests table) ≤ REQUESTS };
+
+    /// Each request is a job's, and has 1 to 16 wants of as many keys; levels have 9 bits, and a pool's
+    /// amount is from 1 to its size, of 18 bits, and not shared.
+    ghost well: { (table : Self) → IsTrue (are_well_formed (requests table)) };
 }
 
 /// Makes a list of calls in turn, each with its job, and writes each answer.
 pub fn run_calls<L: LockTable>(table: &mut L, calls: &[(u8, LockCall)], replies: &mut [LockReply])
-    requires { length calls.now ≡ length replies.old }
+    requires places { length calls.now ≡ length replies.old }
+    requires calls { IsTrue (list_all (λ c. is_call c.0 c.1) calls.now) }
     ensures requests { L.requests table.new ≡ requests_after (L.requests table.old) calls.now }
     ensures replies { replies.new ≡ replies_to (L.requests table.old) calls.now }
 {

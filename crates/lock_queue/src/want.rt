@@ -1,5 +1,6 @@
 //! Wants: the locks of a request.
-ghost use Rattle.std.specs.Prelude.{◌≡◌, ◌<◌, ◌^◌, ◌↔◌, IsSome, IfSome};
+ghost use Rattle.std.specs.Prelude.{◌≡◌, ◌<◌, ◌^◌, IsTrue};
+ghost use Rattle.lock_queue.specs.WellFormed.{is_in_range};
 
 use crate::{Key, Name, Pool, Scope, UserCode};
 use arrayvec::ArrayVec;
@@ -41,6 +42,16 @@ impl Level {
     {
         self.number
     }
+
+    /// The same level again.
+    pub fn copied(&self) -> Self
+        ensures value { result ≡ self.now }
+        ensures below { self.now < 2 ^ 9 }
+    {
+        Level {
+            number: self.number,
+        }
+    }
 }
 
 /// One lock of a request.
@@ -64,20 +75,30 @@ pub type Wants = ArrayVec<Want, LOCKS_A_CALL>;
 impl Want {
     /// The same want again.
     pub fn copied(&self) -> Want
-        ensures { result ≡ self.now }
+        ensures value { result ≡ self.now }
+        ensures range { IsTrue (is_in_range self.now) }
     {
+        let pool = match &self.pool {
+            Some(pool) => Some(pool.copied()),
+            None => None,
+        };
         Want {
             key: self.key.copied(),
             shared: self.shared,
             bypass: self.bypass,
-            level: self.level,
-            pool: self.pool,
+            level: self.level.copied(),
+            pool,
         }
     }
 }
 
 /// An exclusive want of the user code 0, which fills unused places.
 impl Default for Want {
+    ghost use Rattle.std.specs.Prelude.{◌≡◌};
+    ghost use Rattle.lock_queue.specs.Unused.{unused_want};
+
+    ghost is_default = { λ w. w ≡ unused_want };
+
     fn default() -> Self {
         Want {
             key: Key {

@@ -4,6 +4,8 @@
 #[cfg(test)]
 mod build;
 #[cfg(test)]
+mod grants;
+#[cfg(test)]
 mod limits;
 #[cfg(test)]
 mod refusals;

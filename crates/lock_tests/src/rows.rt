@@ -1,5 +1,9 @@
 //! Worked examples of the queue rule: who is granted, who waits, and what a status shows.
 
+ghost use Rattle.std.specs.Prelude.{IsTrue};
+ghost use Rattle.std.specs.List.{list_all};
+ghost use Rattle.lock_queue.specs.WellFormed.{is_call};
+
 use crate::build::*;
 use lock_queue::{LockCall, LockReply, LockTable, PlainTable, Refusal, run_calls};
 use std::process::Abort;
@@ -25,7 +29,9 @@ fn answers<L: LockTable>(
     table: &mut L,
     calls: &[(u8, LockCall)],
     expected: &[LockReply],
-) {
+)
+    requires { IsTrue (list_all (λ c. is_call c.0 c.1) calls.now) }
+{
     let mut replies = [LockReply::Done; 8];
     let count = calls.len();
     assert!(rt; count <= 8);

@@ -5,6 +5,8 @@ use Rattle.clap.specs.Words.{App, Row, Rule, Text, Shape, first_of, new_app, new
 use Rattle.clap.specs.declared.error.kind.ErrorKind.{ErrorKind}
 use Rattle.clap.specs.declared.error.kind.ErrorKind.TheVariants as kind
 use Rattle.queue_script.specs.Numbers.{number}
+use Rattle.machine.specs.Setups.{IsSetup}
+use Rattle.machine.specs.declared.sizes.TheConstants.{MOST_QUANTUM}
 use Rattle.word36.specs.declared.sizes.TheConstants.{MOST_BLOCKS}
 use Rattle.lockmon.specs.declared.asked.Choice.{Choice}
 use Rattle.lockmon.specs.declared.asked.Choice.TheVariants.{Run, Queue, Asm}
@@ -42,9 +44,15 @@ run_of None quantum = None
 abbrev pub choice_of : Option (Text × List Row) → Option Choice
 choice_of None = None
 choice_of (Some p) =
-    if bytes_eq p.0 (codes "run") then run_of (number_in MOST_BLOCKS (first_of (codes "blocks") p.1)) (number_in 60 (first_of (codes "quantum") p.1))
+    if bytes_eq p.0 (codes "run") then run_of (number_in MOST_BLOCKS (first_of (codes "blocks") p.1)) (number_in MOST_QUANTUM (first_of (codes "quantum") p.1))
     else (if bytes_eq p.0 (codes "queue") then Some Queue
     else (if bytes_eq p.0 (codes "asm") then Some Asm else None))
+
+-- the numbers of `run` are those of a machine
+abbrev pub IsRight : Choice → Type 0
+IsRight (Run blocks quantum) = IsSetup blocks quantum
+IsRight Queue = Unit {0}
+IsRight Asm = Unit {0}
 
 -- a refusal for another cause than memory comes only where clap takes other words, or they ask for nothing that there is
 abbrev pub IsDue : Refusal → List Text → Type 0

@@ -3,10 +3,11 @@
 
 mod asked;
 mod serving;
+mod statuses;
 mod words;
 
 use queue_script::{HostIn, HostOut};
-use serving::{out_of_memory, program};
+use serving::{program, unread_words};
 use std::env;
 use std::process::ExitCode;
 
@@ -15,12 +16,8 @@ fn main(rt: HostRuntime) -> ExitCode {
     let mut reader = HostIn::new(rt.stdin());
     let mut writer = HostOut::new(rt.stdout());
     let mut errors = HostOut::new(rt.stderr());
-    let words: Option<Vec<String>> = match env::args(&rt) {
-        Ok(args) => args.collect(alloc).ok(),
-        Err(_) => None,
-    };
-    let status = match words {
-        Some(words) => {
+    let status = match env::args(&rt).and_then(|args| Ok(args.collect::<Vec<String>>(alloc)?)) {
+        Ok(words) => {
             program(
                 alloc,
                 words.as_slice(),
@@ -29,7 +26,7 @@ fn main(rt: HostRuntime) -> ExitCode {
                 &mut errors,
             )
         }
-        None => out_of_memory(&mut errors),
+        Err(error) => unread_words(error.kind(), &mut errors),
     };
     ExitCode::from(status)
 }

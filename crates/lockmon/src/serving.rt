@@ -1,23 +1,18 @@
 //! The whole program over any ports.
-ghost use Rattle.std.specs.Prelude.{◌≡◌, ◌^◌, ◌≤◌, false};
+ghost use Rattle.std.specs.Prelude.{◌≡◌, ◌^◌, ◌≤◌, false, map, ◌≢◌};
+ghost use Rattle.machine.specs.Setups.{IsSetup};
+ghost use Rattle.queue_script.specs.Endings.{served_as};
+ghost use Rattle.lockmon.specs.Programs.{Runs, status_of};
 
 use crate::asked::{Choice, Refusal};
+use crate::statuses::{DONE, FAILED, REFUSED, USAGE};
 use crate::words::choice;
+use machine::Config;
+use op_script::serve;
 use queue_script::{ByteIn, ByteOut, ServeError, serve_asm, serve_queue, write_all};
 use std::alloc::Global;
 use std::convert::AsStr;
-
-/// The status where all was done.
-const DONE: u8 = 0;
-
-/// The status where the script or a source was refused.
-const REFUSED: u8 = 1;
-
-/// The status where the words of the command line were refused.
-const USAGE: u8 = 2;
-
-/// The status where the reader, the writer or memory failed.
-const FAILED: u8 = 3;
+use std::io::ErrorKind;
 
 /// Serves what the words, which begin with the program's name, ask for, and gives the exit status.
 /// Where the words are refused the reason goes to `errors`, and so does a line where the reader, the
@@ -33,16 +28,16 @@ pub fn program<S: AsStr, R: ByteIn, W: ByteOut, E: ByteOut>(
     requires writer_sound { W.has_failed writer.old ≡ false }
     requires errors_sound { E.has_failed errors.old ≡ false }
     requires few { R.reads_left reader.old ≤ 2 ^ 63 }
+    ensures { Runs (map S.text words.now) (R.to_come reader.old) (R.to_come reader.new) (W.written writer.old) (W.written writer.new)
+        (R.has_failed reader.new) (W.has_failed writer.new) result }
 {
     match choice(alloc, words) {
         Ok(Choice::Queue) => status_of(serve_queue(alloc, reader, writer), errors),
         Ok(Choice::Asm) => status_of(serve_asm(alloc, reader, writer), errors),
-        Ok(
-            Choice::Run {
-                blocks: _,
-                quantum: _,
-            },
-        ) => told(errors, b"lockmon: run is still to come\n", USAGE),
+        Ok(Choice::Run { blocks, quantum }) => {
+            let config = config_of(blocks, quantum);
+            status_of(serve(alloc, config, reader, writer), errors)
+        }
         Err(Refusal::Memory) => out_of_memory(errors),
         Err(Refusal::Usage(error)) => match error.to_string(alloc) {
             Ok(text) => told(errors, text.as_str().as_bytes(), USAGE),
@@ -51,9 +46,19 @@ pub fn program<S: AsStr, R: ByteIn, W: ByteOut, E: ByteOut>(
     }
 }
 
+/// The size of a machine.
+fn config_of(blocks: u32, quantum: u32) -> Config
+    requires { IsSetup blocks quantum }
+    ensures blocks { result.blocks ≡ blocks }
+    ensures quantum { result.quantum ≡ quantum }
+{
+    Config::new(blocks, quantum as u8).unwrap()
+}
+
 /// The exit status of a call that served, with a line where a port or memory failed.
 fn status_of<E: ByteOut>(answer: Result<(), ServeError>, errors: &mut E) -> u8
     requires { E.has_failed errors.old ≡ false }
+    ensures { result ≡ status_of (served_as answer) }
 {
     match answer {
         Ok(()) => DONE,
@@ -70,6 +75,21 @@ pub fn out_of_memory<E: ByteOut>(errors: &mut E) -> u8
     ensures { result ≡ FAILED }
 {
     told(errors, b"lockmon: memory\n", FAILED)
+}
+
+/// Says why the words of the command line could not be read, and gives the exit status: one of them
+/// is no text, which refuses them, or there was no memory.
+pub fn unread_words<E: ByteOut>(kind: ErrorKind, errors: &mut E) -> u8
+    requires { E.has_failed errors.old ≡ false }
+    ensures no_text { kind ≡ ErrorKind.InvalidData → result ≡ USAGE }
+    ensures no_memory { kind ≢ ErrorKind.InvalidData → result ≡ FAILED }
+{
+    if kind == ErrorKind::InvalidData {
+        let text = b"error: invalid UTF-8 was detected in one or more arguments\n";
+        told(errors, text, USAGE)
+    } else {
+        out_of_memory(errors)
+    }
 }
 
 /// Writes a text to the errors, and gives the exit status.
@@ -241,9 +261,42 @@ mod tests {
     }
 
     #[test]
-    fn a_program_that_is_still_to_come(rt: HostRuntime) {
+    fn words_that_are_no_text(rt: HostRuntime) {
+        let mut room = [0u8; 128];
+        let mut errors = TestOut::new(&mut room, 100, MANY);
+        assert_eq!(rt; unread_words(ErrorKind::InvalidData, &mut errors), 2);
+        assert!(rt;
+            errors
+                .as_slice()
+                .starts_with(b"error: invalid UTF-8".as_slice())
+        );
+        let mut room = [0u8; 128];
+        let mut errors = TestOut::new(&mut room, 100, MANY);
+        assert_eq!(rt; unread_words(ErrorKind::OutOfMemory, &mut errors), 3);
+        assert_eq!(rt; errors.as_slice(), b"lockmon: memory\n".as_slice());
+    }
+
+    #[test]
+    fn a_machine(rt: HostRuntime) {
         let alloc = rt.alloc();
-        let run = ["lockmon", "run", "--blocks", "256", "--quantum", "60"];
-        expect_refusal(&rt, alloc, &run, b"lockmon: run is still to come\n");
+        let many = (MANY, MANY, MANY);
+        expect_of(&rt, alloc, "run", b"", many, 0, b"", b"");
+        let script = b"ASSEMBLE A\n MOVEI 1,5\n END\nENDASM\nLOGIN 0 A\n".as_slice();
+        expect_of(
+            &rt,
+            alloc,
+            "run",
+            script,
+            many,
+            0,
+            b"IMAGE A 1\nJOB 1\n",
+            b"",
+        );
+        let unended = b"ASSEMBLE A\n MOVEI 1,5\n".as_slice();
+        expect_of(&rt, alloc, "run", unended, many, 1, b"?SCRIPT 3\n", b"");
+        let unknown = b"ASSEMBLE A\n JRST NOWHR\n END\nENDASM\n".as_slice();
+        expect_of(&rt, alloc, "run", unknown, many, 1, b"?ASM 1 2\n", b"");
+        let unread = (0, MANY, MANY);
+        expect_of(&rt, alloc, "run", b"", unread, 3, b"", b"lockmon: read\n");
     }
 }

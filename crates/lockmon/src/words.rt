@@ -1,25 +1,24 @@
 //! The command line.
-ghost use Rattle.std.specs.Prelude.{◌≡◌, ◌≢◌, ◌<◌, ◌^◌, false, Some, IfOk, IfErr, map};
+ghost use Rattle.std.specs.Prelude.{◌≡◌, ◌≢◌, ◌<◌, ◌≤◌, ◌^◌, false, Some, IfOk, IfErr, IfSome, map};
 ghost use Rattle.clap.specs.Words.{app_of, first_of, found_of, kind_of, rows_of, subcommand_of, subcommand_rows_of};
 ghost use Rattle.clap.specs.declared.builder.command.Command.TheViews.{out-Command as fields_of};
-ghost use Rattle.lockmon.specs.Words.{IsDue, IsKind, app, run_app, choice_of, number_in};
+ghost use Rattle.lockmon.specs.Words.{IsDue, IsKind, IsRight, app, run_app, choice_of, number_in};
 
 use crate::asked::{Choice, Refusal};
 use clap::error::ErrorKind;
 use clap::{Arg, ArgMatches, Command, Error};
+use machine::MOST_QUANTUM;
 use queue_script::number;
 use std::alloc::{AllocError, Global};
 use std::convert::AsStr;
 use word36::MOST_BLOCKS;
-
-/// The longest quantum, in ticks.
-const MOST_TICKS: u32 = 60;
 
 /// What the words, which begin with the program's name, ask for. They are refused for another cause
 /// than memory only where they are not in the form that the command line takes, or ask for a number
 /// out of range or for help.
 pub fn choice<'a, S: AsStr>(alloc: Global, words: &'a [S]) -> Result<Choice, Refusal>
     ensures chosen { IfOk result (λ c. choice_of (subcommand_of app (map S.text words.now)) ≡ Some c) }
+    ensures range { IfOk result IsRight }
     ensures due { IfErr result (λ e. IsDue e (map S.text words.now)) }
 {
     let mut command = match make_command(alloc) {
@@ -83,12 +82,13 @@ fn make_run<'a>(alloc: Global) -> Result<Command<'a>, AllocError>
 }
 
 fn chosen(matches: &ArgMatches<'_>) -> Option<Choice>
-    ensures { result ≡ choice_of (subcommand_rows_of matches.now) }
+    ensures value { result ≡ choice_of (subcommand_rows_of matches.now) }
+    ensures range { IfSome result IsRight }
 {
     let (name, given) = matches.subcommand()?;
     if name == "run" {
         let blocks = number_of(given, "blocks", MOST_BLOCKS)?;
-        let quantum = number_of(given, "quantum", MOST_TICKS)?;
+        let quantum = number_of(given, "quantum", u32::from(MOST_QUANTUM))?;
         Some(Choice::Run { blocks, quantum })
     } else if name == "queue" {
         Some(Choice::Queue)
@@ -102,7 +102,8 @@ fn chosen(matches: &ArgMatches<'_>) -> Option<Choice>
 /// The number of an option, from 1 to `most`.
 fn number_of(given: &ArgMatches<'_>, id: &str, most: u32) -> Option<u32>
     requires { most < 2 ^ 28 }
-    ensures { result ≡ number_in most (first_of id.now (rows_of (found_of given.now))) }
+    ensures value { result ≡ number_in most (first_of id.now (rows_of (found_of given.now))) }
+    ensures range { IfSome result (λ n. (1 ≤ n) × (n ≤ most)) }
 {
     match given.get_str(id) {
         None => None,
@@ -112,7 +113,8 @@ fn number_of(given: &ArgMatches<'_>, id: &str, most: u32) -> Option<u32>
 
 fn number_from_one(text: &[u8], most: u32) -> Option<u32>
     requires { most < 2 ^ 28 }
-    ensures { result ≡ number_in most (Some text.now) }
+    ensures value { result ≡ number_in most (Some text.now) }
+    ensures range { IfSome result (λ n. (1 ≤ n) × (n ≤ most)) }
 {
     match number(10, most as u64, text) {
         None => None,

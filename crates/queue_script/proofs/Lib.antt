@@ -1,6 +1,8 @@
 pub mod NumberLemmas
 pub mod LockLemmas
 pub mod WantLemmas
-pub mod GrantLemmas
+pub mod ShownLemmas
+pub mod Asking
 pub mod PairLemmas
 pub mod AsciiLemmas
+pub mod LongLines

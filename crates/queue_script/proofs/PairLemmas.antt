@@ -2,76 +2,79 @@
 use Rattle.std.proofs.Common.{◌≡◌, ◌<◌, ◌≤◌, ◌+◌, ◌-◌, ◌*◌, ◌/◌, ◌%◌, ◌++◌, ◌&&◌, ◌||◌, ℕ, Bool, true, false, cond, suc, zero, List, [], ◌∷◌, length, slice_index_or, slice_set, arith, refl, sym, ap, ◌∙◌, append_assoc, append-nil, add-one, below_more, get_or-set_other, get_or-set_same, ◌≢◌}
 use Rattle.std.specs.List.{flat_map, list_any}
 use Rattle.std.specs.Prelude.{codes, decimal}
-use Rattle.queue_script.specs.WaitPairs.{numbers_from, jobs, leads_to, pair_in, circle_job, circle_jobs}
+use Rattle.lock_queue.specs.Waits.{numbers_from, jobs, leads_to}
+use Rattle.queue_script.specs.declared.wait_pairs.TheConstants.{NUMBERS, PAIRS}
+use Rattle.word36.specs.declared.sizes.TheConstants.{JOBS}
+use Rattle.queue_script.specs.WaitPairs.{pair_in, circle_job, circle_jobs}
 
 -- what is left of the jobs at a job
-rest-at : (j : ℕ) → j < 32 → numbers_from j (32 - j) ≡ j ∷ numbers_from (j + 1) (32 - (j + 1))
+rest-at : (j : ℕ) → j < NUMBERS → numbers_from j (NUMBERS - j) ≡ j ∷ numbers_from (j + 1) (NUMBERS - (j + 1))
 unfolding numbers_from
-rest-at j h = let e : 32 - j ≡ suc (32 - (j + 1)) = omega arith in ap (numbers_from j) e
+rest-at j h = let e : NUMBERS - j ≡ suc (NUMBERS - (j + 1)) = omega arith in ap (numbers_from j) e
 
-rest-end : (j : ℕ) → 32 ≤ j → numbers_from j (32 - j) ≡ []
+rest-end : (j : ℕ) → NUMBERS ≤ j → numbers_from j (NUMBERS - j) ≡ []
 unfolding numbers_from
-rest-end j h = let e : 32 - j ≡ 0 = omega arith in ap (numbers_from j) e
+rest-end j h = let e : NUMBERS - j ≡ 0 = omega arith in ap (numbers_from j) e
 
-pub jobs-start : numbers_from 1 (32 - 1) ≡ jobs
+pub jobs-start : numbers_from 1 (NUMBERS - 1) ≡ jobs
 unfolding jobs
 jobs-start = refl
 
 -- a text for each job in turn
-pub texts-start : (f : ℕ → List ℕ) (out : List ℕ) → out ++ flat_map f (numbers_from 1 31) ≡ out ++ flat_map f jobs
+pub texts-start : (f : ℕ → List ℕ) (out : List ℕ) → out ++ flat_map f (numbers_from 1 JOBS) ≡ out ++ flat_map f jobs
 texts-start f out = ap (λ l. out ++ flat_map f l) jobs-start
 
-pub texts-step : (f : ℕ → List ℕ) (j : ℕ) (sofar new all : List ℕ) → j < 32 → new ≡ sofar ++ f j → sofar ++ flat_map f (numbers_from j (32 - j)) ≡ all
-    → new ++ flat_map f (numbers_from (j + 1) (32 - (j + 1))) ≡ all
+pub texts-step : (f : ℕ → List ℕ) (j : ℕ) (sofar new all : List ℕ) → j < NUMBERS → new ≡ sofar ++ f j → sofar ++ flat_map f (numbers_from j (NUMBERS - j)) ≡ all
+    → new ++ flat_map f (numbers_from (j + 1) (NUMBERS - (j + 1))) ≡ all
 texts-step f j sofar new all within pushed before =
-    ap (λ l. l ++ flat_map f (numbers_from (j + 1) (32 - (j + 1)))) pushed ∙ append_assoc sofar (f j) (flat_map f (numbers_from (j + 1) (32 - (j + 1))))
+    ap (λ l. l ++ flat_map f (numbers_from (j + 1) (NUMBERS - (j + 1)))) pushed ∙ append_assoc sofar (f j) (flat_map f (numbers_from (j + 1) (NUMBERS - (j + 1))))
     ∙ ap (λ l. sofar ++ flat_map f l) (sym (rest-at j within)) ∙ before
 
-pub texts-end : (f : ℕ → List ℕ) (j : ℕ) (sofar all : List ℕ) → 32 ≤ j → sofar ++ flat_map f (numbers_from j (32 - j)) ≡ all → sofar ≡ all
+pub texts-end : (f : ℕ → List ℕ) (j : ℕ) (sofar all : List ℕ) → NUMBERS ≤ j → sofar ++ flat_map f (numbers_from j (NUMBERS - j)) ≡ all → sofar ≡ all
 texts-end f j sofar all end before = sym (append-nil sofar) ∙ ap (λ l. sofar ++ flat_map f l) (sym (rest-end j end)) ∙ before
 
 -- ---- a test of each job in turn
 
-any-now : (f : ℕ → Bool) (j : ℕ) (b : Bool) → j < 32 → f j ≡ b → list_any f (numbers_from j (32 - j)) ≡ (b || list_any f (numbers_from (j + 1) (32 - (j + 1))))
-any-now f j b within is = ap (list_any f) (rest-at j within) ∙ ap (λ x. x || list_any f (numbers_from (j + 1) (32 - (j + 1)))) is
+any-now : (f : ℕ → Bool) (j : ℕ) (b : Bool) → j < NUMBERS → f j ≡ b → list_any f (numbers_from j (NUMBERS - j)) ≡ (b || list_any f (numbers_from (j + 1) (NUMBERS - (j + 1))))
+any-now f j b within is = ap (list_any f) (rest-at j within) ∙ ap (λ x. x || list_any f (numbers_from (j + 1) (NUMBERS - (j + 1)))) is
 
-pub any-start : (f : ℕ → Bool) → list_any f (numbers_from 1 31) ≡ list_any f jobs
+pub any-start : (f : ℕ → Bool) → list_any f (numbers_from 1 JOBS) ≡ list_any f jobs
 any-start f = ap (list_any f) jobs-start
 
-pub any-step : (f : ℕ → Bool) (j : ℕ) (all : Bool) → j < 32 → f j ≡ false → list_any f (numbers_from j (32 - j)) ≡ all → list_any f (numbers_from (j + 1) (32 - (j + 1))) ≡ all
+pub any-step : (f : ℕ → Bool) (j : ℕ) (all : Bool) → j < NUMBERS → f j ≡ false → list_any f (numbers_from j (NUMBERS - j)) ≡ all → list_any f (numbers_from (j + 1) (NUMBERS - (j + 1))) ≡ all
 any-step f j all within fails before = sym (any-now f j false within fails) ∙ before
 
-pub any-found : (f : ℕ → Bool) (j : ℕ) (all : Bool) → j < 32 → f j ≡ true → list_any f (numbers_from j (32 - j)) ≡ all → true ≡ all
+pub any-found : (f : ℕ → Bool) (j : ℕ) (all : Bool) → j < NUMBERS → f j ≡ true → list_any f (numbers_from j (NUMBERS - j)) ≡ all → true ≡ all
 any-found f j all within holds before = sym (any-now f j true within holds) ∙ before
 
-pub any-end : (f : ℕ → Bool) (j : ℕ) (all : Bool) → 32 ≤ j → list_any f (numbers_from j (32 - j)) ≡ all → false ≡ all
+pub any-end : (f : ℕ → Bool) (j : ℕ) (all : Bool) → NUMBERS ≤ j → list_any f (numbers_from j (NUMBERS - j)) ≡ all → false ≡ all
 any-end f j all end before = sym (ap (list_any f) (rest-end j end)) ∙ before
 
 -- ---- tests and texts that agree on the jobs
 
-any-same_from : (f g : ℕ → Bool) (count first : ℕ) → first + count ≤ 32 → ((m : ℕ) → m < 32 → f m ≡ g m) → list_any f (numbers_from first count) ≡ list_any g (numbers_from first count)
+any-same_from : (f g : ℕ → Bool) (count first : ℕ) → first + count ≤ NUMBERS → ((m : ℕ) → m < NUMBERS → f m ≡ g m) → list_any f (numbers_from first count) ≡ list_any g (numbers_from first count)
 unfolding numbers_from
 any-same_from f g zero first h same = refl
 any-same_from f g (suc count) first h same =
     ap (λ b. b || list_any f (numbers_from (first + 1) count)) (same first (omega arith))
     ∙ ap (λ b. g first || b) (any-same_from f g count (first + 1) (omega arith) same)
 
-any-same : (f g : ℕ → Bool) → ((m : ℕ) → m < 32 → f m ≡ g m) → list_any f jobs ≡ list_any g jobs
+any-same : (f g : ℕ → Bool) → ((m : ℕ) → m < NUMBERS → f m ≡ g m) → list_any f jobs ≡ list_any g jobs
 unfolding jobs
-any-same f g same = any-same_from f g 31 1 (omega arith) same
+any-same f g same = any-same_from f g JOBS 1 (omega arith) same
 
-texts-same_from : (f g : ℕ → List ℕ) (count first : ℕ) → first + count ≤ 32 → ((m : ℕ) → m < 32 → f m ≡ g m) → flat_map f (numbers_from first count) ≡ flat_map g (numbers_from first count)
+texts-same_from : (f g : ℕ → List ℕ) (count first : ℕ) → first + count ≤ NUMBERS → ((m : ℕ) → m < NUMBERS → f m ≡ g m) → flat_map f (numbers_from first count) ≡ flat_map g (numbers_from first count)
 unfolding numbers_from
 texts-same_from f g zero first h same = refl
 texts-same_from f g (suc count) first h same =
     ap (λ b. b ++ flat_map f (numbers_from (first + 1) count)) (same first (omega arith))
     ∙ ap (λ b. g first ++ b) (texts-same_from f g count (first + 1) (omega arith) same)
 
-texts-same : (f g : ℕ → List ℕ) → ((m : ℕ) → m < 32 → f m ≡ g m) → flat_map f jobs ≡ flat_map g jobs
+texts-same : (f g : ℕ → List ℕ) → ((m : ℕ) → m < NUMBERS → f m ≡ g m) → flat_map f jobs ≡ flat_map g jobs
 unfolding jobs
-texts-same f g same = texts-same_from f g 31 1 (omega arith) same
+texts-same f g same = texts-same_from f g JOBS 1 (omega arith) same
 
-leads-same : (v w : ℕ → ℕ → Bool) (steps j k : ℕ) → ((a b : ℕ) → a < 32 → b < 32 → v a b ≡ w a b) → j < 32 → k < 32 → leads_to v steps j k ≡ leads_to w steps j k
+leads-same : (v w : ℕ → ℕ → Bool) (steps j k : ℕ) → ((a b : ℕ) → a < NUMBERS → b < NUMBERS → v a b ≡ w a b) → j < NUMBERS → k < NUMBERS → leads_to v steps j k ≡ leads_to w steps j k
 unfolding leads_to
 leads-same v w zero j k same hj hk = refl
 leads-same v w (suc steps) j k same hj hk =
@@ -79,9 +82,9 @@ leads-same v w (suc steps) j k same hj hk =
     ∙ ap (λ b. w j k || b) (any-same (λ m. v j m && leads_to v steps m k) (λ m. w j m && leads_to w steps m k)
     (λ m hm. ap (λ b. b && leads_to v steps m k) (same j m hj hm) ∙ ap (λ b. w j m && b) (leads-same v w steps m k same hm hk)))
 
-pub circle-same : (v w : ℕ → ℕ → Bool) → ((a b : ℕ) → a < 32 → b < 32 → v a b ≡ w a b) → circle_jobs v ≡ circle_jobs w
+pub circle-same : (v w : ℕ → ℕ → Bool) → ((a b : ℕ) → a < NUMBERS → b < NUMBERS → v a b ≡ w a b) → circle_jobs v ≡ circle_jobs w
 circle-same v w same =
-    texts-same (circle_job v) (circle_job w) (λ m hm. ap (λ b. cond b (codes " " ++ decimal m) []) (leads-same v w 31 m m same hm hm))
+    texts-same (circle_job v) (circle_job w) (λ m hm. ap (λ b. cond b (codes " " ++ decimal m) []) (leads-same v w JOBS m m same hm hm))
 
 -- ---- tables
 
@@ -96,20 +99,20 @@ pub leads-start : (w : ℕ → ℕ → Bool) (j k : ℕ) → leads_to w 0 j k �
 unfolding leads_to
 leads-start w j k = refl
 
-pub leads-step : (w : ℕ → ℕ → Bool) (reached : List Bool) (steps target : ℕ) → ((j : ℕ) → j < 32 → slice_index_or reached j false ≡ leads_to w steps j target)
+pub leads-step : (w : ℕ → ℕ → Bool) (reached : List Bool) (steps target : ℕ) → ((j : ℕ) → j < NUMBERS → slice_index_or reached j false ≡ leads_to w steps j target)
     → (j : ℕ) → (w j target || list_any (λ m. w j m && slice_index_or reached m false) jobs) ≡ leads_to w (steps + 1) j target
 unfolding leads_to
 leads-step w reached steps target known j =
     ap (λ b. w j target || b) (any-same (λ m. w j m && slice_index_or reached m false) (λ m. w j m && leads_to w steps m target) (λ m hm. ap (λ b. w j m && b) (known m hm)))
     ∙ ap (λ n. leads_to w n j target) (sym (add-one steps))
 
-pub table-pairs : (pairs : List Bool) (w : ℕ → ℕ → Bool) → ((i : ℕ) → i < 1024 → slice_index_or pairs i false ≡ w (i / 32) (i % 32))
-    → (j k : ℕ) → j < 32 → k < 32 → pair_in pairs j k ≡ w j k
+pub table-pairs : (pairs : List Bool) (w : ℕ → ℕ → Bool) → ((i : ℕ) → i < PAIRS → slice_index_or pairs i false ≡ w (i / NUMBERS) (i % NUMBERS))
+    → (j k : ℕ) → j < NUMBERS → k < NUMBERS → pair_in pairs j k ≡ w j k
 table-pairs pairs w known j k hj hk =
-    let at : 32 * j + k < 1024 = omega arith in
-    let a : (32 * j + k) / 32 ≡ j = omega arith in
-    let b : (32 * j + k) % 32 ≡ k = omega arith in
-    known (32 * j + k) at ∙ ap (λ x. w x ((32 * j + k) % 32)) a ∙ ap (w j) b
+    let at : NUMBERS * j + k < PAIRS = omega arith in
+    let a : (NUMBERS * j + k) / NUMBERS ≡ j = omega arith in
+    let b : (NUMBERS * j + k) % NUMBERS ≡ k = omega arith in
+    known (NUMBERS * j + k) at ∙ ap (λ x. w x ((NUMBERS * j + k) % NUMBERS)) a ∙ ap (w j) b
 
 -- a list of falses
 pub all-false : (xs : List Bool) (j : ℕ) → list_any (λ b. b) xs ≡ false → slice_index_or xs j false ≡ false

@@ -8,10 +8,10 @@ use Rattle.lock_queue.specs.declared.refusal.Refusal.{Refusal}
 use Rattle.lock_queue.specs.declared.refusal.Refusal.TheVariants.{BadCount}
 use Rattle.lock_queue.specs.declared.want.Want.{Want}
 use Rattle.queue_script.specs.declared.locks.Lock.{Lock}
-use Rattle.queue_script.specs.declared.locks.LockUse.{LockUse}
+use Rattle.lock_queue.specs.declared.terms.LockUse.{LockUse}
 use Rattle.lock_queue.specs.declared.call.LockCall.{LockCall}
 use Rattle.queue_script.specs.Commands.{call_with}
-use Rattle.queue_script.specs.Drafts.{filled, drafted}
+use Rattle.queue_script.specs.Borrowed.{filled}
 use Rattle.queue_script.specs.Locks.{lock_of, locks_of, want_of, onto_wants, wants_of, stored, call_wants}
 
 -- the wants so far, or the first refusal
@@ -142,9 +142,9 @@ gathers-all job use_ all rest count wants refusal g empty one most =
     ap (option_map (call_wants job use_)) (all-read all g.seen rest g.read empty)
     ∙ ap Some (few (length g.seen) _ _ (omega arith) (omega arith) ∙ ap stored (g.told (omega arith)))
 
--- ---- drafts
+-- ---- calls that are filled in
 
-filled-call : (make : ArrayVec Want → LockCall) (r : Option (Result (Unit {0}) Refusal)) (wants : ArrayVec Want) → option_map (call_with make) (filled r wants) ≡ drafted r (make wants)
+filled-call : (make : ArrayVec Want → LockCall) (r : Option (Result (Unit {0}) Refusal)) (wants : ArrayVec Want) → option_map (call_with make) (filled r wants) ≡ filled r (make wants)
 filled-call make None wants = refl
 filled-call make (Some (Ok u)) wants = refl
 filled-call make (Some (Err refusal)) wants = refl
@@ -153,9 +153,9 @@ read-call : (make : ArrayVec Want → LockCall) (f : List Lock → Result (Array
 read-call make f None = refl
 read-call make f (Some locks) = refl
 
-pub drafted-call : (make : ArrayVec Want → LockCall) (r : Option (Result (Unit {0}) Refusal)) (wants : ArrayVec Want) (f : List Lock → Result (ArrayVec Want) Refusal) (x : Option (List Lock)) → filled r wants ≡ option_map f x
-    → drafted r (make wants) ≡ option_map (λ locks. call_with make (f locks)) x
-drafted-call make r wants f x h = sym (filled-call make r wants) ∙ ap (option_map (call_with make)) h ∙ read-call make f x
+pub filled-for : (make : ArrayVec Want → LockCall) (r : Option (Result (Unit {0}) Refusal)) (wants : ArrayVec Want) (f : List Lock → Result (ArrayVec Want) Refusal) (x : Option (List Lock)) → filled r wants ≡ option_map f x
+    → filled r (make wants) ≡ option_map (λ locks. call_with make (f locks)) x
+filled-for make r wants f x h = sym (filled-call make r wants) ∙ ap (option_map (call_with make)) h ∙ read-call make f x
 
 -- ---- items that are all locks
 

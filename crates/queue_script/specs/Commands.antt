@@ -10,11 +10,12 @@ use Rattle.lock_queue.specs.declared.refusal.Refusal.TheVariants.{NoFunction}
 use Rattle.lock_queue.specs.declared.request.EnqueueKind.{EnqueueKind}
 use Rattle.lock_queue.specs.declared.request.EnqueueKind.TheVariants.{Blocking, AtOnce, Interrupt}
 use Rattle.lock_queue.specs.declared.want.Want.{Want}
+use Rattle.script_io.specs.declared.line_sessions.TheConstants.{LINE_LENGTH}
 use Rattle.queue_script.specs.Numbers.{number, parts}
 use Rattle.queue_script.specs.Options.{half_of}
 use Rattle.queue_script.specs.Locks.{locks_of, call_wants}
-use Rattle.queue_script.specs.declared.locks.LockUse.{LockUse}
-use Rattle.queue_script.specs.declared.locks.LockUse.TheVariants.{Requested, Named}
+use Rattle.lock_queue.specs.declared.terms.LockUse.{LockUse}
+use Rattle.lock_queue.specs.declared.terms.LockUse.TheVariants.{Requested, Named}
 
 -- ---- numbers
 
@@ -152,7 +153,7 @@ command_of_items (name ∷ rest) = named_command name rest
 
 -- at most 256 characters, of ASCII
 abbrev pub is_allowed : List ℕ → Bool
-is_allowed line = nat_le (length line) 256 && list_all (λ b. nat_lt b 128) line
+is_allowed line = nat_le (length line) LINE_LENGTH && list_all (λ b. nat_lt b 128) line
 
 -- empty, or a comment, which begins with a semicolon
 abbrev pub is_silent : List ℕ → Bool

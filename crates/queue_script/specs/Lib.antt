@@ -1,10 +1,11 @@
+pub mod Endings
 pub mod Numbers
 pub mod Options
 pub mod Locks
 pub mod Commands
-pub mod Drafts
+pub mod Asks
+pub mod Borrowed
 pub mod Printing
-pub mod Grants
 pub mod WaitPairs
 pub mod QueueScripts
 pub mod Listings

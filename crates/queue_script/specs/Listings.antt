@@ -5,7 +5,8 @@ use Rattle.word36.specs.Octal.{octal, word_text}
 use Rattle.mac_asm.specs.Assembly.{Assembled}
 use Rattle.mac_asm.specs.Outcome.{Fault, number_of, outcome_of}
 use Rattle.script_io.specs.Transcripts.{Transcript, closed}
-use Rattle.script_io.specs.declared.endings.Ending.TheVariants.{Done, Source}
+use Rattle.queue_script.specs.declared.endings.Ending.{Ending}
+use Rattle.queue_script.specs.declared.endings.Ending.TheVariants.{Done, Source}
 
 -- `AAAAAA LLLLLL,,RRRRRR`, a place and its word
 abbrev pub word_line : ℕ × ℕ → List ℕ
@@ -20,10 +21,10 @@ abbrev pub fault_text : Fault → List ℕ
 fault_text fault = codes "?ASM " ++ decimal fault.line ++ codes " " ++ decimal (number_of fault.code) ++ codes "\n"
 
 -- what is written on a source that comes to this
-abbrev pub listing_of : Result Assembled Fault → Transcript
+abbrev pub listing_of : Result Assembled Fault → Transcript Ending
 listing_of (Ok image) = closed (image_text image) Done
 listing_of (Err fault) = closed (fault_text fault) Source
 
 -- what is written on a source, and how that ends
-unfoldable pub listing : List ℕ → Transcript
+unfoldable pub listing : List ℕ → Transcript Ending
 listing source = listing_of (outcome_of source)

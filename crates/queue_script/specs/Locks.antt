@@ -1,23 +1,24 @@
 -- The locks of a command, and what a call wants of them (this project's profile).
-use Rattle.std.specs.Prelude.{◌==◌, ◌&&◌, ◌||◌, ◌-◌, ◌^◌, not, ℕ, Bool, false, List, [], ◌∷◌, length, Option, Some, None, Result, Ok, Err, if◌then◌else◌, option_and_then, option_map, unwrap_or, nat_le, nat_lt}
+use Rattle.std.specs.Prelude.{◌==◌, ◌&&◌, ◌||◌, ℕ, Bool, List, [], ◌∷◌, length, Option, Some, None, Result, Ok, Err, if◌then◌else◌, option_and_then, option_map, unwrap_or, nat_le}
 use Rattle.std.specs.List.{list_all}
 use Rattle.arrayvec.specs.ArrayVec.{ArrayVec}
 use Rattle.word36.specs.declared.sizes.TheConstants.{LOCKS_A_CALL, NAME_LENGTH}
-use Rattle.lock_queue.specs.Pools.{PoolShare}
+use Rattle.lock_queue.specs.Uses.{want_on}
 use Rattle.lock_queue.specs.declared.key.Key.{Key}
 use Rattle.lock_queue.specs.declared.key.Scope.TheVariants.{All, Job}
 use Rattle.lock_queue.specs.declared.name.Name.{Name}
 use Rattle.lock_queue.specs.declared.name.Name.TheVariants.{Text, Code}
 use Rattle.lock_queue.specs.declared.refusal.Refusal.{Refusal}
-use Rattle.lock_queue.specs.declared.refusal.Refusal.TheVariants.{BadCount, BadName, BadPool}
+use Rattle.lock_queue.specs.declared.refusal.Refusal.TheVariants.{BadCount, BadName}
+use Rattle.lock_queue.specs.declared.terms.LockUse.{LockUse}
+use Rattle.lock_queue.specs.declared.terms.Terms.{Terms}
 use Rattle.lock_queue.specs.declared.want.Want.{Want}
 use Rattle.queue_script.specs.Numbers.{number, parts}
 use Rattle.queue_script.specs.Options.{no_options, options_from}
 use Rattle.queue_script.specs.declared.locks.Lock.{Lock}
 use Rattle.queue_script.specs.declared.locks.LockName.{LockName}
 use Rattle.queue_script.specs.declared.locks.LockName.TheVariants.{Fitting, TooLong}
-use Rattle.queue_script.specs.declared.locks.LockUse.{LockUse}
-use Rattle.queue_script.specs.declared.locks.LockUse.TheVariants.{Requested, Named}
+use Rattle.queue_script.specs.declared.locks.TheConstants.{CODE_DIGITS, MOST_CODE}
 use Rattle.queue_script.specs.declared.options.Options.{Options}
 use Rattle.queue_script.specs.declared.options.PoolOption.{PoolOption}
 
@@ -29,9 +30,9 @@ is_name_character c =
     ((nat_le 65 c && nat_le c 90) || (nat_le 97 c && nat_le c 122))
     || ((nat_le 48 c && nat_le c 57) || ((c == 46 || c == 45) || c == 95))
 
--- 1 to 11 octal digits, a number of 33 bits
+-- 1 to 11 octal digits, a number of 33 bits at most
 abbrev pub user_code : List ℕ → Option ℕ
-user_code digits = if nat_le (length digits) 11 then number 8 (2 ^ 33 - 1) digits else None
+user_code digits = if nat_le (length digits) CODE_DIGITS then number 8 MOST_CODE digits else None
 
 -- a name of characters, which may be too long for a lock
 abbrev pub text_name : List ℕ → LockName
@@ -66,35 +67,24 @@ locks_of (item ∷ more) = option_and_then (λ lock. option_map (λ locks. lock 
 abbrev pub key_of : ℕ → Name → Bool → Key
 key_of job name own = record { scope = (if own then Job job else All); name = name }
 
--- a pool of size 0 of which 0 is wanted is none
-abbrev pub is_no_pool : PoolOption → Bool
-is_no_pool p = p.size == 0 && p.amount == 0
+-- a pool that is not given is size 0 and amount 0
+abbrev pub size_in : Option PoolOption → ℕ
+size_in None = 0
+size_in (Some pool) = pool.size
 
--- a size of 18 bits, an amount from 1 to the size, and not shared
-abbrev pub is_right_pool : Bool → PoolOption → Bool
-is_right_pool shared p = not shared && (nat_le 1 p.amount && (nat_le p.amount p.size && nat_lt p.size (2 ^ 18)))
+abbrev pub amount_in : Option PoolOption → ℕ
+amount_in None = 0
+amount_in (Some pool) = pool.amount
 
-abbrev pub checked_pool : Bool → Option PoolOption → Result (Option PoolShare) Refusal
-checked_pool shared None = Ok None
-checked_pool shared (Some p) =
-    if is_no_pool p then Ok None
-    else (if is_right_pool shared p then Ok (Some (record { size = p.size; amount = p.amount })) else Err BadPool)
-
--- the want of a request
-abbrev pub requested_want : Key → Options → Result (Option PoolShare) Refusal → Result Want Refusal
-requested_want key o (Err refusal) = Err refusal
-requested_want key o (Ok pool) =
-    Ok (record { key = key; shared = o.shared; bypass = o.bypass; level = unwrap_or o.level 0; pool = pool })
-
--- the want of a call that only names locks: bypass, level and pool are not looked at
-abbrev pub naming_want : Key → Options → Want
-naming_want key o = record { key = key; shared = o.shared; bypass = false; level = 0; pool = None }
+-- the terms that options spell; level 0 where none is given
+abbrev pub terms_of : Options → Terms
+terms_of o =
+    record { shared = o.shared; bypass = o.bypass; level = unwrap_or o.level 0; pool_size = size_in o.pool; pool_amount = amount_in o.pool }
 
 -- what a job's call wants of a lock, or why that is refused
 abbrev pub want_of_name : ℕ → LockUse → LockName → Options → Result Want Refusal
 want_of_name job use_ TooLong o = Err BadName
-want_of_name job Requested (Fitting name) o = requested_want (key_of job name o.own) o (checked_pool o.shared o.pool)
-want_of_name job Named (Fitting name) o = Ok (naming_want (key_of job name o.own) o)
+want_of_name job use_ (Fitting name) o = want_on use_ (key_of job name o.own) (terms_of o)
 
 abbrev pub want_of : ℕ → LockUse → Lock → Result Want Refusal
 want_of job use_ lock = want_of_name job use_ lock.name lock.options

@@ -1,14 +1,15 @@
 -- The options of a lock: `/S`, `/B`, `/Ln`, `/Ps:a` and `/J` (this project's profile).
-use Rattle.std.specs.Prelude.{◌==◌, ◌^◌, ◌-◌, ℕ, true, false, List, [], ◌∷◌, Option, Some, None, if◌then◌else◌, option_and_then, option_map}
+use Rattle.std.specs.Prelude.{◌==◌, ℕ, true, false, List, [], ◌∷◌, Option, Some, None, if◌then◌else◌, option_and_then, option_map}
 use Rattle.queue_script.specs.Numbers.{number, parts}
 use Rattle.queue_script.specs.declared.options.LockOption.{LockOption}
 use Rattle.queue_script.specs.declared.options.LockOption.TheVariants.{Shared, Bypass, Level, Pool, Own}
 use Rattle.queue_script.specs.declared.options.Options.{Options}
+use Rattle.queue_script.specs.declared.options.TheConstants.{MOST_HALF, MOST_LEVEL}
 use Rattle.queue_script.specs.declared.options.PoolOption.{PoolOption}
 
 -- a number of 18 bits in decimal
 abbrev pub half_of : List ℕ → Option ℕ
-half_of text = number 10 (2 ^ 18 - 1) text
+half_of text = number 10 MOST_HALF text
 
 -- the pool of two texts, its size and an amount
 abbrev pub pool_of : List (List ℕ) → Option PoolOption
@@ -28,7 +29,7 @@ option_of (letter ∷ rest) =
     if letter == 83 then alone Shared rest
     else (if letter == 66 then alone Bypass rest
     else (if letter == 74 then alone Own rest
-    else (if letter == 76 then option_map Level (number 10 511 rest)
+    else (if letter == 76 then option_map Level (number 10 MOST_LEVEL rest)
     else (if letter == 80 then option_map Pool (pool_of (parts 58 rest))
     else None))))
 

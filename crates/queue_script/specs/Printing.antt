@@ -7,6 +7,7 @@ use Rattle.lock_queue.specs.Refusals.{code_of}
 use Rattle.lock_queue.specs.StatusWords.{owner_word, count_word}
 use Rattle.lock_queue.specs.declared.call.LockReply.{LockReply}
 use Rattle.lock_queue.specs.declared.call.LockReply.TheVariants.{Granted, Queued, Done, Refused}
+use Rattle.lock_queue.specs.declared.grant.Grant.{Grant}
 use Rattle.lock_queue.specs.declared.key.Scope.{Scope}
 use Rattle.lock_queue.specs.declared.key.Scope.TheVariants.{All, Job}
 use Rattle.lock_queue.specs.declared.name.Name.{Name}
@@ -33,8 +34,8 @@ reply_line Queued = codes "WAIT\n"
 reply_line (Refused refusal) = code_line refusal
 
 -- `GRANT j id`
-abbrev pub grant_line : Request → List ℕ
-grant_line r = codes "GRANT " ++ decimal r.job ++ codes " " ++ decimal r.id ++ codes "\n"
+abbrev pub grant_line : Grant → List ℕ
+grant_line grant = codes "GRANT " ++ decimal grant.job ++ codes " " ++ decimal grant.id ++ codes "\n"
 
 -- a line of three words
 abbrev pub status_line : Status → List ℕ

@@ -1,28 +1,24 @@
 -- The transcript of a script on the lock queue (this project's profile).
-use Rattle.std.specs.Prelude.{ℕ, ◌+◌, Bool, List, [], ◌∷◌, ◌++◌, Option, Some, None, Result, Ok, Err, if◌then◌else◌, codes, length, nat_le, ◌&&◌}
-use Rattle.std.proofs.Common.{◌≡◌, ◌<◌, ◌∙◌, ap, cond, arith, append-nil}
-use Rattle.std.proofs.lemmas.Bool.Decides.{nat_tests}
+use Rattle.std.specs.Prelude.{ℕ, ◌+◌, List, [], ◌∷◌, ◌++◌, Option, Some, None, Result, Ok, Err, if◌then◌else◌, codes}
+use Rattle.std.specs.List.{flat_map}
 use Rattle.std.specs.Str.Lines.{lines}
 use Rattle.arrayvec.specs.ArrayVec.{ArrayVec}
 use Rattle.lock_queue.specs.Calls.{outcome_of}
 use Rattle.lock_queue.specs.Jobs.{is_waiting_job, released}
-use Rattle.lock_queue.specs.Outcomes.{Outcome}
+use Rattle.lock_queue.specs.Grants.{woken_by, woken_by_release}
 use Rattle.lock_queue.specs.Queue.{granted}
 use Rattle.lock_queue.specs.StatusWords.{status_of}
 use Rattle.lock_queue.specs.declared.call.LockCall.{LockCall}
-use Rattle.lock_queue.specs.declared.call.LockCall.TheVariants.{DequeueAll}
-use Rattle.lock_queue.specs.declared.call.LockReply.{LockReply}
-use Rattle.lock_queue.specs.declared.call.LockReply.TheVariants.{Granted, Queued, Done, Refused}
 use Rattle.lock_queue.specs.declared.refusal.Refusal.{Refusal}
 use Rattle.lock_queue.specs.declared.request.Request.{Request}
 use Rattle.lock_queue.specs.declared.want.Want.{Want}
 use Rattle.queue_script.specs.Commands.{Asked, nothing, call, status, free, show, waits, quit, command_of}
-use Rattle.queue_script.specs.Grants.{waiting_before, grants_from}
-use Rattle.queue_script.specs.Printing.{code_line, reply_line, status_line, request_line}
-use Rattle.script_io.specs.Transcripts.{Transcript, after, closed, unless_ended, script_fault}
+use Rattle.queue_script.specs.Printing.{code_line, grant_line, reply_line, status_line, request_line}
+use Rattle.script_io.specs.Transcripts.{Transcript, after, closed, unless_ended}
 use Rattle.queue_script.specs.WaitPairs.{waits_text}
-use Rattle.script_io.specs.declared.endings.Ending.{Ending}
-use Rattle.script_io.specs.declared.endings.Ending.TheVariants as ending
+use Rattle.queue_script.specs.Endings.{script_fault}
+use Rattle.queue_script.specs.declared.endings.Ending.{Ending}
+use Rattle.queue_script.specs.declared.endings.Ending.TheVariants as ending
 
 -- what a line does: the requests afterwards, what it writes, and how the script ends, if it ends there
 pub record Effect : Type 0 where
@@ -36,20 +32,12 @@ goes requests text = record { requests = requests; text = text; ending = None }
 
 -- ---- calls
 
--- what a call that was made writes behind its answer: the grants
-abbrev pub grants_after : LockReply → List Bool → List Request → List ℕ
-grants_after Done waiting requests = grants_from requests 0 waiting requests
-grants_after Granted waiting requests = []
-grants_after Queued waiting requests = []
-grants_after (Refused refusal) waiting requests = []
-
-abbrev pub made : List Bool → Outcome → Effect
-made waiting o = goes o.requests (reply_line o.reply ++ grants_after o.reply waiting o.requests)
-
--- a job's call on the queue, where it was not refused before
+-- a job's call on the queue, where it was not refused before: its answer, and the grants that it makes
 abbrev pub call_effect : List Request → ℕ → Result LockCall Refusal → Effect
 call_effect requests job (Err refusal) = goes requests (code_line refusal)
-call_effect requests job (Ok asked) = made (waiting_before requests job asked) (outcome_of requests job asked)
+call_effect requests job (Ok asked) =
+    goes (outcome_of requests job asked).requests
+    (reply_line (outcome_of requests job asked).reply ++ flat_map grant_line (woken_by requests job asked))
 
 -- a job that waits does nothing
 abbrev pub unless_busy : List Request → ℕ → Effect → Effect
@@ -58,8 +46,7 @@ unless_busy requests job e = if is_waiting_job requests job then goes requests (
 -- all requests of a job leave
 abbrev pub free_effect : List Request → ℕ → Effect
 free_effect requests job =
-    goes (released requests job)
-    (codes "OK\n" ++ grants_from (released requests job) 0 (waiting_before requests job DequeueAll) (released requests job))
+    goes (released requests job) (codes "OK\n" ++ flat_map grant_line (woken_by_release requests job))
 
 -- ---- looking
 
@@ -95,29 +82,15 @@ effect_of n requests (Some waits) = goes requests (waits_text requests)
 effect_of n requests (Some quit) = record { requests = requests; text = []; ending = Some ending.Done }
 
 -- the line's text, and then what follows, unless the script ends
-abbrev pub continued : Effect → (List Request → Transcript) → Transcript
+abbrev pub continued : Effect → (List Request → Transcript Ending) → Transcript Ending
 continued e rest = after e.text (unless_ended e.ending (rest e.requests))
 
 -- what lines write, where n lines have come and left these requests
-abbrev pub transcript_of : List Request → ℕ → List (List ℕ) → Transcript
+abbrev pub transcript_of : List Request → ℕ → List (List ℕ) → Transcript Ending
 transcript_of requests n [] = closed [] ending.Done
 transcript_of requests n (line ∷ more) =
     continued (effect_of (n + 1) requests (command_of line)) (λ next. transcript_of next (n + 1) more)
 
--- a line that is too long is not in the grammar
-over_limit : (n most : ℕ) (a : Bool) (x : Option Asked) → most < n → cond (nat_le n most && a) x None ≡ None
-over_limit n most a x h = grind (arith, nat_tests)
-
-command_of-too_long : (line : List ℕ) → 256 < length line → command_of line ≡ None
-unfolding command_of
-command_of-too_long line h = over_limit (length line) 256 _ _ h
-
-pub transcript_of-too_long : (requests : List Request) (n : ℕ) (line : List ℕ) (more : List (List ℕ)) → 256 < length line
-    → transcript_of requests n (line ∷ more) ≡ script_fault (n + 1)
-transcript_of-too_long requests n line more h =
-    ap (λ c. continued (effect_of (n + 1) requests c) (λ next. transcript_of next (n + 1) more)) (command_of-too_long line h)
-    ∙ ap (λ l. closed l ending.Script) (append-nil (script_fault (n + 1)).text)
-
 -- what a script writes, and how it ends
-unfoldable pub transcript : List ℕ → Transcript
+unfoldable pub transcript : List ℕ → Transcript Ending
 transcript bytes = transcript_of [] 0 (lines bytes)

@@ -1,11 +1,13 @@
 //! The service of `lockmon asm`: a source is assembled, and its listing written.
-ghost use Rattle.std.specs.Prelude.{◌≡◌, ◌≤◌, ◌^◌, false};
+ghost use Rattle.std.specs.Prelude.{◌≡◌, ◌≤◌, ◌^◌, false, IfErr};
 ghost use Rattle.script_io.specs.Serves.{Serves, Blames};
+ghost use Rattle.queue_script.specs.Endings.{served_as};
 ghost use Rattle.queue_script.specs.Listings.{listing};
 
+use crate::endings::{Ending, ServeError, serve_script};
 use crate::listings::{push_asm_fault, push_image};
 use mac_asm::{AsmError, assemble};
-use script_io::{ByteIn, ByteOut, Ending, ServeError, TextService, TextSession, serve_session};
+use script_io::{ByteIn, ByteOut, TextService, TextSession};
 use std::alloc::{AllocError, Global};
 
 /// The assembler, as a service of texts.
@@ -15,6 +17,8 @@ struct Assembler {
 }
 
 impl TextService for Assembler {
+    type Ending = Ending;
+
     ghost transcript = { λ s source. listing source };
 
     #[tactic(auto, unfolding(crate::specs::Listings::listing))]
@@ -44,9 +48,9 @@ pub fn serve_asm<R: ByteIn, W: ByteOut>(
     requires reader_sound { R.has_failed reader.old ≡ false }
     requires writer_sound { W.has_failed writer.old ≡ false }
     requires few { R.reads_left reader.old ≤ 2 ^ 63 }
-    ensures serves { Serves listing (R.to_come reader.old) (R.to_come reader.new) (W.written writer.old) (W.written writer.new) result }
-    ensures blames { Blames result (R.has_failed reader.new) (W.has_failed writer.new) }
+    ensures serves { Serves listing (R.to_come reader.old) (R.to_come reader.new) (W.written writer.old) (W.written writer.new) (served_as result) }
+    ensures blames { IfErr (served_as result) (λ e. Blames e (R.has_failed reader.new) (W.has_failed writer.new)) }
 {
     let mut session = TextSession::new(alloc, Assembler { alloc });
-    serve_session(alloc, &mut session, reader, writer)
+    serve_script(alloc, &mut session, reader, writer)
 }

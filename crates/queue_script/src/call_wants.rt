@@ -1,11 +1,11 @@
 //! The wants of a call.
 ghost use Rattle.std.specs.Prelude.{◌≡◌, option_map};
-ghost use Rattle.queue_script.specs.Drafts.{filled};
+ghost use Rattle.queue_script.specs.Borrowed.{filled};
 ghost use Rattle.queue_script.specs.Locks.{locks_of, call_wants};
 
-use crate::locks::{LockUse, read_lock};
+use crate::locks::read_lock;
 use crate::parts::Parts;
-use lock_queue::{Refusal, Wants};
+use lock_queue::{LockUse, Refusal, Wants};
 use word36::LOCKS_A_CALL;
 
 /// Fills in the wants that the items of a line spell, or says why the call is refused; None where

@@ -1,36 +1,28 @@
 //! The commands of a script on the lock queue.
-ghost use Rattle.std.specs.Prelude.{◌≡◌, nat_lt, is_some, option_map};
+ghost use Rattle.std.specs.Prelude.{◌≡◌, nat_lt, is_some};
 ghost use Rattle.std.specs.List.{list_all};
-ghost use Rattle.lock_queue.specs.declared.call.LockCall.{LockCall as LockCallView};
-ghost use Rattle.queue_script.specs.declared.locks.LockUse.TheVariants.{Named};
-ghost use Rattle.queue_script.specs.Locks.{locks_of, call_wants};
-ghost use Rattle.queue_script.specs.Drafts.{asked_by, asked_by_line};
-ghost use Rattle.queue_script.specs.Commands.{job_of, asked_call, asked_status, request_call, change_call, release_call, unknown_call, release_all_call, release_id_call, enqueue_of, dequeue_of, status_of_items, free_of, bare, command_of_items, is_allowed, is_silent, command_of};
+ghost use Rattle.queue_script.specs.Borrowed.{lent_by, asked_by, asked_by_line};
+ghost use Rattle.queue_script.specs.Commands.{job_of, enqueue_call, dequeue_call, unknown_call, enqueue_of, dequeue_of, status_of_items, free_of, bare, command_of_items, is_allowed, is_silent, command_of};
+ghost use Rattle.queue_script.specs.Locks.{locks_of};
 
-use crate::drafts::{Drafts, draft_change, draft_release, draft_request};
+use crate::call_room::CallRoom;
 use crate::locks::read_lock;
 use crate::numbers::number;
 use crate::options::read_half;
 use crate::parts::Parts;
-use lock_queue::{EnqueueKind, LockCall, Refusal, RequestId};
+use lock_queue::{EnqueueKind, LockCall, Refusal, RequestId, Wants};
 use script_io::LINE_LENGTH;
 use word36::JOBS;
 
-/// What a line asks for, with its call drafted beside it.
-#[derive(Clone, Copy, Debug, PartialEq, Eq)]
-pub enum Command {
+/// What a line asks for. The locks that it names stand in the room that it was read into.
+#[derive(Clone, Copy)]
+pub enum Command<'a> {
     /// Nothing: the line is empty or a comment.
     Nothing,
-    /// ENQ 0 to 2 of a job: the request of the drafts.
-    Request(u8),
-    /// ENQ 3 or DEQ of a job: the other call of the drafts.
-    Names(u8),
-    /// ENQ or DEQ of a job that is refused before it is made.
-    Refused(u8, Refusal),
-    /// STAT: what a job is told of the locks that the call of the drafts names.
-    Status(u8),
-    /// STAT of a job that is refused.
-    StatusRefused(u8, Refusal),
+    /// ENQ or DEQ of a job: its call, or why it is refused before it is made.
+    Call(u8, Result<&'a LockCall, Refusal>),
+    /// STAT: what a job is told of these locks, or why it is told nothing.
+    Status(u8, Result<&'a Wants, Refusal>),
     /// FREE: all requests of a job leave.
     Free(u8),
     /// SHOW: the requests.
@@ -49,45 +41,6 @@ fn read_job(text: &[u8]) -> Option<u8>
     if job == 0 { None } else { Some(job as u8) }
 }
 
-/// What follows ENQ, a job and the function of a request.
-fn read_request(
-    drafts: &mut Drafts,
-    kind: EnqueueKind,
-    id: RequestId,
-    job: u8,
-    items: Parts<'_>,
-) -> Option<Command>
-    ensures { asked_by_line drafts.new.request drafts.new.names result ≡ asked_call job (request_call kind id job items.entry) }
-{
-    match draft_request(&mut drafts.request, kind, id, job, items) {
-        None => None,
-        Some(Ok(())) => Some(Command::Request(job)),
-        Some(Err(refusal)) => Some(Command::Refused(job, refusal)),
-    }
-}
-
-/// What follows ENQ, a job and the function of a change.
-fn read_change(drafts: &mut Drafts, job: u8, items: Parts<'_>) -> Option<Command>
-    ensures { asked_by_line drafts.new.request drafts.new.names result ≡ asked_call job (change_call job items.entry) }
-{
-    match draft_change(&mut drafts.names, job, items) {
-        None => None,
-        Some(Ok(())) => Some(Command::Names(job)),
-        Some(Err(refusal)) => Some(Command::Refused(job, refusal)),
-    }
-}
-
-/// What follows DEQ, a job and function 0.
-fn read_release(drafts: &mut Drafts, job: u8, items: Parts<'_>) -> Option<Command>
-    ensures { asked_by_line drafts.new.request drafts.new.names result ≡ asked_call job (release_call job items.entry) }
-{
-    match draft_release(&mut drafts.names, job, items) {
-        None => None,
-        Some(Ok(())) => Some(Command::Names(job)),
-        Some(Err(refusal)) => Some(Command::Refused(job, refusal)),
-    }
-}
-
 /// Whether all items are locks.
 fn are_locks(mut items: Parts<'_>) -> bool
     ensures { result ≡ is_some (locks_of items.entry) }
@@ -101,92 +54,88 @@ fn are_locks(mut items: Parts<'_>) -> bool
     true
 }
 
-/// What follows a job and a function that there is not.
-fn read_unknown(job: u8, items: Parts<'_>) -> Option<Command>
-    ensures { (request names : LockCallView) → asked_by_line request names result ≡ asked_call job (unknown_call items.entry) }
+/// The call of a function that there is not: it is refused, whatever its locks.
+fn unknown_call<'a>(items: Parts<'_>) -> Option<Result<&'a LockCall, Refusal>>
+    ensures { lent_by result ≡ unknown_call items.entry }
 {
     if are_locks(items) {
-        Some(Command::Refused(job, Refusal::NoFunction))
+        Some(Err(Refusal::NoFunction))
     } else {
         None
     }
 }
 
-/// What follows DEQ, a job and function 1.
-fn read_release_all(drafts: &mut Drafts, job: u8, items: Parts<'_>) -> Option<Command>
-    ensures { asked_by_line drafts.new.request drafts.new.names result ≡ asked_call job (release_all_call items.entry) }
+/// The call of ENQ with this function.
+#[inline(always)]
+fn enqueue_call<'a>(
+    room: &'a mut CallRoom,
+    function: u32,
+    id: RequestId,
+    job: u8,
+    items: Parts<'_>,
+) -> Option<Result<&'a LockCall, Refusal>>
+    ensures { lent_by result ≡ enqueue_call function id job items.entry }
 {
-    if !items.is_empty() {
-        return None;
+    match function {
+        0 => room.request(EnqueueKind::Blocking, id, job, items),
+        1 => room.request(EnqueueKind::AtOnce, id, job, items),
+        2 => room.request(EnqueueKind::Interrupt, id, job, items),
+        3 => room.change(job, items),
+        _ => unknown_call(items),
     }
-    drafts.names = LockCall::DequeueAll;
-    Some(Command::Names(job))
-}
-
-/// What follows DEQ, a job and function 2.
-fn read_release_id(drafts: &mut Drafts, job: u8, mut items: Parts<'_>) -> Option<Command>
-    ensures { asked_by_line drafts.new.request drafts.new.names result ≡ asked_call job (release_id_call items.entry) }
-{
-    let id = items.next()?;
-    if !items.is_empty() {
-        return None;
-    }
-    let id = RequestId::new(read_half(id)?);
-    drafts.names = LockCall::DequeueId(id);
-    Some(Command::Names(job))
 }
 
 /// What follows ENQ.
-fn read_enqueue(drafts: &mut Drafts, mut items: Parts<'_>) -> Option<Command>
-    ensures { asked_by_line drafts.new.request drafts.new.names result ≡ enqueue_of items.entry }
+fn read_enqueue<'a>(room: &'a mut CallRoom, mut items: Parts<'_>) -> Option<Command<'a>>
+    ensures { asked_by_line result ≡ enqueue_of items.entry }
 {
     let job = read_job(items.next()?)?;
     let function = read_half(items.next()?)?;
     let id = RequestId::new(read_half(items.next()?)?);
+    let call = enqueue_call(room, function, id, job, items)?;
+    Some(Command::Call(job, call))
+}
+
+/// The call of DEQ with this function.
+#[inline(always)]
+fn dequeue_call<'a>(
+    room: &'a mut CallRoom,
+    function: u32,
+    job: u8,
+    items: Parts<'_>,
+) -> Option<Result<&'a LockCall, Refusal>>
+    ensures { lent_by result ≡ dequeue_call function job items.entry }
+{
     match function {
-        0 => read_request(drafts, EnqueueKind::Blocking, id, job, items),
-        1 => read_request(drafts, EnqueueKind::AtOnce, id, job, items),
-        2 => read_request(drafts, EnqueueKind::Interrupt, id, job, items),
-        3 => read_change(drafts, job, items),
-        _ => read_unknown(job, items),
+        0 => room.release(job, items),
+        1 => room.release_all(items),
+        2 => room.release_id(items),
+        _ => unknown_call(items),
     }
 }
 
 /// What follows DEQ.
-fn read_dequeue(drafts: &mut Drafts, mut items: Parts<'_>) -> Option<Command>
-    ensures { asked_by_line drafts.new.request drafts.new.names result ≡ dequeue_of items.entry }
+fn read_dequeue<'a>(room: &'a mut CallRoom, mut items: Parts<'_>) -> Option<Command<'a>>
+    ensures { asked_by_line result ≡ dequeue_of items.entry }
 {
     let job = read_job(items.next()?)?;
-    match read_half(items.next()?)? {
-        0 => read_release(drafts, job, items),
-        1 => read_release_all(drafts, job, items),
-        2 => read_release_id(drafts, job, items),
-        _ => read_unknown(job, items),
-    }
-}
-
-/// What follows STAT and a job.
-fn read_keys(drafts: &mut Drafts, job: u8, items: Parts<'_>) -> Option<Command>
-    ensures { asked_by_line drafts.new.request drafts.new.names result ≡ asked_status job (option_map (call_wants job Named) (locks_of items.entry)) }
-{
-    match draft_release(&mut drafts.names, job, items) {
-        None => None,
-        Some(Ok(())) => Some(Command::Status(job)),
-        Some(Err(refusal)) => Some(Command::StatusRefused(job, refusal)),
-    }
+    let function = read_half(items.next()?)?;
+    let call = dequeue_call(room, function, job, items)?;
+    Some(Command::Call(job, call))
 }
 
 /// What follows STAT.
-fn read_status(drafts: &mut Drafts, mut items: Parts<'_>) -> Option<Command>
-    ensures { asked_by_line drafts.new.request drafts.new.names result ≡ status_of_items items.entry }
+fn read_status<'a>(room: &'a mut CallRoom, mut items: Parts<'_>) -> Option<Command<'a>>
+    ensures { asked_by_line result ≡ status_of_items items.entry }
 {
     let job = read_job(items.next()?)?;
-    read_keys(drafts, job, items)
+    let keys = room.keys(job, items)?;
+    Some(Command::Status(job, keys))
 }
 
 /// What follows FREE.
-fn read_free(mut items: Parts<'_>) -> Option<Command>
-    ensures { (request names : LockCallView) → asked_by_line request names result ≡ free_of items.entry }
+fn read_free<'a>(mut items: Parts<'_>) -> Option<Command<'a>>
+    ensures { asked_by_line result ≡ free_of items.entry }
 {
     let job = items.next()?;
     if !items.is_empty() {
@@ -196,8 +145,8 @@ fn read_free(mut items: Parts<'_>) -> Option<Command>
 }
 
 /// A command that stands alone.
-fn bare(command: Command, items: Parts<'_>) -> Option<Command>
-    ensures { (request names : LockCallView) → asked_by_line request names result ≡ bare (asked_by request names command) items.entry }
+fn bare<'a>(command: Command<'a>, items: Parts<'_>) -> Option<Command<'a>>
+    ensures { asked_by_line result ≡ bare (asked_by command.entry) items.entry }
 {
     if items.is_empty() {
         Some(command)
@@ -207,16 +156,16 @@ fn bare(command: Command, items: Parts<'_>) -> Option<Command>
 }
 
 /// The command of a line's items.
-fn read_items(drafts: &mut Drafts, mut items: Parts<'_>) -> Option<Command>
-    ensures { asked_by_line drafts.new.request drafts.new.names result ≡ command_of_items items.entry }
+fn read_items<'a>(room: &'a mut CallRoom, mut items: Parts<'_>) -> Option<Command<'a>>
+    ensures { asked_by_line result ≡ command_of_items items.entry }
 {
     let name = items.next()?;
     if name == b"ENQ".as_slice() {
-        read_enqueue(drafts, items)
+        read_enqueue(room, items)
     } else if name == b"DEQ".as_slice() {
-        read_dequeue(drafts, items)
+        read_dequeue(room, items)
     } else if name == b"STAT".as_slice() {
-        read_status(drafts, items)
+        read_status(room, items)
     } else if name == b"FREE".as_slice() {
         read_free(items)
     } else if name == b"SHOW".as_slice() {
@@ -251,10 +200,11 @@ pub fn is_silent(line: &[u8]) -> bool
     line.is_empty() || line[0] == b';'
 }
 
-/// What a line asks for, if it is in the grammar, with its call drafted.
+/// What a line asks for, if it is in the grammar. The locks that it names stand in the room, whatever
+/// stood there before.
 #[tactic(auto, unfolding(crate::specs::Commands::command_of))]
-pub fn read_command(drafts: &mut Drafts, line: &[u8]) -> Option<Command>
-    ensures { asked_by_line drafts.new.request drafts.new.names result ≡ command_of line.now }
+pub fn read_command<'a>(room: &'a mut CallRoom, line: &[u8]) -> Option<Command<'a>>
+    ensures { asked_by_line result ≡ command_of line.now }
 {
     if !is_allowed(line) {
         return None;
@@ -262,5 +212,5 @@ pub fn read_command(drafts: &mut Drafts, line: &[u8]) -> Option<Command>
     if is_silent(line) {
         return Some(Command::Nothing);
     }
-    read_items(drafts, Parts::of(line, b' '))
+    read_items(room, Parts::of(line, b' '))
 }

@@ -2,10 +2,10 @@
 #![tactic(auto)]
 
 mod asm_sources;
+mod call_room;
 mod call_wants;
 mod commands;
-mod drafts;
-mod grants;
+mod endings;
 mod listings;
 mod locks;
 mod numbers;
@@ -17,6 +17,7 @@ mod wait_pairs;
 
 pub use asm_sources::serve_asm;
 pub use commands::{is_allowed, is_silent};
+pub use endings::{Ending, ServeError, push_fault, serve_script};
 pub use listings::{octal_digits, push_asm_fault};
 pub use numbers::number;
 pub use options::read_half;
@@ -24,7 +25,7 @@ pub use parts::Parts;
 pub use printing::{push_code, push_escaped, push_request, push_word};
 pub use queue_scripts::{push_requests, serve_queue};
 pub use script_io::{
-    ByteIn, ByteOut, Ending, Failed, HostIn, HostOut, LineService, LineSession, ServeError,
-    Session, TestIn, TestOut, serve_session, write_all,
+    ByteIn, ByteOut, Failed, HostIn, HostOut, LINE_LENGTH, LineService, LineSession, Session,
+    TestIn, TestOut, write_all,
 };
 pub use wait_pairs::push_waits;

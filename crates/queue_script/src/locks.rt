@@ -3,12 +3,12 @@ ghost use Rattle.std.specs.Prelude.{◌≡◌, ◌<◌, ◌≤◌, length, ◌^�
 ghost use Rattle.std.specs.List.{list_all};
 ghost use Rattle.queue_script.specs.Options.{no_options};
 ghost use Rattle.queue_script.specs.Numbers.{parts};
-ghost use Rattle.queue_script.specs.Locks.{is_name_character, user_code, name_of_characters, name_of, lock_of, checked_pool, want_of, key_of};
+ghost use Rattle.queue_script.specs.Locks.{is_name_character, user_code, name_of_characters, name_of, lock_of, want_of, key_of};
 
 use crate::numbers::number;
-use crate::options::{Options, PoolOption, read_options};
+use crate::options::{Options, read_options};
 use crate::parts::Parts;
-use lock_queue::{Key, Level, Name, NameText, Pool, Refusal, Scope, UserCode, Want};
+use lock_queue::{Key, LockUse, Name, NameText, Refusal, Scope, UserCode, Want};
 use std::str;
 
 /// The largest user code, a number of 33 bits.
@@ -24,15 +24,6 @@ pub enum LockName {
     Fitting(Name),
     /// A text that is too long for a name.
     TooLong,
-}
-
-/// What a call wants of its locks.
-#[derive(Clone, Copy, Debug, PartialEq, Eq)]
-pub enum LockUse {
-    /// It asks for them: all options count.
-    Requested,
-    /// It names them: bypass, level and pool are not looked at.
-    Named,
 }
 
 /// A lock as the script spells it.
@@ -77,9 +68,7 @@ fn read_text(text: &[u8]) -> Option<LockName>
     if !has_name_characters(text) {
         return None;
     }
-    let Ok(text) = str::from_utf8(text) else {
-        return None;
-    };
+    let text = str::from_utf8(text).unwrap();
     match NameText::new(text) {
         Some(name) => Some(LockName::Fitting(Name::Text(name))),
         None => Some(LockName::TooLong),
@@ -87,6 +76,7 @@ fn read_text(text: &[u8]) -> Option<LockName>
 }
 
 /// The name that a text spells.
+#[inline(always)]
 fn read_name(text: &[u8]) -> Option<LockName>
     ensures { result ≡ name_of text.now }
 {
@@ -101,6 +91,7 @@ fn read_name(text: &[u8]) -> Option<LockName>
 }
 
 /// The lock that an item of a line spells.
+#[inline(always)]
 pub fn read_lock(item: &[u8]) -> Option<Lock>
     ensures { result ≡ lock_of item.now }
 {
@@ -108,25 +99,6 @@ pub fn read_lock(item: &[u8]) -> Option<Lock>
     let name = read_name(texts.next()?)?;
     let options = read_options(texts)?;
     Some(Lock { name, options })
-}
-
-/// The pool that a request's option asks for, if it does.
-fn checked_pool(shared: bool, pool: Option<PoolOption>) -> Result<Option<Pool>, Refusal>
-    ensures { result ≡ checked_pool shared pool }
-{
-    let Some(PoolOption { size, amount }) = pool else {
-        return Ok(None);
-    };
-    if size == 0 && amount == 0 {
-        return Ok(None);
-    }
-    if shared {
-        return Err(Refusal::BadPool);
-    }
-    match Pool::new(size, amount) {
-        Some(pool) => Ok(Some(pool)),
-        None => Err(Refusal::BadPool),
-    }
 }
 
 /// The key of a name.
@@ -139,6 +111,7 @@ fn key_of(job: u8, name: Name, own: bool) -> Key
 
 impl Lock {
     /// What a job's call wants of the lock, or why that is refused.
+    #[inline(always)]
     pub fn into_want(self, job: u8, lock_use: LockUse) -> Result<Want, Refusal>
         ensures { result ≡ want_of job lock_use self }
     {
@@ -148,26 +121,6 @@ impl Lock {
             LockName::TooLong => return Err(Refusal::BadName),
         };
         let key = key_of(job, name, options.own);
-        match lock_use {
-            LockUse::Requested => {
-                let pool = checked_pool(options.shared, options.pool)?;
-                Ok(Want {
-                    key,
-                    shared: options.shared,
-                    bypass: options.bypass,
-                    level: options.level.unwrap_or(Level::new(0)),
-                    pool,
-                })
-            }
-            LockUse::Named => {
-                Ok(Want {
-                    key,
-                    shared: options.shared,
-                    bypass: false,
-                    level: Level::new(0),
-                    pool: None,
-                })
-            }
-        }
+        Want::on(lock_use, key, options.terms())
     }
 }

@@ -1,11 +1,12 @@
 //! The options of a lock.
 ghost use Rattle.std.specs.Prelude.{◌≡◌, ◌^◌, ◌<◌, IfSome};
 ghost use Rattle.queue_script.specs.Numbers.{parts};
+ghost use Rattle.queue_script.specs.Locks.{terms_of};
 ghost use Rattle.queue_script.specs.Options.{half_of, option_of, pool_of, with_option, options_from, no_options};
 
 use crate::numbers::number;
 use crate::parts::Parts;
-use lock_queue::Level;
+use lock_queue::{Level, Terms};
 
 /// The largest level.
 const MOST_LEVEL: u64 = 0o777;
@@ -53,6 +54,7 @@ pub struct Options {
 }
 
 /// A number of 18 bits in decimal.
+#[inline(always)]
 pub fn read_half(text: &[u8]) -> Option<u32>
     ensures value { result ≡ half_of text.now }
     ensures small { IfSome result (λ n. n < 2 ^ 18) }
@@ -107,6 +109,23 @@ impl Options {
         }
     }
 
+    /// The terms that they spell: a level or a pool that is not given is 0.
+    pub fn terms(self) -> Terms
+        ensures { result ≡ terms_of self }
+    {
+        let (pool_size, pool_amount) = match self.pool {
+            None => (0, 0),
+            Some(pool) => (pool.size, pool.amount),
+        };
+        Terms {
+            shared: self.shared,
+            bypass: self.bypass,
+            level: self.level.unwrap_or(Level::new(0)),
+            pool_size,
+            pool_amount,
+        }
+    }
+
     /// These and one more, which is not among them.
     fn with(self, option: LockOption) -> Option<Self>
         ensures { result ≡ with_option self option }
@@ -139,6 +158,7 @@ impl Options {
 }
 
 /// The options that all texts spell, each behind a `/`.
+#[inline(always)]
 pub fn read_options(mut texts: Parts<'_>) -> Option<Options>
     ensures { result ≡ options_from no_options texts.entry }
 {

@@ -6,7 +6,7 @@ ghost use Rattle.queue_script.specs.Printing.{code_line, reply_line, grant_line,
 
 use crate::locks::is_name_character;
 use lock_queue::{
-    EnqueueKind, Level, LockReply, Name, Pool, Refusal, Request, Scope, Status, Want,
+    EnqueueKind, Grant, Level, LockReply, Name, Pool, Refusal, Request, Scope, Status, Want,
 };
 use script_io::push_decimal;
 use std::alloc::AllocError;
@@ -42,14 +42,25 @@ pub fn push_reply(out: &mut Vec<u8>, reply: LockReply) -> Result<(), AllocError>
 
 /// Adds `GRANT j id`.
 #[tactic(auto, using(std::proofs::Common::append_assoc))]
-pub fn push_grant(out: &mut Vec<u8>, request: &Request) -> Result<(), AllocError>
-    ensures { OnOk result (out.new.items ≡ out.old.items ++ grant_line request.now) }
+pub fn push_grant(out: &mut Vec<u8>, grant: Grant) -> Result<(), AllocError>
+    ensures { OnOk result (out.new.items ≡ out.old.items ++ grant_line grant) }
 {
     out.extend_from_slice(b"GRANT ")?;
-    push_decimal(out, request.job)?;
+    push_decimal(out, grant.job)?;
     out.push(b' ')?;
-    push_decimal(out, request.id.number())?;
+    push_decimal(out, grant.id.number())?;
     out.push(b'\n')?;
+    Ok(())
+}
+
+/// Adds the lines of the grants that a call made.
+#[inline(always)]
+pub fn push_grants(out: &mut Vec<u8>, grants: &[Grant]) -> Result<(), AllocError>
+    ensures { OnOk result (out.new.items ≡ out.old.items ++ flat_map grant_line grants.now) }
+{
+    for grant in grants {
+        push_grant(out, *grant)?;
+    }
     Ok(())
 }
 

@@ -1,106 +1,78 @@
 //! Scripts on the lock queue.
-ghost use Rattle.std.specs.Prelude.{◌≡◌, ◌+◌, ◌^◌, ◌≤◌, ◌++◌, ◌∷◌, [], ℕ, List, Ok, Err, false, OnOk, IfOk};
+ghost use Rattle.std.specs.Prelude.{◌≡◌, ◌+◌, ◌^◌, ◌≤◌, ◌++◌, ◌∷◌, [], ℕ, List, Ok, Err, false, OnOk, IfOk, IfErr, IsTrue};
 ghost use Rattle.std.specs.Str.Lines.{lines};
-ghost use Rattle.queue_script.specs.QueueScripts.{effect_of, call_effect, unless_busy, grants_after, free_effect, statuses, show_text, transcript_of, transcript_of-too_long, transcript};
-ghost use Rattle.queue_script.specs.Drafts.{asked_by_line, wants_in};
+ghost use Rattle.queue_script.specs.QueueScripts.{effect_of, call_effect, unless_busy, free_effect, statuses, status_text, show_text, transcript_of, transcript};
+ghost use Rattle.queue_script.specs.Asks.{asks_right};
+ghost use Rattle.queue_script.specs.Borrowed.{asked_by_line, lent};
+ghost use Rattle.lock_queue.specs.WellFormed.{is_call};
+ghost use Rattle.queue_script.specs.Endings.{script_fault, served_as};
 ghost use Rattle.script_io.specs.Serves.{Serves, Blames};
 
+use crate::call_room::CallRoom;
 use crate::commands::{Command, read_command};
-use crate::drafts::Drafts;
-use crate::grants::{Waiting, push_grants, waiting_before};
-use crate::printing::{push_code, push_reply, push_request, push_status};
+use crate::endings::{Ending, ServeError, push_fault, serve_script};
+use crate::printing::{push_code, push_grants, push_reply, push_request, push_status};
 use crate::wait_pairs::push_waits;
-use lock_queue::{LockCall, LockReply, LockTable, PlainTable, Refusal, Want};
-use script_io::{
-    ByteIn, ByteOut, Ending, LineService, LineSession, ServeError, push_fault, serve_session,
-};
+use lock_queue::{LockCall, LockTable, PlainTable, Refusal, Want, Wants, Woken};
+use script_io::{ByteIn, ByteOut, LineService, LineSession};
 use std::alloc::{AllocError, Global};
 
-/// Adds the lines of the requests that a call granted, which answered this.
-fn push_grants_after<L: LockTable>(
-    out: &mut Vec<u8>,
-    table: &L,
-    reply: LockReply,
-    waiting: &Waiting,
-) -> Result<(), AllocError>
-    ensures { OnOk result (out.new.items ≡ out.old.items ++ grants_after reply waiting.now.items (L.requests table.now)) }
-{
-    match reply {
-        LockReply::Done => push_grants(out, table, waiting),
-        LockReply::Granted | LockReply::Queued | LockReply::Refused(_) => Ok(()),
-    }
-}
-
-/// Makes a call of a job that does not wait.
+/// Makes a call of a job that does not wait, and adds its answer and the grants that it makes.
 #[tactic(auto, using(std::proofs::Common::append_assoc))]
 fn make_call<L: LockTable>(
     table: &mut L,
     job: u8,
     call: &LockCall,
-    waiting: &mut Waiting,
+    woken: &mut Woken,
     out: &mut Vec<u8>,
 ) -> Result<(), AllocError>
+    requires { IsTrue (is_call job call.now) }
     ensures requests { OnOk result (L.requests table.new ≡ (call_effect (L.requests table.old) job (Ok call.now)).requests) }
     ensures text { OnOk result (out.new.items ≡ out.old.items ++ (call_effect (L.requests table.old) job (Ok call.now)).text) }
 {
-    waiting_before(table, job, call, waiting);
-    let reply = table.call(job, call);
+    let reply = table.call_waking(job, call, woken);
     push_reply(out, reply)?;
-    push_grants_after(out, table, reply, waiting)
+    push_grants(out, woken.as_slice())
 }
 
-/// Makes a call of a job, unless it waits.
+/// Makes a call of a job, or says why it is refused before it is made, unless the job waits.
 fn call_unless_busy<L: LockTable>(
     table: &mut L,
     job: u8,
-    call: &LockCall,
-    waiting: &mut Waiting,
+    asked: Result<&LockCall, Refusal>,
+    woken: &mut Woken,
     out: &mut Vec<u8>,
 ) -> Result<(), AllocError>
+    requires { IfOk (lent asked) (λ call. IsTrue (is_call job call)) }
     ensures requests { OnOk result (L.requests table.new
-        ≡ (unless_busy (L.requests table.old) job (call_effect (L.requests table.old) job (Ok call.now))).requests) }
+        ≡ (unless_busy (L.requests table.old) job (call_effect (L.requests table.old) job (lent asked.entry))).requests) }
     ensures text { OnOk result (out.new.items
-        ≡ out.old.items ++ (unless_busy (L.requests table.old) job (call_effect (L.requests table.old) job (Ok call.now))).text) }
+        ≡ out.old.items ++ (unless_busy (L.requests table.old) job (call_effect (L.requests table.old) job (lent asked.entry))).text) }
 {
     if table.waiting(job) {
         out.extend_from_slice(b"BUSY\n")?;
         return Ok(());
     }
-    make_call(table, job, call, waiting, out)
-}
-
-/// Refuses a call of a job, unless it waits.
-fn refuse_unless_busy<L: LockTable>(
-    table: &L,
-    job: u8,
-    refusal: Refusal,
-    out: &mut Vec<u8>,
-) -> Result<(), AllocError>
-    ensures { OnOk result (out.new.items
-        ≡ out.old.items ++ (unless_busy (L.requests table.now) job (call_effect (L.requests table.now) job (Err refusal))).text) }
-{
-    if table.waiting(job) {
-        out.extend_from_slice(b"BUSY\n")?;
-        return Ok(());
+    match asked {
+        Ok(call) => make_call(table, job, call, woken, out),
+        Err(refusal) => push_code(out, refusal),
     }
-    push_code(out, refusal)
 }
 
-/// Takes out all requests of a job.
+/// Takes out all requests of a job, and adds the grants that this makes.
 #[tactic(auto, using(std::proofs::Common::append_assoc))]
 fn free<L: LockTable>(
     table: &mut L,
     job: u8,
-    waiting: &mut Waiting,
+    woken: &mut Woken,
     out: &mut Vec<u8>,
 ) -> Result<(), AllocError>
     ensures requests { OnOk result (L.requests table.new ≡ (free_effect (L.requests table.old) job).requests) }
     ensures text { OnOk result (out.new.items ≡ out.old.items ++ (free_effect (L.requests table.old) job).text) }
 {
-    waiting_before(table, job, &LockCall::DequeueAll, waiting);
-    table.release(job);
+    table.release_waking(job, woken);
     out.extend_from_slice(b"OK\n")?;
-    push_grants(out, table, waiting)
+    push_grants(out, woken.as_slice())
 }
 
 /// Adds a line for the key of each want.
@@ -119,19 +91,18 @@ fn push_statuses<L: LockTable>(
     Ok(())
 }
 
-/// Adds what a job is told of the keys that a call names.
-fn push_statuses_of<L: LockTable>(
+/// Adds what a job is told of the keys of some wants, or why it is told nothing.
+fn push_status_text<L: LockTable>(
     out: &mut Vec<u8>,
     table: &L,
     job: u8,
-    call: &LockCall,
+    wants: Result<&Wants, Refusal>,
 ) -> Result<(), AllocError>
-    ensures { OnOk result (out.new.items ≡ out.old.items ++ statuses (L.requests table.now) job (wants_in call.now).items) }
+    ensures { OnOk result (out.new.items ≡ out.old.items ++ status_text (L.requests table.now) job (lent wants.entry)) }
 {
-    match call {
-        LockCall::Enqueue { wants, .. } | LockCall::Modify(wants) | LockCall::DequeueNamed(wants) =>
-            { push_statuses(out, table, job, wants.as_slice()) }
-        LockCall::DequeueAll | LockCall::DequeueId(_) => Ok(()),
+    match wants {
+        Ok(wants) => push_statuses(out, table, job, wants.as_slice()),
+        Err(refusal) => push_code(out, refusal),
     }
 }
 
@@ -147,22 +118,22 @@ pub fn push_requests<L: LockTable>(out: &mut Vec<u8>, table: &L) -> Result<(), A
     Ok(())
 }
 
-/// Does what a line asks for, with its call drafted, and adds what it writes. It answers an ending
-/// where the script ends there.
+/// Does what a line asks for, and adds what it writes. It answers an ending where the script ends
+/// there.
 fn perform<L: LockTable>(
     table: &mut L,
     number: u128,
-    command: Option<Command>,
-    drafts: &Drafts,
-    waiting: &mut Waiting,
+    command: Option<Command<'_>>,
+    woken: &mut Woken,
     out: &mut Vec<u8>,
 ) -> Result<Option<Ending>, AllocError>
+    requires { IsTrue (asks_right (asked_by_line command)) }
     ensures requests { OnOk result (L.requests table.new
-        ≡ (effect_of number (L.requests table.old) (asked_by_line drafts.now.request drafts.now.names command)).requests) }
+        ≡ (effect_of number (L.requests table.old) (asked_by_line command.entry)).requests) }
     ensures text { OnOk result (out.new.items
-        ≡ out.old.items ++ (effect_of number (L.requests table.old) (asked_by_line drafts.now.request drafts.now.names command)).text) }
+        ≡ out.old.items ++ (effect_of number (L.requests table.old) (asked_by_line command.entry)).text) }
     ensures ending { IfOk result (λ ending. ending
-        ≡ (effect_of number (L.requests table.old) (asked_by_line drafts.now.request drafts.now.names command)).ending) }
+        ≡ (effect_of number (L.requests table.old) (asked_by_line command.entry)).ending) }
 {
     match command {
         None => {
@@ -171,16 +142,9 @@ fn perform<L: LockTable>(
         }
         Some(Command::Quit) => return Ok(Some(Ending::Done)),
         Some(Command::Nothing) => {}
-        Some(Command::Request(job)) => {
-            call_unless_busy(table, job, &drafts.request, waiting, out)?;
-        }
-        Some(Command::Names(job)) => {
-            call_unless_busy(table, job, &drafts.names, waiting, out)?;
-        }
-        Some(Command::Refused(job, refusal)) => refuse_unless_busy(table, job, refusal, out)?,
-        Some(Command::Status(job)) => push_statuses_of(out, table, job, &drafts.names)?,
-        Some(Command::StatusRefused(_, refusal)) => push_code(out, refusal)?,
-        Some(Command::Free(job)) => free(table, job, waiting, out)?,
+        Some(Command::Call(job, asked)) => call_unless_busy(table, job, asked, woken, out)?,
+        Some(Command::Status(job, wants)) => push_status_text(out, table, job, wants)?,
+        Some(Command::Free(job)) => free(table, job, woken, out)?,
         Some(Command::Show) => push_requests(out, table)?,
         Some(Command::Waits) => push_waits(out, table)?,
     }
@@ -191,8 +155,8 @@ fn perform<L: LockTable>(
 #[derive(Drop)]
 pub struct QueueService<L: LockTable> {
     table: L,
-    drafts: Drafts,
-    waiting: Waiting,
+    room: CallRoom,
+    woken: Woken,
 }
 
 impl<L: LockTable> QueueService<L> {
@@ -202,13 +166,15 @@ impl<L: LockTable> QueueService<L> {
     {
         QueueService {
             table,
-            drafts: Drafts::new(),
-            waiting: Waiting::new(),
+            room: CallRoom::new(),
+            woken: Woken::new(),
         }
     }
 }
 
 impl<L: LockTable> LineService for QueueService<L> {
+    type Ending = Ending;
+
     ghost follow_lines = { λ s n lines. transcript_of (L.requests s.table) n lines };
 
     fn take_line(
@@ -217,22 +183,18 @@ impl<L: LockTable> LineService for QueueService<L> {
         line: &[u8],
         out: &mut Vec<u8>,
     ) -> Result<Option<Ending>, AllocError> {
-        let command = read_command(&mut self.drafts, line);
-        perform(
-            &mut self.table,
-            number,
-            command,
-            &self.drafts,
-            &mut self.waiting,
-            out,
-        )
+        let command = read_command(&mut self.room, line);
+        perform(&mut self.table, number, command, &mut self.woken, out)
+    }
+
+    fn refuse_line(&mut self, number: u128, out: &mut Vec<u8>) -> Result<Ending, AllocError> {
+        push_fault(out, number)?;
+        Ok(Ending::Script)
     }
 
     fn end_lines(&mut self, _number: u128, _out: &mut Vec<u8>) -> Result<Ending, AllocError> {
         Ok(Ending::Done)
     }
-
-    ghost too_long = { λ s n line more h. transcript_of-too_long (L.requests s.table) n line more h };
 }
 
 /// Serves a script on a lock queue that is empty at first: reads it, and writes its transcript.
@@ -245,8 +207,8 @@ pub fn serve_queue<R: ByteIn, W: ByteOut>(
     requires reader_sound { R.has_failed reader.old ≡ false }
     requires writer_sound { W.has_failed writer.old ≡ false }
     requires few { R.reads_left reader.old ≤ 2 ^ 63 }
-    ensures serves { Serves transcript (R.to_come reader.old) (R.to_come reader.new) (W.written writer.old) (W.written writer.new) result }
-    ensures blames { Blames result (R.has_failed reader.new) (W.has_failed writer.new) }
+    ensures serves { Serves transcript (R.to_come reader.old) (R.to_come reader.new) (W.written writer.old) (W.written writer.new) (served_as result) }
+    ensures blames { IfErr (served_as result) (λ e. Blames e (R.has_failed reader.new) (W.has_failed writer.new)) }
 {
     let table = match PlainTable::new(alloc) {
         Ok(table) => table,
@@ -254,5 +216,5 @@ pub fn serve_queue<R: ByteIn, W: ByteOut>(
     };
     let service = QueueService::new(table);
     let mut session = LineSession::new(service);
-    serve_session(alloc, &mut session, reader, writer)
+    serve_script(alloc, &mut session, reader, writer)
 }

@@ -1,6 +1,7 @@
 //! Who waits for whom.
 ghost use Rattle.std.specs.Prelude.{◌≡◌, ◌++◌, ◌<◌, ◌/◌, ◌%◌, ◌&&◌, ◌||◌, OnOk, ℕ, false, slice_index_or};
-ghost use Rattle.queue_script.specs.WaitPairs.{pair_line, waits_text, pairs_text, pair_in, leads_to, circle_job, circle_jobs, or_none, jobs};
+ghost use Rattle.lock_queue.specs.Waits.{leads_to, jobs};
+ghost use Rattle.queue_script.specs.WaitPairs.{pair_line, waits_text, pairs_text, pair_in, circle_job, circle_jobs, or_none};
 ghost use Rattle.std.specs.List.{flat_map, list_any};
 ghost use Rattle.lock_queue.specs.Jobs.{waits_for};
 

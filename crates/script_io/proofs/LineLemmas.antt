@@ -6,9 +6,7 @@ use Rattle.std.specs.List.{All, slice_split, onto_first}
 use Rattle.std.specs.Str.Lines.{lines, lines_of_parts, strip_carriage_return}
 use Rattle.std.proofs.lemmas.List.Splits.{slice_split_at, slice_split_none, slice_split-cons_no, length-slice_split}
 use Rattle.std.proofs.lemmas.List.Elements.{All-append, All-head, All-tail}
-use Rattle.script_io.specs.declared.endings.Ending.{Ending}
-use Rattle.script_io.specs.declared.endings.Ending.TheVariants.{Script}
-use Rattle.script_io.specs.Transcripts.{Transcript, after, closed, unless_ended, script_fault}
+use Rattle.script_io.specs.Transcripts.{Transcript, after, closed, unless_ended}
 
 abbrev newline : ℕ → Bool
 newline b = b == 10
@@ -57,7 +55,7 @@ long_parts front more (x ∷ t) none h e =
 -- ---- steps of a session
 
 -- LF comes
-pub line_ended : (rest rest' : ℕ → List (List ℕ) → Transcript) (old new line line' given more : List ℕ) (n m : ℕ) (o ending : Option Ending)
+pub line_ended : {E : Type 0} (rest rest' : ℕ → List (List ℕ) → Transcript E) (old new line line' given more : List ℕ) (n m : ℕ) (o ending : Option E)
     → All (λ b. newline b ≡ false) line → o ≡ None → m ≡ n + 1 → given ≡ strip_carriage_return line → line' ≡ []
     → ((ls : List (List ℕ)) → after old (rest (m - 1) (given ∷ ls)) ≡ after new (unless_ended ending (rest' m ls)))
     → after old (unless_ended o (rest n (lines (line ++ 10 ∷ more)))) ≡ after new (unless_ended ending (rest' m (lines (line' ++ more))))
@@ -70,7 +68,7 @@ line_ended rest rest' old new line line' given more n m o ending none unended nu
     ∙ ap (λ l. after new (unless_ended ending (rest' m (lines (l ++ more))))) (sym empty)
 
 -- a whole line comes where nothing was kept
-pub line_came : (rest rest' : ℕ → List (List ℕ) → Transcript) (old new kept line given more : List ℕ) (n m : ℕ) (o ending : Option Ending)
+pub line_came : {E : Type 0} (rest rest' : ℕ → List (List ℕ) → Transcript E) (old new kept line given more : List ℕ) (n m : ℕ) (o ending : Option E)
     → kept ≡ [] → All (λ b. newline b ≡ false) line → o ≡ None → m ≡ n + 1 → given ≡ strip_carriage_return line
     → ((ls : List (List ℕ)) → after old (rest (m - 1) (given ∷ ls)) ≡ after new (unless_ended ending (rest' m ls)))
     → after old (unless_ended o (rest n (lines (kept ++ (line ++ 10 ∷ more))))) ≡ after new (unless_ended ending (rest' m (lines (kept ++ more))))
@@ -79,45 +77,45 @@ line_came rest rest' old new kept line given more n m o ending empty none unende
     ∙ line_ended rest rest' old new line kept given more n m o ending none unended number is empty taken
 
 -- bytes come without LF that have no room
-pub line_refused : (rest : ℕ → List (List ℕ) → Transcript) (old new line bytes more : List ℕ) (n m : ℕ) (o : Option Ending)
-    → ((k : ℕ) (first : List ℕ) (ls : List (List ℕ)) → 256 < length first → rest k (first ∷ ls) ≡ script_fault (k + 1))
+pub line_refused : {E : Type 0} (rest : ℕ → List (List ℕ) → Transcript E) (old new line bytes more : List ℕ) (n m : ℕ) (o : Option E) (e : E)
     → All (λ b. newline b ≡ false) line → All (λ b. newline b ≡ false) bytes → 257 < length line + length bytes → o ≡ None → m ≡ n + 1
-    → new ≡ old ++ (script_fault m).text
-    → after old (unless_ended o (rest n (lines (line ++ (bytes ++ more))))) ≡ after new (closed [] Script)
-line_refused rest old new line bytes more n m o faults none other long unended number written =
+    → ((first : List ℕ) (ls : List (List ℕ)) → 256 < length first → after old (rest (m - 1) (first ∷ ls)) ≡ closed new e)
+    → after old (unless_ended o (rest n (lines (line ++ (bytes ++ more))))) ≡ after new (closed [] e)
+line_refused rest old new line bytes more n m o e none other long unended number refused =
     let none' = All-append (λ b. newline b ≡ false) line bytes none other in
     let l = long_parts (line ++ bytes) more (slice_split newline more) none' (omega (arith, length-append line bytes)) refl in
+    let before : n ≡ m - 1 = omega arith in
     ap (λ x. after old (unless_ended x (rest n (lines (line ++ (bytes ++ more)))))) unended
     ∙ ap (λ b. after old (rest n (lines b))) (sym (append_assoc line bytes more))
     ∙ ap (λ ls. after old (rest n ls)) l.2
-    ∙ ap (after old) (faults n l.0 l.1 l.3)
-    ∙ ap (λ k. after old (script_fault k)) (sym number)
-    ∙ ap (λ t. closed t Script) (sym written ∙ sym (append-nil new))
+    ∙ ap (λ k. after old (rest k (l.0 ∷ l.1))) before
+    ∙ refused l.0 l.1 l.3
+    ∙ ap (λ t. closed t e) (sym (append-nil new))
 
 -- bytes come without LF
-pub bytes_kept : (rest : ℕ → List (List ℕ) → Transcript) (old line line' bytes more : List ℕ) (n : ℕ) (o : Option Ending) → line' ≡ line ++ bytes
+pub bytes_kept : {E : Type 0} (rest : ℕ → List (List ℕ) → Transcript E) (old line line' bytes more : List ℕ) (n : ℕ) (o : Option E) → line' ≡ line ++ bytes
     → after old (unless_ended o (rest n (lines (line ++ (bytes ++ more))))) ≡ after old (unless_ended o (rest n (lines (line' ++ more))))
 bytes_kept rest old line line' bytes more n o e =
     ap (λ l. after old (unless_ended o (rest n (lines l)))) (sym (append_assoc line bytes more) ∙ ap (λ l. l ++ more) (sym e))
 
 -- bytes that begin with a line
-pub begins_with_line : (rest : List ℕ → Transcript) (old bytes front back more : List ℕ) → bytes ≡ front ++ 10 ∷ back
+pub begins_with_line : {E : Type 0} (rest : List ℕ → Transcript E) (old bytes front back more : List ℕ) → bytes ≡ front ++ 10 ∷ back
     → after old (rest (bytes ++ more)) ≡ after old (rest (front ++ 10 ∷ (back ++ more)))
 begins_with_line rest old bytes front back more e =
     ap (λ l. after old (rest l)) (ap (λ l. l ++ more) e ∙ append_assoc front (10 ∷ back) more)
 
 -- ---- the end of the input
 
-pub finished_ended : (old : List ℕ) (o : Option Ending) (e : Ending) (t : Transcript) → o ≡ Some e → after old (unless_ended o t) ≡ closed old e
+pub finished_ended : {E : Type 0} (old : List ℕ) (o : Option E) (e : E) (t : Transcript E) → o ≡ Some e → after old (unless_ended o t) ≡ closed old e
 finished_ended old o e t h = ap (λ x. after old (unless_ended x t)) h ∙ ap (λ l. closed l e) (append-nil old)
 
-pub finished_empty : (rest : ℕ → List (List ℕ) → Transcript) (old new line : List ℕ) (n : ℕ) (o : Option Ending) (e : Ending) → o ≡ None → length line ≡ 0
+pub finished_empty : {E : Type 0} (rest : ℕ → List (List ℕ) → Transcript E) (old new line : List ℕ) (n : ℕ) (o : Option E) (e : E) → o ≡ None → length line ≡ 0
     → after old (rest n []) ≡ closed new e → after old (unless_ended o (rest n (lines (line ++ [])))) ≡ closed new e
 finished_empty rest old new [] n o e unended short ends = ap (λ x. after old (unless_ended x (rest n []))) unended ∙ ends
 finished_empty rest old new (b ∷ bs) n o e unended short ends = absurd (omega arith)
 
 -- the last line has no LF
-pub finished_line : (rest rest' : ℕ → List (List ℕ) → Transcript) (old new given line : List ℕ) (n m : ℕ) (o ending : Option Ending)
+pub finished_line : {E : Type 0} (rest rest' : ℕ → List (List ℕ) → Transcript E) (old new given line : List ℕ) (n m : ℕ) (o ending : Option E)
     → All (λ b. newline b ≡ false) line → o ≡ None → (length line ≡ 0 → ⊥) → m ≡ n + 1 → given ≡ line
     → ((ls : List (List ℕ)) → after old (rest (m - 1) (given ∷ ls)) ≡ after new (unless_ended ending (rest' m ls)))
     → after old (unless_ended o (rest n (lines (line ++ [])))) ≡ after new (unless_ended ending (rest' m []))
@@ -130,7 +128,7 @@ finished_line rest rest' old new given line n m o ending none unended some numbe
     ∙ taken []
 
 -- the last line ends the script
-pub finished_with : (rest rest' : ℕ → List (List ℕ) → Transcript) (old new given line : List ℕ) (n m : ℕ) (o : Option Ending) (e : Ending)
+pub finished_with : {E : Type 0} (rest rest' : ℕ → List (List ℕ) → Transcript E) (old new given line : List ℕ) (n m : ℕ) (o : Option E) (e : E)
     → All (λ b. newline b ≡ false) line → o ≡ None → (length line ≡ 0 → ⊥) → m ≡ n + 1 → given ≡ line
     → ((ls : List (List ℕ)) → after old (rest (m - 1) (given ∷ ls)) ≡ after new (unless_ended (Some e) (rest' m ls)))
     → after old (unless_ended o (rest n (lines (line ++ [])))) ≡ closed new e
@@ -138,7 +136,7 @@ finished_with rest rest' old new given line n m o e none unended some number is 
     finished_line rest rest' old new given line n m o (Some e) none unended some number is taken ∙ ap (λ l. closed l e) (append-nil new)
 
 -- the last line does not
-pub finished_after : {E : Type 0} (rest rest' : ℕ → List (List ℕ) → Transcript) (r : Result Ending E) (old new out given line : List ℕ) (n m : ℕ) (o : Option Ending)
+pub finished_after : {E F : Type 0} (rest rest' : ℕ → List (List ℕ) → Transcript E) (r : Result E F) (old new out given line : List ℕ) (n m : ℕ) (o : Option E)
     → All (λ b. newline b ≡ false) line → o ≡ None → (length line ≡ 0 → ⊥) → m ≡ n + 1 → given ≡ line
     → ((ls : List (List ℕ)) → after old (rest (m - 1) (given ∷ ls)) ≡ after new (unless_ended None (rest' m ls)))
     → IfOk r (λ e. after new (rest' m []) ≡ closed out e)

@@ -1,12 +1,59 @@
 //! Ports over std's readers and writers.
-ghost use Rattle.std.specs.Prelude.{◌≡◌, ◌^◌, false};
+ghost use Rattle.std.specs.Prelude.{◌≡◌, ◌^◌, ◌<◌, IsErr, IfErr, IsTrue, ◌↔◌, IsErrAnd, false, length};
+ghost use Rattle.std.specs.Io.{ReadsAtMost, WritesAtMost};
+ghost use Rattle.std.specs.Io.KnownBytes.{ReadConsumes, WriteAppends};
+ghost use Rattle.std.specs.IoError.{error_kind};
 ghost use Rattle.script_io.specs.Ports.{Reads, Writes};
 
 use crate::ports::{ByteIn, ByteOut, Failed};
+use std::io;
 use std::io::{ErrorKind, Read, Write};
 
-/// How often the reader is asked, at most.
-const MOST_READS: u64 = 1 << 63;
+/// How often the reader is asked, and the writer at each write, at most.
+const MOST_TRIES: u64 = 1 << 63;
+
+/// Whether a read or a write was interrupted, so that it is to be made again.
+fn is_interrupted(answer: &io::Result<usize>) -> bool
+    ensures { IsTrue result ↔ IsErrAnd answer.now (λ e. error_kind e ≡ ErrorKind.Interrupted) }
+{
+    match answer {
+        Ok(_) => false,
+        Err(error) => error.kind() == ErrorKind::Interrupted,
+    }
+}
+
+/// Reads, and reads again where the reader was interrupted, as long as tries are left.
+fn read_retrying<R: Read>(inner: &mut R, tries: &mut u64, piece: &mut [u8]) -> io::Result<usize>
+    requires { 0 < tries.old }
+    ensures bound { ReadsAtMost result piece.new }
+    ensures bytes { ReadConsumes (R.remaining inner.old) (R.remaining inner.new) result piece.new }
+    ensures fewer { tries.new < tries.old }
+    ensures retried { IfErr result (λ e. error_kind e ≡ ErrorKind.Interrupted → tries.new ≡ 0) }
+{
+    'tries: loop {
+        *tries -= 1;
+        let answer = inner.read(piece);
+        if *tries == 0 || !is_interrupted(&answer) {
+            return answer;
+        }
+    }
+}
+
+/// Writes, and writes again where the writer was interrupted, as long as tries are left.
+fn write_retrying<W: Write>(inner: &mut W, tries: &mut u64, piece: &[u8]) -> io::Result<usize>
+    requires { 0 < tries.old }
+    ensures bound { WritesAtMost result piece.now }
+    ensures bytes { WriteAppends (W.contents inner.old) (W.contents inner.new) result piece.now }
+    ensures retried { IfErr result (λ e. error_kind e ≡ ErrorKind.Interrupted → tries.new ≡ 0) }
+{
+    'tries: loop {
+        *tries -= 1;
+        let answer = inner.write(piece);
+        if *tries == 0 || !is_interrupted(&answer) {
+            return answer;
+        }
+    }
+}
 
 /// The bytes of a reader. A read that was interrupted is made again; any read after the first 2^63
 /// fails.
@@ -26,7 +73,7 @@ impl<R: Read + Drop> HostIn<R> {
     {
         HostIn {
             inner,
-            reads_left: MOST_READS,
+            reads_left: MOST_TRIES,
             failed: false,
         }
     }
@@ -39,16 +86,18 @@ impl<R: Read + Drop> ByteIn for HostIn<R> {
 
     ghost has_failed = { λ s. s.failed };
 
-    fn read(&mut self, piece: &mut [u8]) -> Result<usize, Failed> {
-        'tries: while self.reads_left > 0 {
-            self.reads_left -= 1;
-            match self.inner.read(piece) {
+    fn read(&mut self, piece: &mut [u8]) -> Result<usize, Failed>
+        requires room { 0 < length piece.old }
+        requires sound { ⟦<HostIn<R> as ByteIn>⟧.has_failed self.old ≡ false }
+        ensures reads { Reads (⟦<HostIn<R> as ByteIn>⟧.to_come self.old) (⟦<HostIn<R> as ByteIn>⟧.to_come self.new)
+            (⟦<HostIn<R> as ByteIn>⟧.reads_left self.old) (⟦<HostIn<R> as ByteIn>⟧.reads_left self.new)
+            (⟦<HostIn<R> as ByteIn>⟧.has_failed self.new) result piece.new }
+        ensures spent { ⟦<HostIn<R> as ByteIn>⟧.reads_left self.old ≡ 0 → IsErr result }
+    {
+        if self.reads_left > 0 {
+            match read_retrying(&mut self.inner, &mut self.reads_left, piece) {
                 Ok(count) => return Ok(count),
-                Err(error) => {
-                    if error.kind() != ErrorKind::Interrupted {
-                        break;
-                    }
-                }
+                Err(_) => {}
             }
         }
         self.failed = true;
@@ -56,7 +105,8 @@ impl<R: Read + Drop> ByteIn for HostIn<R> {
     }
 }
 
-/// The bytes given to a writer. A write that takes none of them fails.
+/// The bytes given to a writer. A write that was interrupted is made again; one that takes no byte
+/// fails.
 #[derive(Drop)]
 pub struct HostOut<W: Drop> {
     inner: W,
@@ -82,7 +132,8 @@ impl<W: Write + Drop> ByteOut for HostOut<W> {
     ghost has_failed = { λ s. s.failed };
 
     fn write(&mut self, piece: &[u8]) -> Result<usize, Failed> {
-        match self.inner.write(piece) {
+        let mut tries = MOST_TRIES;
+        match write_retrying(&mut self.inner, &mut tries, piece) {
             Ok(count) if count > 0 => Ok(count),
             _ => {
                 self.failed = true;

@@ -1,7 +1,7 @@
 //! Ports, and the loop that serves a script of any language.
 #![tactic(auto)]
 
-mod endings;
+mod failures;
 mod host_ports;
 mod line_sessions;
 mod ports;
@@ -11,9 +11,9 @@ mod sessions;
 mod test_ports;
 mod text_sessions;
 
-pub use endings::{Ending, ServeError};
+pub use failures::ServeFailure;
 pub use host_ports::{HostIn, HostOut};
-pub use line_sessions::{LINE_LENGTH, LineService, LineSession, push_fault};
+pub use line_sessions::{LINE_LENGTH, LineService, LineSession};
 pub use ports::{ByteIn, ByteOut, Failed, write_all};
 pub use print::push_decimal;
 pub use serving::serve_session;

@@ -2,10 +2,8 @@
 ghost use Rattle.std.specs.Prelude.{◌≡◌, ◌==◌, ◌+◌, ◌-◌, ◌^◌, ◌<◌, ◌≤◌, ◌++◌, ℕ, List, [], ◌∷◌, Some, None, false, true, All, IsTrue, ◌↔◌, length, take, drop, is_some, OnOk, IfOk, IfSome, MatchOption};
 ghost use Rattle.std.specs.Str.Lines.{lines, strip_carriage_return};
 ghost use Rattle.script_io.specs.Lines.{is_no_newline};
-ghost use Rattle.script_io.specs.Transcripts.{Transcript, after, closed, unless_ended, unless_ended-same, script_fault};
+ghost use Rattle.script_io.specs.Transcripts.{Transcript, after, closed, unless_ended, unless_ended-same};
 
-use crate::endings::Ending;
-use crate::print::push_decimal;
 use crate::sessions::Session;
 use arrayvec::ArrayVec;
 use memchr::memchr;
@@ -19,9 +17,12 @@ const LINE_ROOM: usize = LINE_LENGTH + 1;
 
 /// What a script's lines do.
 pub trait LineService {
+    /// The ways in which scripts of its language end.
+    type Ending: Copy;
+
     /// What is still written, and how it ends, where so many lines have come, and these lines come
     /// and no more.
-    ghost follow_lines: { Self → ℕ → List (List ℕ) → Transcript };
+    ghost follow_lines: { Self → ℕ → List (List ℕ) → Transcript Self.Ending };
 
     /// Takes the line of this number, and adds what is written for it. It answers an ending where
     /// the script ends there.
@@ -30,17 +31,23 @@ pub trait LineService {
         number: u128,
         line: &[u8],
         out: &mut Vec<u8>,
-    ) -> Result<Option<Ending>, AllocError>
+    ) -> Result<Option<Self::Ending>, AllocError>
         requires { 0 < number }
         ensures { IfOk result (λ ending. (more : List (List ℕ)) →
             after out.old.items (follow_lines self.old (number - 1) (line.now ∷ more))
             ≡ after out.new.items (unless_ended ending (follow_lines self.new number more))) };
 
-    /// No more lines come: adds what is written then, and says how the script ends.
-    fn end_lines(&mut self, number: u128, out: &mut Vec<u8>) -> Result<Ending, AllocError>
-        ensures { IfOk result (λ ending. after out.old.items (follow_lines self.old number []) ≡ closed out.new.items ending) };
+    /// The line of this number is too long, whatever it says: adds what is written for it, and says
+    /// how the script ends.
+    fn refuse_line(&mut self, number: u128, out: &mut Vec<u8>) -> Result<Self::Ending, AllocError>
+        requires { 0 < number }
+        ensures { IfOk result (λ ending. (line : List ℕ) (more : List (List ℕ)) → LINE_LENGTH < length line →
+            after out.old.items (follow_lines self.old (number - 1) (line ∷ more)) ≡ closed out.new.items ending) };
 
-    ghost too_long: { (s : Self) (n : ℕ) (line : List ℕ) (more : List (List ℕ)) → 256 < length line → follow_lines s n (line ∷ more) ≡ script_fault (n + 1) };
+    /// No more lines come: adds what is written then, and says how the script ends.
+    fn end_lines(&mut self, number: u128, out: &mut Vec<u8>) -> Result<Self::Ending, AllocError>
+        requires { number + 1 < 2 ^ 128 }
+        ensures { IfOk result (λ ending. after out.old.items (follow_lines self.old number []) ≡ closed out.new.items ending) };
 }
 
 /// What has come of a line.
@@ -78,13 +85,13 @@ impl LineBuffer {
 
 /// A script of lines, of which some bytes have come.
 #[derive(Drop)]
-pub struct LineSession<S: Drop> {
+pub struct LineSession<S: LineService + Drop> {
     service: S,
     /// How many lines have come.
     number: u128,
     /// What has come of the next one, where it is not whole.
     line: LineBuffer,
-    ending: Option<Ending>,
+    ending: Option<S::Ending>,
 }
 
 impl<S: LineService + Drop> LineSession<S> {
@@ -151,8 +158,10 @@ impl<S: LineService + Drop> LineSession<S> {
             after out.old.items (⟦<LineSession<S> as Session>⟧.follow self.old (bytes ++ more)) ≡ after out.new.items (⟦<LineSession<S> as Session>⟧.follow self.new more)) }
     {
         self.number += 1;
-        push_fault(out, self.number)?;
-        self.ending = Some(Ending::Script);
+        match self.service.refuse_line(self.number, out) {
+            Ok(ending) => self.ending = Some(ending),
+            Err(error) => return Err(error),
+        }
         Ok(())
     }
 
@@ -193,6 +202,8 @@ impl<S: LineService + Drop> LineSession<S> {
 }
 
 impl<S: LineService + Drop> Session for LineSession<S> {
+    type Ending = S::Ending;
+
     ghost follow = { λ s bytes. unless_ended s.ending (S.follow_lines s.service s.number (lines (s.line.bytes.items ++ bytes))) };
 
     ghost has_ended = { λ s. is_some s.ending };
@@ -219,7 +230,7 @@ impl<S: LineService + Drop> Session for LineSession<S> {
         }
     }
 
-    fn finish(&mut self, out: &mut Vec<u8>) -> Result<Ending, AllocError> {
+    fn finish(&mut self, out: &mut Vec<u8>) -> Result<S::Ending, AllocError> {
         match self.ending {
             Some(ending) => return Ok(ending),
             None => {}
@@ -259,14 +270,4 @@ fn without_return(line: &[u8]) -> &[u8]
         [front @ .., b'\r'] => front,
         _ => line,
     }
-}
-
-/// Writes that the line of this number is not in the grammar.
-pub fn push_fault(out: &mut Vec<u8>, number: u128) -> Result<(), AllocError>
-    ensures { OnOk result (out.new.items ≡ out.old.items ++ (script_fault number).text) }
-{
-    out.extend_from_slice(b"?SCRIPT ")?;
-    push_decimal(out, number)?;
-    out.push(b'\n')?;
-    Ok(())
 }

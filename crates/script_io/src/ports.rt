@@ -21,7 +21,7 @@ pub trait ByteIn {
     fn read(&mut self, piece: &mut [u8]) -> Result<usize, Failed>
         requires room { 0 < length piece.old }
         requires sound { has_failed self.old ≡ false }
-        ensures { Reads (to_come self.old) (to_come self.new) (reads_left self.old)
+        ensures reads { Reads (to_come self.old) (to_come self.new) (reads_left self.old)
             (reads_left self.new) (has_failed self.new) result piece.new };
 }
 
@@ -35,9 +35,9 @@ pub trait ByteOut {
 
     /// Writes a beginning of a piece, at least one byte, and says how many.
     fn write(&mut self, piece: &[u8]) -> Result<usize, Failed>
-        requires full { 0 < length piece.now }
+        requires some { 0 < length piece.now }
         requires sound { has_failed self.old ≡ false }
-        ensures { Writes (written self.old) (written self.new) (has_failed self.new) result piece.now };
+        ensures writes { Writes (written self.old) (written self.new) (has_failed self.new) result piece.now };
 }
 
 /// Writes all of the bytes, or a beginning of them where the port fails.

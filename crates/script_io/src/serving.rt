@@ -2,9 +2,9 @@
 ghost use Rattle.std.specs.Prelude.{◌≡◌, ◌≢◌, ◌+◌, ◌*◌, ◌^◌, ◌<◌, ◌≤◌, ◌++◌, ◌⊎◌, ℕ, List, [], Ok, Err, true, false, length, take, drop, MatchResult, OnOk, OnErr, IfOk, IfErr};
 ghost use Rattle.std.specs.Io.KnownBytes.{Appends, IsAtEnd};
 ghost use Rattle.script_io.specs.Transcripts.{after};
-ghost use Rattle.script_io.specs.Serves.{Serves, Goes, Stops, Sends, Cuts, Blames, IsFailure};
+ghost use Rattle.script_io.specs.Serves.{Serves, Goes, Stops, Sends, Cuts, Blames};
 
-use crate::endings::{ServeError, answer_of};
+use crate::failures::ServeFailure;
 use crate::ports::{ByteIn, ByteOut, write_all};
 use crate::sessions::Session;
 use std::alloc::Global;
@@ -16,19 +16,19 @@ const PIECE: usize = 16384;
 const KEPT_BACK: usize = 65536;
 
 /// Sends what was kept back.
-fn flush<W: ByteOut>(writer: &mut W, out: &mut Vec<u8>) -> Result<(), ServeError>
+fn flush<W: ByteOut>(writer: &mut W, out: &mut Vec<u8>) -> Result<(), ServeFailure>
     requires sound { W.has_failed writer.old ≡ false }
     ensures written { OnOk result (Appends (W.written writer.old) (W.written writer.new) out.old.items) }
     ensures sound { OnOk result ((W.has_failed writer.new ≡ false) × (out.new.items ≡ [])) }
     ensures cut { OnErr result ((n : ℕ) × Appends (W.written writer.old) (W.written writer.new) (take n out.old.items)) }
-    ensures failed { IfErr result (λ e. (W.has_failed writer.new ≡ true) × (e ≡ ServeError.Write)) }
+    ensures failed { IfErr result (λ e. (W.has_failed writer.new ≡ true) × (e ≡ ServeFailure.Write)) }
 {
     match write_all(writer, out.as_slice()) {
         Ok(()) => {
             out.clear();
             Ok(())
         }
-        Err(_) => Err(ServeError::Write),
+        Err(_) => Err(ServeFailure::Write),
     }
 }
 
@@ -39,7 +39,7 @@ fn serve_front<S: Session, W: ByteOut>(
     bytes: &[u8],
     writer: &mut W,
     out: &mut Vec<u8>,
-) -> Result<usize, ServeError>
+) -> Result<usize, ServeFailure>
     requires sound { W.has_failed writer.old ≡ false }
     requires some { 0 < length bytes.now }
     requires room { S.count session.old + length bytes.now < 2 ^ 128 }
@@ -51,11 +51,11 @@ fn serve_front<S: Session, W: ByteOut>(
     ensures sound { OnOk result (W.has_failed writer.new ≡ false) }
     ensures cuts { OnErr result (Cuts (W.written writer.old) (W.written writer.new)
         (λ more. after out.old.items (S.follow session.old (bytes.now ++ more)))) }
-    ensures blames { IfErr result (λ e. Blames (Err e) false (W.has_failed writer.new) × IsFailure e) }
+    ensures blames { IfErr result (λ e. Blames e false (W.has_failed writer.new)) }
 {
     let count = match session.feed(bytes, out) {
         Ok(count) => count,
-        Err(_) => return Err(ServeError::Memory),
+        Err(_) => return Err(ServeFailure::Memory),
     };
     if out.len() >= KEPT_BACK {
         match flush(writer, out) {
@@ -72,7 +72,7 @@ fn serve_piece<S: Session, W: ByteOut>(
     piece: &[u8],
     writer: &mut W,
     out: &mut Vec<u8>,
-) -> Result<(), ServeError>
+) -> Result<(), ServeFailure>
     requires sound { W.has_failed writer.old ≡ false }
     requires room { S.count session.old + length piece.now < 2 ^ 128 }
     requires empty { out.old.items ≡ [] }
@@ -82,7 +82,7 @@ fn serve_piece<S: Session, W: ByteOut>(
     ensures sound { OnOk result ((W.has_failed writer.new ≡ false) × (out.new.items ≡ [])) }
     ensures cuts { OnErr result (Cuts (W.written writer.old) (W.written writer.new)
         (λ more. S.follow session.old (piece.now ++ more))) }
-    ensures blames { IfErr result (λ e. Blames (Err e) false (W.has_failed writer.new) × IsFailure e) }
+    ensures blames { IfErr result (λ e. Blames e false (W.has_failed writer.new)) }
 {
     let mut rest = piece;
     while !rest.is_empty() {
@@ -101,12 +101,13 @@ fn serve_next<S: Session, R: ByteIn, W: ByteOut>(
     writer: &mut W,
     piece: &mut [u8],
     out: &mut Vec<u8>,
-) -> Result<bool, ServeError>
+) -> Result<bool, ServeFailure>
     requires reader_sound { R.has_failed reader.old ≡ false }
     requires writer_sound { W.has_failed writer.old ≡ false }
     requires room { S.count session.old + length piece.old < 2 ^ 128 }
     requires some { 0 < length piece.old }
     requires empty { out.old.items ≡ [] }
+    requires goes_on { S.has_ended session.old ≡ false }
     ensures goes { OnOk result (Goes (R.to_come reader.old) (R.to_come reader.new) (W.written writer.old) (W.written writer.new)
         (S.follow session.old) (S.follow session.new)) }
     ensures end { IfOk result (λ came. came ≡ false → IsAtEnd (R.to_come reader.new)) }
@@ -116,10 +117,10 @@ fn serve_next<S: Session, R: ByteIn, W: ByteOut>(
     ensures falls { IfOk result (λ came. came ≡ true → R.reads_left reader.new < R.reads_left reader.old) }
     ensures stops { OnErr result (Stops (R.to_come reader.old) (R.to_come reader.new) (W.written writer.old) (W.written writer.new)
         (S.follow session.old)) }
-    ensures blames { IfErr result (λ e. Blames (Err e) (R.has_failed reader.new) (W.has_failed writer.new) × IsFailure e) }
+    ensures blames { IfErr result (λ e. Blames e (R.has_failed reader.new) (W.has_failed writer.new)) }
 {
     let Ok(count) = reader.read(piece) else {
-        return Err(ServeError::Read);
+        return Err(ServeFailure::Read);
     };
     if count == 0 {
         return Ok(false);
@@ -136,7 +137,7 @@ fn serve_pieces<S: Session, R: ByteIn, W: ByteOut>(
     reader: &mut R,
     writer: &mut W,
     out: &mut Vec<u8>,
-) -> Result<(), ServeError>
+) -> Result<(), ServeFailure>
     requires reader_sound { R.has_failed reader.old ≡ false }
     requires writer_sound { W.has_failed writer.old ≡ false }
     requires room { S.count session.old + 2 ^ 14 * (R.reads_left reader.old + 1) < 2 ^ 127 }
@@ -147,7 +148,7 @@ fn serve_pieces<S: Session, R: ByteIn, W: ByteOut>(
     ensures sound { OnOk result ((W.has_failed writer.new ≡ false) × (out.new.items ≡ []) × (S.count session.new < 2 ^ 127)) }
     ensures stops { OnErr result (Stops (R.to_come reader.old) (R.to_come reader.new) (W.written writer.old) (W.written writer.new)
         (S.follow session.old)) }
-    ensures blames { IfErr result (λ e. Blames (Err e) (R.has_failed reader.new) (W.has_failed writer.new) × IsFailure e) }
+    ensures blames { IfErr result (λ e. Blames e (R.has_failed reader.new) (W.has_failed writer.new)) }
 {
     let mut piece = [0u8; PIECE];
     'pieces: loop {
@@ -162,20 +163,20 @@ fn serve_pieces<S: Session, R: ByteIn, W: ByteOut>(
     }
 }
 
-/// Serves a script of any language: reads its bytes, and writes its transcript. What a command
-/// writes goes out before the next read.
+/// Serves a script of any language: reads its bytes, writes its transcript, and answers how the
+/// script ends. What a command writes goes out before the next read.
 pub fn serve_session<S: Session, R: ByteIn, W: ByteOut>(
     alloc: Global,
     session: &mut S,
     reader: &mut R,
     writer: &mut W,
-) -> Result<(), ServeError>
+) -> Result<S::Ending, ServeFailure>
     requires reader_sound { R.has_failed reader.old ≡ false }
     requires writer_sound { W.has_failed writer.old ≡ false }
     requires few { R.reads_left reader.old ≤ 2 ^ 63 }
     requires fresh { S.count session.old ≡ 0 }
     ensures serves { Serves (S.follow session.old) (R.to_come reader.old) (R.to_come reader.new) (W.written writer.old) (W.written writer.new) result }
-    ensures blames { Blames result (R.has_failed reader.new) (W.has_failed writer.new) }
+    ensures blames { IfErr result (λ e. Blames e (R.has_failed reader.new) (W.has_failed writer.new)) }
 {
     let mut out = Vec::new(alloc);
     match serve_pieces(session, reader, writer, &mut out) {
@@ -184,10 +185,10 @@ pub fn serve_session<S: Session, R: ByteIn, W: ByteOut>(
     }
     let ending = match session.finish(&mut out) {
         Ok(ending) => ending,
-        Err(_) => return Err(ServeError::Memory),
+        Err(_) => return Err(ServeFailure::Memory),
     };
     match flush(writer, &mut out) {
-        Ok(()) => answer_of(ending),
+        Ok(()) => Ok(ending),
         Err(error) => Err(error),
     }
 }

@@ -2,13 +2,15 @@
 ghost use Rattle.std.specs.Prelude.{◌≡◌, ◌+◌, ◌^◌, ◌<◌, ◌≤◌, ◌++◌, ℕ, List, [], Bool, true, length, drop, IfOk};
 ghost use Rattle.script_io.specs.Transcripts.{Transcript, after, closed};
 
-use crate::endings::Ending;
 use std::alloc::AllocError;
 
 /// A script of which some bytes have come.
 pub trait Session {
+    /// The ways in which scripts of its language end.
+    type Ending: Copy;
+
     /// What is still written, and how it ends, where these bytes come and no more.
-    ghost follow: { Self → List ℕ → Transcript };
+    ghost follow: { Self → List ℕ → Transcript Self.Ending };
 
     /// Whether the script has ended, so that no byte is looked at.
     ghost has_ended: { Self → Bool };
@@ -31,8 +33,8 @@ pub trait Session {
             after out.old.items (follow self.old (bytes.now ++ more)) ≡ after out.new.items (follow self.new (drop n bytes.now ++ more))) };
 
     /// No more bytes come: adds what is written then, and says how the script ends.
-    fn finish(&mut self, out: &mut Vec<u8>) -> Result<Ending, AllocError>
-        requires room { count self.old + 1 < 2 ^ 128 }
+    fn finish(&mut self, out: &mut Vec<u8>) -> Result<Self::Ending, AllocError>
+        requires room { count self.old + 2 < 2 ^ 128 }
         ensures { IfOk result (λ ending. after out.old.items (follow self.old []) ≡ closed out.new.items ending) };
 
     ghost ends: { (s : Self) (a b : List ℕ) → has_ended s ≡ true → follow s a ≡ follow s b };

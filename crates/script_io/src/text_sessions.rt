@@ -2,17 +2,19 @@
 ghost use Rattle.std.specs.Prelude.{◌≡◌, ◌++◌, ℕ, List, false, IfOk};
 ghost use Rattle.script_io.specs.Transcripts.{Transcript, after, closed, never_ended-same};
 
-use crate::endings::Ending;
 use crate::sessions::Session;
 use std::alloc::{AllocError, Global};
 
 /// What a script's text does, once all of it has come.
 pub trait TextService {
+    /// The ways in which scripts of its language end.
+    type Ending: Copy;
+
     /// What is written for a text, and how it ends.
-    ghost transcript: { Self → List ℕ → Transcript };
+    ghost transcript: { Self → List ℕ → Transcript Self.Ending };
 
     /// Takes the text, adds what is written for it, and says how it ends.
-    fn take_text(&mut self, text: &[u8], out: &mut Vec<u8>) -> Result<Ending, AllocError>
+    fn take_text(&mut self, text: &[u8], out: &mut Vec<u8>) -> Result<Self::Ending, AllocError>
         ensures { IfOk result (λ ending. after out.old.items (transcript self.old text.now) ≡ closed out.new.items ending) };
 }
 
@@ -37,6 +39,8 @@ impl<S: TextService + Drop> TextSession<S> {
 }
 
 impl<S: TextService + Drop> Session for TextSession<S> {
+    type Ending = S::Ending;
+
     ghost follow = { λ s bytes. S.transcript s.service (s.text.items ++ bytes) };
 
     ghost has_ended = { λ s. false };
@@ -52,7 +56,7 @@ impl<S: TextService + Drop> Session for TextSession<S> {
         Ok(bytes.len())
     }
 
-    fn finish(&mut self, out: &mut Vec<u8>) -> Result<Ending, AllocError> {
+    fn finish(&mut self, out: &mut Vec<u8>) -> Result<S::Ending, AllocError> {
         let text = &self.text;
         self.service.take_text(text.as_slice(), out)
     }

@@ -1,7 +1,7 @@
 use Rattle.std.proofs.Common.{◌++◌, ◌∙◌, ap}
 use Rattle.queue_script.specs.Printing.{request_line}
 use Rattle.queue_script.specs.QueueScripts.{shown_from}
-use Rattle.queue_script.proofs.GrantLemmas.{shown-step}
+use Rattle.queue_script.proofs.ShownLemmas.{shown-step}
 use Rattle.queue_script.proofs.queue_scripts.push_requests.Goals as goal
 
 pub loop-i-preserved : goal.loop-i-preserved

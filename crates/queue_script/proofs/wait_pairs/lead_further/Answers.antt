@@ -1,7 +1,8 @@
 use Rattle.std.proofs.Common.{◌<◌, ◌&&◌, ◌||◌, ◌∙◌, ℕ, false, length, slice_index_or, arith}
 use Rattle.std.proofs.Math.ListN.{length-set}
 use Rattle.std.specs.List.{list_any}
-use Rattle.queue_script.specs.WaitPairs.{pair_in, jobs}
+use Rattle.lock_queue.specs.Waits.{jobs}
+use Rattle.queue_script.specs.WaitPairs.{pair_in}
 use Rattle.queue_script.proofs.PairLemmas.{set-known}
 use Rattle.queue_script.proofs.wait_pairs.lead_further.Goals as goal
 

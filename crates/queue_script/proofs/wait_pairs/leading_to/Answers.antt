@@ -1,11 +1,14 @@
 use Rattle.std.proofs.Common.{◌≡◌, ◌∙◌, arith, false, refl, sym, ap}
 use Rattle.std.specs.Prelude.{replicate}
-use Rattle.queue_script.specs.WaitPairs.{pair_in, leads_to}
+use Rattle.lock_queue.specs.Waits.{leads_to}
+use Rattle.queue_script.specs.WaitPairs.{pair_in}
 use Rattle.queue_script.proofs.PairLemmas.{all-false, leads-start, leads-step}
+use Rattle.queue_script.specs.declared.wait_pairs.TheConstants.{NUMBERS}
+use Rattle.word36.specs.declared.sizes.TheConstants.{JOBS}
 use Rattle.queue_script.proofs.wait_pairs.leading_to.Goals as goal
 
 pub loop-steps-init : goal.loop-steps-init
-loop-steps-init c = λ j h. all-false (replicate 32 false) j refl ∙ sym (leads-start (pair_in c.args.pairs.now) j c.args.target)
+loop-steps-init c = λ j h. all-false (replicate NUMBERS false) j refl ∙ sym (leads-start (pair_in c.args.pairs.now) j c.args.target)
 
 pub loop-steps-preserved : goal.loop-steps-preserved
 loop-steps-preserved c = λ j h.
@@ -13,5 +16,5 @@ loop-steps-preserved c = λ j h.
 
 pub returns : goal.returns
 returns c =
-    let end : c.loop-steps.steps ≡ 31 = omega arith in
+    let end : c.loop-steps.steps ≡ JOBS = omega arith in
     λ j h. c.loop-steps.invariant j h ∙ ap (λ n. leads_to (pair_in c.args.pairs.now) n j c.args.target) end

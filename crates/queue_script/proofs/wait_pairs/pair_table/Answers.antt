@@ -2,11 +2,12 @@ use Rattle.std.proofs.Common.{◌<◌, ◌/◌, ◌%◌, ◌∙◌, ℕ, length,
 use Rattle.std.proofs.Math.ListN.{length-set}
 use Rattle.lock_queue.specs.Jobs.{waits_for}
 use Rattle.queue_script.proofs.PairLemmas.{set-known}
+use Rattle.queue_script.specs.declared.wait_pairs.TheConstants.{NUMBERS}
 use Rattle.queue_script.proofs.wait_pairs.pair_table.Goals as goal
 
 pub loop-i-preserved : goal.loop-i-preserved
 loop-i-preserved g c =
-    let want = λ (i : ℕ). waits_for (g.L.LockTable.requests c.args.table.now) (i / 32) (i % 32) in
+    let want = λ (i : ℕ). waits_for (g.L.LockTable.requests c.args.table.now) (i / NUMBERS) (i % NUMBERS) in
     let size = c.loop-i.invariant.size in
     let within : c.loop-i.i < length c.loop-i.pairs = omega arith in
     record {

@@ -1,9 +1,10 @@
 use Rattle.std.proofs.Common.{◌≡◌, ◌<◌, ◌/◌, ◌%◌, ℕ, false, length, slice_index_or}
 use Rattle.lock_queue.specs.Jobs.{waits_for}
+use Rattle.queue_script.specs.declared.wait_pairs.TheConstants.{NUMBERS, PAIRS}
 use Rattle.queue_script.proofs.wait_pairs.pair_table.Given as goal
 
 abbrev pub invariant-loop-i : goal.invariant-loop-i
 invariant-loop-i g l = record {
-  size : length l.pairs ≡ 1024;
-  known : (k : ℕ) → k < l.i → slice_index_or l.pairs k false ≡ waits_for (g.L.LockTable.requests l.table) (k / 32) (k % 32);
+  size : length l.pairs ≡ PAIRS;
+  known : (k : ℕ) → k < l.i → slice_index_or l.pairs k false ≡ waits_for (g.L.LockTable.requests l.table) (k / NUMBERS) (k % NUMBERS);
 }

@@ -1,7 +1,9 @@
 use Rattle.std.proofs.Common.{◌++◌, ◌<◌, ◌≤◌, arith}
 use Rattle.std.specs.List.{flat_map}
-use Rattle.queue_script.specs.WaitPairs.{pair_in, circle_job, jobs}
+use Rattle.lock_queue.specs.Waits.{jobs}
+use Rattle.queue_script.specs.WaitPairs.{pair_in, circle_job}
 use Rattle.queue_script.proofs.PairLemmas.{texts-start, texts-step, texts-end}
+use Rattle.queue_script.specs.declared.wait_pairs.TheConstants.{NUMBERS}
 use Rattle.queue_script.proofs.wait_pairs.push_circle_jobs.Goals as goal
 
 pub loop-job-init : goal.loop-job-init
@@ -10,11 +12,11 @@ loop-job-init c = texts-start (circle_job (pair_in c.args.pairs.now)) c.args.out
 pub loop-job-preserved : goal.loop-job-preserved
 loop-job-preserved c =
     let f = circle_job (pair_in c.args.pairs.now) in
-    let within : c.loop-job.job < 32 = omega arith in
+    let within : c.loop-job.job < NUMBERS = omega arith in
     texts-step f c.loop-job.job c.loop-job.out.items c.push_circle_job.new.out.items (c.args.out.now.items ++ flat_map f jobs) within c.in_ok-push_circle_job.ensures c.loop-job.invariant
 
 pub returns : goal.returns
 returns c =
     let f = circle_job (pair_in c.args.pairs.now) in
-    let end : 32 ≤ c.loop-job.job = omega arith in
+    let end : NUMBERS ≤ c.loop-job.job = omega arith in
     texts-end f c.loop-job.job c.loop-job.out.items (c.args.out.now.items ++ flat_map f jobs) end c.loop-job.invariant

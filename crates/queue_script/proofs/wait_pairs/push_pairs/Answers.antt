@@ -1,7 +1,9 @@
 use Rattle.std.proofs.Common.{◌++◌, ◌<◌, ◌≤◌, ℕ, arith}
 use Rattle.std.specs.List.{flat_map}
-use Rattle.queue_script.specs.WaitPairs.{pair_line, jobs}
+use Rattle.lock_queue.specs.Waits.{jobs}
+use Rattle.queue_script.specs.WaitPairs.{pair_line}
 use Rattle.queue_script.proofs.PairLemmas.{texts-start, texts-step, texts-end}
+use Rattle.queue_script.specs.declared.wait_pairs.TheConstants.{NUMBERS}
 use Rattle.queue_script.proofs.wait_pairs.push_pairs.Goals as goal
 
 pub loop-job-init : goal.loop-job-init
@@ -13,12 +15,12 @@ pub loop-job-preserved : goal.loop-job-preserved
 loop-job-preserved g c =
     let requests = g.L.LockTable.requests c.args.table.now in
     let lines = λ (j : ℕ). flat_map (pair_line requests j) jobs in
-    let within : c.loop-job.job < 32 = omega arith in
+    let within : c.loop-job.job < NUMBERS = omega arith in
     texts-step lines c.loop-job.job c.loop-job.out.items c.push_pairs_of.new.out.items (c.args.out.now.items ++ flat_map lines jobs) within c.in_ok-push_pairs_of.ensures c.loop-job.invariant
 
 pub returns : goal.returns
 returns g c =
     let requests = g.L.LockTable.requests c.args.table.now in
     let lines = λ (j : ℕ). flat_map (pair_line requests j) jobs in
-    let end : 32 ≤ c.loop-job.job = omega arith in
+    let end : NUMBERS ≤ c.loop-job.job = omega arith in
     texts-end lines c.loop-job.job c.loop-job.out.items (c.args.out.now.items ++ flat_map lines jobs) end c.loop-job.invariant

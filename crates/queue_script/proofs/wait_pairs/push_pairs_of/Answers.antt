@@ -1,7 +1,9 @@
 use Rattle.std.proofs.Common.{◌++◌, ◌<◌, ◌≤◌, arith}
 use Rattle.std.specs.List.{flat_map}
-use Rattle.queue_script.specs.WaitPairs.{pair_line, jobs}
+use Rattle.lock_queue.specs.Waits.{jobs}
+use Rattle.queue_script.specs.WaitPairs.{pair_line}
 use Rattle.queue_script.proofs.PairLemmas.{texts-start, texts-step, texts-end}
+use Rattle.queue_script.specs.declared.wait_pairs.TheConstants.{NUMBERS}
 use Rattle.queue_script.proofs.wait_pairs.push_pairs_of.Goals as goal
 
 pub loop-other-init : goal.loop-other-init
@@ -10,11 +12,11 @@ loop-other-init g c = texts-start (pair_line (g.L.LockTable.requests c.args.tabl
 pub loop-other-preserved : goal.loop-other-preserved
 loop-other-preserved g c =
     let line = pair_line (g.L.LockTable.requests c.args.table.now) c.args.job in
-    let within : c.loop-other.other < 32 = omega arith in
+    let within : c.loop-other.other < NUMBERS = omega arith in
     texts-step line c.loop-other.other c.loop-other.out.items c.push_pair.new.out.items (c.args.out.now.items ++ flat_map line jobs) within c.in_ok-push_pair.ensures c.loop-other.invariant
 
 pub returns : goal.returns
 returns g c =
     let line = pair_line (g.L.LockTable.requests c.args.table.now) c.args.job in
-    let end : 32 ≤ c.loop-other.other = omega arith in
+    let end : NUMBERS ≤ c.loop-other.other = omega arith in
     texts-end line c.loop-other.other c.loop-other.out.items (c.args.out.now.items ++ flat_map line jobs) end c.loop-other.invariant

@@ -1,0 +1,18 @@
+//! Tests of the monitor calls and of the scheduler: rows whose results were worked out by hand, on the
+//! plain table and the plain store.
+#![tactic(auto)]
+
+#[cfg(test)]
+mod core_and_data;
+#[cfg(test)]
+mod interrupts;
+#[cfg(test)]
+mod listed;
+#[cfg(test)]
+mod locks;
+#[cfg(test)]
+mod machine;
+#[cfg(test)]
+mod schedule;
+#[cfg(test)]
+mod terminal;

@@ -1,0 +1,63 @@
+-- What a call leaves of each request, and which requests it grants (ENQ/DEQ of the TOPS-10 Monitor Calls Manual, in this
+-- project's profile).
+use Rattle.std.specs.Prelude.{ℕ, Bool, true, false, not, ◌&&◌, if◌then◌else◌, List, [], map, Option, Some, None, filter_map}
+use Rattle.lock_queue.specs.declared.call.LockCall.{LockCall}
+use Rattle.lock_queue.specs.declared.call.LockCall.TheVariants.{Enqueue, Modify, DequeueNamed, DequeueAll, DequeueId}
+use Rattle.lock_queue.specs.declared.call.LockReply.{LockReply}
+use Rattle.lock_queue.specs.declared.call.LockReply.TheVariants.{Granted, Queued, Done, Refused}
+use Rattle.lock_queue.specs.declared.grant.Grant.{Grant}
+use Rattle.lock_queue.specs.declared.request.EnqueueKind.{EnqueueKind}
+use Rattle.lock_queue.specs.declared.request.EnqueueKind.TheVariants.{Blocking, AtOnce, Interrupt}
+use Rattle.lock_queue.specs.declared.request.Request.{Request}
+use Rattle.lock_queue.specs.Calls.{outcome_of}
+use Rattle.lock_queue.specs.Changes.{changed}
+use Rattle.lock_queue.specs.Dequeues.{has_wants, without_keys_of, is_of_job, has_id}
+use Rattle.lock_queue.specs.Queue.{granted_behind, is_granted, chosen}
+
+-- a request, where it stays
+abbrev pub staying_if : Bool → Request → Option Request
+staying_if stays r = if stays then Some r else None
+
+-- what a job's call, where it is not refused, leaves of a request that is present: the request, perhaps with other wants,
+-- or nothing
+abbrev pub left_of : ℕ → LockCall → Request → Option Request
+left_of job (Enqueue kind id wants armed) r = Some r
+left_of job (Modify changes) r = Some (changed job changes.items r)
+left_of job (DequeueNamed named) r =
+    staying_if (has_wants (without_keys_of job named.items r)) (without_keys_of job named.items r)
+left_of job DequeueAll r = staying_if (not (is_of_job job r)) r
+left_of job (DequeueId id) r = staying_if (not (has_id job id r)) r
+
+-- a job is told of the grant of a request that waits, or that interrupts
+abbrev pub is_told_of : EnqueueKind → Bool
+is_told_of Blocking = true
+is_told_of AtOnce = false
+is_told_of Interrupt = true
+
+abbrev pub grant_of : Request → Grant
+grant_of r = record { job = r.job; id = r.id }
+
+-- whether a job is told of a grant of this request: it is not granted, and what is left of it is granted behind what is
+-- left of the requests before it
+abbrev pub is_woken : (Request → Option Request) → List Request → Request → Bool
+is_woken left earlier r =
+    (is_told_of r.kind && not (granted_behind earlier r)) && is_granted (filter_map left earlier) (left r)
+
+-- the grants that are made where this is left of each request, in order of arrival
+abbrev pub woken : (Request → Option Request) → List Request → List Grant
+woken left requests = map grant_of (chosen (is_woken left) requests)
+
+-- a refused call makes no grants
+abbrev pub unless_refused_grants : LockReply → List Grant → List Grant
+unless_refused_grants Granted grants = grants
+unless_refused_grants Queued grants = grants
+unless_refused_grants Done grants = grants
+unless_refused_grants (Refused refusal) grants = []
+
+-- the grants that a job's call makes of requests that were present before it
+abbrev pub woken_by : List Request → ℕ → LockCall → List Grant
+woken_by requests job call = unless_refused_grants (outcome_of requests job call).reply (woken (left_of job call) requests)
+
+-- the grants that are made when all requests of a job leave
+abbrev pub woken_by_release : List Request → ℕ → List Grant
+woken_by_release requests job = woken (left_of job DequeueAll) requests

@@ -1,0 +1,30 @@
+//! Grants that a call makes.
+ghost use Rattle.std.specs.Prelude.{◌≡◌};
+
+use crate::RequestId;
+use arrayvec::ArrayVec;
+use word36::REQUESTS;
+
+/// A request that was not granted before a call and is granted after it.
+#[derive(Clone, Copy, Debug, PartialEq, Eq)]
+pub struct Grant {
+    /// Whose request it is.
+    pub job: u8,
+    /// The number that the job gave it.
+    pub id: RequestId,
+}
+
+/// The grants that a call makes, in order of arrival of their requests.
+pub type Woken = ArrayVec<Grant, REQUESTS>;
+
+/// A grant to job 0, which fills unused places.
+impl Default for Grant {
+    ghost is_default = { λ grant. grant ≡ record { job = 0; id = 0 } };
+
+    fn default() -> Self {
+        Grant {
+            job: 0,
+            id: RequestId::new(0),
+        }
+    }
+}

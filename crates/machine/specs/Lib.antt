@@ -1,0 +1,12 @@
+pub mod Setups
+pub mod Turns
+pub mod Images
+pub mod Refusals
+pub mod Machine
+pub mod Views
+pub mod Waits
+pub mod Rounds
+pub mod Along
+pub mod Safe
+pub mod Owners
+pub mod Alone

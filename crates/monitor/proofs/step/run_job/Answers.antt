@@ -1,0 +1,13 @@
+use Rattle.std.proofs.Common.{ap}
+use Rattle.job_sched.specs.Jobs.{is_sleep}
+use Rattle.job_sched.proofs.Sleepers.{IsTable-set}
+use Rattle.monitor.proofs.step.run_job.Goals as goal
+
+-- a job that runs does not sleep
+pub invariant_of-table : goal.invariant_of-table
+invariant_of-table g c =
+    IsTable-set c.table.inside.jobs c.args.n _ c.table.inside.sleepers c.table.inside.sleepers c.table.invariant (λ e. e) (λ _. ap is_sleep c.run_turn.ensures.wait)
+
+pub invariant_of-table-in_default-run_turn : goal.invariant_of-table-in_default-run_turn
+invariant_of-table-in_default-run_turn g c =
+    IsTable-set c.table.inside.jobs c.args.n _ c.table.inside.sleepers c.table.inside.sleepers c.table.invariant (λ e. e) (λ _. ap is_sleep c.run_turn.ensures.wait)

@@ -1,0 +1,16 @@
+use Rattle.monitor_laws.proofs.Always.{always_safe, never_circle}
+use Rattle.monitor_laws.proofs.Owning.{along_owners}
+use Rattle.monitor_laws.proofs.Solitude.{runs_alone}
+use Rattle.monitor.proofs.system.System.run.Goals as goal
+
+pub returns-clause-safe : goal.returns-clause-safe
+returns-clause-safe g c = rw (← c.self.view_is) (always_safe _ c.args.events.now c.self.invariant)
+
+pub returns-clause-circles : goal.returns-clause-circles
+returns-clause-circles g c = rw (← c.self.view_is) (never_circle _ c.args.events.now c.self.invariant)
+
+pub returns-clause-owners : goal.returns-clause-owners
+returns-clause-owners g c = along_owners c.args.self.now c.args.events.now
+
+pub returns-clause-alone : goal.returns-clause-alone
+returns-clause-alone g c = rw (← c.self.view_is) (runs_alone _ c.args.events.now c.self.invariant)

@@ -1,0 +1,9 @@
+use Rattle.std.proofs.Common.{◌≡◌}
+use Rattle.monitor_laws.proofs.Turning.{some_turn, wait_turn}
+use Rattle.monitor.proofs.turn.run_turn.Goals as goal
+
+pub returns-clause-core : goal.returns-clause-core
+returns-clause-core g c = rw c.take_turn.ensures.cores (some_turn c.args.number c.args.job.now (g.C.CoreStore.meaning c.args.cores.now) (g.L.LockTable.requests c.args.locks.now) c.requires.core)
+
+pub returns-clause-wait : goal.returns-clause-wait
+returns-clause-wait g c = rw c.take_turn.ensures.job (wait_turn c.args.number c.args.job.now (g.C.CoreStore.meaning c.args.cores.now) (g.L.LockTable.requests c.args.locks.now))

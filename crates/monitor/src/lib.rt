@@ -1,0 +1,12 @@
+//! The whole machine: its jobs, what each event does, and that it is safe at all times.
+#![tactic(auto)]
+
+mod cores;
+mod login;
+mod parts;
+mod step;
+mod system;
+mod turn;
+
+pub use machine::{Answer, Config, Event, JobView, MOST_QUANTUM, RefusedEvent};
+pub use system::System;

@@ -1,0 +1,323 @@
+//! The parts of the machine, seen as one state, and what each event does to them.
+ghost use Rattle.std.specs.Prelude.{◌≡◌, ◌<◌, ◌≤◌, ◌^◌, [], Some, IfOk, slice_get};
+ghost use Rattle.word36.specs.declared.sizes.TheConstants.{MOST_BLOCKS};
+ghost use Rattle.core_store.specs.Cores.{IsJob, core_of};
+ghost use Rattle.job_sched.specs.Ready.{next_job};
+ghost use Rattle.job_sched.specs.Tables.{job_at};
+ghost use Rattle.machine.specs.Images.{blocks_for};
+ghost use Rattle.machine.specs.Machine.{S, refusal_of, stepped, ticked, killed, happens, at_boot, started, continued, restarted, typed, taken, admitted, logged_in};
+ghost use Rattle.machine.specs.Safe.{Safe};
+ghost use Rattle.machine.specs.Views.{job_view, held_wait, word_in};
+
+use crate::cores::give_all;
+use crate::login::{image_top, settle};
+use crate::step::run_job;
+use core_store::CoreStore;
+use job_sched::{Job, JobError, JobTable, TimeOfDay, Wait};
+use lock_queue::LockTable;
+use machine::{Answer, Config, Event, INTERRUPT_CHARACTER, JobView, RefusedEvent};
+use std::alloc::{AllocError, Global};
+use std::marker::Model;
+use tty_lines::{Char7, LineNumber, Lines};
+use uuo_calls::remove_job;
+use word36::{Address, BLOCK_WORDS, DATA_WORDS, Image, Word};
+
+/// The parts of the machine.
+#[derive(Drop)]
+pub struct Parts<L: LockTable, C: CoreStore> {
+    /// The jobs, which of them is current, and what is left of its quantum.
+    table: JobTable,
+    /// The characters typed and put out at each line.
+    lines: Lines,
+    /// The requests for locks.
+    locks: L,
+    /// The core of each job.
+    cores: C,
+    /// The words that all jobs share.
+    shared: [Word; DATA_WORDS],
+    /// The time of day in ticks.
+    time: TimeOfDay,
+    /// The ticks of a quantum.
+    quantum: u8,
+    /// The blocks of core.
+    blocks: u32,
+}
+
+impl<L: LockTable, C: CoreStore> Model for Parts<L, C> {
+    ghost use Rattle.machine.specs.Machine.{S};
+
+    ghost Value = { S };
+
+    ghost view = { λ p. record { world = record { table = p.table; lines = p.lines; requests = L.requests p.locks; cores = C.meaning p.cores; shared = p.shared }; time = p.time; quantum = p.quantum; blocks = p.blocks } };
+}
+
+/// Why a job can not start or go on, as the event says it.
+fn refusal_of(error: JobError) -> RefusedEvent
+    ensures { result ≡ refusal_of error }
+{
+    match error {
+        JobError::NoSuchJob => RefusedEvent::NoSuchJob,
+        JobError::NotStopped => RefusedEvent::NotStopped,
+    }
+}
+
+impl<L: LockTable, C: CoreStore> Parts<L, C> {
+    /// The parts at boot.
+    pub fn boot(alloc: Global, config: Config) -> Result<Self, AllocError>
+        ensures state { IfOk result (λ p. p ≡ at_boot config.blocks config.quantum) }
+        ensures few { config.blocks ≤ MOST_BLOCKS }
+    {
+        let cores = C::new(alloc, config.blocks())?;
+        let locks = L::new(alloc)?;
+        let lines = Lines::new(alloc)?;
+        Ok(Parts {
+            table: JobTable::new(),
+            lines,
+            locks,
+            cores,
+            shared: [Word::new(0); DATA_WORDS],
+            time: TimeOfDay::new(0),
+            quantum: config.quantum(),
+            blocks: config.blocks(),
+        })
+    }
+
+    /// The job that is next takes its turn, if there is one: its number.
+    #[inline(always)]
+    pub fn step(&mut self) -> Option<u8>
+        requires { Safe self.old }
+        ensures state { self.new ≡ (stepped self.old (next_job self.old.world.table self.old.world.lines self.old.world.requests)).state }
+        ensures job { result ≡ next_job self.old.world.table self.old.world.lines self.old.world.requests }
+    {
+        let n = self.table.next(&self.lines, &self.locks)?;
+        self.table.choose(n, self.quantum);
+        run_job(
+            n,
+            &mut self.table,
+            &mut self.lines,
+            &mut self.locks,
+            &mut self.cores,
+            &mut self.shared,
+            self.time,
+        );
+        Some(n)
+    }
+
+    /// A tick.
+    #[inline(always)]
+    pub fn tick(&mut self)
+        ensures { self.new ≡ (ticked self.old).state }
+    {
+        self.table.tick();
+        self.time.advance();
+    }
+
+    /// A job is gone.
+    pub fn kill(&mut self, n: u8) -> Answer
+        requires { Safe self.old }
+        ensures state { self.new ≡ (killed self.old n (job_at self.old.world.table.jobs n)).state }
+        ensures answer { result ≡ (killed self.old n (job_at self.old.world.table.jobs n)).answer }
+    {
+        if self.table.job(n).is_none() {
+            return Answer::Refused(RefusedEvent::NoSuchJob);
+        }
+        remove_job(n, &mut self.table, &mut self.locks, &mut self.cores);
+        Answer::Done
+    }
+
+    /// A job starts, and a blocking request that is not granted leaves.
+    pub fn start(&mut self, n: u8) -> Answer
+        requires { Safe self.old }
+        ensures state { self.new ≡ (started self.old n).state }
+        ensures answer { result ≡ (started self.old n).answer }
+    {
+        match self.table.start(n) {
+            Ok(()) => {
+                self.locks.withdraw(n);
+                Answer::Done
+            }
+            Err(error) => Answer::Refused(refusal_of(error)),
+        }
+    }
+
+    /// A job goes on.
+    pub fn go_on(&mut self, n: u8) -> Answer
+        requires { Safe self.old }
+        ensures state { self.new ≡ (continued self.old n).state }
+        ensures answer { result ≡ (continued self.old n).answer }
+    {
+        match self.table.go_on(n) {
+            Ok(()) => Answer::Done,
+            Err(error) => Answer::Refused(refusal_of(error)),
+        }
+    }
+
+    /// All jobs, requests and characters are gone.
+    pub fn restart(&mut self) -> Answer
+        requires { Safe self.old }
+        ensures state { self.new ≡ (restarted self.old).state }
+        ensures answer { result ≡ (restarted self.old).answer }
+    {
+        self.table = JobTable::new();
+        self.lines.clear();
+        self.locks.clear();
+        give_all(&mut self.cores, self.blocks);
+        Answer::Done
+    }
+
+    /// A character is typed at a line; CTRL-C stops the line's job.
+    pub fn typed(&mut self, line: u8, c: Char7) -> Answer
+        requires { Safe self.old }
+        ensures state { self.new ≡ (typed self.old line c).state }
+        ensures answer { result ≡ (typed self.old line c).answer }
+    {
+        let Some(at) = LineNumber::try_new(line) else {
+            return Answer::Refused(RefusedEvent::NoLine);
+        };
+        if c.number() == INTERRUPT_CHARACTER {
+            self.table.break_at(at);
+            return Answer::Done;
+        }
+        match self.lines.typed(line, c) {
+            Ok(()) => Answer::Done,
+            Err(_) => Answer::Refused(RefusedEvent::Full),
+        }
+    }
+
+    /// Characters leave a line's output.
+    pub fn take(&mut self, line: u8, n: usize) -> Answer
+        requires { Safe self.old }
+        ensures state { self.new ≡ (taken self.old line n).state }
+        ensures answer { result ≡ (taken self.old line n).answer }
+    {
+        match self.lines.taken(line, n) {
+            Ok(text) => Answer::Text(text),
+            Err(_) => Answer::Refused(RefusedEvent::NoLine),
+        }
+    }
+
+    /// A job begins, with a number that no job has and an image whose highest place is known.
+    fn admit(&mut self, n: u8, line: LineNumber, image: &Image, top: u32) -> Answer
+        requires number { IsJob n }
+        requires bare { core_of self.old.world.cores n ≡ [] }
+        requires top { top < 2 ^ 18 }
+        requires start { image.now.start < 2 ^ 18 }
+        ensures state { self.new ≡ (admitted self.old line image.now.words.items image.now.start (blocks_for top) (Some n)).state }
+        ensures answer { result ≡ (admitted self.old line image.now.words.items image.now.start (blocks_for top) (Some n)).answer }
+    {
+        let blocks = top / BLOCK_WORDS as u32 + 1;
+        let start = Address::new(image.start);
+        match settle(n, &mut self.cores, image.words.as_slice(), start, blocks) {
+            Ok(regs) => {
+                self.table.place(n, Job::new(line, regs, start));
+                Answer::JobNumber(n)
+            }
+            Err(_) => Answer::Refused(RefusedEvent::NoCore),
+        }
+    }
+
+    /// A job begins at a line with an image.
+    pub fn login(&mut self, line: u8, image: &Image) -> Answer
+        requires { Safe self.old }
+        ensures state { self.new ≡ (logged_in self.old line image.now.words.items image.now.start).state }
+        ensures answer { result ≡ (logged_in self.old line image.now.words.items image.now.start).answer }
+    {
+        let Some(at) = LineNumber::try_new(line) else {
+            return Answer::Refused(RefusedEvent::NoLine);
+        };
+        if self.table.is_busy(at) {
+            return Answer::Refused(RefusedEvent::LineBusy);
+        }
+        let Some(top) = image_top(image) else {
+            return Answer::Refused(RefusedEvent::BadImage);
+        };
+        let Some(n) = self.table.free_number() else {
+            return Answer::Refused(RefusedEvent::NoJobNumber);
+        };
+        self.admit(n, at, image, top)
+    }
+
+    /// One event. It is not inlined: an event that a `System` makes for itself goes by the shorter
+    /// way of `step` and `tick`.
+    #[inline(never)]
+    pub fn event(&mut self, event: &Event) -> Answer
+        requires { Safe self.old }
+        ensures state { self.new ≡ (happens self.old event.now).state }
+        ensures answer { result ≡ (happens self.old event.now).answer }
+    {
+        match *event {
+            Event::Step => match self.step() {
+                Some(n) => Answer::Ran(n),
+                None => Answer::Idle,
+            },
+            Event::Tick => {
+                self.tick();
+                Answer::Done
+            }
+            Event::Typed(line, c) => self.typed(line, c),
+            Event::Take(line, n) => self.take(line, n),
+            Event::Login(line, image) => self.login(line, image),
+            Event::Start(n) => self.start(n),
+            Event::Continue(n) => self.go_on(n),
+            Event::Kill(n) => self.kill(n),
+            Event::Restart => self.restart(),
+        }
+    }
+
+    /// The wait of a job that holds.
+    fn held_wait(&self, n: u8, job: &Job) -> Wait
+        ensures { result ≡ held_wait self.now.world.lines self.now.world.requests n job.now }
+    {
+        let holds = match job.wait {
+            Wait::None => false,
+            Wait::Sleep(ticks) => ticks > 0,
+            Wait::Char => !self.lines.has_char(job.line),
+            Wait::Line => !self.lines.has_line(job.line),
+            Wait::Room(places) => self.lines.room(job.line) < places as usize,
+            Wait::Queue => self.locks.waiting(n),
+        };
+        if holds { job.wait } else { Wait::None }
+    }
+
+    /// What there is to see of a job.
+    pub fn job(&self, n: u8) -> Option<JobView>
+        requires { Safe self.now }
+        ensures { result ≡ job_view self.now.world n }
+    {
+        let job = self.table.job(n)?;
+        Some(JobView {
+            line: job.line,
+            blocks: self.cores.blocks(n),
+            pc: job.regs.pc,
+            stop: job.stop,
+            wait: self.held_wait(n, job),
+        })
+    }
+
+    /// The word at a place of a job.
+    pub fn peek(&self, n: u8, a: u32) -> Option<Word>
+        requires { Safe self.now }
+        ensures { result ≡ word_in self.now.world n a }
+    {
+        let job = self.table.job(n)?;
+        if (a as usize) < job.regs.ac.len() {
+            Some(job.regs.ac[a as usize])
+        } else {
+            self.cores.read(n, a)
+        }
+    }
+
+    /// A word that all jobs share.
+    pub fn data_word(&self, i: usize) -> Option<Word>
+        ensures { result ≡ slice_get self.now.world.shared i }
+    {
+        self.shared.get(i).copied()
+    }
+
+    /// The requests.
+    pub fn locks(&self) -> &L
+        ensures { L.requests result.now ≡ self.now.world.requests }
+    {
+        &self.locks
+    }
+}

@@ -1,0 +1,155 @@
+//! The machine, which is safe at all times.
+ghost use Rattle.std.specs.Prelude.{◌≡◌, length, IfOk, slice_get};
+ghost use Rattle.lock_laws.specs.Circles.{NoPlainCircle};
+ghost use Rattle.machine.specs.Alone.{RunsAlone};
+ghost use Rattle.machine.specs.Along.{Along, Always};
+ghost use Rattle.machine.specs.Machine.{happens, after, answers, at_boot};
+ghost use Rattle.machine.specs.Owners.{KeepsOwners};
+ghost use Rattle.machine.specs.Rounds.{rounds, runs_in, has_run};
+ghost use Rattle.machine.specs.declared.event.Event.TheVariants.{Step as StepEvent, Tick as TickEvent};
+ghost use Rattle.machine.specs.Safe.{Safe};
+ghost use Rattle.machine.specs.Waits.{WaitsForGrants};
+ghost use Rattle.machine.specs.Views.{job_view, word_in};
+
+use crate::parts::Parts;
+use core_store::CoreStore;
+use lock_queue::LockTable;
+use machine::{Answer, Config, Event, JobView};
+use std::alloc::{AllocError, Global};
+use std::marker::Model;
+use word36::Word;
+
+/// A DECsystem-10 with up to 31 jobs and 16 terminal lines (this project's profile).
+///
+/// Only `boot` takes memory. Every other call returns what is defined for it, whatever the jobs'
+/// programs are and in whatever order events come.
+#[derive(Drop)]
+pub struct System<L: LockTable, C: CoreStore> {
+    parts: Parts<L, C>,
+}
+
+impl<L: LockTable, C: CoreStore> Model for System<L, C> {
+    ghost use Rattle.machine.specs.Machine.{S};
+    ghost use Rattle.machine.specs.Safe.{Safe};
+
+    ghost Value = { S };
+
+    ghost view = { λ s. s.parts };
+
+    ghost invariant = { λ s. Safe s.parts };
+}
+
+impl<L: LockTable, C: CoreStore> System<L, C> {
+    /// A machine without jobs, with the blocks and the quantum of a `Config`.
+    pub fn boot(alloc: Global, config: Config) -> Result<Self, AllocError>
+        ensures { IfOk result (λ s. s ≡ at_boot config.blocks config.quantum) }
+    {
+        let parts = Parts::boot(alloc, config)?;
+        Ok(System { parts })
+    }
+
+    /// Makes one event happen. A refused event changes nothing.
+    pub fn event(&mut self, event: &Event) -> Answer
+        ensures state { self.new ≡ (happens self.old event.now).state }
+        ensures answer { result ≡ (happens self.old event.now).answer }
+        ensures safe { Safe self.new }
+        ensures waits { WaitsForGrants self.new.world }
+        ensures owners { KeepsOwners self.old event.now }
+        ensures circles { NoPlainCircle self.new.world.requests }
+    {
+        self.parts.event(event)
+    }
+
+    /// Makes events happen one after the other, and writes the answer to each in its place.
+    pub fn run(&mut self, events: &[Event], replies: &mut [Answer])
+        requires { length replies.old ≡ length events.now }
+        ensures state { self.new ≡ after events.now self.old }
+        ensures answers { replies.new ≡ answers events.now self.old }
+        ensures safe { Always Safe self.old events.now }
+        ensures owners { Along KeepsOwners self.old events.now }
+        ensures circles { Always (λ s. NoPlainCircle s.world.requests) self.old events.now }
+        ensures alone { RunsAlone self.old events.now }
+    {
+        let _ = &self.parts;
+        for i in 0..events.len() {
+            replies[i] = self.event(&events[i]);
+        }
+    }
+
+    /// Makes so many steps, each followed by a tick where `ticking`, and counts those in which a
+    /// job ran.
+    pub fn steps(&mut self, most: u32, ticking: bool) -> u32
+        ensures state { self.new ≡ after (rounds most ticking) self.old }
+        ensures count { result ≡ runs_in (answers (rounds most ticking) self.old) }
+    {
+        let mut ran = 0;
+        for _ in 0..most {
+            if self.round(ticking) {
+                ran += 1;
+            }
+        }
+        ran
+    }
+
+    /// A step: whether a job ran.
+    #[inline(always)]
+    fn step_once(&mut self) -> bool
+        ensures state { self.new ≡ (happens self.old StepEvent).state }
+        ensures ran { result ≡ has_run (happens self.old StepEvent).answer }
+    {
+        match self.parts.step() {
+            Some(_) => true,
+            None => false,
+        }
+    }
+
+    /// A tick.
+    #[inline(always)]
+    fn tick_once(&mut self)
+        ensures { self.new ≡ (happens self.old TickEvent).state }
+    {
+        self.parts.tick();
+    }
+
+    /// A step, followed by a tick where `ticking`: whether a job ran.
+    #[inline(always)]
+    fn round(&mut self, ticking: bool) -> bool
+        ensures state { self.new ≡ after (rounds 1 ticking) self.old }
+        ensures ran { result ≡ has_run (happens self.old StepEvent).answer }
+    {
+        let ran = self.step_once();
+        if ticking {
+            self.tick_once();
+        }
+        ran
+    }
+
+    /// What there is to see of a job, if it is there.
+    pub fn job(&self, n: u8) -> Option<JobView>
+        ensures { result ≡ job_view self.now.world n }
+    {
+        self.parts.job(n)
+    }
+
+    /// The word at a place of a job: a register below 20 octal, and its core from there on. There
+    /// is none where the job is not there or the place is not legal.
+    pub fn peek(&self, n: u8, a: u32) -> Option<Word>
+        ensures { result ≡ word_in self.now.world n a }
+    {
+        self.parts.peek(n, a)
+    }
+
+    /// A word that all jobs share, if there is one of that number.
+    pub fn data_word(&self, i: usize) -> Option<Word>
+        ensures { result ≡ slice_get self.now.world.shared i }
+    {
+        self.parts.data_word(i)
+    }
+
+    /// The requests of all jobs.
+    pub fn locks(&self) -> &L
+        ensures { L.requests result.now ≡ self.now.world.requests }
+    {
+        self.parts.locks()
+    }
+}

@@ -1,0 +1,122 @@
+//! A job's turn.
+ghost use Rattle.std.specs.Prelude.{◌≡◌, ◌≢◌, ◌<◌, ◌+◌, ◌^◌, [], IfSome, None, true, false};
+ghost use Rattle.core_store.specs.Cores.{IsJob, core_of};
+ghost use Rattle.ka_cpu.specs.Places.{are_legal};
+ghost use Rattle.ka_cpu.specs.Exec.{exec};
+ghost use Rattle.ka_cpu.specs.declared.outcome.StopReason.TheVariants.{IllegalAddress};
+ghost use Rattle.uuo_calls.specs.Around.{stopped};
+ghost use Rattle.machine.specs.Turns.{Turn, turn_of, executed, delivered, interrupted_at};
+
+use core_store::{CoreStore, CoreWindow};
+use job_sched::{Job, NO_FLAGS, Stop};
+use ka_cpu::{
+    JobMemory, Outcome, Regs, StopReason, are_legal_kept, pc_word, step, store, word_kept,
+};
+use lock_queue::{LockTable, RequestId};
+use machine::VECTOR_WORDS;
+use uuo_calls::MonitorCall;
+use word36::{Address, Word};
+
+/// Executes one instruction of a job in its core.
+#[inline(always)]
+fn execute<C: CoreStore>(number: u8, job: &mut Job, cores: &mut C) -> Option<MonitorCall>
+    requires { IsJob number }
+    ensures turn { record { job = job.new; cores = C.meaning cores.new; requests = []; call = result } ≡ executed number job.old (C.meaning cores.old) [] (exec job.old.regs (core_of (C.meaning cores.old) number)) }
+    ensures fields { IfSome result (λ call. (call.ac < 16) × (call.e < 2 ^ 18)) }
+{
+    let words = cores.window(number);
+    let mut window = CoreWindow { words };
+    match step(&mut job.regs, &mut window) {
+        Outcome::Done => None,
+        Outcome::Stop(reason) => {
+            job.stop = Some(Stop::Fault(reason));
+            None
+        }
+        Outcome::Call(kind, ac, e) => Some(MonitorCall { kind, ac, e }),
+    }
+}
+
+/// Delivers an interrupt in the job's memory, if its vector is legal.
+fn interrupt<M: JobMemory>(job: &mut Job, memory: &mut M, vector: u32, id: u32) -> bool
+    requires vector { vector < 2 ^ 18 }
+    requires id { id < 2 ^ 18 }
+    ensures legal { result ≡ are_legal (M.words memory.old) vector 4 }
+    ensures done { result ≡ true → record { job = job.new; core = M.words memory.new } ≡ interrupted_at job.old (M.words memory.old) vector id }
+    ensures stopped { result ≡ false → (job.new ≡ stopped job.old IllegalAddress) × (memory.new ≡ memory.old) }
+    ensures place { M.place memory.new ≡ M.place memory.old }
+{
+    if !are_legal_kept(memory, vector, VECTOR_WORDS) {
+        job.stop = Some(Stop::Fault(StopReason::IllegalAddress));
+        return false;
+    }
+    let to = word_kept(&job.regs, memory, vector).unwrap_or(Word::new(0));
+    let note = pc_word(job.regs.flags, job.regs.pc);
+    store(&mut job.regs, memory, vector + 1, note);
+    store(&mut job.regs, memory, vector + 3, Word::join(0, id));
+    job.regs.pc = Address::new(to.right());
+    job.regs.flags = NO_FLAGS;
+    job.interrupts.in_progress = true;
+    true
+}
+
+/// Delivers an interrupt, and marks the request as told where it could be delivered.
+fn deliver<L: LockTable, C: CoreStore>(
+    number: u8,
+    job: &mut Job,
+    vector: Address,
+    id: RequestId,
+    locks: &mut L,
+    cores: &mut C,
+)
+    requires { IsJob number }
+    ensures turn { record { job = job.new; cores = C.meaning cores.new; requests = L.requests locks.new; call = None } ≡ delivered number job.old (C.meaning cores.old) (L.requests locks.old) vector id }
+{
+    let words = cores.window(number);
+    let mut window = CoreWindow { words };
+    if interrupt(job, &mut window, vector.number(), id.number()) {
+        locks.told(number);
+    }
+}
+
+/// A job's turn, whose wait is over.
+#[inline(always)]
+fn take_turn<L: LockTable, C: CoreStore>(
+    number: u8,
+    job: &mut Job,
+    locks: &mut L,
+    cores: &mut C,
+) -> Option<MonitorCall>
+    requires number { IsJob number }
+    ensures cores { C.meaning cores.new ≡ (turn_of number job.old (C.meaning cores.old) (L.requests locks.old)).cores }
+    ensures job { job.new ≡ (turn_of number job.old (C.meaning cores.old) (L.requests locks.old)).job }
+    ensures turn { record { job = job.new; cores = C.meaning cores.new; requests = L.requests locks.new; call = result } ≡ turn_of number job.old (C.meaning cores.old) (L.requests locks.old) }
+    ensures fields { IfSome result (λ call. (call.ac < 16) × (call.e < 2 ^ 18)) }
+{
+    if job.interrupts.on && !job.interrupts.in_progress {
+        if let Some(vector) = job.interrupts.vector {
+            if let Some(id) = locks.pending(number) {
+                deliver(number, job, vector, id, locks, cores);
+                return None;
+            }
+        }
+    }
+    execute(number, job, cores)
+}
+
+/// The turn of a job that has core, and keeps some.
+#[inline(always)]
+pub(crate) fn run_turn<L: LockTable, C: CoreStore>(
+    number: u8,
+    job: &mut Job,
+    locks: &mut L,
+    cores: &mut C,
+) -> Option<MonitorCall>
+    requires number { IsJob number }
+    requires core { core_of (C.meaning cores.old) number ≢ [] }
+    ensures turn { record { job = job.new; cores = C.meaning cores.new; requests = L.requests locks.new; call = result } ≡ turn_of number job.old (C.meaning cores.old) (L.requests locks.old) }
+    ensures fields { IfSome result (λ call. (call.ac < 16) × (call.e < 2 ^ 18)) }
+    ensures core { core_of (C.meaning cores.new) number ≢ [] }
+    ensures wait { job.new.wait ≡ job.old.wait }
+{
+    take_turn(number, job, locks, cores)
+}

@@ -1,0 +1,16 @@
+pub mod Turning
+pub mod Housing
+pub mod Queueing
+pub mod Stored
+pub mod Placing
+pub mod Keeping
+pub mod Safety
+pub mod Waiting
+pub mod Always
+pub mod Owning
+pub mod Emptying
+pub mod Outputs
+pub mod OtherCores
+pub mod Standing
+pub mod Printing
+pub mod Solitude

@@ -1,0 +1,130 @@
+-- What a step of one job leaves of another's core, and which events are no step.
+use Rattle.std.proofs.Common.{◌≡◌, ◌≢◌, ◌∙◌, ap, subst, ℕ, ◌+◌, Bool, true, false, cond, ◌&&◌, ◌==◌, nat_lt, nat_le, List, [], length, Option, Some, None, Result, Ok, Err, refl, unwrap_or}
+use Rattle.std.proofs.lemmas.List.{get_or-set_other}
+use Rattle.std.specs.List.{list_any}
+use Rattle.machine.specs.declared.sizes.TheConstants.{INTERRUPT_CHARACTER}
+use Rattle.word36.specs.declared.sizes.TheConstants.{LINES, INPUT_RING}
+use Rattle.ka_cpu.specs.Effects.{After}
+use Rattle.ka_cpu.specs.Exec.{exec}
+use Rattle.ka_cpu.specs.declared.outcome.Outcome.{Outcome}
+use Rattle.ka_cpu.specs.declared.outcome.Outcome.TheVariants as outcome
+use Rattle.ka_cpu.specs.declared.outcome.StopReason.TheVariants.{IllegalAddress}
+use Rattle.ka_cpu.specs.Places.{are_legal}
+use Rattle.core_store.specs.Cores.{Cores, core_of, blocks_of, with_core, resized}
+use Rattle.lock_queue.specs.declared.request.Request.{Request}
+use Rattle.tty_lines.specs.Rings.{input_of}
+use Rattle.job_sched.specs.declared.job.Job.{Job}
+use Rattle.job_sched.specs.Tables.{Table}
+use Rattle.uuo_calls.specs.declared.service.Service.{Service}
+use Rattle.uuo_calls.specs.declared.service.Service.TheVariants.{Reset, Core, Exit, Monrt, Logout, Mstime, Pjob, Sleep, Piini, Pisys, Debrk, Enq, Deq, Enqc, Datrd, Datwr, Input, Outchr, Outstr, Clrbfi, Clrbfo, Skpin, Unlisted}
+use Rattle.uuo_calls.specs.Around.{Around, ac_of, stopped}
+use Rattle.uuo_calls.specs.CoreRow.{grown, blocks_asked, core_done, with_highest}
+use Rattle.uuo_calls.specs.Performed.{row_of}
+use Rattle.job_sched.specs.Tables.{job_at}
+use Rattle.job_sched.specs.declared.job_error.JobError.{JobError}
+use Rattle.uuo_calls.specs.Performed.{World}
+use Rattle.machine.specs.Alone.{is_ran}
+use Rattle.machine.specs.Images.{image_top, blocks_for}
+use Rattle.job_sched.specs.Changes.{standing, chosen, free_number, is_at}
+use Rattle.machine.specs.Machine.{S, Made, made_if, started, continued, killed, typed, taken, admitted, examined, logged_in}
+use Rattle.machine.specs.Turns.{Turn, turned, concluded, told_at, interrupted_at, done}
+use Rattle.ka_cpu.proofs.ExecLaws.{by_test}
+
+pub other-core : (cores : Cores) (n job : ℕ) (words : List ℕ) → job ≢ n → core_of (with_core cores n words) job ≡ core_of cores job
+other-core cores n job words ne = get_or-set_other cores.cores n job words [] ne
+
+-- CORE
+same-grown : (cores new : Cores) (n job : ℕ) (asks : Option ℕ) → job ≢ n → grown cores n asks ≡ Some new → core_of new job ≡ core_of cores job
+same-grown cores new n job None ne = λ e. cc
+same-grown cores new n job (Some blocks) ne =
+    by_test (λ o. o ≡ Some new → core_of new job ≡ core_of cores job) (nat_le blocks (cores.free + blocks_of cores n)) (Some (with_highest (resized cores n blocks) n blocks)) None
+    (λ _ e.
+    let is : with_highest (resized cores n blocks) n blocks ≡ new = cc in
+    subst (λ c. core_of c job ≡ core_of cores job) is (other-core (resized cores n blocks) n job _ ne ∙ get_or-set_other cores.cores n job _ [] ne))
+    (λ _ e. cc)
+
+same-done : (ac job : ℕ) (o : Option Cores) (j : Job) (cores : Cores) → ((new : Cores) → o ≡ Some new → core_of new job ≡ core_of cores job)
+    → core_of (core_done ac o j cores).cores job ≡ core_of cores job
+same-done ac job None j cores h = refl
+same-done ac job (Some new) j cores h = h new refl
+
+pub same-row : (service : Service) (time n ac e job : ℕ) (a : Around) → job ≢ n → core_of (row_of service time n ac e a).cores job ≡ core_of a.cores job
+same-row Reset time n ac e job a ne = refl
+same-row Core time n ac e job a ne = same-done ac job (grown a.cores n (blocks_asked (ac_of a.job ac))) a.job a.cores (λ new is. same-grown a.cores new n job (blocks_asked (ac_of a.job ac)) ne is)
+same-row Exit time n ac e job a ne = refl
+same-row Monrt time n ac e job a ne = refl
+same-row Logout time n ac e job a ne = refl
+same-row Mstime time n ac e job a ne = refl
+same-row Pjob time n ac e job a ne = refl
+same-row Sleep time n ac e job a ne = refl
+same-row Piini time n ac e job a ne = refl
+same-row Pisys time n ac e job a ne = refl
+same-row Debrk time n ac e job a ne = refl
+same-row Enq time n ac e job a ne = refl
+same-row Deq time n ac e job a ne = refl
+same-row Enqc time n ac e job a ne = other-core a.cores n job _ ne
+same-row Datrd time n ac e job a ne = refl
+same-row Datwr time n ac e job a ne = refl
+same-row (Input unit skips) time n ac e job a ne = other-core a.cores n job _ ne
+same-row Outchr time n ac e job a ne = refl
+same-row Outstr time n ac e job a ne = refl
+same-row Clrbfi time n ac e job a ne = refl
+same-row Clrbfo time n ac e job a ne = refl
+same-row (Skpin unit) time n ac e job a ne = refl
+same-row Unlisted time n ac e job a ne = refl
+
+cores-concluded : (j : Job) (cores : Cores) (requests : List Request) (o : Outcome) → (concluded j cores requests o).cores ≡ cores
+cores-concluded j cores requests outcome.Done = refl
+cores-concluded j cores requests (outcome.Stop reason) = refl
+cores-concluded j cores requests (outcome.Call kind ac e) = refl
+
+pub same-turned : (n job : ℕ) (j : Job) (cores : Cores) (requests : List Request) (o : Option (ℕ × ℕ)) → job ≢ n
+    → core_of (turned n j cores requests o).cores job ≡ core_of cores job
+same-turned n job j cores requests None ne =
+    let r : After = exec j.regs (core_of cores n) in
+    ap (λ c. core_of c job) (cores-concluded (record j { regs = r.regs }) (with_core cores n r.core) requests r.outcome) ∙ other-core cores n job r.core ne
+same-turned n job j cores requests (Some x) ne =
+    by_test (λ (t : Turn). core_of t.cores job ≡ core_of cores job) (are_legal (core_of cores n) x.0 4)
+    (told_at n cores requests (interrupted_at j (core_of cores n) x.0 x.1)) (done (stopped j IllegalAddress) cores requests)
+    (λ _. other-core cores n job _ ne)
+    (λ _. refl)
+
+pub jobs-chosen : (t : Table) (n quantum : ℕ) → (chosen t n quantum).jobs ≡ t.jobs
+jobs-chosen t n quantum = by_test (λ (u : Table). u.jobs ≡ t.jobs) ((t.current == n) && nat_lt 0 t.left) t (record t { current = n; left = quantum }) (λ _. refl) (λ _. refl)
+
+pub ran-killed : (s : S) (n job : ℕ) (o : Option Job) → is_ran job (killed s n o).answer ≡ false
+ran-killed s n job None = refl
+ran-killed s n job (Some j) = refl
+
+pub ran-typed : (s : S) (line c job : ℕ) → is_ran job (typed s line c).answer ≡ false
+ran-typed s line c job =
+    by_test (λ (m : Made). is_ran job m.answer ≡ false) (nat_le LINES line) _ _ (λ _. refl)
+    (λ _. by_test (λ (m : Made). is_ran job m.answer ≡ false) (c == INTERRUPT_CHARACTER) _ _ (λ _. refl)
+    (λ _. by_test (λ (m : Made). is_ran job m.answer ≡ false) (nat_le INPUT_RING (length (input_of s.world.lines line))) _ _ (λ _. refl) (λ _. refl)))
+
+pub ran-taken : (s : S) (line n job : ℕ) → is_ran job (taken s line n).answer ≡ false
+ran-taken s line n job = by_test (λ (m : Made). is_ran job m.answer ≡ false) (nat_le LINES line) _ _ (λ _. refl) (λ _. refl)
+
+pub ran-admitted : (s : S) (line : ℕ) (ws : List (ℕ × ℕ)) (start blocks : ℕ) (o : Option ℕ) (job : ℕ) → is_ran job (admitted s line ws start blocks o).answer ≡ false
+ran-admitted s line ws start blocks None job = refl
+ran-admitted s line ws start blocks (Some n) job = by_test (λ (m : Made). is_ran job m.answer ≡ false) (nat_le blocks s.world.cores.free) _ _ (λ _. refl) (λ _. refl)
+
+pub ran-examined : (s : S) (line : ℕ) (ws : List (ℕ × ℕ)) (start : ℕ) (o : Option ℕ) (job : ℕ) → is_ran job (examined s line ws start o).answer ≡ false
+ran-examined s line ws start None job = refl
+ran-examined s line ws start (Some top) job = ran-admitted s line ws start (blocks_for top) (free_number s.world.table.jobs) job
+
+pub ran-login : (s : S) (line : ℕ) (ws : List (ℕ × ℕ)) (start job : ℕ) → is_ran job (logged_in s line ws start).answer ≡ false
+ran-login s line ws start job =
+    by_test (λ (m : Made). is_ran job m.answer ≡ false) (nat_le LINES line) _ _ (λ _. refl)
+    (λ _. by_test (λ (m : Made). is_ran job m.answer ≡ false) (list_any (is_at line) s.world.table.jobs) _ _ (λ _. refl)
+    (λ _. ran-examined s line ws start (image_top ws start) job))
+
+ran-made_if : (s : S) (w : World) (r : Result (Unit {0}) JobError) (job : ℕ) → is_ran job (made_if s w r).answer ≡ false
+ran-made_if s w (Ok x) job = refl
+ran-made_if s w (Err e) job = refl
+
+pub ran-started : (s : S) (n job : ℕ) → is_ran job (started s n).answer ≡ false
+ran-started s n job = ran-made_if s _ (standing (job_at s.world.table.jobs n)) job
+
+pub ran-continued : (s : S) (n job : ℕ) → is_ran job (continued s n).answer ≡ false
+ran-continued s n job = ran-made_if s _ (standing (job_at s.world.table.jobs n)) job

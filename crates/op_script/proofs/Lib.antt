@@ -1,0 +1,5 @@
+mod NameLemmas
+mod TextLemmas
+mod LineLemmas
+mod ImageLemmas
+mod EventLemmas

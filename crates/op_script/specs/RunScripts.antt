@@ -1,0 +1,172 @@
+-- The transcript of a script on the machine (this project's profile).
+use Rattle.std.specs.Prelude.{ℕ, ◌+◌, ◌-◌, Bool, true, false, List, [], ◌∷◌, ◌++◌, length, Option, Some, None, Result, Ok, Err, if◌then◌else◌, codes, bytes_eq, slice_index, replicate, is_none}
+use Rattle.std.specs.List.{flat_map}
+use Rattle.std.specs.Str.Lines.{lines}
+use Rattle.mac_asm.specs.Assembly.{Assembled}
+use Rattle.mac_asm.specs.Outcome.{Fault, outcome_of}
+use Rattle.word36.specs.declared.sizes.TheConstants.{TAKEN_AT_ONCE}
+use Rattle.machine.specs.Machine.{S, Made, happens, after as after_all, logged_in, at_boot}
+use Rattle.machine.specs.Views.{job_view, word_in}
+use Rattle.machine.specs.declared.event.Event.TheVariants as event
+use Rattle.machine.specs.declared.event.RefusedEvent.TheVariants.{NoSuchJob}
+use Rattle.queue_script.specs.Commands.{is_allowed}
+use Rattle.queue_script.specs.Listings.{fault_text}
+use Rattle.queue_script.specs.QueueScripts.{show_text}
+use Rattle.lock_queue.specs.Waits.{jobs}
+use Rattle.queue_script.specs.WaitPairs.{waits_text}
+use Rattle.queue_script.specs.Endings.{script_fault}
+use Rattle.queue_script.specs.declared.endings.Ending.{Ending}
+use Rattle.queue_script.specs.declared.endings.Ending.TheVariants as ending
+use Rattle.script_io.specs.Transcripts.{Transcript, after, closed, unless_ended}
+use Rattle.op_script.specs.Commands.{command_of}
+use Rattle.op_script.specs.Events.{after_steps, steps_run, Typing, typed_by, Taking, taken_by}
+use Rattle.op_script.specs.Images.{Named, image_of, with_image}
+use Rattle.op_script.specs.Printing.{answer_line, ran_line, done_line, taken_line, image_line, refused_line, job_line, place_line, word_line}
+use Rattle.op_script.specs.Sources.{SourceText, empty_source, with_line}
+use Rattle.op_script.specs.declared.commands.Command.{Command}
+use Rattle.op_script.specs.declared.commands.Command.TheVariants as command
+use Rattle.op_script.specs.declared.desk.Desk.{Desk}
+use Rattle.op_script.specs.declared.events.TheConstants.{MOST_TAKES}
+
+-- what a line does: the machine, the images and the source afterwards, what it writes, and how the script ends, if it
+-- ends there
+pub record Effect : Type 0 where
+  pub desk : Desk
+  pub text : List ℕ
+  pub ending : Option Ending
+
+-- the script goes on
+abbrev pub goes : Desk → List ℕ → Effect
+goes d text = record { desk = d; text = text; ending = None }
+
+-- the script ends
+abbrev pub ends : Desk → List ℕ → Ending → Effect
+ends d text e = record { desk = d; text = text; ending = Some e }
+
+-- line n is not in the grammar
+abbrev pub fault : ℕ → Desk → Effect
+fault n d = ends d (script_fault n).text ending.Script
+
+-- ---- events
+
+abbrev pub with_machine : Desk → S → Desk
+with_machine d s = record d { machine = s }
+
+-- one event, whose answer is written
+abbrev pub answered : Desk → Made → Effect
+answered d m = goes (with_machine d m.state) (answer_line m.answer)
+
+-- LOGIN: an image that is not known is a fault of the script
+abbrev pub login_effect : ℕ → Desk → ℕ → Option Assembled → Effect
+login_effect n d line None = fault n d
+login_effect n d line (Some image) = answered d (logged_in d.machine line image.words image.start)
+
+-- STEP and RUN: so many steps, and in how many of them a job ran
+abbrev pub steps_effect : Desk → ℕ → Bool → Effect
+steps_effect d most ticking =
+    let ran = steps_run most ticking d.machine in
+    goes (with_machine d (after_steps most ticking d.machine)) (ran_line ran (most - ran))
+
+abbrev pub typing_effect : Desk → Typing → Effect
+typing_effect d t = goes (with_machine d t.machine) (done_line t.refusal)
+
+abbrev pub taking_effect : Desk → Taking → Effect
+taking_effect d t = goes (with_machine d t.machine) (taken_line t.refusal t.text)
+
+-- ---- looking
+
+-- SHOW JOBS: a line for each job, by number
+abbrev pub jobs_text : S → List ℕ
+jobs_text s = flat_map (λ n. job_line n (job_view s.world n)) jobs ++ codes "END\n"
+
+-- EXAMINE: a job has to be there
+abbrev pub examined_text : S → ℕ → ℕ → List ℕ
+examined_text s job a =
+    if is_none (job_view s.world job) then refused_line NoSuchJob else place_line a (word_in s.world job a)
+
+-- ---- commands
+
+-- what line n does, which asks for this; one that is not in the grammar ends the script
+abbrev pub effect_of : ℕ → Desk → Option Command → Effect
+effect_of n d None = fault n d
+effect_of n d (Some command.Nothing) = goes d []
+effect_of n d (Some (command.Assemble name)) = goes (record d { source = Some (empty_source name) }) []
+effect_of n d (Some (command.Login line name)) = login_effect n d line (image_of d.images name)
+effect_of n d (Some (command.Step most)) = steps_effect d most false
+effect_of n d (Some (command.Run most)) = steps_effect d most true
+effect_of n d (Some (command.Tick ticks)) = goes (with_machine d (after_all (replicate ticks event.Tick) d.machine)) (done_line None)
+effect_of n d (Some (command.Typed line text)) = typing_effect d (typed_by text d.machine line)
+effect_of n d (Some (command.Take line)) = taking_effect d (taken_by MOST_TAKES (event.Take line TAKEN_AT_ONCE) d.machine)
+effect_of n d (Some (command.Start job)) = answered d (happens d.machine (event.Start job))
+effect_of n d (Some (command.Continue job)) = answered d (happens d.machine (event.Continue job))
+effect_of n d (Some (command.Kill job)) = answered d (happens d.machine (event.Kill job))
+effect_of n d (Some command.Restart) = answered d (happens d.machine event.Restart)
+effect_of n d (Some command.ShowJobs) = goes d (jobs_text d.machine)
+effect_of n d (Some command.ShowLocks) = goes d (show_text d.machine.world.requests)
+effect_of n d (Some command.ShowWaits) = goes d (waits_text d.machine.world.requests)
+effect_of n d (Some (command.Examine job a)) = goes d (examined_text d.machine job a)
+effect_of n d (Some (command.Data i)) = goes d (word_line (slice_index d.machine.world.shared i))
+effect_of n d (Some command.Quit) = ends d [] ending.Done
+
+-- ---- sources
+
+-- the images where a source is whole: its image is one of them, unless the source is at fault
+abbrev pub defined : Named → List ℕ → Result Assembled Fault → Named
+defined images name (Ok image) = with_image images name image
+defined images name (Err wrong) = images
+
+abbrev pub assembled_text : List ℕ → Result Assembled Fault → List ℕ
+assembled_text name (Ok image) = image_line name (length image.words)
+assembled_text name (Err wrong) = fault_text wrong
+
+-- a source at fault ends the script
+abbrev pub assembled_ending : Result Assembled Fault → Option Ending
+assembled_ending (Ok image) = None
+assembled_ending (Err wrong) = Some ending.Source
+
+abbrev pub assembled_effect : Desk → List ℕ → Result Assembled Fault → Effect
+assembled_effect d name outcome = record {
+  desk = record d { images = defined d.images name outcome; source = None };
+  text = assembled_text name outcome;
+  ending = assembled_ending outcome;
+}
+
+-- ENDASM ends a source; every other line belongs to it
+abbrev pub source_effect : Desk → SourceText → List ℕ → Effect
+source_effect d source line =
+    if bytes_eq line (codes "ENDASM")
+    then assembled_effect d source.name (outcome_of source.text)
+    else goes (record d { source = Some (with_line source line) }) []
+
+-- ---- lines
+
+abbrev pub allowed_effect : ℕ → Desk → Option SourceText → List ℕ → Effect
+allowed_effect n d (Some source) line = source_effect d source line
+allowed_effect n d None line = effect_of n d (command_of line)
+
+-- what line n does: a command, or a line of a source
+abbrev pub line_effect : ℕ → Desk → List ℕ → Effect
+line_effect n d line = if is_allowed line then allowed_effect n d d.source line else fault n d
+
+-- the line's text, and then what follows, unless the script ends
+abbrev pub continued : Effect → (Desk → Transcript Ending) → Transcript Ending
+continued e rest = after e.text (unless_ended e.ending (rest e.desk))
+
+-- no line comes behind line n: a source without ENDASM is a fault of the next
+abbrev pub at_end : ℕ → Option SourceText → Transcript Ending
+at_end n None = closed [] ending.Done
+at_end n (Some source) = script_fault (n + 1)
+
+-- what lines write, where n lines have come and left this
+abbrev pub transcript_of : Desk → ℕ → List (List ℕ) → Transcript Ending
+transcript_of d n [] = at_end n d.source
+transcript_of d n (line ∷ more) =
+    continued (line_effect (n + 1) d line) (λ next. transcript_of next (n + 1) more)
+
+-- a machine from a fresh boot, without images
+abbrev pub fresh : ℕ → ℕ → Desk
+fresh blocks quantum = record { machine = at_boot blocks quantum; images = []; source = None }
+
+-- what a script writes on a machine of so many blocks and a quantum of so many ticks, and how it ends
+unfoldable pub transcript : ℕ → ℕ → List ℕ → Transcript Ending
+transcript blocks quantum bytes = transcript_of (fresh blocks quantum) 0 (lines bytes)

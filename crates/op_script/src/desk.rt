@@ -1,0 +1,21 @@
+//! What a script works on.
+
+use crate::images::Images;
+use crate::sources::Source;
+use core_store::PlainCore;
+use lock_queue::PlainTable;
+use monitor::System;
+
+/// The machine, with the tables that it keeps its locks and its core in.
+pub type Machine = System<PlainTable, PlainCore>;
+
+/// What a script works on.
+#[derive(Drop)]
+pub struct Desk {
+    /// The machine.
+    pub machine: Machine,
+    /// The images that jobs may begin with.
+    pub images: Images,
+    /// The source that is being read, between ASSEMBLE and ENDASM.
+    pub source: Option<Source>,
+}

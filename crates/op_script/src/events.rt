@@ -1,0 +1,173 @@
+//! Commands that stand for several events of the machine.
+ghost use Rattle.std.specs.Prelude.{◌≡◌, ◌++◌, ◌-◌, ◌+◌, ◌≤◌, [], length, replicate, None, OnOk};
+ghost use Rattle.machine.specs.Machine.{happens, after};
+ghost use Rattle.machine.specs.declared.event.Event.TheVariants.{Typed};
+ghost use Rattle.op_script.specs.Events.{after_steps, steps_run, refusal_in, typed_by, taken_by};
+ghost use Rattle.op_script.specs.Printing.{answer_line, ran_line, done_line, taken_line};
+
+use crate::desk::Machine;
+use crate::printing::{push_answer, push_done, push_ran, push_taken};
+use crate::texts::TypedText;
+use arrayvec::ArrayVec;
+use monitor::{Answer, Event, RefusedEvent};
+use std::alloc::AllocError;
+use tty_lines::Char7;
+use word36::{Image, OUTPUT_RING, TAKEN_AT_ONCE};
+
+/// How many Take events empty an output ring that is full: the last gives nothing.
+const MOST_TAKES: usize = OUTPUT_RING / TAKEN_AT_ONCE + 1;
+
+/// Room for what they give.
+const TAKEN_ROOM: usize = MOST_TAKES * TAKEN_AT_ONCE;
+
+/// One event, whose answer is written.
+pub fn happen(machine: &mut Machine, event: &Event<'_>, out: &mut Vec<u8>) -> Result<(), AllocError>
+    ensures state { OnOk result (machine.new ≡ (happens machine.old event.now).state) }
+    ensures text { OnOk result (out.new.items ≡ out.old.items ++ answer_line (happens machine.old event.now).answer) }
+{
+    let answer = machine.event(event);
+    push_answer(out, &answer)
+}
+
+/// Steps, each followed by a tick where `ticking` says so.
+pub fn step(
+    machine: &mut Machine,
+    most: u32,
+    ticking: bool,
+    out: &mut Vec<u8>,
+) -> Result<(), AllocError>
+    ensures state { OnOk result (machine.new ≡ after_steps most ticking machine.old) }
+    ensures text { OnOk result (out.new.items ≡ out.old.items ++ ran_line (steps_run most ticking machine.old) (most - steps_run most ticking machine.old)) }
+{
+    let ran = step_by(machine, most, ticking);
+    push_ran(out, ran, most.saturating_sub(ran))
+}
+
+/// Makes steps, and counts those in which a job ran.
+#[tactic(auto, unfolding(crate::specs::Events::after_steps, crate::specs::Events::steps_run))]
+fn step_by(machine: &mut Machine, most: u32, ticking: bool) -> u32
+    ensures state { machine.new ≡ after_steps most ticking machine.old }
+    ensures ran { result ≡ steps_run most ticking machine.old }
+{
+    machine.steps(most, ticking)
+}
+
+/// An event, so many times.
+fn repeat(machine: &mut Machine, event: &Event<'_>, times: u32)
+    ensures { machine.new ≡ after (replicate times event.now) machine.old }
+{
+    'times: for _ in 0..times {
+        machine.event(event);
+    }
+}
+
+/// An event, so many times, whose answers are not written.
+pub fn happen_often(
+    machine: &mut Machine,
+    event: &Event<'_>,
+    times: u32,
+    out: &mut Vec<u8>,
+) -> Result<(), AllocError>
+    ensures state { OnOk result (machine.new ≡ after (replicate times event.now) machine.old) }
+    ensures text { OnOk result (out.new.items ≡ out.old.items ++ done_line None) }
+{
+    repeat(machine, event, times);
+    push_done(out, None)
+}
+
+/// Why an event was refused, if it was.
+fn refusal_in(answer: Answer) -> Option<RefusedEvent>
+    ensures { result ≡ refusal_in answer }
+{
+    match answer {
+        Answer::Refused(refusal) => Some(refusal),
+        _ => None,
+    }
+}
+
+/// Types a character at a line, and says why it is refused, if it is.
+fn type_character(machine: &mut Machine, line: u8, character: Char7) -> Option<RefusedEvent>
+    ensures state { machine.new ≡ (happens machine.old (Typed line character)).state }
+    ensures refusal { result ≡ refusal_in (happens machine.old (Typed line character)).answer }
+{
+    // An event may hold an image, of which this one has none: the prover wants its type to be named.
+    let _image: Option<&Image> = None;
+    refusal_in(machine.event(&Event::Typed(line, character)))
+}
+
+/// Types characters at a line, up to the first that is refused.
+fn type_characters(machine: &mut Machine, line: u8, text: &[Char7]) -> Option<RefusedEvent>
+    ensures machine { machine.new ≡ (typed_by text.now machine.old line).machine }
+    ensures refusal { result ≡ (typed_by text.now machine.old line).refusal }
+{
+    'characters: for character in text {
+        match type_character(machine, line, *character) {
+            Some(refusal) => return Some(refusal),
+            None => {}
+        }
+    }
+    None
+}
+
+/// Types a text at a line.
+pub fn type_text(
+    machine: &mut Machine,
+    line: u8,
+    text: &TypedText,
+    out: &mut Vec<u8>,
+) -> Result<(), AllocError>
+    ensures state { OnOk result (machine.new ≡ (typed_by text.now machine.old line).machine) }
+    ensures text { OnOk result (out.new.items ≡ out.old.items ++ done_line (typed_by text.now machine.old line).refusal) }
+{
+    let refusal = type_characters(machine, line, text.as_slice());
+    push_done(out, refusal)
+}
+
+/// Adds characters to a text that has room for them.
+fn extend(text: &mut ArrayVec<Char7, TAKEN_ROOM>, more: &[Char7])
+    requires { length text.old.items + length more.now ≤ TAKEN_ROOM }
+    ensures { text.new.items ≡ text.old.items ++ more.now }
+{
+    let _ = text.try_extend_from_slice(more);
+}
+
+/// Takes characters by an event, up to the first time that it gives fewer than it might.
+fn take_characters(
+    machine: &mut Machine,
+    event: &Event<'_>,
+    text: &mut ArrayVec<Char7, TAKEN_ROOM>,
+) -> Option<RefusedEvent>
+    requires { text.old.items ≡ [] }
+    ensures machine { machine.new ≡ (taken_by MOST_TAKES event.now machine.old).machine }
+    ensures text { text.new.items ≡ (taken_by MOST_TAKES event.now machine.old).text }
+    ensures refusal { result ≡ (taken_by MOST_TAKES event.now machine.old).refusal }
+{
+    'takes: for _ in 0..MOST_TAKES {
+        match machine.event(event) {
+            Answer::Text(taken) => {
+                let characters = taken.as_slice();
+                extend(text, characters);
+                if characters.len() < TAKEN_AT_ONCE {
+                    return None;
+                }
+            }
+            Answer::Refused(refusal) => return Some(refusal),
+            _ => return None,
+        }
+    }
+    None
+}
+
+/// Takes all characters that an event gives.
+pub fn take_text(
+    machine: &mut Machine,
+    event: &Event<'_>,
+    out: &mut Vec<u8>,
+) -> Result<(), AllocError>
+    ensures state { OnOk result (machine.new ≡ (taken_by MOST_TAKES event.now machine.old).machine) }
+    ensures text { OnOk result (out.new.items ≡ out.old.items ++ taken_line (taken_by MOST_TAKES event.now machine.old).refusal (taken_by MOST_TAKES event.now machine.old).text) }
+{
+    let mut text = ArrayVec::new();
+    let refusal = take_characters(machine, event, &mut text);
+    push_taken(out, refusal, text.as_slice())
+}

@@ -1,0 +1,73 @@
+//! Commands that look at the machine.
+ghost use Rattle.std.specs.Prelude.{◌≡◌, ◌++◌, OnOk, slice_index};
+ghost use Rattle.queue_script.specs.QueueScripts.{show_text};
+ghost use Rattle.queue_script.specs.WaitPairs.{waits_text};
+ghost use Rattle.machine.specs.Views.{job_view};
+ghost use Rattle.op_script.specs.Printing.{job_line, word_line};
+ghost use Rattle.op_script.specs.RunScripts.{jobs_text, examined_text};
+
+use crate::desk::Machine;
+use crate::printing::{push_job, push_place, push_refused, push_word_line};
+use monitor::RefusedEvent;
+use queue_script::{push_requests, push_waits};
+use std::alloc::AllocError;
+use word36::{JOBS, Word};
+
+/// Adds the line of a job, if it is there.
+fn push_job_of(out: &mut Vec<u8>, machine: &Machine, n: u8) -> Result<(), AllocError>
+    ensures { OnOk result (out.new.items ≡ out.old.items ++ job_line n (job_view machine.now.world n)) }
+{
+    match machine.job(n) {
+        Some(job) => push_job(out, n, &job),
+        None => Ok(()),
+    }
+}
+
+/// Adds the lines of all jobs.
+#[tactic(auto, using(std::proofs::Common::append_assoc))]
+pub fn push_jobs(out: &mut Vec<u8>, machine: &Machine) -> Result<(), AllocError>
+    ensures { OnOk result (out.new.items ≡ out.old.items ++ jobs_text machine.now) }
+{
+    for n in 1..JOBS + 1 {
+        push_job_of(out, machine, n)?;
+    }
+    out.extend_from_slice(b"END\n")?;
+    Ok(())
+}
+
+/// Adds the requests.
+pub fn push_locks(out: &mut Vec<u8>, machine: &Machine) -> Result<(), AllocError>
+    ensures { OnOk result (out.new.items ≡ out.old.items ++ show_text machine.now.world.requests) }
+{
+    push_requests(out, machine.locks())
+}
+
+/// Adds who waits for whom.
+pub fn push_waiting(out: &mut Vec<u8>, machine: &Machine) -> Result<(), AllocError>
+    ensures { OnOk result (out.new.items ≡ out.old.items ++ waits_text machine.now.world.requests) }
+{
+    push_waits(out, machine.locks())
+}
+
+/// Adds the word at a place of a job.
+pub fn push_examined(
+    out: &mut Vec<u8>,
+    machine: &Machine,
+    job: u8,
+    place: u32,
+) -> Result<(), AllocError>
+    ensures { OnOk result (out.new.items ≡ out.old.items ++ examined_text machine.now job place) }
+{
+    if machine.job(job).is_none() {
+        return push_refused(out, RefusedEvent::NoSuchJob);
+    }
+    push_place(out, place, machine.peek(job, place))
+}
+
+/// Adds a word that all jobs share.
+pub fn push_data_word(out: &mut Vec<u8>, machine: &Machine, i: u16) -> Result<(), AllocError>
+    ensures { OnOk result (out.new.items ≡ out.old.items ++ word_line (slice_index machine.now.world.shared i)) }
+{
+    let word = machine.data_word(usize::from(i)).unwrap_or(Word::new(0));
+    push_word_line(out, word)
+}

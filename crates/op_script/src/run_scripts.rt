@@ -1,0 +1,201 @@
+//! The service of `lockmon run`: scripts on the machine.
+ghost use Rattle.std.specs.Prelude.{◌≡◌, ◌++◌, ◌^◌, ◌≤◌, None, false, IfOk, IfErr, OnOk};
+ghost use Rattle.mac_asm.specs.Outcome.{outcome_of};
+ghost use Rattle.script_io.specs.Serves.{Serves, Blames};
+ghost use Rattle.queue_script.specs.Endings.{served_as};
+ghost use Rattle.op_script.specs.RunScripts.{effect_of, defined, assembled_text, assembled_ending, source_effect, line_effect, transcript_of, transcript};
+
+use crate::commands::{Command, read_command};
+use crate::desk::{Desk, Machine};
+use crate::events::{happen, happen_often, step, take_text, type_text};
+use crate::images::Images;
+use crate::looking::{push_data_word, push_examined, push_jobs, push_locks, push_waiting};
+use crate::printing::push_image;
+use crate::sources::Source;
+use mac_asm::{AsmError, assemble};
+use monitor::{Config, Event};
+use queue_script::{Ending, ServeError, is_allowed, push_asm_fault, push_fault, serve_script};
+use script_io::{ByteIn, ByteOut, LineService, LineSession};
+use std::alloc::{AllocError, Global};
+use word36::TAKEN_AT_ONCE;
+
+/// Does what a line asks for, and adds what it writes. It answers an ending where the script ends
+/// there.
+fn perform(
+    alloc: Global,
+    desk: &mut Desk,
+    number: u128,
+    command: Option<Command>,
+    out: &mut Vec<u8>,
+) -> Result<Option<Ending>, AllocError>
+    ensures desk { OnOk result (desk.new ≡ (effect_of number desk.old command).desk) }
+    ensures text { OnOk result (out.new.items ≡ out.old.items ++ (effect_of number desk.old command).text) }
+    ensures ending { IfOk result (λ ending. ending ≡ (effect_of number desk.old command).ending) }
+{
+    match command {
+        None => {
+            push_fault(out, number)?;
+            return Ok(Some(Ending::Script));
+        }
+        Some(Command::Quit) => return Ok(Some(Ending::Done)),
+        Some(Command::Nothing) => {}
+        Some(Command::Assemble(name)) => desk.source = Some(Source::new(alloc, name)),
+        Some(Command::Login(line, name)) => {
+            let Some(image) = desk.images.get(&name) else {
+                push_fault(out, number)?;
+                return Ok(Some(Ending::Script));
+            };
+            happen(&mut desk.machine, &Event::Login(line, image), out)?;
+        }
+        Some(Command::Step(most)) => step(&mut desk.machine, most, false, out)?,
+        Some(Command::Run(most)) => step(&mut desk.machine, most, true, out)?,
+        Some(Command::Tick(ticks)) => happen_often(&mut desk.machine, &Event::Tick, ticks, out)?,
+        Some(Command::Typed(line, text)) => type_text(&mut desk.machine, line, &text, out)?,
+        Some(Command::Take(line)) => take_text(
+            &mut desk.machine,
+            &Event::Take(line, TAKEN_AT_ONCE),
+            out,
+        )?,
+        Some(Command::Start(job)) => happen(&mut desk.machine, &Event::Start(job), out)?,
+        Some(Command::Continue(job)) => happen(&mut desk.machine, &Event::Continue(job), out)?,
+        Some(Command::Kill(job)) => happen(&mut desk.machine, &Event::Kill(job), out)?,
+        Some(Command::Restart) => happen(&mut desk.machine, &Event::Restart, out)?,
+        Some(Command::ShowJobs) => push_jobs(out, &desk.machine)?,
+        Some(Command::ShowLocks) => push_locks(out, &desk.machine)?,
+        Some(Command::ShowWaits) => push_waiting(out, &desk.machine)?,
+        Some(Command::Examine(job, place)) => push_examined(out, &desk.machine, job, place)?,
+        Some(Command::Data(i)) => push_data_word(out, &desk.machine, i)?,
+    }
+    Ok(None)
+}
+
+/// A source that is whole gets its image, or is told what is wrong with it.
+fn end_source(
+    alloc: Global,
+    images: &mut Images,
+    source: Source,
+    out: &mut Vec<u8>,
+) -> Result<Option<Ending>, AllocError>
+    ensures images { OnOk result (images.new ≡ defined images.old source.name (outcome_of source.text)) }
+    ensures text { OnOk result (out.new.items ≡ out.old.items ++ assembled_text source.name (outcome_of source.text)) }
+    ensures ending { IfOk result (λ ending. ending ≡ assembled_ending (outcome_of source.text)) }
+{
+    match assemble(alloc, source.text()) {
+        Ok(image) => {
+            let name = source.into_name();
+            push_image(out, &name, image.words.len())?;
+            images.insert(name, image)?;
+            Ok(None)
+        }
+        Err(AsmError::Line { line, code }) => {
+            push_asm_fault(out, line, code)?;
+            Ok(Some(Ending::Source))
+        }
+        Err(AsmError::Memory) => Err(AllocError),
+    }
+}
+
+/// A line of a source comes.
+fn take_source_line(
+    alloc: Global,
+    desk: &mut Desk,
+    mut source: Source,
+    line: &[u8],
+    out: &mut Vec<u8>,
+) -> Result<Option<Ending>, AllocError>
+    requires { desk.old.source ≡ None }
+    ensures desk { OnOk result (desk.new ≡ (source_effect desk.old source line.now).desk) }
+    ensures text { OnOk result (out.new.items ≡ out.old.items ++ (source_effect desk.old source line.now).text) }
+    ensures ending { IfOk result (λ ending. ending ≡ (source_effect desk.old source line.now).ending) }
+{
+    if line == b"ENDASM".as_slice() {
+        return end_source(alloc, &mut desk.images, source, out);
+    }
+    source.push_line(line)?;
+    desk.source = Some(source);
+    Ok(None)
+}
+
+/// Does what a line says, and adds what it writes. It answers an ending where the script ends there.
+fn obey(
+    alloc: Global,
+    desk: &mut Desk,
+    number: u128,
+    line: &[u8],
+    out: &mut Vec<u8>,
+) -> Result<Option<Ending>, AllocError>
+    ensures desk { OnOk result (desk.new ≡ (line_effect number desk.old line.now).desk) }
+    ensures text { OnOk result (out.new.items ≡ out.old.items ++ (line_effect number desk.old line.now).text) }
+    ensures ending { IfOk result (λ ending. ending ≡ (line_effect number desk.old line.now).ending) }
+{
+    if !is_allowed(line) {
+        push_fault(out, number)?;
+        return Ok(Some(Ending::Script));
+    }
+    match desk.source.take() {
+        Some(source) => take_source_line(alloc, desk, source, line, out),
+        None => perform(alloc, desk, number, read_command(line), out),
+    }
+}
+
+/// A script on a machine.
+#[derive(Drop)]
+struct RunService {
+    alloc: Global,
+    desk: Desk,
+}
+
+impl LineService for RunService {
+    type Ending = Ending;
+
+    ghost follow_lines = { λ s n lines. transcript_of s.desk n lines };
+
+    fn take_line(
+        &mut self,
+        number: u128,
+        line: &[u8],
+        out: &mut Vec<u8>,
+    ) -> Result<Option<Ending>, AllocError> {
+        obey(self.alloc, &mut self.desk, number, line, out)
+    }
+
+    fn refuse_line(&mut self, number: u128, out: &mut Vec<u8>) -> Result<Ending, AllocError> {
+        push_fault(out, number)?;
+        Ok(Ending::Script)
+    }
+
+    fn end_lines(&mut self, number: u128, out: &mut Vec<u8>) -> Result<Ending, AllocError> {
+        if self.desk.source.is_none() {
+            return Ok(Ending::Done);
+        }
+        push_fault(out, number + 1)?;
+        Ok(Ending::Script)
+    }
+}
+
+/// Serves a script on a machine from a fresh boot, with the blocks and the quantum of a `Config`:
+/// reads it, and writes its transcript. What a command writes goes out before the next read.
+pub fn serve<R: ByteIn, W: ByteOut>(
+    alloc: Global,
+    config: Config,
+    reader: &mut R,
+    writer: &mut W,
+) -> Result<(), ServeError>
+    requires reader_sound { R.has_failed reader.old ≡ false }
+    requires writer_sound { W.has_failed writer.old ≡ false }
+    requires few { R.reads_left reader.old ≤ 2 ^ 63 }
+    ensures serves { Serves (transcript config.blocks config.quantum) (R.to_come reader.old) (R.to_come reader.new) (W.written writer.old) (W.written writer.new) (served_as result) }
+    ensures blames { IfErr (served_as result) (λ e. Blames e (R.has_failed reader.new) (W.has_failed writer.new)) }
+{
+    let machine = match Machine::boot(alloc, config) {
+        Ok(machine) => machine,
+        Err(_) => return Err(ServeError::Memory),
+    };
+    let desk = Desk {
+        machine,
+        images: Images::new(alloc),
+        source: None,
+    };
+    let mut session = LineSession::new(RunService { alloc, desk });
+    serve_script(alloc, &mut session, reader, writer)
+}

@@ -1,0 +1,207 @@
+//! Room for the call of a line. A call has room for 16 locks, too much to be moved for every line of
+//! a script, so each call is filled in where it stays, and the line's command borrows it.
+ghost use Rattle.std.specs.Prelude.{◌≡◌, option_map};
+ghost use Rattle.queue_script.specs.Borrowed.{filled, lent_by};
+ghost use Rattle.queue_script.specs.Commands.{request_call, change_call, release_call, release_all_call, release_id_call};
+ghost use Rattle.queue_script.specs.Locks.{locks_of, call_wants};
+ghost use Rattle.lock_queue.specs.declared.terms.LockUse.TheVariants.{Named};
+
+use crate::call_wants::read_wants;
+use crate::options::read_half;
+use crate::parts::Parts;
+use lock_queue::{EnqueueKind, LockCall, LockUse, Refusal, RequestId, Wants};
+
+/// A call of each kind that names locks, one that names none, and the locks whose status is asked.
+#[derive(Drop)]
+pub struct CallRoom {
+    request: LockCall,
+    change: LockCall,
+    release: LockCall,
+    other: LockCall,
+    keys: Wants,
+}
+
+impl CallRoom {
+    /// Room in which nothing stands yet.
+    pub fn new() -> Self {
+        CallRoom {
+            request: LockCall::DequeueAll,
+            change: LockCall::DequeueAll,
+            release: LockCall::DequeueAll,
+            other: LockCall::DequeueAll,
+            keys: Wants::new(),
+        }
+    }
+
+    /// A request for the locks that the items spell, or why it is refused; None where an item is no
+    /// lock.
+    #[inline(always)]
+    pub fn request(
+        &mut self,
+        kind: EnqueueKind,
+        id: RequestId,
+        job: u8,
+        items: Parts<'_>,
+    ) -> Option<Result<&LockCall, Refusal>>
+        ensures { lent_by result ≡ request_call kind id job items.entry }
+    {
+        match fill_request(&mut self.request, kind, id, job, items) {
+            None => None,
+            Some(Ok(())) => Some(Ok(&self.request)),
+            Some(Err(refusal)) => Some(Err(refusal)),
+        }
+    }
+
+    /// A change of the locks that the items spell, or why it is refused; None where an item is no
+    /// lock.
+    pub fn change(&mut self, job: u8, items: Parts<'_>) -> Option<Result<&LockCall, Refusal>>
+        ensures { lent_by result ≡ change_call job items.entry }
+    {
+        match fill_change(&mut self.change, job, items) {
+            None => None,
+            Some(Ok(())) => Some(Ok(&self.change)),
+            Some(Err(refusal)) => Some(Err(refusal)),
+        }
+    }
+
+    /// That the locks that the items spell are given up, or why it is refused; None where an item is
+    /// no lock.
+    #[inline(always)]
+    pub fn release(&mut self, job: u8, items: Parts<'_>) -> Option<Result<&LockCall, Refusal>>
+        ensures { lent_by result ≡ release_call job items.entry }
+    {
+        match fill_release(&mut self.release, job, items) {
+            None => None,
+            Some(Ok(())) => Some(Ok(&self.release)),
+            Some(Err(refusal)) => Some(Err(refusal)),
+        }
+    }
+
+    /// That all is given up, where no item is left.
+    pub fn release_all(&mut self, items: Parts<'_>) -> Option<Result<&LockCall, Refusal>>
+        ensures { lent_by result ≡ release_all_call items.entry }
+    {
+        if !items.is_empty() {
+            return None;
+        }
+        self.other = LockCall::DequeueAll;
+        Some(Ok(&self.other))
+    }
+
+    /// That the requests of the id are given up that the one item spells.
+    pub fn release_id(&mut self, mut items: Parts<'_>) -> Option<Result<&LockCall, Refusal>>
+        ensures { lent_by result ≡ release_id_call items.entry }
+    {
+        let id = items.next()?;
+        if !items.is_empty() {
+            return None;
+        }
+        let id = RequestId::new(read_half(id)?);
+        self.other = LockCall::DequeueId(id);
+        Some(Ok(&self.other))
+    }
+
+    /// The locks that the items spell, or why they are refused; None where an item is no lock.
+    pub fn keys(&mut self, job: u8, items: Parts<'_>) -> Option<Result<&Wants, Refusal>>
+        ensures { lent_by result ≡ option_map (call_wants job Named) (locks_of items.entry) }
+    {
+        match read_wants(items, job, LockUse::Named, &mut self.keys) {
+            None => None,
+            Some(Ok(())) => Some(Ok(&self.keys)),
+            Some(Err(refusal)) => Some(Err(refusal)),
+        }
+    }
+}
+
+/// Fills in a request where another call stood.
+#[inline(never)]
+fn replace_by_request(
+    call: &mut LockCall,
+    kind: EnqueueKind,
+    id: RequestId,
+    job: u8,
+    items: Parts<'_>,
+) -> Option<Result<(), Refusal>>
+    ensures { filled result call.new ≡ request_call kind id job items.entry }
+{
+    let mut wants = Wants::new();
+    let answer = read_wants(items, job, LockUse::Requested, &mut wants);
+    *call = LockCall::Enqueue {
+        kind,
+        id,
+        wants,
+        armed: true,
+    };
+    answer
+}
+
+/// Fills in a change where another call stood.
+#[inline(never)]
+fn replace_by_change(call: &mut LockCall, job: u8, items: Parts<'_>) -> Option<Result<(), Refusal>>
+    ensures { filled result call.new ≡ change_call job items.entry }
+{
+    let mut wants = Wants::new();
+    let answer = read_wants(items, job, LockUse::Named, &mut wants);
+    *call = LockCall::Modify(wants);
+    answer
+}
+
+/// Fills in what is given up where another call stood.
+#[inline(never)]
+fn replace_by_release(call: &mut LockCall, job: u8, items: Parts<'_>) -> Option<Result<(), Refusal>>
+    ensures { filled result call.new ≡ release_call job items.entry }
+{
+    let mut wants = Wants::new();
+    let answer = read_wants(items, job, LockUse::Named, &mut wants);
+    *call = LockCall::DequeueNamed(wants);
+    answer
+}
+
+/// Fills in a request for the locks that the items spell, or says why it is refused; None where an
+/// item is no lock.
+fn fill_request(
+    call: &mut LockCall,
+    kind: EnqueueKind,
+    id: RequestId,
+    job: u8,
+    items: Parts<'_>,
+) -> Option<Result<(), Refusal>>
+    ensures { filled result call.new ≡ request_call kind id job items.entry }
+{
+    match call {
+        LockCall::Enqueue {
+            kind: call_kind,
+            id: call_id,
+            wants,
+            armed,
+        } => {
+            *call_kind = kind;
+            *call_id = id;
+            *armed = true;
+            read_wants(items, job, LockUse::Requested, wants)
+        }
+        _ => replace_by_request(call, kind, id, job, items),
+    }
+}
+
+/// Fills in a change of the locks that the items spell, or says why it is refused; None where an
+/// item is no lock.
+fn fill_change(call: &mut LockCall, job: u8, items: Parts<'_>) -> Option<Result<(), Refusal>>
+    ensures { filled result call.new ≡ change_call job items.entry }
+{
+    match call {
+        LockCall::Modify(wants) => read_wants(items, job, LockUse::Named, wants),
+        _ => replace_by_change(call, job, items),
+    }
+}
+
+/// Fills in that the locks that the items spell are given up, or says why it is refused; None where
+/// an item is no lock.
+fn fill_release(call: &mut LockCall, job: u8, items: Parts<'_>) -> Option<Result<(), Refusal>>
+    ensures { filled result call.new ≡ release_call job items.entry }
+{
+    match call {
+        LockCall::DequeueNamed(wants) => read_wants(items, job, LockUse::Named, wants),
+        _ => replace_by_release(call, job, items),
+    }
+}

@@ -1,0 +1,11 @@
+pub mod Services
+pub mod Around
+pub mod LockRows
+pub mod StatusRow
+pub mod CoreRow
+pub mod TerminalRows
+pub mod InterruptRows
+pub mod Performed
+pub mod JobRows
+pub mod DataRows
+pub mod Laws

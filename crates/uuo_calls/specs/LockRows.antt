@@ -1,0 +1,88 @@
+-- ENQ. and DEQ. (TOPS-10 Monitor Calls Manual, in this project's profile).
+use Rattle.std.specs.Prelude.{ℕ, ◌==◌, ◌≤◌, Bool, IsTrue, is_some, if◌then◌else◌, List, length, Result, Ok, Err}
+use Rattle.std.specs.List.{list_all}
+use Rattle.word36.specs.Words.{left_half, right_half}
+use Rattle.core_store.specs.Cores.{core_of}
+use Rattle.lock_queue.specs.declared.call.LockCall.{LockCall}
+use Rattle.lock_queue.specs.declared.call.LockCall.TheVariants.{Enqueue, Modify, DequeueNamed, DequeueAll, DequeueId}
+use Rattle.lock_queue.specs.declared.call.LockReply.{LockReply}
+use Rattle.lock_queue.specs.declared.call.LockReply.TheVariants.{Granted, Queued, Done, Refused}
+use Rattle.lock_queue.specs.declared.refusal.Refusal.{Refusal}
+use Rattle.lock_queue.specs.declared.refusal.Refusal.TheVariants.{NoFunction}
+use Rattle.lock_queue.specs.declared.request.EnqueueKind.{EnqueueKind}
+use Rattle.lock_queue.specs.declared.request.EnqueueKind.TheVariants.{Blocking, AtOnce, Interrupt}
+use Rattle.lock_queue.specs.declared.request.Request.{Request}
+use Rattle.lock_queue.specs.Calls.{outcome_of}
+use Rattle.lock_queue.specs.Outcomes.{Outcome, outcome}
+use Rattle.lock_queue.specs.Refusals.{code_of}
+use Rattle.lock_queue.specs.WellFormed.{names_locks, shares_no_pool, shares_no_pools}
+use Rattle.call_block.specs.declared.block.Block.{Block}
+use Rattle.lock_queue.specs.declared.terms.LockUse.TheVariants.{Requested, Named}
+use Rattle.call_block.specs.Blocks.{block_at}
+use Rattle.job_sched.specs.declared.job.Job.{Job}
+use Rattle.job_sched.specs.declared.job.Wait.TheVariants.{Queue}
+use Rattle.uuo_calls.specs.Around.{Around, ac_of, skipping, refusing, waiting}
+
+-- a block that may be asked for: it names a lock, and shares no pool
+abbrev pub IsAskable : Block → Type 0
+IsAskable block = (1 ≤ length block.wants.items) × IsTrue (list_all shares_no_pool block.wants.items)
+
+-- a call that a lock table takes
+abbrev pub IsRight : LockCall → Type 0
+IsRight call = IsTrue (names_locks call) × IsTrue (shares_no_pools call)
+
+-- the request that a block asks for
+abbrev pub entering : EnqueueKind → Bool → Result Block Refusal → Result LockCall Refusal
+entering kind armed (Ok block) = Ok (Enqueue kind block.id block.wants armed)
+entering kind armed (Err refusal) = Err refusal
+
+-- the change that a block asks for
+abbrev pub changing : Result Block Refusal → Result LockCall Refusal
+changing (Ok block) = Ok (Modify block.wants)
+changing (Err refusal) = Err refusal
+
+-- what ENQ. asks for: its AC is `function,,address`
+abbrev pub enq_asks : List ℕ → List ℕ → ℕ → ℕ → Bool → Result LockCall Refusal
+enq_asks regs core n w armed =
+    if left_half w == 0 then entering Blocking armed (block_at regs core (right_half w) n Requested) else
+    if left_half w == 1 then entering AtOnce armed (block_at regs core (right_half w) n Requested) else
+    if left_half w == 2 then entering Interrupt armed (block_at regs core (right_half w) n Requested) else
+    if left_half w == 3 then changing (block_at regs core (right_half w) n Named) else
+    Err NoFunction
+
+-- what is left and answered where this is asked for
+abbrev pub asked : List Request → ℕ → Result LockCall Refusal → Outcome
+asked requests n (Ok call) = outcome_of requests n call
+asked requests n (Err refusal) = outcome requests (Refused refusal)
+
+-- the job after an answer: it skips, and waits where its request is queued; a refusal puts its code in AC
+abbrev pub answered : Job → ℕ → LockReply → Job
+answered j ac Granted = skipping j
+answered j ac Queued = waiting (skipping j) Queue
+answered j ac Done = skipping j
+answered j ac (Refused refusal) = refusing j ac (code_of refusal)
+
+abbrev pub replied : Around → ℕ → Outcome → Around
+replied a ac o = record a { job = answered a.job ac o.reply; requests = o.requests }
+
+abbrev pub enq_row : ℕ → ℕ → Around → Around
+enq_row n ac a =
+    replied a ac
+    (asked a.requests n
+    (enq_asks a.job.regs.ac (core_of a.cores n) n (ac_of a.job ac) (is_some a.job.interrupts.vector)))
+
+-- the wants that a block gives up
+abbrev pub naming : Result Block Refusal → Result LockCall Refusal
+naming (Ok block) = Ok (DequeueNamed block.wants)
+naming (Err refusal) = Err refusal
+
+-- what DEQ. asks for: its AC is `function,,address`, or `2,,id`
+abbrev pub deq_asks : List ℕ → List ℕ → ℕ → ℕ → Result LockCall Refusal
+deq_asks regs core n w =
+    if left_half w == 0 then naming (block_at regs core (right_half w) n Named) else
+    if left_half w == 1 then Ok DequeueAll else
+    if left_half w == 2 then Ok (DequeueId (right_half w)) else
+    Err NoFunction
+
+abbrev pub deq_row : ℕ → ℕ → Around → Around
+deq_row n ac a = replied a ac (asked a.requests n (deq_asks a.job.regs.ac (core_of a.cores n) n (ac_of a.job ac)))

@@ -1,0 +1,81 @@
+-- ENQC. (TOPS-10 Monitor Calls Manual, in this project's profile).
+use Rattle.std.specs.Prelude.{ℕ, ◌+◌, ◌*◌, ◌%◌, ◌==◌, if◌then◌else◌, List, [], ◌∷◌, length, Result, Ok, Err}
+use Rattle.std.specs.List.{flat_map}
+use Rattle.word36.specs.Words.{left_half, right_half}
+use Rattle.core_store.specs.Cores.{core_of, with_core}
+use Rattle.ka_cpu.specs.Places.{ac_with, are_legal, core_with}
+use Rattle.ka_cpu.specs.declared.registers.Regs.{Regs}
+use Rattle.lock_queue.specs.declared.refusal.Refusal.{Refusal}
+use Rattle.lock_queue.specs.declared.refusal.Refusal.TheVariants.{NoFunction, BadBlock}
+use Rattle.lock_queue.specs.declared.request.Request.{Request}
+use Rattle.lock_queue.specs.declared.want.Want.{Want}
+use Rattle.lock_queue.specs.Refusals.{code_of}
+use Rattle.lock_queue.specs.StatusWords.{status_of, words_of}
+use Rattle.arrayvec.specs.ArrayVec.{ArrayVec}
+use Rattle.call_block.specs.declared.block.Block.{Block}
+use Rattle.lock_queue.specs.declared.terms.LockUse.TheVariants.{Named}
+use Rattle.call_block.specs.Blocks.{block_at}
+use Rattle.job_sched.specs.declared.job.Job.{Job}
+use Rattle.uuo_calls.specs.Around.{Around, ac_of, skipping, refusing}
+
+-- registers and core
+pub record Places : Type 0 where
+  pub regs : Regs
+  pub core : List ℕ
+
+-- after a word is stored at a place
+abbrev pub stored_at : Places → ℕ → ℕ → Places
+stored_at p a w = record { regs = record p.regs { ac = ac_with p.regs.ac a w }; core = core_with p.core a w }
+
+-- after words are stored one behind the other, from a place on
+abbrev pub stored : Places → ℕ → List ℕ → Places
+stored p a [] = p
+stored p a (w ∷ ws) = stored (stored_at p a w) (a + 1) ws
+
+-- three words a lock
+abbrev pub status_words : List Request → ℕ → List Want → List ℕ
+status_words requests n wants = flat_map (λ w. words_of (status_of requests w.key n)) wants
+
+-- the wants that ENQC. names: its AC is `0,,address`
+abbrev pub wants_in : Result Block Refusal → Result (List Want) Refusal
+wants_in (Ok block) = Ok block.wants.items
+wants_in (Err refusal) = Err refusal
+
+abbrev pub enqc_asks : List ℕ → List ℕ → ℕ → ℕ → Result (List Want) Refusal
+enqc_asks regs core n w = if left_half w == 0 then wants_in (block_at regs core (right_half w) n Named) else Err NoFunction
+
+-- the answers' places have to be legal
+abbrev pub with_room : List ℕ → ℕ → Result (List Want) Refusal → Result (List Want) Refusal
+with_room core to (Ok wants) = if are_legal core to (3 * length wants) then Ok wants else Err BadBlock
+with_room core to (Err refusal) = Err refusal
+
+-- the wants as a list
+abbrev pub wants_of : Result (ArrayVec Want) Refusal → Result (List Want) Refusal
+wants_of (Ok v) = Ok v.items
+wants_of (Err e) = Err e
+
+-- a job and its core
+pub record JobCore : Type 0 where
+  pub job : Job
+  pub core : List ℕ
+
+-- all words are worked out before the first is stored
+abbrev pub told : List Request → ℕ → ℕ → ℕ → Job → List ℕ → Result (List Want) Refusal → JobCore
+told requests n ac to j core (Err refusal) = record { job = refusing j ac (code_of refusal); core = core }
+told requests n ac to j core (Ok wants) =
+    let p = stored (record { regs = j.regs; core = core }) to (status_words requests n wants) in
+    record { job = skipping (record j { regs = p.regs }); core = p.core }
+
+-- the answers go to the address in the right half of AC+1
+abbrev pub answers_at : Job → ℕ → ℕ
+answers_at j ac = right_half (ac_of j ((ac + 1) % 16))
+
+abbrev pub enqc : List Request → ℕ → ℕ → Job → List ℕ → JobCore
+enqc requests n ac j core =
+    told requests n ac (answers_at j ac) j core
+    (with_room core (answers_at j ac) (enqc_asks j.regs.ac core n (ac_of j ac)))
+
+abbrev pub enqc_row : ℕ → ℕ → Around → Around
+enqc_row n ac a =
+    let o = enqc a.requests n ac a.job (core_of a.cores n) in
+    record a { job = o.job; cores = with_core a.cores n o.core }

@@ -1,0 +1,141 @@
+//! Any monitor call.
+
+ghost use Rattle.std.specs.Prelude.{◌≡◌, ◌≢◌, ◌<◌, ◌^◌, [], IsSome};
+ghost use Rattle.core_store.specs.Cores.{IsJob, core_of, given};
+ghost use Rattle.lock_queue.specs.Jobs.{released};
+ghost use Rattle.job_sched.specs.Changes.{table_without};
+ghost use Rattle.job_sched.specs.Tables.{job_at};
+ghost use Rattle.uuo_calls.specs.Around.{Around};
+ghost use Rattle.uuo_calls.specs.Performed.{World, Performed, performed, row_of, around};
+ghost use Rattle.uuo_calls.specs.declared.call.CallOutcome.TheVariants.{Done};
+
+use crate::call::{CallOutcome, MonitorCall};
+use crate::core_call::resize_core;
+use crate::data_words::{datrd, datwr};
+use crate::input::{input, skpin};
+use crate::interrupts::{debrk, piini, pisys};
+use crate::jobs::{exit, mstime, pjob, reset, sleep};
+use crate::locks::{deq, enq};
+use crate::output::{outchr, outstr};
+use crate::returns::stop_at;
+use crate::service::{Service, service_of};
+use crate::status::enqc;
+use core_store::CoreStore;
+use job_sched::{Job, JobTable, Stop, TimeOfDay};
+use ka_cpu::StopReason;
+use lock_queue::LockTable;
+use tty_lines::Lines;
+use word36::{DATA_WORDS, Word};
+
+/// A call of a job, by its row of the table of calls.
+fn carry_out<L: LockTable, C: CoreStore>(
+    service: Service,
+    time: TimeOfDay,
+    number: u8,
+    ac: u8,
+    e: u32,
+    job: &mut Job,
+    lines: &mut Lines,
+    locks: &mut L,
+    cores: &mut C,
+    shared: &mut [Word; DATA_WORDS],
+) -> CallOutcome
+    requires number { IsJob number }
+    requires ac { ac < 16 }
+    requires e { e < 2 ^ 18 }
+    requires core { core_of (C.meaning cores.old) number ≢ [] }
+    ensures row { record { job = job.new; lines = lines.new; requests = L.requests locks.new; cores = C.meaning cores.new; shared = shared.new; ending = result }
+        ≡ row_of service time number ac e (record { job = job.old; lines = lines.old; requests = L.requests locks.old; cores = C.meaning cores.old; shared = shared.old; ending = Done }) }
+{
+    match service {
+        Service::Reset => reset(number, job, locks),
+        Service::Core => resize_core(number, job, ac, cores),
+        Service::Exit => exit(number, job, locks),
+        Service::Monrt => job.stop = Some(Stop::Monitor),
+        Service::Logout => return CallOutcome::Gone,
+        Service::Mstime => mstime(time, job, ac),
+        Service::Pjob => pjob(number, job, ac),
+        Service::Sleep => sleep(job, ac),
+        Service::Piini => piini(number, job, ac, cores),
+        Service::Pisys => pisys(job, ac),
+        Service::Debrk => debrk(number, job, cores),
+        Service::Enq => enq(number, job, ac, locks, cores),
+        Service::Deq => deq(number, job, ac, locks, cores),
+        Service::Enqc => enqc(number, job, ac, locks, cores),
+        Service::Datrd => datrd(job, ac, shared),
+        Service::Datwr => datwr(job, ac, shared),
+        Service::Input(awaited, skips) => {
+            return input(number, awaited, skips, job, e, lines, cores);
+        }
+        Service::Outchr => return outchr(number, job, e, lines, cores),
+        Service::Outstr => return outstr(number, job, e, lines, cores),
+        Service::Clrbfi => lines.clear_input(job.line),
+        Service::Clrbfo => lines.clear_output(job.line),
+        Service::Skpin(awaited) => skpin(awaited, job, lines),
+        Service::Unlisted => stop_at(job, StopReason::IllegalInstruction),
+    }
+    CallOutcome::Done
+}
+
+/// Takes a job away, as LOGOUT does: its requests leave and its core is free; no quantum is left where
+/// it was current. What its line holds stays.
+pub fn remove_job<L: LockTable, C: CoreStore>(
+    number: u8,
+    table: &mut JobTable,
+    locks: &mut L,
+    cores: &mut C,
+)
+    requires { IsJob number }
+    ensures table { table.new ≡ table_without table.old number }
+    ensures requests { L.requests locks.new ≡ released (L.requests locks.old) number }
+    ensures cores { C.meaning cores.new ≡ given (C.meaning cores.old) number }
+{
+    table.remove(number);
+    locks.release(number);
+    cores.give(number);
+}
+
+/// Performs a monitor call of a job that is there and has core, and whose PC is that of the next
+/// instruction (TOPS-10 Monitor Calls Manual, in this project's profile).
+///
+/// Calls: CALLI RESET 0, CORE 11, EXIT 12, LOGOUT 17, MSTIME 23, PJOB 30, SLEEP 31, PIINI. 135, PISYS.
+/// 136, DEBRK. 137, ENQ. 151, DEQ. 152, ENQC. 153, DATRD. -2 and DATWR. -3 octal, and TTCALL functions
+/// 0 to 5 and 11 to 14 octal. A refused call puts its code in AC, does not skip and changes nothing
+/// else, but for a request of ENQ. 2 that is not granted at once, which stays. Any other call stops the
+/// job as an illegal instruction, and one that meets an illegal address stops it for that; both put
+/// the PC back and change nothing else. Nothing takes memory.
+pub fn perform<L: LockTable, C: CoreStore>(
+    number: u8,
+    call: MonitorCall,
+    table: &mut JobTable,
+    lines: &mut Lines,
+    locks: &mut L,
+    cores: &mut C,
+    shared: &mut [Word; DATA_WORDS],
+    time: TimeOfDay,
+) -> CallOutcome
+    requires number { IsJob number }
+    requires ac { call.ac < 16 }
+    requires e { call.e < 2 ^ 18 }
+    requires there { IsSome (job_at table.old.jobs number) }
+    requires core { core_of (C.meaning cores.old) number ≢ [] }
+    ensures performed { record { world = record { table = table.new; lines = lines.new; requests = L.requests locks.new; cores = C.meaning cores.new; shared = shared.new }; outcome = result }
+        ≡ performed (record { table = table.old; lines = lines.old; requests = L.requests locks.old; cores = C.meaning cores.old; shared = shared.old }) time number call }
+{
+    let MonitorCall { kind, ac, e } = call;
+    let service = service_of(kind, ac, e);
+    let outcome = match &mut table.jobs[number as usize] {
+        Some(job) => {
+            let outcome = carry_out(
+                service, time, number, ac, e, job, lines, locks, cores, shared,
+            );
+            table.sleepers |= job.is_asleep();
+            outcome
+        }
+        None => return CallOutcome::Gone,
+    };
+    if matches!(outcome, CallOutcome::Gone) {
+        remove_job(number, table, locks, cores);
+    }
+    outcome
+}

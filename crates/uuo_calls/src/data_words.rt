@@ -1,0 +1,40 @@
+//! DATRD. and DATWR.
+
+ghost use Rattle.std.specs.Prelude.{◌≡◌, ◌<◌, length};
+ghost use Rattle.word36.specs.declared.sizes.TheConstants.{DATA_WORDS};
+ghost use Rattle.uuo_calls.specs.DataRows.{datrd, datwr};
+
+use crate::returns::{refuse, skip};
+use job_sched::Job;
+use word36::{DATA_WORDS, Word};
+
+/// The code of an index that no shared word has.
+const NO_SUCH_WORD: u8 = 1;
+
+/// DATRD.
+pub(crate) fn datrd(job: &mut Job, ac: u8, shared: &[Word; DATA_WORDS])
+    requires { ac < 16 }
+    ensures { job.new ≡ datrd shared.now ac job.old }
+{
+    let at = job.regs.ac[ac as usize].right() as usize;
+    if at < DATA_WORDS {
+        job.regs.ac[ac as usize] = shared[at];
+        skip(job);
+    } else {
+        refuse(job, ac, NO_SUCH_WORD);
+    }
+}
+
+/// DATWR.
+pub(crate) fn datwr(job: &mut Job, ac: u8, shared: &mut [Word; DATA_WORDS])
+    requires { ac < 16 }
+    ensures { record { job = job.new; shared = shared.new } ≡ datwr ac job.old shared.old }
+{
+    let at = job.regs.ac[ac as usize].right() as usize;
+    if at < DATA_WORDS {
+        shared[at] = job.regs.ac[(ac as usize + 1) % 16];
+        skip(job);
+    } else {
+        refuse(job, ac, NO_SUCH_WORD);
+    }
+}

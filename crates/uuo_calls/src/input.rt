@@ -1,0 +1,115 @@
+//! INCHRW, INCHRS, INCHWL, INCHSL, SKPINC and SKPINL.
+
+ghost use Rattle.std.specs.Prelude.{◌≡◌, ◌<◌, ◌^◌, drop, []};
+ghost use Rattle.core_store.specs.Cores.{IsJob, core_of, with_core};
+ghost use Rattle.tty_lines.specs.Rings.{input_of, with_input};
+ghost use Rattle.uuo_calls.specs.TerminalRows.{first_of, has_input, input_called, input_wait, no_input, skipping_if, without_core};
+
+use crate::call::CallOutcome;
+use crate::returns::{skip, stop_at, wait_again};
+use crate::service::Awaited;
+use core_store::{CoreStore, CoreWindow};
+use job_sched::{Job, Wait};
+use ka_cpu::{JobMemory, StopReason, is_legal_kept, store};
+use tty_lines::Lines;
+use word36::Word;
+
+/// Whether what is to be read has come to a job's line.
+fn has_input(awaited: Awaited, job: &Job, lines: &Lines) -> bool
+    ensures { result ≡ has_input awaited (input_of lines.now job.now.line) }
+{
+    match awaited {
+        Awaited::Character => lines.has_char(job.line),
+        Awaited::Line => lines.has_line(job.line),
+    }
+}
+
+/// The wait for what is to be read.
+fn input_wait(awaited: Awaited) -> Wait
+    ensures { result ≡ input_wait awaited }
+{
+    match awaited {
+        Awaited::Character => Wait::Char,
+        Awaited::Line => Wait::Line,
+    }
+}
+
+/// Takes the first character of a job's line, as a word; 0 where there is none.
+fn next_character(job: &Job, lines: &mut Lines) -> Word
+    ensures value { result ≡ first_of (input_of lines.old job.now.line) }
+    ensures rest { lines.new ≡ with_input lines.old job.now.line (drop 1 (input_of lines.old job.now.line)) }
+{
+    match lines.get(job.line) {
+        Some(c) => Word::new(c.number() as u64),
+        None => Word::new(0),
+    }
+}
+
+/// Lets a job go on without a character, or wait for one.
+fn go_without(awaited: Awaited, skips: bool, job: &mut Job) -> CallOutcome
+    ensures job { job.new ≡ (no_input awaited skips [] job.old []).job }
+    ensures ending { result ≡ (no_input awaited skips [] job.old []).ending }
+{
+    if skips {
+        return CallOutcome::Done;
+    }
+    wait_again(job, input_wait(awaited));
+    CallOutcome::Empty
+}
+
+/// Reads a character into a job's memory.
+fn read<M: JobMemory>(
+    awaited: Awaited,
+    skips: bool,
+    job: &mut Job,
+    memory: &mut M,
+    e: u32,
+    lines: &mut Lines,
+) -> CallOutcome
+    requires e { e < 2 ^ 18 }
+    ensures called { record { job = job.new; core = M.words memory.new; lines = lines.new; ending = result } ≡ input_called awaited skips e (M.words memory.old) job.old lines.old }
+    ensures place { M.place memory.new ≡ M.place memory.old }
+{
+    if !is_legal_kept(memory, e) {
+        stop_at(job, StopReason::IllegalAddress);
+        return CallOutcome::Done;
+    }
+    if !has_input(awaited, job, lines) {
+        return go_without(awaited, skips, job);
+    }
+    let c = next_character(job, lines);
+    store(&mut job.regs, memory, e, c);
+    if skips {
+        skip(job);
+    }
+    CallOutcome::Done
+}
+
+/// INCHRW, INCHRS, INCHWL and INCHSL.
+pub(crate) fn input<C: CoreStore>(
+    number: u8,
+    awaited: Awaited,
+    skips: bool,
+    job: &mut Job,
+    e: u32,
+    lines: &mut Lines,
+    cores: &mut C,
+) -> CallOutcome
+    requires number { IsJob number }
+    requires e { e < 2 ^ 18 }
+    ensures called { record { job = job.new; lines = lines.new; ending = result } ≡ without_core (input_called awaited skips e (core_of (C.meaning cores.old) number) job.old lines.old) }
+    ensures cores { C.meaning cores.new ≡ with_core (C.meaning cores.old) number (input_called awaited skips e (core_of (C.meaning cores.old) number) job.old lines.old).core }
+{
+    let words = cores.window(number);
+    let mut window = CoreWindow { words };
+    read(awaited, skips, job, &mut window, e, lines)
+}
+
+/// SKPINC and SKPINL.
+pub(crate) fn skpin(awaited: Awaited, job: &mut Job, lines: &Lines)
+    ensures { job.new ≡ skipping_if (has_input awaited (input_of lines.now job.old.line)) job.old }
+{
+    if has_input(awaited, job, lines) {
+        skip(job);
+    }
+}

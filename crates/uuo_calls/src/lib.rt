@@ -1,0 +1,24 @@
+//! The monitor calls of a job.
+#![tactic(auto)]
+
+mod blocks;
+mod call;
+mod calls;
+mod core_call;
+mod data_words;
+mod input;
+mod interrupts;
+mod jobs;
+mod laws;
+mod locks;
+mod output;
+mod returns;
+mod service;
+mod status;
+
+pub use call::{CallOutcome, MonitorCall};
+pub use calls::{perform, remove_job};
+pub use laws::{
+    core_answers_free_blocks, empty_steps_wait, mstime_answers_milliseconds, others_are_spared,
+    refusals_change_ac_alone, texts_go_whole,
+};

@@ -1,0 +1,42 @@
+//! How a call returns to its program.
+
+ghost use Rattle.std.specs.Prelude.{◌≡◌, ◌<◌, ◌^◌};
+ghost use Rattle.uuo_calls.specs.Around.{put_back, refusing, skipping, stopped_at, waiting};
+
+use job_sched::{Job, Stop, Wait};
+use ka_cpu::StopReason;
+use word36::Word;
+
+/// What takes an address one back, counted modulo 2^18.
+const ONE_BACK: u32 = 0o777_777;
+
+/// Skips the next instruction.
+pub(crate) fn skip(job: &mut Job)
+    ensures { job.new ≡ skipping job.old }
+{
+    job.regs.pc = job.regs.pc.plus(1);
+}
+
+/// Refuses the call: `0,,code` goes to AC, and nothing is skipped.
+pub(crate) fn refuse(job: &mut Job, ac: u8, code: u8)
+    requires { ac < 16 }
+    ensures { job.new ≡ refusing job.old ac code }
+{
+    job.regs.ac[ac as usize] = Word::new(code as u64);
+}
+
+/// Lets the job wait and make the call again later.
+pub(crate) fn wait_again(job: &mut Job, wait: Wait)
+    ensures { job.new ≡ waiting (put_back job.old) wait }
+{
+    job.regs.pc = job.regs.pc.plus(ONE_BACK);
+    job.wait = wait;
+}
+
+/// Stops the job at the call.
+pub(crate) fn stop_at(job: &mut Job, reason: StopReason)
+    ensures { job.new ≡ stopped_at job.old reason }
+{
+    job.regs.pc = job.regs.pc.plus(ONE_BACK);
+    job.stop = Some(Stop::Fault(reason));
+}

@@ -1,0 +1,112 @@
+//! Which call a job makes.
+
+ghost use Rattle.std.specs.Prelude.{◌≡◌};
+ghost use Rattle.uuo_calls.specs.Services.{calli_of, exit_of, service_of, ttcall_of};
+
+use ka_cpu::CallKind;
+
+/// What a program reads of its line.
+#[derive(Clone, Copy, Debug, PartialEq, Eq)]
+pub enum Awaited {
+    /// Any character.
+    Character,
+    /// A character of a whole line.
+    Line,
+}
+
+/// The calls that are listed, by their names in the TOPS-10 Monitor Calls Manual, and all others.
+#[derive(Clone, Copy, Debug, PartialEq, Eq)]
+pub enum Service {
+    Reset,
+    Core,
+    /// EXIT with AC field 0.
+    Exit,
+    /// EXIT with AC field 1.
+    Monrt,
+    Logout,
+    Mstime,
+    Pjob,
+    Sleep,
+    Piini,
+    Pisys,
+    Debrk,
+    Enq,
+    Deq,
+    Enqc,
+    Datrd,
+    Datwr,
+    /// INCHRW, INCHRS, INCHWL and INCHSL: what is read, and whether the call skips where it is there
+    /// and goes on where it is not, in place of a wait.
+    Input(Awaited, bool),
+    Outchr,
+    Outstr,
+    Clrbfi,
+    Clrbfo,
+    /// SKPINC and SKPINL.
+    Skpin(Awaited),
+    Unlisted,
+}
+
+/// EXIT with an AC field.
+fn exit_of(ac: u8) -> Service
+    ensures { result ≡ exit_of ac }
+{
+    match ac {
+        0 => Service::Exit,
+        1 => Service::Monrt,
+        _ => Service::Unlisted,
+    }
+}
+
+/// The CALLI of this AC field and number.
+fn calli_of(ac: u8, e: u32) -> Service
+    ensures { result ≡ calli_of ac e }
+{
+    match e {
+        0 => Service::Reset,
+        0o11 => Service::Core,
+        0o12 => exit_of(ac),
+        0o17 => Service::Logout,
+        0o23 => Service::Mstime,
+        0o30 => Service::Pjob,
+        0o31 => Service::Sleep,
+        0o135 => Service::Piini,
+        0o136 => Service::Pisys,
+        0o137 => Service::Debrk,
+        0o151 => Service::Enq,
+        0o152 => Service::Deq,
+        0o153 => Service::Enqc,
+        0o777_776 => Service::Datrd,
+        0o777_775 => Service::Datwr,
+        _ => Service::Unlisted,
+    }
+}
+
+/// The TTCALL of this function.
+fn ttcall_of(ac: u8) -> Service
+    ensures { result ≡ ttcall_of ac }
+{
+    match ac {
+        0 => Service::Input(Awaited::Character, false),
+        1 => Service::Outchr,
+        2 => Service::Input(Awaited::Character, true),
+        3 => Service::Outstr,
+        4 => Service::Input(Awaited::Line, false),
+        5 => Service::Input(Awaited::Line, true),
+        0o11 => Service::Clrbfi,
+        0o12 => Service::Clrbfo,
+        0o13 => Service::Skpin(Awaited::Character),
+        0o14 => Service::Skpin(Awaited::Line),
+        _ => Service::Unlisted,
+    }
+}
+
+/// The call of an operation, its AC field and its E: a CALLI goes by E, a TTCALL by the AC field.
+pub(crate) fn service_of(kind: CallKind, ac: u8, e: u32) -> Service
+    ensures { result ≡ service_of kind ac e }
+{
+    match kind {
+        CallKind::Calli => calli_of(ac, e),
+        CallKind::Ttcall => ttcall_of(ac),
+    }
+}

@@ -1,0 +1,129 @@
+//! ENQC.
+
+ghost use Rattle.std.specs.Prelude.{◌≡◌, ◌<◌, ◌≤◌, ◌+◌, ◌*◌, ◌%◌, ◌^◌, length, Ok, Err, IfOk};
+ghost use Rattle.core_store.specs.Cores.{IsJob, core_of, with_core};
+ghost use Rattle.arrayvec.specs.ArrayVec.{array_vec_len};
+ghost use Rattle.word36.specs.declared.sizes.TheConstants.{LOCKS_A_CALL};
+ghost use Rattle.word36.specs.Words.{right_half};
+ghost use Rattle.uuo_calls.specs.Around.{ac_of};
+ghost use Rattle.uuo_calls.specs.StatusRow.{Places, stored, status_words, enqc_asks, with_room, wants_of, told, enqc};
+
+use crate::blocks::block_kept;
+use crate::returns::{refuse, skip};
+use core_store::{CoreStore, CoreWindow};
+use job_sched::Job;
+use ka_cpu::{JobMemory, Regs, are_legal_kept, store};
+use lock_queue::{Key, LockTable, LockUse, Refusal, Want, Wants};
+use word36::{Address, Word};
+
+/// The words that tell of one lock.
+const STATUS_WORDS: u32 = 3;
+
+/// Stores three words, one behind the other.
+fn store_three<M: JobMemory>(regs: &mut Regs, memory: &mut M, to: u32, words: [Word; 3])
+    requires { to < 2 ^ 20 }
+    ensures stored { record { regs = regs.new; core = M.words memory.new } ≡ stored (record { regs = regs.old; core = M.words memory.old }) to words }
+    ensures place { M.place memory.new ≡ M.place memory.old }
+{
+    store(regs, memory, to, words[0]);
+    store(regs, memory, to + 1, words[1]);
+    store(regs, memory, to + 2, words[2]);
+}
+
+/// Stores what the job is told of each key.
+fn store_status<L: LockTable, M: JobMemory>(
+    number: u8,
+    regs: &mut Regs,
+    memory: &mut M,
+    to: u32,
+    wants: &[Want],
+    locks: &L,
+)
+    requires to { to < 2 ^ 18 }
+    requires few { length wants.now ≤ LOCKS_A_CALL }
+    ensures stored { record { regs = regs.new; core = M.words memory.new } ≡ stored (record { regs = regs.old; core = M.words memory.old }) to (status_words (L.requests locks.now) number wants.now) }
+    ensures place { M.place memory.new ≡ M.place memory.old }
+{
+    let mut place = to;
+    for want in wants {
+        let status = locks.status(&want.key, number);
+        store_three(regs, memory, place, status.words());
+        place += STATUS_WORDS;
+    }
+}
+
+/// The wants that ENQC. names, where the answers' places are legal too.
+fn enqc_asks<M: JobMemory>(
+    regs: &Regs,
+    memory: &mut M,
+    number: u8,
+    word: Word,
+    to: u32,
+) -> Result<Wants, Refusal>
+    requires { to < 2 ^ 18 }
+    ensures wants { wants_of result ≡ with_room (M.words memory.old) to (enqc_asks regs.now.ac (M.words memory.old) number word) }
+    ensures few { IfOk result (λ wants. array_vec_len wants ≤ LOCKS_A_CALL) }
+    ensures same { memory.new ≡ memory.old }
+{
+    if word.left() != 0 {
+        return Err(Refusal::NoFunction);
+    }
+    let block = block_kept(
+        regs,
+        memory,
+        Address::new(word.right()),
+        number,
+        LockUse::Named,
+    )?;
+    let count = STATUS_WORDS * block.wants.len() as u32;
+    if !are_legal_kept(memory, to, count) {
+        return Err(Refusal::BadBlock);
+    }
+    Ok(block.wants)
+}
+
+/// Stores the answers, or tells the job the refusal.
+fn tell<L: LockTable, M: JobMemory>(
+    number: u8,
+    job: &mut Job,
+    ac: u8,
+    memory: &mut M,
+    to: u32,
+    asks: Result<Wants, Refusal>,
+    locks: &L,
+)
+    requires ac { ac < 16 }
+    requires to { to < 2 ^ 18 }
+    requires few { IfOk asks (λ wants. array_vec_len wants ≤ LOCKS_A_CALL) }
+    ensures told { record { job = job.new; core = M.words memory.new } ≡ told (L.requests locks.now) number ac to job.old (M.words memory.old) (wants_of asks) }
+    ensures place { M.place memory.new ≡ M.place memory.old }
+{
+    match asks {
+        Ok(wants) => {
+            store_status(number, &mut job.regs, memory, to, wants.as_slice(), locks);
+            skip(job);
+        }
+        Err(refusal) => refuse(job, ac, refusal.code()),
+    }
+}
+
+/// ENQC.
+pub(crate) fn enqc<L: LockTable, C: CoreStore>(
+    number: u8,
+    job: &mut Job,
+    ac: u8,
+    locks: &L,
+    cores: &mut C,
+)
+    requires number { IsJob number }
+    requires ac { ac < 16 }
+    ensures job { job.new ≡ (enqc (L.requests locks.now) number ac job.old (core_of (C.meaning cores.old) number)).job }
+    ensures cores { C.meaning cores.new ≡ with_core (C.meaning cores.old) number (enqc (L.requests locks.now) number ac job.old (core_of (C.meaning cores.old) number)).core }
+{
+    let word = job.regs.ac[ac as usize];
+    let to = job.regs.ac[(ac as usize + 1) % 16].right();
+    let words = cores.window(number);
+    let mut window = CoreWindow { words };
+    let asks = enqc_asks(&job.regs, &mut window, number, word, to);
+    tell(number, job, ac, &mut window, to, asks, locks);
+}
