@@ -3,3 +3,4 @@ pub mod Jobs
 pub mod Tables
 pub mod Ready
 pub mod Changes
+pub mod Laws

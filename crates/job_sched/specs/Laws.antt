@@ -1,0 +1,19 @@
+-- What holds of the scheduler: each law is the contract of a function that does nothing.
+use Rattle.std.specs.Prelude.{ℕ, ◌≡◌, ◌≤◌, true, false, List, Some, None}
+use Rattle.word36.specs.declared.sizes.TheConstants.{JOBS}
+use Rattle.lock_queue.specs.declared.request.Request.{Request}
+use Rattle.tty_lines.specs.Rings.{Rings}
+use Rattle.job_sched.specs.Ready.{is_ready, next_job}
+use Rattle.job_sched.specs.Tables.{Table}
+
+-- the job that is to run is ready
+abbrev pub NextIsReady : Type 0
+NextIsReady =
+    (t : Table) (lines : List Rings) (requests : List Request) (n : ℕ) → next_job t lines requests ≡ Some n
+    → is_ready t.jobs lines requests n ≡ true
+
+-- no job is to run only where no job is ready
+abbrev pub IdleMeansNoneIsReady : Type 0
+IdleMeansNoneIsReady =
+    (t : Table) (lines : List Rings) (requests : List Request) → next_job t lines requests ≡ None
+    → (n : ℕ) → 1 ≤ n → n ≤ JOBS → is_ready t.jobs lines requests n ≡ false
