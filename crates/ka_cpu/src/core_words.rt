@@ -1,7 +1,24 @@
 //! A slice of words as the core of a job.
 
+ghost use Rattle.std.specs.Prelude.{◌≡◌, ◌+◌, ◌≤◌, length};
+ghost use Rattle.ka_cpu.specs.Blocks.{copied};
+
 use crate::JobMemory;
 use word36::Word;
+
+/// Moves so many words of a slice from one place to another, one after the other: what was moved is
+/// seen by later reads. It is not inlined, so that the processor's own loop keeps its registers.
+#[inline(never)]
+#[tactic(auto, using(crate::proofs::BlockSteps::copy_steps))]
+fn copy_within(words: &mut [Word], from: usize, to: usize, count: usize)
+    requires from { from + count ≤ length words.old }
+    requires to { to + count ≤ length words.old }
+    ensures { words.new ≡ copied count words.old from to }
+{
+    for i in 0..count {
+        words[to + i] = words[from + i];
+    }
+}
 
 /// A slice of words, which is lent, as the core of a job.
 #[derive(Drop)]
@@ -38,10 +55,7 @@ impl<'a> JobMemory for CoreWords<'a> {
         inside
     }
 
-    #[tactic(auto, using(crate::proofs::BlockSteps::copy_steps))]
     fn copy_words(&mut self, from: u32, to: u32, count: u32) {
-        for i in 0..count {
-            self.words[(to + i) as usize] = self.words[(from + i) as usize];
-        }
+        copy_within(self.words, from as usize, to as usize, count as usize);
     }
 }
