@@ -3,12 +3,12 @@
 use mac_asm::{AsmError, assemble};
 use std::alloc::Global;
 use std::test::Fail;
-use word36::{Image, Word};
+use word36::Image;
 
-/// The word of a place, if the image has one there.
-fn word_at(image: &Image, place: u32) -> Option<Word> {
+/// The halves of the word of a place, if the image has one there.
+fn halves_at(image: &Image, place: u32) -> Option<(u32, u32)> {
     let entry = image.words.iter().find(|entry| entry.0 == place)?;
-    Some(entry.1)
+    Some(entry.1.halves())
 }
 
 /// The line and the code that a source is refused with.
@@ -45,10 +45,10 @@ fn lines_and_literals_stand_in_order(rt: HostRuntime) -> Result<(), Fail> {
     assert_eq!(rt; image.start, 0o200);
     assert_eq!(rt; image.words.len(), 141);
     for (place, left, right) in STANDING {
-        assert_eq!(rt; word_at(&image, place), Some(Word::join(left, right)));
+        assert_eq!(rt; halves_at(&image, place), Some((left, right)));
     }
-    assert_eq!(rt; word_at(&image, 0o141), None);
-    assert_eq!(rt; word_at(&image, 0o414), None);
+    assert_eq!(rt; halves_at(&image, 0o141), None);
+    assert_eq!(rt; halves_at(&image, 0o414), None);
     Ok(())
 }
 
