@@ -3,7 +3,7 @@
 # job that computes, sixteen of them, and two jobs that count under a lock.
 set -eu
 cd "$(dirname "$0")"
-program=../crates/lockmon/out/lockmon
+program=${LOCKMON:-../crates/lockmon/out/lockmon}
 compute() { # jobs steps
     printf 'ASSEMBLE L\n LOC 1\n 0\n 377777777777\n LOC 140\n ADDI 1,1\n SOJG 2,.-1\n END 140\nENDASM\n'
     for ((i = 0; i < $1; i++)); do printf 'LOGIN %d L\nSTART %d\n' "$i" "$((i + 1))"; done
