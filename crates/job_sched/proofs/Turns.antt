@@ -1,6 +1,7 @@
 -- Who is found in the circle of numbers, and that nobody is left out.
 use Rattle.std.proofs.Common.{◌≡◌, ◌<◌, ◌≤◌, ◌∙◌, subst, ℕ, zero, suc, ◌+◌, ◌-◌, ◌%◌, ◌&&◌, Bool, true, false, Option, Some, None, cond, nat_lt, refl, arith}
 use Rattle.word36.specs.declared.sizes.TheConstants.{JOBS}
+use Rattle.job_sched.proofs.Circle.{at, at-is}
 use Rattle.job_sched.specs.Laws.{IdleMeansNoneIsReady, NextIsReady}
 use Rattle.job_sched.specs.Ready.{after, first_from, is_ready}
 
@@ -17,11 +18,6 @@ found-passes test (suc k) n m =
     (λ passes e. let same : n ≡ m = cc in subst (λ (x : ℕ). test x ≡ true) same passes)
     (λ _ e. found-passes test k (after n) m e)
 
--- the number that comes i places after n
-at : ℕ → ℕ → ℕ
-at n zero = n
-at n (suc i) = at (after n) i
-
 none-passes : (test : ℕ → Bool) (k n i : ℕ) → first_from test k n ≡ None → i < k → test (at n i) ≡ false
 unfolding first_from at
 none-passes test zero n i e low = absurd (omega arith)
@@ -30,11 +26,6 @@ none-passes test (suc k) n zero e low =
 none-passes test (suc k) n (suc i) e low =
     by_test (λ o. o ≡ None → test (at (after n) i) ≡ false) (test n) (Some n) (first_from test k (after n)) (λ _ d. cc)
     (λ _ d. none-passes test k (after n) i d (omega arith)) e
-
-at-is : (n i : ℕ) → 1 ≤ n → n ≤ JOBS → at n i ≡ (n + i - 1) % JOBS + 1
-unfolding at
-at-is n zero some most = omega arith
-at-is n (suc i) some most = at-is (after n) i (omega arith) (omega arith) ∙ (omega arith)
 
 -- every number is reached
 reached : (n m : ℕ) → 1 ≤ n → n ≤ JOBS → 1 ≤ m → m ≤ JOBS → at n ((m + JOBS - n) % JOBS) ≡ m

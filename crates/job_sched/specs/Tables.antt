@@ -1,5 +1,5 @@
 -- The jobs by number (this project's profile).
-use Rattle.std.specs.Prelude.{ℕ, ◌≡◌, ◌+◌, Bool, false, List, length, replicate, Option, Some, None, slice_index_or}
+use Rattle.std.specs.Prelude.{ℕ, ◌≡◌, ◌≤◌, ◌+◌, Bool, false, List, length, replicate, Option, Some, None, slice_index_or}
 use Rattle.std.specs.List.{list_any}
 use Rattle.word36.specs.declared.sizes.TheConstants.{JOBS}
 use Rattle.job_sched.specs.declared.job.Job.{Job}
@@ -24,8 +24,10 @@ abbrev pub is_sleeper : Option Job → Bool
 is_sleeper (Some j) = is_asleep j
 is_sleeper None = false
 
--- what a table keeps: a place for each number and one before them, and no sleeper unless it is said that one may be
--- there
-pub record IsTable (jobs : List (Option Job)) (sleepers : Bool) : Type 0 where
+-- what a table keeps: a place for each number and one before them, no sleeper unless it is said that one may be there,
+-- and no job from a number on
+pub record IsTable (jobs : List (Option Job)) (sleepers : Bool) (vacant_from : ℕ) : Type 0 where
   pub places : length jobs ≡ JOBS + 1
   pub awake : sleepers ≡ false → list_any is_sleeper jobs ≡ false
+  pub most : vacant_from ≤ JOBS + 1
+  pub vacant : (n : ℕ) → vacant_from ≤ n → job_at jobs n ≡ None

@@ -1,6 +1,6 @@
 //! The jobs by number, and which of them runs next.
 
-ghost use Rattle.std.specs.Prelude.{false, ◌≡◌, ◌<◌, ◌≤◌, ◌-◌, ◌+◌, Some, None, length, map, OnOk, OnErr, IfSome};
+ghost use Rattle.std.specs.Prelude.{ℕ, false, ◌≡◌, ◌≢◌, ◌<◌, ◌≤◌, ◌-◌, ◌+◌, Some, None, length, map, OnOk, OnErr, IfSome};
 ghost use Rattle.std.specs.List.{list_any};
 ghost use Rattle.std.specs.Option.{option_copied, option_map};
 ghost use Rattle.word36.specs.declared.sizes.TheConstants.{JOBS};
@@ -21,7 +21,8 @@ pub const PLACES: usize = JOBS as usize + 1;
 /// The jobs by number, 1 to 31, the job that runs, and how many ticks are left of its quantum.
 ///
 /// Contracts see the jobs, the current number and the quantum. The table also keeps whether a job
-/// may be asleep, so that a tick looks at the jobs only then.
+/// may be asleep, so that a tick looks at the jobs only then, and from which number on there are no
+/// jobs, so that nobody looks for one there.
 #[derive(Drop)]
 pub struct JobTable {
     /// The job of each number, if it is there.
@@ -32,6 +33,8 @@ pub struct JobTable {
     pub left: u8,
     /// Whether a job may be asleep: where it is false none is. Who lets a job sleep sets it.
     pub sleepers: bool,
+    /// A number from which on there are no jobs.
+    pub vacant_from: u8,
 }
 
 impl Model for JobTable {
@@ -41,7 +44,7 @@ impl Model for JobTable {
 
     ghost view = { λ t. record { jobs = t.jobs; current = t.current; left = t.left } };
 
-    ghost invariant = { λ t. IsTable t.jobs t.sleepers };
+    ghost invariant = { λ t. IsTable t.jobs t.sleepers t.vacant_from };
 }
 
 /// Whether the wait of a job holds.
@@ -79,6 +82,19 @@ fn is_at(line: LineNumber, slot: &Option<Job>) -> bool
     }
 }
 
+/// From which number on there are no jobs, where that of one number is gone.
+fn vacant_without(vacant_from: u8, number: u8) -> u8
+    requires { number ≤ JOBS }
+    ensures less { result ≤ vacant_from }
+    ensures others { (n : ℕ) → result ≤ n → n ≢ number → vacant_from ≤ n }
+{
+    if vacant_from == number + 1 {
+        number
+    } else {
+        vacant_from
+    }
+}
+
 /// A tick goes by for all jobs. Whether one still sleeps.
 fn tick_all(jobs: &mut [Option<Job>]) -> bool
     ensures jobs { jobs.new ≡ map (option_map ticked_job) jobs.old }
@@ -109,6 +125,7 @@ fn start_slot(slot: &mut Option<Job>) -> Result<(), JobError>
     ensures ok { OnOk result (slot.new ≡ option_map started_job slot.old) }
     ensures err { OnErr result (slot.new ≡ slot.old) }
     ensures awake { is_sleeper slot.old ≡ false → is_sleeper slot.new ≡ false }
+    ensures none { slot.old ≡ None → slot.new ≡ None }
 {
     match slot {
         Some(job) => {
@@ -128,6 +145,7 @@ fn go_on_slot(slot: &mut Option<Job>) -> Result<(), JobError>
     ensures ok { OnOk result (slot.new ≡ option_map going_on slot.old) }
     ensures err { OnErr result (slot.new ≡ slot.old) }
     ensures awake { is_sleeper slot.old ≡ false → is_sleeper slot.new ≡ false }
+    ensures none { slot.old ≡ None → slot.new ≡ None }
 {
     match slot {
         Some(job) => {
@@ -151,6 +169,7 @@ impl JobTable {
             current: 0,
             left: 0,
             sleepers: false,
+            vacant_from: 1,
         }
     }
 
@@ -175,20 +194,31 @@ impl JobTable {
         }
     }
 
-    /// The first ready number of all, from one on in a circle.
-    #[inline(never)]
-    fn first_ready<L: LockTable>(&self, from: u8, lines: &Lines, locks: &L) -> Option<u8>
-        requires { from ≤ JOBS }
-        ensures { result ≡ first_from (is_ready self.now.jobs lines.now (L.requests locks.now)) JOBS from }
+    /// The first ready number from one on and below another.
+    #[inline(always)]
+    fn first_between<L: LockTable>(&self, from: u8, to: u8, lines: &Lines, locks: &L) -> Option<u8>
+        requires { to ≤ JOBS + 1 }
+        ensures { result ≡ first_from (is_ready self.now.jobs lines.now (L.requests locks.now)) (to - from) from }
     {
-        let mut number = from;
-        for _ in 0..JOBS {
+        for number in from..to {
             if self.ready(number, lines, locks) {
                 return Some(number);
             }
-            number = number % JOBS + 1;
         }
         None
+    }
+
+    /// The first ready number of all, from one on in a circle.
+    #[inline(never)]
+    fn first_ready<L: LockTable>(&self, from: u8, lines: &Lines, locks: &L) -> Option<u8>
+        requires least { 1 ≤ from }
+        requires most { from ≤ JOBS }
+        ensures { result ≡ first_from (is_ready self.now.jobs lines.now (L.requests locks.now)) JOBS from }
+    {
+        match self.first_between(from, self.vacant_from, lines, locks) {
+            Some(number) => Some(number),
+            None => self.first_between(1, from.min(self.vacant_from), lines, locks),
+        }
     }
 
     /// The job that runs next: the current one while it is ready and has quantum left; otherwise the
@@ -268,6 +298,7 @@ impl JobTable {
         ensures { self.new ≡ with_job self.old number (Some job) }
     {
         self.sleepers |= job.is_asleep();
+        self.vacant_from = self.vacant_from.max(number + 1);
         self.jobs[number as usize] = Some(job);
     }
 
@@ -277,6 +308,7 @@ impl JobTable {
         ensures { self.new ≡ table_without self.old number }
     {
         self.jobs[number as usize] = None;
+        self.vacant_from = vacant_without(self.vacant_from, number);
         if self.current == number {
             self.left = 0;
         }

@@ -1,21 +1,30 @@
-use Rattle.std.proofs.Common.{◌-◌, ◌+◌, arith}
-use Rattle.std.proofs.lemmas.Grind.{common_steps}
+use Rattle.std.proofs.Common.{◌≡◌, ◌≤◌, ◌-◌, ◌∙◌, sym, ap, min, ℕ, Bool, false, List, Option, Some, None}
 use Rattle.word36.specs.declared.sizes.TheConstants.{JOBS}
-use Rattle.job_sched.specs.Ready.{is_ready}
-use Rattle.job_sched.proofs.Circle.{first_from-zero, first_from-step}
+use Rattle.lock_queue.specs.declared.request.Request.{Request}
+use Rattle.tty_lines.specs.Rings.{Rings}
+use Rattle.job_sched.specs.Ready.{first_from, is_ready, is_ready_job}
+use Rattle.job_sched.specs.Tables.{IsTable, job_at}
+use Rattle.job_sched.specs.declared.job.Job.{Job}
+use Rattle.job_sched.proofs.Circle.{circle, or_else, or-found, or-other}
 use Rattle.job_sched.proofs.table.JobTable.first_ready.Goals as goal
 
-pub returns-then-ready : goal.returns-then-ready
-returns-then-ready g c =
-    let e = first_from-step (is_ready c.args.self.now.jobs c.args.lines.now (g.L.LockTable.requests c.args.locks.now)) (JOBS - c.loop.counter) (JOBS - (c.loop.counter + 1)) c.loop.number (omega arith) in
-    grind (arith, common_steps, e, c.loop.invariant.same)
+-- nobody is ready at a number where no job is
+all-asked : (jobs : List (Option Job)) (lines : List Rings) (requests : List Request) (sleepers : Bool) (end from : ℕ) → IsTable jobs sleepers end → 1 ≤ from → from ≤ JOBS
+    → first_from (is_ready jobs lines requests) JOBS from
+    ≡ or_else (first_from (is_ready jobs lines requests) (end - from) from) (first_from (is_ready jobs lines requests) (min from end - 1) 1)
+all-asked jobs lines requests sleepers end from h some most =
+    circle (is_ready jobs lines requests) from end some most h.most (λ m high. ap (λ (o : Option Job). is_ready_job lines requests m o) (h.vacant m high))
 
-pub loop-preserved : goal.loop-preserved
-loop-preserved g c =
-    let e = first_from-step (is_ready c.args.self.now.jobs c.args.lines.now (g.L.LockTable.requests c.args.locks.now)) (JOBS - c.loop.counter) (JOBS - (c.loop.counter + 1)) c.loop.number (omega arith) in
-    record { same = grind (arith, common_steps, e, c.loop.invariant.same); small = grind (arith, common_steps) }
+pub returns-in-Some : goal.returns-in-Some
+returns-in-Some g c =
+    let e = all-asked c.self.inside.jobs c.args.lines.now (g.L.LockTable.requests c.args.locks.now) c.self.inside.sleepers c.self.inside.vacant_from c.args.from c.self.invariant c.requires.least c.requires.most in
+    let f = or-found _ (first_from (is_ready c.self.inside.jobs c.args.lines.now (g.L.LockTable.requests c.args.locks.now)) (min c.args.from c.self.inside.vacant_from - 1) 1) c.in-Some.number (sym c.in-Some.is ∙ c.first_between.ensures) in
+    rw (← c.self.view_is) (rw (← c.self.view_is) at f ∙ sym e)
 
-pub returns : goal.returns
-returns g c =
-    let e = first_from-zero (is_ready c.args.self.now.jobs c.args.lines.now (g.L.LockTable.requests c.args.locks.now)) (JOBS - c.loop.counter) c.loop.number (omega arith) in
-    grind (arith, common_steps, e, c.loop.invariant.same)
+pub returns-in-None : goal.returns-in-None
+returns-in-None g c =
+    let e = all-asked c.self.inside.jobs c.args.lines.now (g.L.LockTable.requests c.args.locks.now) c.self.inside.sleepers c.self.inside.vacant_from c.args.from c.self.invariant c.requires.least c.requires.most in
+    let none = sym c.in-None.is ∙ c.first_between.ensures in
+    let rest = c.first_between-in-None.ensures in
+    rw (← c.self.view_is)
+    ((rw (← c.self.view_is, c.min.ensures) at rest) ∙ or-other _ _ (rw (← c.self.view_is) at none) ∙ sym e)
