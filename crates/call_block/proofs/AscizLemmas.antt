@@ -14,7 +14,7 @@ use Rattle.std.proofs.lemmas.List.{drop_all, get_or_past}
 use Rattle.std.proofs.Math.Seq.{drop-cons}
 use Rattle.call_block.specs.Bits.{bits}
 use Rattle.call_block.specs.Steps.{◌>>=◌}
-use Rattle.ka_cpu.specs.Bytes.{byte_of, incremented, position_of, size_of}
+use Rattle.ka_word.specs.Bytes.{byte_of, incremented, position_of, size_of}
 use Rattle.call_block.specs.Names.{character_at, characters, is_name_pointer, is_zero, name_text, name_at, text_at}
 use Rattle.call_block.specs.Laws.{asciz_word, IsAscizAt}
 use Rattle.call_block.proofs.NameLemmas.{characters-suc, not_zero, text_of-legal}

@@ -8,7 +8,7 @@ use Rattle.std.proofs.lemmas.List.Sums.{take_while-cons}
 use Rattle.std.proofs.lemmas.List.Folds.{list_any-append}
 use Rattle.std.proofs.lemmas.Bool.Decides.{nat_tests}
 use Rattle.lock_queue.specs.declared.refusal.Refusal.TheVariants.{BadPointer, BadName}
-use Rattle.ka_cpu.specs.Bytes.{incremented}
+use Rattle.ka_word.specs.Bytes.{incremented}
 use Rattle.call_block.specs.Names.{pointers_from, character_at, characters, is_zero, text_of, name_text}
 
 -- one more character

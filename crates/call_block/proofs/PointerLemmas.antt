@@ -7,7 +7,7 @@ use Rattle.word36.specs.Words.{right_half}
 use Rattle.ka_cpu.specs.Places.{word_at}
 use Rattle.call_block.specs.Names.{character_at}
 use Rattle.std.proofs.lemmas.Bool.Decides.{nat_tests}
-use Rattle.ka_cpu.specs.Bytes.{byte_of, incremented, position_of, size_of}
+use Rattle.ka_word.specs.Bytes.{byte_of, incremented, position_of, size_of}
 
 pub byte_of_seven : (p w : ℕ) → size_of p ≡ 7 → byte_of p w ≡ w / 2 ^ (p / 2 ^ 30) % 2 ^ 7
 unfolding byte_of

@@ -1,6 +1,6 @@
 //! The name of a lock, as a block names it.
 ghost use Rattle.std.specs.Prelude.{◌≡◌, ◌<◌, IfSome};
-ghost use Rattle.ka_cpu.specs.Bytes.{incremented, size_of};
+ghost use Rattle.ka_word.specs.Bytes.{incremented, size_of};
 ghost use Rattle.call_block.specs.Names.{character_at, characters, AreLegalCharacters, text_at, name_at};
 
 use crate::bits::bits;

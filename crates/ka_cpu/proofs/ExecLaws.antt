@@ -11,16 +11,19 @@ use Rattle.ka_isa.specs.declared.Family.TheVariants.{Byte, Move, Movs, Movn, Mov
 use Rattle.word36.specs.Words.{right_half, is_negative}
 use Rattle.ka_cpu.specs.Addresses.{Target, target_of, target_from, is_indirect, direct_address, index_of, reading, at_target}
 use Rattle.ka_cpu.specs.Blocks.{Store, stored, moved_words, blt_after, all_legal}
-use Rattle.ka_cpu.specs.Bytes.{byte_after, with_pointer, behind_pointer, byte_done, byte_place, byte_effect, increments, incremented, loads, byte_of, deposited}
+use Rattle.ka_word.specs.Bytes.{byte_of, deposited, incremented}
+use Rattle.ka_word.specs.Quotients.{no_quotient, quotient_of, remainder_of}
+use Rattle.ka_word.specs.Shifts.{ash_of, ash_overflows, lsh_of, lshc_of, rot_of, rotc_of}
+use Rattle.ka_cpu.specs.Bytes.{byte_after, with_pointer, behind_pointer, byte_done, byte_place, byte_effect, increments, loads}
 use Rattle.ka_cpu.specs.Effects.{After, Effect, Ending, Goes_on, Calls, Halts, Overruns, EndsAs, told, stopped, finished, applied, core_memory, ac_memory, ac_put, memory_legal, next_pc, next_ac, a_of, goes_on, goes_to, moved_to, moved_operand, computed_to}
 use Rattle.ka_cpu.specs.Exec.{op_of, ac_field, is_listed, row_of, carried_out, at_address, performed, word_performed, exec}
 use Rattle.ka_cpu.specs.Moves.{move_row, movs_row, movn_row, movm_row, exch_row, negates}
 use Rattle.ka_cpu.specs.Halves.{half_row, destination}
-use Rattle.ka_cpu.specs.Arithmetic.{add_row, sub_row, imul_row, mul_row, idiv_row, no_quotient, quotient_of, remainder_of, to_next}
+use Rattle.ka_cpu.specs.Arithmetic.{add_row, sub_row, imul_row, mul_row, idiv_row, to_next}
 use Rattle.ka_cpu.specs.Conditions.{compare_row, jump_row, skip_row}
 use Rattle.ka_cpu.specs.Booleans.{boolean_row}
 use Rattle.ka_cpu.specs.Tests.{test_row}
-use Rattle.ka_cpu.specs.Shifts.{shift_row, ash_of, ash_overflows, rot_of, lsh_of, rotc_of, lshc_of, pair_of, pair_effect}
+use Rattle.ka_cpu.specs.Shifts.{shift_row, pair_of, pair_effect}
 use Rattle.ka_cpu.specs.Jumps.{jffo_row, aobj_row, jrst_row, jfcl_row, jsr_row, jsp_row, jsa_row, jra_row, call_row, restored}
 use Rattle.ka_cpu.specs.Stacks.{pushj_row, push_row, pop_row, popj_row}
 use Rattle.ka_cpu.specs.Places.{word_at, ac_with, core_with, is_legal}

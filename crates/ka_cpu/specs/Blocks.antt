@@ -1,5 +1,5 @@
 -- BLT (Processor Reference Manual, "Block transfer").
-use Rattle.std.specs.Prelude.{ℕ, zero, suc, ◌+◌, ◌-◌, ◌%◌, ◌^◌, Bool, true, ◌&&◌, if◌then◌else◌, Option, Some, None, List, slice_index, slice_set}
+use Rattle.std.specs.Prelude.{◌≡◌, ◌<◌, ◌≤◌, ◌⊎◌, ℕ, zero, suc, ◌+◌, ◌-◌, ◌%◌, ◌^◌, Bool, true, ◌&&◌, if◌then◌else◌, Option, Some, None, List, slice_index, slice_set}
 use Rattle.word36.specs.Words.{left_half, right_half}
 use Rattle.ka_cpu.specs.Places.{word_at, is_legal, ac_with, core_with}
 use Rattle.ka_cpu.specs.Effects.{After, a_of, next_pc, stopped}
@@ -35,6 +35,10 @@ moved_words (suc k) t s d = moved_words k (stored t d (word_at t.ac t.core (s % 
 unfoldable pub copied : ℕ → List ℕ → ℕ → ℕ → List ℕ
 copied zero words s d = words
 copied (suc k) words s d = copied k (slice_set words d (slice_index words s)) (s + 1) (d + 1)
+
+-- k words from d on are those that were from s on, and the others stay
+abbrev pub IsCopied : List ℕ → List ℕ → ℕ → ℕ → ℕ → Type 0
+IsCopied old new s d k = ((i : ℕ) → i < k → slice_index new (d + i) ≡ slice_index old (s + i)) × ((j : ℕ) → (j < d) ⊎ (d + k ≤ j) → slice_index new j ≡ slice_index old j)
 
 -- BLT: A is `s,,d`; AC is not stored (this project's profile)
 unfoldable pub blt_after : Regs → List ℕ → Instruction → After

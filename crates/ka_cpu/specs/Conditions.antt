@@ -1,6 +1,7 @@
 -- CAI, CAM, JUMP, SKIP and those that add or subtract 1 first (Processor Reference Manual, "Arithmetic testing").
-use Rattle.std.specs.Prelude.{ℕ, ℤ, pos, ◌-◌, ◌%◌, ◌^◌, nat_eq, nat_lt, int_lt, int_le, Bool, true, false, ◌||◌, ◌&&◌, if◌then◌else◌, Option, Some, None, List, Result, Ok}
+use Rattle.std.specs.Prelude.{ℕ, pos, ◌-◌, ◌%◌, ◌^◌, nat_eq, nat_lt, if◌then◌else◌, Option, Some, None, List, Result, Ok}
 use Rattle.word36.specs.Words.{signed_value, sum_of}
+use Rattle.ka_word.specs.Conditions.{holds}
 use Rattle.ka_cpu.specs.Addresses.{reading}
 use Rattle.ka_cpu.specs.Places.{word_at}
 use Rattle.ka_cpu.specs.Effects.{Effect, a_of, skips_if, jumps_if, sum_flags}
@@ -11,18 +12,7 @@ use Rattle.ka_cpu.specs.declared.instruction.Instruction.{Instruction}
 use Rattle.ka_isa.specs.declared.Change.{Change}
 use Rattle.ka_isa.specs.declared.Change.TheVariants.{Keep, Up, Down}
 
--- the low digit of the operation, a comparison of signed numbers
-unfoldable pub holds : ℕ → ℤ → ℤ → Bool
-holds c a b =
-    if nat_eq c 0 then false else  -- never
-    if nat_eq c 1 then int_lt a b else  -- L
-    if nat_eq c 2 then int_le a b && int_le b a else  -- E
-    if nat_eq c 3 then int_le a b else  -- LE
-    if nat_eq c 4 then true else  -- A, always
-    if nat_eq c 5 then int_le b a else  -- GE
-    if nat_eq c 6 then int_lt a b || int_lt b a else  -- N
-    int_lt b a  -- G
-
+-- the low digit of the operation
 abbrev pub condition_of : Instruction → ℕ
 condition_of n = n.op % 8
 

@@ -1,5 +1,5 @@
 -- What an instruction does: its operand, the places of its result, its flags, and the next PC.
-use Rattle.std.specs.Prelude.{◌≡◌, ◌<◌, ℕ, ◌+◌, ◌%◌, ◌^◌, nat_eq, nat_lt, Bool, true, ◌||◌, not, if◌then◌else◌, Option, Some, None, List, slice_index, slice_set, Result, Ok, Err}
+use Rattle.std.specs.Prelude.{◌≡◌, ◌<◌, ℕ, ◌+◌, ◌%◌, ◌^◌, nat_eq, nat_lt, Bool, true, ◌||◌, if◌then◌else◌, Option, Some, None, List, slice_index, slice_set, Result, Ok, Err}
 use Rattle.ka_cpu.specs.Places.{word_at, is_legal, ac_with, core_with}
 use Rattle.ka_cpu.specs.declared.registers.Regs.{Regs}
 use Rattle.ka_cpu.specs.declared.registers.Flags.{Flags}
@@ -11,6 +11,7 @@ use Rattle.ka_cpu.specs.declared.outcome.Outcome.TheVariants as outcome
 use Rattle.ka_cpu.specs.declared.outcome.StopReason.TheVariants as reason
 use Rattle.ka_cpu.specs.declared.instruction.Instruction.{Instruction}
 use Rattle.word36.specs.Words.{carry_0, carry_1}
+use Rattle.ka_word.specs.Sums.{carries_differ}
 
 -- how an instruction that is carried out ends
 pub data Ending : Type 0 where
@@ -96,7 +97,7 @@ computed_to g n w = record (goes_on g 1) { memory = to_memory n w; ac = computed
 
 -- flags stay set: a carry out of bit 0 sets Carry 0, out of bit 1 Carry 1, Overflow where they differ
 abbrev pub carried_flags : Flags → Bool → Bool → Flags
-carried_flags f c0 c1 = record f { overflow = f.overflow || (if c0 then not c1 else c1); carry0 = f.carry0 || c0; carry1 = f.carry1 || c1 }
+carried_flags f c0 c1 = record f { overflow = f.overflow || carries_differ c0 c1; carry0 = f.carry0 || c0; carry1 = f.carry1 || c1 }
 
 -- the flags of the sum of two words and a carry into bit 35
 abbrev pub sum_flags : Flags → ℕ → ℕ → ℕ → Flags

@@ -2,7 +2,8 @@
 -- (Processor Reference Manual, "Program control"; TOPS-10 Monitor Calls Manual).
 use Rattle.std.specs.Prelude.{ℕ, ◌+◌, ◌/◌, ◌%◌, ◌^◌, nat_eq, Bool, not, ◌||◌, ◌&&◌, if◌then◌else◌, Option, Some, None, List, Result, Ok}
 use Rattle.std.specs.Int.Count.{count_leading_zeros}
-use Rattle.word36.specs.Words.{is_negative, sum_of, left_half, joined}
+use Rattle.word36.specs.Words.{is_negative, left_half, joined}
+use Rattle.ka_word.specs.Pushdown.{counted_up}
 use Rattle.ka_cpu.specs.Addresses.{reading}
 use Rattle.ka_cpu.specs.Places.{word_at}
 use Rattle.ka_cpu.specs.Effects.{Effect, Halts, Calls, a_of, goes_on, goes_to, jumps_if, next_pc}
@@ -28,11 +29,7 @@ jffo_row g n =
     then record (goes_on g 1) { next = Some 0 }
     else record (goes_to g n.e) { next = Some (count_leading_zeros 36 (a_of g n)) }
 
--- A + 1000001 octal, with a carry between the halves as on a KA10
-abbrev pub counted_up : ℕ → ℕ
-counted_up a = sum_of a (2 ^ 18 + 1) 0
-
--- AOBJP goes to E where the sum is not negative, AOBJN, the odd operation, where it is
+-- A with both halves counted up: AOBJP goes to E where the sum is not negative, AOBJN, the odd operation, where it is
 unfoldable pub aobj_row : Regs → Instruction → Effect
 aobj_row g n =
     record (jumps_if g (if nat_eq (n.op % 2) 0 then not (is_negative (counted_up (a_of g n))) else is_negative (counted_up (a_of g n))) n.e) { ac = Some (counted_up (a_of g n)) }

@@ -1,6 +1,8 @@
 -- MOVE, MOVS, MOVN, MOVM and EXCH (Processor Reference Manual, "Full word data transmission").
 use Rattle.std.specs.Prelude.{ℕ, if◌then◌else◌, Some, List, Result, Ok}
-use Rattle.word36.specs.Words.{is_negative, complement, sum_of, left_half, right_half, joined}
+use Rattle.word36.specs.Words.{is_negative, complement}
+use Rattle.ka_word.specs.Halves.{swapped}
+use Rattle.ka_word.specs.Sums.{negated}
 use Rattle.ka_cpu.specs.Places.{word_at}
 use Rattle.ka_cpu.specs.Addresses.{reading}
 use Rattle.ka_cpu.specs.Effects.{Effect, a_of, goes_on, moved_operand, moved_to, sum_flags}
@@ -8,14 +10,7 @@ use Rattle.ka_cpu.specs.declared.registers.Regs.{Regs}
 use Rattle.ka_cpu.specs.declared.outcome.StopReason.{StopReason}
 use Rattle.ka_cpu.specs.declared.instruction.Instruction.{Instruction}
 
--- halves swapped
-abbrev pub swapped : ℕ → ℕ
-swapped w = joined (right_half w) (left_half w)
-
--- not x + 1, with the flags of ADD (this project's profile)
-abbrev pub negated : ℕ → ℕ
-negated w = sum_of (complement w) 1 0
-
+-- the negated word, with the flags of ADD (this project's profile)
 abbrev pub negates : Regs → Instruction → ℕ → Effect
 negates g n w = record (moved_to g n (negated w)) { flags = sum_flags g.flags (complement w) 1 0 }
 

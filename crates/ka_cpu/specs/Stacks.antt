@@ -1,24 +1,21 @@
 -- PUSHJ, PUSH, POP and POPJ (Processor Reference Manual, "Pushdown list").
-use Rattle.std.specs.Prelude.{ℕ, ◌+◌, ◌-◌, ◌^◌, nat_lt, nat_le, if◌then◌else◌, Some, List, Result, Ok}
-use Rattle.word36.specs.Words.{sum_of, right_half}
+use Rattle.std.specs.Prelude.{ℕ, if◌then◌else◌, Some, List, Result, Ok}
+use Rattle.word36.specs.Words.{right_half}
+use Rattle.ka_word.specs.Pushdown.{counted_down, counted_up, runs_over, runs_under}
 use Rattle.ka_cpu.specs.Addresses.{reading}
 use Rattle.ka_cpu.specs.Places.{word_at}
-use Rattle.ka_cpu.specs.Effects.{Effect, Ending, Goes_on, Overruns, a_of, goes_on, goes_to, next_pc}
-use Rattle.ka_cpu.specs.Jumps.{pc_word, counted_up}
+use Rattle.ka_cpu.specs.Effects.{After, Effect, Ending, Goes_on, Overruns, a_of, finished, goes_on, goes_to, next_pc}
+use Rattle.ka_cpu.specs.Jumps.{pc_word}
 use Rattle.ka_cpu.specs.declared.registers.Regs.{Regs}
 use Rattle.ka_cpu.specs.declared.outcome.StopReason.{StopReason}
 use Rattle.ka_cpu.specs.declared.instruction.Instruction.{Instruction}
 
--- A - 1000001 octal, with a borrow between the halves as on a KA10
-abbrev pub counted_down : ℕ → ℕ
-counted_down a = sum_of a (2 ^ 36 - 2 ^ 18 - 1) 0
-
 -- a carry out of bit 0 of A + 1000001, or a borrow in A - 1000001, is stop 4 after the instruction (this project's profile)
 abbrev pub push_ending : ℕ → Ending
-push_ending a = if nat_le (2 ^ 36) (a + 2 ^ 18 + 1) then Overruns else Goes_on
+push_ending a = if runs_over a then Overruns else Goes_on
 
 abbrev pub pop_ending : ℕ → Ending
-pop_ending a = if nat_lt a (2 ^ 18 + 1) then Overruns else Goes_on
+pop_ending a = if runs_under a then Overruns else Goes_on
 
 -- PUSHJ: A + 1000001 to AC, `flags,,next PC` at its right half, go to E
 unfoldable pub pushj_row : Regs → Instruction → Effect
@@ -36,6 +33,13 @@ unfoldable pub pop_row : Regs → List ℕ → Instruction → Result Effect Sto
 pop_row g core n =
     reading (word_at g.ac core (right_half (a_of g n)))
     (λ m. Ok (record (goes_on g 1) { memory = Some (n.e, m); ac = Some (counted_down (a_of g n)); ending = pop_ending (a_of g n) }))
+
+-- the state after PUSH, and after POP
+abbrev pub pushed : Regs → List ℕ → Instruction → After
+pushed g core n = finished g core n (push_row g core n)
+
+abbrev pub popped : After → Instruction → After
+popped a n = finished a.regs a.core n (pop_row a.regs a.core n)
 
 -- POPJ: PC is the right half of the word at A's right half; A - 1000001 to AC
 unfoldable pub popj_row : Regs → List ℕ → Instruction → Result Effect StopReason

@@ -1,9 +1,9 @@
 -- The tests, 600 to 677 octal (Processor Reference Manual, "Logical testing and modification").
-use Rattle.std.specs.Prelude.{ℕ, ◌/◌, ◌%◌, nat_eq, bit_and, bit_or, bit_xor, Bool, true, false, not, if◌then◌else◌, Option, Some, None, List, Result, Ok}
+use Rattle.std.specs.Prelude.{ℕ, ◌/◌, ◌%◌, nat_eq, bit_and, bit_or, bit_xor, if◌then◌else◌, Option, Some, None, List, Result, Ok}
 use Rattle.word36.specs.Words.{complement}
+use Rattle.ka_word.specs.Tests.{mask_of, skips_on}
 use Rattle.ka_cpu.specs.Addresses.{reading}
 use Rattle.ka_cpu.specs.Places.{word_at}
-use Rattle.ka_cpu.specs.Moves.{swapped}
 use Rattle.ka_cpu.specs.Effects.{Effect, a_of, skips_if}
 use Rattle.ka_cpu.specs.declared.registers.Regs.{Regs}
 use Rattle.ka_cpu.specs.declared.outcome.StopReason.{StopReason}
@@ -13,19 +13,9 @@ use Rattle.ka_cpu.specs.declared.instruction.Instruction.{Instruction}
 abbrev pub mask_source : Regs → List ℕ → Instruction → Option ℕ
 mask_source g core n = if nat_eq (n.op / 8 % 2) 0 then Some n.e else word_at g.ac core n.e
 
-abbrev pub mask_of : ℕ → ℕ → ℕ
-mask_of op m = if nat_eq (op % 2) 0 then m else swapped m
-
 abbrev pub masked : ℕ → Option ℕ → Option ℕ
 masked op None = None
 masked op (Some m) = Some (mask_of op m)
-
--- 0 never skips, 2 where A and mask is 0 (E), 4 always (A), 6 where it is not 0 (N)
-abbrev pub skips_on : ℕ → Bool → Bool
-skips_on op none_set =
-    if nat_eq (op / 2 % 4) 0 then false else
-    if nat_eq (op / 2 % 4) 1 then none_set else
-    if nat_eq (op / 2 % 4) 2 then true else not none_set
 
 -- 0 changes nothing (N), 20 clears (Z), 40 complements (C), 60 sets (O) the masked bits
 abbrev pub modified : ℕ → ℕ → ℕ → Option ℕ

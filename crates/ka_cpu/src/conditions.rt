@@ -1,68 +1,19 @@
 //! CAI, CAM, JUMP, SKIP and those that add or subtract 1 first.
 
-ghost use Rattle.std.specs.Prelude.{◌≡◌, ℕ, ◌<◌, ◌^◌, ◌+◌, ◌-◌, ◌%◌, Ok, Some, IfSome, true, nat_lt, pos, if◌then◌else◌};
+ghost use Rattle.std.specs.Prelude.{◌≡◌, ℕ, ◌<◌, ◌^◌, ◌%◌, Ok, Some, IfSome, true, nat_lt, if◌then◌else◌};
 ghost use Rattle.ka_cpu.specs.Effects.{finished, ac_memory, core_memory, memory_legal};
 ghost use Rattle.ka_cpu.specs.Places.{word_at};
-ghost use Rattle.word36.specs.Words.{signed_value};
-ghost use Rattle.ka_cpu.specs.Conditions.{holds, compare_row, jump_row, skip_row, changed_word, changed_flags, if_changed};
+ghost use Rattle.ka_cpu.specs.Conditions.{compare_row, jump_row, skip_row, changed_word, changed_flags, if_changed};
 
 use crate::instruction::{ILLEGAL, Instruction, set_carries};
 use crate::memory::store;
 use crate::{JobMemory, Outcome, Regs, fetch};
 use ka_isa::Change;
+use ka_word::{compare, compare_zero};
 use word36::{Address, Word};
 
 /// 2 ^ 35, the sign bit.
 const SIGN: u64 = 0o400_000_000_000;
-
-/// A number whose order is that of the signed words.
-#[inline(always)]
-fn order_key(word: Word) -> u64
-    ensures { result ≡ (word + (2 ^ 64 - 2 ^ 35)) % 2 ^ 64 }
-{
-    word.number().wrapping_sub(SIGN)
-}
-
-/// Whether a compares with b as a condition's digit says.
-#[inline(always)]
-#[tactic(auto, unfolding(crate::specs::Conditions::holds))]
-fn compare(digit: u32, a: Word, b: Word) -> bool
-    requires { digit < 8 }
-    ensures { result ≡ holds digit (signed_value a) (signed_value b) }
-{
-    let a = order_key(a);
-    let b = order_key(b);
-    match digit {
-        0 => false,
-        1 => a < b,
-        2 => a == b,
-        3 => a <= b,
-        4 => true,
-        5 => b <= a,
-        6 => a != b,
-        _ => b < a,
-    }
-}
-
-/// Whether a compares with 0 as a condition's digit says.
-#[inline(always)]
-#[tactic(auto, unfolding(crate::specs::Conditions::holds))]
-fn compare_zero(digit: u32, a: Word) -> bool
-    requires { digit < 8 }
-    ensures { result ≡ holds digit (signed_value a) (pos 0) }
-{
-    let number = a.number();
-    match digit {
-        0 => false,
-        1 => number >= SIGN,
-        2 => number == 0,
-        3 => number == 0 || number >= SIGN,
-        4 => true,
-        5 => number < SIGN,
-        6 => number != 0,
-        _ => number.wrapping_sub(1) < SIGN - 1,
-    }
-}
 
 /// The operand of CAI and CAM.
 #[inline(always)]

@@ -3,7 +3,6 @@
 ghost use Rattle.std.specs.Prelude.{◌≡◌, ◌<◌, ◌^◌, Ok};
 ghost use Rattle.ka_cpu.specs.Effects.{finished};
 ghost use Rattle.ka_cpu.specs.Addresses.{target_of, used_in};
-ghost use Rattle.std.specs.Int.Count.{count_leading_zeros};
 ghost use Rattle.ka_cpu.specs.Jumps.{jffo_row, aobj_row, jrst_row, jfcl_row, jsr_row, jsp_row, jsa_row, jra_row, call_row};
 
 use crate::address::find_used;
@@ -11,19 +10,8 @@ use crate::instruction::{ILLEGAL, Instruction, is_legal_place};
 use crate::memory::store;
 use crate::registers::{flags_of, pc_word};
 use crate::{CallKind, Flags, JobMemory, Outcome, Regs, StopReason, fetch};
+use ka_word::{count_up, leading_zeros};
 use word36::{Address, Word};
-
-/// 1000001 octal, which counts both halves of a word.
-pub const BOTH: u64 = 0o1_000_001;
-
-/// The number of zeros before the first bit that is set.
-#[tactic(auto, using(crate::proofs::Zeros::zeros_of_36))]
-fn leading_zeros(word: Word) -> Word
-    ensures { result ≡ count_leading_zeros 36 word }
-{
-    let zeros = word.number().leading_zeros();
-    Word::low_bits(zeros.saturating_sub(28) as u64)
-}
 
 /// JFFO
 #[inline(always)]
@@ -54,7 +42,7 @@ pub fn do_aobj<M: JobMemory>(regs: &mut Regs, memory: &mut M, n: Instruction) ->
     ensures after { record { regs = regs.new; core = M.words memory.new; outcome = result } ≡ finished regs.old (M.words memory.old) n (Ok (aobj_row regs.old n)) }
     ensures place { M.place memory.new ≡ M.place memory.old }
 {
-    let word = regs.ac[n.ac].sum(Word::new(BOTH), false);
+    let word = count_up(regs.ac[n.ac]);
     regs.ac[n.ac] = word;
     let negative = word.is_negative();
     let test = if n.op % 2 == 0 { !negative } else { negative };

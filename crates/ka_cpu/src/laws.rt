@@ -1,9 +1,17 @@
 //! Laws of addresses and of every instruction, as contracts of functions that do nothing.
 
-ghost use Rattle.std.specs.Prelude.{◌≡◌, ◌<◌, ◌≤◌, ◌^◌, ◌↔◌, ◌⊎◌, List, ℕ, length};
+ghost use Rattle.std.specs.Prelude.{◌≡◌, ◌≢◌, ◌<◌, ◌≤◌, ◌^◌, ◌+◌, ◌↔◌, ◌⊎◌, List, Some, ℕ, length, true};
+ghost use Rattle.word36.specs.Words.{left_half, right_half};
+ghost use Rattle.ka_word.specs.Pushdown.{counted_up};
 ghost use Rattle.ka_cpu.specs.Addresses.{LeadsOutside, LeadsTo, LeadsTooFar, Target, target_of};
-ghost use Rattle.ka_cpu.specs.Effects.{EndsAs};
+ghost use Rattle.ka_cpu.specs.Blocks.{IsCopied, blt_after, word_count};
+ghost use Rattle.ka_cpu.specs.Effects.{EndsAs, a_of, next_pc};
 ghost use Rattle.ka_cpu.specs.Exec.{ComesTo, ExecutesTooFar, RefusedOnTheWay, exec, word_behind};
+ghost use Rattle.ka_cpu.specs.Places.{is_legal, word_at};
+ghost use Rattle.ka_cpu.specs.Runs.{ran, ran_then};
+ghost use Rattle.ka_cpu.specs.Stacks.{popped, pushed};
+ghost use Rattle.ka_cpu.specs.declared.instruction.Instruction.{Instruction};
+ghost use Rattle.ka_cpu.specs.declared.outcome.Outcome.TheVariants.{Done};
 ghost use Rattle.ka_cpu.specs.declared.outcome.StopReason.TheVariants.{AddressChain, IllegalAddress};
 
 use crate::{Regs, StopReason};
@@ -39,4 +47,23 @@ pub fn exec_laws()
     ensures registers { (g : Regs) (core : List ℕ) → length (exec g core).regs.ac ≡ length g.ac }
     ensures pc { (g : Regs) (core : List ℕ) → g.pc < 2 ^ 18 → (exec g core).regs.pc < 2 ^ 18 }
     ensures ends { (g : Regs) (core : List ℕ) → EndsAs (exec g core).outcome g core (exec g core).regs (exec g core).core }
+{}
+
+/// One instruction of a run is `exec`; a run of j + k instructions is one of j, and then, where that ended
+/// in neither a call nor a stop, one of k.
+pub fn run_laws()
+    ensures one { (g : Regs) (core : List ℕ) → ran 1 g core ≡ record { steps = 1; after = exec g core } }
+    ensures split { (j k : ℕ) (g : Regs) (core : List ℕ) → ran (j + k) g core ≡ ran_then k (ran j g core) }
+{}
+
+/// BLT copies a block of core to another with which it shares no place: the words from d on are those
+/// that were from s on, and nothing else changes but the PC.
+pub fn block_laws()
+    ensures { (g : Regs) (core : List ℕ) (n : Instruction) (s d k : ℕ) → left_half (a_of g n) ≡ s → right_half (a_of g n) ≡ d → word_count d n.e ≡ k → 16 ≤ s → 16 ≤ d → s + k ≤ 2 ^ 18 → s + k ≤ length core → d + k ≤ length core → (s + k ≤ d) ⊎ (d + k ≤ s) → ((blt_after g core n).outcome ≡ Done) × ((blt_after g core n).regs ≡ record g { pc = next_pc g }) × IsCopied core (blt_after g core n).core s d k }
+{}
+
+/// POP by the pointer that PUSH left finds the word that was pushed, and leaves the pointer as it was
+/// before, where the places are legal and the pointer's register is not among them.
+pub fn stack_laws()
+    ensures { (g : Regs) (core : List ℕ) (n m : Instruction) (w : ℕ) → length g.ac ≡ 16 → n.ac < 16 → m.ac ≡ n.ac → a_of g n < 2 ^ 36 → word_at g.ac core n.e ≡ Some w → is_legal core (right_half (counted_up (a_of g n))) ≡ true → right_half (counted_up (a_of g n)) ≢ n.ac → is_legal core m.e ≡ true → m.e ≢ n.ac → (a_of (popped (pushed g core n) m).regs m ≡ a_of g n) × (word_at (popped (pushed g core n) m).regs.ac (popped (pushed g core n) m).core m.e ≡ Some w) }
 {}

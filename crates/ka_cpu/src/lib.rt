@@ -23,7 +23,7 @@ mod shifts;
 mod stacks;
 
 pub use core_words::CoreWords;
-pub use laws::{address_laws, exec_laws, refusal_laws, xct_laws};
+pub use laws::{address_laws, block_laws, exec_laws, refusal_laws, run_laws, stack_laws, xct_laws};
 pub use memory::{JobMemory, fetch, store, try_store};
 pub use outcome::{CallKind, Outcome, StopReason};
 pub use places::{are_legal_kept, fetch_kept, is_legal_kept, word_kept};

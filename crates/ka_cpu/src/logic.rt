@@ -2,41 +2,14 @@
 
 ghost use Rattle.std.specs.Prelude.{◌≡◌, ◌<◌, ◌^◌, ◌/◌, ◌%◌, Some, if◌then◌else◌};
 ghost use Rattle.ka_cpu.specs.Effects.{finished};
-ghost use Rattle.ka_cpu.specs.Booleans.{boolean_row, boolean_of, reads_none};
-ghost use Rattle.ka_cpu.specs.Tests.{test_row, mask_source, mask_of, masked, skips_on, modified};
+ghost use Rattle.ka_cpu.specs.Booleans.{boolean_row, reads_none};
+ghost use Rattle.ka_cpu.specs.Tests.{test_row, mask_source, masked, modified};
 ghost use Rattle.ka_cpu.specs.Effects.{computed_operand, ac_put};
 
 use crate::instruction::{ILLEGAL, Instruction, can_store, operand_to_compute, put_computed};
-use crate::moves::swap;
 use crate::{JobMemory, Outcome, Regs, fetch};
+use ka_word::{combine, skips, turn_mask};
 use word36::Word;
-
-/// A Boolean function of A and M, by the number of the operation.
-#[inline(always)]
-#[tactic(auto, unfolding(crate::specs::Booleans::boolean_of))]
-fn combine(kind: u32, a: Word, m: Word) -> Word
-    requires { kind < 16 }
-    ensures { result ≡ boolean_of kind a m }
-{
-    match kind {
-        0 => Word::new(0),
-        1 => a.and(m),
-        2 => a.not().and(m),
-        3 => m,
-        4 => a.and(m.not()),
-        5 => a,
-        6 => a.xor(m),
-        7 => a.or(m),
-        8 => a.not().and(m.not()),
-        9 => a.xor(m).not(),
-        10 => a.not(),
-        11 => a.not().or(m),
-        12 => m.not(),
-        13 => a.or(m.not()),
-        14 => a.not().or(m.not()),
-        _ => Word::new(0o777_777_777_777),
-    }
-}
 
 /// The operand of a Boolean function, 0 for the four that read no memory.
 #[inline(always)]
@@ -78,14 +51,6 @@ pub fn do_boolean<M: JobMemory>(
     Outcome::Done
 }
 
-/// The mask in a word that is found.
-#[inline(always)]
-fn turn_mask(op: u32, word: Word) -> Word
-    ensures { result ≡ mask_of op word }
-{
-    if op % 2 == 0 { word } else { swap(word) }
-}
-
 /// The mask of a test.
 #[inline(always)]
 fn read_mask<M: JobMemory>(regs: &Regs, memory: &M, n: Instruction) -> Option<Word>
@@ -103,15 +68,6 @@ fn read_mask<M: JobMemory>(regs: &Regs, memory: &M, n: Instruction) -> Option<Wo
         None => None,
         Some(word) => Some(turn_mask(n.op, word)),
     }
-}
-
-/// Whether a test skips, where none of the masked bits is set, or one is.
-#[inline(always)]
-fn skips(op: u32, none_set: bool) -> bool
-    ensures { result ≡ skips_on op none_set }
-{
-    let chosen = op / 2 % 2 == 1 && none_set;
-    chosen != (op / 4 % 2 == 1)
 }
 
 /// Changes the masked bits of AC: nothing, zeros, complement, ones.

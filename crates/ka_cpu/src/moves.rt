@@ -2,22 +2,15 @@
 
 ghost use Rattle.std.specs.Prelude.{◌≡◌, ◌<◌, ◌^◌, ◌%◌};
 ghost use Rattle.ka_cpu.specs.Effects.{finished};
-ghost use Rattle.ka_cpu.specs.Moves.{move_row, movs_row, movn_row, movm_row, exch_row, swapped};
+ghost use Rattle.ka_cpu.specs.Moves.{move_row, movs_row, movn_row, movm_row, exch_row};
 
 use crate::instruction::{
     ILLEGAL, Instruction, can_store, operand_to_move, put_moved, set_carries,
 };
 use crate::memory::store;
 use crate::{JobMemory, Outcome, Regs, fetch};
+use ka_word::negate;
 use word36::Word;
-
-/// A word with its halves swapped.
-#[inline(always)]
-pub fn swap(word: Word) -> Word
-    ensures { result ≡ swapped word }
-{
-    Word::join(word.right(), word.left())
-}
 
 /// MOVE
 #[inline(always)]
@@ -56,7 +49,7 @@ pub fn do_movs<M: JobMemory>(mode: u32, regs: &mut Regs, memory: &mut M, n: Inst
     if !can_store(mode, memory, n) {
         return ILLEGAL;
     }
-    put_moved(mode, regs, memory, n, swap(word));
+    put_moved(mode, regs, memory, n, word.swapped());
     regs.pc = regs.pc.plus(1);
     Outcome::Done
 }
@@ -77,7 +70,7 @@ pub fn do_movn<M: JobMemory>(mode: u32, regs: &mut Regs, memory: &mut M, n: Inst
     if !can_store(mode, memory, n) {
         return ILLEGAL;
     }
-    put_moved(mode, regs, memory, n, word.not().sum(Word::new(1), false));
+    put_moved(mode, regs, memory, n, negate(word));
     let (zero, one) = word.not().carries(Word::new(1), false);
     set_carries(regs, zero, one);
     regs.pc = regs.pc.plus(1);
@@ -101,7 +94,7 @@ pub fn do_movm<M: JobMemory>(mode: u32, regs: &mut Regs, memory: &mut M, n: Inst
         return ILLEGAL;
     }
     if word.is_negative() {
-        put_moved(mode, regs, memory, n, word.not().sum(Word::new(1), false));
+        put_moved(mode, regs, memory, n, negate(word));
         let (zero, one) = word.not().carries(Word::new(1), false);
         set_carries(regs, zero, one);
     } else {

@@ -1,17 +1,16 @@
 //! PUSHJ, PUSH, POP and POPJ.
 
-ghost use Rattle.std.specs.Prelude.{◌≡◌, ℕ, ◌<◌, ◌^◌, ◌+◌, Ok, nat_le, nat_lt, if◌then◌else◌, List};
+ghost use Rattle.std.specs.Prelude.{◌≡◌, ◌<◌, ◌^◌, Ok, if◌then◌else◌};
 ghost use Rattle.ka_cpu.specs.Effects.{Goes_on, Overruns, finished};
 ghost use Rattle.ka_cpu.specs.Effects.{told};
-ghost use Rattle.ka_cpu.specs.Jumps.{counted_up};
-ghost use Rattle.ka_cpu.specs.Stacks.{counted_down, pushj_row, push_row, pop_row, popj_row};
+ghost use Rattle.ka_cpu.specs.Stacks.{pushj_row, push_row, pop_row, popj_row};
 
 use crate::instruction::{ILLEGAL, Instruction, is_legal_place};
-use crate::jumps::BOTH;
 use crate::memory::{store, try_store};
 use crate::registers::pc_word;
 use crate::{JobMemory, Outcome, Regs, StopReason, fetch};
-use word36::{Address, Word};
+use ka_word::{pop_up, push_down, runs_under};
+use word36::Address;
 
 /// How a pushdown instruction ends whose pointer has run out, or has not.
 #[inline(always)]
@@ -23,32 +22,6 @@ fn ending(runs_out: bool) -> Outcome
     } else {
         Outcome::Done
     }
-}
-
-/// Whether a pushdown pointer has no word less.
-#[inline(always)]
-fn runs_under(pointer: Word) -> bool
-    ensures { result ≡ nat_lt pointer (2 ^ 18 + 1) }
-{
-    pointer.number() < BOTH
-}
-
-/// A pushdown pointer with one word more, and whether there was none left.
-#[inline(always)]
-fn push_down(pointer: Word) -> (Word, bool)
-    ensures word { result.0 ≡ counted_up pointer }
-    ensures runs_out { result.1 ≡ nat_le (2 ^ 36) (pointer + 2 ^ 18 + 1) }
-{
-    let word = pointer.sum(Word::new(BOTH), false);
-    (word, word.number() < BOTH)
-}
-
-/// A pushdown pointer with one word less.
-#[inline(always)]
-fn pop_up(pointer: Word) -> Word
-    ensures { result ≡ counted_down pointer }
-{
-    pointer.sum(Word::new(0o777_776_777_777), false)
 }
 
 /// PUSHJ

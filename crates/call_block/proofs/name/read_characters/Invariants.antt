@@ -1,5 +1,5 @@
 use Rattle.std.proofs.Common.{◌≡◌, ◌-◌, length, map, ◌++◌, Some}
-use Rattle.ka_cpu.specs.Bytes.{size_of}
+use Rattle.ka_word.specs.Bytes.{size_of}
 use Rattle.call_block.specs.Names.{characters}
 use Rattle.call_block.proofs.name.read_characters.Given as goal
 

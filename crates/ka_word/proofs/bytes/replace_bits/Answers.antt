@@ -1,5 +1,5 @@
-use Rattle.ka_cpu.proofs.ByteBounds.{deposit_at, deposit_below}
-use Rattle.ka_cpu.proofs.bytes.replace_bits.Goals as goal
+use Rattle.ka_word.proofs.ByteBounds.{deposit_at, deposit_below}
+use Rattle.ka_word.proofs.bytes.replace_bits.Goals as goal
 
 pub new-requires : goal.new-requires
 new-requires c =

@@ -1,0 +1,13 @@
+pub mod ProductBounds
+pub mod Shifting
+pub mod ByteBounds
+pub mod ZeroCount
+pub mod Signed
+pub mod SumLaws
+pub mod ProductLaws
+pub mod QuotientLaws
+pub mod ShiftLaws
+pub mod RotationLaws
+pub mod ByteLaws
+pub mod PointerLaws
+pub mod PushdownLaws

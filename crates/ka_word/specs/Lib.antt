@@ -1,0 +1,13 @@
+pub mod Numbers
+pub mod Magnitudes
+pub mod Sums
+pub mod Products
+pub mod Quotients
+pub mod Shifts
+pub mod Bytes
+pub mod Halves
+pub mod Booleans
+pub mod Conditions
+pub mod Tests
+pub mod Pushdown
+pub mod Laws

@@ -1,0 +1,23 @@
+//! The masks of the tests.
+
+ghost use Rattle.std.specs.Prelude.{◌≡◌};
+ghost use Rattle.ka_word.specs.Tests.{mask_of, skips_on};
+
+use word36::Word;
+
+/// The mask in a word that is found.
+#[inline(always)]
+pub fn turn_mask(op: u32, word: Word) -> Word
+    ensures { result ≡ mask_of op word }
+{
+    if op % 2 == 0 { word } else { word.swapped() }
+}
+
+/// Whether a test skips, where none of the masked bits is set, or one is.
+#[inline(always)]
+pub fn skips(op: u32, none_set: bool) -> bool
+    ensures { result ≡ skips_on op none_set }
+{
+    let chosen = op / 2 % 2 == 1 && none_set;
+    chosen != (op / 4 % 2 == 1)
+}
