@@ -6,8 +6,6 @@ mod bits;
 mod block;
 mod laws;
 mod name;
-#[cfg(test)]
-mod tests;
 mod want;
 
 pub use block::{Block, read_block};

@@ -8,8 +8,6 @@ mod line_error;
 mod line_number;
 mod lines;
 mod taken_text;
-#[cfg(test)]
-mod tests;
 
 pub use char7::Char7;
 pub use line_error::LineError;

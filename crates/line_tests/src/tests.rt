@@ -1,6 +1,6 @@
 //! Terminal lines at their limits.
 
-use crate::{Char7, LineError, LineNumber, Lines};
+use tty_lines::{Char7, LineError, LineNumber, Lines};
 use std::test::Fail;
 use word36::{LINES, OUTPUT_RING};
 

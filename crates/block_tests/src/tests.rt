@@ -1,6 +1,6 @@
 //! Blocks as words, and what a call reads in them.
 
-use crate::{Block, read_block};
+use call_block::{Block, read_block};
 use ka_cpu::{Flags, JobMemory, Regs};
 use lock_queue::LockUse::{Named, Requested};
 use lock_queue::{LockUse, Name, Pool, Refusal, Scope};

@@ -1,0 +1,5 @@
+//! Tests of reading the block of a lock call: blocks as words, and what a call reads in them.
+#![tactic(auto)]
+
+#[cfg(test)]
+mod tests;
