@@ -1,10 +1,15 @@
 //! Core for the jobs of a machine: each job's words, and the blocks that are free.
 #![tactic(auto)]
 
+mod areas;
+mod block;
+mod moves;
 mod plain;
+mod rooms;
 mod store;
 mod window;
 
+pub use block::BlockCore;
 pub use plain::PlainCore;
 pub use store::{CoreStore, NoCore};
 pub use window::CoreWindow;
