@@ -1,3 +1,3 @@
 #!/bin/bash
-# bench.sh words-file N: runs N instructions of the words in a file (for bench_simh.sh's OTHER).
+# bench.sh words-file N: runs N instructions of the words in a file (for bench/simh.sh's OTHER).
 exec "$(dirname "$0")/out/ka_run" "$2" < "$1"

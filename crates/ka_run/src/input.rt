@@ -18,6 +18,8 @@ pub enum Line {
     Size(u32),
     /// A word and its place.
     Word(u32, Word),
+    /// The PC at the start, behind the words.
+    Start(Address),
 }
 
 /// A number in octal, below 2 ^ 36.
@@ -44,6 +46,17 @@ fn read_address(text: &str) -> Option<Address> {
         Some(Address::new(number as u32))
     } else {
         None
+    }
+}
+
+/// A word in octal: up to twelve digits, or two halves of up to six with two commas between them.
+fn read_word(text: &str) -> Option<Word> {
+    match text.split_once(',') {
+        None => Some(Word::new(read_octal(text)?)),
+        Some((left, rest)) => {
+            let right = rest.strip_prefix(",")?;
+            Some(Word::join(read_address(left)?.number(), read_address(right)?.number()))
+        }
     }
 }
 
@@ -79,9 +92,10 @@ pub fn read_line(line: &str) -> Option<Line> {
         "flags" => Some(Line::Flags(read_flags(second)?)),
         "pc" => Some(Line::Pc(read_address(second)?)),
         "size" => Some(Line::Size(read_size(second)?)),
+        "START" => Some(Line::Start(read_address(second)?)),
         _ => {
             let place = read_address(first)?.number();
-            Some(Line::Word(place, Word::new(read_octal(second)?)))
+            Some(Line::Word(place, read_word(second)?))
         }
     }
 }

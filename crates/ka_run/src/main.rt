@@ -1,8 +1,9 @@
 //! Runs bare words on the processor and writes the state that is left.
 //!
 //! Standard input has lines `address word` in octal, places below 20 being registers; before them may
-//! stand `flags f` and `pc a` in octal and `size n`, the blocks of core, in decimal. `;` begins a
-//! comment. The argument is the greatest number of instructions, in decimal.
+//! stand `flags f` and `pc a` in octal and `size n`, the blocks of core, in decimal, and behind them
+//! `START a`, as `lockmon asm` writes it. `;` begins a comment. The argument is the greatest number of
+//! instructions, in decimal.
 #![tactic(auto)]
 
 mod input;
@@ -14,17 +15,30 @@ use std::process::ExitCode;
 use std::{env, io};
 use word36::{Address, BLOCK_WORDS, MOST_BLOCKS, Word};
 
-/// How far the input has come: the number of blocks of core, and whether a word was read.
+/// What is told where the arguments are wrong.
+const USAGE: &str =
+    "usage: ka_run N < words    runs at most N instructions (decimal); the words as \
+    `lockmon asm` writes them";
+
+/// How far the input has come: the number of blocks of core, whether a word was read, and whether the
+/// start was.
 #[derive(Clone, Copy)]
 struct Progress {
     blocks: u32,
     words_begun: bool,
+    ended: bool,
 }
 
 /// Takes one line of the input, and says whether it is right.
 fn take(progress: &mut Progress, regs: &mut Regs, core: &mut [Word], line: Line) -> bool {
     match line {
         Line::Blank => true,
+        _ if progress.ended => false,
+        Line::Start(pc) => {
+            progress.ended = true;
+            regs.pc = pc;
+            true
+        }
         Line::Word(place, word) => {
             progress.words_begun = true;
             let inside = (place as usize) < core.len()
@@ -52,15 +66,25 @@ fn take(progress: &mut Progress, regs: &mut Regs, core: &mut [Word], line: Line)
     }
 }
 
-fn main(rt: HostRuntime) -> io::Result<ExitCode> {
-    let mut most = 0;
-    for word in env::args(&rt)?.skip(1) {
-        most = word.as_str().parse::<u64>().unwrap_or(0);
+/// The greatest number of instructions, of words that begin with the program's name.
+fn limit_of(words: &[String]) -> Option<u64> {
+    match words {
+        [_, most] => most.as_str().parse::<u64>().ok(),
+        _ => None,
     }
+}
+
+fn main(rt: HostRuntime) -> io::Result<ExitCode> {
+    let words: Vec<String> = env::args(&rt)?.collect(rt.alloc())?;
+    let Some(most) = limit_of(words.as_slice()) else {
+        eprintln!(rt; "{USAGE}")?;
+        return Ok(ExitCode::from(2));
+    };
     let mut core = vec![in rt.alloc(); Word::new(0); MOST_BLOCKS as usize * BLOCK_WORDS]?;
     let mut progress = Progress {
         blocks: MOST_BLOCKS,
         words_begun: false,
+        ended: false,
     };
     let mut regs = Regs {
         ac: [Word::new(0); 16],
