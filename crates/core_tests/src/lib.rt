@@ -1,7 +1,11 @@
-//! Callers of a store of core, by its trait alone, and tests of the store with a vector for each job.
+//! Callers of a store of core, by its trait alone, and tests of both stores.
 #![tactic(auto)]
 
+#[cfg(test)]
+mod acts;
 mod jobs;
+#[cfg(test)]
+mod tables;
 #[cfg(test)]
 mod tests;
 

@@ -1,116 +1,101 @@
-//! The store with a vector for each job, at its limits.
+//! Both stores, at their limits, in holes and after moves.
 
 ghost use Rattle.std.specs.Prelude.{◌<◌, ◌^◌};
 
-use crate::{
-    come_and_go, copy_word, fetch_in, hand_over, log_in, set_blocks, step_beside, step_in, write_in,
-};
-use core_store::{CoreStore, CoreWindow, NoCore, PlainCore};
-use ka_cpu::{Flags, JobMemory, Outcome, Regs, StopReason};
+use crate::acts::{Act, answer, first_difference, first_word_apart, first_wrong};
+use crate::tables::{ALL_IN_ONE, GROWN, MOVED_TOGETHER, NEW_CORE};
+use crate::{come_and_go, copy_word, fetch_in, hand_over, log_in, step_beside, step_in, write_in};
+use core_store::{BlockCore, CoreStore, CoreWindow, NoCore, PlainCore};
+use ka_cpu::{Flags, JobMemory, Outcome, Regs};
+use std::alloc::{AllocError, Global};
 use std::test::Fail;
 use word36::{Address, JOBS, Word};
 
+/// The first row of each table that a store answers otherwise.
+fn wrong_rows<C: CoreStore>(alloc: Global) -> Result<[Option<usize>; 4], AllocError> {
+    Ok([
+        first_wrong::<C>(alloc, 256, &ALL_IN_ONE)?,
+        first_wrong::<C>(alloc, 4, &MOVED_TOGETHER)?,
+        first_wrong::<C>(alloc, 8, &GROWN)?,
+        first_wrong::<C>(alloc, 4, &NEW_CORE)?,
+    ])
+}
+
 #[test]
-fn one_job_has_all_256_blocks(rt: HostRuntime) -> Result<(), Fail> {
-    let mut cores = PlainCore::new(rt.alloc(), 256)?;
-    assert_eq!(rt; cores.free(), 256);
-    assert_eq!(rt; set_blocks(&mut cores, 31, 257), Err(NoCore));
-    assert_eq!(rt; set_blocks(&mut cores, 31, 256), Ok(()));
-    assert_eq!(rt; (cores.free(), cores.blocks(31)), (0, 256));
-    assert_eq!(rt; set_blocks(&mut cores, 1, 1), Err(NoCore));
-    assert_eq!(rt; set_blocks(&mut cores, 31, 257), Err(NoCore));
-    let last = 256 * 1024 - 1;
-    assert!(rt; write_in(&mut cores, 31, last, Word::new(7)));
-    assert_eq!(rt; cores.read(31, last), Some(Word::new(7)));
-    assert_eq!(rt; cores.read(31, last + 1), None);
-    cores.give(31);
-    assert_eq!(rt; (cores.free(), cores.blocks(31)), (256, 0));
-    assert_eq!(rt; cores.read(31, 0), None);
-    assert_eq!(rt; NoCore.code(), 1);
+fn rows_are_answered(rt: HostRuntime) -> Result<(), Fail> {
+    assert_eq!(rt; wrong_rows::<PlainCore>(rt.alloc())?, [None; 4]);
+    assert_eq!(rt; wrong_rows::<BlockCore>(rt.alloc())?, [None; 4]);
     Ok(())
+}
+
+/// 31 jobs of 8 blocks each, of which one then grows to 16: the first that has not its words.
+fn first_disturbed<C: CoreStore>(alloc: Global, grows: u8) -> Result<Option<u8>, AllocError> {
+    let mut cores = C::new(alloc, 256)?;
+    for job in 1..=JOBS {
+        answer(&mut cores, Act::Blocks(job, 8));
+        answer(&mut cores, Act::Write(job, 8191, u32::from(job)));
+    }
+    answer(&mut cores, Act::Blocks(grows, 17));
+    answer(&mut cores, Act::Blocks(grows, 16));
+    for job in 1..=JOBS {
+        let last = answer(&mut cores, Act::Read(job, 8191));
+        let before = answer(&mut cores, Act::Read(job, 8190));
+        if (last, before) != (Some(u64::from(job)), Some(0)) {
+            return Ok(Some(job));
+        }
+    }
+    let grown = answer(&mut cores, Act::Read(grows, 8192));
+    Ok((cores.free() != 0 || grown != Some(0)).then_some(0))
 }
 
 #[test]
 fn thirty_one_jobs_share_256_blocks(rt: HostRuntime) -> Result<(), Fail> {
-    let mut cores = PlainCore::new(rt.alloc(), 256)?;
-    for job in 1..=JOBS {
-        assert_eq!(rt; set_blocks(&mut cores, job, 8), Ok(()), "job {job}");
-        assert!(rt;
-            write_in(&mut cores, job, 8191, Word::new(job as u64)),
-            "job {job}"
-        );
-    }
-    assert_eq!(rt; cores.free(), 8);
-    assert_eq!(rt; set_blocks(&mut cores, 5, 17), Err(NoCore));
-    assert_eq!(rt; set_blocks(&mut cores, 5, 16), Ok(()));
-    assert_eq!(rt; cores.free(), 0);
-    for job in 1..=JOBS {
-        assert_eq!(rt;
-            cores.read(job, 8191),
-            Some(Word::new(job as u64)),
-            "job {job}"
-        );
-        assert_eq!(rt; cores.read(job, 8190), Some(Word::new(0)), "job {job}");
+    for grows in [1, 5, 31].iter() {
+        assert_eq!(rt; first_disturbed::<PlainCore>(rt.alloc(), *grows)?, None);
+        assert_eq!(rt; first_disturbed::<BlockCore>(rt.alloc(), *grows)?, None);
     }
     Ok(())
 }
 
 #[test]
-fn new_core_holds_no_old_words(rt: HostRuntime) -> Result<(), Fail> {
-    let mut cores = PlainCore::new(rt.alloc(), 4)?;
-    set_blocks(&mut cores, 1, 2)?;
-    for a in [0, 1023, 1024, 2047] {
-        assert!(rt; write_in(&mut cores, 1, a, Word::new(0o777_777_777_777)));
-    }
-    assert!(rt; !write_in(&mut cores, 1, 2048, Word::new(1)));
-
-    // Cut to one block and made two again, the second is zero.
-    set_blocks(&mut cores, 1, 1)?;
-    assert_eq!(rt; (cores.free(), cores.read(1, 1024)), (3, None));
-    set_blocks(&mut cores, 1, 2)?;
-    assert_eq!(rt; cores.read(1, 1023), Some(Word::new(0o777_777_777_777)));
-    assert_eq!(rt; cores.read(1, 1024), Some(Word::new(0)));
-    assert_eq!(rt; cores.read(1, 2047), Some(Word::new(0)));
-
-    // So is all of it after the job is gone.
-    cores.give(1);
-    cores.give(1);
-    set_blocks(&mut cores, 1, 4)?;
-    assert_eq!(rt; cores.read(1, 0), Some(Word::new(0)));
-    assert_eq!(rt; cores.free(), 0);
+fn stores_answer_alike(rt: HostRuntime) -> Result<(), Fail> {
+    let mut plain = PlainCore::new(rt.alloc(), 96)?;
+    let mut block = BlockCore::new(rt.alloc(), 96)?;
+    assert_eq!(rt; first_difference(&mut plain, &mut block, 20_000), None);
+    assert_eq!(rt; first_word_apart(&plain, &block), None);
     Ok(())
+}
+
+/// The callers of this crate in a store of 14 blocks: what jobs have at the end.
+fn callers_run<C: CoreStore>(alloc: Global) -> Result<([u32; 4], [Option<Word>; 2]), Fail> {
+    let mut cores = C::new(alloc, 14)?;
+    let word = Word::new(0o254_020_000_144);
+    log_in(&mut cores, 2, 1, word)?;
+    come_and_go(&mut cores, 1, 3, 2, word)?;
+    write_in(&mut cores, 1, 5, Word::new(5));
+    copy_word(&mut cores, 1, 2, 5);
+    copy_word(&mut cores, 1, 2, 1024);
+    if cores.blocks(3) == 0 && cores.blocks(1) > 1 {
+        hand_over(&mut cores, 1, 3, 1)?;
+    }
+    Ok((
+        [
+            cores.blocks(1),
+            cores.blocks(2),
+            cores.blocks(3),
+            cores.free(),
+        ],
+        [cores.read(2, 0), cores.read(2, 5)],
+    ))
 }
 
 #[test]
 fn generic_callers_run(rt: HostRuntime) -> Result<(), Fail> {
-    let mut cores = PlainCore::new(rt.alloc(), 7)?;
-    let word = Word::new(0o254_020_000_144);
-    log_in(&mut cores, 2, 1, word)?;
-    come_and_go(&mut cores, 1, 3, 2, word)?;
-    assert_eq!(rt;
-        (
-            cores.blocks(1),
-            cores.blocks(2),
-            cores.blocks(3),
-            cores.free()
-        ),
-        (3, 1, 0, 3)
-    );
-    assert!(rt; write_in(&mut cores, 1, 5, Word::new(5)));
-    assert!(rt; copy_word(&mut cores, 1, 2, 5));
-    assert!(rt; !copy_word(&mut cores, 1, 2, 1024));
-    assert_eq!(rt; cores.read(2, 5), Some(Word::new(5)));
-    Ok(())
-}
-
-#[test]
-fn blocks_are_handed_over(rt: HostRuntime) -> Result<(), Fail> {
-    let mut cores = PlainCore::new(rt.alloc(), 7)?;
-    set_blocks(&mut cores, 1, 3)?;
-    cores.give(3);
-    assert!(rt; cores.blocks(1) > 1);
-    hand_over(&mut cores, 1, 3, 1)?;
-    assert_eq!(rt; (cores.blocks(1), cores.blocks(3), cores.free()), (1, 2, 4));
+    let words = [Some(Word::new(0o254_020_000_144)), Some(Word::new(5))];
+    let wanted = ([1, 1, 2, 10], words);
+    assert_eq!(rt; callers_run::<PlainCore>(rt.alloc())?, wanted);
+    assert_eq!(rt; callers_run::<BlockCore>(rt.alloc())?, wanted);
+    assert_eq!(rt; NoCore.code(), 1);
     Ok(())
 }
 
@@ -131,43 +116,40 @@ fn regs_at(place: u32) -> Regs
     }
 }
 
-#[test]
-fn instruction_writes_its_own_job(rt: HostRuntime) -> Result<(), Fail> {
-    let mut cores = PlainCore::new(rt.alloc(), 2)?;
-    set_blocks(&mut cores, 1, 1)?;
-    set_blocks(&mut cores, 2, 1)?;
-    // MOVEI 1,5 and MOVEM 1,100
-    assert!(rt; write_in(&mut cores, 1, 0o140, Word::join(0o201_040, 5)));
-    assert!(rt; write_in(&mut cores, 1, 0o141, Word::join(0o202_040, 0o100)));
-    let mut regs = regs_at(0o140);
-    for _ in 0..2 {
-        assert!(rt; matches!(step_in(&mut cores, 1, &mut regs), Outcome::Done));
+/// Job 2 executes MOVEI 1,5 and MOVEM 1,100 with a move of its core in between, beside jobs 1 and 3,
+/// where a zero is no instruction. The words at 100 of jobs 1 and 2, what job 2 finds at places 1
+/// and 100, and whether all was executed.
+fn steps_run<C: CoreStore>(alloc: Global) -> Result<([Option<Word>; 4], bool), AllocError> {
+    let mut cores = C::new(alloc, 4)?;
+    for job in 1..=3 {
+        answer(&mut cores, Act::Blocks(job, 1));
     }
-    assert_eq!(rt; cores.read(1, 0o100), Some(Word::new(5)));
-    assert_eq!(rt; cores.read(2, 0o100), Some(Word::new(0)));
-    assert_eq!(rt; (regs.ac[1], regs.pc), (Word::new(5), Address::new(0o142)));
-    // Job 2 has a zero there, which is no instruction.
-    assert!(rt;
-        matches!(
-            step_beside(&mut cores, 2, 1, &mut regs),
-            Outcome::Stop(StopReason::IllegalInstruction)
-        )
-    );
-    Ok(())
+    write_in(&mut cores, 2, 0o140, Word::join(0o201_040, 5));
+    write_in(&mut cores, 2, 0o141, Word::join(0o202_040, 0o100));
+    let mut regs = regs_at(0o140);
+    let first = step_in(&mut cores, 2, &mut regs);
+    answer(&mut cores, Act::Blocks(1, 0));
+    answer(&mut cores, Act::Blocks(1, 2));
+    let second = step_in(&mut cores, 2, &mut regs);
+    let third = step_beside(&mut cores, 1, 2, &mut regs);
+    let done = matches!(first, Outcome::Done)
+        && matches!(second, Outcome::Done)
+        && matches!(third, Outcome::Stop(_));
+    let places = [
+        cores.read(1, 0o100),
+        cores.read(2, 0o100),
+        fetch_in(&mut cores, 2, &regs, 1),
+        fetch_in(&mut cores, 2, &regs, 0o100),
+    ];
+    Ok((places, done))
 }
 
 #[test]
-fn registers_lie_before_core(rt: HostRuntime) -> Result<(), Fail> {
-    let mut cores = PlainCore::new(rt.alloc(), 1)?;
-    set_blocks(&mut cores, 2, 1)?;
-    let mut regs = regs_at(0);
-    regs.ac[0] = Word::new(1);
-    assert!(rt;
-        write_in(&mut cores, 2, 0, Word::new(2)) && write_in(&mut cores, 2, 0o20, Word::new(3))
-    );
-    assert_eq!(rt; fetch_in(&mut cores, 2, &regs, 0), Some(Word::new(1)));
-    assert_eq!(rt; fetch_in(&mut cores, 2, &regs, 0o20), Some(Word::new(3)));
-    assert_eq!(rt; fetch_in(&mut cores, 4, &regs, 0o20), None);
+fn moved_core(rt: HostRuntime) -> Result<(), Fail> {
+    let five = Some(Word::new(5));
+    let wanted = ([Some(Word::new(0)), five, five, five], true);
+    assert_eq!(rt; steps_run::<PlainCore>(rt.alloc())?, wanted);
+    assert_eq!(rt; steps_run::<BlockCore>(rt.alloc())?, wanted);
     Ok(())
 }
 
@@ -175,9 +157,9 @@ fn registers_lie_before_core(rt: HostRuntime) -> Result<(), Fail> {
 fn window_is_a_memory(rt: HostRuntime) -> Result<(), Fail> {
     let mut words = [Word::new(3), Word::new(4)];
     let mut window = CoreWindow { words: &mut words };
-    assert_eq!(rt; window.size(), 2);
-    assert!(rt; window.write(1, Word::new(5)));
-    assert!(rt; !window.write(2, Word::new(6)));
+    assert!(rt;
+        window.size() == 2 && window.write(1, Word::new(5)) && !window.write(2, Word::new(6))
+    );
     assert_eq!(rt;
         (window.read(0), window.read(1), window.read(2)),
         (Some(Word::new(3)), Some(Word::new(5)), None)

@@ -55,3 +55,7 @@ free_number jobs = first_free 1 (drop 1 jobs)
 -- job n is to run: it goes on where it is current and has quantum left, and gets a whole quantum otherwise
 abbrev pub chosen : Table → ℕ → ℕ → Table
 chosen t n quantum = if (t.current == n) && nat_lt 0 t.left then t else record t { current = n; left = quantum }
+
+-- so many ticks of the quantum go by
+abbrev pub spent : Table → ℕ → Table
+spent t n = record t { left = t.left - n }

@@ -1,5 +1,5 @@
 -- What becomes of one job (this project's profile).
-use Rattle.std.specs.Prelude.{ℕ, ◌-◌, ◌==◌, ◌&&◌, nat_lt, Bool, false, is_none, if◌then◌else◌, Some, None}
+use Rattle.std.specs.Prelude.{ℕ, ◌-◌, ◌==◌, ◌&&◌, nat_lt, Bool, false, is_none, is_some, not, if◌then◌else◌, Some, None}
 use Rattle.ka_cpu.specs.declared.registers.Flags.{Flags}
 use Rattle.ka_cpu.specs.declared.registers.Regs.{Regs}
 use Rattle.job_sched.specs.declared.job.Interrupts.{Interrupts}
@@ -62,6 +62,10 @@ is_sleep Char = false
 is_sleep Line = false
 is_sleep (Room places) = false
 is_sleep Queue = false
+
+-- whether an interrupt can be delivered: they are on, none is in progress, and there is a vector
+abbrev pub takes_interrupts : Interrupts → Bool
+takes_interrupts i = i.on && not i.in_progress && is_some i.vector
 
 abbrev pub is_asleep : Job → Bool
 is_asleep j = is_sleep j.wait

@@ -4,3 +4,5 @@ pub mod Tables
 pub mod Ready
 pub mod Changes
 pub mod Laws
+pub mod Spans
+pub mod Times

@@ -1,7 +1,7 @@
 //! A job.
 
 ghost use Rattle.std.specs.Prelude.{◌≡◌};
-ghost use Rattle.job_sched.specs.Jobs.{new_job, started_job, broken_job, ticked_job, is_asleep};
+ghost use Rattle.job_sched.specs.Jobs.{new_job, started_job, broken_job, ticked_job, is_asleep, takes_interrupts};
 ghost use Rattle.job_sched.specs.Stops.{code_of};
 
 use ka_cpu::{Flags, Regs, StopReason};
@@ -119,6 +119,16 @@ impl Job {
         ensures { result ≡ is_asleep self.now }
     {
         matches!(self.wait, Wait::Sleep(ticks) if ticks > 0)
+    }
+
+    /// Whether an interrupt can be delivered to it: they are on, none is in progress, and there is a
+    /// vector.
+    #[inline(always)]
+    pub fn takes_interrupts(&self) -> bool
+        ensures { result ≡ takes_interrupts self.now.interrupts }
+    {
+        let interrupts = &self.interrupts;
+        interrupts.on && !interrupts.in_progress && interrupts.vector.is_some()
     }
 
     /// Goes on at its start address, with User alone of the flags, no wait and no vector.

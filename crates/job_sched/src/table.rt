@@ -6,7 +6,8 @@ ghost use Rattle.std.specs.Option.{option_copied, option_map};
 ghost use Rattle.word36.specs.declared.sizes.TheConstants.{JOBS};
 ghost use Rattle.job_sched.specs.Jobs.{broken_job, going_on, started_job, ticked_job};
 ghost use Rattle.job_sched.specs.Tables.{is_sleeper, job_at, no_jobs};
-ghost use Rattle.job_sched.specs.Changes.{broken_table, chosen, free_number, is_at, standing, table_without, ticked_table, with_change, with_job};
+ghost use Rattle.job_sched.specs.Changes.{broken_table, chosen, free_number, is_at, spent, standing, table_without, ticked_table, with_change, with_job};
+ghost use Rattle.job_sched.specs.Spans.{Undisturbed, is_open};
 ghost use Rattle.job_sched.specs.Ready.{after, first_from, holds, is_ready, next_job};
 
 use crate::{Job, JobError, Wait};
@@ -68,6 +69,17 @@ fn is_sleeper(slot: &Option<Job>) -> bool
 {
     match slot {
         Some(job) => job.is_asleep(),
+        None => false,
+    }
+}
+
+/// Whether a job is there and an interrupt can be delivered to it.
+#[inline(always)]
+fn is_open(slot: &Option<Job>) -> bool
+    ensures { result ≡ is_open slot.now }
+{
+    match slot {
+        Some(job) => job.takes_interrupts(),
         None => false,
     }
 }
@@ -255,6 +267,36 @@ impl JobTable {
         if self.sleepers {
             self.sleepers = tick_all(&mut self.jobs);
         }
+    }
+
+    /// In how many of some rounds, which are steps with ticks or without, a job runs that was just
+    /// chosen, as long as it only computes: nothing comes between so many.
+    #[inline(always)]
+    pub fn span(&self, number: u8, most: u32, ticking: bool) -> u32
+        requires number { number ≤ JOBS }
+        requires some { 1 ≤ most }
+        ensures least { 1 ≤ result }
+        ensures most { result ≤ most }
+        ensures undisturbed { 2 ≤ result → Undisturbed self.now number ticking result }
+    {
+        if self.current != number || self.left == 0 || is_open(&self.jobs[number as usize]) {
+            return 1;
+        }
+        if !ticking {
+            return most;
+        }
+        if self.sleepers {
+            return 1;
+        }
+        most.min(u32::from(self.left))
+    }
+
+    /// So many ticks of the quantum go by, in which nobody sleeps.
+    #[inline(always)]
+    pub fn spend(&mut self, ticks: u32)
+        ensures { self.new ≡ spent self.old ticks }
+    {
+        self.left = u32::from(self.left).saturating_sub(ticks) as u8;
     }
 
     /// CTRL-C at a line: the job there stops, unless it is stopped already.

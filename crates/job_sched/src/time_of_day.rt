@@ -1,6 +1,7 @@
 //! The time of day.
 
 ghost use Rattle.std.specs.Prelude.{◌≡◌, ◌<◌, ◌+◌, ◌*◌, ◌/◌, ◌%◌, ◌^◌};
+ghost use Rattle.job_sched.specs.Times.{later};
 ghost use Rattle.job_sched.specs.declared.time_of_day.TheConstants.{TICKS_A_DAY};
 
 use std::marker::Model;
@@ -54,9 +55,19 @@ impl TimeOfDay {
     }
 
     /// Goes on by a tick; after the last tick of a day comes midnight.
+    #[inline(always)]
     pub fn advance(&mut self)
         ensures { self.new ≡ (self.old + 1) % TICKS_A_DAY }
     {
-        self.ticks = (self.ticks + 1) % TICKS_A_DAY;
+        let next = self.ticks + 1;
+        self.ticks = if next == TICKS_A_DAY { 0 } else { next };
+    }
+
+    /// Goes on by so many ticks.
+    #[inline(always)]
+    pub fn advance_by(&mut self, ticks: u32)
+        ensures { self.new ≡ later self.old ticks }
+    {
+        self.ticks = ((u64::from(self.ticks) + u64::from(ticks)) % u64::from(TICKS_A_DAY)) as u32;
     }
 }

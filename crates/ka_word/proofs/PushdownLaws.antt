@@ -1,7 +1,7 @@
 -- Pushdown pointers counted up and down.
-use Rattle.std.proofs.Common.{◌≡◌, ◌↔◌, ℕ, ◌+◌, ◌-◌, ◌/◌, ◌%◌, ◌^◌, ◌<◌, ◌≤◌, true, arith}
-use Rattle.std.proofs.lemmas.Bool.{lt-ltb, le-leb, ltb-true, leb-true}
-use Rattle.word36.specs.Words.{left_half, right_half}
+use Rattle.std.proofs.Common.{◌≡◌, ℕ, ◌+◌, ◌%◌, ◌^◌, ◌<◌, ◌≤◌, true, arith}
+use Rattle.std.proofs.lemmas.Bool.{lt-ltb, leb-true}
+use Rattle.word36.specs.Words.{right_half}
 use Rattle.ka_word.specs.Pushdown.{counted_down, counted_up, runs_over, runs_under}
 
 pub back_law : (a : ℕ) → a < 2 ^ 36 → counted_down (counted_up a) ≡ a

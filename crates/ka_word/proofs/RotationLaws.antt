@@ -1,7 +1,7 @@
 -- Rotations forth and back.
-use Rattle.std.proofs.Common.{◌≡◌, ◌∙◌, ℕ, ◌+◌, ◌-◌, ◌*◌, ◌/◌, ◌%◌, ◌^◌, ◌<◌, ◌≤◌, ◌⊎◌, inl, inr, Bool, true, false, cond, refl, sym, ap, arith}
-use Rattle.std.proofs.lemmas.Bool.{lt-ltb, le-ltb, cond-true, cond-false, cases_lt, cases_order}
-use Rattle.std.proofs.lemmas.Nat.{mod_below, mod_low, pow-add, pow_pos, shr_below, shr_high, shr_split}
+use Rattle.std.proofs.Common.{◌≡◌, ◌∙◌, ℕ, ◌+◌, ◌-◌, ◌*◌, ◌/◌, ◌%◌, ◌^◌, ◌<◌, ◌≤◌, inl, inr, cond, refl, sym, ap, arith}
+use Rattle.std.proofs.lemmas.Bool.{lt-ltb, le-ltb, cases_order}
+use Rattle.std.proofs.lemmas.Nat.{mod_below, mod_low, shr_below, shr_high, shr_split}
 use Rattle.std.proofs.Math.Nat.{div-eq_of_lt, mod-eq_of_lt}
 use Rattle.ka_word.specs.Shifts.{is_left, places_of, rot_of, rotc_of, turned_left, turned_right}
 use Rattle.ka_word.specs.Laws.{opposite}

@@ -1,5 +1,5 @@
 -- Words of private clauses: signed numbers by sign and magnitude, as the code multiplies and divides them.
-use Rattle.std.specs.Prelude.{ℕ, ◌+◌, ◌-◌, ◌*◌, ◌/◌, ◌%◌, ◌^◌, nat_eq, nat_lt, nat_le, Bool, not, ◌&&◌, if◌then◌else◌}
+use Rattle.std.specs.Prelude.{ℕ, ◌+◌, ◌-◌, ◌*◌, ◌%◌, ◌^◌, nat_eq, nat_lt, nat_le, Bool, not, ◌&&◌, if◌then◌else◌}
 use Rattle.word36.specs.Words.{is_negative}
 
 -- a word's magnitude is at most 2 ^ 35

@@ -10,3 +10,4 @@ pub mod Along
 pub mod Safe
 pub mod Owners
 pub mod Alone
+pub mod Stretches

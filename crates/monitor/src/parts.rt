@@ -5,8 +5,10 @@ ghost use Rattle.core_store.specs.Cores.{IsJob, core_of};
 ghost use Rattle.job_sched.specs.Ready.{next_job};
 ghost use Rattle.job_sched.specs.Tables.{job_at};
 ghost use Rattle.machine.specs.Images.{blocks_for};
-ghost use Rattle.machine.specs.Machine.{S, refusal_of, stepped, ticked, killed, happens, at_boot, started, continued, restarted, typed, taken, admitted, logged_in};
+ghost use Rattle.machine.specs.Machine.{S, after, answers, refusal_of, stepped, ticked, killed, happens, at_boot, started, continued, restarted, typed, taken, admitted, logged_in};
+ghost use Rattle.machine.specs.Rounds.{rounds, runs_in};
 ghost use Rattle.machine.specs.Safe.{Safe};
+ghost use Rattle.machine.specs.Stretches.{ticked_if};
 ghost use Rattle.machine.specs.Views.{job_view, held_wait, word_in};
 
 use crate::cores::give_all;
@@ -51,6 +53,18 @@ impl<L: LockTable, C: CoreStore> Model for Parts<L, C> {
     ghost view = { λ p. record { world = record { table = p.table; lines = p.lines; requests = L.requests p.locks; cores = C.meaning p.cores; shared = p.shared }; time = p.time; quantum = p.quantum; blocks = p.blocks } };
 }
 
+/// Rounds that were made, and in how many of them a job ran.
+#[derive(Clone, Copy, Debug, PartialEq, Eq)]
+pub struct Rounds {
+    /// How many were made.
+    pub made: u32,
+    /// In how many of them a job ran.
+    pub ran: u32,
+}
+
+/// A round in which no job is ready.
+const IDLE_ROUND: Rounds = Rounds { made: 1, ran: 0 };
+
 /// Why a job can not start or go on, as the event says it.
 fn refusal_of(error: JobError) -> RefusedEvent
     ensures { result ≡ refusal_of error }
@@ -93,14 +107,65 @@ impl<L: LockTable, C: CoreStore> Parts<L, C> {
         self.table.choose(n, self.quantum);
         run_job(
             n,
+            1,
+            false,
             &mut self.table,
             &mut self.lines,
             &mut self.locks,
             &mut self.cores,
             &mut self.shared,
-            self.time,
+            &mut self.time,
         );
         Some(n)
+    }
+
+    /// The job that is next runs for some rounds, each a step with a tick behind it where `ticking`,
+    /// but for the last one's tick; where no job is ready an idle round goes by.
+    #[inline(always)]
+    fn run_next(&mut self, most: u32, ticking: bool) -> Rounds
+        requires safe { Safe self.old }
+        requires some { 1 ≤ most }
+        ensures state { ticked_if ticking self.new ≡ after (rounds result.made ticking) self.old }
+        ensures count { result.ran ≡ runs_in (answers (rounds result.made ticking) self.old) }
+        ensures least { 1 ≤ result.made }
+        ensures most { result.made ≤ most }
+        ensures few { result.ran ≤ result.made }
+    {
+        let Some(n) = self.table.next(&self.lines, &self.locks) else {
+            return IDLE_ROUND;
+        };
+        self.table.choose(n, self.quantum);
+        let span = self.table.span(n, most, ticking);
+        let made = run_job(
+            n,
+            span,
+            ticking,
+            &mut self.table,
+            &mut self.lines,
+            &mut self.locks,
+            &mut self.cores,
+            &mut self.shared,
+            &mut self.time,
+        );
+        Rounds { made, ran: made }
+    }
+
+    /// Some rounds, at least one: steps, each with a tick behind it where `ticking`.
+    #[inline(always)]
+    pub fn run_rounds(&mut self, most: u32, ticking: bool) -> Rounds
+        requires safe { Safe self.old }
+        requires some { 1 ≤ most }
+        ensures state { self.new ≡ after (rounds result.made ticking) self.old }
+        ensures count { result.ran ≡ runs_in (answers (rounds result.made ticking) self.old) }
+        ensures least { 1 ≤ result.made }
+        ensures most { result.made ≤ most }
+        ensures few { result.ran ≤ result.made }
+    {
+        let some = self.run_next(most, ticking);
+        if ticking {
+            self.tick();
+        }
+        some
     }
 
     /// A tick.
@@ -113,6 +178,7 @@ impl<L: LockTable, C: CoreStore> Parts<L, C> {
     }
 
     /// A job is gone.
+    #[inline(never)]
     pub fn kill(&mut self, n: u8) -> Answer
         requires { Safe self.old }
         ensures state { self.new ≡ (killed self.old n (job_at self.old.world.table.jobs n)).state }
@@ -126,6 +192,7 @@ impl<L: LockTable, C: CoreStore> Parts<L, C> {
     }
 
     /// A job starts, and a blocking request that is not granted leaves.
+    #[inline(never)]
     pub fn start(&mut self, n: u8) -> Answer
         requires { Safe self.old }
         ensures state { self.new ≡ (started self.old n).state }
@@ -141,6 +208,7 @@ impl<L: LockTable, C: CoreStore> Parts<L, C> {
     }
 
     /// A job goes on.
+    #[inline(never)]
     pub fn go_on(&mut self, n: u8) -> Answer
         requires { Safe self.old }
         ensures state { self.new ≡ (continued self.old n).state }
@@ -153,6 +221,7 @@ impl<L: LockTable, C: CoreStore> Parts<L, C> {
     }
 
     /// All jobs, requests and characters are gone.
+    #[inline(never)]
     pub fn restart(&mut self) -> Answer
         requires { Safe self.old }
         ensures state { self.new ≡ (restarted self.old).state }
@@ -166,6 +235,7 @@ impl<L: LockTable, C: CoreStore> Parts<L, C> {
     }
 
     /// A character is typed at a line; CTRL-C stops the line's job.
+    #[inline(never)]
     pub fn typed(&mut self, line: u8, c: Char7) -> Answer
         requires { Safe self.old }
         ensures state { self.new ≡ (typed self.old line c).state }
@@ -185,6 +255,7 @@ impl<L: LockTable, C: CoreStore> Parts<L, C> {
     }
 
     /// Characters leave a line's output.
+    #[inline(never)]
     pub fn take(&mut self, line: u8, n: usize) -> Answer
         requires { Safe self.old }
         ensures state { self.new ≡ (taken self.old line n).state }
@@ -217,6 +288,7 @@ impl<L: LockTable, C: CoreStore> Parts<L, C> {
     }
 
     /// A job begins at a line with an image.
+    #[inline(never)]
     pub fn login(&mut self, line: u8, image: &Image) -> Answer
         requires { Safe self.old }
         ensures state { self.new ≡ (logged_in self.old line image.now.words.items image.now.start).state }
@@ -237,9 +309,8 @@ impl<L: LockTable, C: CoreStore> Parts<L, C> {
         self.admit(n, at, image, top)
     }
 
-    /// One event. It is not inlined: an event that a `System` makes for itself goes by the shorter
-    /// way of `step` and `tick`.
-    #[inline(never)]
+    /// One event. All but steps and ticks are not inlined, so that these two are short.
+    #[inline(always)]
     pub fn event(&mut self, event: &Event) -> Answer
         requires { Safe self.old }
         ensures state { self.new ≡ (happens self.old event.now).state }

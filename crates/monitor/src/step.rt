@@ -1,9 +1,9 @@
-//! The step of the job that is next.
-ghost use Rattle.std.specs.Prelude.{◌≡◌, ◌≢◌, [], IsSome};
+//! The rounds of the job that is next.
+ghost use Rattle.std.specs.Prelude.{◌≡◌, ◌≢◌, ◌≤◌, ◌-◌, [], IsSome};
 ghost use Rattle.core_store.specs.Cores.{IsJob, core_of};
 ghost use Rattle.job_sched.specs.Tables.{job_at};
 ghost use Rattle.uuo_calls.specs.Performed.{World};
-ghost use Rattle.machine.specs.Machine.{ran};
+ghost use Rattle.machine.specs.Stretches.{Stretched, runs_on, table_after, time_after};
 
 use crate::turn::run_turn;
 use core_store::CoreStore;
@@ -13,26 +13,51 @@ use tty_lines::Lines;
 use uuo_calls::perform;
 use word36::{DATA_WORDS, Word};
 
-/// A job runs: its wait is over, it takes its turn, and the call that it makes is performed.
+/// The ticks behind all of some rounds but the last go by, where ticks go by.
+#[inline(always)]
+fn pass(ticking: bool, rounds: u32, table: &mut JobTable, time: &mut TimeOfDay)
+    requires { 1 ≤ rounds }
+    ensures table { table.new ≡ table_after table.old ticking (rounds - 1) }
+    ensures time { time.new ≡ time_after time.old ticking (rounds - 1) }
+{
+    if ticking && rounds > 1 {
+        table.spend(rounds - 1);
+        time.advance_by(rounds - 1);
+    }
+}
+
+/// A job runs for at most so many rounds, and in how many: its wait is over, it takes its turn, and the
+/// call that it makes is performed.
+#[inline(always)]
 pub(crate) fn run_job<L: LockTable, C: CoreStore>(
     n: u8,
+    most: u32,
+    ticking: bool,
     table: &mut JobTable,
     lines: &mut Lines,
     locks: &mut L,
     cores: &mut C,
     shared: &mut [Word; DATA_WORDS],
-    time: TimeOfDay,
-)
+    time: &mut TimeOfDay,
+) -> u32
     requires number { IsJob n }
+    requires some { 1 ≤ most }
     requires there { IsSome (job_at table.old.jobs n) }
     requires core { core_of (C.meaning cores.old) n ≢ [] }
-    ensures { record { table = table.new; lines = lines.new; requests = L.requests locks.new; cores = C.meaning cores.new; shared = shared.new }
-        ≡ ran (record { table = table.old; lines = lines.old; requests = L.requests locks.old; cores = C.meaning cores.old; shared = shared.old }) time n (job_at table.old.jobs n) }
+    ensures { record { world = record { table = table.new; lines = lines.new; requests = L.requests locks.new; cores = C.meaning cores.new; shared = shared.new }; time = time.new; rounds = result }
+        ≡ runs_on (record { table = table.old; lines = lines.old; requests = L.requests locks.old; cores = C.meaning cores.old; shared = shared.old }) time.old n most ticking (job_at table.old.jobs n) }
 {
-    if let Some(job) = &mut table.jobs[n as usize] {
-        job.wait = Wait::None;
-        if let Some(call) = run_turn(n, job, locks, cores) {
-            perform(n, call, table, lines, locks, cores, shared, time);
+    let Some(job) = &mut table.jobs[n as usize] else {
+        return 1;
+    };
+    job.wait = Wait::None;
+    let (rounds, call) = run_turn(n, job, locks, cores, most);
+    pass(ticking, rounds, table, time);
+    match call {
+        Some(call) => {
+            perform(n, call, table, lines, locks, cores, shared, *time);
+            rounds
         }
+        None => rounds,
     }
 }

@@ -1,17 +1,16 @@
 //! The machine, which is safe at all times.
-ghost use Rattle.std.specs.Prelude.{◌≡◌, length, IfOk, slice_get};
+ghost use Rattle.std.specs.Prelude.{◌≡◌, ◌≤◌, length, IfOk, slice_get};
 ghost use Rattle.lock_laws.specs.Circles.{NoPlainCircle};
 ghost use Rattle.machine.specs.Alone.{RunsAlone};
 ghost use Rattle.machine.specs.Along.{Along, Always};
 ghost use Rattle.machine.specs.Machine.{happens, after, answers, at_boot};
 ghost use Rattle.machine.specs.Owners.{KeepsOwners};
-ghost use Rattle.machine.specs.Rounds.{rounds, runs_in, has_run};
-ghost use Rattle.machine.specs.declared.event.Event.TheVariants.{Step as StepEvent, Tick as TickEvent};
+ghost use Rattle.machine.specs.Rounds.{rounds, runs_in};
 ghost use Rattle.machine.specs.Safe.{Safe};
 ghost use Rattle.machine.specs.Waits.{WaitsForGrants};
 ghost use Rattle.machine.specs.Views.{job_view, word_in};
 
-use crate::parts::Parts;
+use crate::parts::{Parts, Rounds};
 use core_store::CoreStore;
 use lock_queue::LockTable;
 use machine::{Answer, Config, Event, JobView};
@@ -83,45 +82,26 @@ impl<L: LockTable, C: CoreStore> System<L, C> {
         ensures count { result ≡ runs_in (answers (rounds most ticking) self.old) }
     {
         let mut ran = 0;
-        for _ in 0..most {
-            if self.round(ticking) {
-                ran += 1;
-            }
+        let mut left = most;
+        while left > 0 {
+            let some = self.run_rounds(left, ticking);
+            left -= some.made;
+            ran += some.ran;
         }
         ran
     }
 
-    /// A step: whether a job ran.
+    /// Some of these rounds, at least one.
     #[inline(always)]
-    fn step_once(&mut self) -> bool
-        ensures state { self.new ≡ (happens self.old StepEvent).state }
-        ensures ran { result ≡ has_run (happens self.old StepEvent).answer }
+    fn run_rounds(&mut self, most: u32, ticking: bool) -> Rounds
+        requires { 1 ≤ most }
+        ensures state { self.new ≡ after (rounds result.made ticking) self.old }
+        ensures count { result.ran ≡ runs_in (answers (rounds result.made ticking) self.old) }
+        ensures least { 1 ≤ result.made }
+        ensures most { result.made ≤ most }
+        ensures few { result.ran ≤ result.made }
     {
-        match self.parts.step() {
-            Some(_) => true,
-            None => false,
-        }
-    }
-
-    /// A tick.
-    #[inline(always)]
-    fn tick_once(&mut self)
-        ensures { self.new ≡ (happens self.old TickEvent).state }
-    {
-        self.parts.tick();
-    }
-
-    /// A step, followed by a tick where `ticking`: whether a job ran.
-    #[inline(always)]
-    fn round(&mut self, ticking: bool) -> bool
-        ensures state { self.new ≡ after (rounds 1 ticking) self.old }
-        ensures ran { result ≡ has_run (happens self.old StepEvent).answer }
-    {
-        let ran = self.step_once();
-        if ticking {
-            self.tick_once();
-        }
-        ran
+        self.parts.run_rounds(most, ticking)
     }
 
     /// What there is to see of a job, if it is there.

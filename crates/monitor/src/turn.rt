@@ -1,38 +1,46 @@
 //! A job's turn.
-ghost use Rattle.std.specs.Prelude.{◌≡◌, ◌≢◌, ◌<◌, ◌+◌, ◌^◌, [], IfSome, None, true, false};
+ghost use Rattle.std.specs.Prelude.{◌≡◌, ◌≢◌, ◌<◌, ◌≤◌, ◌+◌, ◌^◌, [], IfSome, None, true, false};
 ghost use Rattle.core_store.specs.Cores.{IsJob, core_of};
 ghost use Rattle.ka_cpu.specs.Places.{are_legal};
-ghost use Rattle.ka_cpu.specs.Exec.{exec};
+ghost use Rattle.ka_cpu.specs.Runs.{ran};
 ghost use Rattle.ka_cpu.specs.declared.outcome.StopReason.TheVariants.{IllegalAddress};
 ghost use Rattle.uuo_calls.specs.Around.{stopped};
-ghost use Rattle.machine.specs.Turns.{Turn, turn_of, executed, delivered, interrupted_at};
+ghost use Rattle.machine.specs.Stretches.{Stretch, stretch_by, stretch_of};
+ghost use Rattle.machine.specs.Turns.{Turn, delivered, interrupted_at};
 
 use core_store::{CoreStore, CoreWindow};
 use job_sched::{Job, NO_FLAGS, Stop};
 use ka_cpu::{
-    JobMemory, Outcome, Regs, StopReason, are_legal_kept, pc_word, step, store, word_kept,
+    JobMemory, Outcome, Regs, StopReason, are_legal_kept, pc_word, run_steps, store, word_kept,
 };
 use lock_queue::{LockTable, RequestId};
 use machine::VECTOR_WORDS;
 use uuo_calls::MonitorCall;
 use word36::{Address, Word};
 
-/// Executes one instruction of a job in its core.
+/// Executes at most so many instructions of a job in its core, until one stops the job or calls the
+/// monitor, and counts them.
 #[inline(always)]
-fn execute<C: CoreStore>(number: u8, job: &mut Job, cores: &mut C) -> Option<MonitorCall>
+fn execute<C: CoreStore>(
+    number: u8,
+    job: &mut Job,
+    cores: &mut C,
+    most: u32,
+) -> (u32, Option<MonitorCall>)
     requires { IsJob number }
-    ensures turn { record { job = job.new; cores = C.meaning cores.new; requests = []; call = result } ≡ executed number job.old (C.meaning cores.old) [] (exec job.old.regs (core_of (C.meaning cores.old) number)) }
-    ensures fields { IfSome result (λ call. (call.ac < 16) × (call.e < 2 ^ 18)) }
+    ensures turn { record { turn = record { job = job.new; cores = C.meaning cores.new; requests = []; call = result.1 }; rounds = result.0 } ≡ stretch_by number job.old (C.meaning cores.old) [] (ran most job.old.regs (core_of (C.meaning cores.old) number)) }
+    ensures fields { IfSome result.1 (λ call. (call.ac < 16) × (call.e < 2 ^ 18)) }
 {
     let words = cores.window(number);
-    let mut window = CoreWindow { words };
-    match step(&mut job.regs, &mut window) {
-        Outcome::Done => None,
+    let (steps, outcome) = run_steps(&mut job.regs, words, u64::from(most));
+    let rounds = steps as u32;
+    match outcome {
+        Outcome::Done => (rounds, None),
         Outcome::Stop(reason) => {
             job.stop = Some(Stop::Fault(reason));
-            None
+            (rounds, None)
         }
-        Outcome::Call(kind, ac, e) => Some(MonitorCall { kind, ac, e }),
+        Outcome::Call(kind, ac, e) => (rounds, Some(MonitorCall { kind, ac, e })),
     }
 }
 
@@ -60,6 +68,7 @@ fn interrupt<M: JobMemory>(job: &mut Job, memory: &mut M, vector: u32, id: u32) 
 }
 
 /// Delivers an interrupt, and marks the request as told where it could be delivered.
+#[inline(never)]
 fn deliver<L: LockTable, C: CoreStore>(
     number: u8,
     job: &mut Job,
@@ -78,29 +87,30 @@ fn deliver<L: LockTable, C: CoreStore>(
     }
 }
 
-/// A job's turn, whose wait is over.
+/// A job's turn, whose wait is over, over at most so many rounds, and in how many.
 #[inline(always)]
 fn take_turn<L: LockTable, C: CoreStore>(
     number: u8,
     job: &mut Job,
     locks: &mut L,
     cores: &mut C,
-) -> Option<MonitorCall>
+    most: u32,
+) -> (u32, Option<MonitorCall>)
     requires number { IsJob number }
-    ensures cores { C.meaning cores.new ≡ (turn_of number job.old (C.meaning cores.old) (L.requests locks.old)).cores }
-    ensures job { job.new ≡ (turn_of number job.old (C.meaning cores.old) (L.requests locks.old)).job }
-    ensures turn { record { job = job.new; cores = C.meaning cores.new; requests = L.requests locks.new; call = result } ≡ turn_of number job.old (C.meaning cores.old) (L.requests locks.old) }
-    ensures fields { IfSome result (λ call. (call.ac < 16) × (call.e < 2 ^ 18)) }
+    ensures cores { C.meaning cores.new ≡ (stretch_of number most job.old (C.meaning cores.old) (L.requests locks.old)).turn.cores }
+    ensures job { job.new ≡ (stretch_of number most job.old (C.meaning cores.old) (L.requests locks.old)).turn.job }
+    ensures turn { record { turn = record { job = job.new; cores = C.meaning cores.new; requests = L.requests locks.new; call = result.1 }; rounds = result.0 } ≡ stretch_of number most job.old (C.meaning cores.old) (L.requests locks.old) }
+    ensures fields { IfSome result.1 (λ call. (call.ac < 16) × (call.e < 2 ^ 18)) }
 {
     if job.interrupts.on && !job.interrupts.in_progress {
         if let Some(vector) = job.interrupts.vector {
             if let Some(id) = locks.pending(number) {
                 deliver(number, job, vector, id, locks, cores);
-                return None;
+                return (1, None);
             }
         }
     }
-    execute(number, job, cores)
+    execute(number, job, cores, most)
 }
 
 /// The turn of a job that has core, and keeps some.
@@ -110,13 +120,15 @@ pub(crate) fn run_turn<L: LockTable, C: CoreStore>(
     job: &mut Job,
     locks: &mut L,
     cores: &mut C,
-) -> Option<MonitorCall>
+    most: u32,
+) -> (u32, Option<MonitorCall>)
     requires number { IsJob number }
     requires core { core_of (C.meaning cores.old) number ≢ [] }
-    ensures turn { record { job = job.new; cores = C.meaning cores.new; requests = L.requests locks.new; call = result } ≡ turn_of number job.old (C.meaning cores.old) (L.requests locks.old) }
-    ensures fields { IfSome result (λ call. (call.ac < 16) × (call.e < 2 ^ 18)) }
+    ensures turn { record { turn = record { job = job.new; cores = C.meaning cores.new; requests = L.requests locks.new; call = result.1 }; rounds = result.0 } ≡ stretch_of number most job.old (C.meaning cores.old) (L.requests locks.old) }
+    ensures fields { IfSome result.1 (λ call. (call.ac < 16) × (call.e < 2 ^ 18)) }
+    ensures least { 1 ≤ most → 1 ≤ result.0 }
     ensures core { core_of (C.meaning cores.new) number ≢ [] }
     ensures wait { job.new.wait ≡ job.old.wait }
 {
-    take_turn(number, job, locks, cores)
+    take_turn(number, job, locks, cores, most)
 }

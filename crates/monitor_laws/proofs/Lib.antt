@@ -14,3 +14,5 @@ pub mod OtherCores
 pub mod Standing
 pub mod Printing
 pub mod Solitude
+pub mod Rounding
+pub mod Stretching

@@ -30,7 +30,7 @@ some-with_core cores n words some same none =
     let is : words ≡ [] = sym (get_or-set_same cores.cores n words [] low) ∙ none in
     some (length-zero (core_of cores n) (sym same ∙ ap length is))
 
-some-concluded : (j : Job) (cores : Cores) (requests : List Request) (o : Outcome) (n : ℕ) → core_of cores n ≢ [] → core_of (concluded j cores requests o).cores n ≢ []
+pub some-concluded : (j : Job) (cores : Cores) (requests : List Request) (o : Outcome) (n : ℕ) → core_of cores n ≢ [] → core_of (concluded j cores requests o).cores n ≢ []
 some-concluded j cores requests outcome.Done n some = some
 some-concluded j cores requests (outcome.Stop reason) n some = some
 some-concluded j cores requests (outcome.Call kind ac e) n some = some
@@ -39,7 +39,7 @@ pub length-noted : (g : Regs) (core : List ℕ) (vector id : ℕ) → length (no
 length-noted g core vector id =
     length-core_with (core_with core (vector + 1) (pc_word g.flags g.pc)) (vector + 3) id ∙ length-core_with core (vector + 1) (pc_word g.flags g.pc)
 
-some-turned : (n : ℕ) (j : Job) (cores : Cores) (requests : List Request) (o : Option (ℕ × ℕ)) → core_of cores n ≢ [] → core_of (turned n j cores requests o).cores n ≢ []
+pub some-turned : (n : ℕ) (j : Job) (cores : Cores) (requests : List Request) (o : Option (ℕ × ℕ)) → core_of cores n ≢ [] → core_of (turned n j cores requests o).cores n ≢ []
 some-turned n j cores requests None some =
     some-concluded _ _ requests (exec j.regs (core_of cores n)).outcome n (some-with_core cores n _ some (length-exec j.regs (core_of cores n)))
 some-turned n j cores requests (Some x) some =
@@ -51,12 +51,12 @@ pub some_turn : (n : ℕ) (j : Job) (cores : Cores) (requests : List Request) �
 some_turn n j cores requests some = some-turned n j cores requests (due j.interrupts (pending requests n)) some
 
 -- a turn leaves what its job waits for
-wait-concluded : (j : Job) (cores : Cores) (requests : List Request) (o : Outcome) → (concluded j cores requests o).job.wait ≡ j.wait
+pub wait-concluded : (j : Job) (cores : Cores) (requests : List Request) (o : Outcome) → (concluded j cores requests o).job.wait ≡ j.wait
 wait-concluded j cores requests outcome.Done = refl
 wait-concluded j cores requests (outcome.Stop reason) = refl
 wait-concluded j cores requests (outcome.Call kind ac e) = refl
 
-wait-turned : (n : ℕ) (j : Job) (cores : Cores) (requests : List Request) (o : Option (ℕ × ℕ)) → (turned n j cores requests o).job.wait ≡ j.wait
+pub wait-turned : (n : ℕ) (j : Job) (cores : Cores) (requests : List Request) (o : Option (ℕ × ℕ)) → (turned n j cores requests o).job.wait ≡ j.wait
 wait-turned n j cores requests None = wait-concluded _ _ requests (exec j.regs (core_of cores n)).outcome
 wait-turned n j cores requests (Some x) =
     by_test (λ (t : Turn). t.job.wait ≡ j.wait) _ (told_at n cores requests (interrupted_at j (core_of cores n) x.0 x.1)) _ (λ _. refl) (λ _. refl)

@@ -103,7 +103,9 @@ pub fn remove_job<L: LockTable, C: CoreStore>(
 /// 0 to 5 and 11 to 14 octal. A refused call puts its code in AC, does not skip and changes nothing
 /// else, but for a request of ENQ. 2 that is not granted at once, which stays. Any other call stops the
 /// job as an illegal instruction, and one that meets an illegal address stops it for that; both put
-/// the PC back and change nothing else. Nothing takes memory.
+/// the PC back and change nothing else. Nothing takes memory. It is not inlined, so that a step without a
+/// call is short.
+#[inline(never)]
 pub fn perform<L: LockTable, C: CoreStore>(
     number: u8,
     call: MonitorCall,

@@ -1,18 +1,12 @@
 use Rattle.std.proofs.Common.{ap}
-use Rattle.job_sched.specs.Jobs.{is_sleep}
 use Rattle.std.proofs.lemmas.Bool.{false≢true}
+use Rattle.job_sched.specs.Jobs.{is_sleep}
 use Rattle.job_sched.proofs.Sleepers.{IsTable-changed}
 use Rattle.monitor.proofs.step.run_job.Goals as goal
 
 -- a job that runs does not sleep
-pub invariant_of-table : goal.invariant_of-table
-invariant_of-table g c =
+pub invariant_of-table-2 : goal.invariant_of-table-2
+invariant_of-table-2 g c =
     let there = rw (← c.table.view_is) at c.requires.there in
     IsTable-changed c.table.inside.jobs c.args.n _ c.table.inside.sleepers c.table.inside.sleepers c.table.inside.vacant_from c.table.invariant (λ e. e)
-    (λ _. ap is_sleep c.run_turn.ensures.wait) (λ e. absurd (false≢true (rw e at there)))
-
-pub invariant_of-table-in_default-run_turn : goal.invariant_of-table-in_default-run_turn
-invariant_of-table-in_default-run_turn g c =
-    let there = rw (← c.table.view_is) at c.requires.there in
-    IsTable-changed c.table.inside.jobs c.args.n _ c.table.inside.sleepers c.table.inside.sleepers c.table.inside.vacant_from c.table.invariant (λ e. e)
-    (λ _. ap is_sleep c.run_turn.ensures.wait) (λ e. absurd (false≢true (rw e at there)))
+    (λ _. ap is_sleep c.run_turn-rounds.ensures.wait) (λ e. absurd (false≢true (rw e at there)))

@@ -1,13 +1,13 @@
-use Rattle.std.proofs.Common.{◌∙◌, sym, arith}
-use Rattle.monitor.proofs.Rounding.{after-round, runs-round, runs-more, runs-same}
+use Rattle.std.proofs.Common.{◌∙◌, arith}
+use Rattle.monitor_laws.proofs.Rounding.{rounds-left, runs-left}
 use Rattle.monitor.proofs.system.System.steps.Goals as goal
-use Rattle.monitor.proofs.system.System.steps.Goals.{then-round, else-round}
 
-pub loop-preserved : goal.loop-preserved
-loop-preserved g c =
-    let rest = after-round c.args.most c.loop.counter c.args.ticking c.loop.self c.round.new.self c.loop-test.true c.round.ensures.state ∙ c.loop.invariant.rest in
-    let runs = runs-round c.args.most c.loop.counter c.args.ticking c.loop.self c.round.new.self c.loop-test.true c.round.ensures.state in
-    elim c.if-round.branch [
-      | then-round w ↦ record { few = omega arith; rest = rest; count = rw w.ran-is (runs-more _ _ _ _ _ c.loop.invariant.count runs (sym c.round.ensures.ran ∙ w.if-round.true)) }
-      | else-round w ↦ record { few = omega arith; rest = rest; count = rw w.ran-is (runs-same _ _ _ _ _ c.loop.invariant.count runs (sym c.round.ensures.ran ∙ w.if-round.false)) }
-    ]
+pub loop-left-preserved : goal.loop-left-preserved
+loop-left-preserved g c =
+    let rest = rounds-left c.loop-left.left c.run_rounds-some.result.made c.args.ticking c.loop-left.self c.run_rounds-some.new.self c.run_rounds-some.ensures.most c.run_rounds-some.ensures.state in
+    let runs = runs-left c.loop-left.left c.run_rounds-some.result.made c.run_rounds-some.result.ran c.args.ticking c.loop-left.self c.run_rounds-some.new.self c.run_rounds-some.ensures.most c.run_rounds-some.ensures.state c.run_rounds-some.ensures.count in
+    record {
+      few = omega (arith, c.loop-left.invariant.few, c.run_rounds-some.ensures.few, c.run_rounds-some.ensures.most);
+      rest = rest ∙ c.loop-left.invariant.rest;
+      count = omega (arith, runs, c.loop-left.invariant.count);
+    }

@@ -1,0 +1,143 @@
+//! Tables of what is done with a store and what it answers.
+
+ghost use Rattle.std.specs.Prelude.{◌≤◌};
+ghost use Rattle.word36.specs.declared.sizes.TheConstants.{MOST_BLOCKS};
+
+use crate::{set_blocks, write_in};
+use core_store::CoreStore;
+use std::alloc::{AllocError, Global};
+use word36::{JOBS, MOST_BLOCKS, Word};
+
+/// What is done with a store, or asked of it.
+#[derive(Clone, Copy)]
+pub enum Act {
+    /// A job has so many blocks from now on, and no core where that is 0.
+    Blocks(u8, u32),
+    /// A number is stored at a place of a job's core.
+    Write(u8, u32, u32),
+    /// The word at a place of a job's core.
+    Read(u8, u32),
+    /// How many blocks a job has.
+    Has(u8),
+    /// How many blocks are free.
+    Free,
+}
+
+/// An act and the number that answers it. None is a refusal, or a place that is not there.
+pub type Row = (Act, Option<u64>);
+
+/// The number that answers an act: the free blocks after `Blocks`, and what is stored by `Write`.
+pub fn answer<C: CoreStore>(cores: &mut C, act: Act) -> Option<u64> {
+    match act {
+        Act::Blocks(job, blocks) => have_blocks(cores, job, blocks),
+        Act::Write(job, a, number) => write(cores, job, a, number),
+        Act::Read(job, a) => read(cores, job, a),
+        Act::Has(job) => has(cores, job),
+        Act::Free => Some(u64::from(cores.free())),
+    }
+}
+
+/// Makes a job's core so many blocks, and answers how many are free then.
+fn have_blocks<C: CoreStore>(cores: &mut C, job: u8, blocks: u32) -> Option<u64> {
+    if job == 0 || job > JOBS {
+        return None;
+    }
+    if blocks == 0 {
+        cores.give(job);
+    } else if set_blocks(cores, job, blocks).is_err() {
+        return None;
+    }
+    Some(u64::from(cores.free()))
+}
+
+/// Stores a number, and answers it.
+fn write<C: CoreStore>(cores: &mut C, job: u8, a: u32, number: u32) -> Option<u64> {
+    if job == 0 || job > JOBS {
+        return None;
+    }
+    let stored = write_in(cores, job, a, Word::new(u64::from(number)));
+    stored.then_some(u64::from(number))
+}
+
+/// Reads a word.
+fn read<C: CoreStore>(cores: &C, job: u8, a: u32) -> Option<u64> {
+    if job == 0 || job > JOBS {
+        return None;
+    }
+    let word = cores.read(job, a)?;
+    Some(word.number())
+}
+
+/// How many blocks a job has.
+fn has<C: CoreStore>(cores: &C, job: u8) -> Option<u64> {
+    if job == 0 || job > JOBS {
+        return None;
+    }
+    Some(u64::from(cores.blocks(job)))
+}
+
+/// The first row that a new store of so many blocks answers otherwise.
+pub fn first_wrong<C: CoreStore>(
+    alloc: Global,
+    blocks: u32,
+    rows: &[Row],
+) -> Result<Option<usize>, AllocError>
+    requires least { 1 ≤ blocks }
+    requires most { blocks ≤ MOST_BLOCKS }
+{
+    let mut cores = C::new(alloc, blocks)?;
+    for (i, row) in rows.iter().enumerate() {
+        if answer(&mut cores, row.0) != row.1 {
+            return Ok(Some(i));
+        }
+    }
+    Ok(None)
+}
+
+/// A number of 48 bits that follows another in no visible order.
+fn next_random(x: u64) -> u64 {
+    x.wrapping_mul(25_214_903_917).wrapping_add(11) % (1 << 48)
+}
+
+/// An act that is worked out from a number: jobs come, grow and go, and words are written and read.
+fn random_act(x: u64) -> Act {
+    let job = (x >> 17) % 31 + 1;
+    let blocks = (x >> 24) % 6;
+    let place = (x >> 27) % 6144;
+    let number = (x >> 12) % 65536;
+    match (x >> 44) % 4 {
+        0 => Act::Blocks(job as u8, blocks as u32),
+        1 => Act::Blocks(job as u8, blocks as u32 * 2),
+        2 => Act::Write(job as u8, place as u32, number as u32),
+        _ => Act::Read(job as u8, place as u32),
+    }
+}
+
+/// The first of so many acts, one after the other, that two stores answer otherwise.
+pub fn first_difference<A: CoreStore, B: CoreStore>(
+    one: &mut A,
+    other: &mut B,
+    acts: u32,
+) -> Option<u32> {
+    let mut x = 1;
+    for i in 0..acts {
+        x = next_random(x);
+        let act = random_act(x);
+        if answer(one, act) != answer(other, act) {
+            return Some(i);
+        }
+    }
+    None
+}
+
+/// The first of the words of all jobs that differ in two stores.
+pub fn first_word_apart<A: CoreStore, B: CoreStore>(one: &A, other: &B) -> Option<(u8, u32)> {
+    for job in 1..=JOBS {
+        for a in 0..12 * 1024 {
+            if one.read(job, a) != other.read(job, a) {
+                return Some((job, a));
+            }
+        }
+    }
+    None
+}

@@ -1,0 +1,16 @@
+use Rattle.std.proofs.Common.{◌∙◌, sym, ap, subst, arith}
+use Rattle.ka_cpu.specs.Runs.{Ran}
+use Rattle.ka_cpu.specs.declared.outcome.Outcome.{Outcome}
+use Rattle.monitor_laws.proofs.Stretching.{HasFields, ran-fields, ran-most}
+use Rattle.monitor.proofs.turn.execute.Goals as goal
+
+pub overflow_cast-rounds : goal.overflow_cast-rounds
+overflow_cast-rounds g c =
+    let same = ap (λ (r : Ran). r.steps) c.run_steps-steps.ensures in
+    let few = ran-most c.from.result c.args.job.now.regs c.window-words.result.now in
+    omega (arith, same, few, c.from.ensures, c.ranges.most.fits)
+
+pub returns-in-Call-clause-fields : goal.returns-in-Call-clause-fields
+returns-in-Call-clause-fields g c =
+    let same = ap (λ (r : Ran). r.after.outcome) c.run_steps-steps.ensures in
+    subst (λ (o : Outcome). HasFields o) (sym same ∙ c.in-Call.is) (ran-fields c.from.result c.args.job.now.regs c.window-words.result.now)
