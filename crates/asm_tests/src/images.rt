@@ -449,3 +449,26 @@ fn places(rt: HostRuntime) {
         )
     );
 }
+
+/// Sources whose numbers stand alone: plain digits are decimal, and a mark says which radix it is. Each with its first
+/// word, in halves.
+const MARKED: [(&str, u32, u32); 6] = [
+    (" RADIX ^O12\n 19\n END", 0, 0o23),
+    (" RADIX 10\n RADIX ^D8\n 17\n END", 0, 0o17),
+    (" RADIX 2\n RADIX 8\n 17\n END", 0, 0o17),
+    (" POINT ^O7,5,^D6\n END", 0o350700, 5),
+    (" POINT 7,5,^O43\n END", 0o000700, 5),
+    (" RADIX 2\n POINT 36,101,9\n END", 0o324400, 5),
+];
+
+#[test]
+fn marked_numbers(rt: HostRuntime) {
+    for (source, left, right) in &MARKED {
+        assert!(rt;
+            gives(rt.alloc(), source, &[(0o140, *left, *right)], 0o140),
+            "{source:?}"
+        );
+    }
+    assert_eq!(rt; refusal(rt.alloc(), b" RADIX ^O13\n END"), Some((1, 4)));
+    assert_eq!(rt; refusal(rt.alloc(), b" POINT ^O45,0\n END"), Some((1, 4)));
+}

@@ -1,6 +1,8 @@
 //! Which sources are in the grammar, and what their statements are.
 
-use mac_text::{Data, ParseError, Statement, Symbol, Term, parse, printed_word};
+use mac_text::{
+    Data, Expression, ParseError, Parts, SignedTerm, Statement, Symbol, Term, parse, printed_word,
+};
 use std::alloc::Global;
 use std::test::Fail;
 use word36::Word;
@@ -19,7 +21,7 @@ fn line_count(alloc: Global, source: &[u8]) -> Option<usize> {
     Some(parse(alloc, source).ok()?.len())
 }
 
-const RIGHT: [&[u8]; 44] = [
+const RIGHT: [&[u8]; 47] = [
     b"",
     b" ; a comment",
     b"A: B: C: MOVE 1,A ;x",
@@ -60,13 +62,16 @@ const RIGHT: [&[u8]; 44] = [
     b" BLOCK 5",
     b" LOC .+100",
     b" RADIX 99",
+    b" RADIX ^O12",
+    b" RADIX\t^d8 ;c",
+    b" POINT ^O7,5,^D6",
     b" TITLE anything \x01 at all ; here",
     b" SUBTTL",
     b" MOVE 1,[1,,A]",
     b"\x0c MOVE\x0c1,\t[A]([B])",
 ];
 
-const WRONG: [&[u8]; 40] = [
+const WRONG: [&[u8]; 45] = [
     b" MOVE ,A",
     b" MOVE 1,,2",
     b" MOVE 1,2,3",
@@ -106,6 +111,11 @@ const WRONG: [&[u8]; 40] = [
     b" POINT 7",
     b" ASCIZ /A",
     b" RADIX 10.",
+    b" RADIX ^O8",
+    b" RADIX ^ O7",
+    b" RADIX -8",
+    b" POINT 7,A,^D",
+    b" POINT ^X7,A",
     b" \x01",
 ];
 
@@ -134,6 +144,14 @@ fn lines(rt: HostRuntime) {
     );
 }
 
+/// The terms of an expression of several.
+fn terms_of(expression: &Expression) -> &[SignedTerm] {
+    match expression.parts() {
+        Parts::Sum(terms) => terms,
+        _ => &[],
+    }
+}
+
 #[test]
 fn statements(rt: HostRuntime) -> Result<(), Fail> {
     let program = parse(rt.alloc(), b"FOOBARS: foobaz+^D12-[1,,2]\n")
@@ -147,8 +165,8 @@ fn statements(rt: HostRuntime) -> Result<(), Fail> {
     assert_eq!(rt; labels[0], Symbol::of(b"foobarxyz"));
     assert_eq!(rt; line.literals.len(), 1);
     match &line.statement {
-        Some(Statement::Data(Data::Value(terms))) => {
-            let terms = terms.as_slice();
+        Some(Statement::Data(Data::Value(value))) => {
+            let terms = terms_of(value);
             assert_eq!(rt; terms.len(), 3);
             assert!(rt; matches!(&terms[1].term, Term::Number(n) if n.to_u64() == Some(12)));
             assert!(rt; matches!(&terms[2].term, Term::Literal(0)));
@@ -169,8 +187,8 @@ fn large_numbers(rt: HostRuntime) -> Result<(), Fail> {
     let lines = program.as_slice();
     assert_eq!(rt; lines.len(), 1);
     match &lines[0].statement {
-        Some(Statement::Data(Data::Value(terms))) => {
-            let terms = terms.as_slice();
+        Some(Statement::Data(Data::Value(value))) => {
+            let terms = terms_of(value);
             assert_eq!(rt; terms.len(), 2);
             match (&terms[0].term, &terms[1].term) {
                 (Term::Number(small), Term::Number(large)) => {
@@ -180,7 +198,7 @@ fn large_numbers(rt: HostRuntime) -> Result<(), Fail> {
                     assert_eq!(rt; rest.to_u64(), Some(1));
                     assert!(rt; small.minus(rt.alloc(), large)?.is_none());
                     let mut sum = rest.try_clone(rt.alloc())?;
-                    sum.add(small)?;
+                    sum.add(rt.alloc(), small)?;
                     assert_eq!(rt; sum.to_u64(), None);
                 }
                 _ => assert!(rt; false, "numbers"),

@@ -84,11 +84,11 @@ module _ (left : Request → Option Request) where
       go (Some y) h = ap (λ l. y ∷ l) h
 
   -- one more request, by what is left of it
-  left-gone : (e : List Request) (r : Request) → left r ≡ None → filter_map left (e ++ r ∷ []) ≡ filter_map left e
+  pub left-gone : (e : List Request) (r : Request) → left r ≡ None → filter_map left (e ++ r ∷ []) ≡ filter_map left e
   left-gone e r is =
       left-append e (r ∷ []) ∙ ap (λ o. filter_map left e ++ cons_option o []) is ∙ append-nil (filter_map left e)
 
-  left-stays : (e : List Request) (r s : Request) → left r ≡ Some s
+  pub left-stays : (e : List Request) (r s : Request) → left r ≡ Some s
       → filter_map left (e ++ r ∷ []) ≡ filter_map left e ++ s ∷ []
   left-stays e r s is = left-append e (r ∷ []) ∙ ap (λ o. filter_map left e ++ cons_option o []) is
 

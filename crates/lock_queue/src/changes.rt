@@ -11,7 +11,8 @@ use crate::queue::{has_want, is_granted, is_pooled, names_key};
 use crate::row::Row;
 use crate::{Key, Refusal, Request, Want, Wants};
 
-fn is_pooled_in(wants: &[Want], key: &Key) -> bool
+/// Whether one of these wants that is of the key is of a pool.
+pub fn is_pooled_in(wants: &[Want], key: &Key) -> bool
     ensures { result ≡ list_any is_pooled (filter (λ v. same_key v.key key.now) wants.now) }
 {
     for v in wants {
@@ -75,7 +76,8 @@ fn changed_want(changes: &[Want], w: &Want) -> Want
     w.copied()
 }
 
-fn changed_wants(changes: &[Want], wants: &Wants) -> Wants
+/// The wants, each shared or exclusive as the change of its key says, if there is one.
+pub fn changed_wants(changes: &[Want], wants: &Wants) -> Wants
     ensures { result.items ≡ map (changed_want changes.now) wants.now.items }
 {
     let mut changed = Wants::new();

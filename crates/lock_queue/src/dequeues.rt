@@ -36,7 +36,7 @@ pub fn refusal_of_dequeue(requests: &[Request], job: u8, named: &[Want]) -> Opti
 }
 
 /// Takes the wants of the named keys out of a request.
-fn remove_keys(r: &mut Request, named: &[Want])
+pub fn remove_keys(r: &mut Request, named: &[Want])
     ensures { r.new ≡ without_keys named.now r.old }
 {
     r.wants.retain(|w| !names_key(named, &w.key));

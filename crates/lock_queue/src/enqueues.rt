@@ -26,7 +26,8 @@ fn is_alike(v: &Want, w: &Want) -> bool
     v.level == w.level && is_same_pool_size(v.pool, w.pool)
 }
 
-fn are_alike_in(wants: &[Want], w: &Want) -> bool
+/// Whether these wants of a want's key have its level and its pool's size.
+pub fn are_alike_in(wants: &[Want], w: &Want) -> bool
     ensures { result ≡ list_all (λ v. are_alike v w.now)
         (filter (λ v. same_key v.key w.now.key) wants.now) }
 {
@@ -76,7 +77,7 @@ fn first_fault(requests: &[Request], job: u8, wants: &[Want]) -> Option<Refusal>
 }
 
 /// Whether one of the wants has this level or a higher one.
-fn reach_level(wants: &[Want], level: Level) -> bool
+pub fn reach_level(wants: &[Want], level: Level) -> bool
     ensures { result ≡ list_any (λ v. nat_le level v.level) wants.now }
 {
     wants.iter().any(|v| level.number() <= v.level.number())

@@ -87,7 +87,8 @@ fn is_in_the_way(v: &Want, w: &Want) -> bool
     is_pooled(v) || !do_agree(v, w)
 }
 
-fn some_in_the_way(wants: &[Want], w: &Want) -> bool
+/// Whether one of these wants that is of a want's key stands in its way.
+pub fn some_in_the_way(wants: &[Want], w: &Want) -> bool
     ensures { result ≡ list_any (λ v. is_in_the_way v w.now)
         (filter (λ v. same_key v.key w.now.key) wants.now) }
 {

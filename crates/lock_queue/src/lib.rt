@@ -18,6 +18,7 @@ mod row;
 mod rows;
 mod standing;
 mod status;
+pub mod steps;
 mod table;
 mod terms;
 mod waking;

@@ -39,7 +39,8 @@ pub fn is_pooled(w: &Want) -> bool
     w.pool.is_some()
 }
 
-fn all_agree_in(wants: &[Want], w: &Want) -> bool
+/// Whether each of these wants that is of a want's key agrees with it.
+pub fn all_agree_in(wants: &[Want], w: &Want) -> bool
     ensures { result ≡ list_all (λ v. agree v w.now)
         (filter (λ v. same_key v.key w.now.key) wants.now) }
 {
@@ -64,7 +65,7 @@ fn all_agree(earlier: &[Request], w: &Want) -> bool
 }
 
 /// The room that is left when these wants of the key have taken their amounts, if they find it.
-fn room_beside(wants: &[Want], key: &Key, room: u32) -> Option<u32>
+pub fn room_beside(wants: &[Want], key: &Key, room: u32) -> Option<u32>
     ensures { let taken = sum_by amount_of (filter (λ v. same_key v.key key.now) wants.now) in
         MatchOption result (room < taken) (λ left. left + taken ≡ room) }
 {

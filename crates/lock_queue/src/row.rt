@@ -48,7 +48,14 @@ fn write_wants(place: &mut Wants, wants: &Wants)
 }
 
 /// Writes a request over another.
-fn write(place: &mut Request, job: u8, id: RequestId, kind: EnqueueKind, told: bool, wants: &Wants)
+pub fn write_request(
+    place: &mut Request,
+    job: u8,
+    id: RequestId,
+    kind: EnqueueKind,
+    told: bool,
+    wants: &Wants,
+)
     ensures value { place.new ≡ request_of job id kind told wants.now }
     ensures few { length wants.now.items ≤ LOCKS_A_CALL }
     ensures range { IsTrue (list_all is_in_range wants.now.items) }
@@ -94,7 +101,7 @@ impl Row {
         ensures few { length wants.now.items ≤ LOCKS_A_CALL }
         ensures range { IsTrue (list_all is_in_range wants.now.items) }
     {
-        write(&mut self.places[self.count], job, id, kind, told, wants);
+        write_request(&mut self.places[self.count], job, id, kind, told, wants);
         self.count += 1;
     }
 

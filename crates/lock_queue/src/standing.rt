@@ -45,7 +45,7 @@ fn is_exclusive_at(wants: &[Want], key: &Key) -> bool
 }
 
 /// The level of the first of these wants that is of the key.
-fn level_in(wants: &[Want], key: &Key) -> Option<Level>
+pub fn level_in(wants: &[Want], key: &Key) -> Option<Level>
     ensures { result ≡ first_level (filter (λ w. same_key w.key key.now) wants.now) }
 {
     for w in wants {
@@ -69,7 +69,7 @@ fn level_at(requests: &[Request], key: &Key) -> Option<Level>
 }
 
 /// One more owner, in front of the others.
-fn with_owner(rest: Status, r: &Request, key: &Key, job: u8) -> Status
+pub fn with_owner(rest: Status, r: &Request, key: &Key, job: u8) -> Status
     requires count { rest.owner_count < 2 ^ 15 }
     requires amount { rest.amount < 2 ^ 31 }
     ensures value { result ≡ with_owner key.now job r.now rest }
@@ -87,7 +87,7 @@ fn with_owner(rest: Status, r: &Request, key: &Key, job: u8) -> Status
 }
 
 /// One more waiter, in front of the others.
-fn with_waiter(rest: Status, r: &Request, job: u8) -> Status
+pub fn with_waiter(rest: Status, r: &Request, job: u8) -> Status
     requires { rest.waiter_count < 2 ^ 15 }
     ensures { result ≡ with_waiter job r.now rest }
 {

@@ -37,7 +37,7 @@ fn does_stay(r: &Request, job: u8, call: &LockCall) -> bool
 }
 
 /// Whether a job is told of grants of this kind.
-fn is_told_of(kind: EnqueueKind) -> bool
+pub fn is_told_of(kind: EnqueueKind) -> bool
     ensures { result ≡ is_told_of kind }
 {
     match kind {
@@ -65,7 +65,8 @@ pub fn mark(marks: &mut Marks, requests: &[Request], job: u8, call: &LockCall)
     }
 }
 
-fn grant_of(r: &Request) -> Grant
+/// The grant of a request.
+pub fn grant_of(r: &Request) -> Grant
     ensures { result ≡ grant_of r.now }
 {
     Grant {

@@ -55,6 +55,9 @@ residue_of least most size s =
 unfoldable pub natural_of : Sum → Option ℕ
 natural_of s = if nat_le s.minus s.plus then Some (s.plus - s.minus) else None
 
+abbrev pub sum_plus : ℕ → Sum
+sum_plus n = record { plus = n; minus = 0 }
+
 abbrev pub negated : Sum → Sum
 negated s = record { plus = s.minus; minus = s.plus }
 

@@ -17,8 +17,9 @@ use crate::layout::lay_out;
 use crate::places::{FIRST, PLACES};
 use crate::sums::{Labels, Scope, value};
 use crate::words::{are_known, is_known_if, push_words, start};
-use mac_text::{Data, Expression, Line, Natural, ParseError, Statement, parse};
+use mac_text::{Data, Expression, Line, ParseError, Statement, parse};
 use std::alloc::{AllocError, Global};
+use whole_numbers::Natural;
 use word36::{Image, Word};
 
 /// The memory that a source fills.
@@ -39,7 +40,7 @@ fn block_len<'a>(
 ) -> Result<Option<Natural>, AllocError>
     ensures { IfOk result (λ r. r ≡ count_of (names_of scope.now) count.now) }
 {
-    match value(alloc, count.as_slice(), scope)? {
+    match value(alloc, count, scope)? {
         None => Ok(None),
         Some(sum) => sum.natural(alloc),
     }

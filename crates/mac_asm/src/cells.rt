@@ -4,8 +4,8 @@ ghost use Rattle.std.specs.Prelude.{◌≡◌, ◌≤◌, ◌^◌, IfOk, length,
 ghost use Rattle.mac_asm.specs.Filled.{put_from, words_in_cells};
 
 use crate::places::clamped;
-use mac_text::Natural;
 use std::alloc::{AllocError, Global};
+use whole_numbers::Natural;
 use word36::Word;
 
 /// Puts words from a place on; one that has no cell is put nowhere.

@@ -14,8 +14,9 @@ use crate::places::{FIRST, PLACES, clamped};
 use crate::sums::{Labels, Scope, value};
 use crate::texts::text_words;
 use indexmap::IndexMap;
-use mac_text::{Data, Expression, Line, Natural, Statement, Symbol};
+use mac_text::{Data, Expression, Line, Statement, Symbol};
 use std::alloc::{AllocError, Global};
+use whole_numbers::Natural;
 
 /// Where everything stands.
 #[derive(Drop)]
@@ -57,7 +58,7 @@ fn count<'a>(
         here,
         literals: &[],
     };
-    match value(alloc, expression.as_slice(), &scope)? {
+    match value(alloc, expression, &scope)? {
         None => Ok(Err(AsmCode::NotYetDefined)),
         Some(sum) => match sum.natural(alloc)? {
             None => Ok(Err(AsmCode::DoesNotFit)),
@@ -82,7 +83,7 @@ fn size<'a>(
         Data::Text(form, text) => text_words(*form, text.as_slice().len()),
         _ => 1,
     };
-    Ok(Ok(Natural::from_u64(alloc, words as u64)?))
+    Ok(Ok(Natural::from_u64(words as u64)))
 }
 
 /// The same of a literal, which gives at least one word.
@@ -201,12 +202,16 @@ fn size_code(taken: &[bool], place: &Natural, size: &Result<Natural, AsmCode>) -
 }
 
 /// Takes a place behind the words of a literal.
-fn advance(place: &mut Natural, size: &Result<Natural, AsmCode>) -> Result<(), AllocError>
+fn advance(
+    alloc: Global,
+    place: &mut Natural,
+    size: &Result<Natural, AsmCode>,
+) -> Result<(), AllocError>
     ensures { OnOk result (place.new ≡ place.old + count_or 0 size.now) }
 {
     match size {
         Err(_) => Ok(()),
-        Ok(words) => place.add(words),
+        Ok(words) => place.add(alloc, words),
     }
 }
 
@@ -223,7 +228,7 @@ fn literals_code(
     let mut at = place.try_clone(alloc)?;
     for size in sizes {
         code = least(code, size_code(taken, &at, size));
-        advance(&mut at, size)?;
+        advance(alloc, &mut at, size)?;
     }
     Ok(code)
 }
@@ -240,7 +245,7 @@ fn places_of_literals(
     let mut at = place.try_clone(alloc)?;
     for size in sizes {
         places.push(at.try_clone(alloc)?)?;
-        advance(&mut at, size)?;
+        advance(alloc, &mut at, size)?;
     }
     Ok(places)
 }
@@ -272,7 +277,7 @@ impl Progress {
     {
         Ok(Progress {
             labels: IndexMap::new(alloc),
-            place: Natural::from_u64(alloc, FIRST as u64)?,
+            place: Natural::from_u64(FIRST as u64),
             places: Vec::new(alloc),
             taken: vec![in alloc; false; PLACES]?,
             sizes: Vec::new(alloc),
@@ -298,7 +303,11 @@ impl Progress {
     }
 
     /// Takes the places of a statement of this size.
-    fn put(&mut self, size: Result<Natural, AsmCode>) -> Result<Option<AsmCode>, AllocError>
+    fn put(
+        &mut self,
+        alloc: Global,
+        size: Result<Natural, AsmCode>,
+    ) -> Result<Option<AsmCode>, AllocError>
         ensures { IfOk result (Lays self.old self.new (λ s. taking_size s.taken s.place size) (λ s. with_size s size)) }
     {
         match size {
@@ -306,7 +315,7 @@ impl Progress {
             Ok(words) => {
                 let code = taking(&self.taken, &self.place, &words);
                 mark(&mut self.taken, &self.place, &words);
-                self.place.add(&words)?;
+                self.place.add(alloc, &words)?;
                 Ok(code)
             }
         }
@@ -326,7 +335,7 @@ impl Progress {
         match statement {
             Statement::Data(given) => {
                 let size = size(alloc, &self.labels, &self.place, given)?;
-                self.put(size)
+                self.put(alloc, size)
             }
             Statement::Loc(expression) => {
                 match count(alloc, &self.labels, &self.place, expression)? {

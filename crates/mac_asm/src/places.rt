@@ -2,7 +2,7 @@
 
 ghost use Rattle.std.specs.Prelude.{◌≡◌, min};
 
-use mac_text::Natural;
+use whole_numbers::Natural;
 
 /// How many places there are: an address has 18 bits.
 pub const PLACES: usize = 1 << 18;

@@ -9,8 +9,9 @@ ghost use Rattle.std.specs.List.{list_all};
 use crate::sums::{Scope, is_known, value};
 use crate::texts::{ascii_word, sixbit_word, text_words};
 use ka_isa::{Fields, decode, encode};
-use mac_text::{Data, Expression, Instruction, Natural, Operand, TextForm};
+use mac_text::{Data, Expression, Instruction, Operand, TextForm};
 use std::alloc::{AllocError, Global};
+use whole_numbers::Natural;
 use word36::Word;
 
 /// The value of an expression modulo a size, where it is at least `-least` and at most `most`.
@@ -29,7 +30,7 @@ fn fitted<'a>(
     ensures value { IfOk result (λ r. r ≡ fitted (names_of scope.now) least most size expression.now) }
     ensures below { IfOk result (λ r. IfSome r (λ n. n < size)) }
 {
-    match value(alloc, expression.as_slice(), scope)? {
+    match value(alloc, expression, scope)? {
         None => Ok(None),
         Some(sum) => sum.residue(alloc, least, most, size),
     }
@@ -310,10 +311,10 @@ fn iowd<'a>(
 ) -> Result<Option<Word>, AllocError>
     ensures { IfOk result (λ r. r ≡ iowd_of (names_of scope.now) count.now address.now) }
 {
-    let Some(count) = value(alloc, count.as_slice(), scope)? else {
+    let Some(count) = value(alloc, count, scope)? else {
         return Ok(None);
     };
-    let Some(address) = value(alloc, address.as_slice(), scope)? else {
+    let Some(address) = value(alloc, address, scope)? else {
         return Ok(None);
     };
     let count = count.negated();
@@ -418,7 +419,7 @@ pub fn is_known_if<'a>(expression: &'a Option<Expression>, scope: &Scope<'a>) ->
 {
     match expression {
         None => true,
-        Some(expression) => is_known(expression.as_slice(), scope),
+        Some(expression) => is_known(expression, scope),
     }
 }
 
@@ -427,7 +428,7 @@ fn are_all_known<'a>(expressions: &'a [Expression], scope: &Scope<'a>) -> bool
     ensures { result ≡ list_all (is_known (names_of scope.now)) expressions.now }
 {
     for expression in expressions {
-        if !is_known(expression.as_slice(), scope) {
+        if !is_known(expression, scope) {
             return false;
         }
     }
@@ -440,9 +441,9 @@ pub fn are_known<'a>(data: &'a Data, scope: &Scope<'a>) -> bool
     ensures { result ≡ are_known (names_of scope.now) data.now }
 {
     match data {
-        Data::Value(expression) => is_known(expression.as_slice(), scope),
+        Data::Value(expression) => is_known(expression, scope),
         Data::Halves(left, right) | Data::Iowd(left, right) => {
-            is_known(left.as_slice(), scope) && is_known(right.as_slice(), scope)
+            is_known(left, scope) && is_known(right, scope)
         }
         Data::Exp(expressions) => are_all_known(expressions.as_slice(), scope),
         Data::Point(_, address, _) => is_operand_known(address, scope),

@@ -1,4 +1,3 @@
-pub mod NaturalLemmas
 pub mod ItemLemmas
 pub mod AsciiLemmas
 pub mod WordLemmas

@@ -12,7 +12,8 @@ use Rattle.word36.specs.Octal.{octal_within, octal_text, last_digit}
 use Rattle.word36.proofs.OctalLemmas.{octal_within_last, octal_within_more}
 use Rattle.mac_text.specs.Characters.{is_blank, is_digit, is_name_character}
 use Rattle.mac_text.specs.Names.{is_name}
-use Rattle.mac_text.specs.Numbers.{is_digit_of, digits_value, number_of}
+use Rattle.whole_numbers.specs.Numerals.{digits_value}
+use Rattle.mac_text.specs.Numbers.{is_digit_of, number_of}
 use Rattle.mac_text.specs.Scan.{Scan, after_blanks, begins_with, begins_expression, word_of, items_at}
 use Rattle.mac_text.specs.Texts.{after_word}
 use Rattle.mac_text.specs.Expressions.{term_of_word, word_term_at, term_at, sign_at, signed_at, next_term_at, expression_at, optional_at}

@@ -29,11 +29,11 @@ radix_of_mark None = None
 radix_of_mark (Some c) = if c == 68 || c == 100 then Some 10 else (if c == 79 || c == 111 then Some 8 else None)
 
 -- behind `^`
-unfoldable pub marked_at : Scan → Option (Term × Scan)
+unfoldable pub marked_at : Scan → Option (ℕ × Scan)
 marked_at s = do
   radix ← radix_of_mark (head_of s.rest)
   number ← number_of radix (word_of (without 1 s).rest)
-  Some (Number number, without (length (word_of (without 1 s).rest)) (without 1 s))
+  Some (number, without (length (word_of (without 1 s).rest)) (without 1 s))
 
 -- behind `[`: no literal stands in a literal
 unfoldable pub literal_at : Scan → Option (Term × Scan)
@@ -44,7 +44,10 @@ literal_at s = if s.in_literal then None else (do
 unfoldable pub term_at : Scan → Option (Term × Scan)
 term_at s =
     if meets 91 s then literal_at (eaten 91 s) else
-    if meets 94 (eaten 91 s) then marked_at (eaten 94 (eaten 91 s)) else word_term_at (eaten 94 (eaten 91 s))
+    if meets 94 (eaten 91 s) then (do
+      n ← marked_at (eaten 94 (eaten 91 s))
+      Some (Number n.0, n.1))
+    else word_term_at (eaten 94 (eaten 91 s))
 
 -- the sign that comes next, if one does
 unfoldable pub sign_at : Scan → Option Sign × Scan

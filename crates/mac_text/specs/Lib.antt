@@ -1,4 +1,3 @@
-pub mod Limbs
 pub mod Terms
 pub mod Characters
 pub mod Names

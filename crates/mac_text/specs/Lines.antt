@@ -49,15 +49,18 @@ gives_words (data_of.Text Ascii text) = not (length text == 0)
 gives_words (data_of.Text Sixbit text) = not (length text == 0)
 gives_words _ = true
 
-abbrev pub literal_data : Statement → Option Data
-literal_data (statements.Data given) = if gives_words given then Some given else None
+abbrev pub with_words : Data → Option Data
+with_words given = if gives_words given then Some given else None
+
+abbrev pub literal_data : Option Statement → Option Data
+literal_data (Some (statements.Data given)) = with_words given
 literal_data _ = None
 
 -- the statement in a literal: one that gives words, with nothing behind it
 unfoldable pub literal_of : ℕ → List ℕ → Option Data
 literal_of radix text = do
-  x ← statement_at (scan_of radix true text)
-  if is_at_end x.1.in_literal (skipped x.1).rest then literal_data x.0 else None
+  x ← whole_statement_at (scan_of radix true text)
+  literal_data x.0
 
 unfoldable pub literals_of : ℕ → List (List ℕ) → Option (List Data)
 literals_of radix [] = Some []

@@ -5,7 +5,7 @@ use Rattle.mac_text.specs.Names.{is_name, folded}
 use Rattle.mac_text.specs.Numbers.{number_of}
 use Rattle.mac_text.specs.Scan.{◌>>=◌, Scan, skipped, without, meets, eaten, meets_commas, commas_eaten, word_of, comment_of, with_front, items_at}
 use Rattle.mac_text.specs.Texts.{take_text}
-use Rattle.mac_text.specs.Expressions.{expression_at, optional_at}
+use Rattle.mac_text.specs.Expressions.{marked_at, expression_at, optional_at}
 use Rattle.mac_text.specs.Keywords.{form_of}
 use Rattle.ka_isa.specs.Operations.{named_of}
 use Rattle.ka_isa.specs.declared.calls.Named.{Named}
@@ -85,20 +85,24 @@ expressions_at s = do
   first ← expression_at s
   with_front (first.0 ∷ []) (items_at next_expression_at (length first.1.rest) first.1)
 
--- a number in decimal
+-- digits in decimal
 unfoldable pub decimal_at : Scan → Option (ℕ × Scan)
 decimal_at s = do
-  n ← number_of 10 (word_of (skipped s).rest)
-  Some (n, without (length (word_of (skipped s).rest)) (skipped s))
+  n ← number_of 10 (word_of s.rest)
+  Some (n, without (length (word_of s.rest)) s)
+
+-- a number: its digits are decimal, and `^D` and `^O` mark one as everywhere
+unfoldable pub number_at : Scan → Option (ℕ × Scan)
+number_at s = if meets 94 s then marked_at (eaten 94 s) else decimal_at (eaten 94 s)
 
 -- `size,operand[,position]`
 unfoldable pub point_at : Scan → Option (Data × Scan)
 point_at s = do
-  size ← decimal_at s
+  size ← number_at s
   if meets 44 size.1 then (do
     o ← operand_at (eaten 44 size.1)
     if meets 44 o.1 then (do
-      position ← decimal_at (eaten 44 o.1)
+      position ← number_at (eaten 44 o.1)
       Some (data_of.Point size.0 o.0 (Some position.0), position.1))
         else Some (data_of.Point size.0 o.0 None, eaten 44 o.1))
       else None
@@ -119,7 +123,7 @@ with_data f read = read >>= λ x. Some (statements.Data (f x.0), x.1)
 unfoldable pub form_at : Form → Scan → Option (Statement × Scan)
 form_at forms.Loc s = expression_at s >>= λ e. Some (statements.Loc e.0, e.1)
 form_at forms.End s = optional_at s >>= λ e. Some (statements.End e.0, e.1)
-form_at forms.Radix s = decimal_at s >>= λ n. Some (statements.Radix n.0, n.1)
+form_at forms.Radix s = number_at s >>= λ n. Some (statements.Radix n.0, n.1)
 form_at forms.Title s = Some (statements.Title, comment_of s)
 form_at forms.Xwd s = with_data (λ p. data_of.Halves p.0 p.1) (pair_at s)
 form_at forms.Iowd s = with_data (λ p. data_of.Iowd p.0 p.1) (pair_at s)

@@ -14,6 +14,7 @@ use crate::sum::Expression;
 use crate::symbol::Symbol;
 use crate::syntax::{Sign, SignedTerm, Term};
 use crate::texts::literal_len;
+use whole_numbers::Natural;
 
 /// Whether a run of letters, digits and the like is a name: it begins with no digit and is not the point alone.
 pub fn is_name(word: &[u8]) -> bool
@@ -45,7 +46,7 @@ fn word_term(scan: &mut Scanner<'_>) -> Result<Term, Fault>
 
 /// What follows `^`: `D` or `O` and a number of that radix.
 #[tactic(auto, unfolding(crate::specs::Expressions::marked_at))]
-fn marked_number(scan: &mut Scanner<'_>) -> Result<Term, Fault>
+pub fn marked_number(scan: &mut Scanner<'_>) -> Result<Natural, Fault>
     ensures { Gives (λ x. (x, scan.new)) result (marked_at scan.old) }
 {
     let radix = match scan.head() {
@@ -57,7 +58,7 @@ fn marked_number(scan: &mut Scanner<'_>) -> Result<Term, Fault>
     let digits = scan.word();
     let value = number(scan.alloc(), radix, digits)?;
     scan.advance(digits.len());
-    Ok(Term::Number(value))
+    Ok(value)
 }
 
 /// What follows `[`: a literal's text, which is cut out, and its bracket. A literal holds none itself.
@@ -86,7 +87,7 @@ fn term(scan: &mut Scanner<'_>) -> Result<Term, Fault>
         }
         Some(b'^') => {
             scan.advance(1);
-            marked_number(scan)
+            Ok(Term::Number(marked_number(scan)?))
         }
         _ => word_term(scan),
     }
@@ -153,7 +154,7 @@ pub fn expression(scan: &mut Scanner<'_>) -> Result<Expression, Fault>
 {
     let sign = sign(scan).unwrap_or(Sign::Plus);
     let first = signed_term(sign, scan)?;
-    let mut expression = Expression::of(first);
+    let mut expression = Expression::of(scan.alloc(), first)?;
     more_terms(scan, &mut expression)?;
     Ok(expression)
 }

@@ -6,7 +6,6 @@ mod expressions;
 mod fault;
 mod keyword;
 mod line;
-mod natural;
 mod numbers;
 mod place;
 mod printed;
@@ -20,11 +19,10 @@ mod syntax;
 mod texts;
 
 pub use fault::ParseError;
-pub use natural::Natural;
 pub use printed::printed_word;
 pub use sequence::Sequence;
 pub use source::parse;
-pub use sum::Expression;
+pub use sum::{Expression, Parts};
 pub use symbol::Symbol;
 pub use syntax::{
     Data, Instruction, Line, Operand, Program, Sign, SignedTerm, Statement, Term, TextForm,

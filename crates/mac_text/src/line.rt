@@ -1,13 +1,13 @@
 //! Lines.
 
-ghost use Rattle.std.specs.Prelude.{◌≡◌, ◌≤◌, Some, length, map, option_and_then};
+ghost use Rattle.std.specs.Prelude.{◌≡◌, ◌≤◌, Some, length, map};
 ghost use Rattle.std.specs.List.{list_all};
 ghost use Rattle.mac_text.specs.Scan.{Gives, with_front, items_at};
-ghost use Rattle.mac_text.specs.Lines.{is_ascii, next_label_at, optional_statement_at, whole_statement_at, gives_words, literal_data, literal_of, literals_of, line_of, radix_after, is_end};
+ghost use Rattle.mac_text.specs.Lines.{is_ascii, next_label_at, optional_statement_at, whole_statement_at, gives_words, with_words, literal_data, literal_of, literals_of, line_of, radix_after, is_end};
 
 use crate::expressions::is_name;
 use crate::fault::Fault;
-use crate::place::clear;
+use crate::place::{clear, discard};
 use crate::scanner::Scanner;
 use crate::sequence::Sequence;
 use crate::statements::statement;
@@ -82,19 +82,28 @@ fn gives_words(data: &Data) -> bool
     }
 }
 
-/// The words of the statement in a literal, of which there has to be at least one.
+/// What gives at least one word, as far as its form tells.
+fn with_words(given: Data) -> Result<Data, Fault>
+    ensures { Gives (λ x. x) result (with_words given) }
+{
+    if gives_words(&given) {
+        Ok(given)
+    } else {
+        discard(given);
+        Err(Fault::Syntax)
+    }
+}
+
+/// What the statement in a literal gives.
 fn literal_data(statement: Option<Statement>) -> Result<Data, Fault>
-    ensures { Gives (λ x. x) result (option_and_then literal_data statement) }
+    ensures { Gives (λ x. x) result (literal_data statement) }
 {
     match statement {
-        Some(Statement::Data(data)) => {
-            if gives_words(&data) {
-                Ok(data)
-            } else {
-                Err(Fault::Syntax)
-            }
+        Some(Statement::Data(data)) => with_words(data),
+        other => {
+            discard(other);
+            Err(Fault::Syntax)
         }
-        _ => Err(Fault::Syntax),
     }
 }
 
@@ -106,11 +115,13 @@ fn literal(alloc: Global, radix: u8, text: &[u8]) -> Result<Data, Fault>
 {
     let mut scan = Scanner::new(alloc, radix, true, text);
     let mut place = None;
-    statement(&mut scan, &mut place)?;
-    if !scan.is_at_end() {
-        return Err(Fault::Syntax);
+    match whole_statement(&mut scan, &mut place) {
+        Ok(()) => literal_data(place),
+        Err(fault) => {
+            discard(place);
+            Err(fault)
+        }
     }
-    literal_data(place)
 }
 
 /// The statements in the literals of a line.

@@ -1,4 +1,5 @@
-//! Places that a reader fills. They are empty as a rule; what empties or fills one again is kept apart from the rest.
+//! Places that a reader fills. They are empty as a rule; what empties or fills one again, or lets a value go, is kept
+//! apart from the rest.
 
 ghost use Rattle.std.specs.Prelude.{◌≡◌, Some, None};
 
@@ -35,3 +36,6 @@ fn replace<T: Drop>(place: &mut Option<T>, value: T)
 {
     *place = Some(value);
 }
+
+/// Lets a value go.
+pub fn discard<T: Drop>(_value: T) {}

@@ -6,6 +6,7 @@ ghost use Rattle.mac_text.specs.Lines.{program_of, Parses};
 
 use crate::fault::{Fault, ParseError};
 use crate::line::{is_end, radix_after, read_line};
+use crate::place::discard;
 use crate::sequence::Sequence;
 use crate::syntax::{Line, Program};
 use std::alloc::Global;
@@ -53,8 +54,14 @@ pub fn parse(alloc: Global, source: &[u8]) -> Result<Program, ParseError>
         };
         match read_line(alloc, radix, text, &mut line) {
             Ok(()) => {}
-            Err(Fault::Memory) => return Err(ParseError::Memory),
-            Err(Fault::Syntax) => return Err(ParseError::Syntax(program.len() + 1)),
+            Err(Fault::Memory) => {
+                discard(line);
+                return Err(ParseError::Memory);
+            }
+            Err(Fault::Syntax) => {
+                discard(line);
+                return Err(ParseError::Syntax(program.len() + 1));
+            }
         }
         radix = radix_after(&line, radix);
         let ends = is_end(&line);

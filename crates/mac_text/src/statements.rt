@@ -4,12 +4,11 @@ ghost use Rattle.std.specs.Prelude.{◌≡◌, IsTrue, length};
 ghost use Rattle.std.specs.Str.{IsAscii};
 ghost use Rattle.mac_text.specs.Scan.{Gives, present, with_front, items_at};
 ghost use Rattle.mac_text.specs.declared.syntax.Data.TheVariants as data_of;
-ghost use Rattle.mac_text.specs.Statements.{with_data, index_at, operand_at, operands_at, is_allowed, instruction_at, pair_at, next_expression_at, expressions_at, decimal_at, point_at, value_at, form_at, operation_of, statement_at};
+ghost use Rattle.mac_text.specs.Statements.{with_data, index_at, operand_at, operands_at, is_allowed, instruction_at, pair_at, next_expression_at, expressions_at, decimal_at, number_at, point_at, value_at, form_at, operation_of, statement_at};
 
-use crate::expressions::{expression, is_name, optional_expression};
+use crate::expressions::{expression, is_name, marked_number, optional_expression};
 use crate::fault::Fault;
 use crate::keyword::{Form, form_of};
-use crate::natural::Natural;
 use crate::numbers::number;
 use crate::place::{clear, fill};
 use crate::scanner::Scanner;
@@ -18,6 +17,7 @@ use crate::sum::Expression;
 use crate::symbol::folded;
 use crate::syntax::{Data, Instruction, Operand, Statement};
 use ka_isa::{Named, named};
+use whole_numbers::Natural;
 
 /// The register of an address part: an expression in parentheses, or nothing.
 #[tactic(auto, unfolding(crate::specs::Statements::index_at))]
@@ -75,49 +75,7 @@ fn is_allowed(named: Named, accumulator: &Option<Expression>, operand: &Operand)
 }
 
 /// Reads what follows the name of an instruction, and puts the statement in place.
-#[inline(always)]
 #[tactic(auto, unfolding(crate::specs::Statements::instruction_at))]
-fn read_instruction(
-    named: Named,
-    scan: &mut Scanner<'_>,
-    place: &mut Option<Statement>,
-) -> Result<(), Fault>
-    ensures { Gives (λ _. (place.new, scan.new)) result (present (with_data data_of.Instruction (instruction_at named scan.old))) }
-{
-    *place = Some(Statement::Data(Data::Instruction(Instruction {
-        word: named.word,
-        accumulator: None,
-        operand: Operand {
-            indirect: false,
-            address: None,
-            index: None,
-        },
-    })));
-    if let Some(Statement::Data(Data::Instruction(given))) = place {
-        operands(scan, &mut given.accumulator, &mut given.operand)?;
-        if is_allowed(named, &given.accumulator, &given.operand) {
-            return Ok(());
-        }
-    }
-    Err(Fault::Syntax)
-}
-
-/// The same where the place is not empty.
-#[inline(never)]
-fn replace_by_instruction(
-    named: Named,
-    scan: &mut Scanner<'_>,
-    place: &mut Option<Statement>,
-) -> Result<(), Fault>
-    ensures { Gives (λ _. (place.new, scan.new)) result (present (with_data data_of.Instruction (instruction_at named scan.old))) }
-{
-    let mut read = None;
-    read_instruction(named, scan, &mut read)?;
-    *place = read;
-    Ok(())
-}
-
-/// The same with a place that is empty as a rule.
 fn instruction(
     named: Named,
     scan: &mut Scanner<'_>,
@@ -125,11 +83,23 @@ fn instruction(
 ) -> Result<(), Fault>
     ensures { Gives (λ _. (place.new, scan.new)) result (present (with_data data_of.Instruction (instruction_at named scan.old))) }
 {
-    if place.is_none() {
-        read_instruction(named, scan, place)
-    } else {
-        replace_by_instruction(named, scan, place)
+    let bare = Instruction {
+        word: named.word,
+        accumulator: None,
+        operand: Operand {
+            indirect: false,
+            address: None,
+            index: None,
+        },
+    };
+    fill(place, Statement::Data(Data::Instruction(bare)));
+    if let Some(Statement::Data(Data::Instruction(given))) = place {
+        operands(scan, &mut given.accumulator, &mut given.operand)?;
+        if is_allowed(named, &given.accumulator, &given.operand) {
+            return Ok(());
+        }
     }
+    Err(Fault::Syntax)
 }
 
 /// Two expressions with a comma between them.
@@ -187,16 +157,27 @@ fn expressions(scan: &mut Scanner<'_>) -> Result<Sequence<Expression>, Fault>
     Ok(expressions)
 }
 
-/// A number in decimal.
+/// Digits in decimal.
 #[tactic(auto, unfolding(crate::specs::Statements::decimal_at))]
 fn decimal(scan: &mut Scanner<'_>) -> Result<Natural, Fault>
     ensures { Gives (λ x. (x, scan.new)) result (decimal_at scan.old) }
 {
-    scan.skip();
     let digits = scan.word();
     let value = number(scan.alloc(), 10, digits)?;
     scan.advance(digits.len());
     Ok(value)
+}
+
+/// A number whose digits are decimal, or that `^D` or `^O` marks.
+#[tactic(auto, unfolding(crate::specs::Statements::number_at))]
+fn lone_number(scan: &mut Scanner<'_>) -> Result<Natural, Fault>
+    ensures { Gives (λ x. (x, scan.new)) result (number_at scan.old) }
+{
+    if scan.eat(b'^') {
+        marked_number(scan)
+    } else {
+        decimal(scan)
+    }
 }
 
 /// What follows POINT.
@@ -204,7 +185,7 @@ fn decimal(scan: &mut Scanner<'_>) -> Result<Natural, Fault>
 fn point(scan: &mut Scanner<'_>) -> Result<Data, Fault>
     ensures { Gives (λ x. (x, scan.new)) result (point_at scan.old) }
 {
-    let size = decimal(scan)?;
+    let size = lone_number(scan)?;
     if !scan.eat(b',') {
         return Err(Fault::Syntax);
     }
@@ -217,7 +198,7 @@ fn point(scan: &mut Scanner<'_>) -> Result<Data, Fault>
     if !scan.eat(b',') {
         return Ok(Data::Point(size, place, None));
     }
-    let position = decimal(scan)?;
+    let position = lone_number(scan)?;
     Ok(Data::Point(size, place, Some(position)))
 }
 
@@ -246,7 +227,7 @@ fn form_statement(form: Form, scan: &mut Scanner<'_>) -> Result<Statement, Fault
             optional_expression(scan, &mut start)?;
             Ok(Statement::End(start))
         }
-        Form::Radix => Ok(Statement::Radix(decimal(scan)?)),
+        Form::Radix => Ok(Statement::Radix(lone_number(scan)?)),
         Form::Title => {
             scan.skip_to_comment();
             Ok(Statement::Title)
@@ -287,7 +268,7 @@ fn operation(name: &[u8]) -> Option<Named>
 fn value_statement(scan: &mut Scanner<'_>, place: &mut Option<Statement>) -> Result<(), Fault>
     ensures { Gives (λ _. (place.new, scan.new)) result (present (with_data (λ d. d) (value_at scan.old))) }
 {
-    *place = Some(Statement::Data(value(scan)?));
+    fill(place, Statement::Data(value(scan)?));
     Ok(())
 }
 
@@ -300,7 +281,7 @@ fn formed_statement(
 ) -> Result<(), Fault>
     ensures { Gives (λ _. (place.new, scan.new)) result (present (form_at form scan.old)) }
 {
-    *place = Some(form_statement(form, scan)?);
+    fill(place, form_statement(form, scan)?);
     Ok(())
 }
 

@@ -1,9 +1,9 @@
 //! The statements of a source.
 
-use crate::natural::Natural;
 use crate::sequence::Sequence;
 use crate::sum::Expression;
 use crate::symbol::Symbol;
+use whole_numbers::Natural;
 use word36::Word;
 
 /// Whether a term is added or taken away.

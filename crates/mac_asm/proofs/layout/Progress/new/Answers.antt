@@ -6,7 +6,7 @@ pub returns : goal.returns
 returns c = record {
   labels = c.new.ensures.empty;
   apart = apart_nil;
-  place = c.in_ok-from_u64.ensures;
+  place = c.from_u64.ensures;
   places = c.new-2.ensures.items;
   taken = unmarked_all c.in_ok-vec.field-0.items _ refl (c.in_ok-vec.ensures.items_if_clones_equal (λ y h. h));
   sizes = c.new-3.ensures.items;

@@ -1,0 +1,419 @@
+-- What each call leaves, in the lists that the code makes.
+use Rattle.std.proofs.Common.{◌≡◌, ◌∙◌, sym, ap, subst, refl, ℕ, suc, Bool, true, false, not, inl, inr, ◌==◌, ◌&&◌, ◌||◌, cond, if◌then◌else◌, List, [], ◌∷◌, length, filter, map, Option, Some, None, arith, bit_or}
+use Rattle.std.specs.Int.{bit_at}
+use Rattle.std.specs.List.{list_any}
+use Rattle.std.proofs.lemmas.Bool.{or_parts}
+use Rattle.std.proofs.lemmas.Bool.Decides.{nat_tests}
+use Rattle.arrayvec.specs.ArrayVec.{ArrayVec}
+use Rattle.lock_queue.specs.declared.call.LockCall.{LockCall}
+use Rattle.lock_queue.specs.declared.call.LockCall.TheVariants.{Enqueue, Modify, DequeueNamed, DequeueAll, DequeueId}
+use Rattle.lock_queue.specs.declared.call.LockReply.TheVariants.{Done, Refused}
+use Rattle.lock_queue.specs.declared.key.Key.{Key}
+use Rattle.lock_queue.specs.declared.refusal.Refusal.TheVariants.{NotPresent, WouldLose}
+use Rattle.lock_queue.specs.declared.request.Request.{Request}
+use Rattle.lock_queue.specs.declared.want.Want.{Want}
+use Rattle.lock_queue.specs.Calls.{outcome_of}
+use Rattle.lock_queue.specs.Changes.{modify_fault, changed_want, changed, with_changes, some_lost, some_lost_behind}
+use Rattle.lock_queue.specs.Dequeues.{has_wants, with_wants, without_keys, without_keys_of, without_named, is_of_job, has_id}
+use Rattle.lock_queue.specs.Grants.{staying_if, left_of, woken}
+use Rattle.lock_queue.specs.Jobs.{released, withdrawn, is_not_blocked, is_blocking}
+use Rattle.lock_queue.specs.Keys.{same_key}
+use Rattle.lock_queue.specs.Outcomes.{Outcome, outcome, unless_refused, refuse_if, or_else, first_refusal}
+use Rattle.lock_queue.specs.Queue.{names}
+use Rattle.lock_queue.proofs.GrantLaws.{left-labels}
+use Rattle.lock_queue.proofs.Lists.{Has, Has-map, Sub, Sub-refl, Sub-filter, Sub-Has}
+use Rattle.lock_table.specs.declared.departures.Leaving.{Leaving}
+use Rattle.lock_table.specs.declared.departures.Leaving.TheVariants.{All, OfId, Blocked}
+use Rattle.lock_table.specs.Departures.{leaves, stays, signature_where, loses, with_fewer, keeps_wants, with_change, call_of, leaving_of}
+use Rattle.lock_table.specs.Filings.{Filing, requests_in, AreRight}
+use Rattle.lock_table.specs.Findings.{lost_in}
+use Rattle.lock_table.specs.Renewals.{raised, AreOutdated}
+use Rattle.lock_table.specs.Signatures.{group_of, meets, signature_of}
+use Rattle.lock_table.proofs.DepartureLaws.{after, put, at_key, Changes, outdated, outdated-changed, lost-changed, Keeps, raised-all}
+use Rattle.lock_table.proofs.Fitting.{same_key-eq, same_key-swap}
+use Rattle.lock_table.proofs.RightLaws.{chosen-right}
+use Rattle.lock_table.proofs.SignatureLaws.{unmet-right, unsigned, signed, names-none, no-bit-left, no-bit-or}
+
+-- ---- the requests that stay
+
+pub filter-after : (p : Filing → Bool) (fs : List Filing) → filter p fs ≡ after (λ f. staying_if (p f) f.request) fs
+filter-after p [] = refl
+filter-after p (f ∷ fs) = go (p f) (filter-after p fs)
+  where
+    go : (b : Bool) → filter p fs ≡ after (λ f. staying_if (p f) f.request) fs
+        → cond b (f ∷ filter p fs) (filter p fs) ≡ put (staying_if b f.request) f.granted (after (λ f. staying_if (p f) f.request) fs)
+    go true t = ap (λ l. f ∷ l) t
+    go false t = t
+
+pub filter-requests : (p : Request → Bool) (fs : List Filing) → requests_in (filter (λ f. p f.request) fs) ≡ filter p (requests_in fs)
+filter-requests p [] = refl
+filter-requests p (f ∷ fs) = go (p f.request) (filter-requests p fs)
+  where
+    go : (b : Bool) → requests_in (filter (λ f. p f.request) fs) ≡ filter p (requests_in fs)
+        → requests_in (cond b (f ∷ filter (λ f. p f.request) fs) (filter (λ f. p f.request) fs))
+        ≡ cond b (f.request ∷ filter p (requests_in fs)) (filter p (requests_in fs))
+    go true t = ap (λ l. f.request ∷ l) t
+    go false t = t
+
+any-requests : (p : Request → Bool) (fs : List Filing) → list_any (λ f. p f.request) fs ≡ list_any p (requests_in fs)
+any-requests p [] = refl
+any-requests p (f ∷ fs) = ap (λ b. p f.request || b) (any-requests p fs)
+
+pub leaving-released : (fs : List Filing) (job : ℕ) → requests_in (filter (stays job All) fs) ≡ released (requests_in fs) job
+leaving-released fs job = filter-requests (λ r. not (r.job == job)) fs
+
+pub leaving-withdrawn : (fs : List Filing) (job : ℕ) → AreRight [] fs
+    → requests_in (filter (stays job Blocked) fs) ≡ withdrawn (requests_in fs) job
+leaving-withdrawn fs job h =
+    sym (chosen-right (is_not_blocked job) (stays job Blocked)
+    (λ e f g. ap (λ b. not ((f.request.job == job && is_blocking f.request.kind) && not b)) (sym g)) [] fs h)
+
+pub dequeue-done : (fs : List Filing) (job : ℕ) (id : Option ℕ) → list_any (leaves job (leaving_of id)) fs ≡ true
+    → outcome_of (requests_in fs) job (call_of id) ≡ outcome (requests_in (filter (stays job (leaving_of id)) fs)) Done
+dequeue-done fs job None h =
+    ap (λ b. cond b (outcome (filter (λ r. not (is_of_job job r)) (requests_in fs)) Done) (outcome (requests_in fs) (Refused NotPresent)))
+    (sym (any-requests (is_of_job job) fs) ∙ h)
+    ∙ ap (λ l. outcome l Done) (sym (filter-requests (λ r. not (is_of_job job r)) fs))
+dequeue-done fs job (Some id) h =
+    ap (λ b. cond b (outcome (filter (λ r. not (has_id job id r)) (requests_in fs)) Done) (outcome (requests_in fs) (Refused NotPresent)))
+    (sym (any-requests (has_id job id) fs) ∙ h)
+    ∙ ap (λ l. outcome l Done) (sym (filter-requests (λ r. not (has_id job id r)) fs))
+
+pub dequeue-none : (fs : List Filing) (job : ℕ) (id : Option ℕ) → list_any (leaves job (leaving_of id)) fs ≡ false
+    → outcome_of (requests_in fs) job (call_of id) ≡ outcome (requests_in fs) (Refused NotPresent)
+dequeue-none fs job None h =
+    ap (λ b. cond b (outcome (filter (λ r. not (is_of_job job r)) (requests_in fs)) Done) (outcome (requests_in fs) (Refused NotPresent)))
+    (sym (any-requests (is_of_job job) fs) ∙ h)
+dequeue-none fs job (Some id) h =
+    ap (λ b. cond b (outcome (filter (λ r. not (has_id job id r)) (requests_in fs)) Done) (outcome (requests_in fs) (Refused NotPresent)))
+    (sym (any-requests (has_id job id) fs) ∙ h)
+
+-- ---- kinds are kept
+
+kept-if : (b : Bool) (r s : Request) → staying_if b r ≡ Some s → s.kind ≡ r.kind
+kept-if true r s e = let same : r ≡ s = cc in ap (λ (q : Request). q.kind) (sym same)
+kept-if false r s e = absurd (cc)
+
+kind-if : (b : Bool) (r s : Request) → s.kind ≡ r.kind → (if b then s else r).kind ≡ r.kind
+kind-if true r s e = e
+kind-if false r s e = refl
+
+left-kind : (job : ℕ) (call : LockCall) (r s : Request) → left_of job call r ≡ Some s → s.kind ≡ r.kind
+left-kind job (Enqueue kind id wants armed) r s e = let same : r ≡ s = cc in ap (λ (q : Request). q.kind) (sym same)
+left-kind job (Modify changes) r s e =
+    let same : changed job changes.items r ≡ s = cc in
+    ap (λ (q : Request). q.kind) (sym same) ∙ kind-if (r.job == job) r _ refl
+left-kind job (DequeueNamed named) r s e =
+    kept-if (has_wants (without_keys_of job named.items r)) (without_keys_of job named.items r) s e
+    ∙ kind-if (r.job == job) r (without_keys named.items r) refl
+left-kind job DequeueAll r s e = kept-if (not (is_of_job job r)) r s e
+left-kind job (DequeueId id) r s e = kept-if (not (has_id job id r)) r s e
+
+pub left-keeps : (job : ℕ) (call : LockCall) → Keeps (left_of job call)
+left-keeps job call = record { labels = left-labels job call; kind = left-kind job call }
+
+pub dequeue-woken : (fs : List Filing) (job : ℕ) (id : Option ℕ) → AreRight [] fs
+    → raised [] (filter (stays job (leaving_of id)) fs) ≡ woken (left_of job (call_of id)) (requests_in fs)
+dequeue-woken fs job None h =
+    ap (raised []) (filter-after (stays job All) fs) ∙ raised-all (left_of job DequeueAll) (left-keeps job DequeueAll) fs h
+dequeue-woken fs job (Some id) h =
+    ap (raised []) (filter-after (stays job (OfId id)) fs) ∙ raised-all (left_of job (DequeueId id)) (left-keeps job (DequeueId id)) fs h
+
+-- ---- what leaves is in the signature
+
+signature-has : (test : Filing → Bool) (fs : List Filing) (f : Filing) (k : ℕ) → Has fs f → test f ≡ true
+    → bit_at (signature_where test fs) k ≡ 0 → bit_at (signature_of f.request.wants.items) k ≡ 0
+signature-has test [] f k h t z = absurd h
+signature-has test (x ∷ fs) f k (inl same) t z = go (test x) (ap test same ∙ t) z
+  where
+    go : (b : Bool) → b ≡ true
+        → bit_at (cond b (bit_or (signature_where test fs) (signature_of x.request.wants.items)) (signature_where test fs)) k ≡ 0
+        → bit_at (signature_of f.request.wants.items) k ≡ 0
+    go true e zero =
+        ap (λ (g : Filing). bit_at (signature_of g.request.wants.items) k) (sym same)
+        ∙ no-bit-or (signature_where test fs) (signature_of x.request.wants.items) k zero
+    go false e zero = absurd (cc)
+signature-has test (x ∷ fs) f k (inr later) t z = signature-has test fs f k later t (go (test x) z)
+  where
+    go : (b : Bool)
+        → bit_at (cond b (bit_or (signature_where test fs) (signature_of x.request.wants.items)) (signature_where test fs)) k ≡ 0
+        → bit_at (signature_where test fs) k ≡ 0
+    go true zero = no-bit-left (signature_where test fs) (signature_of x.request.wants.items) k zero
+    go false zero = zero
+
+gone-changes : (test : Filing → Bool) (fs : List Filing) (f : Filing) → Has fs f
+    → Changes (signature_where test fs) f (staying_if (not (test f)) f.request)
+gone-changes test fs f h = go (test f) refl
+  where
+    go : (b : Bool) → test f ≡ b → Changes (signature_where test fs) f (staying_if (not b) f.request)
+    go true t = record {
+      kept = λ k z. sym (names-none f.request.wants.items k (unsigned f.request.wants.items k (signature-has test fs f (group_of k) h t z)));
+      own = λ s is u. absurd (cc);
+    }
+    go false t = record {
+      kept = λ k z. refl;
+      own = λ s is u. let same : f.request ≡ s = cc in ap (λ (q : Request). q.wants.items) (sym same);
+    }
+
+fewer-if : (b : Bool) (r s : Request) → staying_if b r ≡ Some s → Sub s.wants.items r.wants.items
+fewer-if true r s e = let same : r ≡ s = cc in subst (λ (q : Request). Sub q.wants.items r.wants.items) same (Sub-refl r.wants.items)
+fewer-if false r s e = absurd (cc)
+
+pub leaving-outdated : (fs : List Filing) (job : ℕ) (leaving : Leaving) → AreRight [] fs
+    → AreOutdated (signature_where (leaves job leaving) fs) [] (filter (stays job leaving) fs)
+leaving-outdated fs job leaving h =
+    subst (AreOutdated (signature_where (leaves job leaving) fs) []) (sym (filter-after (stays job leaving) fs))
+    (outdated (signature_where (leaves job leaving) fs) (λ f. staying_if (stays job leaving f) f.request) [] [] fs
+    (λ f k. gone-changes (leaves job leaving) fs f k) (λ f s k is. fewer-if (stays job leaving f) f.request s is)
+    (Sub-refl []) (λ k z. refl) h)
+
+-- ---- wants that are given up
+
+named-after : (fs : List Filing) (job : ℕ) (named : ArrayVec Want)
+    → filter keeps_wants (map (with_fewer job named.items) fs) ≡ after (λ f. left_of job (DequeueNamed named) f.request) fs
+named-after [] job named = refl
+named-after (f ∷ fs) job named = go (keeps_wants (with_fewer job named.items f)) (named-after fs job named)
+  where
+    rest : List Filing
+    rest = filter keeps_wants (map (with_fewer job named.items) fs)
+
+    go : (b : Bool) → rest ≡ after (λ f. left_of job (DequeueNamed named) f.request) fs
+        → cond b (with_fewer job named.items f ∷ rest) rest
+        ≡ put (staying_if b (without_keys_of job named.items f.request)) f.granted (after (λ f. left_of job (DequeueNamed named) f.request) fs)
+    go true t = ap (λ l. with_fewer job named.items f ∷ l) t
+    go false t = t
+
+pub named-requests : (fs : List Filing) (job : ℕ) (named : List Want)
+    → requests_in (filter keeps_wants (map (with_fewer job named) fs)) ≡ without_named (requests_in fs) job named
+named-requests [] job named = refl
+named-requests (f ∷ fs) job named = go (has_wants (without_keys_of job named f.request)) (named-requests fs job named)
+  where
+    rest : List Filing
+    rest = filter keeps_wants (map (with_fewer job named) fs)
+
+    go : (b : Bool) → requests_in rest ≡ without_named (requests_in fs) job named
+        → requests_in (cond b (with_fewer job named f ∷ rest) rest)
+        ≡ cond b (without_keys_of job named f.request ∷ without_named (requests_in fs) job named) (without_named (requests_in fs) job named)
+    go true t = ap (λ l. without_keys_of job named f.request ∷ l) t
+    go false t = t
+
+pub named-woken : (fs : List Filing) (job : ℕ) (named : ArrayVec Want) → AreRight [] fs
+    → raised [] (filter keeps_wants (map (with_fewer job named.items) fs)) ≡ woken (left_of job (DequeueNamed named)) (requests_in fs)
+named-woken fs job named h =
+    ap (raised []) (named-after fs job named) ∙ raised-all (left_of job (DequeueNamed named)) (left-keeps job (DequeueNamed named)) fs h
+
+-- wants of which none is named all stay
+none-lost : (named ws : List Want) → list_any (λ w. names named w.key) ws ≡ false → filter (λ w. not (names named w.key)) ws ≡ ws
+none-lost named [] h = refl
+none-lost named (w ∷ ws) h =
+    let p = or_parts (names named w.key) (list_any (λ w. names named w.key) ws) h in
+    ap (λ b. cond (not b) (w ∷ filter (λ w. not (names named w.key)) ws) (filter (λ w. not (names named w.key)) ws)) p.0
+    ∙ ap (λ l. w ∷ l) (none-lost named ws p.1)
+
+names-fewer : (p : Want → Bool) (ws : List Want) (k : Key) → names ws k ≡ false → names (filter p ws) k ≡ false
+names-fewer p [] k h = refl
+names-fewer p (w ∷ ws) k h =
+    let q = or_parts (same_key w.key k) (names ws k) h in go (p w) (names-fewer p ws k q.1) q.0
+  where
+    go : (b : Bool) → names (filter p ws) k ≡ false → same_key w.key k ≡ false → names (cond b (w ∷ filter p ws) (filter p ws)) k ≡ false
+    go true t e = ap (λ b. b || names (filter p ws) k) e ∙ t
+    go false t e = t
+
+not-empty : (n : ℕ) → true ≡ not (suc n == 0)
+not-empty n = grind (arith, nat_tests)
+
+-- a request with no wants leaves none
+at-staying : (q : Request) (k : Key) → at_key k (staying_if (has_wants q) q) ≡ filter (λ w. same_key w.key k) q.wants.items
+at-staying q k = go q.wants.items
+  where
+    go : (ws : List Want) → at_key k (staying_if (not (length ws == 0)) (with_wants q ws)) ≡ filter (λ w. same_key w.key k) ws
+    go [] = refl
+    go (w ∷ ws) = ap (λ b. at_key k (staying_if b (with_wants q (w ∷ ws)))) (sym (not-empty (length ws)))
+
+-- a request with wants has a first
+some-want : (bits : ℕ) (ws all : List Want) → not (length ws == 0) ≡ true → Sub ws all
+    → meets (signature_of ws) bits ≡ false → ((k : ℕ) → bit_at bits k ≡ 0 → bit_at (signature_of all) k ≡ 0) → false ≡ true
+some-want bits [] all some sub u zero = some
+some-want bits (w ∷ ws) all some sub u zero =
+    let none = zero (group_of w.key) (unmet-right (signature_of (w ∷ ws)) bits (group_of w.key) u (signed (w ∷ ws) w (inl refl))) in
+    absurd (omega (arith, none, signed all w (Sub-Has w sub (inl refl))))
+
+module _ (fs : List Filing) (job : ℕ) (named : List Want) where
+  abbrev bits : ℕ
+  bits = signature_where (loses job named) fs
+
+  abbrev left-named : Request → Option Request
+  left-named r = staying_if (has_wants (without_keys_of job named r)) (without_keys_of job named r)
+
+  fewer-of : (b : Bool) (r : Request) → Sub (cond b (without_keys named r) r).wants.items r.wants.items
+  fewer-of true r = Sub-filter (λ w. not (names named w.key)) r.wants.items
+  fewer-of false r = Sub-refl r.wants.items
+
+  fewer-named : (r s : Request) → left-named r ≡ Some s → Sub s.wants.items r.wants.items
+  fewer-named r s is = go (has_wants (without_keys_of job named r)) is
+    where
+      go : (b : Bool) → staying_if b (without_keys_of job named r) ≡ Some s → Sub s.wants.items r.wants.items
+      go true e =
+          let same : without_keys_of job named r ≡ s = cc in
+          subst (λ (q : Request). Sub q.wants.items r.wants.items) same (fewer-of (r.job == job) r)
+      go false e = absurd (cc)
+
+  -- a request that loses no want keeps them
+  unlost : (b : Bool) (r : Request) → (b && list_any (λ w. names named w.key) r.wants.items) ≡ false
+      → (cond b (without_keys named r) r).wants.items ≡ r.wants.items
+  unlost true r h = none-lost named r.wants.items h
+  unlost false r h = refl
+
+  lost-none : (b : Bool) (r : Request) (k : Key) → names r.wants.items k ≡ false → names (cond b (without_keys named r) r).wants.items k ≡ false
+  lost-none true r k h = names-fewer (λ w. not (names named w.key)) r.wants.items k h
+  lost-none false r k h = h
+
+  named-changes : (f : Filing) → Has fs f → Changes bits f (left-named f.request)
+  named-changes f h = go (loses job named f) refl
+    where
+      r : Request
+      r = f.request
+
+      q : Request
+      q = without_keys_of job named r
+
+      own-of : (b : Bool) (s : Request) → staying_if b q ≡ Some s → (b ≡ true) × (q ≡ s)
+      own-of true s e = (refl, cc)
+      own-of false s e = absurd (cc)
+
+      go : (b : Bool) → loses job named f ≡ b → Changes bits f (left-named r)
+      go false t = record {
+        kept = λ k z. at-staying q k ∙ ap (filter (λ w. same_key w.key k)) (unlost (r.job == job) r t);
+        own = λ s is u. ap (λ (x : Request). x.wants.items) (sym (own-of (has_wants q) s is).1) ∙ unlost (r.job == job) r t;
+      }
+      go true t = record {
+        kept = λ k z.
+            let none = unsigned r.wants.items k (signature-has (loses job named) fs f (group_of k) h t z) in
+            at-staying q k ∙ names-none q.wants.items k (lost-none (r.job == job) r k none) ∙ sym (names-none r.wants.items k none);
+        own = λ s is u.
+            let at = own-of (has_wants q) s is in
+            let bad : false ≡ true = some-want bits q.wants.items r.wants.items at.0 (fewer-of (r.job == job) r)
+            (ap (λ (x : Request). meets (signature_of x.wants.items) bits) at.1 ∙ u)
+            (λ k z. signature-has (loses job named) fs f k h t z) in
+            absurd (cc);
+      }
+
+pub named-outdated : (fs : List Filing) (job : ℕ) (named : ArrayVec Want) → AreRight [] fs
+    → AreOutdated (signature_where (loses job named.items) fs) [] (filter keeps_wants (map (with_fewer job named.items) fs))
+named-outdated fs job named h =
+    subst (AreOutdated (signature_where (loses job named.items) fs) []) (sym (named-after fs job named))
+    (outdated (signature_where (loses job named.items) fs) (λ f. left_of job (DequeueNamed named) f.request) [] [] fs
+    (λ f k. named-changes fs job named.items f k) (λ f s k is. fewer-named fs job named.items f.request s is)
+    (Sub-refl []) (λ k z. refl) h)
+
+-- ---- wants that are changed
+
+pub change-requests : (fs : List Filing) (job : ℕ) (cs : List Want)
+    → requests_in (map (with_change job cs) fs) ≡ with_changes (requests_in fs) job cs
+change-requests [] job cs = refl
+change-requests (f ∷ fs) job cs = ap (λ l. changed job cs f.request ∷ l) (change-requests fs job cs)
+
+change-after : (fs : List Filing) (job : ℕ) (changes : ArrayVec Want)
+    → map (with_change job changes.items) fs ≡ after (λ f. left_of job (Modify changes) f.request) fs
+change-after [] job changes = refl
+change-after (f ∷ fs) job changes = ap (λ l. with_change job changes.items f ∷ l) (change-after fs job changes)
+
+pub change-woken : (fs : List Filing) (job : ℕ) (changes : ArrayVec Want) → AreRight [] fs
+    → raised [] (map (with_change job changes.items) fs) ≡ woken (left_of job (Modify changes)) (requests_in fs)
+change-woken fs job changes h =
+    ap (raised []) (change-after fs job changes) ∙ raised-all (left_of job (Modify changes)) (left-keeps job (Modify changes)) fs h
+
+change-key : (cs : List Want) (w : Want) → (changed_want cs w).key ≡ w.key
+change-key [] w = refl
+change-key (c ∷ cs) w =
+    elim (same_key w.key c.key) as (λ b. (cond b (record w { shared = c.shared }) (changed_want cs w)).key ≡ w.key) [
+      | true ↦ refl
+      | false ↦ change-key cs w
+    ]
+
+unchanged : (cs : List Want) (w : Want) → names cs w.key ≡ false → changed_want cs w ≡ w
+unchanged [] w h = refl
+unchanged (c ∷ cs) w h =
+    let p = or_parts (same_key c.key w.key) (names cs w.key) h in
+    go (same_key w.key c.key) refl p.0 (unchanged cs w p.1)
+  where
+    go : (b : Bool) → same_key w.key c.key ≡ b → same_key c.key w.key ≡ false → changed_want cs w ≡ w
+        → cond b (record w { shared = c.shared }) (changed_want cs w) ≡ w
+    go true e other rest = absurd (let swapped = same_key-swap w.key c.key e in cc)
+    go false e other rest = rest
+
+at-changed : (cs ws : List Want) (k : Key) → names cs k ≡ false
+    → filter (λ w. same_key w.key k) (map (changed_want cs) ws) ≡ filter (λ w. same_key w.key k) ws
+at-changed cs [] k h = refl
+at-changed cs (w ∷ ws) k h =
+    ap (λ key. cond (same_key key k) (changed_want cs w ∷ filter (λ w. same_key w.key k) (map (changed_want cs) ws)) (filter (λ w. same_key w.key k) (map (changed_want cs) ws))) (change-key cs w)
+    ∙ go (same_key w.key k) refl (at-changed cs ws k h)
+  where
+    go : (b : Bool) → same_key w.key k ≡ b
+        → filter (λ w. same_key w.key k) (map (changed_want cs) ws) ≡ filter (λ w. same_key w.key k) ws
+        → cond b (changed_want cs w ∷ filter (λ w. same_key w.key k) (map (changed_want cs) ws)) (filter (λ w. same_key w.key k) (map (changed_want cs) ws))
+        ≡ cond b (w ∷ filter (λ w. same_key w.key k) ws) (filter (λ w. same_key w.key k) ws)
+    go true e rest =
+        ap (λ v. v ∷ filter (λ w. same_key w.key k) (map (changed_want cs) ws)) (unchanged cs w (ap (names cs) (same_key-eq w.key k e) ∙ h))
+        ∙ ap (λ l. w ∷ l) rest
+    go false e rest = rest
+
+all-unchanged : (cs ws : List Want) → ((w : Want) → Has ws w → names cs w.key ≡ false) → map (changed_want cs) ws ≡ ws
+all-unchanged cs [] h = refl
+all-unchanged cs (w ∷ ws) h =
+    ap (λ v. v ∷ map (changed_want cs) ws) (unchanged cs w (h w (inl refl)))
+    ∙ ap (λ l. w ∷ l) (all-unchanged cs ws (λ v k. h v (inr k)))
+
+module _ (job : ℕ) (cs : List Want) where
+  changes-of : (b : Bool) (f : Filing)
+      → Changes (signature_of cs) f (Some (cond b (with_wants f.request (map (changed_want cs) f.request.wants.items)) f.request))
+  changes-of true f = record {
+    kept = λ k z. at-changed cs f.request.wants.items k (unsigned cs k z);
+    own = λ s is u.
+        let same : with_wants f.request (map (changed_want cs) f.request.wants.items) ≡ s = cc in
+        let off : meets (signature_of (map (changed_want cs) f.request.wants.items)) (signature_of cs) ≡ false =
+        ap (λ (q : Request). meets (signature_of q.wants.items) (signature_of cs)) same ∙ u in
+        ap (λ (q : Request). q.wants.items) (sym same)
+        ∙ all-unchanged cs f.request.wants.items (λ w k.
+        let bit : bit_at (signature_of (map (changed_want cs) f.request.wants.items)) (group_of w.key) ≡ 1 =
+        ap (λ key. bit_at (signature_of (map (changed_want cs) f.request.wants.items)) (group_of key)) (sym (change-key cs w))
+        ∙ signed (map (changed_want cs) f.request.wants.items) (changed_want cs w) (Has-map (changed_want cs) f.request.wants.items w k) in
+        unsigned cs w.key (unmet-right (signature_of (map (changed_want cs) f.request.wants.items)) (signature_of cs) (group_of w.key) off bit));
+  }
+  changes-of false f = record {
+    kept = λ k z. refl;
+    own = λ s is u. let same : f.request ≡ s = cc in ap (λ (q : Request). q.wants.items) (sym same);
+  }
+
+  pub change-lost : (fs : List Filing) → AreRight [] fs
+      → lost_in (signature_of cs) [] (map (with_change job cs) fs) ≡ some_lost (requests_in fs) (with_changes (requests_in fs) job cs)
+  change-lost fs h =
+      lost-changed (signature_of cs) (changed job cs) [] [] fs (λ f k. changes-of (f.request.job == job) f) (λ k z. refl) h
+      ∙ ap (some_lost_behind [] [] (requests_in fs)) (change-requests fs job cs)
+
+  pub change-outdated : (fs : List Filing) → AreRight [] fs → lost_in (signature_of cs) [] (map (with_change job cs) fs) ≡ false
+      → AreOutdated (signature_of cs) [] (map (with_change job cs) fs)
+  change-outdated fs h none =
+      outdated-changed (signature_of cs) (changed job cs) [] [] fs (λ f k. changes-of (f.request.job == job) f) (λ k z. refl) h none
+
+-- ---- the outcome of a change
+
+module _ (fs : List Filing) (job : ℕ) (changes : ArrayVec Want) (right : AreRight [] fs)
+    (passed : first_refusal (modify_fault (requests_in fs) job) [] changes.items ≡ None) where
+  abbrev outcome-if : Bool → Outcome
+  outcome-if lost =
+      unless_refused (requests_in fs) (or_else None (refuse_if lost WouldLose)) (outcome (with_changes (requests_in fs) job changes.items) Done)
+
+  judged : outcome_of (requests_in fs) job (Modify changes) ≡ outcome-if (lost_in (signature_of changes.items) [] (map (with_change job changes.items) fs))
+  judged =
+      ap (λ o. unless_refused (requests_in fs) (or_else o (refuse_if (some_lost (requests_in fs) (with_changes (requests_in fs) job changes.items)) WouldLose))
+      (outcome (with_changes (requests_in fs) job changes.items) Done)) passed
+      ∙ ap outcome-if (sym (change-lost job changes.items fs right))
+
+  pub modify-lost : lost_in (signature_of changes.items) [] (map (with_change job changes.items) fs) ≡ true
+      → outcome_of (requests_in fs) job (Modify changes) ≡ outcome (requests_in fs) (Refused WouldLose)
+  modify-lost lost = judged ∙ ap outcome-if lost
+
+  pub modify-done : lost_in (signature_of changes.items) [] (map (with_change job changes.items) fs) ≡ false
+      → outcome_of (requests_in fs) job (Modify changes) ≡ outcome (requests_in (map (with_change job changes.items) fs)) Done
+  modify-done kept = judged ∙ ap outcome-if kept ∙ ap (λ l. outcome l Done) (sym (change-requests fs job changes.items))

@@ -1,0 +1,96 @@
+-- Which wants fit, behind fewer earlier wants.
+use Rattle.std.proofs.Common.{◌≡◌, ◌∙◌, ap, subst, inl, inr, ◌&&◌, true, List, [], ◌∷◌, ◌++◌, filter, Option, Some, None, refl, arith}
+use Rattle.std.specs.List.{list_all}
+use Rattle.std.proofs.lemmas.Bool.{and_parts, and_from, eqb-true, eq-eqb, leb-true, le-leb}
+use Rattle.std.proofs.lemmas.List.Elements.{filter-append}
+use Rattle.std.proofs.lemmas.Slice.Eq.{bytes_eq-Decides}
+use Rattle.lock_queue.specs.declared.key.Scope.{Scope}
+use Rattle.lock_queue.specs.declared.key.Scope.TheVariants.{All, Job}
+use Rattle.lock_queue.specs.declared.name.Name.{Name}
+use Rattle.lock_queue.specs.declared.name.Name.TheVariants.{Text, Code}
+use Rattle.lock_queue.specs.declared.key.Key.{Key}
+use Rattle.lock_queue.specs.declared.request.Request.{Request}
+use Rattle.lock_queue.specs.declared.want.Want.{Want}
+use Rattle.lock_queue.specs.Keys.{same_scope, same_name, same_key}
+use Rattle.lock_queue.specs.Pools.{PoolShare}
+use Rattle.lock_queue.specs.Queue.{all_wants, wants_at, agree, amount_of, fits_beside, fits, granted_behind}
+use Rattle.lock_queue.proofs.Lists.{Has, Sub, Sub-Has, Sub-all, Sub-sum, Sub-filters, list_all-Has, list_all-each, flat_map-append}
+
+-- keys that the test takes for one are one
+same_scope-eq : (a b : Scope) → same_scope a b ≡ true → a ≡ b
+same_scope-eq All All h = refl
+same_scope-eq (Job a) (Job b) h = ap Job (eqb-true a b h)
+same_scope-eq All (Job b) h = cc
+same_scope-eq (Job a) All h = cc
+
+same_name-eq : (a b : Name) → same_name a b ≡ true → a ≡ b
+same_name-eq (Text a) (Text b) h = ap Text ((bytes_eq-Decides a b).0 h)
+same_name-eq (Code a) (Code b) h = ap Code (eqb-true a b h)
+same_name-eq (Text a) (Code b) h = cc
+same_name-eq (Code a) (Text b) h = cc
+
+pub same_key-eq : (a b : Key) → same_key a b ≡ true → a ≡ b
+same_key-eq a b h =
+    let parts = and_parts (same_scope a.scope b.scope) (same_name a.name b.name) h in
+    let s = same_scope-eq a.scope b.scope parts.0 in
+    let n = same_name-eq a.name b.name parts.1 in
+    λ i. record { scope = s i; name = n i }
+
+-- and one key passes the test
+same_scope-refl : (a : Scope) → same_scope a a ≡ true
+same_scope-refl All = refl
+same_scope-refl (Job a) = eq-eqb a a refl
+
+same_name-refl : (a : Name) → same_name a a ≡ true
+same_name-refl (Text a) = (bytes_eq-Decides a a).1 refl
+same_name-refl (Code a) = eq-eqb a a refl
+
+same_key-refl : (a : Key) → same_key a a ≡ true
+same_key-refl a = and_from _ _ (same_scope-refl a.scope) (same_name-refl a.name)
+
+pub same_key-swap : (a b : Key) → same_key a b ≡ true → same_key b a ≡ true
+same_key-swap a b h = subst (λ k. same_key k a ≡ true) (same_key-eq a b h) (same_key-refl a)
+
+-- the wants of a key, in two lists end to end
+pub wants_at-append : (a b : List Request) (k : Key) → wants_at (a ++ b) k ≡ wants_at a k ++ wants_at b k
+wants_at-append a b k =
+    ap (filter (λ w. same_key w.key k)) (flat_map-append (λ (r : Request). r.wants.items) a b)
+    ∙ filter-append (λ w. same_key w.key k) (all_wants a) (all_wants b)
+
+-- beside fewer wants a want still fits
+fits_beside-fewer : (xs ys : List Want) (w : Want) (o : Option PoolShare) → Sub xs ys → fits_beside ys w o ≡ true
+    → fits_beside xs w o ≡ true
+fits_beside-fewer xs ys w None s t = Sub-all (λ v. agree v w) s t
+fits_beside-fewer xs ys w (Some share) s t =
+    le-leb _ _ (omega (arith, Sub-sum amount_of s, leb-true _ _ t))
+
+-- behind fewer wants a want still fits
+fits-fewer : (a b : List Request) (w : Want) → Sub (all_wants a) (all_wants b) → fits b w ≡ true → fits a w ≡ true
+fits-fewer a b w s t = fits_beside-fewer (wants_at a w.key) (wants_at b w.key) w w.pool (Sub-filters (λ v. same_key v.key w.key) s) t
+
+-- a request with fewer wants behind fewer wants is still granted
+pub granted_behind-fewer : (a b : List Request) (q r : Request) → Sub (all_wants a) (all_wants b)
+    → Sub q.wants.items r.wants.items
+    → granted_behind b r ≡ true → granted_behind a q ≡ true
+granted_behind-fewer a b q r s f t =
+    list_all-each (fits a) q.wants.items
+    (λ w h. fits-fewer a b w s (list_all-Has (fits b) r.wants.items w t (Sub-Has w f h)))
+
+-- behind the same wants the same requests are granted
+fits-same : (d e : List Request) (w : Want) → wants_at d w.key ≡ wants_at e w.key → fits d w ≡ fits e w
+fits-same d e w same = ap (λ l. fits_beside l w w.pool) same
+
+all-fit-same : (d e : List Request) (ws : List Want) → ((w : Want) → Has ws w → wants_at d w.key ≡ wants_at e w.key)
+    → list_all (fits d) ws ≡ list_all (fits e) ws
+all-fit-same d e [] same = refl
+all-fit-same d e (w ∷ ws) same =
+    ap (λ b. b && list_all (fits d) ws) (fits-same d e w (same w (inl refl)))
+    ∙ ap (λ b. fits e w && b) (all-fit-same d e ws (λ v h. same v (inr h)))
+
+pub granted-same-at : (d e : List Request) (r : Request) → ((w : Want) → Has r.wants.items w → wants_at d w.key ≡ wants_at e w.key)
+    → granted_behind d r ≡ granted_behind e r
+granted-same-at d e r same = all-fit-same d e r.wants.items same
+
+pub granted-same : (d e : List Request) (r : Request) → ((k : Key) → wants_at d k ≡ wants_at e k)
+    → granted_behind d r ≡ granted_behind e r
+granted-same d e r same = granted-same-at d e r (λ w h. same w.key)

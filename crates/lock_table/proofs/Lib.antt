@@ -1,0 +1,6 @@
+pub mod Fitting
+pub mod SignatureLaws
+pub mod RightLaws
+pub mod RenewalLaws
+pub mod DepartureLaws
+pub mod CallLaws

@@ -1,0 +1,10 @@
+use Rattle.std.proofs.Common.{◌≡◌, drop}
+use Rattle.std.specs.List.{list_all}
+use Rattle.lock_queue.specs.Queue.{agree, wants_at}
+use Rattle.lock_table.specs.Filings.{requests_in}
+use Rattle.lock_table.proofs.fits.do_all_agree.Given as goal
+
+abbrev pub invariant-loop-f : goal.invariant-loop-f
+invariant-loop-f l =
+    list_all (λ v. agree v l.w) (wants_at (requests_in (drop l.f-index l.earlier)) l.w.key)
+    ≡ list_all (λ v. agree v l.w) (wants_at (requests_in l.earlier) l.w.key)

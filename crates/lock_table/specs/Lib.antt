@@ -1,0 +1,5 @@
+pub mod Signatures
+pub mod Filings
+pub mod Renewals
+pub mod Departures
+pub mod Findings

@@ -1,0 +1,193 @@
+//! The calls on the shelf.
+ghost use Rattle.std.specs.Prelude.{◌≡◌, ◌≤◌, ◌<◌, [], length, nat_le, IsTrue, None};
+ghost use Rattle.std.specs.List.{list_all};
+ghost use Rattle.word36.specs.declared.sizes.TheConstants.{JOBS, REQUESTS};
+ghost use Rattle.lock_queue.specs.declared.call.LockCall.TheVariants.{Modify, DequeueNamed};
+ghost use Rattle.lock_queue.specs.Calls.{outcome_of};
+ghost use Rattle.lock_queue.specs.Enqueues.{arrival, enqueue, enqueue_fault};
+ghost use Rattle.lock_queue.specs.Grants.{woken_by};
+ghost use Rattle.lock_queue.specs.Outcomes.{first_refusal};
+ghost use Rattle.lock_queue.specs.WellFormed.{are_well_formed, names_locks, shares_no_pool, shares_no_pools};
+ghost use Rattle.lock_table.specs.Filings.{requests_in, AreRight};
+ghost use Rattle.lock_table.specs.Departures.{call_of, leaving_of};
+
+use crate::changes::{is_some_lost, refusal_of_modify, write_changed};
+use crate::departures::{Leaving, depart, depart_named};
+use crate::dequeues::{does_some_leave, refusal_of_dequeue};
+use crate::enqueues::refusal_of_enqueue;
+use crate::fits::are_fitting;
+use crate::shelf::Shelf;
+use crate::signature::signature_of;
+use lock_queue::{EnqueueKind, LockCall, LockReply, Refusal, RequestId, Wants, Woken};
+use std::mem;
+
+/// Takes in a request that is not refused.
+#[tactic(auto, using(lock_queue::proofs::Granted::arrival_granted, lock_queue::proofs::Granted::arrival_waiting))]
+fn arrive(shelf: &mut Shelf, job: u8, kind: EnqueueKind, id: RequestId, wants: &Wants) -> LockReply
+    requires room { length shelf.old < REQUESTS }
+    requires job { (1 ≤ job) × (job ≤ JOBS) }
+    requires some { IsTrue (nat_le 1 (length wants.now.items)) }
+    requires unshared { IsTrue (list_all shares_no_pool wants.now.items) }
+    requires passed { first_refusal (enqueue_fault (requests_in shelf.old) job) [] wants.now.items ≡ None }
+    requires right { AreRight [] shelf.old }
+    ensures requests { requests_in shelf.new ≡
+        (arrival (requests_in shelf.old) job kind id wants.now).requests }
+    ensures reply { result ≡ (arrival (requests_in shelf.old) job kind id wants.now).reply }
+    ensures right { AreRight [] shelf.new }
+    ensures few { length (requests_in shelf.old) ≤ REQUESTS → length (requests_in shelf.new) ≤ REQUESTS }
+    ensures well { IsTrue (are_well_formed (requests_in shelf.old)) → IsTrue (are_well_formed (requests_in shelf.new)) }
+{
+    if are_fitting(shelf.as_slice(), wants.as_slice()) {
+        let told = matches!(kind, EnqueueKind::Interrupt);
+        shelf.push(job, id, kind, told, wants, true);
+        return LockReply::Granted;
+    }
+    match kind {
+        EnqueueKind::Blocking => {
+            shelf.push(job, id, kind, false, wants, false);
+            LockReply::Queued
+        }
+        EnqueueKind::AtOnce => LockReply::Refused(Refusal::NotGranted),
+        EnqueueKind::Interrupt => {
+            shelf.push(job, id, kind, false, wants, false);
+            LockReply::Refused(Refusal::NotGranted)
+        }
+    }
+}
+
+fn enqueue(
+    shelf: &mut Shelf,
+    job: u8,
+    kind: EnqueueKind,
+    id: RequestId,
+    wants: &Wants,
+    armed: bool,
+) -> LockReply
+    requires job { (1 ≤ job) × (job ≤ JOBS) }
+    requires some { IsTrue (nat_le 1 (length wants.now.items)) }
+    requires unshared { IsTrue (list_all shares_no_pool wants.now.items) }
+    requires right { AreRight [] shelf.old }
+    ensures requests { requests_in shelf.new ≡
+        (enqueue (requests_in shelf.old) job kind id wants.now armed).requests }
+    ensures reply { result ≡ (enqueue (requests_in shelf.old) job kind id wants.now armed).reply }
+    ensures right { AreRight [] shelf.new }
+    ensures few { length (requests_in shelf.old) ≤ REQUESTS → length (requests_in shelf.new) ≤ REQUESTS }
+    ensures well { IsTrue (are_well_formed (requests_in shelf.old)) → IsTrue (are_well_formed (requests_in shelf.new)) }
+{
+    match refusal_of_enqueue(shelf.as_slice(), job, kind, wants.as_slice(), armed) {
+        Some(refusal) => LockReply::Refused(refusal),
+        None => arrive(shelf, job, kind, id, wants),
+    }
+}
+
+fn modify(
+    present: &mut Shelf,
+    changed: &mut Shelf,
+    job: u8,
+    changes: &Wants,
+    woken: &mut Woken,
+) -> LockReply
+    requires { AreRight [] present.old }
+    ensures requests { requests_in present.new ≡
+        (outcome_of (requests_in present.old) job (Modify changes.now)).requests }
+    ensures reply { result ≡ (outcome_of (requests_in present.old) job (Modify changes.now)).reply }
+    ensures right { AreRight [] present.new }
+    ensures few { length (requests_in present.old) ≤ REQUESTS → length (requests_in present.new) ≤ REQUESTS }
+    ensures woken { woken.new.items ≡ woken_by (requests_in present.old) job (Modify changes.now) }
+{
+    woken.clear();
+    let wanted = changes.as_slice();
+    if let Some(refusal) = refusal_of_modify(present.as_slice(), job, wanted) {
+        return LockReply::Refused(refusal);
+    }
+    let bits = signature_of(wanted);
+    write_changed(changed, present.as_slice(), job, wanted);
+    if is_some_lost(changed.as_slice(), bits) {
+        return LockReply::Refused(Refusal::WouldLose);
+    }
+    mem::swap(present, changed);
+    present.renew(bits, woken);
+    LockReply::Done
+}
+
+fn dequeue_named(shelf: &mut Shelf, job: u8, named: &Wants, woken: &mut Woken) -> LockReply
+    requires { AreRight [] shelf.old }
+    ensures requests { requests_in shelf.new ≡
+        (outcome_of (requests_in shelf.old) job (DequeueNamed named.now)).requests }
+    ensures reply { result ≡ (outcome_of (requests_in shelf.old) job (DequeueNamed named.now)).reply }
+    ensures right { AreRight [] shelf.new }
+    ensures few { length (requests_in shelf.old) ≤ REQUESTS → length (requests_in shelf.new) ≤ REQUESTS }
+    ensures woken { woken.new.items ≡ woken_by (requests_in shelf.old) job (DequeueNamed named.now) }
+{
+    if let Some(refusal) = refusal_of_dequeue(shelf.as_slice(), job, named.as_slice()) {
+        woken.clear();
+        return LockReply::Refused(refusal);
+    }
+    depart_named(shelf, job, named.as_slice(), woken);
+    LockReply::Done
+}
+
+fn leaving_of(id: Option<RequestId>) -> Leaving
+    ensures { result ≡ leaving_of id }
+{
+    match id {
+        Some(id) => Leaving::OfId(id),
+        None => Leaving::All,
+    }
+}
+
+/// Takes out all requests of a job, or all of an id, where there are any.
+fn dequeue(shelf: &mut Shelf, job: u8, id: Option<RequestId>, woken: &mut Woken) -> LockReply
+    requires { AreRight [] shelf.old }
+    ensures requests { requests_in shelf.new ≡
+        (outcome_of (requests_in shelf.old) job (call_of id)).requests }
+    ensures reply { result ≡ (outcome_of (requests_in shelf.old) job (call_of id)).reply }
+    ensures right { AreRight [] shelf.new }
+    ensures few { length (requests_in shelf.old) ≤ REQUESTS → length (requests_in shelf.new) ≤ REQUESTS }
+    ensures woken { woken.new.items ≡ woken_by (requests_in shelf.old) job (call_of id) }
+{
+    let leaving = leaving_of(id);
+    if !does_some_leave(shelf.as_slice(), job, &leaving) {
+        woken.clear();
+        return LockReply::Refused(Refusal::NotPresent);
+    }
+    depart(shelf, job, &leaving, woken);
+    LockReply::Done
+}
+
+/// Makes a job's call, and fills in the grants that it makes.
+pub fn make_call(
+    present: &mut Shelf,
+    changed: &mut Shelf,
+    job: u8,
+    call: &LockCall,
+    woken: &mut Woken,
+) -> LockReply
+    requires job { (1 ≤ job) × (job ≤ JOBS) }
+    requires named { IsTrue (names_locks call.now) }
+    requires unshared { IsTrue (shares_no_pools call.now) }
+    requires right { AreRight [] present.old }
+    ensures requests { requests_in present.new ≡
+        (outcome_of (requests_in present.old) job call.now).requests }
+    ensures reply { result ≡ (outcome_of (requests_in present.old) job call.now).reply }
+    ensures right { AreRight [] present.new }
+    ensures woken { woken.new.items ≡ woken_by (requests_in present.old) job call.now }
+    ensures few { length (requests_in present.old) ≤ REQUESTS → length (requests_in present.new) ≤ REQUESTS }
+    ensures well { IsTrue (are_well_formed (requests_in present.old)) → IsTrue (are_well_formed (requests_in present.new)) }
+{
+    match call {
+        LockCall::Enqueue {
+            kind,
+            id,
+            wants,
+            armed,
+        } => {
+            woken.clear();
+            enqueue(present, job, *kind, *id, wants, *armed)
+        }
+        LockCall::Modify(changes) => modify(present, changed, job, changes, woken),
+        LockCall::DequeueNamed(named) => dequeue_named(present, job, named, woken),
+        LockCall::DequeueAll => dequeue(present, job, None, woken),
+        LockCall::DequeueId(id) => dequeue(present, job, Some(*id), woken),
+    }
+}

@@ -1,0 +1,103 @@
+//! The indexed table.
+ghost use Rattle.std.specs.Prelude.{◌≡◌, ◌≤◌, [], length, IsTrue};
+ghost use Rattle.word36.specs.declared.sizes.TheConstants.{REQUESTS};
+ghost use Rattle.lock_queue.specs.WellFormed.{are_well_formed};
+ghost use Rattle.lock_table.specs.Filings.{requests_in, are_right};
+
+use crate::calls::make_call;
+use crate::departures::{Leaving, depart};
+use crate::jobs::{does_some_block, does_wait_for, pending_in};
+use crate::shelf::Shelf;
+use crate::standing::status_in;
+use lock_queue::{Key, LockCall, LockReply, LockTable, Request, RequestId, Status, Woken};
+use std::alloc::{AllocError, Global};
+
+/// A table that keeps beside each request whether it is granted, and the groups of its keys, so that
+/// a call looks at few requests.
+#[derive(Drop)]
+pub struct IndexedTable {
+    present: Shelf,
+    changed: Shelf,
+    unheard: Woken,
+    ghost right: { IsTrue (are_right [] present) },
+    ghost few: { length (requests_in present) ≤ REQUESTS },
+    ghost well: { IsTrue (are_well_formed (requests_in present)) },
+}
+
+impl LockTable for IndexedTable {
+    ghost requests = { λ t. requests_in t.present };
+
+    ghost few = { λ t. t.few };
+
+    ghost well = { λ t. t.well };
+
+    fn new(alloc: Global) -> Result<Self, AllocError> {
+        Ok(IndexedTable {
+            present: Shelf::new(alloc)?,
+            changed: Shelf::new(alloc)?,
+            unheard: Woken::new(),
+        })
+    }
+
+    fn call(&mut self, job: u8, call: &LockCall) -> LockReply {
+        make_call(
+            &mut self.present,
+            &mut self.changed,
+            job,
+            call,
+            &mut self.unheard,
+        )
+    }
+
+    fn call_waking(&mut self, job: u8, call: &LockCall, woken: &mut Woken) -> LockReply {
+        make_call(&mut self.present, &mut self.changed, job, call, woken)
+    }
+
+    fn release(&mut self, job: u8) {
+        depart(&mut self.present, job, &Leaving::All, &mut self.unheard);
+    }
+
+    fn release_waking(&mut self, job: u8, woken: &mut Woken) {
+        depart(&mut self.present, job, &Leaving::All, woken);
+    }
+
+    fn withdraw(&mut self, job: u8) {
+        depart(&mut self.present, job, &Leaving::Blocked, &mut self.unheard);
+    }
+
+    fn waiting(&self, job: u8) -> bool {
+        does_some_block(self.present.as_slice(), job)
+    }
+
+    fn pending(&self, job: u8) -> Option<RequestId> {
+        pending_in(self.present.as_slice(), job)
+    }
+
+    fn told(&mut self, job: u8) {
+        self.present.tell(job);
+    }
+
+    fn status(&self, key: &Key, job: u8) -> Status {
+        status_in(self.present.as_slice(), key, job)
+    }
+
+    fn len(&self) -> usize {
+        self.present.as_slice().len()
+    }
+
+    fn request(&self, i: usize) -> &Request {
+        self.present.as_slice()[i].request()
+    }
+
+    fn granted(&self, i: usize) -> bool {
+        self.present.as_slice()[i].is_granted()
+    }
+
+    fn waits_for(&self, job: u8, other: u8) -> bool {
+        does_wait_for(self.present.as_slice(), job, other)
+    }
+
+    fn clear(&mut self) {
+        self.present.clear();
+    }
+}

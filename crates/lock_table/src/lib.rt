@@ -1,0 +1,18 @@
+//! A lock table for many requests: each request has a signature of its keys and its grant beside it.
+#![tactic(auto)]
+
+mod calls;
+mod changes;
+mod departures;
+mod dequeues;
+mod enqueues;
+mod filed;
+mod fits;
+mod indexed;
+mod jobs;
+mod renewal;
+mod shelf;
+mod signature;
+mod standing;
+
+pub use indexed::IndexedTable;
