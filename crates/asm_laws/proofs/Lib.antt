@@ -15,6 +15,7 @@ pub mod Wholes
 pub mod Given
 pub mod Order
 pub mod Told
+pub mod Symbols
 pub mod FaultLines
 pub mod Phases
 pub mod Clear

@@ -119,7 +119,7 @@ if-ok : (b : Bool) (r : Result Assembled Fault) (fault : Fault) (image : Assembl
 if-ok true r fault image h = (refl, h)
 if-ok false r fault image h = absurd (cc)
 
-read-ok : (r : Result (List Line) ℕ) (image : Assembled) → outcome_read r ≡ Ok image
+pub read-ok : (r : Result (List Line) ℕ) (image : Assembled) → outcome_read r ≡ Ok image
     → (lines : List Line) × (r ≡ Ok lines) × (has_end lines ≡ true) × (outcome_from lines (laid_out empty_layout 1 lines) ≡ Ok image)
 unfolding outcome_read
 read-ok (Ok lines) image h =
@@ -143,12 +143,12 @@ all-append : (xs ys : List ℕ) → are_below (xs ++ ys) ≡ (are_below xs && ar
 all-append xs ys = list_all-append (λ n. nat_lt n 262144) xs ys
 
 -- what is so of lines that are laid out
-record LaidOut (lines : List Line) (s : Layout) : Type 0 where
-  fits : Fits [] first_place [] lines
-  layout : s ≡ layout_of lines
-  full : taking_all (layout_of lines).taken (layout_of lines).place (layout_of lines).sizes ≡ None
+pub record LaidOut (lines : List Line) (s : Layout) : Type 0 where
+  pub fits : Fits [] first_place [] lines
+  pub layout : s ≡ layout_of lines
+  pub full : taking_all (layout_of lines).taken (layout_of lines).place (layout_of lines).sizes ≡ None
 
-laid-layout : (lines : List Line) (s : Layout) → has_end lines ≡ true → laid_out empty_layout 1 lines ≡ Ok s → LaidOut lines s
+pub laid-layout : (lines : List Line) (s : Layout) → has_end lines ≡ true → laid_out empty_layout 1 lines ≡ Ok s → LaidOut lines s
 unfolding are_apart
 laid-layout lines s h l =
     let r = laid-right lines empty_layout 1 s l in

@@ -6,6 +6,7 @@ ghost use Rattle.mac_asm.specs.Assembly.{Assembled, IsAssembly};
 ghost use Rattle.asm_laws.specs.Example.{example_image, example_source};
 ghost use Rattle.mac_asm.specs.Found.{image_of};
 ghost use Rattle.mac_asm.specs.Outcome.{Fault, has_end, outcome_of};
+ghost use Rattle.mac_asm.specs.Symbols.{symbols_of};
 ghost use Rattle.asm_laws.specs.Faults.{TellsCode, TellsFault, TellsFirst, TellsReading};
 ghost use Rattle.asm_laws.specs.Laws.{EarlierLabelsSettle, IsByPlace, IsReadBack, StatementsFillTheirPlaces, TakesItsPlaces};
 
@@ -24,6 +25,12 @@ pub fn assemblies_are_found()
 /// it: so what is asked of each line in turn is what is asked of all lines at once.
 pub fn images_are_told()
     ensures { (source : List ℕ) (image : Assembled) → IsAssembly source image ↔ (outcome_of source ≡ Ok image) }
+{}
+
+/// The symbols of a source that has an image are the labels of the one map that satisfies all lines, in order of
+/// definition.
+pub fn symbols_are_labels()
+    ensures { (source : List ℕ) (image : Assembled) (assembly : IsAssembly source image) → symbols_of source ≡ assembly.labels }
 {}
 
 /// A fault is told only of a source without an image, and names a line of it.

@@ -1,8 +1,7 @@
 -- Pointers to bytes of 7 bits.
-use Rattle.std.proofs.Common.{◌≡◌, ℕ, ◌+◌, ◌-◌, ◌*◌, ◌/◌, ◌%◌, ◌^◌, ◌≤◌, nat_le, arith, sym, ap, ◌∙◌}
-use Rattle.std.specs.Prelude.{if◌then◌else◌, bit_and, List, Some}
+use Rattle.std.proofs.Common.{◌≡◌, ◌<◌, ℕ, ◌+◌, ◌-◌, ◌*◌, ◌/◌, ◌%◌, ◌^◌, ◌≤◌, nat_le, arith, ap, ◌∙◌}
+use Rattle.std.specs.Prelude.{if◌then◌else◌, List, Some}
 use Rattle.std.specs.Option.{option_map}
-use Rattle.std.proofs.lemmas.Nat.{and_mask}
 use Rattle.word36.specs.Words.{right_half}
 use Rattle.ka_cpu.specs.Places.{word_at}
 use Rattle.call_block.specs.Names.{character_at}
@@ -31,13 +30,11 @@ size_of_next p h =
     let next = size_of_next_word p h in
     grind (arith, nat_tests)
 
--- what the code's shift and mask read at a pointer
-pub character_read : (ac core : List ℕ) (p n m w place : ℕ) → size_of p ≡ 7 → n ≡ p → m ≡ w → place ≡ right_half p → Some w ≡ word_at ac core place
-    → Some (bit_and (m / 2 ^ (n / 2 ^ 30)) 127) ≡ character_at ac core p
-character_read ac core p n m w place size same word here at =
-    ap Some (and_mask (m / 2 ^ (n / 2 ^ 30)) 7)
-    ∙ ap (λ (x : ℕ). Some (x / 2 ^ (n / 2 ^ 30) % 2 ^ 7)) word
-    ∙ ap (λ (x : ℕ). Some (w / 2 ^ (x / 2 ^ 30) % 2 ^ 7)) same
-    ∙ ap Some (sym (byte_of_seven p w size))
-    ∙ ap (option_map (byte_of p)) at
-    ∙ ap (λ (x : ℕ). option_map (byte_of p) (word_at ac core x)) here
+-- a character is below 128
+pub byte_below : (p w : ℕ) → size_of p ≡ 7 → byte_of p w < 128
+byte_below p w h = rw (byte_of_seven p w h) (omega arith)
+
+-- what is loaded at a pointer
+pub character_read : (ac core : List ℕ) (p n w place : ℕ) → n ≡ byte_of p w → place ≡ right_half p → Some w ≡ word_at ac core place → Some n ≡ character_at ac core p
+character_read ac core p n w place load here at =
+    ap Some load ∙ (ap (option_map (byte_of p)) at ∙ ap (λ (x : ℕ). option_map (byte_of p) (word_at ac core x)) here)

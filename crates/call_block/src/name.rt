@@ -6,8 +6,9 @@ ghost use Rattle.call_block.specs.Names.{character_at, characters, AreLegalChara
 use crate::bits::bits;
 use arrayvec::ArrayString;
 use ka_cpu::{JobMemory, Regs, fetch};
+use ka_word::load_byte;
 use lock_queue::{Name, NameText, Refusal, UserCode};
-use word36::{Address, NAME_LENGTH, Word};
+use word36::{NAME_LENGTH, Word};
 
 /// One character more than a name may have, so that a longer name shows.
 const READ_AT_MOST: usize = NAME_LENGTH + 1;
@@ -16,29 +17,24 @@ const READ_AT_MOST: usize = NAME_LENGTH + 1;
 const CHARACTER_BITS: u64 = 7;
 
 /// The pointer to the next character, as ILDB increments it.
-#[tactic(auto, using(crate::proofs::PointerLemmas::incremented_seven, crate::proofs::PointerLemmas::size_of_next))]
+#[tactic(auto, using(crate::proofs::PointerLemmas::size_of_next))]
 fn increment(pointer: Word) -> Word
     requires { size_of pointer ≡ 7 }
     ensures value { result ≡ incremented pointer }
     ensures size { size_of result ≡ 7 }
 {
-    if pointer.number() >> 30 >= CHARACTER_BITS {
-        Word::new(pointer.number() - (CHARACTER_BITS << 30))
-    } else {
-        let first = 36 - CHARACTER_BITS as u32;
-        let place = Address::new(pointer.right()).plus(1);
-        Word::join(first * 0o10_000 + pointer.left() % 0o10_000, place.number())
-    }
+    ka_word::increment(pointer)
 }
 
 /// The character that a pointer points to, if its word is legal.
+#[tactic(auto, using(crate::proofs::PointerLemmas::byte_below))]
 fn character_at<M: JobMemory>(regs: &Regs, memory: &M, pointer: Word) -> Option<u8>
     requires { size_of pointer ≡ 7 }
     ensures value { result ≡ character_at regs.now.ac (M.words memory.now) pointer }
     ensures ascii { IfSome result (λ c. c < 128) }
 {
     let word = fetch(regs, memory, pointer.right())?;
-    Some((word.number() >> (pointer.number() >> 30) & 0o177) as u8)
+    Some(load_byte(pointer, word).number() as u8)
 }
 
 /// What the increments of a pointer point to, up to the first zero or to one character more than a

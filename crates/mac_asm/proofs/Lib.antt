@@ -7,3 +7,4 @@ pub mod LineLemmas
 pub mod FillLemmas
 pub mod ImageLemmas
 pub mod OutcomeLemmas
+pub mod SymbolLemmas

@@ -7,3 +7,4 @@ pub mod Found
 pub mod Outcome
 pub mod Layouts
 pub mod Filled
+pub mod Symbols

@@ -10,6 +10,7 @@ ghost use Rattle.mac_asm.specs.Places.{count_of};
 ghost use Rattle.mac_asm.specs.Assembly.{words_from, literal_words, statement_words};
 ghost use Rattle.mac_asm.specs.Outcome.{is_statement_known, is_line_known, lines_with, outcome_placed, has_end, outcome_of};
 ghost use Rattle.mac_asm.specs.Filled.{Puts, PutsLine, PutsLines, Assembles, start_named, empty_cells, refusal_of};
+ghost use Rattle.mac_asm.specs.Symbols.{image_in, symbols_of};
 
 use crate::cells::{put, put_zeros, words_in_cells};
 use crate::error::{AsmCode, AsmError};
@@ -284,14 +285,24 @@ impl From<ParseError> for AsmError {
     }
 }
 
-/// The image of a source, or the line at fault and what is wrong with it (MACRO-10 Assembler Manual, this project's
-/// profile).
+/// The image of a source with its symbols.
+#[derive(Drop)]
+pub struct Listing {
+    pub image: Image,
+    /// The labels in order of definition, each by its six characters in SIXBIT (`Symbol::sixbit`), with their numbers,
+    /// which are below 1000000 octal.
+    pub symbols: Labels,
+}
+
+/// The image and the symbols of a source, or the line at fault and what is wrong with it (MACRO-10 Assembler Manual, this
+/// project's profile).
 ///
 /// The first line out of the grammar is told first; then that END is missing, at the number of lines; then the first line
 /// whose labels, places, LOC, BLOCK or RADIX are wrong, with the least code of that line; then the first line with
 /// another name that is unknown (2) or else a value that does not fit (4).
-pub fn assemble(alloc: Global, source: &[u8]) -> Result<Image, AsmError>
-    ensures { Assembles result (outcome_of source.now) }
+pub fn assemble_with_symbols(alloc: Global, source: &[u8]) -> Result<Listing, AsmError>
+    ensures image { Assembles (image_in result) (outcome_of source.now) }
+    ensures symbols { IfOk result (λ listing. listing.symbols.entries ≡ symbols_of source.now) }
 {
     let program = parse(alloc, source)?;
     let lines = program.as_slice();
@@ -302,11 +313,23 @@ pub fn assemble(alloc: Global, source: &[u8]) -> Result<Image, AsmError>
         });
     }
     let layout = lay_out(alloc, lines)?;
-    fill(
+    let image = fill(
         alloc,
         lines,
         &layout.labels,
         layout.places.as_slice(),
         layout.literals.as_slice(),
-    )
+    )?;
+    Ok(Listing {
+        image,
+        symbols: layout.labels,
+    })
+}
+
+/// The image alone, likewise.
+pub fn assemble(alloc: Global, source: &[u8]) -> Result<Image, AsmError>
+    ensures { Assembles result (outcome_of source.now) }
+{
+    let listing = assemble_with_symbols(alloc, source)?;
+    Ok(listing.image)
 }

@@ -10,5 +10,5 @@ mod sums;
 mod texts;
 mod words;
 
-pub use assembly::assemble;
+pub use assembly::{Listing, assemble, assemble_with_symbols};
 pub use error::{AsmCode, AsmError};

@@ -1,3 +1,4 @@
+pub mod CharacterLemmas
 pub mod ItemLemmas
 pub mod AsciiLemmas
 pub mod WordLemmas

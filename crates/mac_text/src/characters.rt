@@ -18,16 +18,23 @@ pub fn is_digit(c: u8) -> bool
     c >= b'0' && c <= b'9'
 }
 
+/// What each ASCII character is: `n` for those of names and numbers.
+const KINDS: &[u8; 128] = b"\
+--------------------------------\
+----nn--------n-nnnnnnnnnn------\
+-nnnnnnnnnnnnnnnnnnnnnnnnnn-----\
+-nnnnnnnnnnnnnnnnnnnnnnnnnn-----";
+
 /// Names and numbers are made of letters, digits, `.`, `$` and `%`.
+#[tactic(auto, using(crate::proofs::CharacterLemmas::kind_is, crate::proofs::CharacterLemmas::none_above))]
 pub fn is_name_character(c: u8) -> bool
     ensures { result ≡ is_name_character c }
 {
-    c >= b'A' && c <= b'Z'
-        || c >= b'a' && c <= b'z'
-        || c >= b'0' && c <= b'9'
-        || c == b'.'
-        || c == b'$'
-        || c == b'%'
+    if c < 128 {
+        KINDS[usize::from(c)] == b'n'
+    } else {
+        false
+    }
 }
 
 /// The letter in upper case; another character is itself.

@@ -1,29 +1,11 @@
-use Rattle.std.proofs.Common.{Err, Ok, ap, sym, ◌∙◌}
+use Rattle.std.proofs.Common.{Err, ap, sym, ◌∙◌}
 use Rattle.std.proofs.Math.Path.{subst}
 use Rattle.std.proofs.lemmas.Result.{err_from_is_err_and}
-use Rattle.mac_asm.specs.Outcome.{lines_with, outcome_placed, outcome_of}
+use Rattle.mac_asm.specs.Outcome.{outcome_of}
 use Rattle.mac_asm.specs.Filled.{Assembles}
-use Rattle.mac_asm.proofs.OutcomeLemmas.{not_laid_out, told, not_read, without_end}
 use Rattle.mac_asm.proofs.assembly.assemble.Goals as goal
 
-pub returns-in_err-program : goal.returns-in_err-program
-returns-in_err-program c =
+pub returns-in_err-listing : goal.returns-in_err-listing
+returns-in_err-listing c =
     let error = err_from_is_err_and c.from_residual.result c.from_residual.ensures.1 in
-    subst (λ r. Assembles r (outcome_of c.args.source.now)) (sym (error.1 ∙ ap Err error.2)) (not_read c.in_err-program.field-0.0 c.args.source.now c.in_err-program.ensures)
-
-pub returns-then-not-has_end : goal.returns-then-not-has_end
-returns-then-not-has_end c = without_end c.args.source.now c.as_slice-lines.result.now (c.in_ok-program.ensures ∙ ap Ok (sym c.as_slice-lines.ensures)) (sym c.has_end.ensures ∙ c.if-not-has_end.true)
-
-pub returns-in_err-layout : goal.returns-in_err-layout
-returns-in_err-layout c =
-    let error = err_from_is_err_and c.from_residual-in_err-layout.result c.from_residual-in_err-layout.ensures.1 in
-    subst (λ r. Assembles r (outcome_of c.args.source.now)) (sym (error.1 ∙ ap Err error.2))
-    (not_laid_out c.in_err-layout.field-0.0 c.args.source.now c.as_slice-lines.result.now (c.in_ok-program.ensures ∙ ap Ok (sym c.as_slice-lines.ensures)) (sym c.has_end.ensures ∙ c.if-not-has_end.false) c.in_err-layout.ensures)
-
-pub returns : goal.returns
-returns c =
-    let layout = c.in_ok-layout.layout in
-    let lines = c.as_slice-lines.result.now in
-    told c.fill.result c.args.source.now lines layout (c.in_ok-program.ensures ∙ ap Ok (sym c.as_slice-lines.ensures)) (sym c.has_end.ensures ∙ c.if-not-has_end.false) c.in_ok-layout.ensures
-    (subst (λ literals. Assembles c.fill.result (outcome_placed (lines_with layout.labels.entries layout.places.items literals lines))) c.as_slice-2.ensures.value
-    (subst (λ places. Assembles c.fill.result (outcome_placed (lines_with layout.labels.entries places c.as_slice-2.result.now lines))) c.as_slice.ensures.value c.fill.ensures))
+    subst (λ r. Assembles r (outcome_of c.args.source.now)) (sym (error.1 ∙ ap Err error.2)) c.in_err-listing.ensures.image
