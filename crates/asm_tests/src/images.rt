@@ -1,7 +1,9 @@
 //! What sources come to.
 
-use mac_asm::{AsmError, assemble};
+use mac_asm::{AsmError, assemble, assemble_with_symbols};
+use mac_text::Symbol;
 use std::alloc::Global;
+use std::test::Fail;
 use word36::Word;
 
 /// Whether the source gives these words, each place with its halves, and starts there.
@@ -471,4 +473,28 @@ fn marked_numbers(rt: HostRuntime) {
     }
     assert_eq!(rt; refusal(rt.alloc(), b" RADIX ^O13\n END"), Some((1, 4)));
     assert_eq!(rt; refusal(rt.alloc(), b" POINT ^O45,0\n END"), Some((1, 4)));
+}
+
+/// The symbols of a source in order of definition.
+const SYMBOLS: [(&[u8], u64); 4] = [
+    (b"LATER", 0o140),
+    (b"FIRST", 0o200),
+    (b"second", 0o200),
+    (b"DONE", 0o202),
+];
+
+#[test]
+fn symbols_in_order(rt: HostRuntime) -> Result<(), Fail> {
+    let source = b"LATER: LOC 200\nFIRST: SECOND: BLOCK 2\nDONE: END [5]\n";
+    let listing = assemble_with_symbols(rt.alloc(), source)
+        .ok()
+        .ok_or("it is right")?;
+    assert_eq!(rt; listing.image.words.len(), 3);
+    assert_eq!(rt; listing.symbols.len(), SYMBOLS.len());
+    for (i, (name, place)) in SYMBOLS.iter().enumerate() {
+        let (sixbit, value) = listing.symbols.get_index(i).ok_or("one more")?;
+        assert_eq!(rt; *sixbit, Symbol::of(name).sixbit());
+        assert_eq!(rt; value.to_u64(), Some(*place));
+    }
+    Ok(())
 }

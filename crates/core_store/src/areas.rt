@@ -46,7 +46,7 @@ pub(crate) fn is_hole(areas: &[Area], all: u32, hole: Area) -> bool
     hole.end() <= u64::from(all) && is_clear(areas, hole)
 }
 
-/// The first of so many blocks that no job has: those at block 0 or behind a job, if they are free.
+/// A block, 0 or the one behind a job, from which on so many blocks are free.
 pub(crate) fn hole_of(areas: &[Area], all: u32, blocks: u32) -> Option<u32>
     ensures { IfSome result (λ base. IsTrue (is_hole areas.now all (record { base = base; blocks = blocks }))) }
 {

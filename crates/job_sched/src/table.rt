@@ -48,6 +48,18 @@ impl Model for JobTable {
     ghost invariant = { λ t. IsTable t.jobs t.sleepers t.vacant_from };
 }
 
+/// The number after one, in a circle.
+#[inline(always)]
+fn number_after(number: u8) -> u8
+    ensures { result ≡ after number }
+{
+    if number < JOBS {
+        number + 1
+    } else {
+        number % JOBS + 1
+    }
+}
+
 /// Whether the wait of a job holds.
 #[inline(always)]
 fn does_hold<L: LockTable>(number: u8, job: &Job, lines: &Lines, locks: &L) -> bool
@@ -243,7 +255,7 @@ impl JobTable {
         if goes_on {
             return Some(self.current);
         }
-        self.first_ready(self.current % JOBS + 1, lines, locks)
+        self.first_ready(number_after(self.current), lines, locks)
     }
 
     /// A job is to run: it keeps what is left of its quantum where it is current, and gets a whole

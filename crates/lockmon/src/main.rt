@@ -1,32 +1,30 @@
-//! The program: a script from standard input, its transcript to standard output.
+//! The program: a script from standard input, its transcript to standard output, and what is wrong with
+//! a line that is refused to standard error.
 #![tactic(auto)]
 
-mod asked;
-mod serving;
-mod statuses;
-mod words;
-
+use command_line::{KeptIn, KeptOut, language_of, program_told, unread_words};
 use queue_script::{HostIn, HostOut};
-use serving::{program, unread_words};
 use std::env;
 use std::process::ExitCode;
 
 fn main(rt: HostRuntime) -> ExitCode {
     let alloc = rt.alloc();
-    let mut reader = HostIn::new(rt.stdin());
-    let mut writer = HostOut::new(rt.stdout());
     let mut errors = HostOut::new(rt.stderr());
-    let status = match env::args(&rt).and_then(|args| Ok(args.collect::<Vec<String>>(alloc)?)) {
-        Ok(words) => {
-            program(
-                alloc,
-                words.as_slice(),
-                &mut reader,
-                &mut writer,
-                &mut errors,
-            )
-        }
-        Err(error) => unread_words(error.kind(), &mut errors),
+    let words = match env::args(&rt).and_then(|args| Ok(args.collect::<Vec<String>>(alloc)?)) {
+        Ok(words) => words,
+        Err(error) => return ExitCode::from(unread_words(error.kind(), &mut errors)),
     };
+    let language = language_of(words.as_slice());
+    let mut reader = KeptIn::new(alloc, language, HostIn::new(rt.stdin()));
+    let mut writer = KeptOut::new(HostOut::new(rt.stdout()));
+    let mut telling = HostOut::new(rt.stderr());
+    let status = program_told(
+        alloc,
+        words.as_slice(),
+        &mut reader,
+        &mut writer,
+        &mut errors,
+        &mut telling,
+    );
     ExitCode::from(status)
 }

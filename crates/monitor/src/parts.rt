@@ -97,7 +97,7 @@ impl<L: LockTable, C: CoreStore> Parts<L, C> {
     }
 
     /// The job that is next takes its turn, if there is one: its number.
-    #[inline(always)]
+    #[inline(never)]
     pub fn step(&mut self) -> Option<u8>
         requires { Safe self.old }
         ensures state { self.new ≡ (stepped self.old (next_job self.old.world.table self.old.world.lines self.old.world.requests)).state }
@@ -309,7 +309,7 @@ impl<L: LockTable, C: CoreStore> Parts<L, C> {
         self.admit(n, at, image, top)
     }
 
-    /// One event. All but steps and ticks are not inlined, so that these two are short.
+    /// One event. All but ticks are not inlined, so that a tick is short.
     #[inline(always)]
     pub fn event(&mut self, event: &Event) -> Answer
         requires { Safe self.old }

@@ -13,7 +13,8 @@ use crate::commands::{Command, read_command};
 use crate::endings::{Ending, ServeError, push_fault, serve_script};
 use crate::printing::{push_code, push_grants, push_reply, push_request, push_status};
 use crate::wait_pairs::push_waits;
-use lock_queue::{LockCall, LockTable, PlainTable, Refusal, Want, Wants, Woken};
+use lock_queue::{LockCall, LockTable, Refusal, Want, Wants, Woken};
+use lock_table::IndexedTable;
 use script_io::{ByteIn, ByteOut, LineService, LineSession};
 use std::alloc::{AllocError, Global};
 
@@ -210,7 +211,7 @@ pub fn serve_queue<R: ByteIn, W: ByteOut>(
     ensures serves { Serves transcript (R.to_come reader.old) (R.to_come reader.new) (W.written writer.old) (W.written writer.new) (served_as result) }
     ensures blames { IfErr (served_as result) (λ e. Blames e (R.has_failed reader.new) (W.has_failed writer.new)) }
 {
-    let table = match PlainTable::new(alloc) {
+    let table = match IndexedTable::new(alloc) {
         Ok(table) => table,
         Err(_) => return Err(ServeError::Memory),
     };

@@ -1,9 +1,7 @@
 //! Ports that fail, ports that pass few bytes at once, and answers that come before the next read.
 
-use crate::scripts::MANY;
-use op_script::{Config, ServeError, TestIn, TestOut, serve};
-use std::alloc::Global;
-use std::process::Abort;
+use crate::scripts::{MANY, expect_served};
+use op_script::ServeError;
 
 const SCRIPT: &[u8] =
     b"ASSEMBLE A\nA: AOJA 1,A\n END A\nENDASM\nLOGIN 0 A\nSTART 1\nRUN 5\nSHOW JOBS\n";
@@ -11,31 +9,13 @@ const SCRIPT: &[u8] =
 const TEXT: &[u8] =
     b"IMAGE A 1\nJOB 1\nDONE\nRAN 5 IDLE 0\nJOB 1 LINE 0 BLOCKS 1 PC 000140 RUN\nEND\n";
 
-/// Serves the script over ports that pass so many bytes at once and fail after so many calls, and
-/// looks for the answer and for what is written.
-fn expect_served(
-    rt: &impl Abort,
-    alloc: Global,
-    reads: (usize, u64),
-    writes: (usize, u64),
-    answer: Result<(), ServeError>,
-    text: &[u8],
-) {
-    let mut room = [0u8; 256];
-    let mut reader = TestIn::new(SCRIPT, 1.max(reads.0), reads.1);
-    let mut writer = TestOut::new(&mut room, 1.max(writes.0), writes.1);
-    let config = Config::new(64, 1).expect(rt, "a machine of no such size");
-    let given = serve(alloc, config, &mut reader, &mut writer);
-    assert_eq!(rt; writer.as_slice(), text);
-    assert_eq!(rt; given, answer);
-}
-
 #[test]
 fn few_bytes_at_once(rt: HostRuntime) {
     for most in 1..9 {
         expect_served(
             &rt,
             rt.alloc(),
+            SCRIPT,
             (most, MANY),
             (9 - most, MANY),
             Ok(()),
@@ -49,8 +29,16 @@ fn answers_come_before_the_next_read(rt: HostRuntime) {
     // The fault stands in the read that fails: what the lines before it wrote is there.
     let read = Err(ServeError::Read);
     // The first four lines have 37 characters, and the next 10.
-    expect_served(&rt, rt.alloc(), (37, 0), (100, MANY), read, b"");
-    expect_served(&rt, rt.alloc(), (37, 1), (100, MANY), read, b"IMAGE A 1\n");
+    expect_served(&rt, rt.alloc(), SCRIPT, (37, 0), (100, MANY), read, b"");
+    expect_served(
+        &rt,
+        rt.alloc(),
+        SCRIPT,
+        (37, 1),
+        (100, MANY),
+        read,
+        b"IMAGE A 1\n",
+    );
 }
 
 #[test]
@@ -60,6 +48,7 @@ fn each_write_fails(rt: HostRuntime) {
         expect_served(
             &rt,
             rt.alloc(),
+            SCRIPT,
             (1000, MANY),
             (8, calls),
             Err(ServeError::Write),

@@ -1,7 +1,6 @@
 //! Worked runs of whole programs.
 
-use crate::scripts::{MANY, expect, expect_fault, expect_on};
-use op_script::{Config, TestIn, TestOut, serve};
+use crate::scripts::{expect, expect_fault, expect_on};
 use std::test::Fail;
 
 /// Two jobs of this count to 100 each in the shared word 0, under a lock.
@@ -98,22 +97,4 @@ fn core_of_a_killed_job(rt: HostRuntime) {
         000044/ 000000,,003777 XWD 0,3777\n?REFUSED 4\n"
         .as_slice();
     expect_on(&rt, rt.alloc(), (4, 1), script, Ok(()), text);
-}
-
-#[test]
-fn a_script_cut_after_each_byte(rt: HostRuntime) {
-    // What is left writes what it writes; only the answer may tell that a line is cut.
-    let script = b"ASSEMBLE A\n EXIT\n END\nENDASM\nLOGIN 0 A\nSTART 1\nSTEP 2\nQUIT\n".as_slice();
-    let whole = b"IMAGE A 1\nJOB 1\nDONE\nRAN 1 IDLE 1\n".as_slice();
-    for length in 0..script.len() {
-        let mut room = [0u8; 256];
-        let mut reader = TestIn::new(&script[..length], 7, MANY);
-        let mut writer = TestOut::new(&mut room, 5, MANY);
-        let config = Config::new(64, 1).expect(&rt, "a machine of no such size");
-        let answer = serve(rt.alloc(), config, &mut reader, &mut writer);
-        let written = writer.as_slice();
-        if answer == Ok(()) {
-            assert!(rt; whole.starts_with(written));
-        }
-    }
 }

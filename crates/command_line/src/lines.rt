@@ -1,0 +1,214 @@
+//! The lines of an input that may still be at fault.
+
+use std::alloc::Global;
+
+/// So many bytes are kept before finished lines are dropped.
+const KEPT: usize = 65536;
+
+/// What a script or a source is written in.
+#[derive(Clone, Copy, PartialEq, Eq, Debug)]
+pub enum Language {
+    /// A script of `lockmon queue`.
+    Queue,
+    /// A script of `lockmon run`, in which sources stand between ASSEMBLE and ENDASM.
+    Run,
+    /// A source of `lockmon asm`.
+    Asm,
+}
+
+/// The last lines of an input. In a script those that a fault can no longer be in are dropped from
+/// time to time; a source is kept whole. Where there is no memory nothing is kept any more.
+#[derive(Drop)]
+pub struct Lines {
+    language: Language,
+    bytes: Vec<u8>,
+    /// How many lines were dropped.
+    dropped: u64,
+    /// How many bytes are kept before lines are dropped.
+    limit: usize,
+    is_lost: bool,
+}
+
+/// A source in a script.
+#[derive(Clone, Copy, Debug)]
+pub struct SourceLines<'a> {
+    /// The number of the line with ASSEMBLE.
+    pub begins: u64,
+    /// Its lines.
+    pub text: &'a [u8],
+}
+
+impl Lines {
+    /// No line.
+    pub fn new(alloc: Global, language: Language) -> Self {
+        Lines {
+            language,
+            bytes: Vec::new(alloc),
+            dropped: 0,
+            limit: KEPT,
+            is_lost: false,
+        }
+    }
+
+    /// What they are written in.
+    pub fn language(&self) -> Language {
+        self.language
+    }
+
+    /// The bytes that are kept.
+    pub fn as_slice(&self) -> &[u8] {
+        self.bytes.as_slice()
+    }
+
+    /// Adds bytes.
+    pub fn push(&mut self, bytes: &[u8]) {
+        if self.is_lost {
+            return;
+        }
+        if self.bytes.len() >= self.limit {
+            self.drop_finished();
+        }
+        if self.bytes.extend_from_slice(bytes).is_err() {
+            self.is_lost = true;
+            self.bytes.clear();
+        }
+    }
+
+    /// Drops the lines that no fault can be in.
+    fn drop_finished(&mut self) {
+        let finished = finished(self.language, self.bytes.as_slice());
+        let length = finished.length.min(self.bytes.len());
+        let _ = self.bytes.drain(..length);
+        self.dropped = self.dropped.saturating_add(finished.lines);
+        self.limit = self.bytes.len().saturating_mul(2).max(KEPT);
+    }
+
+    /// The line of this number, if it is kept.
+    pub fn line(&self, number: u64) -> Option<&[u8]> {
+        let bytes = self.bytes.as_slice();
+        line_at(bytes, number.checked_sub(self.dropped)?)
+    }
+
+    /// The next source that ends at or behind this place, with the place behind it.
+    pub fn next_source(&self, from: Place) -> Option<(SourceLines<'_>, Place)> {
+        let bytes = self.bytes.as_slice();
+        let (source, behind) = source_behind(bytes, from)?;
+        let begins = source.begins.saturating_add(self.dropped);
+        let text = source.text;
+        Some((SourceLines { begins, text }, behind))
+    }
+}
+
+/// A place between two lines.
+#[derive(Clone, Copy, Debug, Default)]
+pub struct Place {
+    /// How many bytes stand before it.
+    length: usize,
+    /// How many lines do.
+    lines: u64,
+}
+
+/// The first line, without its line end, and what stands behind it; None where no line ends.
+fn split_line(bytes: &[u8]) -> Option<(&[u8], &[u8])> {
+    for (i, byte) in bytes.iter().enumerate() {
+        if *byte == b'\n' {
+            return Some((without_return(&bytes[..i]), &bytes[i + 1..]));
+        }
+    }
+    None
+}
+
+fn without_return(line: &[u8]) -> &[u8] {
+    match line {
+        [front @ .., b'\r'] => front,
+        _ => line,
+    }
+}
+
+/// The line of this number, counted from 1; the last may have no line end.
+pub fn line_at(bytes: &[u8], number: u64) -> Option<&[u8]> {
+    let mut rest = bytes;
+    let mut left = number;
+    for _ in 0..=bytes.len() {
+        left = left.checked_sub(1)?;
+        match split_line(rest) {
+            Some((line, behind)) => {
+                if left == 0 {
+                    return Some(line);
+                }
+                rest = behind;
+            }
+            None if left == 0 && !rest.is_empty() => return Some(rest),
+            None => return None,
+        }
+    }
+    None
+}
+
+/// What stands behind a place.
+fn behind(bytes: &[u8], place: Place) -> &[u8] {
+    &bytes[place.length.min(bytes.len())..]
+}
+
+/// The place behind the next line, and the line.
+fn next_line(bytes: &[u8], place: Place) -> Option<(&[u8], Place)> {
+    let rest = behind(bytes, place);
+    let (line, more) = split_line(rest)?;
+    let next = Place {
+        length: bytes.len().saturating_sub(more.len()),
+        lines: place.lines.saturating_add(1),
+    };
+    Some((line, next))
+}
+
+/// Whether a line begins a source.
+fn is_assemble(line: &[u8]) -> bool {
+    line.starts_with(b"ASSEMBLE ".as_slice())
+}
+
+/// The place before which no fault can be: the last that stands behind a whole line and in no source.
+fn finished(language: Language, bytes: &[u8]) -> Place {
+    let mut done = Place::default();
+    if language == Language::Asm {
+        return done;
+    }
+    let mut place = done;
+    let mut in_source = false;
+    for _ in 0..=bytes.len() {
+        let Some((line, next)) = next_line(bytes, place) else {
+            return done;
+        };
+        if language == Language::Run && !in_source && is_assemble(line) {
+            in_source = true;
+        } else if in_source && line == b"ENDASM".as_slice() {
+            in_source = false;
+        }
+        place = next;
+        if !in_source {
+            done = place;
+        }
+    }
+    done
+}
+
+/// The first source behind a place, with the place behind its ENDASM.
+fn source_behind(bytes: &[u8], from: Place) -> Option<(SourceLines<'_>, Place)> {
+    let mut place = from;
+    let mut source: Option<Place> = None;
+    for _ in 0..=bytes.len() {
+        let (line, next) = next_line(bytes, place)?;
+        match source {
+            None if is_assemble(line) => source = Some(next),
+            Some(begin) if line == b"ENDASM".as_slice() => {
+                let text = behind(bytes, begin);
+                let length = place.length.saturating_sub(begin.length);
+                let text = &text[..length.min(text.len())];
+                let begins = begin.lines;
+                return Some((SourceLines { begins, text }, next));
+            }
+            _ => {}
+        }
+        place = next;
+    }
+    None
+}

@@ -1,0 +1,131 @@
+//! The whole program over any ports.
+ghost use Rattle.std.specs.Prelude.{◌≡◌, ◌^◌, ◌≤◌, false, map, ◌≢◌};
+ghost use Rattle.machine.specs.Setups.{IsSetup};
+ghost use Rattle.queue_script.specs.Endings.{served_as};
+ghost use Rattle.command_line.specs.Programs.{Runs, status_of};
+
+use crate::asked::{Choice, Refusal};
+use crate::kept::{KeptIn, KeptOut};
+use crate::statuses::{DONE, FAILED, REFUSED, USAGE};
+use crate::telling::tell_fault;
+use crate::words::choice;
+use machine::Config;
+use op_script::serve;
+use queue_script::{ByteIn, ByteOut, ServeError, serve_asm, serve_queue, write_all};
+use std::alloc::Global;
+use std::convert::AsStr;
+use std::io::ErrorKind;
+
+/// Serves what the words, which begin with the program's name, ask for, and gives the exit status.
+/// Where the words are refused the reason goes to `errors`, and so does a line where the reader, the
+/// writer or memory failed; a failure of `errors` changes nothing.
+pub fn program<S: AsStr, R: ByteIn, W: ByteOut, E: ByteOut>(
+    alloc: Global,
+    words: &[S],
+    reader: &mut R,
+    writer: &mut W,
+    errors: &mut E,
+) -> u8
+    requires reader_sound { R.has_failed reader.old ≡ false }
+    requires writer_sound { W.has_failed writer.old ≡ false }
+    requires errors_sound { E.has_failed errors.old ≡ false }
+    requires few { R.reads_left reader.old ≤ 2 ^ 63 }
+    ensures { Runs (map S.text words.now) (R.to_come reader.old) (R.to_come reader.new) (W.written writer.old) (W.written writer.new)
+        (R.has_failed reader.new) (W.has_failed writer.new) result }
+{
+    match choice(alloc, words) {
+        Ok(Choice::Queue) => status_of(serve_queue(alloc, reader, writer), errors),
+        Ok(Choice::Asm) => status_of(serve_asm(alloc, reader, writer), errors),
+        Ok(Choice::Run { blocks, quantum }) => {
+            let config = config_of(blocks, quantum);
+            status_of(serve(alloc, config, reader, writer), errors)
+        }
+        Err(Refusal::Memory) => out_of_memory(errors),
+        Err(Refusal::Usage(error)) => match error.to_string(alloc) {
+            Ok(text) => told(errors, text.as_str().as_bytes(), USAGE),
+            Err(_) => out_of_memory(errors),
+        },
+    }
+}
+
+/// The same over ports that keep what passes them: where a line was refused, a line on standard error
+/// says what is wrong with it. It goes to `telling`, which may be another port on the same stream.
+pub fn program_told<S: AsStr, R: ByteIn + Drop, W: ByteOut + Drop, E: ByteOut, T: ByteOut>(
+    alloc: Global,
+    words: &[S],
+    reader: &mut KeptIn<R>,
+    writer: &mut KeptOut<W>,
+    errors: &mut E,
+    telling: &mut T,
+) -> u8
+    requires reader_sound { ⟦<KeptIn<R> as ByteIn>⟧.has_failed reader.old ≡ false }
+    requires writer_sound { ⟦<KeptOut<W> as ByteOut>⟧.has_failed writer.old ≡ false }
+    requires errors_sound { E.has_failed errors.old ≡ false }
+    requires telling_sound { T.has_failed telling.old ≡ false }
+    requires few { ⟦<KeptIn<R> as ByteIn>⟧.reads_left reader.old ≤ 2 ^ 63 }
+    ensures { Runs (map S.text words.now)
+        (⟦<KeptIn<R> as ByteIn>⟧.to_come reader.old) (⟦<KeptIn<R> as ByteIn>⟧.to_come reader.new)
+        (⟦<KeptOut<W> as ByteOut>⟧.written writer.old) (⟦<KeptOut<W> as ByteOut>⟧.written writer.new)
+        (⟦<KeptIn<R> as ByteIn>⟧.has_failed reader.new) (⟦<KeptOut<W> as ByteOut>⟧.has_failed writer.new) result }
+{
+    let status = program(alloc, words, reader, writer, errors);
+    if status == REFUSED {
+        tell_fault(alloc, reader.lines(), writer.last_line(), telling);
+    }
+    status
+}
+
+/// The size of a machine.
+fn config_of(blocks: u32, quantum: u32) -> Config
+    requires { IsSetup blocks quantum }
+    ensures blocks { result.blocks ≡ blocks }
+    ensures quantum { result.quantum ≡ quantum }
+{
+    Config::new(blocks, quantum as u8).unwrap()
+}
+
+/// The exit status of a call that served, with a line where a port or memory failed.
+fn status_of<E: ByteOut>(answer: Result<(), ServeError>, errors: &mut E) -> u8
+    requires { E.has_failed errors.old ≡ false }
+    ensures { result ≡ status_of (served_as answer) }
+{
+    match answer {
+        Ok(()) => DONE,
+        Err(ServeError::Script | ServeError::Source) => REFUSED,
+        Err(ServeError::Read) => told(errors, b"lockmon: read\n", FAILED),
+        Err(ServeError::Write) => told(errors, b"lockmon: write\n", FAILED),
+        Err(ServeError::Memory) => out_of_memory(errors),
+    }
+}
+
+/// Says that there was no memory, and gives the exit status.
+pub fn out_of_memory<E: ByteOut>(errors: &mut E) -> u8
+    requires { E.has_failed errors.old ≡ false }
+    ensures { result ≡ FAILED }
+{
+    told(errors, b"lockmon: memory\n", FAILED)
+}
+
+/// Says why the words of the command line could not be read, and gives the exit status: one of them
+/// is no text, which refuses them, or there was no memory.
+pub fn unread_words<E: ByteOut>(kind: ErrorKind, errors: &mut E) -> u8
+    requires { E.has_failed errors.old ≡ false }
+    ensures no_text { kind ≡ ErrorKind.InvalidData → result ≡ USAGE }
+    ensures no_memory { kind ≢ ErrorKind.InvalidData → result ≡ FAILED }
+{
+    if kind == ErrorKind::InvalidData {
+        let text = b"error: invalid UTF-8 was detected in one or more arguments\n";
+        told(errors, text, USAGE)
+    } else {
+        out_of_memory(errors)
+    }
+}
+
+/// Writes a text to the errors, and gives the exit status.
+fn told<E: ByteOut>(errors: &mut E, text: &[u8], status: u8) -> u8
+    requires { E.has_failed errors.old ≡ false }
+    ensures { result ≡ status }
+{
+    let _ = write_all(errors, text);
+    status
+}

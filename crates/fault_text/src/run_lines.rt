@@ -1,0 +1,98 @@
+//! Lines of `lockmon run`.
+
+use crate::fault::{Fault, Reason};
+use crate::items::{Item, Items, check_blanks, check_form};
+use crate::params::{Param, check_param, check_params};
+use crate::tables::{RUN_COMMANDS, RUN_NAMES, params_of, unknown};
+
+/// What is wrong with a line. Where it is in the grammar it names an image that is not there.
+pub fn fault_of(line: &[u8]) -> Fault<'_> {
+    match check(line) {
+        Err(fault) => fault,
+        Ok(()) => match line.strip_prefix(b"LOGIN ".as_slice()) {
+            Some(rest) => no_image(rest),
+            None => Fault::whole("not a line of `lockmon run`"),
+        },
+    }
+}
+
+/// No image has the name that stands behind a line's number.
+fn no_image(rest: &[u8]) -> Fault<'_> {
+    let name = Item {
+        text: rest,
+        column: 7,
+    };
+    match name.cut(b' ') {
+        (_, Some(name)) => name.is("is the name of no image: ASSEMBLE makes one"),
+        (line, None) => line.expects("a terminal line and an image"),
+    }
+}
+
+const ENDASM: &str = "ENDASM stands behind the lines of a source, which ASSEMBLE begins";
+
+fn check(line: &[u8]) -> Result<(), Fault<'_>> {
+    check_form(line)?;
+    if let Some(rest) = line.strip_prefix(b"TYPE ".as_slice()) {
+        return check_typed(Item {
+            text: rest,
+            column: 6,
+        });
+    }
+    if line == b"ENDASM".as_slice() {
+        return Err(Fault::whole(ENDASM));
+    }
+    check_blanks(line)?;
+    let item = Item {
+        text: line,
+        column: 1,
+    };
+    let mut items = Items::of(item, b' ');
+    let name = items.wanted("a command")?;
+    match params_of(&RUN_COMMANDS, name.text) {
+        None => Err(unknown(&RUN_COMMANDS, name, RUN_NAMES)),
+        Some(params) => check_params(params, &mut items),
+    }
+}
+
+/// Looks at what follows `TYPE `: a line and a text, whose spaces count.
+fn check_typed(item: Item<'_>) -> Result<(), Fault<'_>> {
+    let (line, text) = item.cut(b' ');
+    check_param(Param::Line, &mut Items::of(line, b' '))?;
+    let column = line.column.saturating_add(line.text.len());
+    match text {
+        None => Err(Fault::at(column, Reason::Expected(TEXT, &[]))),
+        Some(text) if text.text.is_empty() => Err(text.expects(TEXT)),
+        Some(text) => check_text(text),
+    }
+}
+
+const TEXT: &str = "a text behind one space";
+
+const BACKSLASH: &str =
+    "behind a backslash stands n, r, e, a backslash or three octal digits to 177";
+
+/// Looks at the backslashes of a text.
+fn check_text(item: Item<'_>) -> Result<(), Fault<'_>> {
+    let mut rest = item;
+    for _ in 0..item.text.len() {
+        let (_, behind) = rest.cut(b'\\');
+        let Some(behind) = behind else {
+            return Ok(());
+        };
+        rest = match behind.text {
+            [b'n' | b'r' | b'e' | b'\\', more @ ..] => Item {
+                text: more,
+                column: behind.column.saturating_add(1),
+            },
+            [b'0' | b'1', b'0'..=b'7', b'0'..=b'7', more @ ..] => Item {
+                text: more,
+                column: behind.column.saturating_add(3),
+            },
+            _ => {
+                let column = behind.column.saturating_sub(1);
+                return Err(Fault::at(column, Reason::Said(BACKSLASH)));
+            }
+        };
+    }
+    Ok(())
+}

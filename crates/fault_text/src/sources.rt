@@ -1,0 +1,105 @@
+//! Lines of a source.
+
+use crate::cursor::{Cursor, Kind};
+use crate::fault::{Fault, Reason};
+use crate::items::check_ascii;
+use crate::statements::{read_labels, read_statement};
+
+/// What is wrong with a line that has a fault of this code.
+pub fn fault_of(line: &[u8], code: u8) -> Fault<'_> {
+    match code {
+        1 => syntax_of(line),
+        2 => unknown_name(line),
+        3 => twice(line),
+        4 => Fault::whole(limit_of(seen(line).kind)),
+        5 => Fault::whole("LOC and BLOCK take numbers and labels of earlier lines, and no literal"),
+        6 => Fault::whole("a word or a label would stand behind place 777777"),
+        _ => Fault::whole("the source has no END"),
+    }
+}
+
+/// Reads a line whose numbers are of this radix, and then its literals.
+fn read<'a>(line: &'a [u8], radix: u8) -> (Cursor<'a>, Result<(), Fault<'a>>) {
+    let mut cursor = Cursor::new(line, radix);
+    read_labels(&mut cursor);
+    let mut outcome = read_statement(&mut cursor);
+    let whole = cursor;
+    for cut in whole.cuts.iter().flatten() {
+        let mut inner = cursor.inside(*cut);
+        outcome = first_of(outcome, read_statement(&mut inner));
+        cursor.names = inner.names;
+    }
+    (cursor, outcome)
+}
+
+/// The fault that stands further left.
+fn first_of<'a>(one: Result<(), Fault<'a>>, other: Result<(), Fault<'a>>) -> Result<(), Fault<'a>> {
+    match (one, other) {
+        (Ok(()), _) => other,
+        (Err(first), Err(second)) if second.column < first.column => Err(second),
+        (Err(_), _) => one,
+    }
+}
+
+/// What there is to see of a line that is in the grammar.
+fn seen(line: &[u8]) -> Cursor<'_> {
+    let (cursor, _) = read(line, 10);
+    cursor
+}
+
+/// What is not in the grammar. The radix in which the line was read is not known: the first that
+/// shows a fault is taken, of ten, eight and two.
+fn syntax_of(line: &[u8]) -> Fault<'_> {
+    if let Err(fault) = check_ascii(line) {
+        return fault;
+    }
+    for radix in [10, 8, 2] {
+        let (_, outcome) = read(line, radix);
+        if let Err(fault) = outcome {
+            return fault;
+        }
+    }
+    Fault::whole("not a line of this assembler")
+}
+
+fn unknown_name(line: &[u8]) -> Fault<'_> {
+    let cursor = seen(line);
+    let [first, second, third] = cursor.names;
+    let reason = match (first, second) {
+        (Some(name), None) if cursor.kind == Kind::Word => Reason::Is(name, NO_NAME),
+        (Some(name), None) => Reason::Is(name, "is not defined"),
+        (Some(first), Some(second)) => Reason::OneOf(first, second, third.is_some()),
+        _ => Reason::Said("a name is not defined"),
+    };
+    Fault::at(0, reason)
+}
+
+const NO_NAME: &str = "is not defined, and is no operation of this assembler";
+
+fn twice(line: &[u8]) -> Fault<'_> {
+    match seen(line).label {
+        Some(label) => Fault::at(
+            0,
+            Reason::Is(label, "is defined twice, or its place has a word already"),
+        ),
+        None => Fault::whole("the place of this word has a word already"),
+    }
+}
+
+/// What the values of a statement have to be.
+fn limit_of(kind: Kind) -> &'static str {
+    match kind {
+        Kind::Instruction => {
+            "a value does not fit: accumulators and index registers are 0 to 17, addresses -777777 to 777777 (octal)"
+        }
+        Kind::Halves => "a value does not fit: halves are -777777 to 777777 (octal)",
+        Kind::Word => "a value does not fit: a word is -2^35 to 2^36-1",
+        Kind::Pointer =>
+            "a value does not fit: POINT has a size to 36, an address and a bit to 35 (decimal)",
+        Kind::Sixbit => "a character does not fit: SIXBIT has space to \"_\"",
+        Kind::Place => "a value does not fit: LOC and BLOCK take 0 or more",
+        Kind::Radix => "a value does not fit: RADIX takes 2 to 10",
+        Kind::End => "a value does not fit: the start is 0 to 777777 (octal)",
+        Kind::Nothing => "a value does not fit",
+    }
+}

@@ -1,0 +1,20 @@
+//! Tests of the machine: rows of events and of what is seen then, on the plain table of locks and the
+//! plain store of core.
+#![tactic(auto)]
+
+#[cfg(test)]
+mod alone;
+#[cfg(test)]
+mod calls;
+#[cfg(test)]
+mod edges;
+#[cfg(test)]
+mod interrupts;
+#[cfg(test)]
+mod jobs;
+#[cfg(test)]
+mod locks;
+#[cfg(test)]
+mod rows;
+#[cfg(test)]
+mod terminal;

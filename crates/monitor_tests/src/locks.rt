@@ -1,0 +1,123 @@
+//! Jobs that wait for locks.
+
+use crate::rows::Reply::Done;
+use crate::rows::Row::{Begins, Happens, Job, Locks, NoJob, Turns, Word};
+use crate::rows::{CTRL_C, walk};
+use job_sched::{Stop, Wait};
+use lock_queue::EnqueueKind::{AtOnce, Blocking};
+use monitor::Event::{Continue, Kill, Start, Typed};
+use tty_lines::Char7;
+
+/// ENQ. 0 of a lock and DEQ. of it; a request that is refused halts.
+const OWNER: &str = " MOVE 1,[BLK]\n ENQ. 1,\n HALT\n MOVE 1,[BLK]\n DEQ. 1,\n HALT\n JRST .\n\
+    BLK: 1,,5\n 0,,7\n 777777\n 500000,,12\n 0\n END\n";
+
+/// ENQ. 0 of the same lock, shared, which is kept.
+const SHARER: &str = " MOVE 1,[BLK]\n ENQ. 1,\n HALT\n JRST .\n\
+    BLK: 1,,5\n 0,,10\n 400000,,777777\n 500000,,12\n 0\n END\n";
+
+#[test]
+fn wake(rt: HostRuntime) {
+    let rows = [
+        Begins(0, OWNER, 1),
+        Begins(1, OWNER, 2),
+        Turns(&[1, 2, 1, 2]),
+        // The skip return is set at once, and the job waits.
+        Job(1, 0o143, None, Wait::None),
+        Job(2, 0o143, None, Wait::Queue),
+        Locks(&[(1, Blocking, 7, true), (2, Blocking, 7, false)]),
+        Turns(&[1, 1]),
+        Job(2, 0o143, None, Wait::None),
+        Locks(&[(2, Blocking, 7, true)]),
+        Turns(&[2, 1, 2]),
+        Job(2, 0o146, None, Wait::None),
+        Locks(&[]),
+    ];
+    walk(&rt, rt.alloc(), &rows);
+}
+
+#[test]
+fn release_wakes_all(rt: HostRuntime) {
+    let rows = [
+        Begins(0, OWNER, 1),
+        Begins(1, SHARER, 2),
+        Begins(2, SHARER, 3),
+        Turns(&[1, 2, 3, 1, 2, 3]),
+        Job(2, 0o143, None, Wait::Queue),
+        Job(3, 0o143, None, Wait::Queue),
+        Turns(&[1, 1]),
+        Locks(&[(2, Blocking, 0o10, true), (3, Blocking, 0o10, true)]),
+        Turns(&[2, 3, 1]),
+    ];
+    walk(&rt, rt.alloc(), &rows);
+}
+
+#[test]
+fn kill_waiter(rt: HostRuntime) {
+    let rows = [
+        Begins(0, SHARER, 1),
+        Turns(&[1, 1]),
+        Begins(1, OWNER, 2),
+        Turns(&[2, 1, 2]),
+        Begins(2, SHARER, 3),
+        Turns(&[3, 1, 3, 1, 1]),
+        Locks(&[
+            (1, Blocking, 0o10, true),
+            (2, Blocking, 7, false),
+            (3, Blocking, 0o10, false),
+        ]),
+        Happens(Kill(2), Done),
+        NoJob(2),
+        Locks(&[(1, Blocking, 0o10, true), (3, Blocking, 0o10, true)]),
+        Turns(&[3, 1]),
+        // A job that owns leaves no request either.
+        Happens(Kill(1), Done),
+        Locks(&[(3, Blocking, 0o10, true)]),
+    ];
+    walk(&rt, rt.alloc(), &rows);
+}
+
+#[test]
+fn stopped_waiter(rt: HostRuntime) {
+    let rows = [
+        Begins(0, OWNER, 1),
+        Begins(1, OWNER, 2),
+        Turns(&[1, 2, 1, 2]),
+        Happens(Typed(1, Char7::new(CTRL_C)), Done),
+        Job(2, 0o143, Some(Stop::Typed), Wait::Queue),
+        Happens(Continue(2), Done),
+        Job(2, 0o143, None, Wait::Queue),
+        Happens(Typed(1, Char7::new(CTRL_C)), Done),
+        // A start takes the request back.
+        Happens(Start(2), Done),
+        Job(2, 0o140, None, Wait::None),
+        Locks(&[(1, Blocking, 7, true)]),
+        // What a stopped job owns it keeps.
+        Happens(Typed(0, Char7::new(CTRL_C)), Done),
+        Happens(Start(1), Done),
+        Locks(&[(1, Blocking, 7, true)]),
+    ];
+    walk(&rt, rt.alloc(), &rows);
+}
+
+/// ENQ. 1 of the lock, executed by XCT.
+const BY_XCT: &str = " MOVE 1,[1,,BLK]\n XCT [ENQ. 1,]\n HALT\n JRST .\n\
+    BLK: 1,,5\n 0,,7\n 777777\n 500000,,12\n 0\n END\n";
+
+#[test]
+fn enq_by_xct(rt: HostRuntime) {
+    let rows = [
+        Begins(0, BY_XCT, 1),
+        Turns(&[1, 1]),
+        // Two past the XCT.
+        Job(1, 0o143, None, Wait::None),
+        Locks(&[(1, AtOnce, 7, true)]),
+        // Another's request is refused with code 1, and skips nothing.
+        Begins(1, BY_XCT, 2),
+        Turns(&[2, 1, 2]),
+        Job(2, 0o142, None, Wait::None),
+        Word(2, 1, Some(1)),
+        Locks(&[(1, AtOnce, 7, true)]),
+    ];
+    walk(&rt, rt.alloc(), &rows);
+}

@@ -1,0 +1,108 @@
+//! What jobs read from their lines and put out there.
+
+use crate::rows::Reply::{Done, Idle, Ran, Refused, Text};
+use crate::rows::Row::{Begins, Happens, Job, Repeats, Steps, Word};
+use crate::rows::{CTRL_C, walk};
+use job_sched::{Stop, Wait};
+use monitor::Event::{Continue, Step, Take, Typed};
+use monitor::RefusedEvent::{Full, NoLine};
+use tty_lines::Char7;
+
+#[test]
+fn a_text_goes_out(rt: HostRuntime) {
+    // 051140,,000143 is OUTSTR 143, and 442220,,000000 the characters HI and a zero.
+    let hi = " 51140,,143\n LOC 143\n 442220,,0\n END\n";
+    let rows = [
+        Begins(0, hi, 1),
+        Steps(1, 1),
+        Happens(Take(0, 64), Text(b"HI")),
+        Happens(Take(0, 64), Text(b"")),
+        Happens(Take(16, 64), Refused(NoLine)),
+    ];
+    walk(&rt, rt.alloc(), &rows);
+}
+
+/// The most characters that one take gives.
+const FULL_TAKE: &[u8] = b"AAAAAAAAAAAAAAAAAAAAAAAAAAAAAAAAAAAAAAAAAAAAAAAAAAAAAAAAAAAAAAAA";
+
+#[test]
+fn a_text_waits_for_room(rt: HostRuntime) {
+    // 511 characters, and then a text of two: it is put out as a whole, or not yet.
+    let source =
+        " MOVEI 5,^D511\nL: OUTCHR [101]\n SOJG 5,L\n OUTSTR [ASCIZ /HI/]\n JRST .\n END\n";
+    let rows = [
+        Begins(0, source, 1),
+        Steps(1023, 1023),
+        Happens(Step, Ran(1)),
+        Job(1, 0o143, None, Wait::Room(2)),
+        Happens(Step, Idle),
+        Happens(Take(0, 1), Text(b"A")),
+        Happens(Step, Ran(1)),
+        Job(1, 0o144, None, Wait::None),
+        Happens(Take(0, 500), Text(FULL_TAKE)),
+        Happens(Take(0, 3), Text(b"AAA")),
+        Happens(Take(0, 0), Text(b"")),
+    ];
+    walk(&rt, rt.alloc(), &rows);
+}
+
+#[test]
+fn a_character_is_awaited(rt: HostRuntime) {
+    let source = " INCHRW 150\n JRST .\n END\n";
+    let rows = [
+        Begins(2, source, 1),
+        Happens(Step, Ran(1)),
+        Job(1, 0o140, None, Wait::Char),
+        Happens(Step, Idle),
+        Happens(Typed(1, Char7::new(b'B')), Done),
+        Happens(Step, Idle),
+        Happens(Typed(2, Char7::new(b'A')), Done),
+        Job(1, 0o140, None, Wait::None),
+        Happens(Step, Ran(1)),
+        Job(1, 0o141, None, Wait::None),
+        Word(1, 0o150, Some(0o101)),
+    ];
+    walk(&rt, rt.alloc(), &rows);
+}
+
+#[test]
+fn a_line_is_awaited(rt: HostRuntime) {
+    let source = " INCHWL 150\n INCHWL 151\n INCHWL 152\n JRST .\n END\n";
+    let rows = [
+        Begins(0, source, 1),
+        Happens(Step, Ran(1)),
+        Job(1, 0o140, None, Wait::Line),
+        Happens(Typed(0, Char7::new(b'A')), Done),
+        Happens(Typed(0, Char7::new(b'B')), Done),
+        Happens(Step, Idle),
+        // A break character may stand behind others.
+        Happens(Typed(0, Char7::new(b'\n')), Done),
+        Steps(4, 4),
+        Job(1, 0o143, None, Wait::None),
+        Word(1, 0o150, Some(0o101)),
+        Word(1, 0o151, Some(0o102)),
+        Word(1, 0o152, Some(0o12)),
+    ];
+    walk(&rt, rt.alloc(), &rows);
+}
+
+#[test]
+fn a_full_line(rt: HostRuntime) {
+    let rows = [
+        Begins(0, " INCHWL 150\n JRST .\n END\n", 1),
+        Repeats(127, Typed(0, Char7::new(b'x')), Done),
+        Happens(Step, Ran(1)),
+        Job(1, 0o140, None, Wait::Line),
+        Happens(Typed(0, Char7::new(b'y')), Done),
+        Happens(Typed(0, Char7::new(b'A')), Refused(Full)),
+        // No room is left for a break: the line counts as typed. CTRL-C is never stored.
+        Happens(Typed(0, Char7::new(CTRL_C)), Done),
+        Job(1, 0o140, Some(Stop::Typed), Wait::None),
+        Happens(Continue(1), Done),
+        Happens(Step, Ran(1)),
+        Word(1, 0o150, Some(0o170)),
+        Happens(Typed(0, Char7::new(b'A')), Done),
+        Happens(Typed(0, Char7::new(b'A')), Refused(Full)),
+    ];
+    walk(&rt, rt.alloc(), &rows);
+}
