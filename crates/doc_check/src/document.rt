@@ -1,7 +1,8 @@
 //! The examples of a document, as it is read line by line: a block of the language `queue`, `run`
-//! or `asm` is a script or a source, and the next block of the language `output` is what is written on it.
+//! or `asm` is a script or a source, the next block of the language `output` is what is written on it,
+//! and one of the language `told` behind that what standard error is told.
 
-use crate::served::Language;
+use crate::served::{Language, Served};
 use std::alloc::{AllocError, Global};
 
 /// What a line stands in.
@@ -10,6 +11,7 @@ enum Place {
     Text,
     Script,
     Output,
+    Told,
     OtherBlock,
 }
 
@@ -20,9 +22,17 @@ pub struct Document {
     /// What the last script is written in.
     language: Language,
     script: String,
-    output: String,
-    held: u64,
-    failed: u64,
+    /// The block that is being read.
+    block: String,
+}
+
+/// A block and what should stand in it.
+#[derive(Drop)]
+pub struct Compared {
+    /// What stands there.
+    pub wanted: String,
+    /// What the program writes.
+    pub written: Vec<u8>,
 }
 
 impl Document {
@@ -32,42 +42,25 @@ impl Document {
             place: Place::Text,
             language: Language::Queue,
             script: String::new(alloc),
-            output: String::new(alloc),
-            held: 0,
-            failed: 0,
+            block: String::new(alloc),
         }
     }
 
-    /// Reads the next line, and says whether it ends no example that fails.
-    pub fn read_line(&mut self, alloc: Global, line: &str) -> Result<bool, AllocError> {
-        let ends = line == "```";
+    /// Reads the next line, and gives the block that it ends where that is to be compared.
+    pub fn read_line(&mut self, alloc: Global, line: &str) -> Result<Option<Compared>, AllocError> {
+        if self.place == Place::Text {
+            self.open(line);
+            return Ok(None);
+        }
+        if line == "```" {
+            return self.close(alloc);
+        }
         match self.place {
-            Place::Text => self.open(line),
-            Place::Script => {
-                if ends {
-                    self.place = Place::Text;
-                } else {
-                    push_line(&mut self.script, line)?;
-                }
-            }
-            Place::Output => {
-                if ends {
-                    return self.close_example(alloc);
-                }
-                push_line(&mut self.output, line)?;
-            }
-            Place::OtherBlock => {
-                if ends {
-                    self.place = Place::Text;
-                }
-            }
+            Place::Script => push_line(&mut self.script, line)?,
+            Place::Output | Place::Told => push_line(&mut self.block, line)?,
+            Place::Text | Place::OtherBlock => {}
         }
-        Ok(true)
-    }
-
-    /// Whether there were examples, and all of them hold.
-    pub fn holds(&self) -> bool {
-        self.held > 0 && self.failed == 0
+        Ok(None)
     }
 
     /// Goes into a block where the line opens one.
@@ -76,10 +69,8 @@ impl Document {
             "```queue" => self.open_script(Language::Queue),
             "```run" => self.open_script(Language::Run),
             "```asm" => self.open_script(Language::Asm),
-            "```output" => {
-                self.output.clear();
-                self.place = Place::Output;
-            }
+            "```output" => self.open_block(Place::Output),
+            "```told" => self.open_block(Place::Told),
             _ => {
                 if line.starts_with("```") {
                     self.place = Place::OtherBlock;
@@ -94,18 +85,24 @@ impl Document {
         self.place = Place::Script;
     }
 
-    /// Compares an example's output with what its script writes.
-    fn close_example(&mut self, alloc: Global) -> Result<bool, AllocError> {
+    fn open_block(&mut self, place: Place) {
+        self.block.clear();
+        self.place = place;
+    }
+
+    /// Goes out of a block.
+    fn close(&mut self, alloc: Global) -> Result<Option<Compared>, AllocError> {
+        let place = self.place;
         self.place = Place::Text;
-        let holds = self
-            .language
-            .is_transcript(alloc, &self.script, &self.output)?;
-        if holds {
-            self.held = self.held.saturating_add(1);
-        } else {
-            self.failed = self.failed.saturating_add(1);
+        if place != Place::Output && place != Place::Told {
+            return Ok(None);
         }
-        Ok(holds)
+        let served = Served::of(alloc, self.language, self.script.as_str())?;
+        let Served { written, told } = served;
+        Ok(Some(Compared {
+            wanted: self.block.clone()?,
+            written: if place == Place::Told { told } else { written },
+        }))
     }
 }
 

@@ -1,16 +1,20 @@
-//! Checks that the examples in the documents are what `lockmon` writes. Its words are files: a
-//! document, or a script or a source with its transcript beside it.
+//! Checks that the examples in the documents, and the scripts and sources beside them, are what
+//! `lockmon` writes. Its words are files: a document, or a script or a source with its transcript beside
+//! it. Where something else is written it says which line differs.
 #![tactic(auto)]
 
+mod difference;
 mod document;
 mod served;
 
 use anyhow::Result;
-use document::Document;
-use served::Language;
-use std::fs;
+use difference::first_difference;
+use document::{Compared, Document};
+use served::{Language, Served};
+use std::alloc::Global;
 use std::process::ExitCode;
 use std::rt::Files;
+use std::{fs, str};
 
 /// The end of a document's name.
 const DOCUMENT: &str = ".md";
@@ -22,27 +26,52 @@ const SCRIPTS: [(&str, Language); 3] = [
     (".mac", Language::Asm),
 ];
 
-/// Whether the examples of a file hold, of which there has to be one.
-fn check<R: Files + Print + AllocGlobal>(rt: &R, name: &str) -> Result<bool> {
+/// Whether what is written is what is wanted; where it is not, says where.
+fn holds<R: Print>(rt: &R, place: &str, compared: &Compared) -> Result<bool> {
+    let written = str::from_utf8(compared.written.as_slice()).unwrap_or("(no text)");
+    match first_difference(compared.wanted.as_str(), written) {
+        None => Ok(true),
+        Some(found) => {
+            rt.println(format_args!("{place}: {found}"))?;
+            Ok(false)
+        }
+    }
+}
+
+/// Whether the examples of a document hold, of which there has to be one.
+fn check_document<R: Files + Print + AllocGlobal>(rt: &R, name: &str) -> Result<bool> {
     let alloc = rt.alloc();
+    let text = fs::read_to_string(rt, name)?;
+    let mut document = Document::new(alloc);
+    let (mut has_one, mut all_hold) = (false, true);
+    for (i, line) in text.lines().enumerate() {
+        if let Some(compared) = document.read_line(alloc, line)? {
+            let end = i.saturating_add(1);
+            let place = format!(in alloc; "{name}, the block that ends in line {end}")?;
+            let one_holds = holds(rt, place.as_str(), &compared)?;
+            has_one = true;
+            all_hold = all_hold && one_holds;
+        }
+    }
+    Ok(has_one && all_hold)
+}
+
+/// Whether a file holds.
+fn check<R: Files + Print + AllocGlobal>(rt: &R, name: &str) -> Result<bool> {
+    let alloc: Global = rt.alloc();
     for (end, language) in SCRIPTS {
         if let Some(stem) = name.strip_suffix(end) {
             let script = fs::read_to_string(rt, name)?;
-            let output = fs::read_to_string(rt, format!(in alloc; "{stem}.out")?.as_str())?;
-            return Ok(language.is_transcript(alloc, &script, &output)?);
+            let wanted = fs::read_to_string(rt, format!(in alloc; "{stem}.out")?.as_str())?;
+            let Served { written, told: _ } = Served::of(alloc, language, script.as_str())?;
+            return holds(rt, name, &Compared { wanted, written });
         }
     }
-    if !name.ends_with(DOCUMENT) {
-        return Ok(false);
+    if name.ends_with(DOCUMENT) {
+        check_document(rt, name)
+    } else {
+        Ok(false)
     }
-    let text = fs::read_to_string(rt, name)?;
-    let mut document = Document::new(alloc);
-    for (i, line) in text.lines().enumerate() {
-        if !document.read_line(alloc, line)? {
-            rt.println(format_args!("{name}: line {}: not what is written", i + 1))?;
-        }
-    }
-    Ok(document.holds())
 }
 
 fn main(rt: HostRuntime) -> Result<ExitCode> {

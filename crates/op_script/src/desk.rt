@@ -2,12 +2,12 @@
 
 use crate::images::Images;
 use crate::sources::Source;
-use core_store::PlainCore;
-use lock_queue::PlainTable;
+use core_store::BlockCore;
+use lock_table::IndexedTable;
 use monitor::System;
 
 /// The machine, with the tables that it keeps its locks and its core in.
-pub type Machine = System<PlainTable, PlainCore>;
+pub type Machine = System<IndexedTable, BlockCore>;
 
 /// What a script works on.
 #[derive(Drop)]

@@ -1,0 +1,95 @@
+//! The line on standard error where a line is refused.
+
+use command_line::{KeptIn, KeptOut, language_of, program_told};
+use queue_script::{TestIn, TestOut};
+
+/// A command, its input, and what is told.
+const ROWS: [(&str, &str, &str); 7] = [
+    (
+        "queue",
+        "; one\nSHOW\nshow\nSHOW\n",
+        "lockmon: line 3: no command \"show\" (commands are upper case)\n",
+    ),
+    (
+        "queue",
+        "SHOW\nENQ 32 0 1 X",
+        "lockmon: line 2: column 5: expected a job, 1 to 31, not \"32\"\n",
+    ),
+    (
+        "asm",
+        " MOVEI 1,5\r\n FADR 1,2\r\n END\r\n",
+        "lockmon: line 2: column 2: \"FADR\" is not an operation of this assembler\n",
+    ),
+    ("asm", "", "lockmon: line 0: the source has no END\n"),
+    (
+        "run",
+        "ASSEMBLE A\n EXIT\n END\nENDASM\nASSEMBLE B\n EXIT\n JRST X\n END\nENDASM\nASSEMBLE C\n",
+        "lockmon: line 7, line 2 of its source: \"X\" is not defined\n",
+    ),
+    (
+        "run",
+        "ASSEMBLE A\n EXIT\n END\n",
+        "lockmon: line 4: the input ends before ENDASM\n",
+    ),
+    ("run", "TICK 1\n", ""),
+];
+
+#[test]
+fn lines(rt: HostRuntime) {
+    let alloc = rt.alloc();
+    for (command, input, told) in ROWS {
+        let mut room = [0u8; 256];
+        let mut error_room = [0u8; 64];
+        let mut told_room = [0u8; 256];
+        let words = ["lockmon", command];
+        let language = language_of(&words);
+        let mut reader = KeptIn::new(alloc, language, TestIn::new(input.as_bytes(), 7, 1000));
+        let mut writer = KeptOut::new(TestOut::new(&mut room, 5, 1000));
+        let mut errors = TestOut::new(&mut error_room, 100, 1000);
+        let mut telling = TestOut::new(&mut told_room, 100, 1000);
+        let status = program_told(
+            alloc,
+            &words,
+            &mut reader,
+            &mut writer,
+            &mut errors,
+            &mut telling,
+        );
+        assert_eq!(rt; status == 0, told.is_empty());
+        assert_eq!(rt; telling.as_slice(), told.as_bytes());
+    }
+}
+
+/// A long script, whose finished lines are dropped on the way.
+#[test]
+fn far_behind(rt: HostRuntime) {
+    let alloc = rt.alloc();
+    let mut input = String::new(alloc);
+    for _ in 0..20_000 {
+        assert!(rt; input.push_str("STAT 1 X\n").is_ok());
+    }
+    assert!(rt; input.push_str("STAT 1 X \n").is_ok());
+    let mut room = vec![in alloc; 0u8; 1_000_000].expect(&rt, "memory");
+    let mut error_room = [0u8; 64];
+    let mut told_room = [0u8; 256];
+    let words = ["lockmon", "queue"];
+    let mut reader = KeptIn::new(
+        alloc,
+        language_of(&words),
+        TestIn::new(input.as_bytes(), 5000, 1000),
+    );
+    let mut writer = KeptOut::new(TestOut::new(&mut room, 100_000, 1000));
+    let mut errors = TestOut::new(&mut error_room, 100, 1000);
+    let mut telling = TestOut::new(&mut told_room, 100, 1000);
+    let status = program_told(
+        alloc,
+        &words,
+        &mut reader,
+        &mut writer,
+        &mut errors,
+        &mut telling,
+    );
+    assert_eq!(rt; status, 1);
+    let told = "lockmon: line 20001: column 9: a space at the end of the line\n";
+    assert_eq!(rt; telling.as_slice(), told.as_bytes());
+}
