@@ -1,7 +1,7 @@
 //! Terminal lines at their limits.
 
-use tty_lines::{Char7, LineError, LineNumber, Lines};
 use std::test::Fail;
+use tty_lines::{Char7, LineError, LineNumber, Lines};
 use word36::{LINES, OUTPUT_RING};
 
 /// The characters A, B, C and so on, round again after 26.
