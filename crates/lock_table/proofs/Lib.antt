@@ -4,3 +4,4 @@ pub mod RightLaws
 pub mod RenewalLaws
 pub mod DepartureLaws
 pub mod CallLaws
+mod WaiterLaws

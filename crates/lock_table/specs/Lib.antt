@@ -3,3 +3,4 @@ pub mod Filings
 pub mod Renewals
 pub mod Departures
 pub mod Findings
+pub mod Waiters

@@ -6,7 +6,7 @@ ghost use Rattle.lock_table.specs.Filings.{requests_in, are_right};
 
 use crate::calls::make_call;
 use crate::departures::{Leaving, depart};
-use crate::jobs::{does_some_block, does_wait_for, pending_in};
+use crate::jobs::{does_wait_for, pending_in};
 use crate::shelf::Shelf;
 use crate::standing::status_in;
 use lock_queue::{Key, LockCall, LockReply, LockTable, Request, RequestId, Status, Woken};
@@ -66,7 +66,7 @@ impl LockTable for IndexedTable {
     }
 
     fn waiting(&self, job: u8) -> bool {
-        does_some_block(self.present.as_slice(), job)
+        self.present.has_waiter(job)
     }
 
     fn pending(&self, job: u8) -> Option<RequestId> {

@@ -7,6 +7,7 @@ ghost use Rattle.lock_queue.specs.Queue.{wants_at, requests_of};
 ghost use Rattle.lock_table.specs.Filings.{requests_in};
 ghost use Rattle.lock_table.specs.Findings.{blocks, pends, pending_in, told_in, waits_in};
 ghost use Rattle.lock_table.specs.Signatures.{bit_of};
+ghost use Rattle.lock_table.specs.Waiters.{waiters_in};
 
 use crate::filed::Filed;
 use crate::fits::is_fitting;
@@ -48,9 +49,11 @@ pub fn pending_in(filed: &[Filed], job: u8) -> Option<RequestId>
     None
 }
 
-/// Marks that request as told.
+/// Marks that request as told. Whoever waits still does.
+#[tactic(auto, using(crate::proofs::WaiterLaws::waiters_told))]
 pub fn tell(filed: &mut [Filed], job: u8)
-    ensures { filed.new ≡ told_in job filed.old }
+    ensures value { filed.new ≡ told_in job filed.old }
+    ensures waiters { waiters_in filed.new ≡ waiters_in filed.old }
 {
     for i in 0..filed.len() {
         if does_pend(&filed[i], job) {

@@ -14,5 +14,6 @@ mod renewal;
 mod shelf;
 mod signature;
 mod standing;
+mod waiters;
 
 pub use indexed::IndexedTable;

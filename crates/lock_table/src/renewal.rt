@@ -1,11 +1,13 @@
-//! Grants that are made when requests have left or changed.
+//! Grants that are made when requests have left or changed, and the jobs that wait then.
 ghost use Rattle.std.specs.Prelude.{◌≡◌, ◌≤◌, [], length};
 ghost use Rattle.word36.specs.declared.sizes.TheConstants.{REQUESTS};
 ghost use Rattle.lock_table.specs.Filings.{requests_in};
 ghost use Rattle.lock_table.specs.Renewals.{renewed, risen, rises};
+ghost use Rattle.lock_table.specs.Waiters.{waiters_in};
 
 use crate::filed::Filed;
 use crate::fits::are_fitting;
+use crate::waiters::waiter_bit;
 use lock_queue::Woken;
 use lock_queue::steps::{grant_of, is_told_of};
 
@@ -16,13 +18,16 @@ fn does_rise(earlier: &[Filed], f: &Filed, bits: u64) -> bool
     !f.is_granted() && f.meets(bits) && are_fitting(earlier, f.wants())
 }
 
-/// Grants what rises, and fills in the grants of those whose jobs are told.
-pub fn renew(filed: &mut [Filed], bits: u64, woken: &mut Woken)
+/// Grants what rises, fills in the grants of those whose jobs are told, and answers the bits of the
+/// jobs that wait then.
+pub fn renew(filed: &mut [Filed], bits: u64, woken: &mut Woken) -> u32
     requires { length filed.old ≤ REQUESTS }
     ensures value { filed.new ≡ renewed bits [] filed.old }
     ensures woken { woken.new.items ≡ risen bits [] filed.old }
+    ensures waiters { result ≡ waiters_in filed.new }
 {
     woken.clear();
+    let mut waiters = 0;
     for i in 0..filed.len() {
         let all = &filed[..];
         if does_rise(&all[..i], &all[i], bits) {
@@ -32,5 +37,7 @@ pub fn renew(filed: &mut [Filed], bits: u64, woken: &mut Woken)
             }
             filed[i].grant();
         }
+        waiters |= waiter_bit(&filed[i]);
     }
+    waiters
 }

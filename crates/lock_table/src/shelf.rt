@@ -1,42 +1,50 @@
 //! The requests that are present, in order of arrival, and the room for others.
 ghost use Rattle.std.specs.Prelude.{◌≡◌, ◌+◌, ◌<◌, ◌≤◌, [], ◌∷◌, ◌++◌, length, map, remove, IfOk, IsTrue, vec_capacity};
-ghost use Rattle.std.specs.List.{list_all};
+ghost use Rattle.std.specs.List.{list_all, list_any};
 ghost use Rattle.word36.specs.declared.sizes.TheConstants.{LOCKS_A_CALL, REQUESTS};
 ghost use Rattle.lock_queue.specs.Enqueues.{request_of};
 ghost use Rattle.lock_queue.specs.Queue.{granted_behind};
-ghost use Rattle.lock_queue.specs.WellFormed.{is_in_range};
+ghost use Rattle.lock_queue.specs.WellFormed.{are_well_formed, is_in_range};
 ghost use Rattle.lock_table.specs.Departures.{with_fewer};
 ghost use Rattle.lock_table.specs.Filings.{filing, requests_in, AreRight};
-ghost use Rattle.lock_table.specs.Findings.{told_in};
+ghost use Rattle.lock_table.specs.Findings.{blocks, told_in};
 ghost use Rattle.lock_table.specs.Renewals.{renewed, risen};
 
 use crate::departures::remove_keys_of;
 use crate::filed::Filed;
-use crate::jobs::tell;
+use crate::jobs::{does_some_block, tell};
 use crate::renewal::renew;
+use crate::waiters::waiter_bit;
 use lock_queue::{EnqueueKind, RequestId, Want, Wants, Woken};
 use std::alloc::{AllocError, Global};
 use std::marker::Model;
-use word36::REQUESTS;
+use word36::{JOBS, REQUESTS};
 
-/// Requests in order of arrival, and the unused ones; there are 256 in all, made at the start.
+/// Requests in order of arrival, and the unused ones; there are 256 in all, made at the start. Beside
+/// them is kept which jobs wait, so that it need not be looked for.
 #[derive(Drop)]
 pub struct Shelf {
     present: Vec<Filed>,
     spare: Vec<Filed>,
+    /// The bits of the jobs that wait, where they are known.
+    waiters: u32,
+    /// Whether they are known: not from a removal until grants are renewed.
+    waiters_known: bool,
 }
 
 impl Model for Shelf {
-    ghost use Rattle.std.specs.Prelude.{◌≡◌, ◌≤◌, ◌+◌, List, length, vec_capacity};
+    ghost use Rattle.std.specs.Prelude.{◌≡◌, ◌≤◌, ◌+◌, List, true, length, vec_capacity};
     ghost use Rattle.word36.specs.declared.sizes.TheConstants.{REQUESTS};
     ghost use Rattle.lock_table.specs.Filings.{Filing};
+    ghost use Rattle.lock_table.specs.Waiters.{waiters_in};
 
     ghost Value = { List Filing };
 
     ghost view = { λ s. s.present.items };
 
     ghost invariant = { λ s. (length s.present.items + length s.spare.items ≡ REQUESTS)
-        × (REQUESTS ≤ vec_capacity s.present) × (REQUESTS ≤ vec_capacity s.spare) };
+        × (REQUESTS ≤ vec_capacity s.present) × (REQUESTS ≤ vec_capacity s.spare)
+        × (s.waiters_known ≡ true → s.waiters ≡ waiters_in s.present.items) };
 }
 
 fn spares(alloc: Global) -> Result<Vec<Filed>, AllocError>
@@ -70,6 +78,8 @@ impl Shelf {
         Ok(Shelf {
             present: Vec::with_capacity(alloc, REQUESTS)?,
             spare: spares(alloc)?,
+            waiters: 0,
+            waiters_known: true,
         })
     }
 
@@ -81,6 +91,7 @@ impl Shelf {
         self.present.as_slice()
     }
 
+    #[tactic(auto, using(crate::proofs::WaiterLaws::waiters_push))]
     fn append(
         &mut self,
         job: u8,
@@ -98,6 +109,7 @@ impl Shelf {
     {
         let mut filed = self.spare.swap_remove(self.spare.len() - 1);
         filed.write(job, id, kind, told, wants, granted);
+        self.waiters |= waiter_bit(&filed);
         let _ = self.present.push(filed);
     }
 
@@ -134,6 +146,7 @@ impl Shelf {
     {
         let filed = self.present.remove(i);
         let _ = self.spare.push(filed);
+        self.waiters_known = false;
     }
 
     /// Takes out all.
@@ -141,6 +154,8 @@ impl Shelf {
         ensures { self.new ≡ [] }
     {
         move_all(&mut self.present, &mut self.spare);
+        self.waiters = 0;
+        self.waiters_known = true;
     }
 
     /// Grants what is granted now among what was not and touches these groups, and fills in these
@@ -150,7 +165,21 @@ impl Shelf {
         ensures few { length self.new ≤ REQUESTS }
         ensures woken { woken.new.items ≡ risen bits [] self.old }
     {
-        renew(self.present.as_mut_slice(), bits, woken);
+        self.waiters = renew(self.present.as_mut_slice(), bits, woken);
+        self.waiters_known = true;
+    }
+
+    /// Whether a job waits by one of the requests.
+    #[tactic(auto, using(crate::proofs::WaiterLaws::waiter_known))]
+    pub fn has_waiter(&self, job: u8) -> bool
+        requires { IsTrue (are_well_formed (requests_in self.now)) }
+        ensures { result ≡ list_any (blocks job) self.now }
+    {
+        if self.waiters_known && job <= JOBS {
+            self.waiters >> job & 1 == 1
+        } else {
+            does_some_block(self.as_slice(), job)
+        }
     }
 
     /// Marks the pending request of a job as told.
@@ -165,6 +194,7 @@ impl Shelf {
     pub fn remove_keys_of(&mut self, job: u8, named: &[Want])
         ensures { self.new ≡ map (with_fewer job named.now) self.old }
     {
+        self.waiters_known = false;
         remove_keys_of(self.present.as_mut_slice(), job, named);
     }
 }

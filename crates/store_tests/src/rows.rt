@@ -1,0 +1,207 @@
+//! The rows of a test, and the machine that they are walked on, with either store of core.
+
+use core_store::{BlockCore, CoreStore, PlainCore};
+use job_sched::{Stop, Wait};
+use lock_queue::PlainTable;
+use mac_asm::assemble;
+use monitor::{Answer, Config, Event, RefusedEvent, System};
+use std::alloc::Global;
+use std::process::Abort;
+use word36::Image;
+
+/// What an event must answer.
+#[derive(Clone, Copy, Debug)]
+pub enum Reply {
+    Done,
+    JobNumber(u8),
+    Refused(RefusedEvent),
+}
+
+/// Something that happens to the machine and what it must answer, or something that must be seen.
+#[derive(Clone, Copy, Debug)]
+pub enum Row<'a> {
+    /// The image of a source begins at a line as the job of this number, and starts.
+    Begins(u8, &'a str, u8),
+    /// The image of a source comes at a line, and the answer.
+    LogsIn(u8, &'a str, Reply),
+    /// An event, and its answer.
+    Happens(Event<'a>, Reply),
+    /// Steps with a tick behind each: the numbers of the jobs that run, 0 where none does.
+    Turns(&'a [u8]),
+    /// So many steps with a tick behind each, in so many of which a job runs.
+    Rounds(u32, u32),
+    /// A job's PC, why it is stopped, and the wait that holds.
+    Job(u8, u32, Option<Stop>, Wait),
+    /// The word at a place of a job; `None` where the place is not legal.
+    Word(u8, u32, Option<u64>),
+    /// All words of a job from a place on and below another are this one.
+    All(u8, u32, u32, u64),
+}
+
+impl Reply {
+    /// Whether an answer is this one.
+    fn is(self, answer: &Answer) -> bool {
+        match (self, answer) {
+            (Reply::Done, Answer::Done) => true,
+            (Reply::JobNumber(job), Answer::JobNumber(number)) => job == *number,
+            (Reply::Refused(reason), Answer::Refused(refused)) => reason == *refused,
+            _ => false,
+        }
+    }
+}
+
+/// Whether an event answers so.
+pub fn answers<C: CoreStore>(
+    system: &mut System<PlainTable, C>,
+    event: &Event,
+    reply: Reply,
+) -> bool {
+    reply.is(&system.event(event))
+}
+
+/// Whether an image is answered so at a line.
+fn logs_in<C: CoreStore>(
+    system: &mut System<PlainTable, C>,
+    line: u8,
+    image: &Image,
+    reply: Reply,
+) -> bool {
+    answers(system, &Event::Login(line, image), reply)
+}
+
+/// Whether an image begins at a line as the job of that number, and starts.
+pub fn begins<C: CoreStore>(
+    system: &mut System<PlainTable, C>,
+    line: u8,
+    image: &Image,
+    number: u8,
+) -> bool {
+    logs_in(system, line, image, Reply::JobNumber(number))
+        && answers(system, &Event::Start(number), Reply::Done)
+}
+
+/// Whether a source is assembled, and its image is answered so.
+fn logs_in_source<C: CoreStore>(
+    system: &mut System<PlainTable, C>,
+    alloc: Global,
+    line: u8,
+    source: &str,
+    reply: Reply,
+) -> bool {
+    match assemble(alloc, source.as_bytes()) {
+        Ok(image) => logs_in(system, line, &image, reply),
+        Err(_) => false,
+    }
+}
+
+/// Whether a source begins at a line as the job of that number, and starts.
+fn begins_source<C: CoreStore>(
+    system: &mut System<PlainTable, C>,
+    alloc: Global,
+    line: u8,
+    source: &str,
+    number: u8,
+) -> bool {
+    logs_in_source(system, alloc, line, source, Reply::JobNumber(number))
+        && answers(system, &Event::Start(number), Reply::Done)
+}
+
+/// A step, and a tick behind it.
+const ROUND: [Event<'static>; 2] = [Event::Step, Event::Tick];
+
+/// The number of the job that runs in a step, behind which comes a tick; 0 where none does.
+pub fn turn<C: CoreStore>(system: &mut System<PlainTable, C>) -> u8 {
+    let answer = system.event(&ROUND[0]);
+    system.event(&ROUND[1]);
+    match answer {
+        Answer::Ran(number) => number,
+        _ => 0,
+    }
+}
+
+/// Whether the jobs of these numbers run in so many steps, with a tick behind each.
+fn turns<C: CoreStore>(system: &mut System<PlainTable, C>, numbers: &[u8]) -> bool {
+    for number in numbers {
+        if turn(system) != *number {
+            return false;
+        }
+    }
+    true
+}
+
+/// Whether a job is at that PC, stopped so, and waits so.
+fn is_at<C: CoreStore>(
+    system: &System<PlainTable, C>,
+    number: u8,
+    pc: u32,
+    stop: Option<Stop>,
+    wait: Wait,
+) -> bool {
+    match system.job(number) {
+        Some(job) => job.pc.number() == pc && job.stop == stop && job.wait == wait,
+        None => false,
+    }
+}
+
+/// Whether the word at a place of a job is this one, or there is none.
+fn is_word<C: CoreStore>(
+    system: &System<PlainTable, C>,
+    number: u8,
+    place: u32,
+    word: Option<u64>,
+) -> bool {
+    system.peek(number, place).map(|word| word.number()) == word
+}
+
+/// Whether all words of a job from a place on and below another are this one.
+fn are_words<C: CoreStore>(
+    system: &System<PlainTable, C>,
+    number: u8,
+    from: u32,
+    until: u32,
+    word: u64,
+) -> bool {
+    (from..until).all(|place| is_word(system, number, place, Some(word)))
+}
+
+impl Row<'_> {
+    /// Whether the row holds of the machine.
+    fn holds<C: CoreStore>(&self, system: &mut System<PlainTable, C>, alloc: Global) -> bool {
+        match self {
+            Row::Begins(line, source, number) => {
+                begins_source(system, alloc, *line, source, *number)
+            }
+            Row::LogsIn(line, source, reply) => {
+                logs_in_source(system, alloc, *line, source, *reply)
+            }
+            Row::Happens(event, reply) => answers(system, event, *reply),
+            Row::Turns(numbers) => turns(system, numbers),
+            Row::Rounds(most, ran) => system.steps(*most, true) == *ran,
+            Row::Job(number, pc, stop, wait) => is_at(system, *number, *pc, *stop, *wait),
+            Row::Word(number, place, word) => is_word(system, *number, *place, *word),
+            Row::All(number, from, until, word) => {
+                are_words(system, *number, *from, *until, *word)
+            }
+        }
+    }
+}
+
+/// A machine of so many blocks with a quantum of one tick.
+pub fn machine<C: CoreStore>(rt: &impl Abort, alloc: Global, blocks: u32) -> System<PlainTable, C> {
+    let config = Config::new(blocks, 1).expect(rt, "no machine is of that size");
+    System::boot(alloc, config).expect(rt, "memory for the machine")
+}
+
+/// Walks the rows on a machine of so many blocks with one of the stores, which the message names.
+fn walk_on<C: CoreStore>(rt: &impl Abort, alloc: Global, store: &str, blocks: u32, rows: &[Row]) {
+    let mut system: System<PlainTable, C> = machine(rt, alloc, blocks);
+    for (i, row) in rows.iter().enumerate() {
+        assert!(rt; row.holds(&mut system, alloc), "{store}, row {i}: {row:?}");
+    }
+}
+
+/// Walks the rows on two machines of so many blocks, one with each store.
+pub fn walk(rt: &impl Abort, alloc: Global, blocks: u32, rows: &[Row]) {
+    walk_on::<PlainCore>(rt, alloc, "PlainCore", blocks, rows);
+    walk_on::<BlockCore>(rt, alloc, "BlockCore", blocks, rows);
+}
