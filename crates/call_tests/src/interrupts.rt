@@ -1,11 +1,15 @@
 //! PIINI., PISYS. and DEBRK., and requests that interrupt.
 
-use crate::locks::{BLOCK, DEQ, ENQ, exclusive, put_block};
-use crate::machine::{BACK, Machine, NEXT, SKIPPED};
+use crate::locks::{BLOCK, DEQ, ENQ, EXCLUSIVE};
+use crate::machine::{BACK, NEXT, SKIPPED};
+use crate::rows::Act::{Block, Comes, Interrupts, Stores};
+use crate::rows::Row::{Asks, Calls, Does, Sees};
+use crate::rows::Sight::{Flags, InProgress, Pending, Requests, Stopped, Switch, TakesInterrupts};
+use crate::rows::walk;
 use job_sched::{NO_INTERRUPTS, Stop};
-use ka_cpu::StopReason;
-use lock_queue::{LockTable, RequestId};
+use ka_cpu::StopReason::IllegalAddress;
 use std::test::Fail;
+use uuo_calls::CallOutcome::Done;
 
 const RESET: u32 = 0;
 
@@ -17,105 +21,105 @@ const PISYS: u32 = 0o136;
 
 const DEBRK: u32 = 0o137;
 
-/// Whether the interrupts of job 1 are on, if it has a vector.
-fn switch(machine: &Machine) -> Option<bool> {
-    let interrupts = machine.interrupts(1);
-    match interrupts.vector {
-        Some(_) => Some(interrupts.on),
-        None => None,
-    }
-}
-
 #[test]
 fn vector_has_four_legal_words(rt: HostRuntime) -> Result<(), Fail> {
-    let mut machine = Machine::with_job(rt.alloc())?;
-    for word in [0o1775, 0o2000, 0o777_775] {
-        assert_eq!(rt; machine.ask(1, PIINI, word), (NEXT, 1), "{word}");
-        assert_eq!(rt; switch(&machine), None);
-    }
-    for word in [0, 0o14, 0o17, 0o1774, 0o5_000200] {
-        assert_eq!(rt; machine.ask(1, PIINI, word), (SKIPPED, word), "{word}");
-        assert_eq!(rt; switch(&machine), Some(false));
-    }
-    Ok(())
+    let rows = [
+        Asks(1, PIINI, 0o1775, (NEXT, 1)),
+        Sees(Switch(1, None)),
+        Asks(1, PIINI, 0o2000, (NEXT, 1)),
+        Sees(Switch(1, None)),
+        Asks(1, PIINI, 0o777_775, (NEXT, 1)),
+        Sees(Switch(1, None)),
+        Asks(1, PIINI, 0, (SKIPPED, 0)),
+        Sees(Switch(1, Some(false))),
+        Asks(1, PIINI, 0o14, (SKIPPED, 0o14)),
+        Sees(Switch(1, Some(false))),
+        Asks(1, PIINI, 0o17, (SKIPPED, 0o17)),
+        Sees(Switch(1, Some(false))),
+        Asks(1, PIINI, 0o1774, (SKIPPED, 0o1774)),
+        Sees(Switch(1, Some(false))),
+        Asks(1, PIINI, 0o5_000200, (SKIPPED, 0o5_000200)),
+        Sees(Switch(1, Some(false))),
+    ];
+    walk(&rt, rt.alloc(), &rows)
 }
 
 /// PISYS. compares the whole word, and asks for the value before the vector.
 #[test]
 fn interrupts_are_switched(rt: HostRuntime) -> Result<(), Fail> {
-    let mut machine = Machine::with_job(rt.alloc())?;
-    assert_eq!(rt; machine.ask(1, PISYS, 5), (NEXT, 1));
-    assert_eq!(rt; machine.ask(1, PISYS, 0), (NEXT, 2));
-    assert_eq!(rt; machine.ask(1, PISYS, 1), (NEXT, 2));
-    machine.ask(1, PIINI, 0o200);
-    assert_eq!(rt; machine.ask(1, PISYS, 1), (SKIPPED, 1));
-    assert_eq!(rt; switch(&machine), Some(true));
-    for word in [2, 0o1_000000, 0o1_000001, 0o400000_000000] {
-        assert_eq!(rt; machine.ask(1, PISYS, word), (NEXT, 1), "{word}");
-        assert_eq!(rt; switch(&machine), Some(true));
-    }
-    assert_eq!(rt; machine.ask(1, PISYS, 0), (SKIPPED, 0));
-    assert_eq!(rt; switch(&machine), Some(false));
-    machine.ask(1, PISYS, 1);
-    machine.ask(1, RESET, 0);
-    assert_eq!(rt; machine.interrupts(1), NO_INTERRUPTS);
-    Ok(())
+    let rows = [
+        Asks(1, PISYS, 5, (NEXT, 1)),
+        Asks(1, PISYS, 0, (NEXT, 2)),
+        Asks(1, PISYS, 1, (NEXT, 2)),
+        Asks(1, PIINI, 0o200, (SKIPPED, 0o200)),
+        Asks(1, PISYS, 1, (SKIPPED, 1)),
+        Sees(Switch(1, Some(true))),
+        Asks(1, PISYS, 2, (NEXT, 1)),
+        Sees(Switch(1, Some(true))),
+        Asks(1, PISYS, 0o1_000000, (NEXT, 1)),
+        Sees(Switch(1, Some(true))),
+        Asks(1, PISYS, 0o1_000001, (NEXT, 1)),
+        Sees(Switch(1, Some(true))),
+        Asks(1, PISYS, 0o400000_000000, (NEXT, 1)),
+        Sees(Switch(1, Some(true))),
+        Asks(1, PISYS, 0, (SKIPPED, 0)),
+        Sees(Switch(1, Some(false))),
+        Asks(1, PISYS, 1, (SKIPPED, 1)),
+        Asks(1, RESET, 0, (NEXT, 0)),
+        Sees(TakesInterrupts(1, NO_INTERRUPTS)),
+    ];
+    walk(&rt, rt.alloc(), &rows)
 }
 
 /// A delivery stored 010000,,000151 behind the vector's first word; Overflow and No Divide are taken
-/// from the word too.
+/// from the word too. Behind a vector that is not legal any more nothing changes.
 #[test]
 fn interrupt_is_dismissed(rt: HostRuntime) -> Result<(), Fail> {
-    let mut machine = Machine::with_job(rt.alloc())?;
-    machine.ask(1, PIINI, 0o200);
-    assert_eq!(rt; machine.ask(1, DEBRK, 0), (NEXT, 0), "none is in progress");
-    for (word, overflow, no_divide) in [
-        (0o010000_000151, false, false),
-        (0o410040_000151, true, true),
-    ] {
-        machine.store(1, 0o201, &[word]);
-        machine.rewind(1);
-        machine.interrupt(1);
-        machine.calli(1, 0, DEBRK);
-        let flags = machine.flags(1);
-        assert_eq!(rt; machine.pc(1), 0o151);
-        assert_eq!(rt; (flags.overflow, flags.no_divide), (overflow, no_divide));
-        assert!(rt; !machine.interrupts(1).in_progress);
-    }
-    machine.ask(1, CORE, 0o3777);
-    machine.ask(1, PIINI, 0o1777 + 0o1000);
-    machine.ask(1, CORE, 1);
-    machine.rewind(1);
-    machine.interrupt(1);
-    machine.calli(1, 0, DEBRK);
-    assert_eq!(rt;
-        machine.stop(1),
-        Some(Stop::Fault(StopReason::IllegalAddress))
-    );
-    assert_eq!(rt; machine.pc(1), BACK);
-    assert!(rt; machine.interrupts(1).in_progress);
-    Ok(())
+    let rows = [
+        Asks(1, PIINI, 0o200, (SKIPPED, 0o200)),
+        // None is in progress.
+        Asks(1, DEBRK, 0, (NEXT, 0)),
+        Does(Stores(1, 0o201, &[0o010000_000151])),
+        Does(Interrupts(1)),
+        Calls(1, 0, DEBRK, (Done, 0o151)),
+        Sees(Flags(1, (false, false))),
+        Sees(InProgress(1, false)),
+        Does(Stores(1, 0o201, &[0o410040_000151])),
+        Does(Interrupts(1)),
+        Calls(1, 0, DEBRK, (Done, 0o151)),
+        Sees(Flags(1, (true, true))),
+        Sees(InProgress(1, false)),
+        Asks(1, CORE, 0o3777, (SKIPPED, 0o76)),
+        Asks(1, PIINI, 0o2777, (SKIPPED, 0o2777)),
+        Asks(1, CORE, 1, (SKIPPED, 0o77)),
+        Does(Interrupts(1)),
+        Calls(1, 0, DEBRK, (Done, BACK)),
+        Sees(Stopped(1, Some(Stop::Fault(IllegalAddress)))),
+        Sees(InProgress(1, true)),
+    ];
+    walk(&rt, rt.alloc(), &rows)
 }
 
 /// ENQ. 2 needs a vector; queued, it answers 1 and stays; another's DEQ. grants it, and it is pending.
 /// Granted at once it is never pending.
 #[test]
 fn request_that_interrupts(rt: HostRuntime) -> Result<(), Fail> {
-    let mut machine = Machine::with_job(rt.alloc())?;
-    machine.log_in(2, 1, 1);
-    put_block(&mut machine, 1, BLOCK, 7, &[exclusive(1)]);
-    put_block(&mut machine, 2, BLOCK, 9, &[exclusive(1)]);
-    assert_eq!(rt; machine.ask(1, ENQ, 0o2_000300), (NEXT, 0o17));
-    assert_eq!(rt; machine.locks.len(), 0);
-    assert_eq!(rt; machine.ask(2, ENQ, 0o300), (SKIPPED, 0o300));
-    machine.ask(1, PIINI, 0o200);
-    assert_eq!(rt; machine.ask(1, ENQ, 0o2_000300), (NEXT, 1));
-    assert_eq!(rt; machine.locks.len(), 2);
-    assert_eq!(rt; machine.locks.pending(1), None);
-    assert_eq!(rt; machine.ask(2, DEQ, 0o1_000000), (SKIPPED, 0o1_000000));
-    assert_eq!(rt; machine.locks.pending(1), Some(RequestId::new(7)));
-    machine.ask(1, DEQ, 0o2_000007);
-    assert_eq!(rt; machine.ask(1, ENQ, 0o2_000300), (SKIPPED, 0o2_000300));
-    assert_eq!(rt; machine.locks.pending(1), None);
-    Ok(())
+    let rows = [
+        Does(Comes(2, 1)),
+        Does(Block(1, BLOCK, 7, &[EXCLUSIVE])),
+        Does(Block(2, BLOCK, 9, &[EXCLUSIVE])),
+        Asks(1, ENQ, 0o2_000300, (NEXT, 0o17)),
+        Sees(Requests(0)),
+        Asks(2, ENQ, 0o300, (SKIPPED, 0o300)),
+        Asks(1, PIINI, 0o200, (SKIPPED, 0o200)),
+        Asks(1, ENQ, 0o2_000300, (NEXT, 1)),
+        Sees(Requests(2)),
+        Sees(Pending(1, None)),
+        Asks(2, DEQ, 0o1_000000, (SKIPPED, 0o1_000000)),
+        Sees(Pending(1, Some(7))),
+        Asks(1, DEQ, 0o2_000007, (SKIPPED, 0o2_000007)),
+        Asks(1, ENQ, 0o2_000300, (SKIPPED, 0o2_000300)),
+        Sees(Pending(1, None)),
+    ];
+    walk(&rt, rt.alloc(), &rows)
 }

@@ -13,6 +13,10 @@ mod locks;
 #[cfg(test)]
 mod machine;
 #[cfg(test)]
+mod parts;
+#[cfg(test)]
+mod rows;
+#[cfg(test)]
 mod schedule;
 #[cfg(test)]
 mod terminal;

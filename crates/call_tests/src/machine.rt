@@ -5,7 +5,7 @@ ghost use Rattle.word36.specs.declared.sizes.TheConstants.{MOST_BLOCKS};
 
 use core_store::{CoreStore, PlainCore};
 use job_sched::{Interrupts, Job, JobTable, NO_FLAGS, NO_INTERRUPTS, Stop, TimeOfDay, Wait};
-use ka_cpu::{CallKind, Flags, Regs};
+use ka_cpu::{CallKind, Flags, Regs, StopReason};
 use lock_queue::{LockTable, PlainTable};
 use std::alloc::{AllocError, Global};
 use tty_lines::{LineNumber, Lines};
@@ -124,11 +124,12 @@ impl Machine {
         }
     }
 
-    /// Lets an interrupt of a job be in progress.
+    /// Lets a job be at its call again, with an interrupt in progress.
     pub fn interrupt(&mut self, n: u8) {
         if n > JOBS {
             return;
         }
+        self.rewind(n);
         if let Some(mut job) = self.job(n) {
             job.interrupts.in_progress = true;
             self.table.place(n, job);
@@ -178,7 +179,7 @@ impl Machine {
     }
 
     /// Lets a job be at its call again, not stopped and without a wait.
-    pub fn rewind(&mut self, n: u8) {
+    fn rewind(&mut self, n: u8) {
         if n > JOBS {
             return;
         }
@@ -241,13 +242,13 @@ impl Machine {
     }
 
     /// Makes a CALLI of this AC field and number.
-    pub fn calli(&mut self, n: u8, ac: u8, e: u32) -> CallOutcome {
+    fn calli(&mut self, n: u8, ac: u8, e: u32) -> CallOutcome {
         let kind = CallKind::Calli;
         self.call(n, MonitorCall { kind, ac, e })
     }
 
     /// Makes a TTCALL of this function and E.
-    pub fn ttcall(&mut self, n: u8, ac: u8, e: u32) -> CallOutcome {
+    fn ttcall(&mut self, n: u8, ac: u8, e: u32) -> CallOutcome {
         let kind = CallKind::Ttcall;
         self.call(n, MonitorCall { kind, ac, e })
     }
@@ -259,5 +260,28 @@ impl Machine {
         self.set_ac(n, 1, word);
         self.calli(n, 1, e);
         (self.pc(n), self.ac(n, 1))
+    }
+
+    /// Makes a CALLI of a job that is at its call again: how it ends, and the PC.
+    pub fn calls(&mut self, n: u8, ac: u8, e: u32) -> (CallOutcome, u32) {
+        self.rewind(n);
+        let outcome = self.calli(n, ac, e);
+        (outcome, self.pc(n))
+    }
+
+    /// Makes a TTCALL of job 1 at its call again: how it ends, the PC and the wait.
+    pub fn tty(&mut self, function: u8, e: u32) -> (CallOutcome, u32, Wait) {
+        self.rewind(1);
+        let outcome = self.ttcall(1, function, e);
+        (outcome, self.pc(1), self.wait(1))
+    }
+
+    /// Whether job 1 is stopped at its call as an illegal instruction, and nothing else has changed.
+    pub fn is_refused(&self) -> bool {
+        self.stop(1) == Some(Stop::Fault(StopReason::IllegalInstruction))
+            && self.pc(1) == BACK
+            && self.wait(1) == Wait::None
+            && self.ac(1, 1) == 0
+            && self.requests() == 0
     }
 }

@@ -1,3 +1,4 @@
 pub mod Circle
+pub mod Quanta
 pub mod Sleepers
 pub mod Turns

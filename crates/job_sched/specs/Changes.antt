@@ -1,5 +1,5 @@
 -- What becomes of the table of jobs (this project's profile).
-use Rattle.std.specs.Prelude.{ℕ, ◌+◌, ◌-◌, ◌==◌, ◌&&◌, nat_lt, Bool, false, is_none, if◌then◌else◌, List, [], ◌∷◌, drop, map, slice_set, Option, Some, None, Result, Ok, Err}
+use Rattle.std.specs.Prelude.{ℕ, zero, suc, ◌+◌, ◌-◌, ◌==◌, ◌&&◌, nat_lt, Bool, false, is_none, if◌then◌else◌, List, [], ◌∷◌, drop, map, slice_set, Option, Some, None, Result, Ok, Err}
 use Rattle.std.specs.Option.{option_map}
 use Rattle.job_sched.specs.declared.job.Job.{Job}
 use Rattle.job_sched.specs.declared.job_error.JobError.{JobError}
@@ -56,6 +56,15 @@ free_number jobs = first_free 1 (drop 1 jobs)
 abbrev pub chosen : Table → ℕ → ℕ → Table
 chosen t n quantum = if (t.current == n) && nat_lt 0 t.left then t else record t { current = n; left = quantum }
 
--- so many ticks of the quantum go by
-abbrev pub spent : Table → ℕ → Table
-spent t n = record t { left = t.left - n }
+-- what a job that is next again has left: a whole quantum where nothing was left
+abbrev pub renewed : ℕ → ℕ → ℕ
+renewed quantum left = if nat_lt 0 left then left else quantum
+
+-- what it has left after so many rounds in a row, each with its tick, when it is next again
+abbrev pub left_after : ℕ → ℕ → ℕ → ℕ
+left_after quantum left zero = left
+left_after quantum left (suc rounds) = renewed quantum (left_after quantum left rounds - 1)
+
+-- the current job has run for so many rounds in a row, each with its tick, and is next again
+abbrev pub spent : Table → ℕ → ℕ → Table
+spent t quantum rounds = record t { left = left_after quantum t.left rounds }

@@ -1,5 +1,5 @@
 -- A job that runs on as long as it computes (this project's profile).
-use Rattle.std.specs.Prelude.{ℕ, ◌≡◌, ◌<◌, ◌≤◌, Bool, true, false, List, Option, Some, None}
+use Rattle.std.specs.Prelude.{ℕ, ◌≡◌, ◌<◌, ◌≤◌, ◌==◌, ◌&&◌, Bool, true, false, Option, Some, None}
 use Rattle.std.specs.List.{list_any}
 use Rattle.job_sched.specs.Jobs.{takes_interrupts}
 use Rattle.job_sched.specs.Tables.{Table, is_sleeper, job_at}
@@ -10,11 +10,15 @@ abbrev pub is_open : Option Job → Bool
 is_open (Some j) = takes_interrupts j.interrupts
 is_open None = false
 
+-- whether job n, which is next, has just used up its quantum: then all others were asked before it, and none is ready
+abbrev pub is_alone : Table → ℕ → Bool
+is_alone t n = (t.current == n) && (t.left == 0)
+
 -- Nothing comes between so many rounds of the current job, with ticks or without, as long as it only computes: it takes no
--- interrupts, its quantum lasts, and where ticks go by nobody sleeps.
-pub record Undisturbed (t : Table) (n : ℕ) (ticking : Bool) (rounds : ℕ) : Type 0 where
+-- interrupts, and where ticks go by nobody sleeps, and its quantum lasts or it is alone.
+pub record Undisturbed (t : Table) (n : ℕ) (ticking alone : Bool) (rounds : ℕ) : Type 0 where
   pub current : t.current ≡ n
   pub quantum : 0 < t.left
-  pub lasts : ticking ≡ true → rounds ≤ t.left
+  pub lasts : ticking ≡ true → alone ≡ false → rounds ≤ t.left
   pub awake : ticking ≡ true → list_any is_sleeper t.jobs ≡ false
   pub closed : is_open (job_at t.jobs n) ≡ false

@@ -1,6 +1,6 @@
 //! Laws of the scheduler. Each function does nothing: its contract is the law.
 
-ghost use Rattle.job_sched.specs.Laws.{IdleMeansNoneIsReady, NextIsReady};
+ghost use Rattle.job_sched.specs.Laws.{AloneMeansNoOtherIsReady, IdleMeansNoneIsReady, NextIsReady};
 
 /// The job that is to run is ready.
 pub fn next_is_ready()
@@ -10,4 +10,9 @@ pub fn next_is_ready()
 /// No job is to run only where no job is ready.
 pub fn idle_means_none_is_ready()
     ensures { IdleMeansNoneIsReady }
+{}
+
+/// No other job is ready where a job is next though its quantum has just ended.
+pub fn alone_means_no_other_is_ready()
+    ensures { AloneMeansNoOtherIsReady }
 {}

@@ -6,8 +6,8 @@ ghost use Rattle.std.specs.Option.{option_copied, option_map};
 ghost use Rattle.word36.specs.declared.sizes.TheConstants.{JOBS};
 ghost use Rattle.job_sched.specs.Jobs.{broken_job, going_on, started_job, ticked_job};
 ghost use Rattle.job_sched.specs.Tables.{is_sleeper, job_at, no_jobs};
-ghost use Rattle.job_sched.specs.Changes.{broken_table, chosen, free_number, is_at, spent, standing, table_without, ticked_table, with_change, with_job};
-ghost use Rattle.job_sched.specs.Spans.{Undisturbed, is_open};
+ghost use Rattle.job_sched.specs.Changes.{broken_table, chosen, free_number, is_at, left_after, spent, standing, table_without, ticked_table, with_change, with_job};
+ghost use Rattle.job_sched.specs.Spans.{Undisturbed, is_alone, is_open};
 ghost use Rattle.job_sched.specs.Ready.{after, first_from, holds, is_ready, next_job};
 
 use crate::{Job, JobError, Wait};
@@ -117,6 +117,19 @@ fn vacant_without(vacant_from: u8, number: u8) -> u8
     } else {
         vacant_from
     }
+}
+
+/// What is left of a quantum after so many rounds of one job, each with its tick, when it is next
+/// again.
+#[inline(always)]
+fn left_after(quantum: u8, left: u8, rounds: u32) -> u8
+    ensures { result ≡ left_after quantum left rounds }
+{
+    let first = u32::from(left.max(1));
+    if quantum == 0 || rounds < first {
+        return u32::from(left).saturating_sub(rounds) as u8;
+    }
+    quantum - ((rounds - first) % u32::from(quantum)) as u8
 }
 
 /// A tick goes by for all jobs. Whether one still sleeps.
@@ -281,34 +294,46 @@ impl JobTable {
         }
     }
 
-    /// In how many of some rounds, which are steps with ticks or without, a job runs that was just
-    /// chosen, as long as it only computes: nothing comes between so many.
+    /// Whether a job that is next has just used up its quantum: then all others were asked before it,
+    /// and none is ready.
     #[inline(always)]
-    pub fn span(&self, number: u8, most: u32, ticking: bool) -> u32
+    pub fn is_alone(&self, number: u8) -> bool
+        ensures { result ≡ is_alone self.now number }
+    {
+        self.current == number && self.left == 0
+    }
+
+    /// In how many of some rounds, which are steps with ticks or without, a job runs that was just
+    /// chosen, and was alone before or not, as long as it only computes: nothing comes between so many.
+    #[inline(always)]
+    pub fn span(&self, number: u8, most: u32, ticking: bool, alone: bool) -> u32
         requires number { number ≤ JOBS }
         requires some { 1 ≤ most }
         ensures least { 1 ≤ result }
         ensures most { result ≤ most }
-        ensures undisturbed { 2 ≤ result → Undisturbed self.now number ticking result }
+        ensures undisturbed { 2 ≤ result → Undisturbed self.now number ticking alone result }
     {
-        if self.current != number || self.left == 0 || is_open(&self.jobs[number as usize]) {
+        let limit = if ticking && !alone {
+            most.min(u32::from(self.left))
+        } else {
+            most
+        };
+        if limit < 2 || self.current != number || self.left == 0 {
             return 1;
         }
-        if !ticking {
-            return most;
-        }
-        if self.sleepers {
+        if ticking && self.sleepers || is_open(&self.jobs[number as usize]) {
             return 1;
         }
-        most.min(u32::from(self.left))
+        limit
     }
 
-    /// So many ticks of the quantum go by, in which nobody sleeps.
+    /// The current job has run for so many rounds in a row, each with its tick, in which nobody
+    /// sleeps, and is next again: where its quantum ended it has a whole one.
     #[inline(always)]
-    pub fn spend(&mut self, ticks: u32)
-        ensures { self.new ≡ spent self.old ticks }
+    pub fn spend(&mut self, rounds: u32, quantum: u8)
+        ensures { self.new ≡ spent self.old quantum rounds }
     {
-        self.left = u32::from(self.left).saturating_sub(ticks) as u8;
+        self.left = left_after(quantum, self.left, rounds);
     }
 
     /// CTRL-C at a line: the job there stops, unless it is stopped already.

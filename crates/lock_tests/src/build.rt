@@ -1,188 +1,148 @@
-//! Wants, calls and answers for the tests.
-ghost use Rattle.std.specs.Prelude.{◌≡◌, ◌<◌, ◌^◌, false, length, nat_le, IsTrue, None};
+//! Calls on the queue from plain data.
+ghost use Rattle.std.specs.Prelude.{length, nat_le, IsTrue};
 ghost use Rattle.std.specs.List.{list_all};
 ghost use Rattle.lock_queue.specs.WellFormed.{names_locks, shares_no_pool, shares_no_pools};
 
 use lock_queue::{
-    EnqueueKind, Grant, Key, Level, LockCall, LockTable, Name, Pool, RequestId, Scope, Status,
-    UserCode, Want, Wants,
+    EnqueueKind, Key, Level, LockCall, Name, Pool, RequestId, Scope, UserCode, Want, Wants,
 };
 
-/// A name of all jobs.
-pub fn key(number: u64) -> Key
-    requires { number < 2 ^ 33 }
-{
+/// A lock that is asked for: a user code of all jobs, and its level.
+#[derive(Clone, Copy, Debug)]
+pub enum Lock {
+    /// For oneself.
+    Alone(u32, u8),
+    /// With others who share.
+    Shared(u32, u8),
+    /// For oneself, and the rule of rising levels is not asked of it.
+    Bypassing(u32, u8),
+    /// Of a pool: its code, its size, and how much of it. Its level is 0.
+    OfPool(u32, u32, u32),
+}
+
+/// The locks of a call.
+#[derive(Clone, Copy, Debug)]
+pub enum Locks {
+    One(Lock),
+    Two(Lock, Lock),
+}
+
+/// A call on the queue.
+#[derive(Clone, Copy, Debug)]
+pub enum Call {
+    /// ENQ. of this kind, functions 0 to 2, with an id.
+    Asks(EnqueueKind, u16, Locks),
+    /// ENQ. function 2 with an id, of a job that cannot be interrupted.
+    AsksUnarmed(u16, Locks),
+    /// ENQ. function 3.
+    Changes(Locks),
+    /// DEQ. function 0.
+    GivesUp(Locks),
+    /// DEQ. function 1.
+    GivesUpAll,
+    /// DEQ. function 2.
+    GivesUpId(u16),
+}
+
+/// A user code of all jobs.
+pub fn key(code: u32) -> Key {
     Key {
         scope: Scope::All,
-        name: Name::Code(UserCode::new(number)),
+        name: Name::Code(UserCode::new(u64::from(code))),
     }
 }
 
-/// An exclusive want of level 0.
-pub fn want(number: u64) -> Want
-    requires { number < 2 ^ 33 }
-    ensures alone { result.shared ≡ false }
-    ensures unpooled { result.pool ≡ None }
-    ensures right { IsTrue (shares_no_pool result) }
+/// A want for oneself.
+pub fn alone(code: u32, level: u8) -> Want
+    ensures { IsTrue (shares_no_pool result) }
 {
     Want {
-        key: key(number),
+        key: key(code),
         shared: false,
         bypass: false,
-        level: Level::new(0),
+        level: Level::new(u16::from(level)),
         pool: None,
     }
 }
 
-pub fn shared(number: u64) -> Want
-    requires { number < 2 ^ 33 }
+/// The want of a lock.
+fn want(lock: Lock) -> Want
     ensures { IsTrue (shares_no_pool result) }
 {
-    let mut w = want(number);
-    w.shared = true;
-    w
+    match lock {
+        Lock::Alone(code, level) => alone(code, level),
+        Lock::Shared(code, level) => Want {
+            key: key(code),
+            shared: true,
+            bypass: false,
+            level: Level::new(u16::from(level)),
+            pool: None,
+        },
+        Lock::Bypassing(code, level) => Want {
+            key: key(code),
+            shared: false,
+            bypass: true,
+            level: Level::new(u16::from(level)),
+            pool: None,
+        },
+        Lock::OfPool(code, size, amount) => Want {
+            key: key(code),
+            shared: false,
+            bypass: false,
+            level: Level::new(0),
+            pool: Pool::new(size, amount),
+        },
+    }
 }
 
-pub fn bypassing(number: u64) -> Want
-    requires { number < 2 ^ 33 }
-    ensures { IsTrue (shares_no_pool result) }
-{
-    let mut w = want(number);
-    w.bypass = true;
-    w
-}
-
-pub fn at_level(mut w: Want, level: u16) -> Want
-    requires level { level < 2 ^ 9 }
-    requires right { IsTrue (shares_no_pool w) }
-    ensures { IsTrue (shares_no_pool result) }
-{
-    w.level = Level::new(level);
-    w
-}
-
-pub fn of_pool(number: u64, size: u32, amount: u32) -> Want
-    requires { number < 2 ^ 33 }
-    ensures { IsTrue (shares_no_pool result) }
-{
-    let mut w = want(number);
-    w.pool = Pool::new(size, amount);
-    w
-}
-
-pub fn one(w: Want) -> Wants
-    requires { IsTrue (shares_no_pool w) }
+/// The wants of one lock.
+pub fn one(want: Want) -> Wants
+    requires { IsTrue (shares_no_pool want) }
     ensures some { IsTrue (nat_le 1 (length result.items)) }
     ensures right { IsTrue (list_all shares_no_pool result.items) }
 {
     let mut wants = Wants::new();
-    wants.push(w);
+    wants.push(want);
     wants
 }
 
-pub fn two(v: Want, w: Want) -> Wants
-    requires first { IsTrue (shares_no_pool v) }
-    requires second { IsTrue (shares_no_pool w) }
+/// The wants of a call.
+fn wants(locks: Locks) -> Wants
     ensures some { IsTrue (nat_le 1 (length result.items)) }
     ensures right { IsTrue (list_all shares_no_pool result.items) }
 {
-    let mut wants = Wants::new();
-    wants.push(v);
-    wants.push(w);
-    wants
-}
-
-fn enqueue(kind: EnqueueKind, id: u32, wants: Wants) -> LockCall
-    requires id { id < 2 ^ 18 }
-    requires some { IsTrue (nat_le 1 (length wants.items)) }
-    requires right { IsTrue (list_all shares_no_pool wants.items) }
-    ensures named { IsTrue (names_locks result) }
-    ensures unshared { IsTrue (shares_no_pools result) }
-{
-    LockCall::Enqueue {
-        kind,
-        id: RequestId::new(id),
-        wants,
-        armed: true,
-    }
-}
-
-/// ENQ. function 0.
-pub fn wait_for(id: u32, wants: Wants) -> LockCall
-    requires id { id < 2 ^ 18 }
-    requires some { IsTrue (nat_le 1 (length wants.items)) }
-    requires right { IsTrue (list_all shares_no_pool wants.items) }
-    ensures named { IsTrue (names_locks result) }
-    ensures unshared { IsTrue (shares_no_pools result) }
-{
-    enqueue(EnqueueKind::Blocking, id, wants)
-}
-
-/// ENQ. function 1.
-pub fn at_once(id: u32, wants: Wants) -> LockCall
-    requires id { id < 2 ^ 18 }
-    requires some { IsTrue (nat_le 1 (length wants.items)) }
-    requires right { IsTrue (list_all shares_no_pool wants.items) }
-    ensures named { IsTrue (names_locks result) }
-    ensures unshared { IsTrue (shares_no_pools result) }
-{
-    enqueue(EnqueueKind::AtOnce, id, wants)
-}
-
-/// ENQ. function 2.
-pub fn interrupt(id: u32, wants: Wants) -> LockCall
-    requires id { id < 2 ^ 18 }
-    requires some { IsTrue (nat_le 1 (length wants.items)) }
-    requires right { IsTrue (list_all shares_no_pool wants.items) }
-    ensures named { IsTrue (names_locks result) }
-    ensures unshared { IsTrue (shares_no_pools result) }
-{
-    enqueue(EnqueueKind::Interrupt, id, wants)
-}
-
-/// DEQ. function 0.
-pub fn give_up(w: Want) -> LockCall
-    requires { IsTrue (shares_no_pool w) }
-    ensures named { IsTrue (names_locks result) }
-    ensures unshared { IsTrue (shares_no_pools result) }
-{
-    LockCall::DequeueNamed(one(w))
-}
-
-/// ENQ. function 3.
-pub fn change(w: Want) -> LockCall
-    requires { IsTrue (shares_no_pool w) }
-    ensures named { IsTrue (names_locks result) }
-    ensures unshared { IsTrue (shares_no_pools result) }
-{
-    LockCall::Modify(one(w))
-}
-
-/// A grant of a job's request of this id.
-pub fn grant(job: u8, id: u32) -> Grant
-    requires { id < 2 ^ 18 }
-{
-    Grant {
-        job,
-        id: RequestId::new(id),
-    }
-}
-
-/// The three words of a status.
-pub fn words(status: Status) -> [u64; 3] {
-    let [owners, counts, amount] = status.words();
-    [owners.number(), counts.number(), amount.number()]
-}
-
-/// Which requests are granted, by their ids, in order of arrival.
-pub fn granted_ids<L: LockTable>(table: &L) -> [u32; 4] {
-    let mut ids = [0; 4];
-    let mut next = 0;
-    for i in 0..table.len() {
-        if table.granted(i) && next < 4 {
-            ids[next] = table.request(i).id.number();
-            next += 1;
+    match locks {
+        Locks::One(lock) => one(want(lock)),
+        Locks::Two(first, second) => {
+            let mut wants = Wants::new();
+            wants.push(want(first));
+            wants.push(want(second));
+            wants
         }
     }
-    ids
+}
+
+/// The call.
+pub fn lock_call(call: Call) -> LockCall
+    ensures named { IsTrue (names_locks result) }
+    ensures unshared { IsTrue (shares_no_pools result) }
+{
+    match call {
+        Call::Asks(kind, id, locks) => LockCall::Enqueue {
+            kind,
+            id: RequestId::new(u32::from(id)),
+            wants: wants(locks),
+            armed: true,
+        },
+        Call::AsksUnarmed(id, locks) => LockCall::Enqueue {
+            kind: EnqueueKind::Interrupt,
+            id: RequestId::new(u32::from(id)),
+            wants: wants(locks),
+            armed: false,
+        },
+        Call::Changes(locks) => LockCall::Modify(wants(locks)),
+        Call::GivesUp(locks) => LockCall::DequeueNamed(wants(locks)),
+        Call::GivesUpAll => LockCall::DequeueAll,
+        Call::GivesUpId(id) => LockCall::DequeueId(RequestId::new(u32::from(id))),
+    }
 }

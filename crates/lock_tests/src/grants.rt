@@ -1,73 +1,66 @@
 //! Which requests a call grants, and in what order.
 
-use crate::build::*;
-use lock_queue::{LockCall, LockReply, LockTable, PlainTable, Refusal, Woken};
+use crate::build::Call::{Asks, Changes, GivesUp, GivesUpAll};
+use crate::build::Lock::{Alone, OfPool, Shared};
+use crate::build::Locks::One;
+use crate::walk::Row::{Calls, Grants, ReleaseGrants};
+use crate::walk::walk;
+use lock_queue::EnqueueKind::{Blocking, Interrupt};
+use lock_queue::LockReply::{Done, Granted, Queued};
+use lock_queue::{LockReply, Refusal};
 use std::test::Fail;
 
-const X: u64 = 1;
+const X: u32 = 1;
 
-const Y: u64 = 2;
+const Y: u32 = 2;
 
-const T: u64 = 7;
+const T: u32 = 7;
 
 #[test]
 fn release_grants_the_next(rt: HostRuntime) -> Result<(), Fail> {
-    let mut table = PlainTable::new(rt.alloc())?;
-    let mut woken = Woken::new();
-    table.call(1, &wait_for(1, one(want(X))));
-    let asked = table.call_waking(2, &wait_for(2, one(want(X))), &mut woken);
-    assert_eq!(rt; asked, LockReply::Queued);
-    assert!(rt; woken.is_empty());
-
-    let given_up = table.call_waking(1, &give_up(want(X)), &mut woken);
-    assert_eq!(rt; given_up, LockReply::Done);
-    assert_eq!(rt; woken.as_slice(), [grant(2, 2)].as_slice());
-
-    // It has its grant already, so nothing is granted by the next call, nor by one that is refused.
-    let asked = table.call_waking(1, &wait_for(3, one(want(Y))), &mut woken);
-    assert_eq!(rt; asked, LockReply::Granted);
-    assert!(rt; woken.is_empty());
-    let refused = table.call_waking(1, &give_up(want(X)), &mut woken);
-    assert_eq!(rt; refused, LockReply::Refused(Refusal::NotPresent));
-    assert!(rt; woken.is_empty());
-    Ok(())
+    let absent = LockReply::Refused(Refusal::NotPresent);
+    let rows = [
+        Calls(1, Asks(Blocking, 1, One(Alone(X, 0))), Granted),
+        Grants(2, Asks(Blocking, 2, One(Alone(X, 0))), Queued, &[]),
+        Grants(1, GivesUp(One(Alone(X, 0))), Done, &[(2, 2)]),
+        // It has its grant already, so nothing is granted by the next call, nor by one that is refused.
+        Grants(1, Asks(Blocking, 3, One(Alone(Y, 0))), Granted, &[]),
+        Grants(1, GivesUp(One(Alone(X, 0))), absent, &[]),
+    ];
+    walk(&rt, rt.alloc(), &rows)
 }
 
 #[test]
 fn job_that_is_gone_grants_the_sharer_behind_it(rt: HostRuntime) -> Result<(), Fail> {
-    let mut table = PlainTable::new(rt.alloc())?;
-    let mut woken = Woken::new();
-    table.call(1, &wait_for(1, one(shared(X))));
-    table.call(2, &wait_for(2, one(want(X))));
-    table.call(3, &wait_for(3, one(shared(X))));
-    table.release_waking(2, &mut woken);
-    assert_eq!(rt; woken.as_slice(), [grant(3, 3)].as_slice());
-    table.release_waking(1, &mut woken);
-    assert!(rt; woken.is_empty());
-    Ok(())
+    let rows = [
+        Calls(1, Asks(Blocking, 1, One(Shared(X, 0))), Granted),
+        Calls(2, Asks(Blocking, 2, One(Alone(X, 0))), Queued),
+        Calls(3, Asks(Blocking, 3, One(Shared(X, 0))), Queued),
+        ReleaseGrants(2, &[(3, 3)]),
+        ReleaseGrants(1, &[]),
+    ];
+    walk(&rt, rt.alloc(), &rows)
 }
 
 #[test]
 fn pool_grants_in_order_of_arrival(rt: HostRuntime) -> Result<(), Fail> {
-    let mut table = PlainTable::new(rt.alloc())?;
-    let mut woken = Woken::new();
-    table.call(1, &wait_for(1, one(of_pool(T, 5, 2))));
-    table.call(2, &wait_for(2, one(of_pool(T, 5, 4))));
-    table.call(3, &wait_for(3, one(of_pool(T, 5, 1))));
-    table.call_waking(1, &LockCall::DequeueAll, &mut woken);
-    assert_eq!(rt; woken.as_slice(), [grant(2, 2), grant(3, 3)].as_slice());
-    Ok(())
+    let rows = [
+        Calls(1, Asks(Blocking, 1, One(OfPool(T, 5, 2))), Granted),
+        Calls(2, Asks(Blocking, 2, One(OfPool(T, 5, 4))), Queued),
+        Calls(3, Asks(Blocking, 3, One(OfPool(T, 5, 1))), Queued),
+        Grants(1, GivesUpAll, Done, &[(2, 2), (3, 3)]),
+    ];
+    walk(&rt, rt.alloc(), &rows)
 }
 
 #[test]
 fn change_grants_an_interrupt_request_and_a_waiter(rt: HostRuntime) -> Result<(), Fail> {
-    let mut table = PlainTable::new(rt.alloc())?;
-    let mut woken = Woken::new();
-    table.call(1, &wait_for(1, one(want(X))));
-    table.call(2, &interrupt(9, one(shared(X))));
-    table.call(3, &wait_for(4, one(shared(X))));
-    let changed = table.call_waking(1, &change(shared(X)), &mut woken);
-    assert_eq!(rt; changed, LockReply::Done);
-    assert_eq!(rt; woken.as_slice(), [grant(2, 9), grant(3, 4)].as_slice());
-    Ok(())
+    let not_granted = LockReply::Refused(Refusal::NotGranted);
+    let rows = [
+        Calls(1, Asks(Blocking, 1, One(Alone(X, 0))), Granted),
+        Calls(2, Asks(Interrupt, 9, One(Shared(X, 0))), not_granted),
+        Calls(3, Asks(Blocking, 4, One(Shared(X, 0))), Queued),
+        Grants(1, Changes(One(Shared(X, 0))), Done, &[(2, 9), (3, 4)]),
+    ];
+    walk(&rt, rt.alloc(), &rows)
 }

@@ -1,7 +1,6 @@
 -- A job among others is a job alone (this project's profile).
 use Rattle.std.specs.Prelude.{ℕ, ◌≡◌, suc, zero, ◌==◌, ◌||◌, ◌&&◌, Bool, true, false, not, if◌then◌else◌, List, [], ◌∷◌, ◌++◌, Option, Some, None, ⊤}
 use Rattle.word36.specs.declared.sizes.TheConstants.{OUTPUT_RING}
-use Rattle.ka_cpu.specs.Effects.{After}
 use Rattle.ka_cpu.specs.Exec.{exec}
 use Rattle.ka_cpu.specs.Places.{word_below}
 use Rattle.ka_cpu.specs.declared.outcome.CallKind.{CallKind}
@@ -21,7 +20,7 @@ use Rattle.machine.specs.declared.event.Answer.{Answer}
 use Rattle.machine.specs.declared.event.Answer.TheVariants.{Ran, Idle, Done, Text, JobNumber, Refused}
 use Rattle.machine.specs.declared.event.Event.{Event}
 use Rattle.machine.specs.declared.event.Event.TheVariants.{Step, Tick, Typed, Take, Login, Start, Continue, Kill, Restart}
-use Rattle.machine.specs.Machine.{S, Made, happens, after, answers}
+use Rattle.machine.specs.Machine.{S, Made, happens, after}
 use Rattle.machine.specs.Safe.{wait_of}
 
 -- a job alone: its registers, PC and flags, its core, and all that it has put out

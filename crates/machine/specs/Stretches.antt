@@ -4,8 +4,8 @@ use Rattle.ka_cpu.specs.Runs.{Ran, ran}
 use Rattle.core_store.specs.Cores.{Cores, core_of}
 use Rattle.lock_queue.specs.declared.request.Request.{Request}
 use Rattle.lock_queue.specs.Jobs.{pending}
-use Rattle.job_sched.specs.Changes.{chosen, spent}
-use Rattle.job_sched.specs.Tables.{Table, job_at}
+use Rattle.job_sched.specs.Changes.{spent}
+use Rattle.job_sched.specs.Tables.{Table}
 use Rattle.job_sched.specs.Times.{later}
 use Rattle.job_sched.specs.declared.job.Job.{Job}
 use Rattle.uuo_calls.specs.Performed.{World}
@@ -29,10 +29,10 @@ stretched n k j cores requests None = stretch_by n j cores requests (ran k j.reg
 abbrev pub stretch_of : ℕ → ℕ → Job → Cores → List Request → Stretch
 stretch_of n k j cores requests = stretched n k j cores requests (due j.interrupts (pending requests n))
 
--- the table after so many ticks in which nobody sleeps, where ticks go by
-abbrev pub table_after : Table → Bool → ℕ → Table
-table_after t true k = spent t k
-table_after t false k = t
+-- the table after so many rounds of the current job, where ticks go by, in which nobody sleeps
+abbrev pub table_after : Table → ℕ → Bool → ℕ → Table
+table_after t quantum true k = spent t quantum k
+table_after t quantum false k = t
 
 -- the time then
 abbrev pub time_after : ℕ → Bool → ℕ → ℕ
@@ -45,25 +45,25 @@ pub record Stretched : Type 0 where
   pub time : ℕ
   pub rounds : ℕ
 
--- the world after so many ticks in which nobody sleeps, where ticks go by
-abbrev pub passed : World → Bool → ℕ → World
-passed w ticking k = record w { table = table_after w.table ticking k }
+-- the world after so many rounds of the current job, in which nobody sleeps
+abbrev pub passed : World → ℕ → Bool → ℕ → World
+passed w quantum ticking k = record w { table = table_after w.table quantum ticking k }
 
 -- a turn ends after k ticks, and the call that it makes is performed
-abbrev pub ended : World → ℕ → ℕ → Bool → ℕ → Turn → World
-ended w time n ticking k t = called (passed (with_turn w n t) ticking k) (time_after time ticking k) n t.call
+abbrev pub ended : World → ℕ → ℕ → ℕ → Bool → ℕ → Turn → World
+ended w time quantum n ticking k t = called (passed (with_turn w n t) quantum ticking k) (time_after time ticking k) n t.call
 
-abbrev pub run_out : World → ℕ → ℕ → Bool → Stretch → Stretched
-run_out w time n ticking x = record {
-  world = ended w time n ticking (x.rounds - 1) x.turn;
+abbrev pub run_out : World → ℕ → ℕ → ℕ → Bool → Stretch → Stretched
+run_out w time quantum n ticking x = record {
+  world = ended w time quantum n ticking (x.rounds - 1) x.turn;
   time = time_after time ticking (x.rounds - 1);
   rounds = x.rounds;
 }
 
 -- job n runs for at most k rounds: its wait is over
-abbrev pub runs_on : World → ℕ → ℕ → ℕ → Bool → Option Job → Stretched
-runs_on w time n k ticking (Some j) = run_out w time n ticking (stretch_of n k (awake j) w.cores w.requests)
-runs_on w time n k ticking None = record { world = w; time = time; rounds = 1 }
+abbrev pub runs_on : World → ℕ → ℕ → ℕ → ℕ → Bool → Option Job → Stretched
+runs_on w time quantum n k ticking (Some j) = run_out w time quantum n ticking (stretch_of n k (awake j) w.cores w.requests)
+runs_on w time quantum n k ticking None = record { world = w; time = time; rounds = 1 }
 
 -- a state after a tick, where ticks go by
 abbrev pub ticked_if : Bool → S → S

@@ -1,5 +1,5 @@
 -- What a job does in its turn: an interrupt is delivered, or one instruction is executed.
-use Rattle.std.specs.Prelude.{ℕ, ◌+◌, true, false, not, ◌&&◌, if◌then◌else◌, List, Option, Some, None, unwrap_or}
+use Rattle.std.specs.Prelude.{ℕ, ◌+◌, true, not, ◌&&◌, if◌then◌else◌, List, Option, Some, None, unwrap_or}
 use Rattle.word36.specs.Words.{right_half}
 use Rattle.ka_cpu.specs.Effects.{After}
 use Rattle.ka_cpu.specs.Exec.{exec}

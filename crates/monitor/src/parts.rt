@@ -109,6 +109,7 @@ impl<L: LockTable, C: CoreStore> Parts<L, C> {
             n,
             1,
             false,
+            self.quantum,
             &mut self.table,
             &mut self.lines,
             &mut self.locks,
@@ -134,12 +135,14 @@ impl<L: LockTable, C: CoreStore> Parts<L, C> {
         let Some(n) = self.table.next(&self.lines, &self.locks) else {
             return IDLE_ROUND;
         };
+        let alone = self.table.is_alone(n);
         self.table.choose(n, self.quantum);
-        let span = self.table.span(n, most, ticking);
+        let span = self.table.span(n, most, ticking, alone);
         let made = run_job(
             n,
             span,
             ticking,
+            self.quantum,
             &mut self.table,
             &mut self.lines,
             &mut self.locks,

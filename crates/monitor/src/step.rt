@@ -15,13 +15,13 @@ use word36::{DATA_WORDS, Word};
 
 /// The ticks behind all of some rounds but the last go by, where ticks go by.
 #[inline(always)]
-fn pass(ticking: bool, rounds: u32, table: &mut JobTable, time: &mut TimeOfDay)
+fn pass(ticking: bool, rounds: u32, quantum: u8, table: &mut JobTable, time: &mut TimeOfDay)
     requires { 1 ≤ rounds }
-    ensures table { table.new ≡ table_after table.old ticking (rounds - 1) }
+    ensures table { table.new ≡ table_after table.old quantum ticking (rounds - 1) }
     ensures time { time.new ≡ time_after time.old ticking (rounds - 1) }
 {
     if ticking && rounds > 1 {
-        table.spend(rounds - 1);
+        table.spend(rounds - 1, quantum);
         time.advance_by(rounds - 1);
     }
 }
@@ -33,6 +33,7 @@ pub(crate) fn run_job<L: LockTable, C: CoreStore>(
     n: u8,
     most: u32,
     ticking: bool,
+    quantum: u8,
     table: &mut JobTable,
     lines: &mut Lines,
     locks: &mut L,
@@ -45,14 +46,14 @@ pub(crate) fn run_job<L: LockTable, C: CoreStore>(
     requires there { IsSome (job_at table.old.jobs n) }
     requires core { core_of (C.meaning cores.old) n ≢ [] }
     ensures { record { world = record { table = table.new; lines = lines.new; requests = L.requests locks.new; cores = C.meaning cores.new; shared = shared.new }; time = time.new; rounds = result }
-        ≡ runs_on (record { table = table.old; lines = lines.old; requests = L.requests locks.old; cores = C.meaning cores.old; shared = shared.old }) time.old n most ticking (job_at table.old.jobs n) }
+        ≡ runs_on (record { table = table.old; lines = lines.old; requests = L.requests locks.old; cores = C.meaning cores.old; shared = shared.old }) time.old quantum n most ticking (job_at table.old.jobs n) }
 {
     let Some(job) = &mut table.jobs[n as usize] else {
         return 1;
     };
     job.wait = Wait::None;
     let (rounds, call) = run_turn(n, job, locks, cores, most);
-    pass(ticking, rounds, table, time);
+    pass(ticking, rounds, quantum, table, time);
     match call {
         Some(call) => {
             perform(n, call, table, lines, locks, cores, shared, *time);

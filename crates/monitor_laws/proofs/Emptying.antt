@@ -1,5 +1,5 @@
 -- A call that leaves its job waiting for the terminal puts the PC back and changes nothing else.
-use Rattle.std.proofs.Common.{◌≡◌, ◌<◌, ◌∙◌, sym, ap, subst, ℕ, ◌+◌, nat_le, nat_lt, Bool, true, false, is_none, is_some, List, [], length, Option, Some, None, Result, Ok, Err, refl, unwrap_or}
+use Rattle.std.proofs.Common.{◌≡◌, ◌<◌, ℕ, nat_le, nat_lt, Bool, true, false, is_none, is_some, List, [], length, Option, Some, None, Result, Ok, Err, refl}
 use Rattle.std.proofs.lemmas.Bool.{both_ways}
 use Rattle.std.proofs.lemmas.List.{get_or-set_same}
 use Rattle.word36.specs.declared.sizes.TheConstants.{DATA_WORDS, OUTPUT_RING}
@@ -12,9 +12,8 @@ use Rattle.lock_queue.specs.declared.call.LockReply.TheVariants.{Granted, Queued
 use Rattle.lock_queue.specs.declared.refusal.Refusal.{Refusal}
 use Rattle.lock_queue.specs.declared.request.Request.{Request}
 use Rattle.lock_queue.specs.declared.want.Want.{Want}
-use Rattle.tty_lines.specs.Rings.{Rings, input_of, room_of}
+use Rattle.tty_lines.specs.Rings.{input_of, room_of}
 use Rattle.job_sched.specs.declared.job.Job.{Job}
-use Rattle.uuo_calls.specs.declared.call.CallOutcome.TheVariants as ending
 use Rattle.uuo_calls.specs.declared.service.Awaited.{Awaited}
 use Rattle.uuo_calls.specs.declared.service.Service.{Service}
 use Rattle.uuo_calls.specs.declared.service.Service.TheVariants.{Reset, Core, Exit, Monrt, Logout, Mstime, Pjob, Sleep, Piini, Pisys, Debrk, Enq, Deq, Enqc, Datrd, Datwr, Input, Outchr, Outstr, Clrbfi, Clrbfo, Skpin, Unlisted}

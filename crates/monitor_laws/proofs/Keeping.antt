@@ -1,5 +1,5 @@
 -- No event but a login gives a job a line, and all words stay as many.
-use Rattle.std.proofs.Common.{◌≡◌, ◌≢◌, ◌≤◌, ◌<◌, ◌∙◌, sym, ap, subst, ℕ, ◌+◌, ◌-◌, ◌*◌, nat_lt, nat_le, Bool, true, false, List, [], length, map, Option, Some, None, is_some, is_none, Result, Ok, Err, refl, arith, slice_set, unwrap_or, replicate, sum_by, inl, inr}
+use Rattle.std.proofs.Common.{◌≡◌, ◌≢◌, ◌≤◌, ◌<◌, ◌∙◌, sym, ap, subst, ℕ, ◌+◌, ◌-◌, ◌*◌, nat_lt, nat_le, Bool, true, false, List, [], length, map, Option, Some, None, is_some, is_none, Result, Ok, Err, refl, arith, slice_set, replicate, sum_by, inl, inr}
 use Rattle.std.proofs.lemmas.Grind.{common_steps}
 use Rattle.std.proofs.lemmas.Bool.{cases_eq}
 use Rattle.std.proofs.lemmas.List.{get_or-set_same, get_or-set_other, length-set}

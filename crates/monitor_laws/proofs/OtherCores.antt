@@ -1,5 +1,5 @@
 -- What a step of one job leaves of another's core, and which events are no step.
-use Rattle.std.proofs.Common.{◌≡◌, ◌≢◌, ◌∙◌, ap, subst, ℕ, ◌+◌, Bool, true, false, cond, ◌&&◌, ◌==◌, nat_lt, nat_le, List, [], length, Option, Some, None, Result, Ok, Err, refl, unwrap_or}
+use Rattle.std.proofs.Common.{◌≡◌, ◌≢◌, ◌∙◌, ap, subst, ℕ, ◌+◌, false, ◌&&◌, ◌==◌, nat_lt, nat_le, List, [], length, Option, Some, None, Result, Ok, Err, refl}
 use Rattle.std.proofs.lemmas.List.{get_or-set_other}
 use Rattle.std.specs.List.{list_any}
 use Rattle.machine.specs.declared.sizes.TheConstants.{INTERRUPT_CHARACTER}

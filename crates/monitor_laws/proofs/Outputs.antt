@@ -1,5 +1,5 @@
 -- What another job's step leaves of a line's output.
-use Rattle.std.proofs.Common.{◌≡◌, ◌≢◌, ◌<◌, ap, subst, ℕ, Bool, true, false, nat_le, List, [], ◌++◌, length, Option, Some, None, refl, ◌⊎◌, inl, inr}
+use Rattle.std.proofs.Common.{◌≡◌, ◌≢◌, ◌<◌, ap, subst, ℕ, Bool, true, false, nat_le, List, [], length, Option, Some, None, refl, inl, inr}
 use Rattle.std.proofs.lemmas.Bool.{cases_eq}
 use Rattle.std.proofs.lemmas.List.{get_or-set_same, get_or-set_other}
 use Rattle.word36.specs.declared.sizes.TheConstants.{OUTPUT_RING}

@@ -1,5 +1,5 @@
 -- Each event keeps owners but for those that give up.
-use Rattle.std.proofs.Common.{◌≡◌, sym, ap, subst, ℕ, Bool, true, false, ◌==◌, nat_le, length, List, [], ◌∷◌, Option, Some, None, is_some, Result, Ok, Err, refl, unwrap_or}
+use Rattle.std.proofs.Common.{◌≡◌, sym, ap, subst, ℕ, Bool, true, false, ◌==◌, nat_le, length, List, [], ◌∷◌, Option, Some, None, is_some, Result, Ok, Err, refl}
 use Rattle.std.proofs.lemmas.Bool.{both_ways}
 use Rattle.word36.specs.Words.{left_half, right_half}
 use Rattle.ka_cpu.specs.Exec.{exec}

@@ -1,5 +1,5 @@
 -- Every call and every turn leaves a job's PC and start places of memory.
-use Rattle.std.proofs.Common.{◌≡◌, ◌<◌, ◌∙◌, sym, subst, ℕ, zero, suc, ◌+◌, ◌%◌, ◌^◌, nat_le, nat_lt, ◌==◌, ◌&&◌, Bool, true, false, is_none, is_some, List, [], ◌∷◌, length, map, Option, Some, None, Result, Ok, Err, refl, arith, unwrap_or, slice_set}
+use Rattle.std.proofs.Common.{◌<◌, ℕ, zero, suc, ◌%◌, ◌^◌, nat_le, nat_lt, ◌==◌, ◌&&◌, Bool, true, false, is_none, is_some, List, [], ◌∷◌, length, map, Option, Some, None, Result, Ok, Err, arith, slice_set}
 use Rattle.word36.specs.declared.sizes.TheConstants.{DATA_WORDS, OUTPUT_RING}
 use Rattle.std.specs.Option.{option_map}
 use Rattle.word36.specs.Words.{right_half}
@@ -8,7 +8,6 @@ use Rattle.ka_cpu.specs.Places.{is_legal}
 use Rattle.ka_cpu.specs.declared.outcome.Outcome.{Outcome}
 use Rattle.ka_cpu.specs.declared.outcome.Outcome.TheVariants as outcome
 use Rattle.ka_cpu.specs.declared.outcome.StopReason.TheVariants.{IllegalAddress}
-use Rattle.ka_cpu.specs.declared.registers.Regs.{Regs}
 use Rattle.ka_cpu.specs.Places.{are_legal}
 use Rattle.core_store.specs.Cores.{Cores, core_of}
 use Rattle.lock_queue.specs.declared.call.LockReply.{LockReply}

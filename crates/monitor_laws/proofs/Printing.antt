@@ -1,18 +1,16 @@
 -- The job's own step: alone it does the same, but where its text lacks room.
-use Rattle.std.proofs.Common.{◌≡◌, ◌≢◌, ◌<◌, ◌∙◌, sym, ap, subst, ℕ, zero, suc, ◌+◌, ◌%◌, ◌^◌, Bool, true, false, cond, ◌||◌, ◌==◌, nat_le, List, [], ◌∷◌, ◌++◌, length, Option, Some, None, is_some, ◌⊎◌, inl, inr, refl, arith, slice_set, append_assoc}
+use Rattle.std.proofs.Common.{◌≡◌, ◌<◌, ◌∙◌, sym, ap, subst, ℕ, ◌+◌, ◌%◌, ◌^◌, Bool, true, false, ◌||◌, ◌==◌, nat_le, List, [], ◌++◌, length, Option, Some, None, ◌⊎◌, inl, inr, refl, arith, slice_set, append_assoc}
 use Rattle.std.proofs.lemmas.Grind.{common_steps}
 use Rattle.std.proofs.lemmas.Bool.{both_ways, eqb-true}
 use Rattle.std.proofs.lemmas.List.{get_or-set_same}
 use Rattle.word36.specs.declared.sizes.TheConstants.{OUTPUT_RING}
-use Rattle.ka_cpu.specs.Effects.{After, EndsAs, next_pc}
-use Rattle.ka_cpu.specs.Exec.{exec}
+use Rattle.ka_cpu.specs.Effects.{EndsAs, next_pc}
 use Rattle.ka_cpu.specs.declared.outcome.CallKind.{CallKind}
 use Rattle.ka_cpu.specs.declared.outcome.CallKind.TheVariants.{Calli, Ttcall}
 use Rattle.ka_cpu.specs.declared.outcome.Outcome.{Outcome}
 use Rattle.ka_cpu.specs.declared.outcome.Outcome.TheVariants as outcome
 use Rattle.ka_cpu.specs.declared.registers.Regs.{Regs}
-use Rattle.core_store.specs.Cores.{Cores, core_of, with_core}
-use Rattle.lock_queue.specs.declared.request.Request.{Request}
+use Rattle.core_store.specs.Cores.{core_of, with_core}
 use Rattle.tty_lines.specs.Rings.{Rings, no_characters, output_of, with_output, room_of}
 use Rattle.job_sched.specs.Tables.{job_at}
 use Rattle.job_sched.specs.declared.job.Interrupts.{Interrupts}
@@ -26,12 +24,12 @@ use Rattle.uuo_calls.specs.Performed.{World, Performed, row_of, around, performe
 use Rattle.uuo_calls.specs.Services.{service_of}
 use Rattle.ka_cpu.specs.Places.{word_below}
 use Rattle.uuo_calls.specs.TerminalRows.{JobLines, put_text, low_character, text_from}
-use Rattle.machine.specs.Alone.{Solo, solo_step, solo_after, printed, text_of, is_output, is_allowed, is_for_terminal}
-use Rattle.machine.specs.Machine.{with_turn, called, awake, ran}
+use Rattle.machine.specs.Alone.{Solo, solo_after, printed, text_of, is_output, is_allowed, is_for_terminal}
+use Rattle.machine.specs.Machine.{with_turn, called}
 use Rattle.machine.specs.Safe.{wait_of}
-use Rattle.machine.specs.Turns.{Turn, turn_of, turned, due, concluded}
-use Rattle.monitor_laws.proofs.Emptying.{Calm, Leaves, empty-row}
-use Rattle.ka_cpu.proofs.ExecLaws.{by_test, ends-exec}
+use Rattle.machine.specs.Turns.{Turn, concluded}
+use Rattle.monitor_laws.proofs.Emptying.{Calm, empty-row}
+use Rattle.ka_cpu.proofs.ExecLaws.{by_test}
 use Rattle.monitor_laws.proofs.Standing.{Stands}
 
 -- the job before the text or the wait of its step: what it had alone, and the room that it stands in

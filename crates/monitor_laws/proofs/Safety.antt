@@ -1,7 +1,7 @@
 -- Every event keeps the state safe.
 use Rattle.machine.specs.declared.sizes.TheConstants.{INTERRUPT_CHARACTER}
 use Rattle.job_sched.specs.declared.job_error.JobError.{JobError}
-use Rattle.std.proofs.Common.{◌^◌, ◌≡◌, ◌≢◌, ◌≤◌, ◌<◌, ◌∙◌, sym, ap, subst, ℕ, zero, suc, ◌+◌, ◌-◌, ◌*◌, ◌/◌, ◌==◌, ◌&&◌, nat_lt, nat_le, not, Bool, true, false, List, [], ◌∷◌, length, map, Option, Some, None, is_some, is_none, Result, Ok, Err, is_ok, refl, arith, slice_set, slice_index_or, unwrap_or, replicate, IsSome, rules, sum_by}
+use Rattle.std.proofs.Common.{◌^◌, ◌≡◌, ◌≢◌, ◌≤◌, ◌<◌, ◌∙◌, sym, ap, subst, ℕ, zero, suc, ◌+◌, ◌-◌, ◌*◌, ◌/◌, ◌==◌, ◌&&◌, nat_lt, nat_le, not, Bool, true, false, List, [], ◌∷◌, length, map, Option, Some, None, is_some, is_none, Result, Ok, Err, is_ok, refl, arith, slice_set, slice_index_or, replicate, IsSome, rules, sum_by}
 use Rattle.std.proofs.lemmas.Grind.{common_steps}
 use Rattle.std.proofs.lemmas.Bool.{both_ways, and_parts, false_from_ne_true}
 use Rattle.word36.specs.declared.sizes.TheConstants.{JOBS, BLOCK_WORDS, MOST_BLOCKS, LINES, INPUT_RING, DATA_WORDS}

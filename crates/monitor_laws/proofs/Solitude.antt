@@ -1,11 +1,10 @@
 -- A job among others runs as it would alone.
-use Rattle.std.proofs.Common.{◌≡◌, ◌<◌, ◌∙◌, sym, ap, subst, ℕ, zero, suc, ◌^◌, Bool, true, false, not, cond, ◌&&◌, ◌==◌, List, [], ◌∷◌, ◌++◌, length, Option, Some, None, is_some, refl, arith, append_assoc}
-use Rattle.std.proofs.lemmas.Bool.{both_ways, eqb-true, and_parts}
-use Rattle.ka_cpu.specs.Effects.{After, EndsAs}
+use Rattle.std.proofs.Common.{◌≡◌, ◌<◌, ◌∙◌, sym, ap, subst, ℕ, suc, ◌^◌, Bool, true, false, cond, List, [], ◌∷◌, ◌++◌, length, Option, Some, None, is_some, refl, arith, append_assoc}
+use Rattle.std.proofs.lemmas.Bool.{both_ways, eqb-true}
+use Rattle.ka_cpu.specs.Effects.{After}
 use Rattle.ka_cpu.specs.Exec.{exec}
-use Rattle.ka_cpu.specs.declared.outcome.Outcome.{Outcome}
 use Rattle.ka_cpu.specs.declared.registers.Regs.{Regs}
-use Rattle.core_store.specs.Cores.{core_of, with_core}
+use Rattle.core_store.specs.Cores.{core_of}
 use Rattle.tty_lines.specs.Rings.{output_of}
 use Rattle.lock_queue.specs.Jobs.{pending}
 use Rattle.job_sched.specs.Ready.{next_job}
@@ -15,13 +14,13 @@ use Rattle.job_sched.specs.declared.job.Job.{Job}
 use Rattle.uuo_calls.specs.Performed.{World}
 use Rattle.machine.specs.declared.event.Event.{Event}
 use Rattle.machine.specs.declared.event.Event.TheVariants.{Step, Tick, Typed, Take, Login, Start, Continue, Kill, Restart}
-use Rattle.machine.specs.Alone.{Solo, solo_step, solo_after, solo, is_allowed, OnlyPrints, Spares, spares, is_ran, advances, steps_of, taken_by, taken_from, solo_of, IsAsAlone, RunsAlone}
+use Rattle.machine.specs.Alone.{Solo, solo_step, solo, is_allowed, OnlyPrints, Spares, spares, is_ran, advances, steps_of, taken_by, taken_from, solo_of, RunsAlone}
 use Rattle.job_sched.specs.Changes.{chosen}
 use Rattle.machine.specs.Machine.{S, Made, with_turn, called, awake, ran, stepped, happens, after}
-use Rattle.machine.specs.Safe.{Safe, Placed, Housed, line_of}
-use Rattle.machine.specs.Turns.{Turn, turn_of, turned, due}
+use Rattle.machine.specs.Safe.{Safe, Placed, line_of}
+use Rattle.machine.specs.Turns.{turned, due}
 use Rattle.monitor_laws.proofs.Housing.{there-below, is_job}
-use Rattle.ka_cpu.proofs.ExecLaws.{by_test, ends-exec}
+use Rattle.ka_cpu.proofs.ExecLaws.{ends-exec}
 use Rattle.monitor_laws.proofs.OtherCores.{jobs-chosen, ran-killed, ran-typed, ran-taken, ran-login, ran-started, ran-continued}
 use Rattle.monitor_laws.proofs.Printing.{Before, is_empty, after_outcome, advanced, emptied}
 use Rattle.monitor_laws.proofs.Safety.{safe-happens}

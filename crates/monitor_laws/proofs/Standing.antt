@@ -1,57 +1,43 @@
 -- What is known of a job at each time of a run, and that an event in which it does not run leaves that.
-use Rattle.std.proofs.Common.{◌≡◌, ◌≢◌, ◌<◌, ◌∙◌, sym, ap, subst, ℕ, zero, suc, ◌+◌, ◌-◌, ◌%◌, ◌^◌, Bool, true, false, not, cond, ◌&&◌, ◌||◌, ◌==◌, nat_lt, nat_le, min, List, [], ◌∷◌, ◌++◌, length, map, take, drop, Option, Some, None, Result, Ok, Err, is_some, is_none, ◌⊎◌, inl, inr, refl, arith, slice_set, append_assoc}
+use Rattle.std.proofs.Common.{◌≡◌, ◌≢◌, ◌<◌, ◌∙◌, sym, ap, subst, ℕ, true, false, not, ◌&&◌, ◌==◌, nat_le, min, List, [], ◌++◌, length, take, drop, Option, Some, None, Result, Ok, Err, is_some, is_none, inl, inr, refl, arith, append_assoc}
 use Rattle.std.proofs.lemmas.Grind.{common_steps}
-use Rattle.std.proofs.lemmas.Bool.{both_ways, cases_eq, eqb-true, eq-eqb, and_parts}
+use Rattle.std.proofs.lemmas.Bool.{both_ways, cases_eq, eqb-true, eq-eqb}
 use Rattle.std.proofs.lemmas.List.{get_or-set_other, get_or-set_same}
 use Rattle.std.specs.List.{list_any}
 use Rattle.std.specs.Option.{option_map}
 use Rattle.word36.specs.declared.sizes.TheConstants.{LINES, INPUT_RING, TAKEN_AT_ONCE}
-use Rattle.ka_cpu.specs.Effects.{After, EndsAs, next_pc}
-use Rattle.ka_cpu.specs.Exec.{exec}
-use Rattle.ka_cpu.specs.declared.outcome.CallKind.{CallKind}
-use Rattle.ka_cpu.specs.declared.outcome.CallKind.TheVariants.{Calli, Ttcall}
-use Rattle.ka_cpu.specs.declared.outcome.Outcome.{Outcome}
-use Rattle.ka_cpu.specs.declared.outcome.Outcome.TheVariants as outcome
-use Rattle.ka_cpu.specs.declared.registers.Regs.{Regs}
-use Rattle.core_store.specs.Cores.{Cores, core_of, with_core, taken as taken_core}
-use Rattle.lock_queue.specs.declared.request.Request.{Request}
+use Rattle.core_store.specs.Cores.{core_of, taken as taken_core}
 use Rattle.lock_queue.specs.Jobs.{pending}
-use Rattle.tty_lines.specs.Rings.{Rings, no_characters, input_of, output_of, with_input, with_output, room_of}
+use Rattle.tty_lines.specs.Rings.{Rings, no_characters, input_of, output_of}
 use Rattle.job_sched.specs.Ready.{next_job}
 use Rattle.job_sched.specs.Tables.{job_at}
 use Rattle.job_sched.specs.declared.job.Interrupts.{Interrupts}
 use Rattle.job_sched.specs.declared.job.Job.{Job}
-use Rattle.job_sched.specs.declared.job.Stop.TheVariants.{Typed as TypedStop}
-use Rattle.job_sched.specs.Tables.{Table}
 use Rattle.uuo_calls.specs.declared.call.CallOutcome.{CallOutcome}
 use Rattle.uuo_calls.specs.declared.call.CallOutcome.TheVariants as ending
 use Rattle.uuo_calls.specs.declared.service.Service.{Service}
-use Rattle.uuo_calls.specs.declared.service.Service.TheVariants.{Outchr, Outstr}
-use Rattle.uuo_calls.specs.Around.{Around, put_back}
-use Rattle.job_sched.specs.Jobs.{started_job, halted}
-use Rattle.uuo_calls.specs.Performed.{World, Performed, row_of, around, performed_by, with_around, left_by, ended}
+use Rattle.uuo_calls.specs.Around.{Around}
+use Rattle.job_sched.specs.Jobs.{started_job}
+use Rattle.uuo_calls.specs.Performed.{World, row_of, around, performed_by, with_around, left_by}
 use Rattle.uuo_calls.specs.Services.{service_of}
-use Rattle.ka_cpu.specs.Places.{word_below}
-use Rattle.uuo_calls.specs.TerminalRows.{JobLines, put_text, low_character, text_from}
 use Rattle.uuo_calls.specs.declared.call.MonitorCall.{MonitorCall}
 use Rattle.machine.specs.declared.event.Event.{Event}
 use Rattle.machine.specs.declared.event.Event.TheVariants.{Step, Tick, Typed, Take, Login, Start, Continue, Kill, Restart}
 use Rattle.machine.specs.declared.sizes.TheConstants.{INTERRUPT_CHARACTER}
 use Rattle.job_sched.specs.declared.job_error.JobError.{JobError}
-use Rattle.machine.specs.Alone.{Solo, solo_step, solo_after, solo, printed, text_of, is_output, is_allowed, OnlyPrints, Spares, spares, is_ran, is_for_terminal, advances, steps_of, taken_by, taken_from, solo_of, IsAsAlone, RunsAlone}
+use Rattle.machine.specs.Alone.{Solo, spares, is_ran, taken_by}
 use Rattle.machine.specs.Images.{image_top, blocks_for}
 use Rattle.job_sched.specs.Changes.{standing, with_change, ticked_table, chosen, free_number, is_at}
 use Rattle.job_sched.specs.Jobs.{ticked_job, broken_job, going_on}
-use Rattle.machine.specs.Machine.{S, Made, made_if, started, continued, with_turn, called, awake, ran, stepped, killed, happens, made, typed, broken, taken, admitted, examined, logged_in, with_image, after}
-use Rattle.machine.specs.Safe.{Safe, Housed, wait_of, line_of, LinesApart}
-use Rattle.machine.specs.Turns.{Turn, turn_of, turned, due, concluded}
-use Rattle.monitor_laws.proofs.Emptying.{Calm, Leaves, empty-row}
-use Rattle.monitor_laws.proofs.Housing.{at-ticked, at-mapped, there-below, is_job}
+use Rattle.machine.specs.Machine.{S, Made, made_if, started, continued, with_turn, called, awake, ran, stepped, killed, happens, typed, broken, taken, admitted, examined, logged_in, with_image, after}
+use Rattle.machine.specs.Safe.{Safe, Housed, line_of, LinesApart}
+use Rattle.machine.specs.Turns.{Turn, turn_of, due}
+use Rattle.monitor_laws.proofs.Housing.{at-ticked, at-mapped, there-below}
 use Rattle.monitor_laws.proofs.Keeping.{kept-turned, apart-kept}
-use Rattle.ka_cpu.proofs.ExecLaws.{by_test, ends-exec}
-use Rattle.monitor_laws.proofs.OtherCores.{same-row, same-turned, jobs-chosen, ran-killed, ran-typed, ran-taken, ran-login, ran-started, ran-continued}
+use Rattle.ka_cpu.proofs.ExecLaws.{by_test}
+use Rattle.monitor_laws.proofs.OtherCores.{same-row, same-turned, jobs-chosen}
 use Rattle.monitor_laws.proofs.Outputs.{output-other, output-row, input-same}
-use Rattle.monitor_laws.proofs.Safety.{safe-happens, IsFree, free-number}
+use Rattle.monitor_laws.proofs.Safety.{IsFree, free-number}
 
 -- what is known of the job at each time of a run
 pub record Stands (w : World) (n line : ℕ) (first taken : List ℕ) (x : Solo) : Type 0 where

@@ -1,38 +1,37 @@
 -- Rounds of one job that only computes, made at once, are those rounds one after another.
-use Rattle.std.proofs.Common.{◌≡◌, ◌≢◌, ◌<◌, ◌≤◌, ◌^◌, ◌∙◌, sym, ap, subst, ℕ, zero, suc, ◌+◌, ◌-◌, ◌==◌, ◌&&◌, not, nat_lt, Bool, true, false, cond, List, [], length, map, Option, Some, None, is_none, is_some, slice_set, refl, arith, IsSome}
-use Rattle.std.proofs.lemmas.Bool.{and_parts, eq-eqb, false≢true, lt-ltb}
-use Rattle.std.proofs.lemmas.List.{get_or-set_same, set-set}
-use Rattle.std.proofs.lemmas.Grind.{common_steps}
+use Rattle.std.proofs.Common.{◌≡◌, ◌≢◌, ◌<◌, ◌≤◌, ◌^◌, ◌∙◌, sym, ap, subst, ℕ, zero, suc, ◌+◌, ◌-◌, ◌==◌, ◌&&◌, not, nat_lt, Bool, true, false, cond, inl, inr, List, [], length, Option, Some, None, is_none, is_some, slice_set, refl, arith, IsSome}
+use Rattle.std.proofs.lemmas.Bool.{and_parts, cases_eq, eq-eqb, false≢true, lt-ltb}
+use Rattle.std.proofs.lemmas.List.{get_or-set_other, get_or-set_same, set-set}
 use Rattle.std.specs.List.{list_any}
-use Rattle.std.specs.Option.{option_map}
 use Rattle.ka_cpu.specs.Effects.{After, EndsAs}
 use Rattle.ka_cpu.specs.Exec.{exec}
 use Rattle.ka_cpu.specs.Runs.{Ran, is_done, ran, ran_on}
 use Rattle.ka_cpu.specs.declared.outcome.Outcome.{Outcome}
 use Rattle.ka_cpu.specs.declared.outcome.Outcome.TheVariants as outcome
-use Rattle.ka_cpu.specs.declared.outcome.StopReason.TheVariants as reason
 use Rattle.ka_cpu.specs.declared.registers.Regs.{Regs}
 use Rattle.ka_cpu.proofs.ExecLaws.{by_test, ends-exec, length-exec}
 use Rattle.core_store.specs.Cores.{Cores, core_of, with_core}
 use Rattle.lock_queue.specs.declared.request.Request.{Request}
 use Rattle.lock_queue.specs.Jobs.{pending}
-use Rattle.job_sched.specs.Changes.{chosen, with_job, ticked_table}
-use Rattle.job_sched.specs.Jobs.{is_sleep, takes_interrupts, ticked_job}
+use Rattle.job_sched.specs.Changes.{chosen, left_after, renewed, with_job}
+use Rattle.job_sched.specs.Jobs.{takes_interrupts}
 use Rattle.job_sched.specs.Ready.{first_from, is_ready, is_ready_job, next_job, after as after_number}
-use Rattle.job_sched.specs.Spans.{Undisturbed, is_open}
+use Rattle.job_sched.specs.Spans.{Undisturbed, is_alone, is_open}
 use Rattle.job_sched.specs.Tables.{Table, is_sleeper, job_at}
 use Rattle.job_sched.specs.Times.{later}
 use Rattle.job_sched.specs.declared.job.Interrupts.{Interrupts}
 use Rattle.job_sched.specs.declared.job.Job.{Job}
+use Rattle.job_sched.proofs.Quanta.{left-before}
+use Rattle.job_sched.proofs.Turns.{after-itself, same-found}
 use Rattle.job_sched.proofs.Sleepers.{awake-set, ticked-awake}
 use Rattle.word36.specs.declared.sizes.TheConstants.{JOBS}
 use Rattle.uuo_calls.specs.Performed.{World}
 use Rattle.machine.specs.declared.event.Answer.TheVariants.{Ran as RanAnswer}
-use Rattle.machine.specs.declared.event.Event.TheVariants.{Step, Tick}
-use Rattle.machine.specs.Machine.{S, Made, after, after_turn, answers, awake, called, happens, stepped, ticked, with_turn, ran as ran_job}
+use Rattle.machine.specs.declared.event.Event.TheVariants.{Step}
+use Rattle.machine.specs.Machine.{S, Made, after, after_turn, answers, awake, called, happens, stepped, with_turn, ran as ran_job}
 use Rattle.machine.specs.Rounds.{has_run, rounds, runs_in}
 use Rattle.machine.specs.Safe.{Safe}
-use Rattle.machine.specs.Stretches.{Stretch, Stretched, ended, passed, run_out, runs_on, stretch_of, stretched, table_after, ticked_if, time_after}
+use Rattle.machine.specs.Stretches.{Stretch, Stretched, ended, run_out, runs_on, stretch_of, stretched, table_after, ticked_if, time_after}
 use Rattle.machine.specs.Turns.{Turn, both, concluded, due, executed, turn_of, turned}
 use Rattle.monitor_laws.proofs.Rounding.{rounds-more, runs-idle, runs-more_rounds}
 use Rattle.monitor_laws.proofs.Turning.{some-concluded, some-turned, some-with_core, wait-concluded, wait-turned}
@@ -103,26 +102,26 @@ stretched-one n j cores requests None =
 pub stretch-one : (n : ℕ) (j : Job) (cores : Cores) (requests : List Request) → stretch_of n 1 j cores requests ≡ record { turn = turn_of n j cores requests; rounds = 1 }
 stretch-one n j cores requests = stretched-one n j cores requests (due j.interrupts (pending requests n))
 
-pub table-none : (t : Table) (ticking : Bool) → table_after t ticking 0 ≡ t
-table-none t false = refl
-table-none t true = let e : t.left - 0 ≡ t.left = omega arith in ap (λ (left : ℕ). record t { left = left }) e
+pub table-none : (t : Table) (quantum : ℕ) (ticking : Bool) → table_after t quantum ticking 0 ≡ t
+table-none t quantum false = refl
+table-none t quantum true = refl
 
 time-none : (time : ℕ) (ticking : Bool) → time_after time ticking 0 ≡ time
 time-none time false = refl
 time-none time true = refl
 
-ended-none : (w : World) (time n : ℕ) (ticking : Bool) (t : Turn) → ended w time n ticking 0 t ≡ after_turn w time n t
-ended-none w time n ticking t =
-    ap (λ (u : Table). called (record (with_turn w n t) { table = u }) (time_after time ticking 0) n t.call) (table-none (with_turn w n t).table ticking)
+ended-none : (w : World) (time quantum n : ℕ) (ticking : Bool) (t : Turn) → ended w time quantum n ticking 0 t ≡ after_turn w time n t
+ended-none w time quantum n ticking t =
+    ap (λ (u : Table). called (record (with_turn w n t) { table = u }) (time_after time ticking 0) n t.call) (table-none (with_turn w n t).table quantum ticking)
     ∙ ap (λ (x : ℕ). called (with_turn w n t) x n t.call) (time-none time ticking)
 
 -- one round of a job is its step
-pub runs-one : (w : World) (time n : ℕ) (ticking : Bool) (o : Option Job) → runs_on w time n 1 ticking o ≡ record { world = ran_job w time n o; time = time; rounds = 1 }
-runs-one w time n ticking None = refl
-runs-one w time n ticking (Some j) =
+pub runs-one : (w : World) (time quantum n : ℕ) (ticking : Bool) (o : Option Job) → runs_on w time quantum n 1 ticking o ≡ record { world = ran_job w time n o; time = time; rounds = 1 }
+runs-one w time quantum n ticking None = refl
+runs-one w time quantum n ticking (Some j) =
     let t = turn_of n (awake j) w.cores w.requests in
-    ap (λ (x : Stretch). record { world = ended w time n ticking (x.rounds - 1) x.turn; time = time_after time ticking (x.rounds - 1); rounds = x.rounds }) (stretch-one n (awake j) w.cores w.requests)
-    ∙ ap (λ (v : World). record { world = v; time = time_after time ticking 0; rounds = 1 }) (ended-none w time n ticking t)
+    ap (λ (x : Stretch). record { world = ended w time quantum n ticking (x.rounds - 1) x.turn; time = time_after time ticking (x.rounds - 1); rounds = x.rounds }) (stretch-one n (awake j) w.cores w.requests)
+    ∙ ap (λ (v : World). record { world = v; time = time_after time ticking 0; rounds = 1 }) (ended-none w time quantum n ticking t)
     ∙ ap (λ (x : ℕ). record { world = after_turn w time n t; time = x; rounds = 1 }) (time-none time ticking)
 
 -- a stretch leaves a job its core, and what it waits for
@@ -160,22 +159,29 @@ round-is s false = refl
 -- the state before the last tick of i + 1 rounds, whose last instruction left this
 abbrev ended_by : S → ℕ → Job → Bool → ℕ → After → S
 ended_by s n j ticking i a =
-    record s { world = ended s.world s.time n ticking i (executed n (awake j) s.world.cores s.world.requests a); time = time_after s.time ticking i }
+    record s { world = ended s.world s.time s.quantum n ticking i (executed n (awake j) s.world.cores s.world.requests a); time = time_after s.time ticking i }
 
--- the state between two rounds
+-- the table between two rounds, of which i + 1 went by, where ticks go by
+abbrev between : Table → ℕ → Bool → ℕ → Table
+between t quantum true i = record t { left = left_after quantum t.left i - 1 }
+between t quantum false i = t
+
+-- the state between two rounds, of which i + 1 went by
 abbrev going : S → ℕ → Job → Bool → ℕ → Regs → List ℕ → S
 going s n j ticking i g core =
     record s {
-      world = record s.world { table = table_after (with_job s.world.table n (Some (record (awake j) { regs = g }))) ticking i; cores = with_core s.world.cores n core };
-      time = time_after s.time ticking i;
+      world = record s.world { table = between (with_job s.world.table n (Some (record (awake j) { regs = g }))) s.quantum ticking i; cores = with_core s.world.cores n core };
+      time = time_after s.time ticking (suc i);
     }
 
 -- a state where the job just became the one that runs, and goes on for so many rounds
-record Computes (s : S) (n : ℕ) (j : Job) (ticking : Bool) (most : ℕ) : Type 0 where
+record Computes (s : S) (n : ℕ) (j : Job) (ticking alone : Bool) (most : ℕ) : Type 0 where
   current : s.world.table.current ≡ n
   quantum : 0 < s.world.table.left
-  lasts : ticking ≡ true → most ≤ s.world.table.left
+  lasts : ticking ≡ true → alone ≡ false → most ≤ s.world.table.left
+  only : alone ≡ true → first_from (is_ready s.world.table.jobs s.world.lines s.world.requests) JOBS (after_number n) ≡ Some n
   quiet : ticking ≡ true → list_any is_sleeper s.world.table.jobs ≡ false
+  ready : is_ready s.world.table.jobs s.world.lines s.world.requests n ≡ true
   closed : takes_interrupts j.interrupts ≡ false
   stop : is_none j.stop ≡ true
   place : n < length s.world.table.jobs
@@ -206,14 +212,12 @@ state_of s n jobs left core time =
 
 -- a tick after a step that is done
 tick-done : (s : S) (n : ℕ) (j : Job) (ticking : Bool) (i : ℕ) (g : Regs) (core : List ℕ) → (ticking ≡ true → list_any is_sleeper s.world.table.jobs ≡ false)
-    → ticked_if ticking (ended_by s n j ticking i (record { regs = g; core = core; outcome = outcome.Done })) ≡ going s n j ticking (suc i) g core
+    → ticked_if ticking (ended_by s n j ticking i (record { regs = g; core = core; outcome = outcome.Done })) ≡ going s n j ticking i g core
 tick-done s n j false i g core awake = refl
 tick-done s n j true i g core awake =
     let jobs = slice_set s.world.table.jobs n (Some (with_regs j g)) in
     let none : list_any is_sleeper jobs ≡ false = awake-set s.world.table.jobs n (Some (with_regs j g)) (awake refl) refl in
-    let e : s.world.table.left - i - 1 ≡ s.world.table.left - suc i = omega arith in
-    ap (λ (l : List (Option Job)). state_of s n l (s.world.table.left - i - 1) core (later s.time (suc i))) (ticked-awake jobs none)
-    ∙ ap (λ (left : ℕ). state_of s n jobs left core (later s.time (suc i))) e
+    ap (λ (l : List (Option Job)). state_of s n l (left_after s.quantum s.world.table.left i - 1) core (later s.time (suc i))) (ticked-awake jobs none)
 
 -- a step whose job is known, and takes no interrupt
 step-known : (t : S) (n : ℕ) (j : Job) → next_job t.world.table t.world.lines t.world.requests ≡ Some n → job_at t.world.table.jobs n ≡ Some j → takes_interrupts j.interrupts ≡ false
@@ -237,7 +241,7 @@ poised-first s n j ticking next there closed =
     let t = executed n (awake j) s.world.cores s.world.requests (exec j.regs (core_of s.world.cores n)) in
     record {
       step = step-known s n j next there closed
-          ∙ sym (ap (λ (v : World). record { state = record s { world = v; time = time_after s.time ticking 0 }; answer = RanAnswer n }) (ended-none w s.time n ticking t)
+          ∙ sym (ap (λ (v : World). record { state = record s { world = v; time = time_after s.time ticking 0 }; answer = RanAnswer n }) (ended-none w s.time s.quantum n ticking t)
           ∙ ap (λ (x : ℕ). record { state = record s { world = after_turn w s.time n t; time = x }; answer = RanAnswer n }) (time-none s.time ticking));
     }
 
@@ -260,61 +264,103 @@ chosen-current t n quantum is some =
     both_true true b e f = f
     both_true false b e f = absurd (cc)
 
+-- the current job, chosen again, has what is left, or a whole quantum
+chosen-again : (t : Table) (n quantum : ℕ) → t.current ≡ n → chosen t n quantum ≡ record t { left = renewed quantum t.left }
+chosen-again t n quantum is =
+    ap (λ b. cond (b && nat_lt 0 t.left) t (record t { current = n; left = quantum })) (eq-eqb t.current n is) ∙ by_left (nat_lt 0 t.left)
+  where
+    by_left : (b : Bool) → cond b t (record t { current = n; left = quantum }) ≡ record t { left = cond b t.left quantum }
+    by_left true = refl
+    by_left false = ap (λ (m : ℕ). record t { current = m; left = quantum }) (sym is)
+
+chosen-between : (t : Table) (n quantum : ℕ) (ticking : Bool) (i : ℕ) → t.current ≡ n → 0 < t.left → chosen (between t quantum ticking i) n quantum ≡ table_after t quantum ticking (suc i)
+chosen-between t n quantum false i is some = chosen-current t n quantum is some
+chosen-between t n quantum true i is some = chosen-again (between t quantum true i) n quantum is
+
+-- the job that is found first after itself is next, whatever is left of its quantum
+next-only : (t : Table) (w : World) (n : ℕ) → t.current ≡ n → first_from (is_ready t.jobs w.lines w.requests) JOBS (after_number n) ≡ Some n → next_job t w.lines w.requests ≡ Some n
+next-only t w n is only =
+    by_test (λ o. o ≡ Some n) (nat_lt 0 t.left && is_ready t.jobs w.lines w.requests t.current) (Some t.current) (first_from (is_ready t.jobs w.lines w.requests) JOBS (after_number t.current))
+    (λ _. ap (λ (m : ℕ). Some m) is)
+    (λ _. ap (λ (m : ℕ). first_from (is_ready t.jobs w.lines w.requests) JOBS (after_number m)) is ∙ only)
+
+-- who is ready where the job goes on
+ready-going : (jobs : List (Option Job)) (w : World) (n : ℕ) (k : Job) → n < length jobs → is_ready jobs w.lines w.requests n ≡ true → is_none k.stop ≡ true
+    → (m : ℕ) → is_ready (slice_set jobs n (Some (awake k))) w.lines w.requests m ≡ is_ready jobs w.lines w.requests m
+ready-going jobs w n k place ready stop m = elim (cases_eq m n) [
+  | inl is ↦
+      let there : is_ready (slice_set jobs n (Some (awake k))) w.lines w.requests n ≡ true =
+      ap (λ (o : Option Job). is_ready_job w.lines w.requests n o) (get_or-set_same jobs n (Some (awake k)) None place) ∙ ap (λ b. b && true) stop in
+      ap (λ (i : ℕ). is_ready (slice_set jobs n (Some (awake k))) w.lines w.requests i) is ∙ there ∙ sym (ap (λ (i : ℕ). is_ready jobs w.lines w.requests i) is ∙ ready)
+  | inr other ↦ ap (λ (o : Option Job). is_ready_job w.lines w.requests m o) (get_or-set_other jobs n m (Some (awake k)) None other)
+]
+
 -- what is put in the job's place twice is there once
-table-twice : (t : Table) (n : ℕ) (o p : Option Job) (ticking : Bool) (i : ℕ) → with_job (table_after (with_job t n o) ticking i) n p ≡ table_after (with_job t n p) ticking i
-table-twice t n o p false i = ap (λ (jobs : List (Option Job)). record t { jobs = jobs }) (set-set t.jobs n o p)
-table-twice t n o p true i = ap (λ (jobs : List (Option Job)). record t { jobs = jobs; left = t.left - i }) (set-set t.jobs n o p)
+table-twice : (t : Table) (n : ℕ) (o p : Option Job) (quantum : ℕ) (ticking : Bool) (i : ℕ)
+    → with_job (table_after (with_job t n o) quantum ticking i) n p ≡ table_after (with_job t n p) quantum ticking i
+table-twice t n o p quantum false i = ap (λ (jobs : List (Option Job)). record t { jobs = jobs }) (set-set t.jobs n o p)
+table-twice t n o p quantum true i = ap (λ (jobs : List (Option Job)). record t { jobs = jobs; left = left_after quantum t.left i }) (set-set t.jobs n o p)
 
 -- the world in which a job runs on, and its turn there
 abbrev start_of : S → ℕ → Bool → ℕ → Option Job → List ℕ → World
-start_of s n ticking i o core = record s.world { table = table_after (with_job s.world.table n o) ticking i; cores = with_core s.world.cores n core }
+start_of s n ticking i o core = record s.world { table = table_after (with_job s.world.table n o) s.quantum ticking i; cores = with_core s.world.cores n core }
 
 abbrev turn_in : S → Job → Regs → List (List ℕ) → Outcome → Turn
 turn_in s j g cores x = concluded (with_regs j g) (record { cores = cores; free = s.world.cores.free }) s.world.requests x
 
 ended-turn : (s : S) (n : ℕ) (ticking : Bool) (i : ℕ) (o : Option Job) (core : List ℕ) (t : Turn)
-    → after_turn (start_of s n ticking i o core) (time_after s.time ticking i) n t ≡ ended s.world s.time n ticking i t
+    → after_turn (start_of s n ticking i o core) (time_after s.time ticking i) n t ≡ ended s.world s.time s.quantum n ticking i t
 ended-turn s n ticking i o core t =
     ap (λ (u : Table). called (record s.world { table = u; requests = t.requests; cores = t.cores }) (time_after s.time ticking i) n t.call)
-    (table-twice s.world.table n o (Some t.job) ticking i)
+    (table-twice s.world.table n o (Some t.job) s.quantum ticking i)
 
 ended-again : (s : S) (n : ℕ) (j : Job) (ticking : Bool) (i : ℕ) (o : Option Job) (core : List ℕ) (r : After)
-    → after_turn (record s.world { table = table_after (with_job s.world.table n o) ticking i; cores = with_core s.world.cores n core }) (time_after s.time ticking i) n
+    → after_turn (record s.world { table = table_after (with_job s.world.table n o) s.quantum ticking i; cores = with_core s.world.cores n core }) (time_after s.time ticking i) n
     (executed n (awake j) (with_core s.world.cores n core) s.world.requests r)
-    ≡ ended s.world s.time n ticking i (executed n (awake j) s.world.cores s.world.requests r)
+    ≡ ended s.world s.time s.quantum n ticking i (executed n (awake j) s.world.cores s.world.requests r)
 ended-again s n j ticking i o core r =
     ap (λ (cores : List (List ℕ)). after_turn (start_of s n ticking i o core) (time_after s.time ticking i) n (turn_in s j r.regs cores r.outcome)) (set-set s.world.cores.cores n core r.core)
     ∙ ended-turn s n ticking i o core (executed n (awake j) s.world.cores s.world.requests r)
 
+-- the job is next again, as its quantum lasts or no other is ready
+next-going : (s : S) (n : ℕ) (j : Job) (ticking alone : Bool) (most i : ℕ) (g : Regs) → Computes s n j ticking alone most → suc i < most
+    → next_job (between (with_job s.world.table n (Some (with_regs j g))) s.quantum ticking i) s.world.lines s.world.requests ≡ Some n
+next-going s n j false alone most i g h more =
+    next-current (with_job s.world.table n (Some (with_regs j g))) s.world n (with_regs j g) h.current h.quantum (get_or-set_same s.world.table.jobs n (Some (with_regs j g)) None h.place) h.stop
+next-going s n j true true most i g h more =
+    let k : Job = with_regs j g in
+    let jobs = slice_set s.world.table.jobs n (Some k) in
+    next-only (between (with_job s.world.table n (Some k)) s.quantum true i) s.world n h.current
+    (same-found (is_ready jobs s.world.lines s.world.requests) (is_ready s.world.table.jobs s.world.lines s.world.requests) JOBS (after_number n)
+    (ready-going s.world.table.jobs s.world n k h.place h.ready h.stop)
+    ∙ h.only refl)
+next-going s n j true false most i g h more =
+    let k : Job = with_regs j g in
+    let lasts : most ≤ s.world.table.left = h.lasts refl refl in
+    let left : left_after s.quantum s.world.table.left i ≡ s.world.table.left - i = left-before s.quantum s.world.table.left i (omega arith) in
+    next-current (between (with_job s.world.table n (Some k)) s.quantum true i) s.world n k h.current (omega (arith, left)) (get_or-set_same s.world.table.jobs n (Some k) None h.place) h.stop
+
 -- a later step of the job
-poised-going : (s : S) (n : ℕ) (j : Job) (ticking : Bool) (most i : ℕ) (g : Regs) (core : List ℕ) → Computes s n j ticking most → (ticking ≡ true → i < s.world.table.left)
-    → Poised s n j ticking i g core (going s n j ticking i g core)
-poised-going s n j ticking most i g core h lasts =
+poised-going : (s : S) (n : ℕ) (j : Job) (ticking alone : Bool) (most i : ℕ) (g : Regs) (core : List ℕ) → Computes s n j ticking alone most → suc i < most
+    → Poised s n j ticking (suc i) g core (going s n j ticking i g core)
+poised-going s n j ticking alone most i g core h more =
     let t : S = going s n j ticking i g core in
     let k : Job = record (awake j) { regs = g } in
-    let current : t.world.table.current ≡ n = current-after (with_job s.world.table n (Some k)) ticking i ∙ h.current in
-    let left : 0 < t.world.table.left = left-after (with_job s.world.table n (Some k)) ticking i h.quantum lasts in
-    let there : job_at t.world.table.jobs n ≡ Some k = ap (λ (l : List (Option Job)). job_at l n) (jobs-after (with_job s.world.table n (Some k)) ticking i) ∙ get_or-set_same s.world.table.jobs n (Some k) None h.place in
-    let next : next_job t.world.table t.world.lines t.world.requests ≡ Some n = next-current t.world.table t.world n k current left there h.stop in
+    let base : Table = with_job s.world.table n (Some k) in
+    let there : job_at t.world.table.jobs n ≡ Some k = ap (λ (l : List (Option Job)). job_at l n) (jobs-between base ticking i) ∙ get_or-set_same s.world.table.jobs n (Some k) None h.place in
+    let next : next_job t.world.table t.world.lines t.world.requests ≡ Some n = next-going s n j ticking alone most i g h more in
     let words : core_of t.world.cores n ≡ core = get_or-set_same s.world.cores.cores n core [] h.core in
     record {
       step = step-known t n k next there h.closed
-          ∙ ap (λ (u : Table). record { state = record t { world = after_turn (record t.world { table = u }) t.time n (executed n k t.world.cores t.world.requests (exec g (core_of t.world.cores n))) }; answer = RanAnswer n }) (chosen-current t.world.table n t.quantum current left)
-          ∙ ap (λ (c : List ℕ). record { state = record t { world = after_turn t.world t.time n (executed n k t.world.cores t.world.requests (exec g c)) }; answer = RanAnswer n }) words
-          ∙ ap (λ (w : World). record { state = record t { world = w }; answer = RanAnswer n }) (ended-again s n j ticking i (Some k) core (exec g core));
+          ∙ ap (λ (u : Table). record { state = record t { world = after_turn (record t.world { table = u }) t.time n (executed n k t.world.cores t.world.requests (exec g (core_of t.world.cores n))) }; answer = RanAnswer n })
+          (chosen-between base n s.quantum ticking i h.current h.quantum)
+          ∙ ap (λ (c : List ℕ). record { state = record t { world = after_turn (start_of s n ticking (suc i) (Some k) core) t.time n (executed n k t.world.cores t.world.requests (exec g c)) }; answer = RanAnswer n }) words
+          ∙ ap (λ (w : World). record { state = record t { world = w }; answer = RanAnswer n }) (ended-again s n j ticking (suc i) (Some k) core (exec g core));
     }
   where
-    current-after : (t : Table) (ticking : Bool) (i : ℕ) → (table_after t ticking i).current ≡ t.current
-    current-after t true i = refl
-    current-after t false i = refl
-
-    jobs-after : (t : Table) (ticking : Bool) (i : ℕ) → (table_after t ticking i).jobs ≡ t.jobs
-    jobs-after t true i = refl
-    jobs-after t false i = refl
-
-    left-after : (t : Table) (ticking : Bool) (i : ℕ) → 0 < t.left → (ticking ≡ true → i < t.left) → 0 < (table_after t ticking i).left
-    left-after t true i some lasts = let low : i < t.left = lasts refl in omega arith
-    left-after t false i some lasts = some
+    jobs-between : (t : Table) (ticking : Bool) (i : ℕ) → (between t s.quantum ticking i).jobs ≡ t.jobs
+    jobs-between t true i = refl
+    jobs-between t false i = refl
 
 -- so many rounds, of which each ran, lead to the last one's end
 record Reached (s : S) (n : ℕ) (j : Job) (ticking : Bool) (i : ℕ) (t : S) (r : Ran) : Type 0 where
@@ -339,23 +385,22 @@ reached-more s n j ticking i t u r some first goes h =
       count = runs-more_rounds r.steps ticking t n first ∙ ap (λ (v : S). 1 + runs_in (answers (rounds r.steps ticking) v)) goes ∙ ap (λ (k : ℕ). 1 + k) h.count;
     }
 
-reached : (k : ℕ) (s : S) (n : ℕ) (j : Job) (ticking : Bool) (most i : ℕ) (g : Regs) (core : List ℕ) (t : S) → i + suc k ≤ most → Computes s n j ticking most → Poised s n j ticking i g core t
+reached : (k : ℕ) (s : S) (n : ℕ) (j : Job) (ticking alone : Bool) (most i : ℕ) (g : Regs) (core : List ℕ) (t : S) → i + suc k ≤ most → Computes s n j ticking alone most → Poised s n j ticking i g core t
     → Reached s n j ticking i t (ran (suc k) g core)
 unfolding ran
-reached zero s n j ticking most i g core t few h p = subst (λ (r : Ran). Reached s n j ticking i t r) (sym (ran-one g core)) (reached-one s n j ticking i g core t p)
-reached (suc k) s n j ticking most i g core t few h p =
+reached zero s n j ticking alone most i g core t few h p = subst (λ (r : Ran). Reached s n j ticking i t r) (sym (ran-one g core)) (reached-one s n j ticking i g core t p)
+reached (suc k) s n j ticking alone most i g core t few h p =
     let x : After = exec g core in
     by_test (λ (r : Ran). Reached s n j ticking i t r) (is_done x.outcome) (ran_on 1 (ran (suc k) x.regs x.core)) (record { steps = 1; after = x })
     (λ d.
-    let u : S = going s n j ticking (suc i) x.regs x.core in
+    let u : S = going s n j ticking i x.regs x.core in
     let goes : after (rounds 1 ticking) t ≡ u =
     round-is t ticking
     ∙ ap (λ (m : Made). ticked_if ticking m.state) p.step
     ∙ ap (λ (a : After). ticked_if ticking (ended_by s n j ticking i a)) (sym (done-after x d))
     ∙ tick-done s n j ticking i x.regs x.core h.quiet in
-    let lasts : (ticking ≡ true → suc i < s.world.table.left) = (λ e. let l : most ≤ s.world.table.left = h.lasts e in omega arith) in
     reached-more s n j ticking i t u (ran (suc k) x.regs x.core) (ran-some k x.regs x.core) (ap (λ (m : Made). m.answer) p.step) goes
-    (reached k s n j ticking most (suc i) x.regs x.core u (omega arith) h (poised-going s n j ticking most (suc i) x.regs x.core h lasts)))
+    (reached k s n j ticking alone most (suc i) x.regs x.core u (omega arith) h (poised-going s n j ticking alone most i x.regs x.core h (omega arith))))
     (λ _. reached-one s n j ticking i g core t p)
 
 -- Rounds in which a job runs on, until before the last tick: their state and their number are those of the rounds one by one.
@@ -382,34 +427,38 @@ jobs-of_chosen : (t : Table) (n quantum : ℕ) → (chosen t n quantum).jobs ≡
 jobs-of_chosen t n quantum = by_test (λ (u : Table). u.jobs ≡ t.jobs) ((t.current == n) && nat_lt 0 t.left) _ _ (λ _. refl) (λ _. refl)
 
 goes-some : (s : S) (n k : ℕ) (ticking : Bool) (o : Option Job) → Safe s → next_job s.world.table s.world.lines s.world.requests ≡ Some n
-    → Undisturbed (chosen s.world.table n s.quantum) n ticking (suc k) → job_at s.world.table.jobs n ≡ o
-    → GoesOn s ticking (suc k) (runs_on (chosen_world s n) s.time n (suc k) ticking o)
+    → Undisturbed (chosen s.world.table n s.quantum) n ticking (is_alone s.world.table n) (suc k) → job_at s.world.table.jobs n ≡ o
+    → GoesOn s ticking (suc k) (runs_on (chosen_world s n) s.time s.quantum n (suc k) ticking o)
 goes-some s n k ticking None safe next u there = absurd (false≢true (subst (λ (o : Option Job). IsSome o) there (runs-next s n safe next).there))
 goes-some s n k ticking (Some j) safe next u there =
     let runs : Runs s n = runs-next s n safe next in
     let jobs = jobs-of_chosen s.world.table n s.quantum in
     let core = core_of s.world.cores n in
+    let alone : Bool = is_alone s.world.table n in
+    let is_next : is_ready s.world.table.jobs s.world.lines s.world.requests n ≡ true = next-ready s.world.table s.world.lines s.world.requests n next in
     let closed : takes_interrupts j.interrupts ≡ false = sym (ap (λ (l : List (Option Job)). is_open (job_at l n)) jobs ∙ ap is_open there) ∙ u.closed in
-    let ready : is_ready_job s.world.lines s.world.requests n (Some j) ≡ true = sym (ap (λ (o : Option Job). is_ready_job s.world.lines s.world.requests n o) there) ∙ next-ready s.world.table s.world.lines s.world.requests n next in
+    let ready : is_ready_job s.world.lines s.world.requests n (Some j) ≡ true = sym (ap (λ (o : Option Job). is_ready_job s.world.lines s.world.requests n o) there) ∙ is_next in
     let places : length (chosen s.world.table n s.quantum).jobs ≡ JOBS + 1 = ap (λ (l : List (Option Job)). length l) jobs ∙ safe.housed.places in
     let low : n ≤ JOBS = runs.number.1 in
     let base : S = record s { world = chosen_world s n } in
-    let h : Computes base n j ticking (suc k) = record {
+    let h : Computes base n j ticking alone (suc k) = record {
       current = u.current;
       quantum = u.quantum;
       lasts = u.lasts;
+      only = λ e. ap (λ (l : List (Option Job)). first_from (is_ready l s.world.lines s.world.requests) JOBS (after_number n)) jobs ∙ after-itself s.world.table s.world.lines s.world.requests n next e;
       quiet = u.awake;
+      ready = ap (λ (l : List (Option Job)). is_ready l s.world.lines s.world.requests n) jobs ∙ is_next;
       closed = closed;
       stop = (and_parts (is_none j.stop) _ ready).0;
       place = omega (arith, places, low);
       core = omega (arith, safe.housed.store.jobs, low);
     } in
     let r : Ran = ran (suc k) j.regs core in
-    let all : Reached base n j ticking 0 s r = reached k base n j ticking (suc k) 0 j.regs core s (omega arith) h (poised-first s n j ticking next there closed) in
+    let all : Reached base n j ticking 0 s r = reached k base n j ticking alone (suc k) 0 j.regs core s (omega arith) h (poised-first s n j ticking next there closed) in
     let turn : stretch_of n (suc k) (awake j) s.world.cores s.world.requests ≡ record { turn = executed n (awake j) s.world.cores s.world.requests r.after; rounds = r.steps } =
     ap (λ (d : Option (ℕ × ℕ)). stretched n (suc k) (awake j) s.world.cores s.world.requests d) (none-due j.interrupts (pending s.world.requests n) closed) in
     let from : 0 + (r.steps - 1) ≡ r.steps - 1 = omega arith in
-    subst (λ (x : Stretch). GoesOn s ticking (suc k) (run_out (chosen_world s n) s.time n ticking x)) (sym turn)
+    subst (λ (x : Stretch). GoesOn s ticking (suc k) (run_out (chosen_world s n) s.time s.quantum n ticking x)) (sym turn)
     (record {
       state = sym (all.state ∙ ap (λ (i : ℕ). ticked_if ticking (ended_by base n j ticking i r.after)) from);
       count = sym all.count;
@@ -419,11 +468,11 @@ goes-some s n k ticking (Some j) safe next u there =
 
 -- the job that is next goes on for some rounds
 pub goes-on : (s : S) (n k : ℕ) (ticking : Bool) → Safe s → next_job s.world.table s.world.lines s.world.requests ≡ Some n → 1 ≤ k
-    → (2 ≤ k → Undisturbed (chosen s.world.table n s.quantum) n ticking k)
-    → GoesOn s ticking k (runs_on (record s.world { table = chosen s.world.table n s.quantum }) s.time n k ticking (job_at s.world.table.jobs n))
+    → (2 ≤ k → Undisturbed (chosen s.world.table n s.quantum) n ticking (is_alone s.world.table n) k)
+    → GoesOn s ticking k (runs_on (record s.world { table = chosen s.world.table n s.quantum }) s.time s.quantum n k ticking (job_at s.world.table.jobs n))
 goes-on s n zero ticking safe next some alone = absurd (omega arith)
 goes-on s n (suc zero) ticking safe next some alone =
-    subst (λ (x : Stretched). GoesOn s ticking 1 x) (sym (runs-one (chosen_world s n) s.time n ticking (job_at s.world.table.jobs n))) (goes-one s n ticking next)
+    subst (λ (x : Stretched). GoesOn s ticking 1 x) (sym (runs-one (chosen_world s n) s.time s.quantum n ticking (job_at s.world.table.jobs n))) (goes-one s n ticking next)
 goes-on s n (suc (suc k)) ticking safe next some alone = goes-some s n (suc k) ticking (job_at s.world.table.jobs n) safe next (alone (omega arith)) refl
 
 -- an idle round
@@ -440,19 +489,19 @@ idles s ticking next = record {
 -- what the job that is next leaves
 pub step-made : (s : S) (n : ℕ) (w : World) (time made : ℕ) → next_job s.world.table s.world.lines s.world.requests ≡ Some n
     → record { world = w; time = time; rounds = made }
-    ≡ runs_on (record s.world { table = chosen s.world.table n s.quantum }) s.time n 1 false (job_at (chosen s.world.table n s.quantum).jobs n)
+    ≡ runs_on (record s.world { table = chosen s.world.table n s.quantum }) s.time s.quantum n 1 false (job_at (chosen s.world.table n s.quantum).jobs n)
     → record s { world = w; time = time } ≡ (stepped s (next_job s.world.table s.world.lines s.world.requests)).state
 step-made s n w time made next is =
-    ap (λ (x : Stretched). record s { world = x.world; time = x.time }) (is ∙ runs-one (chosen_world s n) s.time n false (job_at (chosen s.world.table n s.quantum).jobs n))
+    ap (λ (x : Stretched). record s { world = x.world; time = x.time }) (is ∙ runs-one (chosen_world s n) s.time s.quantum n false (job_at (chosen s.world.table n s.quantum).jobs n))
     ∙ ap (λ (l : List (Option Job)). record s { world = ran_job (chosen_world s n) s.time n (job_at l n) }) (jobs-of_chosen s.world.table n s.quantum)
     ∙ sym (ap (λ o. (stepped s o).state) next)
 
 pub rounds-made : (s : S) (n k : ℕ) (ticking : Bool) (w : World) (time made : ℕ) → Safe s → next_job s.world.table s.world.lines s.world.requests ≡ Some n → 1 ≤ k
-    → (2 ≤ k → Undisturbed (chosen s.world.table n s.quantum) n ticking k)
+    → (2 ≤ k → Undisturbed (chosen s.world.table n s.quantum) n ticking (is_alone s.world.table n) k)
     → record { world = w; time = time; rounds = made }
-    ≡ runs_on (record s.world { table = chosen s.world.table n s.quantum }) s.time n k ticking (job_at (chosen s.world.table n s.quantum).jobs n)
+    ≡ runs_on (record s.world { table = chosen s.world.table n s.quantum }) s.time s.quantum n k ticking (job_at (chosen s.world.table n s.quantum).jobs n)
     → GoesOn s ticking k (record { world = w; time = time; rounds = made })
 rounds-made s n k ticking w time made safe next some alone is =
     subst (λ (x : Stretched). GoesOn s ticking k x)
-    (sym (is ∙ ap (λ (l : List (Option Job)). runs_on (chosen_world s n) s.time n k ticking (job_at l n)) (jobs-of_chosen s.world.table n s.quantum)))
+    (sym (is ∙ ap (λ (l : List (Option Job)). runs_on (chosen_world s n) s.time s.quantum n k ticking (job_at l n)) (jobs-of_chosen s.world.table n s.quantum)))
     (goes-on s n k ticking safe next some alone)

@@ -1,5 +1,5 @@
 -- A turn leaves a job its core.
-use Rattle.std.proofs.Common.{◌≡◌, ◌≢◌, ◌<◌, ◌∙◌, sym, ap, ℕ, zero, suc, ◌+◌, List, [], ◌∷◌, length, Option, Some, None, refl, arith, unwrap_or}
+use Rattle.std.proofs.Common.{◌≡◌, ◌≢◌, ◌<◌, ◌∙◌, sym, ap, ℕ, zero, suc, ◌+◌, List, [], ◌∷◌, length, Option, Some, None, refl, arith}
 use Rattle.std.proofs.lemmas.List.{get_or-set_same}
 use Rattle.ka_cpu.specs.Exec.{exec}
 use Rattle.ka_cpu.specs.Jumps.{pc_word}

@@ -1,11 +1,9 @@
 -- In a safe state a job has a blocking request that is not granted exactly where it waits for it.
-use Rattle.std.proofs.Common.{◌≡◌, ◌∙◌, sym, ap, subst, ℕ, Bool, true, false, ◌↔◌, List, Option, Some, None, is_some, refl}
+use Rattle.std.proofs.Common.{◌≡◌, ◌∙◌, sym, ap, ℕ, true, false, Option, Some, None, is_some, refl}
 use Rattle.std.proofs.lemmas.Bool.{both_ways}
 use Rattle.ka_cpu.proofs.ExecLaws.{by_test}
-use Rattle.lock_queue.specs.declared.request.Request.{Request}
 use Rattle.lock_queue.specs.Jobs.{is_waiting_job}
 use Rattle.lock_laws.proofs.WaitSteps.{has-waiting}
-use Rattle.tty_lines.specs.Rings.{Rings}
 use Rattle.job_sched.specs.Ready.{holds}
 use Rattle.job_sched.specs.Tables.{job_at}
 use Rattle.job_sched.specs.declared.job.Job.{Job}
@@ -14,7 +12,6 @@ use Rattle.job_sched.specs.declared.job.Wait.TheVariants.{None as Nothing, Queue
 use Rattle.uuo_calls.specs.Performed.{World}
 use Rattle.machine.specs.Machine.{S}
 use Rattle.machine.specs.Safe.{Safe, wait_of}
-use Rattle.machine.specs.Views.{held_wait}
 use Rattle.machine.specs.Waits.{waiting_for, WaitsForGrants}
 
 waits-then : (w : World) (n : ℕ) (o : Option Job) → is_some o ≡ true → wait_of o ≡ Queue → is_waiting_job w.requests n ≡ true → waiting_for w n o ≡ Queue

@@ -1,6 +1,6 @@
 //! Runs a loop in some jobs of the machine, for measuring.
 //!
-//! Arguments: what is run (`step` bare instructions, `steps` steps of the machine, `ticked` steps
+//! Arguments: what is run (`bare` bare instructions, `steps` steps of the machine, `ticked` steps
 //! with a tick behind each, `ticks` ticks alone), how many, the jobs (1 to 16) and the quantum.
 #![tactic(auto)]
 

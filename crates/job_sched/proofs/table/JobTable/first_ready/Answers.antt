@@ -1,9 +1,9 @@
-use Rattle.std.proofs.Common.{◌≡◌, ◌≤◌, ◌-◌, ◌∙◌, sym, ap, min, ℕ, Bool, false, List, Option, Some, None}
+use Rattle.std.proofs.Common.{◌≡◌, ◌≤◌, ◌-◌, ◌∙◌, sym, ap, min, ℕ, Bool, List, Option}
 use Rattle.word36.specs.declared.sizes.TheConstants.{JOBS}
 use Rattle.lock_queue.specs.declared.request.Request.{Request}
 use Rattle.tty_lines.specs.Rings.{Rings}
 use Rattle.job_sched.specs.Ready.{first_from, is_ready, is_ready_job}
-use Rattle.job_sched.specs.Tables.{IsTable, job_at}
+use Rattle.job_sched.specs.Tables.{IsTable}
 use Rattle.job_sched.specs.declared.job.Job.{Job}
 use Rattle.job_sched.proofs.Circle.{circle, or_else, or-found, or-other}
 use Rattle.job_sched.proofs.table.JobTable.first_ready.Goals as goal

@@ -45,7 +45,7 @@ returns g c =
       blocks = c.self.inside.blocks;
     } in
     let safe : Safe s = rw (← c.self.view_is) at c.requires.safe in
-    let alone = rw c.choose.ensures at c.span-span.ensures.undisturbed in
+    let alone = rw (c.choose.ensures, c.is_alone-alone.ensures) at c.span-span.ensures.undisturbed in
     let is = rw c.choose.ensures at c.run_job-made.ensures in
     let x = rounds-made s c.in-Some.n c.span-span.result c.args.ticking _ _ c.run_job-made.result safe (sym c.next.ensures ∙ c.in-Some.is) c.span-span.ensures.least alone is in
     record {
