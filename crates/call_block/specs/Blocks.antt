@@ -1,5 +1,5 @@
 -- The block of a lock call (ENQ/DEQ of the TOPS-10 Monitor Calls Manual, in this project's profile).
-use Rattle.std.specs.Prelude.{◌≡◌, ℕ, suc, zero, ◌+◌, ◌*◌, ◌^◌, ◌==◌, ◌&&◌, ◌||◌, nat_lt, Bool, true, not, if◌then◌else◌, unwrap_or, Result, Ok, Err, List, [], ◌∷◌}
+use Rattle.std.specs.Prelude.{ℕ, suc, zero, ◌+◌, ◌*◌, ◌^◌, ◌==◌, ◌&&◌, ◌||◌, nat_lt, Bool, true, not, if◌then◌else◌, unwrap_or, Result, Ok, Err, List, [], ◌∷◌}
 use Rattle.arrayvec.specs.ArrayVec.{ArrayVec}
 use Rattle.word36.specs.declared.sizes.TheConstants.{LOCKS_A_CALL}
 use Rattle.word36.specs.Words.{left_half, right_half}
@@ -35,10 +35,15 @@ wants_at ac core job lock_use a (suc n) = do
   wants ← wants_at ac core job lock_use (a + 3) n
   Ok (want ∷ wants)
 
--- that a result holds these wants, or this refusal
-abbrev pub WantsAre : Result (ArrayVec Want) Refusal → Result (List Want) Refusal → Type 0
-WantsAre (Ok v) wants = wants ≡ Ok v.items
-WantsAre (Err e) wants = wants ≡ Err e
+-- the wants that were filled in, or the refusal
+abbrev pub wants_read_as : Result (Unit {0}) Refusal → ArrayVec Want → Result (List Want) Refusal
+wants_read_as (Ok u) wants = Ok wants.items
+wants_read_as (Err refusal) wants = Err refusal
+
+-- the block of an id and of the wants that were filled in, or the refusal
+abbrev pub read_as : Result ℕ Refusal → ArrayVec Want → Result Block Refusal
+read_as (Ok id) wants = Ok (record { id = id; wants = wants })
+read_as (Err refusal) wants = Err refusal
 
 -- the block at a place: `n,,2+3n`, `0,,request id`, and n locks; all of its words are legal, and n is
 -- from 1 to 16

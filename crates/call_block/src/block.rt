@@ -1,10 +1,10 @@
 //! A block as a whole.
-ghost use Rattle.std.specs.Prelude.{◌≡◌, ◌+◌, ◌-◌, ◌*◌, ◌^◌, ◌<◌, ◌≤◌, IsTrue, IfOk};
+ghost use Rattle.std.specs.Prelude.{◌≡◌, ◌+◌, ◌-◌, ◌*◌, ◌^◌, ◌<◌, ◌≤◌, IsTrue, IfOk, OnOk};
 ghost use Rattle.std.specs.List.{list_all};
 ghost use Rattle.arrayvec.specs.ArrayVec.{array_vec_len};
 ghost use Rattle.ka_cpu.specs.Places.{is_legal};
 ghost use Rattle.lock_queue.specs.WellFormed.{shares_no_pool};
-ghost use Rattle.call_block.specs.Blocks.{are_legal, word, lock_at, wants_at, block_at, WantsAre};
+ghost use Rattle.call_block.specs.Blocks.{are_legal, word, lock_at, wants_at, block_at, read_as, wants_read_as};
 
 use crate::want::{Lock, want_of};
 use ka_cpu::{JobMemory, Regs, fetch};
@@ -67,7 +67,7 @@ fn lock_at<M: JobMemory>(regs: &Regs, memory: &M, place: u32) -> Lock
     }
 }
 
-/// The wants of so many locks, all of whose words are legal.
+/// Fills in the wants of so many locks, all of whose words are legal.
 fn read_wants<M: JobMemory>(
     regs: &Regs,
     memory: &M,
@@ -75,24 +75,26 @@ fn read_wants<M: JobMemory>(
     count: u32,
     job: u8,
     lock_use: LockUse,
-) -> Result<Wants, Refusal>
+    wants: &mut Wants,
+) -> Result<(), Refusal>
     requires some { 1 ≤ count }
     requires few { count ≤ LOCKS_A_CALL }
     requires fits { first < 2 ^ 19 }
     requires legal { IsTrue (is_legal (M.words memory.now) (first + 3 * count - 1)) }
-    ensures wants { WantsAre result (wants_at regs.now.ac (M.words memory.now) job lock_use first count) }
-    ensures counted { IfOk result (λ wants. array_vec_len wants ≡ count) }
-    ensures unshared { IfOk result (λ wants. IsTrue (list_all shares_no_pool wants.items)) }
+    ensures wants { wants_read_as result wants.new ≡ wants_at regs.now.ac (M.words memory.now) job lock_use first count }
+    ensures counted { OnOk result (array_vec_len wants.new ≡ count) }
+    ensures unshared { OnOk result (IsTrue (list_all shares_no_pool wants.new.items)) }
 {
-    let mut wants = Wants::new();
+    wants.clear();
     for lock in 0..count {
         let lock = lock_at(regs, memory, first + LOCK_WORDS * lock);
         wants.push(want_of(regs, memory, job, lock_use, lock)?);
     }
-    Ok(wants)
+    Ok(())
 }
 
-/// The block of a job's call at an address, over the job's registers and core, or the first refusal:
+/// Reads the block of a job's call at an address, over the job's registers and core: fills in its wants
+/// and answers its id, or answers the first refusal, and then what is filled in means nothing:
 /// `BadBlock` where a word of the block is not legal, its size is not that of its n locks, or the left
 /// half of its second word is not 0; `BadCount` where there is no lock or more than 16; then, lock by
 /// lock, `BadPointer` where it has neither a user code nor a pointer to a name, or the name runs off
@@ -105,17 +107,18 @@ fn read_wants<M: JobMemory>(
 /// does, as in ILDB. Nothing is changed. (ENQ/DEQ of the TOPS-10 Monitor Calls Manual; the layout and
 /// the refusals are this project's profile.)
 #[tactic(auto, unfolding(crate::specs::Blocks::block_at))]
-pub fn read_block<M: JobMemory>(
+pub fn fill_block<M: JobMemory>(
     regs: &Regs,
     memory: &M,
     address: Address,
     job: u8,
     lock_use: LockUse,
-) -> Result<Block, Refusal>
-    ensures block { result ≡ block_at regs.now.ac (M.words memory.now) address job lock_use }
-    ensures least { IfOk result (λ block. 1 ≤ array_vec_len block.wants) }
-    ensures most { IfOk result (λ block. array_vec_len block.wants ≤ LOCKS_A_CALL) }
-    ensures unshared { IfOk result (λ block. IsTrue (list_all shares_no_pool block.wants.items)) }
+    wants: &mut Wants,
+) -> Result<RequestId, Refusal>
+    ensures block { read_as result wants.new ≡ block_at regs.now.ac (M.words memory.now) address job lock_use }
+    ensures least { OnOk result (1 ≤ array_vec_len wants.new) }
+    ensures most { OnOk result (array_vec_len wants.new ≤ LOCKS_A_CALL) }
+    ensures unshared { OnOk result (IsTrue (list_all shares_no_pool wants.new.items)) }
 {
     let address = address.number();
     let head = fetch(regs, memory, address).ok_or(Refusal::BadBlock)?;
@@ -131,9 +134,24 @@ pub fn read_block<M: JobMemory>(
     if count == 0 || count as usize > LOCKS_A_CALL {
         return Err(Refusal::BadCount);
     }
-    let wants = read_wants(regs, memory, address + 2, count, job, lock_use)?;
-    Ok(Block {
-        id: RequestId::new(id.right()),
-        wants,
-    })
+    read_wants(regs, memory, address + 2, count, job, lock_use, wants)?;
+    Ok(RequestId::new(id.right()))
+}
+
+/// The block of a job's call at an address, or the first refusal, as `fill_block` reads it.
+pub fn read_block<M: JobMemory>(
+    regs: &Regs,
+    memory: &M,
+    address: Address,
+    job: u8,
+    lock_use: LockUse,
+) -> Result<Block, Refusal>
+    ensures block { result ≡ block_at regs.now.ac (M.words memory.now) address job lock_use }
+    ensures least { IfOk result (λ block. 1 ≤ array_vec_len block.wants) }
+    ensures most { IfOk result (λ block. array_vec_len block.wants ≤ LOCKS_A_CALL) }
+    ensures unshared { IfOk result (λ block. IsTrue (list_all shares_no_pool block.wants.items)) }
+{
+    let mut wants = Wants::new();
+    let id = fill_block(regs, memory, address, job, lock_use, &mut wants)?;
+    Ok(Block { id, wants })
 }

@@ -8,5 +8,5 @@ mod laws;
 mod name;
 mod want;
 
-pub use block::{Block, read_block};
+pub use block::{Block, fill_block, read_block};
 pub use laws::{asciz_names_are_read, locks_are_read_in_order};

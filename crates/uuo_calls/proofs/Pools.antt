@@ -1,12 +1,14 @@
--- A block that is read may be asked for.
-use Rattle.std.specs.Prelude.{◌≤◌, IsTrue, Result, Ok, Err, IfOk}
+-- Wants that are read may be asked for.
+use Rattle.std.specs.Prelude.{◌≤◌, ℕ, IsTrue, Result, Ok, Err, OnOk}
 use Rattle.std.specs.List.{list_all}
-use Rattle.arrayvec.specs.ArrayVec.{array_vec_len}
+use Rattle.std.proofs.lemmas.Bool.{le-leb}
+use Rattle.arrayvec.specs.ArrayVec.{ArrayVec, array_vec_len}
 use Rattle.lock_queue.specs.WellFormed.{shares_no_pool}
 use Rattle.lock_queue.specs.declared.refusal.Refusal.{Refusal}
-use Rattle.call_block.specs.declared.block.Block.{Block}
-use Rattle.uuo_calls.specs.LockRows.{IsAskable}
+use Rattle.lock_queue.specs.declared.want.Want.{Want}
+use Rattle.uuo_calls.specs.LockRows.{AreAskable}
 
-pub askable : (r : Result Block Refusal) → IfOk r (λ block. 1 ≤ array_vec_len block.wants) → IfOk r (λ block. IsTrue (list_all shares_no_pool block.wants.items)) → IfOk r IsAskable
-askable (Ok block) some own = (some, own)
-askable (Err refusal) some own = tt
+pub askable : (r : Result ℕ Refusal) (wants : ArrayVec Want) → OnOk r (1 ≤ array_vec_len wants)
+    → OnOk r (IsTrue (list_all shares_no_pool wants.items)) → OnOk r (AreAskable wants)
+askable (Ok id) wants some own = (le-leb _ _ some, own)
+askable (Err refusal) wants some own = tt

@@ -1,6 +1,7 @@
 -- ENQ. and DEQ. (TOPS-10 Monitor Calls Manual, in this project's profile).
-use Rattle.std.specs.Prelude.{ℕ, ◌==◌, ◌≤◌, Bool, IsTrue, is_some, if◌then◌else◌, List, length, Result, Ok, Err}
+use Rattle.std.specs.Prelude.{ℕ, ◌==◌, nat_le, Bool, IsTrue, is_some, if◌then◌else◌, List, length, Result, Ok, Err}
 use Rattle.std.specs.List.{list_all}
+use Rattle.arrayvec.specs.ArrayVec.{ArrayVec}
 use Rattle.word36.specs.Words.{left_half, right_half}
 use Rattle.core_store.specs.Cores.{core_of}
 use Rattle.lock_queue.specs.declared.call.LockCall.{LockCall}
@@ -12,10 +13,11 @@ use Rattle.lock_queue.specs.declared.refusal.Refusal.TheVariants.{NoFunction}
 use Rattle.lock_queue.specs.declared.request.EnqueueKind.{EnqueueKind}
 use Rattle.lock_queue.specs.declared.request.EnqueueKind.TheVariants.{Blocking, AtOnce, Interrupt}
 use Rattle.lock_queue.specs.declared.request.Request.{Request}
+use Rattle.lock_queue.specs.declared.want.Want.{Want}
 use Rattle.lock_queue.specs.Calls.{outcome_of}
 use Rattle.lock_queue.specs.Outcomes.{Outcome, outcome}
 use Rattle.lock_queue.specs.Refusals.{code_of}
-use Rattle.lock_queue.specs.WellFormed.{names_locks, shares_no_pool, shares_no_pools}
+use Rattle.lock_queue.specs.WellFormed.{shares_no_pool}
 use Rattle.call_block.specs.declared.block.Block.{Block}
 use Rattle.lock_queue.specs.declared.terms.LockUse.TheVariants.{Requested, Named}
 use Rattle.call_block.specs.Blocks.{block_at}
@@ -23,13 +25,9 @@ use Rattle.job_sched.specs.declared.job.Job.{Job}
 use Rattle.job_sched.specs.declared.job.Wait.TheVariants.{Queue}
 use Rattle.uuo_calls.specs.Around.{Around, ac_of, skipping, refusing, waiting}
 
--- a block that may be asked for: it names a lock, and shares no pool
-abbrev pub IsAskable : Block → Type 0
-IsAskable block = (1 ≤ length block.wants.items) × IsTrue (list_all shares_no_pool block.wants.items)
-
--- a call that a lock table takes
-abbrev pub IsRight : LockCall → Type 0
-IsRight call = IsTrue (names_locks call) × IsTrue (shares_no_pools call)
+-- wants that may be asked for: there is one, and no pool is shared
+abbrev pub AreAskable : ArrayVec Want → Type 0
+AreAskable wants = IsTrue (nat_le 1 (length wants.items)) × IsTrue (list_all shares_no_pool wants.items)
 
 -- the request that a block asks for
 abbrev pub entering : EnqueueKind → Bool → Result Block Refusal → Result LockCall Refusal

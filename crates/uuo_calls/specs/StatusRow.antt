@@ -11,7 +11,6 @@ use Rattle.lock_queue.specs.declared.request.Request.{Request}
 use Rattle.lock_queue.specs.declared.want.Want.{Want}
 use Rattle.lock_queue.specs.Refusals.{code_of}
 use Rattle.lock_queue.specs.StatusWords.{status_of, words_of}
-use Rattle.arrayvec.specs.ArrayVec.{ArrayVec}
 use Rattle.call_block.specs.declared.block.Block.{Block}
 use Rattle.lock_queue.specs.declared.terms.LockUse.TheVariants.{Named}
 use Rattle.call_block.specs.Blocks.{block_at}
@@ -48,11 +47,6 @@ enqc_asks regs core n w = if left_half w == 0 then wants_in (block_at regs core 
 abbrev pub with_room : List ℕ → ℕ → Result (List Want) Refusal → Result (List Want) Refusal
 with_room core to (Ok wants) = if are_legal core to (3 * length wants) then Ok wants else Err BadBlock
 with_room core to (Err refusal) = Err refusal
-
--- the wants as a list
-abbrev pub wants_of : Result (ArrayVec Want) Refusal → Result (List Want) Refusal
-wants_of (Ok v) = Ok v.items
-wants_of (Err e) = Err e
 
 -- a job and its core
 pub record JobCore : Type 0 where

@@ -1,62 +1,82 @@
 //! ENQ. and DEQ.
 
-ghost use Rattle.std.specs.Prelude.{◌≡◌, ◌<◌, IfOk, is_some};
+ghost use Rattle.std.specs.Prelude.{◌≡◌, ◌<◌, is_some};
 ghost use Rattle.core_store.specs.Cores.{IsJob, core_of};
-ghost use Rattle.uuo_calls.specs.LockRows.{IsAskable, IsRight, entering, changing, enq_asks, deq_asks, naming, asked, answered};
+ghost use Rattle.call_block.specs.Blocks.{block_at};
+ghost use Rattle.lock_queue.specs.declared.terms.LockUse.TheVariants.{Requested, Named};
+ghost use Rattle.uuo_calls.specs.LockRows.{entering, changing, enq_asks, deq_asks, naming, asked, answered};
 ghost use Rattle.uuo_calls.specs.Around.{ac_of};
 
 use crate::blocks::block_kept;
 use crate::returns::{refuse, skip};
-use call_block::Block;
 use core_store::{CoreStore, CoreWindow};
 use job_sched::{Job, Wait};
 use ka_cpu::{JobMemory, Regs};
-use lock_queue::{EnqueueKind, LockCall, LockReply, LockTable, LockUse, Refusal, RequestId};
+use lock_queue::{EnqueueKind, LockCall, LockReply, LockTable, LockUse, Refusal, RequestId, Wants};
 use word36::{Address, Word};
 
-/// The request that a block asks for, in a call of ENQ. 0 to 2.
-fn entering(
+/// Enters the request that a block asks for, in a call of ENQ. 0 to 2.
+fn enter<L: LockTable, M: JobMemory>(
     kind: EnqueueKind,
     armed: bool,
-    block: Result<Block, Refusal>,
-) -> Result<LockCall, Refusal>
-    requires { IfOk block IsAskable }
-    ensures asks { result ≡ entering kind armed block }
-    ensures right { IfOk result IsRight }
+    regs: &Regs,
+    memory: &mut M,
+    place: Address,
+    number: u8,
+    locks: &mut L,
+) -> LockReply
+    requires number { IsJob number }
+    ensures reply { result ≡ (asked (L.requests locks.old) number (entering kind armed (block_at regs.now.ac (M.words memory.old) place number Requested))).reply }
+    ensures requests { L.requests locks.new ≡ (asked (L.requests locks.old) number (entering kind armed (block_at regs.now.ac (M.words memory.old) place number Requested))).requests }
+    ensures same { memory.new ≡ memory.old }
 {
-    match block {
-        Ok(block) => Ok(LockCall::Enqueue {
-            kind,
-            id: block.id,
-            wants: block.wants,
-            armed,
-        }),
-        Err(refusal) => Err(refusal),
+    let mut wants = Wants::new();
+    match block_kept(regs, memory, place, number, LockUse::Requested, &mut wants) {
+        Ok(id) => {
+            let call = LockCall::Enqueue {
+                kind,
+                id,
+                wants,
+                armed,
+            };
+            locks.call(number, &call)
+        }
+        Err(refusal) => LockReply::Refused(refusal),
     }
 }
 
-/// The change that a block asks for, in a call of ENQ. 3.
-fn changing(block: Result<Block, Refusal>) -> Result<LockCall, Refusal>
-    requires { IfOk block IsAskable }
-    ensures asks { result ≡ changing block }
-    ensures right { IfOk result IsRight }
+/// Makes the change that a block asks for, in a call of ENQ. 3.
+fn change<L: LockTable, M: JobMemory>(
+    regs: &Regs,
+    memory: &mut M,
+    place: Address,
+    number: u8,
+    locks: &mut L,
+) -> LockReply
+    requires number { IsJob number }
+    ensures reply { result ≡ (asked (L.requests locks.old) number (changing (block_at regs.now.ac (M.words memory.old) place number Named))).reply }
+    ensures requests { L.requests locks.new ≡ (asked (L.requests locks.old) number (changing (block_at regs.now.ac (M.words memory.old) place number Named))).requests }
+    ensures same { memory.new ≡ memory.old }
 {
-    match block {
-        Ok(block) => Ok(LockCall::Modify(block.wants)),
-        Err(refusal) => Err(refusal),
+    let mut wants = Wants::new();
+    match block_kept(regs, memory, place, number, LockUse::Named, &mut wants) {
+        Ok(_) => locks.call(number, &LockCall::Modify(wants)),
+        Err(refusal) => LockReply::Refused(refusal),
     }
 }
 
-/// What ENQ. asks for: the left half of AC is the function, the right half the block's address.
-fn enq_asks<M: JobMemory>(
+/// Makes a call of ENQ.: the left half of AC is the function, the right half the block's address.
+fn enqueue<L: LockTable, M: JobMemory>(
     regs: &Regs,
     memory: &mut M,
     number: u8,
     word: Word,
     armed: bool,
-) -> Result<LockCall, Refusal>
-    ensures asks { result ≡ enq_asks regs.now.ac (M.words memory.old) number word armed }
-    ensures right { IfOk result IsRight }
+    locks: &mut L,
+) -> LockReply
+    requires number { IsJob number }
+    ensures reply { result ≡ (asked (L.requests locks.old) number (enq_asks regs.now.ac (M.words memory.old) number word armed)).reply }
+    ensures requests { L.requests locks.new ≡ (asked (L.requests locks.old) number (enq_asks regs.now.ac (M.words memory.old) number word armed)).requests }
     ensures same { memory.new ≡ memory.old }
 {
     let place = Address::new(word.right());
@@ -64,34 +84,17 @@ fn enq_asks<M: JobMemory>(
         0 => EnqueueKind::Blocking,
         1 => EnqueueKind::AtOnce,
         2 => EnqueueKind::Interrupt,
-        3 => return changing(block_kept(regs, memory, place, number, LockUse::Named)),
-        _ => return Err(Refusal::NoFunction),
+        3 => return change(regs, memory, place, number, locks),
+        _ => return LockReply::Refused(Refusal::NoFunction),
     };
-    entering(
-        kind,
-        armed,
-        block_kept(regs, memory, place, number, LockUse::Requested),
-    )
+    enter(kind, armed, regs, memory, place, number, locks)
 }
 
-/// Makes a lock call, and tells the job what it answered.
-fn ask<L: LockTable>(
-    number: u8,
-    job: &mut Job,
-    ac: u8,
-    asks: Result<LockCall, Refusal>,
-    locks: &mut L,
-)
-    requires number { IsJob number }
-    requires ac { ac < 16 }
-    requires right { IfOk asks IsRight }
-    ensures job { job.new ≡ answered job.old ac (asked (L.requests locks.old) number asks).reply }
-    ensures requests { L.requests locks.new ≡ (asked (L.requests locks.old) number asks).requests }
+/// Tells a job what its lock call answered.
+fn answer(job: &mut Job, ac: u8, reply: LockReply)
+    requires { ac < 16 }
+    ensures { job.new ≡ answered job.old ac reply }
 {
-    let reply = match asks {
-        Ok(call) => locks.call(number, &call),
-        Err(refusal) => LockReply::Refused(refusal),
-    };
     match reply {
         LockReply::Granted | LockReply::Done => skip(job),
         LockReply::Queued => {
@@ -120,45 +123,50 @@ pub(crate) fn enq<L: LockTable, C: CoreStore>(
     let armed = job.interrupts.vector.is_some();
     let words = cores.window(number);
     let mut window = CoreWindow { words };
-    let asks = enq_asks(&job.regs, &mut window, number, word, armed);
-    ask(number, job, ac, asks, locks);
+    let reply = enqueue(&job.regs, &mut window, number, word, armed, locks);
+    answer(job, ac, reply);
 }
 
-/// The wants that a block gives up, in a call of DEQ. 0.
-fn naming(block: Result<Block, Refusal>) -> Result<LockCall, Refusal>
-    requires { IfOk block IsAskable }
-    ensures asks { result ≡ naming block }
-    ensures right { IfOk result IsRight }
+/// Gives up the wants that a block names, in a call of DEQ. 0.
+fn give_up<L: LockTable, M: JobMemory>(
+    regs: &Regs,
+    memory: &mut M,
+    place: Address,
+    number: u8,
+    locks: &mut L,
+) -> LockReply
+    requires number { IsJob number }
+    ensures reply { result ≡ (asked (L.requests locks.old) number (naming (block_at regs.now.ac (M.words memory.old) place number Named))).reply }
+    ensures requests { L.requests locks.new ≡ (asked (L.requests locks.old) number (naming (block_at regs.now.ac (M.words memory.old) place number Named))).requests }
+    ensures same { memory.new ≡ memory.old }
 {
-    match block {
-        Ok(block) => Ok(LockCall::DequeueNamed(block.wants)),
-        Err(refusal) => Err(refusal),
+    let mut wants = Wants::new();
+    match block_kept(regs, memory, place, number, LockUse::Named, &mut wants) {
+        Ok(_) => locks.call(number, &LockCall::DequeueNamed(wants)),
+        Err(refusal) => LockReply::Refused(refusal),
     }
 }
 
-/// What DEQ. asks for: the left half of AC is the function, the right half the block's address or an
+/// Makes a call of DEQ.: the left half of AC is the function, the right half the block's address or an
 /// id.
-fn deq_asks<M: JobMemory>(
+fn dequeue<L: LockTable, M: JobMemory>(
     regs: &Regs,
     memory: &mut M,
     number: u8,
     word: Word,
-) -> Result<LockCall, Refusal>
-    ensures asks { result ≡ deq_asks regs.now.ac (M.words memory.old) number word }
-    ensures right { IfOk result IsRight }
+    locks: &mut L,
+) -> LockReply
+    requires number { IsJob number }
+    ensures reply { result ≡ (asked (L.requests locks.old) number (deq_asks regs.now.ac (M.words memory.old) number word)).reply }
+    ensures requests { L.requests locks.new ≡ (asked (L.requests locks.old) number (deq_asks regs.now.ac (M.words memory.old) number word)).requests }
     ensures same { memory.new ≡ memory.old }
 {
+    let right = word.right();
     match word.left() {
-        0 => naming(block_kept(
-            regs,
-            memory,
-            Address::new(word.right()),
-            number,
-            LockUse::Named,
-        )),
-        1 => Ok(LockCall::DequeueAll),
-        2 => Ok(LockCall::DequeueId(RequestId::new(word.right()))),
-        _ => Err(Refusal::NoFunction),
+        0 => give_up(regs, memory, Address::new(right), number, locks),
+        1 => locks.call(number, &LockCall::DequeueAll),
+        2 => locks.call(number, &LockCall::DequeueId(RequestId::new(right))),
+        _ => LockReply::Refused(Refusal::NoFunction),
     }
 }
 
@@ -179,6 +187,6 @@ pub(crate) fn deq<L: LockTable, C: CoreStore>(
     let word = job.regs.ac[ac as usize];
     let words = cores.window(number);
     let mut window = CoreWindow { words };
-    let asks = deq_asks(&job.regs, &mut window, number, word);
-    ask(number, job, ac, asks, locks);
+    let reply = dequeue(&job.regs, &mut window, number, word, locks);
+    answer(job, ac, reply);
 }

@@ -1,12 +1,13 @@
 //! ENQC.
 
-ghost use Rattle.std.specs.Prelude.{◌≡◌, ◌<◌, ◌≤◌, ◌+◌, ◌*◌, ◌%◌, ◌^◌, length, Ok, Err, IfOk};
+ghost use Rattle.std.specs.Prelude.{◌≡◌, ◌<◌, ◌≤◌, ◌+◌, ◌*◌, ◌%◌, ◌^◌, length, Ok, Err, OnOk};
 ghost use Rattle.core_store.specs.Cores.{IsJob, core_of, with_core};
 ghost use Rattle.arrayvec.specs.ArrayVec.{array_vec_len};
 ghost use Rattle.word36.specs.declared.sizes.TheConstants.{LOCKS_A_CALL};
 ghost use Rattle.word36.specs.Words.{right_half};
 ghost use Rattle.uuo_calls.specs.Around.{ac_of};
-ghost use Rattle.uuo_calls.specs.StatusRow.{Places, stored, status_words, enqc_asks, with_room, wants_of, told, enqc};
+ghost use Rattle.call_block.specs.Blocks.{wants_read_as};
+ghost use Rattle.uuo_calls.specs.StatusRow.{Places, stored, status_words, enqc_asks, with_room, told, enqc};
 
 use crate::blocks::block_kept;
 use crate::returns::{refuse, skip};
@@ -52,34 +53,30 @@ fn store_status<L: LockTable, M: JobMemory>(
     }
 }
 
-/// The wants that ENQC. names, where the answers' places are legal too.
+/// Fills in the wants that ENQC. names, where the answers' places are legal too.
 fn enqc_asks<M: JobMemory>(
     regs: &Regs,
     memory: &mut M,
     number: u8,
     word: Word,
     to: u32,
-) -> Result<Wants, Refusal>
+    wants: &mut Wants,
+) -> Result<(), Refusal>
     requires { to < 2 ^ 18 }
-    ensures wants { wants_of result ≡ with_room (M.words memory.old) to (enqc_asks regs.now.ac (M.words memory.old) number word) }
-    ensures few { IfOk result (λ wants. array_vec_len wants ≤ LOCKS_A_CALL) }
+    ensures wants { wants_read_as result wants.new ≡ with_room (M.words memory.old) to (enqc_asks regs.now.ac (M.words memory.old) number word) }
+    ensures few { OnOk result (array_vec_len wants.new ≤ LOCKS_A_CALL) }
     ensures same { memory.new ≡ memory.old }
 {
     if word.left() != 0 {
         return Err(Refusal::NoFunction);
     }
-    let block = block_kept(
-        regs,
-        memory,
-        Address::new(word.right()),
-        number,
-        LockUse::Named,
-    )?;
-    let count = STATUS_WORDS * block.wants.len() as u32;
+    let place = Address::new(word.right());
+    block_kept(regs, memory, place, number, LockUse::Named, wants)?;
+    let count = STATUS_WORDS * wants.len() as u32;
     if !are_legal_kept(memory, to, count) {
         return Err(Refusal::BadBlock);
     }
-    Ok(block.wants)
+    Ok(())
 }
 
 /// Stores the answers, or tells the job the refusal.
@@ -89,17 +86,18 @@ fn tell<L: LockTable, M: JobMemory>(
     ac: u8,
     memory: &mut M,
     to: u32,
-    asks: Result<Wants, Refusal>,
+    asks: Result<(), Refusal>,
+    wants: &Wants,
     locks: &L,
 )
     requires ac { ac < 16 }
     requires to { to < 2 ^ 18 }
-    requires few { IfOk asks (λ wants. array_vec_len wants ≤ LOCKS_A_CALL) }
-    ensures told { record { job = job.new; core = M.words memory.new } ≡ told (L.requests locks.now) number ac to job.old (M.words memory.old) (wants_of asks) }
+    requires few { OnOk asks (array_vec_len wants.now ≤ LOCKS_A_CALL) }
+    ensures told { record { job = job.new; core = M.words memory.new } ≡ told (L.requests locks.now) number ac to job.old (M.words memory.old) (wants_read_as asks wants.now) }
     ensures place { M.place memory.new ≡ M.place memory.old }
 {
     match asks {
-        Ok(wants) => {
+        Ok(()) => {
             store_status(number, &mut job.regs, memory, to, wants.as_slice(), locks);
             skip(job);
         }
@@ -124,6 +122,7 @@ pub(crate) fn enqc<L: LockTable, C: CoreStore>(
     let to = job.regs.ac[(ac as usize + 1) % 16].right();
     let words = cores.window(number);
     let mut window = CoreWindow { words };
-    let asks = enqc_asks(&job.regs, &mut window, number, word, to);
-    tell(number, job, ac, &mut window, to, asks, locks);
+    let mut wants = Wants::new();
+    let asks = enqc_asks(&job.regs, &mut window, number, word, to, &mut wants);
+    tell(number, job, ac, &mut window, to, asks, &wants, locks);
 }

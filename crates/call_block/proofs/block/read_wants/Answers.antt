@@ -7,12 +7,12 @@ use Rattle.call_block.proofs.WantLemmas.{more, refused, enough, unshared-push}
 use Rattle.call_block.proofs.block.read_wants.Goals as goal
 
 pub returns-clause-wants : goal.returns-clause-wants
-returns-clause-wants g c = enough _ _ _ _ _ _ _ _ _ c.loop-lock-test.false c.loop-lock.invariant.read
+returns-clause-wants g c = sym (enough _ _ _ _ _ _ _ _ _ c.loop-lock-test.false c.loop-lock.invariant.read)
 
 pub returns-in_err-want_of-clause-wants : goal.returns-in_err-want_of-clause-wants
 returns-in_err-want_of-clause-wants g c =
     let p = err_from_is_err_and c.from_residual.result c.from_residual.ensures.1 in
-    rw (p.1, p.2) (refused _ _ _ _ _ _ _ _ _ _ _ c.loop-lock-test.true c.loop-lock.invariant.read c.lock_at-lock.ensures c.in_err-want_of.ensures.value)
+    rw (p.1, p.2) (sym (refused _ _ _ _ _ _ _ _ _ _ _ c.loop-lock-test.true c.loop-lock.invariant.read c.lock_at-lock.ensures c.in_err-want_of.ensures.value))
 
 pub loop-lock-preserved : goal.loop-lock-preserved
 loop-lock-preserved g c = record {

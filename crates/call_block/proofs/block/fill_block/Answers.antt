@@ -1,6 +1,6 @@
 use Rattle.std.proofs.Common.{◌+◌, ◌*◌, arith, sym, ◌∙◌}
 use Rattle.call_block.proofs.LegalLemmas.{legal_within}
-use Rattle.call_block.proofs.block.read_block.Goals as goal
+use Rattle.call_block.proofs.block.fill_block.Goals as goal
 
 pub word-id-requires : goal.word-id-requires
 word-id-requires g c =
