@@ -6,7 +6,6 @@ use crate::rows::Row::{Asks, Calls, Does, Sees};
 use crate::rows::Sight::{Blocks, WaitsFor, Word};
 use crate::rows::{walk, walk_on};
 use job_sched::Wait;
-use std::test::Fail;
 use uuo_calls::CallOutcome::Done;
 
 const CORE: u32 = 0o11;
@@ -25,7 +24,7 @@ const DATWR: u32 = 0o777_775;
 const JBREL: u32 = 0o44;
 
 #[test]
-fn core_grows_and_shrinks(rt: HostRuntime) -> Result<(), Fail> {
+fn core_grows_and_shrinks(rt: HostRuntime) {
     let rows = [
         Does(Stores(1, 0o1777, &[5])),
         Asks(1, CORE, 0o3777, (SKIPPED, 0o76)),
@@ -36,13 +35,13 @@ fn core_grows_and_shrinks(rt: HostRuntime) -> Result<(), Fail> {
         Sees(Word(1, JBREL, Some(0o1777))),
         Sees(Word(1, 0o2000, None)),
     ];
-    walk(&rt, rt.alloc(), &rows)
+    walk(&rt, rt.alloc(), &rows);
 }
 
 /// A left half that is not 0, no address, and more blocks than are free: AC tells the free blocks, and
 /// nothing else changes.
 #[test]
-fn core_is_refused(rt: HostRuntime) -> Result<(), Fail> {
+fn core_is_refused(rt: HostRuntime) {
     let rows = [
         Does(Stores(1, JBREL as usize, &[7])),
         Asks(1, CORE, 0, (NEXT, 0o77)),
@@ -58,26 +57,25 @@ fn core_is_refused(rt: HostRuntime) -> Result<(), Fail> {
         Sees(Word(1, JBREL, Some(7))),
         Sees(Blocks(1, 1)),
     ];
-    walk(&rt, rt.alloc(), &rows)
+    walk(&rt, rt.alloc(), &rows);
 }
 
 /// A machine of one block, which job 1 has.
 #[test]
-fn core_is_not_there(rt: HostRuntime) -> Result<(), Fail> {
+fn core_is_not_there(rt: HostRuntime) {
     let rows = [
         Does(Comes(1, 0)),
         Asks(1, CORE, 0o3777, (NEXT, 0)),
         Sees(Word(1, 0o2000, None)),
         Sees(Word(1, JBREL, Some(0))),
     ];
-    let mut small = Machine::new(rt.alloc(), 1)?;
+    let mut small = Machine::new(rt.alloc(), 1).expect(&rt, "memory for the machine");
     walk_on(&rt, &mut small, &rows);
-    Ok(())
 }
 
 /// 100 ticks are 1666 milliseconds, 3202 octal; the last tick of a day is millisecond 86399983.
 #[test]
-fn time_number_and_sleep(rt: HostRuntime) -> Result<(), Fail> {
+fn time_number_and_sleep(rt: HostRuntime) {
     let rows = [
         Does(Comes(31, 15)),
         Does(Day(100)),
@@ -99,11 +97,11 @@ fn time_number_and_sleep(rt: HostRuntime) -> Result<(), Fail> {
         Asks(1, SLEEP, 0o777777, (NEXT, 0o777777)),
         Sees(WaitsFor(1, Wait::Sleep(15_728_580))),
     ];
-    walk(&rt, rt.alloc(), &rows)
+    walk(&rt, rt.alloc(), &rows);
 }
 
 #[test]
-fn shared_words(rt: HostRuntime) -> Result<(), Fail> {
+fn shared_words(rt: HostRuntime) {
     let rows = [
         Does(Comes(2, 1)),
         Does(PutsAc(1, 2, 0o123456_654321)),
@@ -120,5 +118,5 @@ fn shared_words(rt: HostRuntime) -> Result<(), Fail> {
         Calls(1, 0o17, DATWR, (Done, SKIPPED)),
         Asks(2, DATRD, 5, (SKIPPED, 3)),
     ];
-    walk(&rt, rt.alloc(), &rows)
+    walk(&rt, rt.alloc(), &rows);
 }

@@ -8,7 +8,6 @@ use crate::rows::Sight::{Flags, InProgress, Pending, Requests, Stopped, Switch, 
 use crate::rows::walk;
 use job_sched::{NO_INTERRUPTS, Stop};
 use ka_cpu::StopReason::IllegalAddress;
-use std::test::Fail;
 use uuo_calls::CallOutcome::Done;
 
 const RESET: u32 = 0;
@@ -22,7 +21,7 @@ const PISYS: u32 = 0o136;
 const DEBRK: u32 = 0o137;
 
 #[test]
-fn vector_has_four_legal_words(rt: HostRuntime) -> Result<(), Fail> {
+fn vector_has_four_legal_words(rt: HostRuntime) {
     let rows = [
         Asks(1, PIINI, 0o1775, (NEXT, 1)),
         Sees(Switch(1, None)),
@@ -41,12 +40,12 @@ fn vector_has_four_legal_words(rt: HostRuntime) -> Result<(), Fail> {
         Asks(1, PIINI, 0o5_000200, (SKIPPED, 0o5_000200)),
         Sees(Switch(1, Some(false))),
     ];
-    walk(&rt, rt.alloc(), &rows)
+    walk(&rt, rt.alloc(), &rows);
 }
 
 /// PISYS. compares the whole word, and asks for the value before the vector.
 #[test]
-fn interrupts_are_switched(rt: HostRuntime) -> Result<(), Fail> {
+fn interrupts_are_switched(rt: HostRuntime) {
     let rows = [
         Asks(1, PISYS, 5, (NEXT, 1)),
         Asks(1, PISYS, 0, (NEXT, 2)),
@@ -68,13 +67,13 @@ fn interrupts_are_switched(rt: HostRuntime) -> Result<(), Fail> {
         Asks(1, RESET, 0, (NEXT, 0)),
         Sees(TakesInterrupts(1, NO_INTERRUPTS)),
     ];
-    walk(&rt, rt.alloc(), &rows)
+    walk(&rt, rt.alloc(), &rows);
 }
 
 /// A delivery stored 010000,,000151 behind the vector's first word; Overflow and No Divide are taken
 /// from the word too. Behind a vector that is not legal any more nothing changes.
 #[test]
-fn interrupt_is_dismissed(rt: HostRuntime) -> Result<(), Fail> {
+fn interrupt_is_dismissed(rt: HostRuntime) {
     let rows = [
         Asks(1, PIINI, 0o200, (SKIPPED, 0o200)),
         // None is in progress.
@@ -97,13 +96,13 @@ fn interrupt_is_dismissed(rt: HostRuntime) -> Result<(), Fail> {
         Sees(Stopped(1, Some(Stop::Fault(IllegalAddress)))),
         Sees(InProgress(1, true)),
     ];
-    walk(&rt, rt.alloc(), &rows)
+    walk(&rt, rt.alloc(), &rows);
 }
 
 /// ENQ. 2 needs a vector; queued, it answers 1 and stays; another's DEQ. grants it, and it is pending.
 /// Granted at once it is never pending.
 #[test]
-fn request_that_interrupts(rt: HostRuntime) -> Result<(), Fail> {
+fn request_that_interrupts(rt: HostRuntime) {
     let rows = [
         Does(Comes(2, 1)),
         Does(Block(1, BLOCK, 7, &[EXCLUSIVE])),
@@ -121,5 +120,5 @@ fn request_that_interrupts(rt: HostRuntime) -> Result<(), Fail> {
         Asks(1, ENQ, 0o2_000300, (SKIPPED, 0o2_000300)),
         Sees(Pending(1, None)),
     ];
-    walk(&rt, rt.alloc(), &rows)
+    walk(&rt, rt.alloc(), &rows);
 }

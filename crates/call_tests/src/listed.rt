@@ -3,9 +3,8 @@
 use crate::machine::{Machine, NEXT};
 use crate::rows::Row::{Calls, Sees};
 use crate::rows::Sight::Stopped;
-use crate::rows::walk;
+use crate::rows::{walk, with_job};
 use job_sched::Stop;
-use std::test::Fail;
 use uuo_calls::CallOutcome::{Done, Gone};
 
 /// EXIT.
@@ -34,47 +33,44 @@ fn calls_rightly(machine: &mut Machine, e: u32) -> bool {
 }
 
 #[test]
-fn each_calli(rt: HostRuntime) -> Result<(), Fail> {
+fn each_calli(rt: HostRuntime) {
     for number in 0..0o204u32 {
         let e = if number < 0o200 {
             number
         } else {
             0o777_774 + number - 0o200
         };
-        let mut machine = Machine::with_job(rt.alloc())?;
+        let mut machine = with_job(&rt, rt.alloc());
         assert!(rt; calls_rightly(&mut machine, e), "CALLI {e}");
     }
-    Ok(())
 }
 
 #[test]
-fn each_ttcall(rt: HostRuntime) -> Result<(), Fail> {
+fn each_ttcall(rt: HostRuntime) {
     for function in 0..16u8 {
-        let mut machine = Machine::with_job(rt.alloc())?;
+        let mut machine = with_job(&rt, rt.alloc());
         machine.tty(function, 0o200);
         let is_listed = TTCALL.contains(&function);
         assert!(rt; machine.is_refused() != is_listed, "TTCALL {function}");
     }
-    Ok(())
 }
 
 #[test]
-fn exit_by_its_ac_field(rt: HostRuntime) -> Result<(), Fail> {
+fn exit_by_its_ac_field(rt: HostRuntime) {
     let rows = [
         Calls(1, 0, EXIT, (Done, NEXT)),
         Sees(Stopped(1, Some(Stop::Exit))),
         Calls(1, 1, EXIT, (Done, NEXT)),
         Sees(Stopped(1, Some(Stop::Monitor))),
     ];
-    walk(&rt, rt.alloc(), &rows)
+    walk(&rt, rt.alloc(), &rows);
 }
 
 #[test]
-fn exit_by_no_ac_field(rt: HostRuntime) -> Result<(), Fail> {
-    let mut machine = Machine::with_job(rt.alloc())?;
+fn exit_by_no_ac_field(rt: HostRuntime) {
+    let mut machine = with_job(&rt, rt.alloc());
     for ac in 2..16u8 {
         machine.calls(1, ac, EXIT);
         assert!(rt; machine.is_refused(), "EXIT {ac}");
     }
-    Ok(())
 }

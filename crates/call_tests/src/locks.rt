@@ -4,10 +4,9 @@ use crate::machine::{Machine, NEXT, SKIPPED};
 use crate::rows::Act::{Block, Comes, PutsAc, Stores};
 use crate::rows::Row::{Asks, AsksFor, Calls, Does, Sees};
 use crate::rows::Sight::{Granted, IsReady, IsThere, Requests, WaitsFor, Word};
-use crate::rows::{Lock, Row, walk, walk_on};
+use crate::rows::{Lock, Row, walk, walk_on, with_job};
 use job_sched::Wait;
 use std::process::Abort;
-use std::test::Fail;
 use uuo_calls::CallOutcome::{Done, Gone};
 
 pub const ENQ: u32 = 0o151;
@@ -52,7 +51,7 @@ const TWO_LEVELS: [Lock; 2] = [LEVEL_3, [0o4_777777, 0o500000_000002, 0]];
 
 /// A job of one block: at 1773 octal the block's five words are legal, at 1774 the last is not.
 #[test]
-fn block_at_the_end_of_core(rt: HostRuntime) -> Result<(), Fail> {
+fn block_at_the_end_of_core(rt: HostRuntime) {
     let rows = [
         Does(Block(1, 0o1774, 1, &[EXCLUSIVE])),
         Asks(1, ENQ, 0o1_001774, (NEXT, 3)),
@@ -60,12 +59,12 @@ fn block_at_the_end_of_core(rt: HostRuntime) -> Result<(), Fail> {
         Asks(1, ENQ, 0o1_001773, (SKIPPED, 0o1_001773)),
         Sees(Requests(1)),
     ];
-    walk(&rt, rt.alloc(), &rows)
+    walk(&rt, rt.alloc(), &rows);
 }
 
 /// A block at 13 octal lies in the registers, and one at 15 octal runs into core at 20.
 #[test]
-fn block_in_registers(rt: HostRuntime) -> Result<(), Fail> {
+fn block_in_registers(rt: HostRuntime) {
     let rows = [
         Does(PutsAc(1, 0o13, 0o1_000005)),
         Does(PutsAc(1, 0o14, 3)),
@@ -83,12 +82,12 @@ fn block_in_registers(rt: HostRuntime) -> Result<(), Fail> {
         Asks(1, ENQ, 0o1_000015, (SKIPPED, 0o1_000015)),
         Sees(Requests(1)),
     ];
-    walk(&rt, rt.alloc(), &rows)
+    walk(&rt, rt.alloc(), &rows);
 }
 
 /// Functions that are not listed.
 #[test]
-fn code_2(rt: HostRuntime) -> Result<(), Fail> {
+fn code_2(rt: HostRuntime) {
     let rows = [
         Does(Block(1, BLOCK, 1, &[EXCLUSIVE])),
         Asks(1, ENQ, 0o4_000300, (NEXT, 2)),
@@ -97,7 +96,7 @@ fn code_2(rt: HostRuntime) -> Result<(), Fail> {
         Asks(1, ENQC, 0o1_000300, (NEXT, 2)),
         Sees(Requests(0)),
     ];
-    walk(&rt, rt.alloc(), &rows)
+    walk(&rt, rt.alloc(), &rows);
 }
 
 /// Blocks that a call refuses as such: for their length, their id, their place, and for no lock and 17.
@@ -119,12 +118,11 @@ fn expect_codes_3_and_4(rt: &impl Abort, machine: &mut Machine, call: u32) {
 }
 
 #[test]
-fn codes_3_and_4(rt: HostRuntime) -> Result<(), Fail> {
-    let mut machine = Machine::with_job(rt.alloc())?;
+fn codes_3_and_4(rt: HostRuntime) {
+    let mut machine = with_job(&rt, rt.alloc());
     for call in [ENQ, DEQ, ENQC] {
         expect_codes_3_and_4(&rt, &mut machine, call);
     }
-    Ok(())
 }
 
 /// A word of five characters, of which none is a zero.
@@ -133,7 +131,7 @@ const TEXT: u64 = 0o406030_140602;
 /// Locks that are refused by themselves: pointers, names, qualifiers and pools. Names stand at 400
 /// octal (empty) and at 500 octal (31 characters).
 #[test]
-fn codes_5_to_8(rt: HostRuntime) -> Result<(), Fail> {
+fn codes_5_to_8(rt: HostRuntime) {
     let rows = [
         Does(Stores(1, 0o500, &[TEXT, TEXT, TEXT, TEXT, TEXT, TEXT, TEXT])),
         AsksFor([ALL, 0o440600_000500, 0], (NEXT, 5), 0),
@@ -152,13 +150,13 @@ fn codes_5_to_8(rt: HostRuntime) -> Result<(), Fail> {
         AsksFor([ALL, 0o100700_000500, 0], (NEXT, 6), 0),
         AsksFor([ALL, CODE, 0o3_000003], (SKIPPED, 0o1_000300), 1),
     ];
-    walk(&rt, rt.alloc(), &rows)
+    walk(&rt, rt.alloc(), &rows);
 }
 
 /// Locks that are refused for those that are present: another level or pool, a level that does not
 /// rise, a key that is named twice.
 #[test]
-fn codes_9_to_12(rt: HostRuntime) -> Result<(), Fail> {
+fn codes_9_to_12(rt: HostRuntime) {
     let rows = [
         Does(Comes(2, 1)),
         Does(Block(2, BLOCK, 1, &[[0o5_777777, CODE, 0]])),
@@ -177,12 +175,12 @@ fn codes_9_to_12(rt: HostRuntime) -> Result<(), Fail> {
         Asks(1, DEQ, 0o1_000300, (NEXT, 12)),
         Sees(Requests(1)),
     ];
-    walk(&rt, rt.alloc(), &rows)
+    walk(&rt, rt.alloc(), &rows);
 }
 
 /// A change that would take a grant away, and a request that is not granted at once.
 #[test]
-fn codes_13_and_1(rt: HostRuntime) -> Result<(), Fail> {
+fn codes_13_and_1(rt: HostRuntime) {
     let rows = [
         Does(Comes(2, 1)),
         Does(Block(1, BLOCK, 1, &[SHARED])),
@@ -196,7 +194,7 @@ fn codes_13_and_1(rt: HostRuntime) -> Result<(), Fail> {
         Asks(2, ENQ, 0o1_000300, (NEXT, 1)),
         Sees(Requests(1)),
     ];
-    walk(&rt, rt.alloc(), &rows)
+    walk(&rt, rt.alloc(), &rows);
 }
 
 /// Asks for a lock of this user code that bypasses the order of levels.
@@ -210,21 +208,20 @@ fn asks_bypassing(code: u64, answer: (u32, u64), requests: usize) -> Row<'static
 
 /// The 257th request is refused.
 #[test]
-fn code_14(rt: HostRuntime) -> Result<(), Fail> {
-    let mut machine = Machine::with_job(rt.alloc())?;
+fn code_14(rt: HostRuntime) {
+    let mut machine = with_job(&rt, rt.alloc());
     for i in 0..256usize {
         let row = asks_bypassing(i as u64, (SKIPPED, 0o1_000300), i + 1);
         walk_on(&rt, &mut machine, &[row]);
     }
     let row = asks_bypassing(0o1000, (NEXT, 14), 256);
     walk_on(&rt, &mut machine, &[row]);
-    Ok(())
 }
 
 /// ENQ. 0 sets the skip return at once, and the job waits with Queue until its request is granted. A
 /// job that is gone leaves no request.
 #[test]
-fn blocking_request(rt: HostRuntime) -> Result<(), Fail> {
+fn blocking_request(rt: HostRuntime) {
     let rows = [
         Does(Comes(2, 1)),
         Does(Comes(3, 2)),
@@ -247,12 +244,12 @@ fn blocking_request(rt: HostRuntime) -> Result<(), Fail> {
         Asks(1, RESET, 0, (NEXT, 0)),
         Sees(Requests(1)),
     ];
-    walk(&rt, rt.alloc(), &rows)
+    walk(&rt, rt.alloc(), &rows);
 }
 
 /// ENQC. of a key that job 1 has and one that nobody has; its answer may lie over AC and the block.
 #[test]
-fn status_words(rt: HostRuntime) -> Result<(), Fail> {
+fn status_words(rt: HostRuntime) {
     let rows = [
         AsksFor(LEVEL_3, (SKIPPED, 0o1_000300), 1),
         Does(Block(1, BLOCK, 7, &TWO_LEVELS)),
@@ -277,5 +274,5 @@ fn status_words(rt: HostRuntime) -> Result<(), Fail> {
         Does(PutsAc(1, 2, 1)),
         Asks(1, ENQC, 0o300, (SKIPPED, 0o240003_000001)),
     ];
-    walk(&rt, rt.alloc(), &rows)
+    walk(&rt, rt.alloc(), &rows);
 }

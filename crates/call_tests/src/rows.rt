@@ -4,7 +4,6 @@ use crate::machine::Machine;
 use job_sched::{Interrupts, JobError, Stop, Wait};
 use std::alloc::Global;
 use std::process::Abort;
-use std::test::Fail;
 use uuo_calls::CallOutcome;
 
 /// The three words of a lock in a block.
@@ -192,9 +191,13 @@ pub fn walk_on(rt: &impl Abort, machine: &mut Machine, rows: &[Row]) {
     }
 }
 
+/// A machine of 64 blocks with job 1 at line 0.
+pub fn with_job(rt: &impl Abort, alloc: Global) -> Machine {
+    Machine::with_job(alloc).expect(rt, "memory for the machine")
+}
+
 /// Walks the rows on a machine of 64 blocks with job 1 at line 0.
-pub fn walk(rt: &impl Abort, alloc: Global, rows: &[Row]) -> Result<(), Fail> {
-    let mut machine = Machine::with_job(alloc)?;
+pub fn walk(rt: &impl Abort, alloc: Global, rows: &[Row]) {
+    let mut machine = with_job(rt, alloc);
     walk_on(rt, &mut machine, rows);
-    Ok(())
 }

@@ -1,29 +1,28 @@
 //! Jobs in turn, and each wait.
 
-use crate::machine::Machine;
+use crate::machine::NEXT;
 use crate::rows::Act::{
     Breaks, ClearsInput, ClearsOutput, Comes, Goes, Outputs, Tick, Types, Waits,
 };
 use crate::rows::Row::{Asks, Does, GoesOn, Runs, Sees, Starts, Turns};
 use crate::rows::Sight::{IsReady, Left, Stopped, WaitsFor};
-use crate::rows::{walk, walk_on};
+use crate::rows::{walk, walk_on, with_job};
 use job_sched::JobError::{NoSuchJob, NotStopped};
 use job_sched::{Stop, Wait};
-use std::test::Fail;
 
 const SLEEP: u32 = 0o31;
 
 /// Quantum 2 and two jobs, each step followed by a tick.
 #[test]
-fn two_jobs_in_turn(rt: HostRuntime) -> Result<(), Fail> {
+fn two_jobs_in_turn(rt: HostRuntime) {
     let rows = [Does(Comes(2, 1)), Turns(2, &[1, 1, 2, 2, 1, 1])];
-    walk(&rt, rt.alloc(), &rows)
+    walk(&rt, rt.alloc(), &rows);
 }
 
 /// Without ticks a job keeps its quantum; job 31 comes round to job 1; a job that is gone has no
 /// quantum left.
 #[test]
-fn circle_of_jobs(rt: HostRuntime) -> Result<(), Fail> {
+fn circle_of_jobs(rt: HostRuntime) {
     let rows = [
         Does(Comes(31, 1)),
         Runs(1, 1),
@@ -35,26 +34,26 @@ fn circle_of_jobs(rt: HostRuntime) -> Result<(), Fail> {
         Does(Breaks(1)),
         Runs(60, 0),
     ];
-    walk(&rt, rt.alloc(), &rows)
+    walk(&rt, rt.alloc(), &rows);
 }
 
 /// Of one second and of none: idle for 60 ticks and for one.
 #[test]
-fn sleeps(rt: HostRuntime) -> Result<(), Fail> {
+fn sleeps(rt: HostRuntime) {
     let rows = [
-        Asks(1, SLEEP, 1, (0o141, 1)),
+        Asks(1, SLEEP, 1, (NEXT, 1)),
         Turns(1, &[0; 60]),
         Runs(1, 1),
-        Asks(1, SLEEP, 0, (0o141, 0)),
+        Asks(1, SLEEP, 0, (NEXT, 0)),
         Turns(1, &[0]),
         Runs(1, 1),
     ];
-    walk(&rt, rt.alloc(), &rows)
+    walk(&rt, rt.alloc(), &rows);
 }
 
 /// A stopped sleeper's ticks go by too.
 #[test]
-fn stopped_sleeper(rt: HostRuntime) -> Result<(), Fail> {
+fn stopped_sleeper(rt: HostRuntime) {
     let rows = [
         Does(Waits(1, Wait::Sleep(2))),
         Does(Breaks(0)),
@@ -71,12 +70,12 @@ fn stopped_sleeper(rt: HostRuntime) -> Result<(), Fail> {
         Starts(2, Err(NoSuchJob)),
         GoesOn(255, Err(NoSuchJob)),
     ];
-    walk(&rt, rt.alloc(), &rows)
+    walk(&rt, rt.alloc(), &rows);
 }
 
 /// A character, a break behind other characters, and a full ring.
 #[test]
-fn input_waits(rt: HostRuntime) -> Result<(), Fail> {
+fn input_waits(rt: HostRuntime) {
     let rows = [
         Does(Waits(1, Wait::Char)),
         Sees(IsReady(1, false)),
@@ -88,18 +87,17 @@ fn input_waits(rt: HostRuntime) -> Result<(), Fail> {
         Sees(IsReady(1, true)),
         Does(ClearsInput),
     ];
-    let mut machine = Machine::with_job(rt.alloc())?;
+    let mut machine = with_job(&rt, rt.alloc());
     walk_on(&rt, &mut machine, &rows);
     for count in 1..=128u32 {
         machine.type_in(b"A");
         assert!(rt; machine.is_ready(1) == (count == 128), "{count} characters");
     }
-    Ok(())
 }
 
 /// Of 512 places one is taken.
 #[test]
-fn output_waits(rt: HostRuntime) -> Result<(), Fail> {
+fn output_waits(rt: HostRuntime) {
     let rows = [
         Does(ClearsOutput),
         Does(Outputs(1)),
@@ -110,5 +108,5 @@ fn output_waits(rt: HostRuntime) -> Result<(), Fail> {
         Does(Waits(1, Wait::Room(512))),
         Sees(IsReady(1, false)),
     ];
-    walk(&rt, rt.alloc(), &rows)
+    walk(&rt, rt.alloc(), &rows);
 }

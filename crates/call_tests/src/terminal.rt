@@ -7,7 +7,6 @@ use crate::rows::Sight::{Ac, Room, Stopped, Word};
 use crate::rows::walk;
 use job_sched::{Stop, Wait};
 use ka_cpu::StopReason::IllegalAddress;
-use std::test::Fail;
 use uuo_calls::CallOutcome;
 
 const INCHRW: u8 = 0;
@@ -44,20 +43,20 @@ const ILLEGAL: Option<Stop> = Some(Stop::Fault(IllegalAddress));
 
 /// `OUTSTR [ASCIZ /HI/]`: the literal is 442220,,000000.
 #[test]
-fn hi(rt: HostRuntime) -> Result<(), Fail> {
+fn hi(rt: HostRuntime) {
     let rows = [
         Does(Stores(1, 0o143, &[0o442220_000000])),
         Tty(OUTSTR, 0o143, DONE),
         Takes(64, b"HI"),
         Takes(64, b""),
     ];
-    walk(&rt, rt.alloc(), &rows)
+    walk(&rt, rt.alloc(), &rows);
 }
 
 /// 511 characters are in the ring: two more do not fit, and neither is put; after one was taken both
 /// are.
 #[test]
-fn text_waits_for_room(rt: HostRuntime) -> Result<(), Fail> {
+fn text_waits_for_room(rt: HostRuntime) {
     let rows = [
         Does(Outputs(511)),
         Does(Stores(1, 0o143, &[0o442220_000000])),
@@ -76,7 +75,7 @@ fn text_waits_for_room(rt: HostRuntime) -> Result<(), Fail> {
         Tty(OUTCHR, 0o143, DONE),
         Takes(64, b"\0"),
     ];
-    walk(&rt, rt.alloc(), &rows)
+    walk(&rt, rt.alloc(), &rows);
 }
 
 /// Five characters, of which none is a zero.
@@ -85,7 +84,7 @@ const TEXT: u64 = 0o406030_140602;
 /// A text without a zero is read up to its 512th character, in the 103rd of its words: from 1631 octal
 /// on they all lie in a core of one block, from 1632 on the last does not.
 #[test]
-fn text_of_512_characters(rt: HostRuntime) -> Result<(), Fail> {
+fn text_of_512_characters(rt: HostRuntime) {
     let rows = [
         Does(Stores(1, 0o1631, &[TEXT; 103])),
         Tty(OUTSTR, 0o1631, DONE),
@@ -94,11 +93,11 @@ fn text_of_512_characters(rt: HostRuntime) -> Result<(), Fail> {
         Tty(OUTSTR, 0o1632, STOPPED),
         Sees(Stopped(1, ILLEGAL)),
     ];
-    walk(&rt, rt.alloc(), &rows)
+    walk(&rt, rt.alloc(), &rows);
 }
 
 #[test]
-fn characters_are_read(rt: HostRuntime) -> Result<(), Fail> {
+fn characters_are_read(rt: HostRuntime) {
     let rows = [
         Does(Types(b"AB\x0aC")),
         Tty(SKPINC, 0, DONE_WITH_SKIP),
@@ -124,19 +123,18 @@ fn characters_are_read(rt: HostRuntime) -> Result<(), Fail> {
         Tty(CLRBFI, 0, DONE),
         Tty(SKPINC, 0, DONE),
     ];
-    walk(&rt, rt.alloc(), &rows)
+    walk(&rt, rt.alloc(), &rows);
 }
 
 /// A place past core stops the job, also where there is no character and no room.
 #[test]
-fn illegal_places(rt: HostRuntime) -> Result<(), Fail> {
+fn illegal_places(rt: HostRuntime) {
     for function in [INCHRW, OUTCHR, INCHRS, OUTSTR, INCHWL, INCHSL] {
         let rows = [
             Tty(function, 0o2000, STOPPED),
             Sees(Stopped(1, ILLEGAL)),
             Tty(function, 0o777_777, STOPPED),
         ];
-        walk(&rt, rt.alloc(), &rows)?;
+        walk(&rt, rt.alloc(), &rows);
     }
-    Ok(())
 }

@@ -8,7 +8,6 @@ use crate::walk::walk;
 use lock_queue::EnqueueKind::{Blocking, Interrupt};
 use lock_queue::LockReply::{Done, Granted, Queued};
 use lock_queue::{LockReply, Refusal};
-use std::test::Fail;
 
 const X: u32 = 1;
 
@@ -17,7 +16,7 @@ const Y: u32 = 2;
 const T: u32 = 7;
 
 #[test]
-fn release_grants_the_next(rt: HostRuntime) -> Result<(), Fail> {
+fn release_grants_the_next(rt: HostRuntime) {
     let absent = LockReply::Refused(Refusal::NotPresent);
     let rows = [
         Calls(1, Asks(Blocking, 1, One(Alone(X, 0))), Granted),
@@ -27,11 +26,11 @@ fn release_grants_the_next(rt: HostRuntime) -> Result<(), Fail> {
         Grants(1, Asks(Blocking, 3, One(Alone(Y, 0))), Granted, &[]),
         Grants(1, GivesUp(One(Alone(X, 0))), absent, &[]),
     ];
-    walk(&rt, rt.alloc(), &rows)
+    walk(&rt, rt.alloc(), &rows);
 }
 
 #[test]
-fn job_that_is_gone_grants_the_sharer_behind_it(rt: HostRuntime) -> Result<(), Fail> {
+fn job_that_is_gone_grants_the_sharer_behind_it(rt: HostRuntime) {
     let rows = [
         Calls(1, Asks(Blocking, 1, One(Shared(X, 0))), Granted),
         Calls(2, Asks(Blocking, 2, One(Alone(X, 0))), Queued),
@@ -39,22 +38,22 @@ fn job_that_is_gone_grants_the_sharer_behind_it(rt: HostRuntime) -> Result<(), F
         ReleaseGrants(2, &[(3, 3)]),
         ReleaseGrants(1, &[]),
     ];
-    walk(&rt, rt.alloc(), &rows)
+    walk(&rt, rt.alloc(), &rows);
 }
 
 #[test]
-fn pool_grants_in_order_of_arrival(rt: HostRuntime) -> Result<(), Fail> {
+fn pool_grants_in_order_of_arrival(rt: HostRuntime) {
     let rows = [
         Calls(1, Asks(Blocking, 1, One(OfPool(T, 5, 2))), Granted),
         Calls(2, Asks(Blocking, 2, One(OfPool(T, 5, 4))), Queued),
         Calls(3, Asks(Blocking, 3, One(OfPool(T, 5, 1))), Queued),
         Grants(1, GivesUpAll, Done, &[(2, 2), (3, 3)]),
     ];
-    walk(&rt, rt.alloc(), &rows)
+    walk(&rt, rt.alloc(), &rows);
 }
 
 #[test]
-fn change_grants_an_interrupt_request_and_a_waiter(rt: HostRuntime) -> Result<(), Fail> {
+fn change_grants_an_interrupt_request_and_a_waiter(rt: HostRuntime) {
     let not_granted = LockReply::Refused(Refusal::NotGranted);
     let rows = [
         Calls(1, Asks(Blocking, 1, One(Alone(X, 0))), Granted),
@@ -62,5 +61,5 @@ fn change_grants_an_interrupt_request_and_a_waiter(rt: HostRuntime) -> Result<()
         Calls(3, Asks(Blocking, 4, One(Shared(X, 0))), Queued),
         Grants(1, Changes(One(Shared(X, 0))), Done, &[(2, 9), (3, 4)]),
     ];
-    walk(&rt, rt.alloc(), &rows)
+    walk(&rt, rt.alloc(), &rows);
 }

@@ -6,10 +6,9 @@ use crate::build::Locks::{One, Two};
 use crate::walk::Row::{Code, Granted, Requests};
 use crate::walk::walk;
 use lock_queue::EnqueueKind::{AtOnce, Blocking};
-use std::test::Fail;
 
 #[test]
-fn each_code(rt: HostRuntime) -> Result<(), Fail> {
+fn each_code(rt: HostRuntime) {
     let rows = [
         Code(1, Asks(AtOnce, 1, One(Alone(1, 3))), 0),
         Code(1, Asks(AtOnce, 2, One(OfPool(2, 3, 1))), 10),
@@ -30,12 +29,12 @@ fn each_code(rt: HostRuntime) -> Result<(), Fail> {
         Code(3, AsksUnarmed(1, Two(Alone(3, 0), Alone(4, 0))), 10),
         Requests(2),
     ];
-    walk(&rt, rt.alloc(), &rows)
+    walk(&rt, rt.alloc(), &rows);
 }
 
 /// The first job lets the fourth share its lock, and then cannot have it alone again.
 #[test]
-fn change_that_takes_a_grant(rt: HostRuntime) -> Result<(), Fail> {
+fn change_that_takes_a_grant(rt: HostRuntime) {
     let rows = [
         Code(1, Asks(AtOnce, 1, One(Alone(1, 3))), 0),
         Code(4, Asks(Blocking, 5, One(Shared(1, 3))), 0),
@@ -45,5 +44,5 @@ fn change_that_takes_a_grant(rt: HostRuntime) -> Result<(), Fail> {
         Code(1, Changes(One(Alone(1, 0))), 13),
         Granted(&[1, 5]),
     ];
-    walk(&rt, rt.alloc(), &rows)
+    walk(&rt, rt.alloc(), &rows);
 }

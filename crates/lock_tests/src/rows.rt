@@ -7,7 +7,6 @@ use crate::walk::Row::{Calls, Granted, Releases, Requests, Status, Waits, WaitsF
 use crate::walk::walk;
 use lock_queue::EnqueueKind::{AtOnce, Blocking};
 use lock_queue::{LockReply, Refusal};
-use std::test::Fail;
 
 const X: u32 = 1;
 
@@ -34,7 +33,7 @@ const LOW: LockReply = LockReply::Refused(Refusal::LevelOrder);
 const DIFFERS: LockReply = LockReply::Refused(Refusal::Differs);
 
 #[test]
-fn second_job_is_granted_when_the_first_gives_up(rt: HostRuntime) -> Result<(), Fail> {
+fn second_job_is_granted_when_the_first_gives_up(rt: HostRuntime) {
     let rows = [
         Calls(1, Asks(Blocking, 1, One(Alone(X, 0))), OK),
         Calls(2, Asks(Blocking, 2, One(Alone(X, 0))), WAIT),
@@ -44,11 +43,11 @@ fn second_job_is_granted_when_the_first_gives_up(rt: HostRuntime) -> Result<(), 
         Granted(&[2]),
         Waits(2, false),
     ];
-    walk(&rt, rt.alloc(), &rows)
+    walk(&rt, rt.alloc(), &rows);
 }
 
 #[test]
-fn sharer_does_not_pass_a_waiter(rt: HostRuntime) -> Result<(), Fail> {
+fn sharer_does_not_pass_a_waiter(rt: HostRuntime) {
     let rows = [
         Calls(1, Asks(Blocking, 1, One(Shared(X, 0))), OK),
         Calls(2, Asks(Blocking, 2, One(Alone(X, 0))), WAIT),
@@ -60,11 +59,11 @@ fn sharer_does_not_pass_a_waiter(rt: HostRuntime) -> Result<(), Fail> {
         Granted(&[1, 3]),
         Status(3, X, [0o200000_000001, 0o000002_000000, 0]),
     ];
-    walk(&rt, rt.alloc(), &rows)
+    walk(&rt, rt.alloc(), &rows);
 }
 
 #[test]
-fn pool_is_granted_in_order(rt: HostRuntime) -> Result<(), Fail> {
+fn pool_is_granted_in_order(rt: HostRuntime) {
     let rows = [
         Calls(1, Asks(Blocking, 1, One(OfPool(T, 5, 2))), OK),
         Calls(2, Asks(Blocking, 2, One(OfPool(T, 5, 4))), WAIT),
@@ -76,11 +75,11 @@ fn pool_is_granted_in_order(rt: HostRuntime) -> Result<(), Fail> {
         Status(1, T, [0o000000_000002, 0o000002_000000, 5]),
         Calls(1, Asks(AtOnce, 4, One(OfPool(T, 6, 1))), DIFFERS),
     ];
-    walk(&rt, rt.alloc(), &rows)
+    walk(&rt, rt.alloc(), &rows);
 }
 
 #[test]
-fn locks_of_a_request_are_granted_together(rt: HostRuntime) -> Result<(), Fail> {
+fn locks_of_a_request_are_granted_together(rt: HostRuntime) {
     let not_granted = LockReply::Refused(Refusal::NotGranted);
     let rows = [
         Calls(1, Asks(Blocking, 1, One(Alone(A, 1))), OK),
@@ -90,11 +89,11 @@ fn locks_of_a_request_are_granted_together(rt: HostRuntime) -> Result<(), Fail> 
         Granted(&[1]),
         Status(2, B, [0o100002_000000, 0o000000_000001, 0]),
     ];
-    walk(&rt, rt.alloc(), &rows)
+    walk(&rt, rt.alloc(), &rows);
 }
 
 #[test]
-fn requests_of_several_locks_wait_in_a_circle(rt: HostRuntime) -> Result<(), Fail> {
+fn requests_of_several_locks_wait_in_a_circle(rt: HostRuntime) {
     let rows = [
         Calls(1, Asks(Blocking, 1, One(Alone(A, 1))), OK),
         Calls(2, Asks(Blocking, 2, One(Alone(B, 2))), OK),
@@ -111,11 +110,11 @@ fn requests_of_several_locks_wait_in_a_circle(rt: HostRuntime) -> Result<(), Fai
         WaitsFor(3, 2, false),
         WaitsFor(3, 3, false),
     ];
-    walk(&rt, rt.alloc(), &rows)
+    walk(&rt, rt.alloc(), &rows);
 }
 
 #[test]
-fn change_is_refused_beside_another_owner(rt: HostRuntime) -> Result<(), Fail> {
+fn change_is_refused_beside_another_owner(rt: HostRuntime) {
     let lost = LockReply::Refused(Refusal::WouldLose);
     let rows = [
         Calls(1, Asks(Blocking, 1, One(Shared(X, 0))), OK),
@@ -125,11 +124,11 @@ fn change_is_refused_beside_another_owner(rt: HostRuntime) -> Result<(), Fail> {
         Calls(1, Changes(One(Alone(X, 0))), DONE),
         Status(1, X, [0o240000_000001, 0o000001_000000, 0]),
     ];
-    walk(&rt, rt.alloc(), &rows)
+    walk(&rt, rt.alloc(), &rows);
 }
 
 #[test]
-fn levels_rise(rt: HostRuntime) -> Result<(), Fail> {
+fn levels_rise(rt: HostRuntime) {
     let again = LockReply::Refused(Refusal::NamedAlready);
     let rows = [
         Calls(1, Asks(Blocking, 1, One(Alone(X, 5))), OK),
@@ -139,11 +138,11 @@ fn levels_rise(rt: HostRuntime) -> Result<(), Fail> {
         Calls(1, Asks(Blocking, 5, One(Alone(X, 7))), DIFFERS),
         Calls(1, Asks(Blocking, 5, One(Alone(X, 5))), again),
     ];
-    walk(&rt, rt.alloc(), &rows)
+    walk(&rt, rt.alloc(), &rows);
 }
 
 #[test]
-fn waiter_levels_count(rt: HostRuntime) -> Result<(), Fail> {
+fn waiter_levels_count(rt: HostRuntime) {
     let rows = [
         Calls(1, Asks(Blocking, 1, One(Alone(A, 1))), OK),
         Calls(2, Asks(Blocking, 2, One(Alone(B, 2))), OK),
@@ -153,5 +152,5 @@ fn waiter_levels_count(rt: HostRuntime) -> Result<(), Fail> {
         WaitsFor(1, 2, true),
         WaitsFor(2, 1, true),
     ];
-    walk(&rt, rt.alloc(), &rows)
+    walk(&rt, rt.alloc(), &rows);
 }

@@ -7,17 +7,15 @@ use crate::build::{alone, one};
 use crate::walk::Row::{
     Calls, Clears, Granted as GrantedIds, Pending, Requests, Status, Tells, Withdraws,
 };
-use crate::walk::walk;
+use crate::walk::{empty_table, walk};
 use lock_queue::EnqueueKind::{AtOnce, Blocking, Interrupt};
 use lock_queue::LockReply::{Done, Granted, Queued};
 use lock_queue::{
-    EnqueueKind, Key, LockCall, LockReply, LockTable, Name, NameText, PlainTable, Refusal,
-    RequestId, Scope,
+    EnqueueKind, Key, LockCall, LockReply, LockTable, Name, NameText, Refusal, RequestId, Scope,
 };
-use std::test::Fail;
 
 #[test]
-fn grants_are_told_in_order(rt: HostRuntime) -> Result<(), Fail> {
+fn grants_are_told_in_order(rt: HostRuntime) {
     let not_granted = LockReply::Refused(Refusal::NotGranted);
     let rows = [
         Calls(1, Asks(Blocking, 1, Two(Alone(1, 0), Alone(2, 1))), Granted),
@@ -32,11 +30,11 @@ fn grants_are_told_in_order(rt: HostRuntime) -> Result<(), Fail> {
         Tells(2),
         Pending(2, None),
     ];
-    walk(&rt, rt.alloc(), &rows)
+    walk(&rt, rt.alloc(), &rows);
 }
 
 #[test]
-fn waiting_request_is_withdrawn(rt: HostRuntime) -> Result<(), Fail> {
+fn waiting_request_is_withdrawn(rt: HostRuntime) {
     let rows = [
         Calls(1, Asks(Blocking, 1, One(Alone(1, 0))), Granted),
         Calls(2, Asks(Blocking, 2, One(Alone(2, 1))), Granted),
@@ -48,11 +46,11 @@ fn waiting_request_is_withdrawn(rt: HostRuntime) -> Result<(), Fail> {
         Requests(0),
         Status(1, 1, [0, 0, 0]),
     ];
-    walk(&rt, rt.alloc(), &rows)
+    walk(&rt, rt.alloc(), &rows);
 }
 
 #[test]
-fn requests_of_an_id_leave_together(rt: HostRuntime) -> Result<(), Fail> {
+fn requests_of_an_id_leave_together(rt: HostRuntime) {
     let absent = LockReply::Refused(Refusal::NotPresent);
     let rows = [
         Calls(1, Asks(AtOnce, 6, One(Bypassing(1, 0))), Granted),
@@ -64,14 +62,14 @@ fn requests_of_an_id_leave_together(rt: HostRuntime) -> Result<(), Fail> {
         GrantedIds(&[5, 6]),
         Calls(1, GivesUpId(6), absent),
     ];
-    walk(&rt, rt.alloc(), &rows)
+    walk(&rt, rt.alloc(), &rows);
 }
 
 #[test]
-fn names_are_told_apart_by_scope(rt: HostRuntime) -> Result<(), Fail> {
-    let mut table = PlainTable::new(rt.alloc())?;
+fn names_are_told_apart_by_scope(rt: HostRuntime) {
+    let mut table = empty_table(&rt, rt.alloc());
     for (job, scope) in [(1, Scope::Job(1)), (2, Scope::Job(2)), (3, Scope::All)] {
-        let name = NameText::new("TAPE").ok_or("a name")?;
+        let name = NameText::new("TAPE").expect(&rt, "a name");
         let mut tape = alone(0, 0);
         tape.key = Key {
             scope,
@@ -85,5 +83,4 @@ fn names_are_told_apart_by_scope(rt: HostRuntime) -> Result<(), Fail> {
         };
         assert_eq!(rt; table.call(job, &call), LockReply::Granted);
     }
-    Ok(())
 }

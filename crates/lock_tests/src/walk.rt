@@ -4,7 +4,6 @@ use crate::build::{Call, key, lock_call};
 use lock_queue::{Grant, LockReply, LockTable, PlainTable, Woken};
 use std::alloc::Global;
 use std::process::Abort;
-use std::test::Fail;
 use word36::JOBS;
 
 /// A call and its answer, something else that is done, or something that must be seen. The number of a
@@ -158,9 +157,13 @@ pub fn walk_on(rt: &impl Abort, table: &mut PlainTable, rows: &[Row]) {
     }
 }
 
+/// A table without requests.
+pub fn empty_table(rt: &impl Abort, alloc: Global) -> PlainTable {
+    PlainTable::new(alloc).expect(rt, "memory for the table")
+}
+
 /// Walks the rows on a table without requests.
-pub fn walk(rt: &impl Abort, alloc: Global, rows: &[Row]) -> Result<(), Fail> {
-    let mut table = PlainTable::new(alloc)?;
+pub fn walk(rt: &impl Abort, alloc: Global, rows: &[Row]) {
+    let mut table = empty_table(rt, alloc);
     walk_on(rt, &mut table, rows);
-    Ok(())
 }

@@ -1,9 +1,8 @@
 //! The same events on two machines, one with each store of core.
 
-use crate::rows::machine;
+use crate::rows::{assembled, machine};
 use core_store::{BlockCore, PlainCore};
 use lock_queue::PlainTable;
-use mac_asm::assemble;
 use monitor::{Answer, Event, System};
 use std::alloc::{AllocError, Global};
 use std::process::Abort;
@@ -159,8 +158,7 @@ fn next_number(x: u64) -> u64 {
 fn images(rt: &impl Abort, alloc: Global) -> Result<Vec<Image>, AllocError> {
     let mut images = Vec::new(alloc);
     for source in SOURCES {
-        let image = assemble(alloc, source.as_bytes()).expect(rt, "the source is right");
-        images.push(image)?;
+        images.push(assembled(alloc, source).expect(rt, "the source is right"))?;
     }
     Ok(images)
 }

@@ -1,9 +1,8 @@
 //! A job among others is a job alone, also where its core is moved between its steps.
 
-use crate::rows::{begins, machine, turn};
+use crate::rows::{assembled, begins, machine, turn};
 use core_store::{BlockCore, CoreStore, PlainCore};
 use lock_queue::PlainTable;
-use mac_asm::assemble;
 use monitor::{Answer, Event, System};
 use std::alloc::Global;
 use std::process::Abort;
@@ -90,7 +89,7 @@ impl<C: CoreStore> Place<C> {
 
 /// The image of a source.
 fn image(rt: &impl Abort, alloc: Global, source: &str) -> Image {
-    assemble(alloc, source.as_bytes()).expect(rt, "the source is right")
+    assembled(alloc, source).expect(rt, "the source is right")
 }
 
 /// The walker alone.
@@ -104,17 +103,22 @@ fn alone<C: CoreStore>(rt: &impl Abort, alloc: Global, images: &Images) -> Place
 /// the walker must make way each time.
 fn among<C: CoreStore>(rt: &impl Abort, alloc: Global, images: &Images) -> Place<C> {
     let mut system = machine(rt, alloc, 6);
-    assert!(rt; begins(&mut system, 0, &images.idler, 1));
-    assert!(rt; begins(&mut system, 3, &images.breather, 2));
-    assert!(rt; begins(&mut system, 5, &images.walker, 3));
-    assert!(rt; begins(&mut system, 7, &images.breather, 4));
+    let jobs = [
+        (1, &images.idler),
+        (2, &images.breather),
+        (3, &images.walker),
+        (4, &images.breather),
+    ];
+    for (number, image) in jobs {
+        assert!(rt; begins(&mut system, number, image, number), "job {number}");
+    }
     Place { system, number: 3 }
 }
 
 /// Job 1 goes, and another comes in its place.
 fn disturb<C: CoreStore>(place: &mut Place<C>, image: &Image) -> bool {
     matches!(place.system.event(&Event::Kill(1)), Answer::Done)
-        && begins(&mut place.system, 0, image, 1)
+        && begins(&mut place.system, 1, image, 1)
 }
 
 /// The first of so many steps after which the walker among others is not as it is alone.

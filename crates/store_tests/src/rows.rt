@@ -80,6 +80,11 @@ pub fn begins<C: CoreStore>(
         && answers(system, &Event::Start(number), Reply::Done)
 }
 
+/// The image of a source, if it is right.
+pub fn assembled(alloc: Global, source: &str) -> Option<Image> {
+    assemble(alloc, source.as_bytes()).ok()
+}
+
 /// Whether a source is assembled, and its image is answered so.
 fn logs_in_source<C: CoreStore>(
     system: &mut System<PlainTable, C>,
@@ -88,9 +93,9 @@ fn logs_in_source<C: CoreStore>(
     source: &str,
     reply: Reply,
 ) -> bool {
-    match assemble(alloc, source.as_bytes()) {
-        Ok(image) => logs_in(system, line, &image, reply),
-        Err(_) => false,
+    match assembled(alloc, source) {
+        Some(image) => logs_in(system, line, &image, reply),
+        None => false,
     }
 }
 
