@@ -1,9 +1,7 @@
 -- No core is left when each job has given its own.
-use Rattle.std.proofs.Common.{◌≡◌, ◌≤◌, ◌<◌, ℕ, zero, suc, ◌+◌, ◌*◌, List, [], ◌∷◌, length, drop, replicate, Option, None, refl, arith, sum_by, slice_index_or}
-use Rattle.std.proofs.lemmas.Grind.{common_steps}
+use Rattle.std.proofs.Common.{◌≡◌, ◌<◌, ℕ, zero, suc, ◌+◌, ◌*◌, List, [], ◌∷◌, length, replicate, refl, arith, sum_by, slice_index_or}
 use Rattle.word36.specs.declared.sizes.TheConstants.{JOBS, BLOCK_WORDS}
 use Rattle.core_store.specs.Cores.{Cores, IsStore, core_of, all_free}
-use Rattle.job_sched.specs.declared.job.Job.{Job}
 use Rattle.machine.specs.Safe.{all_words}
 
 all-empty : (l : List (List ℕ)) (n : ℕ) → length l ≡ n → ((k : ℕ) → k < n → slice_index_or l k [] ≡ []) → l ≡ replicate n []

@@ -312,8 +312,8 @@ impl<L: LockTable, C: CoreStore> Parts<L, C> {
         self.admit(n, at, image, top)
     }
 
-    /// One event. All but ticks are not inlined, so that a tick is short.
-    #[inline(always)]
+    /// One event.
+    #[inline(never)]
     pub fn event(&mut self, event: &Event) -> Answer
         requires { Safe self.old }
         ensures state { self.new ≡ (happens self.old event.now).state }

@@ -48,6 +48,7 @@ impl<L: LockTable, C: CoreStore> System<L, C> {
     }
 
     /// Makes one event happen. A refused event changes nothing.
+    #[inline(always)]
     pub fn event(&mut self, event: &Event) -> Answer
         ensures state { self.new ≡ (happens self.old event.now).state }
         ensures answer { result ≡ (happens self.old event.now).answer }
@@ -56,7 +57,23 @@ impl<L: LockTable, C: CoreStore> System<L, C> {
         ensures owners { KeepsOwners self.old event.now }
         ensures circles { NoPlainCircle self.new.world.requests }
     {
-        self.parts.event(event)
+        self.happen(event)
+    }
+
+    /// The event. A tick is made here, where the caller is, so that it is short.
+    #[inline(always)]
+    fn happen(&mut self, event: &Event) -> Answer
+        ensures state { self.new ≡ (happens self.old event.now).state }
+        ensures answer { result ≡ (happens self.old event.now).answer }
+        ensures safe { Safe self.new }
+    {
+        match event {
+            Event::Tick => {
+                self.parts.tick();
+                Answer::Done
+            }
+            _ => self.parts.event(event),
+        }
     }
 
     /// Makes events happen one after the other, and writes the answer to each in its place.

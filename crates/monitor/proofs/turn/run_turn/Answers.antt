@@ -1,4 +1,4 @@
-use Rattle.std.proofs.Common.{◌≡◌, ap, ℕ}
+use Rattle.std.proofs.Common.{ap}
 use Rattle.machine.specs.Stretches.{Stretch}
 use Rattle.monitor_laws.proofs.Stretching.{rounds-stretch, some-stretch, wait-stretch}
 use Rattle.monitor.proofs.turn.run_turn.Goals as goal
