@@ -1,5 +1,6 @@
 //! The lines of an input that may still be at fault.
 
+use memchr::{memchr, memrchr};
 use std::alloc::Global;
 
 /// So many bytes are kept before finished lines are dropped.
@@ -110,12 +111,8 @@ pub struct Place {
 
 /// The first line, without its line end, and what stands behind it; None where no line ends.
 fn split_line(bytes: &[u8]) -> Option<(&[u8], &[u8])> {
-    for (i, byte) in bytes.iter().enumerate() {
-        if *byte == b'\n' {
-            return Some((without_return(&bytes[..i]), &bytes[i + 1..]));
-        }
-    }
-    None
+    let end = memchr(b'\n', bytes)?;
+    Some((without_return(&bytes[..end]), &bytes[end + 1..]))
 }
 
 fn without_return(line: &[u8]) -> &[u8] {
@@ -166,19 +163,37 @@ fn is_assemble(line: &[u8]) -> bool {
     line.starts_with(b"ASSEMBLE ".as_slice())
 }
 
+/// The place behind the last whole line.
+fn behind_whole_lines(bytes: &[u8]) -> Place {
+    let Some(end) = memrchr(b'\n', bytes) else {
+        return Place::default();
+    };
+    let whole = &bytes[..=end];
+    Place {
+        length: whole.len(),
+        lines: whole.iter().filter(|byte| **byte == b'\n').count() as u64,
+    }
+}
+
 /// The place before which no fault can be: the last that stands behind a whole line and in no source.
 fn finished(language: Language, bytes: &[u8]) -> Place {
-    let mut done = Place::default();
-    if language == Language::Asm {
-        return done;
+    match language {
+        Language::Asm => Place::default(),
+        Language::Queue => behind_whole_lines(bytes),
+        Language::Run => behind_sources(bytes),
     }
+}
+
+/// The last place that stands behind a whole line and in no source.
+fn behind_sources(bytes: &[u8]) -> Place {
+    let mut done = Place::default();
     let mut place = done;
     let mut in_source = false;
     for _ in 0..=bytes.len() {
         let Some((line, next)) = next_line(bytes, place) else {
             return done;
         };
-        if language == Language::Run && !in_source && is_assemble(line) {
+        if !in_source && is_assemble(line) {
             in_source = true;
         } else if in_source && line == b"ENDASM".as_slice() {
             in_source = false;

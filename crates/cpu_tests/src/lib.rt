@@ -6,7 +6,5 @@ mod chains;
 #[cfg(test)]
 mod families;
 mod machine;
-#[cfg(test)]
-mod rows;
 
 pub use machine::SliceCore;

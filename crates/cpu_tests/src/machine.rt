@@ -43,7 +43,7 @@ impl<'a> JobMemory for SliceCore<'a> {
 }
 
 #[cfg(test)]
-pub use job::{USER, fresh, has_flags, look, put};
+pub use job::{USER, fresh, look, put};
 
 #[cfg(test)]
 mod job {
@@ -90,10 +90,5 @@ mod job {
         } else {
             0
         }
-    }
-
-    /// Whether the flags are these.
-    pub fn has_flags(regs: &Regs, half: u32) -> bool {
-        regs.flags == flags_of(half)
     }
 }

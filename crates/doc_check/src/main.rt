@@ -1,15 +1,19 @@
 //! Checks that the examples in the documents, and the scripts and sources beside them, are what
-//! `lockmon` writes. Its words are files: a document, or a script or a source with its transcript beside
-//! it. Where something else is written it says which line differs.
+//! `lockmon` writes, and that the processor does what the rows of a table say. Its words are files: a
+//! document, a script or a source with its transcript beside it, or a table. Where something else comes
+//! of it, it says which line differs.
 #![tactic(auto)]
 
 mod difference;
 mod document;
+mod job_state;
+mod rows;
 mod served;
 
 use anyhow::Result;
 use difference::first_difference;
 use document::{Compared, Document};
+use rows::check_row;
 use served::{Language, Served};
 use std::alloc::Global;
 use std::process::ExitCode;
@@ -18,6 +22,9 @@ use std::{fs, str};
 
 /// The end of a document's name.
 const DOCUMENT: &str = ".md";
+
+/// The end of the name of a table of rows.
+const TABLE: &str = ".rows";
 
 /// The ends of the names of scripts and of sources, and what each is written in.
 const SCRIPTS: [(&str, Language); 3] = [
@@ -56,6 +63,25 @@ fn check_document<R: Files + Print + AllocGlobal>(rt: &R, name: &str) -> Result<
     Ok(has_one && all_hold)
 }
 
+/// Whether the rows of a table hold, of which there has to be one.
+fn check_table<R: Files + Print + AllocGlobal>(rt: &R, name: &str) -> Result<bool> {
+    let text = fs::read_to_string(rt, name)?;
+    let (mut has_one, mut all_hold) = (false, true);
+    for (i, line) in text.lines().enumerate() {
+        let row = line.split_once(';').map_or(line, |(row, _)| row).trim();
+        if row.is_empty() {
+            continue;
+        }
+        has_one = true;
+        if let Some(finding) = check_row(rt.alloc(), row)? {
+            let number = i.saturating_add(1);
+            rt.println(format_args!("{name}, line {number}: {finding}"))?;
+            all_hold = false;
+        }
+    }
+    Ok(has_one && all_hold)
+}
+
 /// Whether a file holds.
 fn check<R: Files + Print + AllocGlobal>(rt: &R, name: &str) -> Result<bool> {
     let alloc: Global = rt.alloc();
@@ -69,6 +95,8 @@ fn check<R: Files + Print + AllocGlobal>(rt: &R, name: &str) -> Result<bool> {
     }
     if name.ends_with(DOCUMENT) {
         check_document(rt, name)
+    } else if name.ends_with(TABLE) {
+        check_table(rt, name)
     } else {
         Ok(false)
     }

@@ -13,9 +13,10 @@ mod run_scripts;
 mod sources;
 mod texts;
 
+pub use desk::Machine;
 pub use monitor::Config;
 pub use queue_script::{
     ByteIn, ByteOut, Ending, Failed, HostIn, HostOut, ServeError, TestIn, TestOut, number,
     serve_asm, serve_queue, write_all,
 };
-pub use run_scripts::serve;
+pub use run_scripts::{RunService, serve};

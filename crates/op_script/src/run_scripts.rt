@@ -3,7 +3,7 @@ ghost use Rattle.std.specs.Prelude.{◌≡◌, ◌++◌, ◌^◌, ◌≤◌, Non
 ghost use Rattle.mac_asm.specs.Outcome.{outcome_of};
 ghost use Rattle.script_io.specs.Serves.{Serves, Blames};
 ghost use Rattle.queue_script.specs.Endings.{served_as};
-ghost use Rattle.op_script.specs.RunScripts.{effect_of, defined, assembled_text, assembled_ending, source_effect, line_effect, transcript_of, transcript};
+ghost use Rattle.op_script.specs.RunScripts.{effect_of, defined, assembled_text, assembled_ending, source_effect, line_effect, fresh, transcript_of, transcript};
 
 use crate::commands::{Command, read_command};
 use crate::desk::{Desk, Machine};
@@ -138,11 +138,33 @@ fn obey(
     }
 }
 
-/// A script on a machine.
+/// A machine that a script's lines work on.
 #[derive(Drop)]
-struct RunService {
+pub struct RunService {
     alloc: Global,
     desk: Desk,
+}
+
+impl RunService {
+    /// The service over a machine from a fresh boot, with the blocks and the quantum of a `Config`.
+    pub fn new(alloc: Global, config: Config) -> Result<Self, AllocError>
+        ensures { IfOk result (λ s. s.desk ≡ fresh config.blocks config.quantum) }
+    {
+        let machine = Machine::boot(alloc, config)?;
+        let desk = Desk {
+            machine,
+            images: Images::new(alloc),
+            source: None,
+        };
+        Ok(RunService { alloc, desk })
+    }
+
+    /// The machine that the lines taken so far have left.
+    pub fn machine(&self) -> &Machine
+        ensures { result.now ≡ self.now.desk.machine }
+    {
+        &self.desk.machine
+    }
 }
 
 impl LineService for RunService {
@@ -187,15 +209,10 @@ pub fn serve<R: ByteIn, W: ByteOut>(
     ensures serves { Serves (transcript config.blocks config.quantum) (R.to_come reader.old) (R.to_come reader.new) (W.written writer.old) (W.written writer.new) (served_as result) }
     ensures blames { IfErr (served_as result) (λ e. Blames e (R.has_failed reader.new) (W.has_failed writer.new)) }
 {
-    let machine = match Machine::boot(alloc, config) {
-        Ok(machine) => machine,
+    let service = match RunService::new(alloc, config) {
+        Ok(service) => service,
         Err(_) => return Err(ServeError::Memory),
     };
-    let desk = Desk {
-        machine,
-        images: Images::new(alloc),
-        source: None,
-    };
-    let mut session = LineSession::new(RunService { alloc, desk });
+    let mut session = LineSession::new(service);
     serve_script(alloc, &mut session, reader, writer)
 }

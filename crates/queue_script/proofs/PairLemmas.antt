@@ -1,8 +1,13 @@
 -- Lemmas on who waits for whom.
 use Rattle.std.proofs.Common.{◌≡◌, ◌<◌, ◌≤◌, ◌+◌, ◌-◌, ◌*◌, ◌/◌, ◌%◌, ◌++◌, ◌&&◌, ◌||◌, ℕ, Bool, true, false, cond, suc, zero, List, [], ◌∷◌, length, slice_index_or, slice_set, arith, refl, sym, ap, ◌∙◌, append_assoc, append-nil, add-one, below_more, get_or-set_other, get_or-set_same, ◌≢◌}
+use Rattle.std.proofs.Math.Bool.{beq}
+use Rattle.std.specs.Cmp.Lexicographic.{pointwise}
 use Rattle.std.specs.List.{flat_map, list_any}
 use Rattle.std.specs.Prelude.{codes, decimal}
+use Rattle.lock_queue.specs.Jobs.{is_blocked, is_blocked_by, is_kept_by, is_waiting_job, waits_for}
+use Rattle.lock_queue.specs.Queue.{some_behind}
 use Rattle.lock_queue.specs.Waits.{numbers_from, jobs, leads_to}
+use Rattle.lock_queue.specs.declared.request.Request.{Request}
 use Rattle.queue_script.specs.declared.wait_pairs.TheConstants.{NUMBERS, PAIRS}
 use Rattle.word36.specs.declared.sizes.TheConstants.{JOBS}
 use Rattle.queue_script.specs.WaitPairs.{pair_in, circle_job, circle_jobs}
@@ -86,6 +91,19 @@ pub circle-same : (v w : ℕ → ℕ → Bool) → ((a b : ℕ) → a < NUMBERS 
 circle-same v w same =
     texts-same (circle_job v) (circle_job w) (λ m hm. ap (λ b. cond b (codes " " ++ decimal m) []) (leads-same v w JOBS m m same hm hm))
 
+-- ---- who waits for nobody
+
+blocked-nowhere : (j k : ℕ) (e rs : List Request) → some_behind (is_blocked j) e rs ≡ false → some_behind (is_blocked_by j k) e rs ≡ false
+blocked-nowhere j k e [] h = refl
+blocked-nowhere j k e (r ∷ rs) h =
+    let here : is_blocked j e r ≡ false = grind (arith) in
+    let later : some_behind (is_blocked j) (e ++ r ∷ []) rs ≡ false = grind (arith) in
+    let more = blocked-nowhere j k (e ++ r ∷ []) rs later in
+    ap (λ b. (b && list_any (is_kept_by k e) r.wants.items) || some_behind (is_blocked_by j k) (e ++ r ∷ []) rs) here ∙ more
+
+pub no_waits : (rs : List Request) (j k : ℕ) → is_waiting_job rs j ≡ false → waits_for rs j k ≡ false
+no_waits rs j k h = blocked-nowhere j k [] rs h
+
 -- ---- tables
 
 pub set-known : (xs : List Bool) (i : ℕ) (v : Bool) (want : ℕ → Bool) → i < length xs → ((j : ℕ) → j < i → slice_index_or xs j false ≡ want j) → v ≡ want i
@@ -105,6 +123,38 @@ unfolding leads_to
 leads-step w reached steps target known j =
     ap (λ b. w j target || b) (any-same (λ m. w j m && slice_index_or reached m false) (λ m. w j m && leads_to w steps m target) (λ m hm. ap (λ b. w j m && b) (known m hm)))
     ∙ ap (λ n. leads_to w n j target) (sym (add-one steps))
+
+pub same-bools : (xs ys : List Bool) → pointwise beq xs ys ≡ true → xs ≡ ys
+same-bools [] [] h = refl
+same-bools [] (y ∷ ys) h = cc
+same-bools (x ∷ xs) [] h = cc
+same-bools (true ∷ xs) (true ∷ ys) h = ap (λ l. true ∷ l) (same-bools xs ys h)
+same-bools (true ∷ xs) (false ∷ ys) h = cc
+same-bools (false ∷ xs) (true ∷ ys) h = cc
+same-bools (false ∷ xs) (false ∷ ys) h = ap (λ l. false ∷ l) (same-bools xs ys h)
+
+-- where a step more changes nothing, no number of steps does
+leads-settled : (w : ℕ → ℕ → Bool) (steps target : ℕ) → ((j : ℕ) → j < NUMBERS → leads_to w (suc steps) j target ≡ leads_to w steps j target)
+    → (more n : ℕ) → n ≡ more + steps → (j : ℕ) → j < NUMBERS → leads_to w n j target ≡ leads_to w steps j target
+unfolding leads_to
+leads-settled w steps target settled zero n e j hj =
+    let same : n ≡ steps = omega arith in
+    ap (λ i. leads_to w i j target) same
+leads-settled w steps target settled (suc more) n e j hj =
+    let next : n ≡ suc (more + steps) = omega arith in
+    ap (λ i. leads_to w i j target) next
+    ∙ ap (λ b. w j target || b) (any-same (λ m. w j m && leads_to w (more + steps) m target) (λ m. w j m && leads_to w steps m target)
+    (λ m hm. ap (λ b. w j m && b) (leads-settled w steps target settled more (more + steps) refl m hm)))
+    ∙ settled j hj
+
+pub leads-end : (w : ℕ → ℕ → Bool) (reached further : List Bool) (steps target : ℕ) → steps < JOBS → ((j : ℕ) → j < NUMBERS → slice_index_or reached j false ≡ leads_to w steps j target)
+    → ((j : ℕ) → j < NUMBERS → slice_index_or further j false ≡ (w j target || list_any (λ m. w j m && slice_index_or reached m false) jobs))
+    → further ≡ reached → (j : ℕ) → j < NUMBERS → slice_index_or reached j false ≡ leads_to w JOBS j target
+leads-end w reached further steps target below known step same j hj =
+    let settled = λ (i : ℕ) (hi : i < NUMBERS). ap (λ n. leads_to w n i target) (sym (add-one steps)) ∙ sym (leads-step w reached steps target known i) ∙ sym (step i hi)
+    ∙ ap (λ xs. slice_index_or xs i false) same ∙ known i hi in
+    let all : JOBS ≡ (JOBS - steps) + steps = omega arith in
+    known j hj ∙ sym (leads-settled w steps target settled (JOBS - steps) JOBS all j hj)
 
 pub table-pairs : (pairs : List Bool) (w : ℕ → ℕ → Bool) → ((i : ℕ) → i < PAIRS → slice_index_or pairs i false ≡ w (i / NUMBERS) (i % NUMBERS))
     → (j k : ℕ) → j < NUMBERS → k < NUMBERS → pair_in pairs j k ≡ w j k

@@ -23,7 +23,7 @@ pub use numbers::number;
 pub use options::read_half;
 pub use parts::Parts;
 pub use printing::{push_code, push_escaped, push_request, push_word};
-pub use queue_scripts::{push_requests, serve_queue};
+pub use queue_scripts::{QueueService, push_requests, serve_queue};
 pub use script_io::{
     ByteIn, ByteOut, Failed, HostIn, HostOut, LINE_LENGTH, LineService, LineSession, Session,
     TestIn, TestOut, write_all,

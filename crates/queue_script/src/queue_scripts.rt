@@ -171,6 +171,13 @@ impl<L: LockTable> QueueService<L> {
             woken: Woken::new(),
         }
     }
+
+    /// The table that the lines taken so far have left.
+    pub fn table(&self) -> &L
+        ensures { L.requests result.now ≡ L.requests self.now.table }
+    {
+        &self.table
+    }
 }
 
 impl<L: LockTable> LineService for QueueService<L> {

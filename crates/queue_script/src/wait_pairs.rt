@@ -10,6 +10,14 @@ use script_io::push_decimal;
 use std::alloc::AllocError;
 use word36::JOBS;
 
+/// Whether a job waits for another. Of a job that waits for nobody the requests are not looked at.
+#[tactic(auto, using(crate::proofs::PairLemmas::no_waits))]
+fn does_wait<L: LockTable>(table: &L, job: u8, other: u8) -> bool
+    ensures { result ≡ waits_for (L.requests table.now) job other }
+{
+    table.waiting(job) && table.waits_for(job, other)
+}
+
 /// Adds `j FOR k`, where the job j waits for the job k.
 #[tactic(auto, using(std::proofs::Common::append_assoc))]
 fn push_pair<L: LockTable>(
@@ -20,7 +28,7 @@ fn push_pair<L: LockTable>(
 ) -> Result<(), AllocError>
     ensures { OnOk result (out.new.items ≡ out.old.items ++ pair_line (L.requests table.now) job other) }
 {
-    if table.waits_for(job, other) {
+    if does_wait(table, job, other) {
         push_decimal(out, job)?;
         out.extend_from_slice(b" FOR ")?;
         push_decimal(out, other)?;
@@ -64,7 +72,7 @@ fn pair_table<L: LockTable>(table: &L) -> PairTable
 {
     let mut pairs = [false; PAIRS];
     for i in 0..PAIRS {
-        pairs[i] = table.waits_for((i / NUMBERS) as u8, (i % NUMBERS) as u8);
+        pairs[i] = does_wait(table, (i / NUMBERS) as u8, (i % NUMBERS) as u8);
     }
     pairs
 }
@@ -120,7 +128,11 @@ fn leading_to(pairs: &PairTable, target: usize) -> [bool; NUMBERS]
 {
     let mut reached = [false; NUMBERS];
     for steps in 0..JOBS {
-        reached = lead_further(pairs, &reached, target);
+        let further = lead_further(pairs, &reached, target);
+        if further == reached {
+            return reached;
+        }
+        reached = further;
     }
     reached
 }

@@ -1,6 +1,5 @@
-use Rattle.std.proofs.Common.{◌∙◌, ap, None}
+use Rattle.std.proofs.Common.{◌∙◌, ap}
 use Rattle.std.specs.Str.Lines.{lines}
-use Rattle.machine.specs.Machine.{at_boot}
 use Rattle.op_script.specs.RunScripts.{transcript, transcript_of}
 use Rattle.script_io.proofs.ServeLemmas.{serves_as, serves_nothing}
 use Rattle.op_script.proofs.run_scripts.serve.Goals as goal
@@ -12,6 +11,4 @@ pub returns-clause-serves : goal.returns-clause-serves
 unfolding transcript
 returns-clause-serves g c =
     serves_as _ (transcript c.args.config.blocks c.args.config.quantum) _ _ _ _ _ (λ bytes.
-    c.new-session.ensures.fresh bytes
-    ∙ ap (λ s. transcript_of (record { machine = s; images = c.new.result; source = None }) 0 (lines bytes)) c.in-Ok.ensures
-    ∙ ap (λ images. transcript_of (record { machine = at_boot c.args.config.blocks c.args.config.quantum; images = images; source = None }) 0 (lines bytes)) c.new.ensures) c.serve_script.ensures.serves
+    c.new-session.ensures.fresh bytes ∙ ap (λ d. transcript_of d 0 (lines bytes)) c.in-Ok.ensures) c.serve_script.ensures.serves

@@ -1,0 +1,27 @@
+#!/usr/bin/env bash
+# Whether the pictures that `lockview` writes of the stored queue scripts, and of one in which all jobs wait, are
+# well-formed, by a parser of XML; that the pictures in examples/ are those of today; and, where rsvg-convert is
+# installed, that they can be painted. Build the program first (rt run in crates/lockview).
+set -eu
+cd "$(dirname "$0")/.."
+program=${1:-crates/lockview/out/lockview}
+work=$(mktemp -d)
+trap 'rm -r "$work"' EXIT
+all_jobs() {
+    for job in $(seq 31); do echo "ENQ $job 2 1 FILE"; done
+    for job in $(seq 31); do echo "ENQ $job 0 2 INDEX/L1 A.LONGER.NAME_$job/S/L2"; done
+}
+draw() { # NAME WORDS..: the picture of standard input
+    "$program" "${@:2}" >"$work/$1.svg"
+    python3 -c 'import sys, xml.dom.minidom as dom; dom.parse(sys.argv[1])' "$work/$1.svg"
+    if command -v rsvg-convert >/dev/null; then rsvg-convert "$work/$1.svg" -o "$work/$1.png"; fi
+}
+for script in examples/*.queue tests/*.queue; do
+    draw "$(basename "$script" .queue)" <"$script"
+done
+all_jobs | draw all_jobs
+draw circle --at 13 <examples/circle_of_waits.queue
+cmp "$work/circle.svg" examples/circle_of_waits.svg
+draw drives --at 7 <examples/tape_drives.queue
+cmp "$work/drives.svg" examples/tape_drives.svg
+echo "all well-formed"

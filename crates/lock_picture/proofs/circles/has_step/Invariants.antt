@@ -1,0 +1,11 @@
+use Rattle.std.proofs.Common.{◌≡◌, ◌&&◌, ◌-◌, false, slice_index_or}
+use Rattle.std.specs.List.{list_any}
+use Rattle.lock_queue.specs.Waits.{jobs, numbers_from}
+use Rattle.queue_script.specs.WaitPairs.{pair_in}
+use Rattle.lock_picture.specs.declared.circles.TheConstants.{NUMBERS}
+use Rattle.lock_picture.proofs.circles.has_step.Given as goal
+
+abbrev pub invariant-loop-other : goal.invariant-loop-other
+invariant-loop-other l =
+    list_any (λ m. pair_in l.pairs l.job m && slice_index_or l.reached m false) (numbers_from l.other (NUMBERS - l.other))
+    ≡ list_any (λ m. pair_in l.pairs l.job m && slice_index_or l.reached m false) jobs

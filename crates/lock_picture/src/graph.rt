@@ -1,0 +1,115 @@
+//! Who waits for whom.
+ghost use Rattle.std.specs.Prelude.{◌≡◌, ◌<◌, IfOk};
+ghost use Rattle.lock_queue.specs.Jobs.{waits_for};
+ghost use Rattle.lock_queue.specs.Waits.{waits_hard_for};
+ghost use Rattle.queue_script.specs.WaitPairs.{pair_in};
+ghost use Rattle.lock_picture.specs.Graphs.{Tells, closes_circle};
+
+use crate::circles::{NUMBERS, PAIRS, PairTable, circle_table};
+use crate::copies::requests_in;
+use crate::hard_waits::does_wait_hard_for;
+use lock_queue::{LockTable, Request};
+use std::alloc::{AllocError, Global};
+
+/// Who waits for whom: for an owner, or for one that only stands in front, and in a circle or not.
+#[derive(Drop)]
+pub struct Graph {
+    waits: PairTable,
+    hard: PairTable,
+    circles: PairTable,
+}
+
+/// The table of who waits for whom.
+fn wait_table<L: LockTable>(table: &L) -> PairTable
+    ensures { Tells result (waits_for (L.requests table.now)) }
+{
+    let mut pairs = [false; PAIRS];
+    for i in 0..PAIRS {
+        pairs[i] = table.waits_for((i / NUMBERS) as u8, (i % NUMBERS) as u8);
+    }
+    pairs
+}
+
+/// The table of who waits for an owner.
+fn hard_table(requests: &[Request]) -> PairTable
+    ensures { Tells result (waits_hard_for requests.now) }
+{
+    let mut pairs = [false; PAIRS];
+    for i in 0..PAIRS {
+        pairs[i] = does_wait_hard_for(requests, (i / NUMBERS) as u8, (i % NUMBERS) as u8);
+    }
+    pairs
+}
+
+/// A wait of a graph.
+#[derive(Clone, Copy, Debug)]
+pub struct Wait {
+    /// Who waits.
+    pub job: usize,
+    /// For whom.
+    pub other: usize,
+    /// Whether for a lock that the other owns.
+    pub is_hard: bool,
+    /// Whether a walk of waits leads back.
+    pub is_in_circle: bool,
+}
+
+impl Graph {
+    /// The graph of a table.
+    pub fn of<L: LockTable>(alloc: Global, table: &L) -> Result<Self, AllocError>
+        ensures waits { IfOk result (λ graph. Tells graph.waits (waits_for (L.requests table.now))) }
+        ensures hard { IfOk result (λ graph. Tells graph.hard (waits_hard_for (L.requests table.now))) }
+        ensures circles { IfOk result (λ graph. Tells graph.circles (closes_circle (pair_in graph.waits))) }
+    {
+        let requests = requests_in(alloc, table)?;
+        let waits = wait_table(table);
+        let hard = hard_table(requests.as_slice());
+        let circles = circle_table(&waits);
+        Ok(Graph {
+            waits,
+            hard,
+            circles,
+        })
+    }
+
+    /// The wait of one job for another, if there is one. Jobs are numbered 1 to 31.
+    pub fn wait(&self, job: usize, other: usize) -> Option<Wait> {
+        let i = job.saturating_mul(NUMBERS).saturating_add(other);
+        if i >= PAIRS || !self.waits[i] {
+            return None;
+        }
+        Some(Wait {
+            job,
+            other,
+            is_hard: self.hard[i],
+            is_in_circle: self.circles[i],
+        })
+    }
+
+    /// Whether a job waits, or is waited for.
+    pub fn has(&self, job: usize) -> bool {
+        for other in 1..NUMBERS {
+            if self.wait(job, other).is_some() || self.wait(other, job).is_some() {
+                return true;
+            }
+        }
+        false
+    }
+
+    /// Whether nobody waits.
+    pub fn is_empty(&self) -> bool {
+        (1..NUMBERS).all(|job| !self.has(job))
+    }
+
+    /// Whether a job is in a circle.
+    pub fn is_in_circle(&self, job: usize) -> bool {
+        for other in 1..NUMBERS {
+            if let Some(wait) = self.wait(job, other)
+                && wait.is_in_circle
+            {
+                return true;
+            }
+        }
+        false
+    }
+}

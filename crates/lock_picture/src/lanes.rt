@@ -1,0 +1,56 @@
+//! The lanes of a picture: one for each job and each lock that it asked for.
+
+use crate::bars::Bar;
+use crate::names::LockLabel;
+use lock_queue::Key;
+use std::alloc::{AllocError, Global};
+use word36::JOBS;
+
+/// The place of a job's bars on one lock.
+#[derive(Drop)]
+pub struct Lane {
+    /// The job.
+    pub job: u8,
+    /// The lock.
+    pub key: Key,
+    /// The lock's name.
+    pub label: String,
+}
+
+impl Lane {
+    /// Whether a bar stands in it.
+    pub fn has(&self, bar: &Bar) -> bool {
+        bar.hold.job == self.job && bar.hold.key == self.key
+    }
+}
+
+/// Adds the lanes of a job, in the order in which it asked for the locks.
+fn push_lanes_of(
+    alloc: Global,
+    lanes: &mut Vec<Lane>,
+    bars: &[Bar],
+    job: u8,
+) -> Result<(), AllocError> {
+    for bar in bars {
+        if bar.hold.job != job || lanes.as_slice().iter().any(|lane| lane.has(bar)) {
+            continue;
+        }
+        let name = LockLabel(&bar.hold.key);
+        let label = format!(in alloc; "{name}")?;
+        lanes.push(Lane {
+            job,
+            key: bar.hold.key.copied(),
+            label,
+        })?;
+    }
+    Ok(())
+}
+
+/// The lanes of all bars, by rising jobs.
+pub fn lanes_of(alloc: Global, bars: &[Bar]) -> Result<Vec<Lane>, AllocError> {
+    let mut lanes = Vec::new(alloc);
+    for job in 1..JOBS + 1 {
+        push_lanes_of(alloc, &mut lanes, bars, job)?;
+    }
+    Ok(lanes)
+}

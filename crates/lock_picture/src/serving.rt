@@ -1,0 +1,198 @@
+//! The whole program over any ports.
+ghost use Rattle.std.specs.Prelude.{◌≡◌, false};
+
+use crate::scripts::{MOST_LINES, ScriptError, draw_script};
+use crate::svg::AsSvg;
+use crate::text::AsText;
+use crate::words::{Asked, Refusal, read_words};
+use fault_text::{Refused, explain};
+use queue_script::{ByteIn, ByteOut, Parts, write_all};
+use std::alloc::{AllocError, Global};
+use std::convert::AsStr;
+use std::io::ErrorKind;
+
+/// All was done.
+pub const DONE: u8 = 0;
+
+/// The script was refused.
+pub const REFUSED: u8 = 1;
+
+/// The words of the command line were refused, or asked for help.
+pub const USAGE: u8 = 2;
+
+/// The reader, the writer or memory failed.
+pub const FAILED: u8 = 3;
+
+/// How many bytes are read at once, at most.
+const PIECE: usize = 4096;
+
+/// The most pieces of a script: more than 10,000 lines have.
+const MOST_PIECES: u32 = 1 << 16;
+
+/// Why nothing is drawn.
+#[derive(Clone, Copy, Debug)]
+enum Failure {
+    /// The reader failed.
+    Read,
+    /// The script is refused.
+    Script(ScriptError),
+}
+
+impl From<AllocError> for Failure {
+    fn from(_: AllocError) -> Self {
+        Failure::Script(ScriptError::Memory)
+    }
+}
+
+/// The bytes of the input.
+fn read_script<R: ByteIn>(alloc: Global, reader: &mut R) -> Result<Vec<u8>, Failure>
+    requires { R.has_failed reader.old ≡ false }
+{
+    let mut script = Vec::new(alloc);
+    let mut piece = [0u8; PIECE];
+    for _ in 0..MOST_PIECES {
+        let Ok(count) = reader.read(&mut piece) else {
+            return Err(Failure::Read);
+        };
+        if count == 0 {
+            return Ok(script);
+        }
+        script.extend_from_slice(&piece[..count])?;
+    }
+    Err(Failure::Script(ScriptError::TooLong))
+}
+
+/// The picture of a script.
+fn picture_of(alloc: Global, script: &[u8], wanted: Asked) -> Result<String, ScriptError> {
+    let drawing = draw_script(alloc, script, wanted.at)?;
+    if wanted.text {
+        let text = AsText(&drawing);
+        Ok(format!(in alloc; "{text}")?)
+    } else {
+        let svg = AsSvg(&drawing);
+        Ok(format!(in alloc; "{svg}")?)
+    }
+}
+
+/// The line of this number, counted from 1, without its line end.
+fn line_at(script: &[u8], number: usize) -> &[u8] {
+    let mut lines = Parts::of(script, b'\n');
+    for _ in 1..number {
+        let _ = lines.next();
+    }
+    match lines.next() {
+        Some([front @ .., b'\r']) => front,
+        Some(line) => line,
+        None => b"",
+    }
+}
+
+/// Says why a script is not drawn.
+fn reason_of(alloc: Global, script: &[u8], error: ScriptError) -> Result<String, AllocError> {
+    match error {
+        ScriptError::Memory => String::from_str(alloc, "lockview: memory\n"),
+        ScriptError::Line(number) => {
+            let text = explain(alloc, Refused::Queue, line_at(script, number))?;
+            format!(in alloc; "lockview: line {number}: {text}\n")
+        }
+        ScriptError::TooLong => {
+            format!(in alloc; "lockview: the script has more than {MOST_LINES} lines\n")
+        }
+        ScriptError::Short(lines) => {
+            format!(in alloc;
+                "lockview: the script ends at line {lines}, before the line of --at\n"
+            )
+        }
+    }
+}
+
+fn status_of(error: ScriptError) -> u8 {
+    match error {
+        ScriptError::Memory => FAILED,
+        ScriptError::Line(_) | ScriptError::TooLong => REFUSED,
+        ScriptError::Short(_) => USAGE,
+    }
+}
+
+/// Writes a text to the errors, and gives the exit status.
+fn told<E: ByteOut>(errors: &mut E, text: &[u8], status: u8) -> u8
+    requires { E.has_failed errors.old ≡ false }
+{
+    let _ = write_all(errors, text);
+    status
+}
+
+/// Draws what the words ask for.
+fn draw<R: ByteIn, W: ByteOut, E: ByteOut>(
+    alloc: Global,
+    wanted: Asked,
+    reader: &mut R,
+    writer: &mut W,
+    errors: &mut E,
+) -> u8
+    requires reader_sound { R.has_failed reader.old ≡ false }
+    requires writer_sound { W.has_failed writer.old ≡ false }
+    requires errors_sound { E.has_failed errors.old ≡ false }
+{
+    let script = match read_script(alloc, reader) {
+        Ok(script) => script,
+        Err(Failure::Read) => return told(errors, b"lockview: read\n", FAILED),
+        Err(Failure::Script(error)) => return refused(alloc, b"", error, errors),
+    };
+    match picture_of(alloc, script.as_slice(), wanted) {
+        Ok(picture) => match write_all(writer, picture.as_str().as_bytes()) {
+            Ok(()) => DONE,
+            Err(_) => told(errors, b"lockview: write\n", FAILED),
+        },
+        Err(error) => refused(alloc, script.as_slice(), error, errors),
+    }
+}
+
+/// Says why a script is not drawn, and gives the exit status.
+fn refused<E: ByteOut>(alloc: Global, script: &[u8], error: ScriptError, errors: &mut E) -> u8
+    requires { E.has_failed errors.old ≡ false }
+{
+    match reason_of(alloc, script, error) {
+        Ok(text) => told(errors, text.as_str().as_bytes(), status_of(error)),
+        Err(_) => told(errors, b"lockview: memory\n", FAILED),
+    }
+}
+
+/// Reads a script of `lockmon queue`, and writes the picture that the words, which begin with the
+/// program's name, ask for. It gives the exit status: 0 where the picture was written; 1 where the
+/// script is refused, and 2 where the words are, or ask for help, which `errors` is told of; 3 where
+/// the reader, the writer or memory failed. Where it is not 0 nothing was written, but for a
+/// beginning where the writer failed.
+pub fn program<S: AsStr, R: ByteIn, W: ByteOut, E: ByteOut>(
+    alloc: Global,
+    words: &[S],
+    reader: &mut R,
+    writer: &mut W,
+    errors: &mut E,
+) -> u8
+    requires reader_sound { R.has_failed reader.old ≡ false }
+    requires writer_sound { W.has_failed writer.old ≡ false }
+    requires errors_sound { E.has_failed errors.old ≡ false }
+{
+    match read_words(alloc, words) {
+        Ok(wanted) => draw(alloc, wanted, reader, writer, errors),
+        Err(Refusal::Memory) => told(errors, b"lockview: memory\n", FAILED),
+        Err(Refusal::Usage(error)) => match error.to_string(alloc) {
+            Ok(text) => told(errors, text.as_str().as_bytes(), USAGE),
+            Err(_) => told(errors, b"lockview: memory\n", FAILED),
+        },
+    }
+}
+
+/// Says why the words of the command line could not be read, and gives the exit status: one of them
+/// is no text, which refuses them, or there was no memory.
+pub fn unread_words<E: ByteOut>(kind: ErrorKind, errors: &mut E) -> u8
+    requires { E.has_failed errors.old ≡ false }
+{
+    if kind == ErrorKind::InvalidData {
+        let text = b"error: invalid UTF-8 was detected in one or more arguments\n";
+        told(errors, text, USAGE)
+    } else {
+        told(errors, b"lockview: memory\n", FAILED)
+    }
+}

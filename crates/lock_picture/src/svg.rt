@@ -1,0 +1,268 @@
+//! The picture as SVG.
+
+use crate::bars::Bar;
+use crate::drawing::Drawing;
+use crate::frame::{BAR, Frame, GAP, LANE, MARGIN, TOP};
+use crate::lanes::Lane;
+use crate::svg_graph::{jobs_in, write_graph};
+use std::fmt;
+
+/// A picture as one SVG that needs nothing else.
+#[derive(Clone, Copy)]
+pub struct AsSvg<'a>(pub &'a Drawing);
+
+/// The looks of the parts.
+const STYLE: &str = "<style>
+text{font:13px system-ui,-apple-system,'Segoe UI','DejaVu Sans',sans-serif;fill:#24303d}
+.heading{font-weight:600;font-size:14px}
+.tick{font-size:11px;fill:#66717d;text-anchor:middle}
+.job{font-weight:600}
+.lock{font-family:ui-monospace,'DejaVu Sans Mono',monospace;font-size:12px;text-anchor:end}
+.amount{font-size:10px;fill:#fff}
+.grid{stroke:#e3e7eb}
+.row{fill:#f4f6f8}
+.owns{fill:#2f6db3}
+.owns.shared{fill:#2b938b}
+.waits{fill:url(#hatch);stroke:#d9822b}
+.grant{fill:#1d2530;stroke:#fff}
+.at{stroke:#24303d;stroke-dasharray:2 3}
+.wait{fill:none;stroke:#4a5663;stroke-width:1.6}
+.wait.soft{stroke-dasharray:5 4;stroke-width:1.2}
+.wait.circle{stroke:#c62828}
+.node{fill:#fff;stroke:#4a5663;stroke-width:1.6}
+.node.circle{fill:#fdecea;stroke:#c62828}
+.number{font-weight:600;text-anchor:middle}
+</style>
+";
+
+/// The hatching, and the heads of the arrows.
+const PARTS: &str = "<defs>
+<pattern id=\"hatch\" width=\"6\" height=\"6\" patternUnits=\"userSpaceOnUse\" patternTransform=\"rotate(45)\">\
+<rect width=\"6\" height=\"6\" fill=\"#fff4e5\"/><rect width=\"2.5\" height=\"6\" fill=\"#d9822b\"/></pattern>
+<marker id=\"head\" markerUnits=\"userSpaceOnUse\" markerWidth=\"10\" markerHeight=\"10\" refX=\"26\" refY=\"5\" orient=\"auto\">\
+<path d=\"M0 0L10 5L0 10z\" fill=\"#4a5663\"/></marker>
+<marker id=\"head-circle\" markerUnits=\"userSpaceOnUse\" markerWidth=\"10\" markerHeight=\"10\" refX=\"26\" refY=\"5\" orient=\"auto\">\
+<path d=\"M0 0L10 5L0 10z\" fill=\"#c62828\"/></marker>
+</defs>
+";
+
+fn write_head<W: fmt::Write>(f: &mut fmt::Formatter<W>, frame: &Frame) -> fmt::Result {
+    let (width, height) = (frame.width, frame.height);
+    write!(
+        f,
+        "<svg xmlns=\"http://www.w3.org/2000/svg\" width=\"{width}\" height=\"{height}\""
+    )?;
+    write!(f, " viewBox=\"0 0 {width} {height}\">\n")?;
+    f.write_str("<title>Locks along a script</title>\n")?;
+    f.write_str(STYLE)?;
+    f.write_str(PARTS)?;
+    write!(
+        f,
+        "<rect width=\"{width}\" height=\"{height}\" fill=\"#fff\"/>\n"
+    )
+}
+
+/// Writes the numbers of the lines, with a thin rule below each.
+fn write_axis<W: fmt::Write>(f: &mut fmt::Formatter<W>, frame: &Frame) -> fmt::Result {
+    let (left, above) = (frame.left, TOP.saturating_sub(30));
+    write!(
+        f,
+        "<text class=\"heading\" x=\"{left}\" y=\"{above}\">Locks along the lines of the script</text>\n"
+    )?;
+    let tick = frame.tick();
+    for line in 1..frame.lines.saturating_add(1) {
+        if line % tick != 0 {
+            continue;
+        }
+        let edge = frame.x_of(line);
+        let x = edge.saturating_add(frame.column / 2);
+        let (y, top, end) = (
+            TOP.saturating_sub(10),
+            TOP.saturating_sub(4),
+            frame.lanes_end,
+        );
+        write!(f, "<text class=\"tick\" x=\"{x}\" y=\"{y}\">{line}</text>")?;
+        write!(f, "<path class=\"grid\" d=\"M{edge} {top}V{end}\"/>\n")?;
+    }
+    Ok(())
+}
+
+/// The words on a bar that a pointer shows.
+fn write_title<W: fmt::Write>(f: &mut fmt::Formatter<W>, bar: &Bar, label: &str) -> fmt::Result {
+    let (job, from, last) = (bar.hold.job, bar.from, bar.until.saturating_sub(1));
+    let does = if bar.hold.owns { "owns" } else { "waits for" };
+    write!(f, "<title>job {job} {does} {label}")?;
+    if bar.hold.shared {
+        f.write_str(", shared")?;
+    }
+    if bar.hold.amount > 0 {
+        let amount = bar.hold.amount;
+        write!(f, ", {amount} of a pool")?;
+    }
+    write!(f, ", lines {from} to {last}</title>")
+}
+
+fn class_of(bar: &Bar) -> &'static str {
+    if !bar.hold.owns {
+        "waits"
+    } else if bar.hold.shared {
+        "owns shared"
+    } else {
+        "owns"
+    }
+}
+
+/// Writes a bar in a lane that begins at a height.
+fn write_bar<W: fmt::Write>(
+    f: &mut fmt::Formatter<W>,
+    frame: &Frame,
+    bar: &Bar,
+    label: &str,
+    height: usize,
+) -> fmt::Result {
+    let x = frame.x_of(bar.from);
+    let width = frame.x_of(bar.until).saturating_sub(x);
+    let y = height.saturating_add(LANE.saturating_sub(BAR) / 2);
+    let class = class_of(bar);
+    write!(
+        f,
+        "<rect class=\"{class}\" x=\"{x}\" y=\"{y}\" width=\"{width}\" height=\"{BAR}\" rx=\"2\">"
+    )?;
+    write_title(f, bar, label)?;
+    f.write_str("</rect>\n")?;
+    let amount = bar.hold.amount;
+    if amount > 0 && bar.hold.owns && width >= 20 {
+        let (x, y) = (x.saturating_add(width / 2), y.saturating_add(11));
+        write!(
+            f,
+            "<text class=\"amount\" x=\"{x}\" y=\"{y}\">{amount}</text>\n"
+        )?;
+    }
+    Ok(())
+}
+
+/// Writes the mark of a grant at a line.
+fn write_grant<W: fmt::Write>(
+    f: &mut fmt::Formatter<W>,
+    frame: &Frame,
+    line: usize,
+    height: usize,
+) -> fmt::Result {
+    let x = frame.x_of(line);
+    let y = height.saturating_add(LANE / 2);
+    write!(
+        f,
+        "<path class=\"grant\" transform=\"translate({x} {y})\" d=\"M0 -7L6 0L0 7L-6 0z\"/>\n"
+    )
+}
+
+/// Writes the bars of a lane, and then the marks on them.
+fn write_bars<W: fmt::Write>(
+    f: &mut fmt::Formatter<W>,
+    frame: &Frame,
+    bars: &[Bar],
+    lane: &Lane,
+    height: usize,
+) -> fmt::Result {
+    for bar in bars {
+        if lane.has(bar) {
+            write_bar(f, frame, bar, lane.label.as_str(), height)?;
+        }
+    }
+    for bar in bars {
+        if lane.has(bar) && bar.is_granted(bars) {
+            write_grant(f, frame, bar.from, height)?;
+        }
+    }
+    Ok(())
+}
+
+/// Writes the ground of a lane, its job's number where it is the job's first, and the lock's name.
+fn write_names<W: fmt::Write>(
+    f: &mut fmt::Formatter<W>,
+    frame: &Frame,
+    lane: &Lane,
+    is_first: bool,
+    height: usize,
+) -> fmt::Result {
+    let width = frame.column.saturating_mul(frame.lines);
+    let left = frame.left;
+    let (ground, floor) = (height.saturating_add(1), LANE.saturating_sub(2));
+    write!(
+        f,
+        "<rect class=\"row\" x=\"{left}\" y=\"{ground}\" width=\"{width}\" height=\"{floor}\"/>\n"
+    )?;
+    let y = height.saturating_add(15);
+    if is_first {
+        let job = lane.job;
+        write!(
+            f,
+            "<text class=\"job\" x=\"{MARGIN}\" y=\"{y}\">job {job}</text>"
+        )?;
+    }
+    let (x, label) = (left.saturating_sub(8), lane.label.as_str());
+    write!(
+        f,
+        "<text class=\"lock\" x=\"{x}\" y=\"{y}\">{label}</text>\n"
+    )
+}
+
+/// Writes all lanes.
+fn write_lanes<W: fmt::Write>(
+    f: &mut fmt::Formatter<W>,
+    frame: &Frame,
+    drawing: &Drawing,
+) -> fmt::Result {
+    let mut height = TOP;
+    let mut last = 0;
+    for lane in drawing.lanes.as_slice() {
+        let is_first = lane.job != last;
+        if is_first && last != 0 {
+            height = height.saturating_add(GAP);
+        }
+        last = lane.job;
+        write_names(f, frame, lane, is_first, height)?;
+        write_bars(f, frame, drawing.bars.as_slice(), lane, height)?;
+        height = height.saturating_add(LANE);
+    }
+    Ok(())
+}
+
+/// Writes a rule behind the line after which the graph stands.
+fn write_rule<W: fmt::Write>(f: &mut fmt::Formatter<W>, frame: &Frame, line: usize) -> fmt::Result {
+    let x = frame.x_of(line.saturating_add(1));
+    let (top, end) = (TOP.saturating_sub(6), frame.lanes_end.saturating_add(6));
+    write!(f, "<path class=\"at\" d=\"M{x} {top}V{end}\"/>\n")
+}
+
+/// Writes what the signs mean.
+fn write_legend<W: fmt::Write>(f: &mut fmt::Formatter<W>, frame: &Frame) -> fmt::Result {
+    let y = frame.height.saturating_sub(66);
+    write!(f, "<g transform=\"translate({MARGIN} {y})\">\n")?;
+    f.write_str(LEGEND)
+}
+
+const LEGEND: &str =
+    "<rect class=\"owns\" width=\"28\" height=\"14\" rx=\"2\"/><text x=\"36\" y=\"12\">owns</text>
+<rect class=\"owns shared\" x=\"90\" width=\"28\" height=\"14\" rx=\"2\"/><text x=\"126\" y=\"12\">owns, shared</text>
+<rect class=\"waits\" x=\"226\" width=\"28\" height=\"14\" rx=\"2\"/><text x=\"262\" y=\"12\">waits</text>
+<path class=\"grant\" transform=\"translate(329 7)\" d=\"M0 -7L6 0L0 7L-6 0z\"/><text x=\"343\" y=\"12\">is granted</text>
+<path class=\"wait hard\" d=\"M0 33H28\"/><text x=\"36\" y=\"38\">waits for an owner</text>
+<path class=\"wait soft\" d=\"M176 33H204\"/><text x=\"212\" y=\"38\">.. for one in front</text>
+<path class=\"wait circle\" d=\"M340 33H368\"/><text x=\"376\" y=\"38\">.. in a circle</text>
+</g>
+";
+
+impl fmt::Display for AsSvg<'_> {
+    fn fmt<W: fmt::Write>(&self, f: &mut fmt::Formatter<W>) -> fmt::Result {
+        let drawing = self.0;
+        let frame = Frame::of(drawing, jobs_in(&drawing.graph));
+        write_head(f, &frame)?;
+        write_axis(f, &frame)?;
+        write_lanes(f, &frame, drawing)?;
+        write_rule(f, &frame, drawing.at)?;
+        write_graph(f, &drawing.graph, &frame, drawing.at)?;
+        write_legend(f, &frame)?;
+        f.write_str("</svg>\n")
+    }
+}

@@ -1,0 +1,9 @@
+//! Tests of the pictures of `lockview` over ports in memory.
+#![tactic(auto)]
+
+#[cfg(test)]
+mod pictures;
+#[cfg(test)]
+mod refusals;
+#[cfg(test)]
+mod rows;

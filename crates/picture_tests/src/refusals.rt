@@ -1,0 +1,66 @@
+//! Scripts and words that are refused, and ports that fail.
+
+use crate::rows::{MANY, Row, answers};
+
+const TEXT: &[&str] = &["lockview", "--text"];
+
+const AT_NINE: &[&str] = &["lockview", "--at", "9"];
+
+const AT_NONE: &[&str] = &["lockview", "--at", "0"];
+
+const fn row_of(
+    words: &'static [&'static str],
+    script: &'static str,
+    calls: (u64, u64),
+    status: u8,
+    told: &'static str,
+) -> Row {
+    Row {
+        words,
+        script,
+        calls,
+        status,
+        written: "",
+        told,
+    }
+}
+
+#[test]
+fn refusals(rt: HostRuntime) {
+    let rows = [
+        row_of(
+            TEXT,
+            "SHOW\nshow\nSHOW\n",
+            (MANY, MANY),
+            1,
+            "lockview: line 2: no command \"show\" (commands are upper case)\n",
+        ),
+        row_of(
+            TEXT,
+            "ENQ 1 0 1 X\nENQ 32 0 1 X\r\n",
+            (MANY, MANY),
+            1,
+            "lockview: line 2: column 5: expected a job, 1 to 31, not \"32\"\n",
+        ),
+        row_of(
+            AT_NINE,
+            "SHOW\nQUIT\n",
+            (MANY, MANY),
+            2,
+            "lockview: the script ends at line 1, before the line of --at\n",
+        ),
+        row_of(
+            AT_NONE,
+            "",
+            (MANY, MANY),
+            2,
+            "error: invalid value for '--at <N>': the number of a line of the script, 1 or more, is wanted\n\n\
+            Usage: lockview [OPTIONS]\n\nFor more information, try '--help'.\n",
+        ),
+        row_of(TEXT, "SHOW\n", (0, MANY), 3, "lockview: read\n"),
+        row_of(TEXT, "SHOW\n", (MANY, 0), 3, "lockview: write\n"),
+    ];
+    for row in &rows {
+        assert!(rt; answers(rt.alloc(), row));
+    }
+}

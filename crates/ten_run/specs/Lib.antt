@@ -1,0 +1,3 @@
+pub mod Typing
+pub mod Ends
+pub mod Labels

@@ -1,0 +1,45 @@
+//! Ports that take whole texts.
+ghost use Rattle.std.specs.Prelude.{◌≡◌, false};
+
+use script_io::{ByteOut, Failed, write_all};
+
+/// A port that takes whole texts, and nothing more once it has failed.
+#[derive(Drop)]
+pub struct Outlet<W: ByteOut + Drop> {
+    inner: W,
+    is_closed: bool,
+    /// Whether the last line is whole.
+    is_line_whole: bool,
+    ghost sound: { is_closed ≡ false → W.has_failed inner ≡ false },
+}
+
+impl<W: ByteOut + Drop> Outlet<W> {
+    /// Gives texts to this port.
+    pub fn new(inner: W) -> Self
+        requires { W.has_failed inner ≡ false }
+    {
+        Outlet {
+            inner,
+            is_closed: false,
+            is_line_whole: true,
+        }
+    }
+
+    /// Writes all of these bytes, or fails.
+    pub fn write(&mut self, bytes: &[u8]) -> Result<(), Failed> {
+        if self.is_closed {
+            return Err(Failed);
+        }
+        let written = write_all(&mut self.inner, bytes);
+        self.is_closed = written.is_err();
+        if let Some(last) = bytes.last() {
+            self.is_line_whole = *last == b'\n';
+        }
+        written
+    }
+
+    /// Whether the last line that was written is whole, or none was.
+    pub fn is_line_whole(&self) -> bool {
+        self.is_line_whole
+    }
+}

@@ -1,0 +1,169 @@
+//! Sources that are assembled and run.
+ghost use Rattle.std.specs.Prelude.{◌≡◌, false};
+ghost use Rattle.machine.specs.Setups.{IsSetup};
+
+use crate::asked::Asked;
+use crate::failure::Failure;
+use crate::input::Input;
+use crate::jobs::{Machine, RunningJob, standing_of};
+use crate::outlet::Outlet;
+use crate::session::Session;
+use crate::sources::{Assembled, Program, Source, assemble_source};
+use crate::standing::status_of;
+use crate::statuses::REFUSED;
+use crate::terminal::Terminal;
+use monitor::{Answer, Config, Event, RefusedEvent};
+use script_io::{ByteIn, ByteOut};
+use std::alloc::Global;
+use word36::{Address, Image};
+
+/// Assembles sources, tells what is wrong with each that is refused, and gives the programs where
+/// none is.
+fn assemble_all<'a, E: ByteOut + Drop>(
+    alloc: Global,
+    sources: &[Source<'a>],
+    errors: &mut Outlet<E>,
+) -> Result<Option<Vec<Program<'a>>>, Failure> {
+    let mut programs = Vec::new(alloc);
+    let mut are_right = true;
+    for source in sources {
+        match assemble_source(alloc, source)? {
+            Assembled::Program(program) => programs.push(program)?,
+            Assembled::Fault(text) => {
+                errors.write(text.as_slice())?;
+                are_right = false;
+            }
+        }
+    }
+    Ok(if are_right { Some(programs) } else { None })
+}
+
+/// Why a program cannot be logged in.
+fn refusal_text(refusal: RefusedEvent) -> &'static str {
+    match refusal {
+        RefusedEvent::NoCore => "it takes more blocks of core than are free",
+        RefusedEvent::BadImage => "it has no words",
+        RefusedEvent::NoLine => "there is no terminal line for it",
+        RefusedEvent::LineBusy => "its terminal line is taken",
+        RefusedEvent::NoJobNumber => "all job numbers are taken",
+        RefusedEvent::NoSuchJob => "there is no such job",
+        RefusedEvent::NotStopped => "it runs already",
+        RefusedEvent::Full => "its terminal line is full",
+    }
+}
+
+/// Logs a job in at a line, and starts it; gives its number, or why it is refused.
+fn log_in(machine: &mut Machine, line: u8, image: &Image) -> Result<u8, RefusedEvent> {
+    match machine.event(&Event::Login(line, image)) {
+        Answer::JobNumber(number) => {
+            machine.event(&Event::Start(number));
+            Ok(number)
+        }
+        Answer::Refused(refusal) => Err(refusal),
+        _ => Err(RefusedEvent::NoJobNumber),
+    }
+}
+
+/// Logs all programs in, at lines from 0 on; none where one is refused, which is told.
+fn log_in_all<'a, E: ByteOut + Drop>(
+    alloc: Global,
+    machine: &mut Machine,
+    programs: Vec<Program<'a>>,
+    errors: &mut Outlet<E>,
+) -> Result<Option<Vec<RunningJob<'a>>>, Failure> {
+    let is_numbered = programs.len() > 1;
+    let mut jobs = Vec::new(alloc);
+    let mut line = 0u8;
+    for program in programs {
+        let Program {
+            file,
+            image,
+            labels,
+        } = program;
+        let number = match log_in(machine, line, &image) {
+            Ok(number) => number,
+            Err(refusal) => {
+                let reason = refusal_text(refusal);
+                let text = format!(in alloc; "{file}: {reason}\n")?;
+                errors.write(text.as_str().as_bytes())?;
+                return Ok(None);
+            }
+        };
+        let start = Address::try_new(image.start).unwrap_or(Address::new(0));
+        jobs.push(RunningJob {
+            number,
+            file,
+            labels,
+            terminal: Terminal::new(line, is_numbered),
+            steps: 0,
+            last: start,
+            next: start,
+        })?;
+        line = line.saturating_add(1);
+    }
+    Ok(Some(jobs))
+}
+
+/// Says how each job stands, and gives the exit status.
+fn tell_ends<E: ByteOut + Drop>(
+    alloc: Global,
+    machine: &Machine,
+    jobs: &[RunningJob<'_>],
+    errors: &mut Outlet<E>,
+) -> Result<u8, Failure> {
+    let mut standings = Vec::new(alloc);
+    for job in jobs {
+        let standing = standing_of(machine, job.number);
+        let line = job.end_line(alloc, machine, standing)?;
+        errors.write(line.as_str().as_bytes())?;
+        standings.push(standing)?;
+    }
+    Ok(status_of(standings.as_slice()))
+}
+
+/// The size of a machine.
+fn config_of(blocks: u32, quantum: u8) -> Config
+    requires { IsSetup blocks quantum }
+{
+    Config::new(blocks, quantum).unwrap()
+}
+
+/// Assembles sources, runs a job for each of them, and says on `errors` what is wrong with a source
+/// or how each job ended. Gives the exit status.
+pub fn run_sources<R: ByteIn + Drop, W: ByteOut + Drop, E: ByteOut + Drop>(
+    alloc: Global,
+    asked: &Asked<'_>,
+    sources: &[Source<'_>],
+    reader: R,
+    writer: W,
+    errors: &mut Outlet<E>,
+) -> Result<u8, Failure>
+    requires reader_sound { R.has_failed reader ≡ false }
+    requires writer_sound { W.has_failed writer ≡ false }
+{
+    let Some(programs) = assemble_all(alloc, sources, errors)? else {
+        return Ok(REFUSED);
+    };
+    let mut machine = Machine::boot(alloc, config_of(asked.blocks, asked.quantum))?;
+    let Some(jobs) = log_in_all(alloc, &mut machine, programs, errors)? else {
+        return Ok(REFUSED);
+    };
+    let mut session = Session {
+        alloc,
+        machine,
+        jobs,
+        input: Input::new(alloc, reader)?,
+        output: Outlet::new(writer),
+        text: Vec::new(alloc),
+        line: 0,
+        typed: 0,
+        is_awaited: false,
+    };
+    let ran = session.run(asked.steps);
+    if !session.output.is_line_whole() {
+        errors.write(b"\n")?;
+    }
+    let status = tell_ends(alloc, &session.machine, session.jobs.as_slice(), errors)?;
+    ran?;
+    Ok(status)
+}

@@ -1,0 +1,28 @@
+//! What `--help` and `--version` say.
+
+/// The version of the program.
+pub const VERSION: &str = "0.1.0";
+
+/// The program.
+pub const PROGRAM: &str =
+    "Assembles programs in a subset of MACRO-10 and runs them on a DECsystem-10 (KA10), a job each.";
+
+/// How the program is called.
+pub const PROGRAM_END: &str = "As in:  ten examples/counter.mac\n\
+    Lines of standard input are typed at line 0; with several files, those that begin with n: at line n.\n\
+    What jobs type out goes to standard output, how each ended to standard error.\n\
+    Status: 0 all jobs ended by EXIT, LOGOUT or HALT, 1 a source was refused or a job ended otherwise,\n\
+    2 wrong words, 3 reading, writing or memory failed.";
+
+/// `--blocks`.
+pub const BLOCKS: &str = "blocks of core of 1024 words that the jobs share, 1 to 256 [default: 64]";
+
+/// `--quantum`.
+pub const QUANTUM: &str =
+    "ticks for which a job runs before the next has its turn, 1 to 60 [default: 1]";
+
+/// `--steps`.
+pub const STEPS: &str = "ends the run after so many steps";
+
+/// `FILE`.
+pub const FILES: &str = "sources, 1 to 16: job n runs the n-th of them, at terminal line n - 1";
