@@ -1,5 +1,5 @@
 -- Lists: their elements, their pairs, and lists with some elements left out.
-use Rattle.std.proofs.Common.{◌≡◌, ◌≤◌, ◌+◌, ◌∙◌, sym, ap, subst, ℕ, Bool, true, false, cond, List, [], ◌∷◌, ◌++◌, length, map, filter, flat_map, sum_by, ◌⊎◌, inl, inr, refl, arith}
+use Rattle.std.proofs.Common.{◌≡◌, ◌≤◌, ◌<◌, ◌+◌, ◌&&◌, ◌∙◌, sym, ap, subst, ℕ, zero, suc, add-one, drop, get_or, Bool, true, false, cond, List, [], ◌∷◌, ◌++◌, length, map, filter, flat_map, sum_by, ◌⊎◌, inl, inr, refl, arith}
 use Rattle.std.specs.List.{list_all, list_any}
 use Rattle.std.proofs.lemmas.Grind.{common_steps}
 
@@ -59,6 +59,27 @@ module _ {X : Type 0} where
   list_all-Has p (z ∷ xs) x t (inl e) = grind (arith, common_steps, ap p e)
   list_all-Has p (z ∷ xs) x t (inr h) =
       let rest : list_all p xs ≡ true = grind (arith, common_steps) in list_all-Has p xs x rest h
+
+  -- an element that passes is left out of what is asked of those that a filter keeps
+  pub all-passed : (p q : X → Bool) (xs : List X) (i : ℕ) (x : X) → i < length xs → x ≡ get_or xs i x → p x ≡ true
+      → list_all p (filter q (drop i xs)) ≡ list_all p (filter q (drop (i + 1) xs))
+  all-passed p q [] i x lt is t = absurd (omega arith)
+  all-passed p q (y ∷ ys) zero x lt is t = go (q y)
+    where
+      go : (b : Bool) → list_all p (cond b (y ∷ filter q ys) (filter q ys)) ≡ list_all p (filter q ys)
+      go true = ap (λ b. b && list_all p (filter q ys)) (ap p (sym is) ∙ t)
+      go false = refl
+  all-passed p q (y ∷ ys) (suc i) x lt is t =
+      rw (add-one (suc i)) (all-passed p q ys i x (omega arith) is t ∙ rw (add-one i) refl)
+
+  -- so is one that the filter does not keep
+  pub all-skipped : (p q : X → Bool) (xs : List X) (i : ℕ) (x : X) → i < length xs → x ≡ get_or xs i x → q x ≡ false
+      → list_all p (filter q (drop i xs)) ≡ list_all p (filter q (drop (i + 1) xs))
+  all-skipped p q [] i x lt is t = absurd (omega arith)
+  all-skipped p q (y ∷ ys) zero x lt is t =
+      ap (λ b. list_all p (cond b (y ∷ filter q ys) (filter q ys))) (ap q (sym is) ∙ t)
+  all-skipped p q (y ∷ ys) (suc i) x lt is t =
+      rw (add-one (suc i)) (all-skipped p q ys i x (omega arith) is t ∙ rw (add-one i) refl)
 
   pub list_all-each : (p : X → Bool) (xs : List X) → ((x : X) → Has xs x → p x ≡ true) → list_all p xs ≡ true
   list_all-each p [] f = refl

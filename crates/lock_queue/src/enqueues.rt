@@ -26,13 +26,14 @@ fn is_alike(v: &Want, w: &Want) -> bool
     v.level == w.level && is_same_pool_size(v.pool, w.pool)
 }
 
-/// Whether these wants of a want's key have its level and its pool's size.
+/// Whether these wants of a want's key have its level and its pool's size. Most wants have them,
+/// whatever their key, so keys are compared last.
 pub fn are_alike_in(wants: &[Want], w: &Want) -> bool
     ensures { result ≡ list_all (λ v. are_alike v w.now)
         (filter (λ v. same_key v.key w.now.key) wants.now) }
 {
     for v in wants {
-        if v.key == w.key && !is_alike(v, w) {
+        if !is_alike(v, w) && v.key.is_same(&w.key) {
             return false;
         }
     }
