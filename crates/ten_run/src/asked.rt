@@ -13,6 +13,10 @@ pub struct Asked<'a> {
     pub quantum: u8,
     /// After so many steps the run ends.
     pub steps: u64,
+    /// Whether each step is told.
+    pub trace: bool,
+    /// Whether each lock call and grant is told.
+    pub locks: bool,
     /// The names of the sources' files, 1 to 16.
     pub files: Vec<&'a str>,
     ghost right: { IsSetup blocks quantum },

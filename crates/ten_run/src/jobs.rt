@@ -1,6 +1,7 @@
 //! The jobs of a run.
 
 use crate::labels::{Label, Spot};
+use crate::snapshot::Snapshot;
 use crate::standing::Standing;
 use crate::terminal::Terminal;
 use crate::waits::lock_wait;
@@ -32,6 +33,10 @@ pub struct RunningJob<'a> {
     pub last: Address,
     /// Where it is now.
     pub next: Address,
+    /// The highest place of its program.
+    pub highest: u32,
+    /// What it does next, where that is told.
+    pub before: Option<Snapshot>,
 }
 
 /// How a job stands.
@@ -46,7 +51,7 @@ pub fn standing_of(machine: &Machine, number: u8) -> Standing {
 }
 
 /// Why a job is stopped.
-fn stop_text(stop: Stop) -> &'static str {
+pub fn stop_text(stop: Stop) -> &'static str {
     match stop {
         Stop::Loaded => "not started",
         Stop::Exit => "EXIT",

@@ -6,6 +6,7 @@ use crate::asked::Asked;
 use crate::failure::Failure;
 use crate::input::Input;
 use crate::jobs::{Machine, RunningJob, standing_of};
+use crate::notes::Notes;
 use crate::outlet::Outlet;
 use crate::session::Session;
 use crate::sources::{Assembled, Program, Source, assemble_source};
@@ -98,6 +99,8 @@ fn log_in_all<'a, E: ByteOut + Drop>(
             steps: 0,
             last: start,
             next: start,
+            highest: image.words.as_slice().last().map_or(0, |word| word.0),
+            before: None,
         })?;
         line = line.saturating_add(1);
     }
@@ -158,8 +161,11 @@ pub fn run_sources<R: ByteIn + Drop, W: ByteOut + Drop, E: ByteOut + Drop>(
         line: 0,
         typed: 0,
         is_awaited: false,
+        ticks: 0,
+        notes: Notes::new(alloc, asked.trace, asked.locks),
     };
-    let ran = session.run(asked.steps);
+    session.look_at_all();
+    let ran = session.run(asked.steps, errors);
     if !session.output.is_line_whole() {
         errors.write(b"\n")?;
     }

@@ -3,6 +3,7 @@
 use crate::failure::Failure;
 use crate::input::Input;
 use crate::jobs::{Machine, RunningJob};
+use crate::notes::Notes;
 use crate::outlet::Outlet;
 use crate::typing::target_of;
 use job_sched::Wait;
@@ -39,6 +40,10 @@ pub struct Session<'a, R: ByteIn + Drop, W: ByteOut + Drop> {
     pub typed: usize,
     /// Whether a job may wait for characters.
     pub is_awaited: bool,
+    /// How many ticks went by.
+    pub ticks: u64,
+    /// What is told of the run while it goes on.
+    pub notes: Notes,
 }
 
 /// Types a byte at a line; false where there is no room for it. A byte that is no character is left
@@ -72,10 +77,21 @@ fn sleeps(machine: &Machine, number: u8) -> bool {
 }
 
 impl<R: ByteIn + Drop, W: ByteOut + Drop> Session<'_, R, W> {
-    /// Makes at most so many steps, until no job goes on.
-    pub fn run(&mut self, most: u64) -> Result<(), Failure> {
+    /// Looks at all jobs, of which none has run.
+    pub fn look_at_all(&mut self) {
+        for job in self.jobs.as_mut_slice().iter_mut() {
+            job.before = self.notes.look(&self.machine, job);
+        }
+    }
+
+    /// Makes at most so many steps, until no job goes on; what is told of them goes to `errors`.
+    pub fn run<E: ByteOut + Drop>(
+        &mut self,
+        most: u64,
+        errors: &mut Outlet<E>,
+    ) -> Result<(), Failure> {
         for _ in 0..most {
-            if !self.round()? {
+            if !self.round(errors)? {
                 break;
             }
         }
@@ -83,10 +99,13 @@ impl<R: ByteIn + Drop, W: ByteOut + Drop> Session<'_, R, W> {
     }
 
     /// Makes a step, with a tick behind it; false where no job can go on.
-    fn round(&mut self) -> Result<bool, Failure> {
+    fn round<E: ByteOut + Drop>(&mut self, errors: &mut Outlet<E>) -> Result<bool, Failure> {
         self.type_awaited()?;
         match self.machine.event(&ROUND[0]) {
-            Answer::Ran(number) => self.note_step(number)?,
+            Answer::Ran(number) => {
+                self.note_step(number)?;
+                self.tell_step(number, errors)?;
+            }
             _ => {
                 if !self.can_go_on() {
                     return Ok(false);
@@ -94,7 +113,24 @@ impl<R: ByteIn + Drop, W: ByteOut + Drop> Session<'_, R, W> {
             }
         }
         self.machine.event(&ROUND[1]);
+        self.ticks = self.ticks.saturating_add(1);
         Ok(true)
+    }
+
+    /// Tells of a job's step, and looks at what it does next.
+    fn tell_step<E: ByteOut + Drop>(
+        &mut self,
+        number: u8,
+        errors: &mut Outlet<E>,
+    ) -> Result<(), Failure> {
+        let Some(job) = self.jobs.get_mut(usize::from(number).saturating_sub(1)) else {
+            return Ok(());
+        };
+        let tick = self.ticks;
+        self.notes
+            .tell(self.alloc, &self.machine, tick, job, errors)?;
+        job.before = self.notes.look(&self.machine, job);
+        Ok(())
     }
 
     /// A job ran: counts the step, and writes what it typed out.

@@ -24,5 +24,11 @@ pub const QUANTUM: &str =
 /// `--steps`.
 pub const STEPS: &str = "ends the run after so many steps";
 
+/// `--trace`.
+pub const TRACE: &str = "tells each step on standard error: job, place, instruction, what changed";
+
+/// `--locks`.
+pub const LOCKS: &str = "tells each ENQ., DEQ., ENQC. and grant on standard error";
+
 /// `FILE`.
 pub const FILES: &str = "sources, 1 to 16: job n runs the n-th of them, at terminal line n - 1";

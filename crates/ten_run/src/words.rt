@@ -50,7 +50,9 @@ fn make_command<'a>(alloc: Global) -> Result<Command<'a>, AllocError> {
     let with_blocks = top.arg(make_option(alloc, "blocks", texts::BLOCKS))?;
     let with_quantum = with_blocks.arg(make_option(alloc, "quantum", texts::QUANTUM))?;
     let with_steps = with_quantum.arg(make_option(alloc, "steps", texts::STEPS))?;
-    with_steps.arg(
+    let with_trace = with_steps.arg(make_flag(alloc, "trace", texts::TRACE))?;
+    let with_locks = with_trace.arg(make_flag(alloc, "locks", texts::LOCKS))?;
+    with_locks.arg(
         Arg::new(alloc, "FILE")
             .help(texts::FILES)
             .required(true)
@@ -62,6 +64,14 @@ fn make_command<'a>(alloc: Global) -> Result<Command<'a>, AllocError> {
 /// An option with a number.
 fn make_option<'a>(alloc: Global, name: &'a str, help: &'a str) -> Arg<'a> {
     Arg::new(alloc, name).long(name).value_name("N").help(help)
+}
+
+/// An option that is there or not.
+fn make_flag<'a>(alloc: Global, name: &'a str, help: &'a str) -> Arg<'a> {
+    Arg::new(alloc, name)
+        .long(name)
+        .help(help)
+        .action(ArgAction::SetTrue)
 }
 
 /// Why what was asked for is not to be had.
@@ -115,6 +125,8 @@ fn read<'a>(alloc: Global, matches: &ArgMatches<'a>) -> Result<Asked<'a>, Wrong<
         blocks: blocks as u32,
         quantum: quantum as u8,
         steps,
+        trace: matches.get_flag("trace"),
+        locks: matches.get_flag("locks"),
         files,
     })
 }

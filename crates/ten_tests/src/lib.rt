@@ -1,0 +1,17 @@
+//! Tests of programs that are run in one command, over ports in memory.
+#![tactic(auto)]
+
+#[cfg(test)]
+mod labels;
+#[cfg(test)]
+mod notes;
+#[cfg(test)]
+mod ports;
+#[cfg(test)]
+mod programs;
+#[cfg(test)]
+mod rows;
+#[cfg(test)]
+mod runs;
+#[cfg(test)]
+mod wrong_words;

@@ -1,0 +1,63 @@
+//! Sources of the tests.
+
+/// Says hello.
+pub const HELLO: &str = " OUTSTR [ASCIZ /HELLO/]\n OUTCHR [12]\n EXIT\n END\n";
+
+/// Puts out each character that is typed, and ends at a full stop.
+pub const ECHO: &str = "\
+READ:   INCHRW  1
+        OUTCHR  1
+        CAIE    1,56
+        JRST    READ
+        EXIT
+        END     READ
+";
+
+/// Asks for a name, reads a line and answers.
+pub const NAME: &str = "\
+        OUTSTR  [ASCIZ /NAME? /]
+        MOVE    2,[POINT 7,NAME]
+READ:   INCHWL  1
+        CAIN    1,12
+        JRST    SAY
+        IDPB    1,2
+        JRST    READ
+SAY:    MOVEI   1,0
+        IDPB    1,2
+        OUTSTR  [ASCIZ /HELLO /]
+        OUTSTR  NAME
+        OUTCHR  [12]
+        EXIT
+NAME:   BLOCK   10
+        END     140
+";
+
+/// Takes the lock X, and halts with it.
+pub const HOLDER: &str = "\
+        MOVE    1,[BLK]
+        ENQ.    1,
+        EXIT
+STOP:   HALT
+BLK:    1,,5
+        0,,7
+        777777
+        POINT   7,[ASCIZ /X/]
+        0
+        END     140
+";
+
+/// Sleeps for a second, and then takes the lock X.
+pub const WAITER: &str = "\
+        MOVEI   1,1
+        SLEEP   1,
+TAKE:   MOVE    1,[BLK]
+        ENQ.    1,
+        HALT
+        EXIT
+BLK:    1,,5
+        0,,3
+        777777
+        POINT   7,[ASCIZ /X/]
+        0
+        END     140
+";
