@@ -16,6 +16,12 @@ fn main(rt: HostRuntime) -> ExitCode {
     };
     let mut reader = HostIn::new(rt.stdin());
     let mut writer = HostOut::new(rt.stdout());
-    let status = program(alloc, words.as_slice(), &mut reader, &mut writer, &mut errors);
+    let status = program(
+        alloc,
+        words.as_slice(),
+        &mut reader,
+        &mut writer,
+        &mut errors,
+    );
     ExitCode::from(status)
 }
