@@ -7,3 +7,5 @@ mod alike;
 mod generated;
 #[cfg(test)]
 mod steps;
+#[cfg(test)]
+mod worked;
