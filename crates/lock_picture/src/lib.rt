@@ -23,7 +23,7 @@ pub use drawing::Drawing;
 pub use graph::{Graph, Wait};
 pub use holds::{Hold, holds_in};
 pub use lanes::Lane;
-pub use scripts::{MOST_LINES, ScriptError, Watched, draw_script};
+pub use scripts::{MOST_LINES, ScriptError, SourceFault, Watched, draw_run_script, draw_script};
 pub use serving::{DONE, FAILED, REFUSED, USAGE, program, unread_words};
 pub use svg::AsSvg;
 pub use text::AsText;

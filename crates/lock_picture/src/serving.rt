@@ -1,11 +1,11 @@
 //! The whole program over any ports.
 ghost use Rattle.std.specs.Prelude.{◌≡◌, false};
 
-use crate::scripts::{MOST_LINES, ScriptError, draw_script};
+use crate::scripts::{MOST_LINES, ScriptError, SourceFault, draw_run_script, draw_script};
 use crate::svg::AsSvg;
 use crate::text::AsText;
 use crate::words::{Asked, Refusal, read_words};
-use fault_text::{Refused, explain};
+use fault_text::{NO_ENDASM, Refused, explain};
 use queue_script::{ByteIn, ByteOut, Parts, write_all};
 use std::alloc::{AllocError, Global};
 use std::convert::AsStr;
@@ -64,7 +64,11 @@ fn read_script<R: ByteIn>(alloc: Global, reader: &mut R) -> Result<Vec<u8>, Fail
 
 /// The picture of a script.
 fn picture_of(alloc: Global, script: &[u8], wanted: Asked) -> Result<String, ScriptError> {
-    let drawing = draw_script(alloc, script, wanted.at)?;
+    let drawing = if wanted.run {
+        draw_run_script(alloc, script, wanted.at)?
+    } else {
+        draw_script(alloc, script, wanted.at)?
+    };
     if wanted.text {
         let text = AsText(&drawing);
         Ok(format!(in alloc; "{text}")?)
@@ -87,13 +91,49 @@ fn line_at(script: &[u8], number: usize) -> &[u8] {
     }
 }
 
+/// What is wrong with a line of a script.
+fn line_text(
+    alloc: Global,
+    wanted: Asked,
+    script: &[u8],
+    number: usize,
+) -> Result<String, AllocError> {
+    let language = if wanted.run {
+        Refused::Run
+    } else {
+        Refused::Queue
+    };
+    let text = explain(alloc, language, line_at(script, number))?;
+    format!(in alloc; "lockview: line {number}: {text}\n")
+}
+
+/// What is wrong with a line of a source.
+fn source_text(alloc: Global, script: &[u8], fault: SourceFault) -> Result<String, AllocError> {
+    let line = fault.line;
+    let whole = fault.begins.saturating_add(line);
+    let refused = if line == 0 {
+        b""
+    } else {
+        line_at(script, whole)
+    };
+    let text = explain(alloc, Refused::Asm(fault.code), refused)?;
+    format!(in alloc; "lockview: line {whole}, line {line} of its source: {text}\n")
+}
+
 /// Says why a script is not drawn.
-fn reason_of(alloc: Global, script: &[u8], error: ScriptError) -> Result<String, AllocError> {
+fn reason_of(
+    alloc: Global,
+    wanted: Asked,
+    script: &[u8],
+    error: ScriptError,
+) -> Result<String, AllocError> {
     match error {
         ScriptError::Memory => String::from_str(alloc, "lockview: memory\n"),
-        ScriptError::Line(number) => {
-            let text = explain(alloc, Refused::Queue, line_at(script, number))?;
-            format!(in alloc; "lockview: line {number}: {text}\n")
+        ScriptError::Line(number) => line_text(alloc, wanted, script, number),
+        ScriptError::Source(fault) => source_text(alloc, script, fault),
+        ScriptError::NoEnd(lines) => {
+            let number = lines.saturating_add(1);
+            format!(in alloc; "lockview: line {number}: {NO_ENDASM}\n")
         }
         ScriptError::TooLong => {
             format!(in alloc; "lockview: the script has more than {MOST_LINES} lines\n")
@@ -109,7 +149,10 @@ fn reason_of(alloc: Global, script: &[u8], error: ScriptError) -> Result<String,
 fn status_of(error: ScriptError) -> u8 {
     match error {
         ScriptError::Memory => FAILED,
-        ScriptError::Line(_) | ScriptError::TooLong => REFUSED,
+        ScriptError::Line(_)
+        | ScriptError::Source(_)
+        | ScriptError::NoEnd(_)
+        | ScriptError::TooLong => REFUSED,
         ScriptError::Short(_) => USAGE,
     }
 }
@@ -137,22 +180,28 @@ fn draw<R: ByteIn, W: ByteOut, E: ByteOut>(
     let script = match read_script(alloc, reader) {
         Ok(script) => script,
         Err(Failure::Read) => return told(errors, b"lockview: read\n", FAILED),
-        Err(Failure::Script(error)) => return refused(alloc, b"", error, errors),
+        Err(Failure::Script(error)) => return refused(alloc, wanted, b"", error, errors),
     };
     match picture_of(alloc, script.as_slice(), wanted) {
         Ok(picture) => match write_all(writer, picture.as_str().as_bytes()) {
             Ok(()) => DONE,
             Err(_) => told(errors, b"lockview: write\n", FAILED),
         },
-        Err(error) => refused(alloc, script.as_slice(), error, errors),
+        Err(error) => refused(alloc, wanted, script.as_slice(), error, errors),
     }
 }
 
 /// Says why a script is not drawn, and gives the exit status.
-fn refused<E: ByteOut>(alloc: Global, script: &[u8], error: ScriptError, errors: &mut E) -> u8
+fn refused<E: ByteOut>(
+    alloc: Global,
+    wanted: Asked,
+    script: &[u8],
+    error: ScriptError,
+    errors: &mut E,
+) -> u8
     requires { E.has_failed errors.old ≡ false }
 {
-    match reason_of(alloc, script, error) {
+    match reason_of(alloc, wanted, script, error) {
         Ok(text) => told(errors, text.as_str().as_bytes(), status_of(error)),
         Err(_) => told(errors, b"lockview: memory\n", FAILED),
     }

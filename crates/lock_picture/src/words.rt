@@ -12,6 +12,8 @@ const MOST_AT: u64 = 1_000_000;
 /// What the program is asked for.
 #[derive(Clone, Copy, Debug)]
 pub struct Asked {
+    /// Whether the script is one of `lockmon run`.
+    pub run: bool,
     /// Whether the picture is written as text.
     pub text: bool,
     /// The line after which the waits are drawn, where it is not the last.
@@ -28,7 +30,7 @@ pub enum Refusal {
 }
 
 const ABOUT: &str =
-    "Draws who holds which lock and who waits for whom along a script of `lockmon queue`.";
+    "Draws who holds which lock and who waits for whom along a script of `lockmon`.";
 
 const END: &str = "Reads the script from standard input and writes the picture, as in:\n\
     lockview < examples/circle_of_waits.queue > circle.svg\n\
@@ -40,6 +42,10 @@ fn make_command<'a>(alloc: Global) -> Result<Command<'a>, AllocError> {
         .long("text")
         .help("write the picture as text for a terminal, and not as SVG")
         .action(ArgAction::SetTrue);
+    let run = Arg::new(alloc, "run")
+        .long("run")
+        .help("draw a script of `lockmon run`, and not of `lockmon queue`")
+        .action(ArgAction::SetTrue);
     let at = Arg::new(alloc, "at").long("at").value_name("N").help(
         "draw the waits after line N of the script, and not after its last",
     );
@@ -47,7 +53,8 @@ fn make_command<'a>(alloc: Global) -> Result<Command<'a>, AllocError> {
         .about(ABOUT)
         .after_help(END)
         .version("0.1.0");
-    let with_text = top.arg(text)?;
+    let with_run = top.arg(run)?;
+    let with_text = with_run.arg(text)?;
     with_text.arg(at)
 }
 
@@ -78,10 +85,16 @@ pub fn read_words<S: AsStr>(alloc: Global, words: &[S]) -> Result<Asked, Refusal
         Ok(matches) => matches,
         Err(error) => return Err(refusal_of(error)),
     };
+    let run = matches.get_flag("run");
     let text = matches.get_flag("text");
     match line_of(&matches) {
-        None => Ok(Asked { text, at: None }),
+        None => Ok(Asked {
+            run,
+            text,
+            at: None,
+        }),
         Some(Some(line)) => Ok(Asked {
+            run,
             text,
             at: Some(line),
         }),

@@ -56,6 +56,8 @@ impl<L: LockTable, C: CoreStore> Model for Parts<L, C> {
 /// Rounds that were made, and in how many of them a job ran.
 #[derive(Clone, Copy, Debug, PartialEq, Eq)]
 pub struct Rounds {
+    /// The job that ran, if one was ready.
+    pub job: Option<u8>,
     /// How many were made.
     pub made: u32,
     /// In how many of them a job ran.
@@ -63,7 +65,11 @@ pub struct Rounds {
 }
 
 /// A round in which no job is ready.
-const IDLE_ROUND: Rounds = Rounds { made: 1, ran: 0 };
+const IDLE_ROUND: Rounds = Rounds {
+    job: None,
+    made: 1,
+    ran: 0,
+};
 
 /// Why a job can not start or go on, as the event says it.
 fn refusal_of(error: JobError) -> RefusedEvent
@@ -103,21 +109,7 @@ impl<L: LockTable, C: CoreStore> Parts<L, C> {
         ensures state { self.new ≡ (stepped self.old (next_job self.old.world.table self.old.world.lines self.old.world.requests)).state }
         ensures job { result ≡ next_job self.old.world.table self.old.world.lines self.old.world.requests }
     {
-        let n = self.table.next(&self.lines, &self.locks)?;
-        self.table.choose(n, self.quantum);
-        run_job(
-            n,
-            1,
-            false,
-            self.quantum,
-            &mut self.table,
-            &mut self.lines,
-            &mut self.locks,
-            &mut self.cores,
-            &mut self.shared,
-            &mut self.time,
-        );
-        Some(n)
+        self.run_next(1, false).job
     }
 
     /// The job that is next runs for some rounds, each a step with a tick behind it where `ticking`,
@@ -127,6 +119,7 @@ impl<L: LockTable, C: CoreStore> Parts<L, C> {
         requires safe { Safe self.old }
         requires some { 1 ≤ most }
         ensures state { ticked_if ticking self.new ≡ after (rounds result.made ticking) self.old }
+        ensures job { result.job ≡ next_job self.old.world.table self.old.world.lines self.old.world.requests }
         ensures count { result.ran ≡ runs_in (answers (rounds result.made ticking) self.old) }
         ensures least { 1 ≤ result.made }
         ensures most { result.made ≤ most }
@@ -150,7 +143,11 @@ impl<L: LockTable, C: CoreStore> Parts<L, C> {
             &mut self.shared,
             &mut self.time,
         );
-        Rounds { made, ran: made }
+        Rounds {
+            job: Some(n),
+            made,
+            ran: made,
+        }
     }
 
     /// Some rounds, at least one: steps, each with a tick behind it where `ticking`.

@@ -2,7 +2,7 @@
 
 use crate::rows::{MANY, Row, answers};
 
-const ROWS: [Row; 7] = [
+const ROWS: [Row; 8] = [
     // Two jobs wait for one another, and one gives up.
     Row {
         words: &["lockview", "--text", "--at", "4"],
@@ -171,6 +171,42 @@ job 31  X  ...........#
 
 After line 12:
   nobody waits
+",
+        told: "",
+    },
+    // Two programs on the machine want one lock, and the first is taken away.
+    Row {
+        words: &["lockview", "--text", "--run", "--at", "17"],
+        script: "ASSEMBLE P
+ MOVE 1,[A]
+ ENQ. 1,
+ HALT
+ EXIT
+A: 1,,5
+ 0,,1
+ 777777
+ POINT 7,[ASCIZ /A/]
+ 0
+ END 140
+ENDASM
+LOGIN 0 P
+LOGIN 1 P
+START 1
+START 2
+RUN 4
+KILL 1
+",
+        calls: (MANY, MANY),
+        status: 0,
+        written: "line               10
+           123456789012345678
+job 1   A  ................#.
+job 2   A  ................/*
+
+# owns  / waits  * is granted  . has no request
+
+After line 17:
+  job 2 waits for job 1, hard
 ",
         told: "",
     },

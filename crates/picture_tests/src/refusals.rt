@@ -4,6 +4,8 @@ use crate::rows::{MANY, Row, answers};
 
 const TEXT: &[&str] = &["lockview", "--text"];
 
+const RUN: &[&str] = &["lockview", "--run"];
+
 const AT_NINE: &[&str] = &["lockview", "--at", "9"];
 
 const AT_NONE: &[&str] = &["lockview", "--at", "0"];
@@ -56,6 +58,27 @@ fn refusals(rt: HostRuntime) {
             2,
             "error: invalid value for '--at <N>': the number of a line of the script, 1 or more, is wanted\n\n\
             Usage: lockview [OPTIONS]\n\nFor more information, try '--help'.\n",
+        ),
+        row_of(
+            RUN,
+            "TICK 1\nLOGIN 2 B\n",
+            (MANY, MANY),
+            1,
+            "lockview: line 2: column 9: \"B\" is the name of no image: ASSEMBLE makes one\n",
+        ),
+        row_of(
+            RUN,
+            "ASSEMBLE A\n EXIT\n END\nENDASM\nASSEMBLE B\n EXIT\n JRST X\n END\nENDASM\n",
+            (MANY, MANY),
+            1,
+            "lockview: line 7, line 2 of its source: \"X\" is not defined\n",
+        ),
+        row_of(
+            RUN,
+            "ASSEMBLE A\n EXIT\n END\n",
+            (MANY, MANY),
+            1,
+            "lockview: line 4: the input ends before ENDASM\n",
         ),
         row_of(TEXT, "SHOW\n", (0, MANY), 3, "lockview: read\n"),
         row_of(TEXT, "SHOW\n", (MANY, 0), 3, "lockview: write\n"),

@@ -1,5 +1,5 @@
 -- Lemmas on labels before a place.
-use Rattle.std.proofs.Common.{◌≡◌, ◌≤◌, ◌<◌, ◌+◌, ℕ, List, All, arith, nat_le}
+use Rattle.std.proofs.Common.{◌≤◌, ◌<◌, ℕ, List, All, arith}
 use Rattle.std.proofs.lemmas.Bool.Decides.{nat_tests}
 use Rattle.std.proofs.lemmas.List.Elements.{All-weaker}
 use Rattle.ten_run.specs.Labels.{reach}

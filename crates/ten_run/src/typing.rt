@@ -1,5 +1,5 @@
 //! Where a line of the input is typed.
-ghost use Rattle.std.specs.Prelude.{◌≡◌, ◌<◌, ◌≤◌, ◌-◌, length, position, IfSome, Some};
+ghost use Rattle.std.specs.Prelude.{◌≡◌, ◌<◌, length, position, IfSome};
 ghost use Rattle.ten_run.specs.Typing.{is_colon, line_number, line_for, text_for};
 
 use queue_script::number;

@@ -50,6 +50,7 @@ returns g c =
     let x = rounds-made s c.in-Some.n c.span-span.result c.args.ticking _ _ c.run_job-made.result safe (sym c.next.ensures ∙ c.in-Some.is) c.span-span.ensures.least alone is in
     record {
       state = rw (← c.self.view_is) x.state;
+      job = rw (← c.self.view_is) (sym c.in-Some.is ∙ c.next.ensures);
       count = rw (← c.self.view_is) x.count;
       least = x.least;
       most = omega (arith, x.most, c.span-span.ensures.most);
