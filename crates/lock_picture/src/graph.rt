@@ -1,5 +1,5 @@
 //! Who waits for whom.
-ghost use Rattle.std.specs.Prelude.{◌≡◌, ◌<◌, IfOk};
+ghost use Rattle.std.specs.Prelude.{IfOk};
 ghost use Rattle.lock_queue.specs.Jobs.{waits_for};
 ghost use Rattle.lock_queue.specs.Waits.{waits_hard_for};
 ghost use Rattle.queue_script.specs.WaitPairs.{pair_in};
