@@ -1,7 +1,8 @@
 #!/usr/bin/env bash
 # Whether the pictures that `lockview` writes of the stored queue scripts, and of one in which all jobs wait, are
 # well-formed, by a parser of XML; that the pictures in examples/ are those of today; and, where rsvg-convert is
-# installed, that they can be painted. Build the program first (rt run in crates/lockview).
+# installed, that they can be painted; SHOT=FILE.png has a headless Chromium paint one. Build the program first
+# (rt run in crates/lockview).
 set -eu
 cd "$(dirname "$0")/.."
 program=${1:-crates/lockview/out/lockview}
@@ -24,4 +25,7 @@ draw circle --at 13 <examples/circle_of_waits.queue
 cmp "$work/circle.svg" examples/circle_of_waits.svg
 draw drives --at 7 <examples/tape_drives.queue
 cmp "$work/drives.svg" examples/tape_drives.svg
+if [ -n "${SHOT-}" ]; then
+    chromium --headless --no-sandbox --disable-gpu --window-size=900,420 --screenshot="$SHOT" "file://$work/circle.svg" 2>/dev/null
+fi
 echo "all well-formed"
