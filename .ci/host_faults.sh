@@ -24,13 +24,13 @@ expect() {
 }
 
 export program folder
-printf 'ENQ 1 1 1 X\n%.0s' {1..2000} >"$folder/long.queue"
 printf 'SHOW\n' >"$folder/short.queue"
 
 [ ! -c /dev/full ] || expect "a full device" 3 "lockmon: write" '"$program" queue <"$folder/short.queue" >/dev/full'
 expect "a closed output" 3 "lockmon: write" '"$program" queue <"$folder/short.queue" >&-'
+# The pipe is opened for both, then for writing, and then what could read it is closed.
 expect "a pipe that nobody reads" 3 "lockmon: write" \
-    'mkfifo "$folder/pipe"; (exec 3<"$folder/pipe") & "$program" queue <"$folder/long.queue" >"$folder/pipe"'
+    'mkfifo "$folder/pipe"; exec 3<>"$folder/pipe" 4>"$folder/pipe" 3>&-; "$program" queue <"$folder/short.queue" >&4 4>&-'
 expect "an input that is a folder" 3 "lockmon: read" '"$program" queue <"$folder"'
 expect "a closed input" 3 "lockmon: read" '"$program" run <&-'
 expect "words that are no text" 2 "" '"$program" "$(printf "\\377")" <"$folder/short.queue"'
