@@ -29,11 +29,6 @@ bars_told line bars told = map (grown line told) bars ++ flat_map (begun line (m
 abbrev pub bars_after : ℕ → List Bar → List Request → List Bar
 bars_after line bars requests = bars_told line bars (holds_of requests)
 
--- the bars along some lines, from a first one on: after each line these requests are present
-abbrev pub bars_along : ℕ → List Bar → List (List Request) → List Bar
-bars_along line bars [] = bars
-bars_along line bars (requests ∷ later) = bars_along (line + 1) (bars_after line bars requests) later
-
 -- two bars are of one lane: one job's, on one lock
 abbrev pub same_lane : Bar → Bar → Bool
 same_lane a b = a.hold.job == b.hold.job && same_key a.hold.key b.hold.key
