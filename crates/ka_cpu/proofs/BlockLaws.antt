@@ -9,7 +9,7 @@ use Rattle.ka_cpu.specs.Places.{is_legal}
 use Rattle.ka_cpu.specs.Effects.{a_of, next_pc}
 use Rattle.ka_cpu.specs.Blocks.{IsCopied, all_legal, blt_after, copied, word_count}
 use Rattle.ka_cpu.specs.declared.registers.Regs.{Regs}
-use Rattle.ka_cpu.specs.declared.instruction.Instruction.{Instruction}
+use Rattle.ka_cpu.specs.Instructions.{Instruction}
 use Rattle.ka_cpu.specs.declared.outcome.Outcome.TheVariants.{Done}
 use Rattle.ka_cpu.proofs.BlockLegal.{near}
 use Rattle.ka_cpu.proofs.BlockSteps.{moved_core}

@@ -17,9 +17,11 @@ use Rattle.ka_word.specs.Shifts.{ash_of, ash_overflows, lsh_of, lshc_of, rot_of,
 use Rattle.ka_cpu.specs.Bytes.{byte_after, with_pointer, behind_pointer, byte_done, byte_place, byte_effect, increments, loads}
 use Rattle.ka_cpu.specs.Effects.{After, Effect, Ending, Goes_on, Calls, Halts, Overruns, EndsAs, told, stopped, finished, applied, core_memory, ac_memory, ac_put, memory_legal, next_pc, next_ac, a_of, goes_on, goes_to, moved_to, moved_operand, computed_to}
 use Rattle.ka_cpu.specs.Exec.{op_of, ac_field, is_listed, row_of, carried_out, at_address, performed, word_performed, exec}
-use Rattle.ka_cpu.specs.Moves.{move_row, movs_row, movn_row, movm_row, exch_row, negates}
+use Rattle.ka_cpu.specs.Moves.{move_row, transferred, exch_row, negates}
+use Rattle.ka_cpu.specs.declared.moves.Transfer.{Transfer}
+use Rattle.ka_cpu.specs.declared.moves.Transfer.TheVariants.{Plain, Swapped, Negated, Magnitude}
 use Rattle.ka_cpu.specs.Halves.{half_row, destination}
-use Rattle.ka_cpu.specs.Arithmetic.{add_row, sub_row, imul_row, mul_row, idiv_row, to_next}
+use Rattle.ka_cpu.specs.Arithmetic.{add_row, added, imul_row, mul_row, idiv_row, to_next}
 use Rattle.ka_cpu.specs.Conditions.{compare_row, jump_row, skip_row}
 use Rattle.ka_cpu.specs.Booleans.{boolean_row}
 use Rattle.ka_cpu.specs.Tests.{test_row}
@@ -27,7 +29,7 @@ use Rattle.ka_cpu.specs.Shifts.{shift_row, pair_of, pair_effect}
 use Rattle.ka_cpu.specs.Jumps.{jffo_row, aobj_row, jrst_row, jfcl_row, jsr_row, jsp_row, jsa_row, jra_row, call_row, restored}
 use Rattle.ka_cpu.specs.Stacks.{pushj_row, push_row, pop_row, popj_row}
 use Rattle.ka_cpu.specs.Places.{word_at, ac_with, core_with, is_legal}
-use Rattle.ka_cpu.specs.declared.instruction.Instruction.{Instruction}
+use Rattle.ka_cpu.specs.Instructions.{Instruction}
 use Rattle.ka_cpu.specs.declared.outcome.CallKind.{CallKind}
 use Rattle.ka_cpu.specs.declared.outcome.CallKind.TheVariants as call
 use Rattle.ka_cpu.specs.declared.outcome.Outcome.{Outcome}
@@ -162,29 +164,17 @@ fair-stack g m a x f p false h = record { pc = h; ends = tt }
 below : (k : ℕ) → k % 2 ^ 18 < 2 ^ 18
 below k = omega arith
 
-fair-move : (g : Regs) (core : List ℕ) (n : Instruction) → FairRow g (move_row g core n)
-unfolding move_row
-fair-move g core n = fair-reading g _ _ (λ w. fair-ok g _ (fair-on g _ _ _ _ _))
-
-fair-movs : (g : Regs) (core : List ℕ) (n : Instruction) → FairRow g (movs_row g core n)
-unfolding movs_row
-fair-movs g core n = fair-reading g _ _ (λ w. fair-ok g _ (fair-on g _ _ _ _ _))
-
-fair-movn : (g : Regs) (core : List ℕ) (n : Instruction) → FairRow g (movn_row g core n)
-unfolding movn_row
-fair-movn g core n = fair-reading g _ _ (λ w. fair-ok g _ (fair-on g _ _ _ _ _))
-
 fair-exch : (g : Regs) (core : List ℕ) (n : Instruction) → FairRow g (exch_row g core n)
 unfolding exch_row
 fair-exch g core n = fair-reading g _ _ (λ w. fair-ok g _ (fair-on g _ _ _ _ _))
 
-fair-add : (g : Regs) (core : List ℕ) (n : Instruction) → FairRow g (add_row g core n)
-unfolding add_row
-fair-add g core n = fair-reading g _ _ (λ w. fair-ok g _ (fair-on g _ _ _ _ _))
+fair-added : (subtracts : Bool) (g : Regs) (n : Instruction) (m : ℕ) → Fair g (added subtracts g n m)
+fair-added true g n m = fair-on g _ _ _ _ _
+fair-added false g n m = fair-on g _ _ _ _ _
 
-fair-sub : (g : Regs) (core : List ℕ) (n : Instruction) → FairRow g (sub_row g core n)
-unfolding sub_row
-fair-sub g core n = fair-reading g _ _ (λ w. fair-ok g _ (fair-on g _ _ _ _ _))
+fair-add : (subtracts : Bool) (g : Regs) (core : List ℕ) (n : Instruction) → FairRow g (add_row subtracts g core n)
+unfolding add_row
+fair-add subtracts g core n = fair-reading g _ _ (λ m. fair-ok g _ (fair-added subtracts g n m))
 
 fair-imul : (g : Regs) (core : List ℕ) (n : Instruction) → FairRow g (imul_row g core n)
 unfolding imul_row
@@ -206,10 +196,15 @@ fair-compare : (g : Regs) (core : List ℕ) (n : Instruction) → FairRow g (com
 unfolding compare_row
 fair-compare g core n = fair-reading g _ _ (λ w. fair-ok g _ (fair-on g _ _ _ _ _))
 
-fair-movm : (g : Regs) (core : List ℕ) (n : Instruction) → FairRow g (movm_row g core n)
-unfolding movm_row
-fair-movm g core n =
-    fair-reading g _ _ (λ w. fair-ok g _ (fair-if g (is_negative w) (negates g n w) (moved_to g n w) (fair-on g _ _ _ _ _) (fair-on g _ _ _ _ _)))
+fair-transferred : (t : Transfer) (g : Regs) (n : Instruction) (w : ℕ) → Fair g (transferred t g n w)
+fair-transferred Plain g n w = fair-on g _ _ _ _ _
+fair-transferred Swapped g n w = fair-on g _ _ _ _ _
+fair-transferred Negated g n w = fair-on g _ _ _ _ _
+fair-transferred Magnitude g n w = fair-if g (is_negative w) (negates g n w) (moved_to g n w) (fair-on g _ _ _ _ _) (fair-on g _ _ _ _ _)
+
+fair-move : (t : Transfer) (g : Regs) (core : List ℕ) (n : Instruction) → FairRow g (move_row t g core n)
+unfolding move_row
+fair-move t g core n = fair-reading g _ _ (λ w. fair-ok g _ (fair-transferred t g n w))
 
 fair-idiv : (g : Regs) (core : List ℕ) (n : Instruction) → FairRow g (idiv_row g core n)
 unfolding idiv_row
@@ -313,10 +308,10 @@ fair-shift g n =
 
 fair-row : (f : Family) (g : Regs) (core : List ℕ) (n : Instruction) (used : Option ℕ) → n.ac < 16 → n.e < 2 ^ 18 → FairRow g (row_of f g core n used)
 unfolding FairRow
-fair-row Move g core n used k h = fair-move g core n
-fair-row Movs g core n used k h = fair-movs g core n
-fair-row Movn g core n used k h = fair-movn g core n
-fair-row Movm g core n used k h = fair-movm g core n
+fair-row Move g core n used k h = fair-move Plain g core n
+fair-row Movs g core n used k h = fair-move Swapped g core n
+fair-row Movn g core n used k h = fair-move Negated g core n
+fair-row Movm g core n used k h = fair-move Magnitude g core n
 fair-row Imul g core n used k h = fair-imul g core n
 fair-row Mul g core n used k h = fair-mul g core n
 fair-row Idiv g core n used k h = fair-idiv g core n
@@ -334,8 +329,8 @@ fair-row Jsr g core n used k h = fair-jsr g n
 fair-row Jsp g core n used k h = fair-jsp g n h
 fair-row Jsa g core n used k h = fair-jsa g n
 fair-row Jra g core n used k h = fair-jra g core n h
-fair-row Add g core n used k h = fair-add g core n
-fair-row Sub g core n used k h = fair-sub g core n
+fair-row Add g core n used k h = fair-add false g core n
+fair-row Sub g core n used k h = fair-add true g core n
 fair-row Compare g core n used k h = fair-compare g core n
 fair-row (JumpOn c) g core n used k h = fair-jump c g n h
 fair-row (SkipOn c) g core n used k h = fair-skip c g core n

@@ -12,7 +12,7 @@ use Rattle.ka_cpu.specs.Places.{ac_with, core_with, is_legal, word_at}
 use Rattle.ka_cpu.specs.Effects.{After, a_of, finished, next_pc, told}
 use Rattle.ka_cpu.specs.Stacks.{pop_ending, pop_row, popped, push_ending, push_row, pushed}
 use Rattle.ka_cpu.specs.declared.registers.Regs.{Regs}
-use Rattle.ka_cpu.specs.declared.instruction.Instruction.{Instruction}
+use Rattle.ka_cpu.specs.Instructions.{Instruction}
 
 length-stored : (ac : List ℕ) (p w : ℕ) → length (ac_with ac p w) ≡ length ac
 length-stored ac p w = elim (cases_lt p 16) [ inl h ↦ rw (lt-ltb p 16 h) (length-set ac p w) | inr h ↦ rw (le-ltb p 16 h) refl ]

@@ -1,5 +1,5 @@
 -- ADD, SUB, IMUL, MUL and IDIV (Processor Reference Manual, "Fixed point arithmetic").
-use Rattle.std.specs.Prelude.{ℕ, ◌%◌, ◌^◌, nat_eq, true, ◌||◌, if◌then◌else◌, Option, Some, None, List, Result, Ok}
+use Rattle.std.specs.Prelude.{ℕ, ◌%◌, ◌^◌, nat_eq, Bool, true, false, ◌||◌, if◌then◌else◌, Option, Some, None, List, Result, Ok}
 use Rattle.word36.specs.Words.{complement, sum_of}
 use Rattle.ka_word.specs.Products.{both_least, high_word, low_word, overflows}
 use Rattle.ka_word.specs.Quotients.{no_quotient, quotient_of, remainder_of}
@@ -7,19 +7,15 @@ use Rattle.ka_cpu.specs.Addresses.{reading}
 use Rattle.ka_cpu.specs.Effects.{Effect, a_of, goes_on, computed_operand, computed_to, sum_flags}
 use Rattle.ka_cpu.specs.declared.registers.Regs.{Regs}
 use Rattle.ka_cpu.specs.declared.outcome.StopReason.{StopReason}
-use Rattle.ka_cpu.specs.declared.instruction.Instruction.{Instruction}
+use Rattle.ka_cpu.specs.Instructions.{Instruction}
 
--- ADD: A + operand
-unfoldable pub add_row : Regs → List ℕ → Instruction → Result Effect StopReason
-add_row g core n =
-    reading (computed_operand g core n)
-    (λ m. Ok (record (computed_to g n (sum_of (a_of g n) m 0)) { flags = sum_flags g.flags (a_of g n) m 0 }))
+-- ADD: A + operand. SUB: A + not operand + 1
+abbrev pub added : Bool → Regs → Instruction → ℕ → Effect
+added false g n m = record (computed_to g n (sum_of (a_of g n) m 0)) { flags = sum_flags g.flags (a_of g n) m 0 }
+added true g n m = record (computed_to g n (sum_of (a_of g n) (complement m) 1)) { flags = sum_flags g.flags (a_of g n) (complement m) 1 }
 
--- SUB: A + not operand + 1
-unfoldable pub sub_row : Regs → List ℕ → Instruction → Result Effect StopReason
-sub_row g core n =
-    reading (computed_operand g core n)
-    (λ m. Ok (record (computed_to g n (sum_of (a_of g n) (complement m) 1)) { flags = sum_flags g.flags (a_of g n) (complement m) 1 }))
+unfoldable pub add_row : Bool → Regs → List ℕ → Instruction → Result Effect StopReason
+add_row subtracts g core n = reading (computed_operand g core n) (λ m. Ok (added subtracts g n m))
 
 -- IMUL: the product; where it does not fit, Overflow, and its sign with its low 35 bits (this project's profile)
 unfoldable pub imul_row : Regs → List ℕ → Instruction → Result Effect StopReason

@@ -6,7 +6,7 @@ use Rattle.ka_cpu.specs.Effects.{After, a_of, next_pc, stopped}
 use Rattle.ka_cpu.specs.declared.registers.Regs.{Regs}
 use Rattle.ka_cpu.specs.declared.outcome.StopReason.TheVariants.{IllegalAddress}
 use Rattle.ka_cpu.specs.declared.outcome.Outcome.TheVariants.{Done}
-use Rattle.ka_cpu.specs.declared.instruction.Instruction.{Instruction}
+use Rattle.ka_cpu.specs.Instructions.{Instruction}
 
 -- how many words: at least one, up to the first place that is at least E (E is at most 777777 octal)
 abbrev pub word_count : ℕ → ℕ → ℕ

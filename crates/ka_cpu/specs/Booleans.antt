@@ -5,7 +5,7 @@ use Rattle.ka_cpu.specs.Addresses.{reading}
 use Rattle.ka_cpu.specs.Effects.{Effect, a_of, computed_operand, computed_to}
 use Rattle.ka_cpu.specs.declared.registers.Regs.{Regs}
 use Rattle.ka_cpu.specs.declared.outcome.StopReason.{StopReason}
-use Rattle.ka_cpu.specs.declared.instruction.Instruction.{Instruction}
+use Rattle.ka_cpu.specs.Instructions.{Instruction}
 
 -- SETZ, SETA, SETCA and SETO read no memory (this project's profile)
 abbrev pub reads_none : ℕ → Bool

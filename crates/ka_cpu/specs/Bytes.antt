@@ -8,7 +8,7 @@ use Rattle.ka_cpu.specs.declared.registers.Regs.{Regs}
 use Rattle.ka_cpu.specs.declared.outcome.StopReason.{StopReason}
 use Rattle.ka_cpu.specs.declared.outcome.StopReason.TheVariants.{IllegalAddress}
 use Rattle.ka_cpu.specs.declared.outcome.Outcome.TheVariants.{Done}
-use Rattle.ka_cpu.specs.declared.instruction.Instruction.{Instruction}
+use Rattle.ka_cpu.specs.Instructions.{Instruction}
 
 -- 133 IBP, 134 ILDB, 135 LDB, 136 IDPB, 137 DPB (octal)
 abbrev pub increments : ℕ → Bool

@@ -9,7 +9,7 @@ use Rattle.ka_cpu.specs.declared.outcome.StopReason.TheVariants.{IllegalAddress}
 use Rattle.ka_cpu.specs.declared.outcome.Outcome.{Outcome}
 use Rattle.ka_cpu.specs.declared.outcome.Outcome.TheVariants as outcome
 use Rattle.ka_cpu.specs.declared.outcome.StopReason.TheVariants as reason
-use Rattle.ka_cpu.specs.declared.instruction.Instruction.{Instruction}
+use Rattle.ka_cpu.specs.Instructions.{Instruction}
 use Rattle.word36.specs.Words.{carry_0, carry_1}
 use Rattle.ka_word.specs.Sums.{carries_differ}
 

@@ -6,9 +6,10 @@ use Rattle.ka_isa.specs.declared.Family.TheVariants.{Byte, Move, Movs, Movn, Mov
 use Rattle.ka_cpu.specs.Places.{word_at}
 use Rattle.ka_cpu.specs.Addresses.{Target, Path, reading, target_of, at_target}
 use Rattle.ka_cpu.specs.Effects.{After, Effect, stopped, finished}
-use Rattle.ka_cpu.specs.Moves.{move_row, movs_row, movn_row, movm_row, exch_row}
+use Rattle.ka_cpu.specs.Moves.{move_row, exch_row}
+use Rattle.ka_cpu.specs.declared.moves.Transfer.TheVariants.{Plain, Swapped, Negated, Magnitude}
 use Rattle.ka_cpu.specs.Halves.{half_row}
-use Rattle.ka_cpu.specs.Arithmetic.{add_row, sub_row, imul_row, mul_row, idiv_row}
+use Rattle.ka_cpu.specs.Arithmetic.{add_row, imul_row, mul_row, idiv_row}
 use Rattle.ka_cpu.specs.Conditions.{compare_row, jump_row, skip_row}
 use Rattle.ka_cpu.specs.Booleans.{boolean_row}
 use Rattle.ka_cpu.specs.Tests.{test_row}
@@ -21,7 +22,7 @@ use Rattle.ka_cpu.specs.declared.registers.Regs.{Regs}
 use Rattle.ka_cpu.specs.declared.outcome.StopReason.{StopReason}
 use Rattle.ka_cpu.specs.declared.outcome.StopReason.TheVariants.{IllegalInstruction, AddressChain}
 use Rattle.ka_cpu.specs.declared.outcome.CallKind.TheVariants as call
-use Rattle.ka_cpu.specs.declared.instruction.Instruction.{Instruction}
+use Rattle.ka_cpu.specs.Instructions.{Instruction}
 
 -- the operation, bits 0-8, and the AC field, bits 9-12
 abbrev pub op_of : ℕ → ℕ
@@ -74,10 +75,10 @@ is_listed _ ac = true
 
 -- the table: a row for each family of operations
 abbrev pub row_of : Family → Regs → List ℕ → Instruction → Option ℕ → Result Effect StopReason
-row_of Move g core n used = move_row g core n
-row_of Movs g core n used = movs_row g core n
-row_of Movn g core n used = movn_row g core n
-row_of Movm g core n used = movm_row g core n
+row_of Move g core n used = move_row Plain g core n
+row_of Movs g core n used = move_row Swapped g core n
+row_of Movn g core n used = move_row Negated g core n
+row_of Movm g core n used = move_row Magnitude g core n
 row_of Imul g core n used = imul_row g core n
 row_of Mul g core n used = mul_row g core n
 row_of Idiv g core n used = idiv_row g core n
@@ -95,8 +96,8 @@ row_of Jsr g core n used = Ok (jsr_row g n)
 row_of Jsp g core n used = Ok (jsp_row g n)
 row_of Jsa g core n used = Ok (jsa_row g n)
 row_of Jra g core n used = jra_row g core n
-row_of Add g core n used = add_row g core n
-row_of Sub g core n used = sub_row g core n
+row_of Add g core n used = add_row false g core n
+row_of Sub g core n used = add_row true g core n
 row_of Compare g core n used = compare_row g core n
 row_of (JumpOn c) g core n used = Ok (jump_row c g n)
 row_of (SkipOn c) g core n used = skip_row c g core n

@@ -6,7 +6,7 @@ use Rattle.ka_cpu.specs.Places.{word_at}
 use Rattle.ka_cpu.specs.Effects.{Effect, a_of, moved_operand, moved_to}
 use Rattle.ka_cpu.specs.declared.registers.Regs.{Regs}
 use Rattle.ka_cpu.specs.declared.outcome.StopReason.{StopReason}
-use Rattle.ka_cpu.specs.declared.instruction.Instruction.{Instruction}
+use Rattle.ka_cpu.specs.Instructions.{Instruction}
 
 -- the destination is AC in the basic mode and in I, and the word at E in M and S
 abbrev pub destination : Regs → List ℕ → Instruction → Option ℕ

@@ -11,7 +11,7 @@ use Rattle.ka_cpu.specs.declared.registers.Regs.{Regs}
 use Rattle.ka_cpu.specs.declared.registers.Flags.{Flags}
 use Rattle.ka_cpu.specs.declared.outcome.StopReason.{StopReason}
 use Rattle.ka_cpu.specs.declared.outcome.CallKind.{CallKind}
-use Rattle.ka_cpu.specs.declared.instruction.Instruction.{Instruction}
+use Rattle.ka_cpu.specs.Instructions.{Instruction}
 
 -- the PC word `flags,,PC`: bit 0 Overflow, 1 Carry 0, 2 Carry 1, 5 User, which is always set, 12 No Divide
 unfoldable pub pc_word : Flags → ℕ → ℕ

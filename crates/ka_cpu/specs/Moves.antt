@@ -8,27 +8,24 @@ use Rattle.ka_cpu.specs.Addresses.{reading}
 use Rattle.ka_cpu.specs.Effects.{Effect, a_of, goes_on, moved_operand, moved_to, sum_flags}
 use Rattle.ka_cpu.specs.declared.registers.Regs.{Regs}
 use Rattle.ka_cpu.specs.declared.outcome.StopReason.{StopReason}
-use Rattle.ka_cpu.specs.declared.instruction.Instruction.{Instruction}
+use Rattle.ka_cpu.specs.Instructions.{Instruction}
+use Rattle.ka_cpu.specs.declared.moves.Transfer.{Transfer}
+use Rattle.ka_cpu.specs.declared.moves.Transfer.TheVariants.{Plain, Swapped, Negated, Magnitude}
 
 -- the negated word, with the flags of ADD (this project's profile)
 abbrev pub negates : Regs → Instruction → ℕ → Effect
 negates g n w = record (moved_to g n (negated w)) { flags = sum_flags g.flags (complement w) 1 0 }
 
--- MOVE: the operand
-unfoldable pub move_row : Regs → List ℕ → Instruction → Result Effect StopReason
-move_row g core n = reading (moved_operand g core n) (λ w. Ok (moved_to g n w))
+-- MOVE: the operand. MOVS: the operand with its halves swapped. MOVN: the operand negated. MOVM: the magnitude; the
+-- operand is negated only where it is negative
+abbrev pub transferred : Transfer → Regs → Instruction → ℕ → Effect
+transferred Plain g n w = moved_to g n w
+transferred Swapped g n w = moved_to g n (swapped w)
+transferred Negated g n w = negates g n w
+transferred Magnitude g n w = if is_negative w then negates g n w else moved_to g n w
 
--- MOVS: the operand with its halves swapped
-unfoldable pub movs_row : Regs → List ℕ → Instruction → Result Effect StopReason
-movs_row g core n = reading (moved_operand g core n) (λ w. Ok (moved_to g n (swapped w)))
-
--- MOVN: the operand negated
-unfoldable pub movn_row : Regs → List ℕ → Instruction → Result Effect StopReason
-movn_row g core n = reading (moved_operand g core n) (λ w. Ok (negates g n w))
-
--- MOVM: the magnitude; it is negated only where it is negative
-unfoldable pub movm_row : Regs → List ℕ → Instruction → Result Effect StopReason
-movm_row g core n = reading (moved_operand g core n) (λ w. Ok (if is_negative w then negates g n w else moved_to g n w))
+unfoldable pub move_row : Transfer → Regs → List ℕ → Instruction → Result Effect StopReason
+move_row transfer g core n = reading (moved_operand g core n) (λ w. Ok (transferred transfer g n w))
 
 -- EXCH: A and M change places
 unfoldable pub exch_row : Regs → List ℕ → Instruction → Result Effect StopReason

@@ -8,7 +8,7 @@ use Rattle.ka_cpu.specs.Effects.{After, Effect, Ending, Goes_on, Overruns, a_of,
 use Rattle.ka_cpu.specs.Jumps.{pc_word}
 use Rattle.ka_cpu.specs.declared.registers.Regs.{Regs}
 use Rattle.ka_cpu.specs.declared.outcome.StopReason.{StopReason}
-use Rattle.ka_cpu.specs.declared.instruction.Instruction.{Instruction}
+use Rattle.ka_cpu.specs.Instructions.{Instruction}
 
 -- a carry out of bit 0 of A + 1000001, or a borrow in A - 1000001, is stop 4 after the instruction (this project's profile)
 abbrev pub push_ending : ℕ → Ending

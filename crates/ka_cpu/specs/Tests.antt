@@ -7,7 +7,7 @@ use Rattle.ka_cpu.specs.Places.{word_at}
 use Rattle.ka_cpu.specs.Effects.{Effect, a_of, skips_if}
 use Rattle.ka_cpu.specs.declared.registers.Regs.{Regs}
 use Rattle.ka_cpu.specs.declared.outcome.StopReason.{StopReason}
-use Rattle.ka_cpu.specs.declared.instruction.Instruction.{Instruction}
+use Rattle.ka_cpu.specs.Instructions.{Instruction}
 
 -- the mask is `0,,E` (R), `E,,0` (L), M (D), M with halves swapped (S): 10 octal is for D and S, 1 for L and S
 abbrev pub mask_source : Regs → List ℕ → Instruction → Option ℕ

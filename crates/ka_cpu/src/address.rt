@@ -1,27 +1,26 @@
 //! The address of an instruction or of a byte pointer.
 
-ghost use Rattle.std.specs.Prelude.{◌≡◌, ◌<◌, ◌^◌, IfOk, nat_eq, ◌/◌, ◌%◌};
+ghost use Rattle.std.specs.Prelude.{◌≡◌, ◌^◌, nat_eq, ◌/◌, ◌%◌};
 ghost use Rattle.ka_cpu.specs.Addresses.{address_in, pair_in, direct_address, is_indirect, target_of, used_after, used_in};
 
 use crate::{JobMemory, Regs, StopReason, fetch};
-use word36::Word;
+use word36::{Address, Word};
 
 /// The most indirect words of one address (this project's profile).
 const MOST_LINKS: u32 = 256;
 
 /// Y, plus the right half of the index register where there is one.
 #[inline(always)]
-fn find_direct(regs: &Regs, word: Word) -> u32
-    ensures value { result ≡ direct_address regs.now.ac word }
-    ensures below { result < 2 ^ 18 }
+fn find_direct(regs: &Regs, word: Word) -> Address
+    ensures { result ≡ direct_address regs.now.ac word }
 {
     let number = word.number();
     let index = (number >> 18 & 0o17) as usize;
-    let y = (number & 0o777_777) as u32;
+    let y = Address::new((number & 0o777_777) as u32);
     if index == 0 {
         y
     } else {
-        (y + regs.ac[index].right()) & 0o777_777
+        y.plus(regs.ac[index].right())
     }
 }
 
@@ -59,9 +58,8 @@ fn follow_chain<M: JobMemory>(
     regs: &Regs,
     memory: &M,
     word: Word,
-) -> Result<(u32, Option<Word>), StopReason>
-    ensures value { result ≡ pair_in (target_of regs.now.ac (M.words memory.now) word) }
-    ensures below { IfOk result (λ t. t.0 < 2 ^ 18) }
+) -> Result<(Address, Option<Word>), StopReason>
+    ensures { result ≡ pair_in (target_of regs.now.ac (M.words memory.now) word) }
 {
     let mut word = word;
     let mut used = None;
@@ -70,7 +68,7 @@ fn follow_chain<M: JobMemory>(
         if !is_indirect_word(word) {
             return Ok((e, used_with_index(regs, word, used)));
         }
-        match fetch(regs, memory, e) {
+        match fetch(regs, memory, e.number()) {
             None => return Err(StopReason::IllegalAddress),
             Some(next) => {
                 word = next;
@@ -88,9 +86,8 @@ fn follow_chain<M: JobMemory>(
 /// The address of a word over indirect words.
 #[inline(always)]
 #[tactic(auto, using(crate::proofs::Chain::chain_parts))]
-fn find_by_chain<M: JobMemory>(regs: &Regs, memory: &M, word: Word) -> Result<u32, StopReason>
-    ensures value { result ≡ address_in (target_of regs.now.ac (M.words memory.now) word) }
-    ensures below { IfOk result (λ e. e < 2 ^ 18) }
+fn find_by_chain<M: JobMemory>(regs: &Regs, memory: &M, word: Word) -> Result<Address, StopReason>
+    ensures { result ≡ address_in (target_of regs.now.ac (M.words memory.now) word) }
 {
     match follow_chain(regs, memory, word) {
         Ok((e, _)) => Ok(e),
@@ -101,12 +98,15 @@ fn find_by_chain<M: JobMemory>(regs: &Regs, memory: &M, word: Word) -> Result<u3
 /// The address of an instruction or of a byte pointer. Most words have neither I nor X.
 #[inline(always)]
 #[tactic(auto, using(crate::proofs::Chain::chain_parts))]
-pub fn find_address<M: JobMemory>(regs: &Regs, memory: &M, word: Word) -> Result<u32, StopReason>
-    ensures value { result ≡ address_in (target_of regs.now.ac (M.words memory.now) word) }
-    ensures below { IfOk result (λ e. e < 2 ^ 18) }
+pub fn find_address<M: JobMemory>(
+    regs: &Regs,
+    memory: &M,
+    word: Word,
+) -> Result<Address, StopReason>
+    ensures { result ≡ address_in (target_of regs.now.ac (M.words memory.now) word) }
 {
     if is_plain(word) {
-        Ok(word.right())
+        Ok(Address::new(word.right()))
     } else if is_indirect_word(word) {
         find_by_chain(regs, memory, word)
     } else {

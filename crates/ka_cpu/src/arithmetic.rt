@@ -1,8 +1,8 @@
 //! ADD, SUB, IMUL, MUL and IDIV.
 
-ghost use Rattle.std.specs.Prelude.{◌≡◌, ◌<◌, ◌^◌, ◌%◌};
+ghost use Rattle.std.specs.Prelude.{◌≡◌, ◌%◌};
 ghost use Rattle.ka_cpu.specs.Effects.{finished};
-ghost use Rattle.ka_cpu.specs.Arithmetic.{add_row, sub_row, imul_row, to_next, mul_row, idiv_row};
+ghost use Rattle.ka_cpu.specs.Arithmetic.{add_row, imul_row, to_next, mul_row, idiv_row};
 ghost use Rattle.ka_cpu.specs.Effects.{ac_put, next_ac};
 
 use crate::instruction::{ILLEGAL, Instruction, operand_to_compute, put_computed, set_carries};
@@ -13,45 +13,28 @@ use word36::Word;
 /// 2 ^ 35, the magnitude of the least number.
 const LEAST: u64 = 0o400_000_000_000;
 
-/// ADD
+/// ADD, and SUB where it subtracts.
 #[inline(always)]
 #[tactic(auto, unfolding(crate::specs::Arithmetic::add_row))]
-pub fn do_add<M: JobMemory>(mode: u32, regs: &mut Regs, memory: &mut M, n: Instruction) -> Outcome
+pub fn do_add<M: JobMemory>(
+    subtracts: bool,
+    mode: u32,
+    regs: &mut Regs,
+    memory: &mut M,
+    n: Instruction,
+) -> Outcome
     requires mode { mode ≡ n.op % 4 }
-    requires ac { n.ac < 16 }
-    requires e { n.e < 2 ^ 18 }
-    ensures after { record { regs = regs.new; core = M.words memory.new; outcome = result } ≡ finished regs.old (M.words memory.old) n (add_row regs.old (M.words memory.old) n) }
+    ensures after { record { regs = regs.new; core = M.words memory.new; outcome = result } ≡ finished regs.old (M.words memory.old) n (add_row subtracts regs.old (M.words memory.old) n) }
     ensures place { M.place memory.new ≡ M.place memory.old }
 {
     let Some(word) = operand_to_compute(mode, regs, memory, n) else {
         return ILLEGAL;
     };
     let next = regs.pc.plus(1);
-    let a = regs.ac[n.ac];
-    put_computed(mode, regs, memory, n, a.sum(word, false));
-    let (zero, one) = a.carries(word, false);
-    set_carries(regs, zero, one);
-    regs.pc = next;
-    Outcome::Done
-}
-
-/// SUB
-#[inline(always)]
-#[tactic(auto, unfolding(crate::specs::Arithmetic::sub_row))]
-pub fn do_sub<M: JobMemory>(mode: u32, regs: &mut Regs, memory: &mut M, n: Instruction) -> Outcome
-    requires mode { mode ≡ n.op % 4 }
-    requires ac { n.ac < 16 }
-    requires e { n.e < 2 ^ 18 }
-    ensures after { record { regs = regs.new; core = M.words memory.new; outcome = result } ≡ finished regs.old (M.words memory.old) n (sub_row regs.old (M.words memory.old) n) }
-    ensures place { M.place memory.new ≡ M.place memory.old }
-{
-    let Some(word) = operand_to_compute(mode, regs, memory, n) else {
-        return ILLEGAL;
-    };
-    let next = regs.pc.plus(1);
-    let a = regs.ac[n.ac];
-    put_computed(mode, regs, memory, n, a.sum(word.not(), true));
-    let (zero, one) = a.carries(word.not(), true);
+    let a = regs.ac[n.ac().index()];
+    let term = if subtracts { word.not() } else { word };
+    put_computed(mode, regs, memory, n, a.sum(term, subtracts));
+    let (zero, one) = a.carries(term, subtracts);
     set_carries(regs, zero, one);
     regs.pc = next;
     Outcome::Done
@@ -59,11 +42,10 @@ pub fn do_sub<M: JobMemory>(mode: u32, regs: &mut Regs, memory: &mut M, n: Instr
 
 /// Puts the second result of MUL and IDIV in AC+1, but in mode M.
 fn put_next(regs: &mut Regs, n: Instruction, word: Word)
-    requires { n.ac < 16 }
     ensures { regs.new ≡ record regs.old { ac = ac_put regs.old.ac (next_ac n) (to_next n word) } }
 {
-    if n.op % 4 != 2 {
-        regs.ac[(n.ac + 1) % 16] = word;
+    if n.op() % 4 != 2 {
+        regs.ac[n.ac().next().index()] = word;
     }
 }
 
@@ -72,15 +54,13 @@ fn put_next(regs: &mut Regs, n: Instruction, word: Word)
 #[tactic(auto, unfolding(crate::specs::Arithmetic::imul_row))]
 pub fn do_imul<M: JobMemory>(mode: u32, regs: &mut Regs, memory: &mut M, n: Instruction) -> Outcome
     requires mode { mode ≡ n.op % 4 }
-    requires ac { n.ac < 16 }
-    requires e { n.e < 2 ^ 18 }
     ensures after { record { regs = regs.new; core = M.words memory.new; outcome = result } ≡ finished regs.old (M.words memory.old) n (imul_row regs.old (M.words memory.old) n) }
     ensures place { M.place memory.new ≡ M.place memory.old }
 {
     let Some(word) = operand_to_compute(mode, regs, memory, n) else {
         return ILLEGAL;
     };
-    let (_, low, overflows) = split_product(regs.ac[n.ac], word);
+    let (_, low, overflows) = split_product(regs.ac[n.ac().index()], word);
     put_computed(mode, regs, memory, n, low);
     if overflows {
         regs.flags.overflow = true;
@@ -94,15 +74,13 @@ pub fn do_imul<M: JobMemory>(mode: u32, regs: &mut Regs, memory: &mut M, n: Inst
 #[tactic(auto, unfolding(crate::specs::Arithmetic::mul_row))]
 pub fn do_mul<M: JobMemory>(mode: u32, regs: &mut Regs, memory: &mut M, n: Instruction) -> Outcome
     requires mode { mode ≡ n.op % 4 }
-    requires ac { n.ac < 16 }
-    requires e { n.e < 2 ^ 18 }
     ensures after { record { regs = regs.new; core = M.words memory.new; outcome = result } ≡ finished regs.old (M.words memory.old) n (mul_row regs.old (M.words memory.old) n) }
     ensures place { M.place memory.new ≡ M.place memory.old }
 {
     let Some(word) = operand_to_compute(mode, regs, memory, n) else {
         return ILLEGAL;
     };
-    let a = regs.ac[n.ac];
+    let a = regs.ac[n.ac().index()];
     let (high, low, _) = split_product(a, word);
     let both_least = a.number() == LEAST && word.number() == LEAST;
     put_computed(mode, regs, memory, n, high);
@@ -121,15 +99,13 @@ pub fn do_mul<M: JobMemory>(mode: u32, regs: &mut Regs, memory: &mut M, n: Instr
 #[tactic(auto, unfolding(crate::specs::Arithmetic::idiv_row))]
 pub fn do_idiv<M: JobMemory>(mode: u32, regs: &mut Regs, memory: &mut M, n: Instruction) -> Outcome
     requires mode { mode ≡ n.op % 4 }
-    requires ac { n.ac < 16 }
-    requires e { n.e < 2 ^ 18 }
     ensures after { record { regs = regs.new; core = M.words memory.new; outcome = result } ≡ finished regs.old (M.words memory.old) n (idiv_row regs.old (M.words memory.old) n) }
     ensures place { M.place memory.new ≡ M.place memory.old }
 {
     let Some(word) = operand_to_compute(mode, regs, memory, n) else {
         return ILLEGAL;
     };
-    let a = regs.ac[n.ac];
+    let a = regs.ac[n.ac().index()];
     if has_no_quotient(a, word) {
         regs.flags.overflow = true;
         regs.flags.no_divide = true;

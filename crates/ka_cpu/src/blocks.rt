@@ -83,15 +83,13 @@ fn move_block<M: JobMemory>(regs: &mut Regs, memory: &mut M, from: u32, to: u32,
 #[inline(always)]
 #[tactic(auto, unfolding(crate::specs::Blocks::blt_after))]
 pub fn do_blt<M: JobMemory>(regs: &mut Regs, memory: &mut M, n: Instruction) -> Outcome
-    requires ac { n.ac < 16 }
-    requires e { n.e < 2 ^ 18 }
     ensures after { record { regs = regs.new; core = M.words memory.new; outcome = result } ≡ blt_after regs.old (M.words memory.old) n }
     ensures place { M.place memory.new ≡ M.place memory.old }
 {
-    let a = regs.ac[n.ac];
+    let a = regs.ac[n.ac().index()];
     let from = a.left();
     let to = a.right();
-    let count = n.e.saturating_sub(to) + 1;
+    let count = n.e().number().saturating_sub(to) + 1;
     if !are_legal(memory, from, to, count) {
         return ILLEGAL;
     }

@@ -10,7 +10,7 @@ use crate::instruction::{ILLEGAL, Instruction};
 use crate::memory::store;
 use crate::{JobMemory, Outcome, Regs, StopReason, fetch};
 use ka_word::{deposit_byte, increment, load_byte};
-use word36::Word;
+use word36::{Address, Word};
 
 /// The place of the byte that a pointer names, and the word there.
 #[inline(always)]
@@ -19,12 +19,12 @@ fn locate_byte<M: JobMemory>(
     regs: &Regs,
     memory: &M,
     pointer: Word,
-) -> Result<(u32, Word), StopReason>
+) -> Result<(Address, Word), StopReason>
     ensures value { result ≡ byte_place regs.now.ac (M.words memory.now) pointer }
     ensures legal { IfOk result (λ b. is_legal (M.words memory.now) b.0 ≡ true) }
 {
     let e = find_address(regs, memory, pointer)?;
-    match fetch(regs, memory, e) {
+    match fetch(regs, memory, e.number()) {
         None => Err(StopReason::IllegalAddress),
         Some(word) => Ok((e, word)),
     }
@@ -38,21 +38,20 @@ fn move_byte<M: JobMemory>(
     memory: &mut M,
     n: Instruction,
     pointer: Word,
-    e: u32,
+    e: Address,
     word: Word,
 ) -> Outcome
-    requires ac { n.ac < 16 }
     requires load { loads n.op ≡ is_load }
     requires legal { is_legal (M.words memory.old) e ≡ true }
     ensures after { record { regs = regs.new; core = M.words memory.new; outcome = result } ≡ applied regs.old (M.words memory.old) n (byte_effect regs.old n pointer e word) }
     ensures place { M.place memory.new ≡ M.place memory.old }
 {
     let next = regs.pc.plus(1);
-    let a = regs.ac[n.ac];
+    let a = regs.ac[n.ac().index()];
     if is_load {
-        regs.ac[n.ac] = load_byte(pointer, word);
+        regs.ac[n.ac().index()] = load_byte(pointer, word);
     } else {
-        store(regs, memory, e, deposit_byte(pointer, a, word));
+        store(regs, memory, e.number(), deposit_byte(pointer, a, word));
     }
     regs.pc = next;
     Outcome::Done
@@ -66,10 +65,10 @@ pub fn do_ibp<M: JobMemory>(regs: &mut Regs, memory: &mut M, n: Instruction) -> 
     ensures after { record { regs = regs.new; core = M.words memory.new; outcome = result } ≡ byte_after regs.old (M.words memory.old) n }
     ensures place { M.place memory.new ≡ M.place memory.old }
 {
-    let Some(old) = fetch(regs, memory, n.e) else {
+    let Some(old) = fetch(regs, memory, n.e().number()) else {
         return ILLEGAL;
     };
-    store(regs, memory, n.e, increment(old));
+    store(regs, memory, n.e().number(), increment(old));
     regs.pc = regs.pc.plus(1);
     Outcome::Done
 }
@@ -83,13 +82,12 @@ pub fn use_byte<M: JobMemory>(
     memory: &mut M,
     n: Instruction,
 ) -> Outcome
-    requires ac { n.ac < 16 }
     requires load { loads n.op ≡ is_load }
     requires increment { increments n.op ≡ false }
     ensures after { record { regs = regs.new; core = M.words memory.new; outcome = result } ≡ byte_after regs.old (M.words memory.old) n }
     ensures place { M.place memory.new ≡ M.place memory.old }
 {
-    let Some(pointer) = fetch(regs, memory, n.e) else {
+    let Some(pointer) = fetch(regs, memory, n.e().number()) else {
         return ILLEGAL;
     };
     match locate_byte(regs, memory, pointer) {
@@ -107,21 +105,20 @@ pub fn use_next_byte<M: JobMemory>(
     memory: &mut M,
     n: Instruction,
 ) -> Outcome
-    requires ac { n.ac < 16 }
     requires load { loads n.op ≡ is_load }
     requires increment { increments n.op ≡ true }
     requires op { nat_eq n.op 0o133 ≡ false }
     ensures after { record { regs = regs.new; core = M.words memory.new; outcome = result } ≡ byte_after regs.old (M.words memory.old) n }
     ensures place { M.place memory.new ≡ M.place memory.old }
 {
-    let Some(old) = fetch(regs, memory, n.e) else {
+    let Some(old) = fetch(regs, memory, n.e().number()) else {
         return ILLEGAL;
     };
     let new = increment(old);
-    store(regs, memory, n.e, new);
+    store(regs, memory, n.e().number(), new);
     match locate_byte(regs, memory, new) {
         Err(reason) => {
-            store(regs, memory, n.e, old);
+            store(regs, memory, n.e().number(), old);
             Outcome::Stop(reason)
         }
         Ok((e, word)) => move_byte(is_load, regs, memory, n, new, e, word),

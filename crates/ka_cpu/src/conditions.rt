@@ -24,13 +24,12 @@ fn operand_to_compare<M: JobMemory>(
     n: Instruction,
 ) -> Option<Word>
     requires op { nat_lt n.op 0o310 ≡ is_immediate }
-    requires e { n.e < 2 ^ 18 }
     ensures { result ≡ (if nat_lt n.op 0o310 then Some n.e else word_at regs.now.ac (M.words memory.now) n.e) }
 {
     if is_immediate {
-        Some(Word::join(0, n.e))
+        Some(Word::join(0, n.e().number()))
     } else {
-        fetch(regs, memory, n.e)
+        fetch(regs, memory, n.e().number())
     }
 }
 
@@ -46,15 +45,13 @@ pub fn do_compare<M: JobMemory>(
 ) -> Outcome
     requires digit { digit ≡ n.op % 8 }
     requires op { nat_lt n.op 0o310 ≡ is_immediate }
-    requires ac { n.ac < 16 }
-    requires e { n.e < 2 ^ 18 }
     ensures after { record { regs = regs.new; core = M.words memory.new; outcome = result } ≡ finished regs.old (M.words memory.old) n (compare_row regs.old (M.words memory.old) n) }
     ensures place { M.place memory.new ≡ M.place memory.old }
 {
     let Some(word) = operand_to_compare(is_immediate, regs, memory, n) else {
         return ILLEGAL;
     };
-    let test = compare(digit, regs.ac[n.ac], word);
+    let test = compare(digit, regs.ac[n.ac().index()], word);
     regs.pc = regs.pc.plus(if test { 2 } else { 1 });
     Outcome::Done
 }
@@ -102,24 +99,18 @@ pub fn do_jump<M: JobMemory>(
     n: Instruction,
 ) -> Outcome
     requires digit { digit ≡ n.op % 8 }
-    requires ac { n.ac < 16 }
-    requires e { n.e < 2 ^ 18 }
     ensures after { record { regs = regs.new; core = M.words memory.new; outcome = result } ≡ finished regs.old (M.words memory.old) n (Ok (jump_row change regs.old n)) }
     ensures place { M.place memory.new ≡ M.place memory.old }
 {
-    let a = regs.ac[n.ac];
+    let a = regs.ac[n.ac().index()];
     let word = change_word(change, a);
     match change {
         Change::Keep => {}
-        _ => regs.ac[n.ac] = word,
+        _ => regs.ac[n.ac().index()] = word,
     }
     set_change_flags(change, regs, a);
     let test = compare_zero(digit, word);
-    regs.pc = if test {
-        Address::new(n.e)
-    } else {
-        regs.pc.plus(1)
-    };
+    regs.pc = if test { n.e() } else { regs.pc.plus(1) };
     Outcome::Done
 }
 
@@ -157,19 +148,17 @@ pub fn do_skip<M: JobMemory>(
     n: Instruction,
 ) -> Outcome
     requires digit { digit ≡ n.op % 8 }
-    requires ac { n.ac < 16 }
-    requires e { n.e < 2 ^ 18 }
     ensures after { record { regs = regs.new; core = M.words memory.new; outcome = result } ≡ finished regs.old (M.words memory.old) n (skip_row change regs.old (M.words memory.old) n) }
     ensures place { M.place memory.new ≡ M.place memory.old }
 {
-    let Some(old) = read_to_change(change, regs, memory, n.e) else {
+    let Some(old) = read_to_change(change, regs, memory, n.e().number()) else {
         return ILLEGAL;
     };
     let pc = regs.pc;
     let word = change_word(change, old);
-    store_changed(change, regs, memory, n.e, word);
-    if n.ac != 0 {
-        regs.ac[n.ac] = word;
+    store_changed(change, regs, memory, n.e().number(), word);
+    if n.ac().number() != 0 {
+        regs.ac[n.ac().index()] = word;
     }
     set_change_flags(change, regs, old);
     let test = compare_zero(digit, word);

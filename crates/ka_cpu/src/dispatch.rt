@@ -9,7 +9,7 @@ ghost use Rattle.ka_cpu.specs.Exec.{carried_out, is_listed};
 ghost use Rattle.ka_cpu.specs.Turns.{refusal_of};
 ghost use Rattle.ka_cpu.specs.declared.outcome.StopReason.TheVariants.{IllegalInstruction};
 
-use crate::arithmetic::{do_add, do_idiv, do_imul, do_mul, do_sub};
+use crate::arithmetic::{do_add, do_idiv, do_imul, do_mul};
 use crate::blocks::do_blt;
 use crate::bytes::{do_ibp, use_byte, use_next_byte};
 use crate::conditions::{do_compare, do_jump, do_skip};
@@ -17,18 +17,18 @@ use crate::halves::do_half;
 use crate::instruction::Instruction;
 use crate::jumps::{do_aobj, do_call, do_jfcl, do_jffo, do_jra, do_jrst, do_jsa, do_jsp, do_jsr};
 use crate::logic::{do_boolean, do_test};
-use crate::moves::{do_exch, do_move, do_movm, do_movn, do_movs};
+use crate::moves::{Transfer, do_exch, do_move};
 use crate::shifts::do_shift;
 use crate::stacks::{do_pop, do_popj, do_push, do_pushj};
-use crate::{CallKind, JobMemory, Outcome, Regs, StopReason};
+use crate::{Accumulator, CallKind, JobMemory, Outcome, Regs, StopReason};
 use ka_isa::{Change, Family, classify};
 use word36::Word;
 
 /// Calls the body of a common family in the mode of the instruction, each mode with a copy of its
 /// own, in which the mode is not looked at again.
 macro_rules! in_mode {
-    ($body:ident, $regs:ident, $memory:ident, $n:ident) => {
-        match $n.op % 4 {
+    ($body:ident, $op:ident, $regs:ident, $memory:ident, $n:ident) => {
+        match $op % 4 {
             0 => $body(0, $regs, $memory, $n),
             1 => $body(1, $regs, $memory, $n),
             2 => $body(2, $regs, $memory, $n),
@@ -38,12 +38,12 @@ macro_rules! in_mode {
 }
 
 /// Whether the operations of a family are listed, and not left out.
-fn is_listed_family(family: Family, ac: usize) -> bool
+fn is_listed_family(family: Family, ac: Accumulator) -> bool
     ensures { result ≡ is_listed family ac }
 {
     match family {
         Family::Other => false,
-        Family::Jrst => ac == 0 || ac == 2 || ac == 4,
+        Family::Jrst => matches!(ac.number(), 0 | 2 | 4),
         _ => true,
     }
 }
@@ -52,26 +52,26 @@ fn is_listed_family(family: Family, ac: usize) -> bool
 /// whose address is known, or, where it is XCT, does nothing.
 #[inline(always)]
 fn carry_out_common<M: JobMemory>(
+    op: u32,
     regs: &mut Regs,
     memory: &mut M,
     n: Instruction,
     word: Word,
 ) -> Option<Outcome>
-    requires op { n.op < 2 ^ 9 }
-    requires range { (0o250 ≤ n.op) × (n.op < 0o400) }
-    requires ac { n.ac < 16 }
-    requires e { n.e < 2 ^ 18 }
-    ensures none { IsNone result ↔ (family_of n.op ≡ Xct) }
+    requires op { op ≡ n.op }
+    requires range { (0o250 ≤ op) × (op < 0o400) }
+    ensures none { IsNone result ↔ (family_of op ≡ Xct) }
     ensures kept { IsNone result → (regs.new ≡ regs.old) × (M.words memory.new ≡ M.words memory.old) }
-    ensures after { IfSome result (λ o. record { regs = regs.new; core = M.words memory.new; outcome = o } ≡ (if is_listed (family_of n.op) n.ac then carried_out (family_of n.op) regs.old (M.words memory.old) n (used_in (target_of regs.old.ac (M.words memory.old) word)) else stopped regs.old (M.words memory.old) IllegalInstruction)) }
+    ensures after { IfSome result (λ o. record { regs = regs.new; core = M.words memory.new; outcome = o } ≡ (if is_listed (family_of op) n.ac then carried_out (family_of op) regs.old (M.words memory.old) n (used_in (target_of regs.old.ac (M.words memory.old) word)) else stopped regs.old (M.words memory.old) IllegalInstruction)) }
     ensures place { M.place memory.new ≡ M.place memory.old }
 {
-    let outcome = match n.op {
+    let outcome = match op {
         0o250 => do_exch(regs, memory, n),
         0o251 => do_blt(regs, memory, n),
         0o252..=0o253 => do_aobj(regs, memory, n),
         0o254 => {
-            if n.ac != 0 && n.ac != 2 && n.ac != 4 {
+            let ac = n.ac().number();
+            if ac != 0 && ac != 2 && ac != 4 {
                 return Some(Outcome::Stop(StopReason::IllegalInstruction));
             }
             do_jrst(regs, memory, n, word)
@@ -86,14 +86,14 @@ fn carry_out_common<M: JobMemory>(
         0o265 => do_jsp(regs, memory, n),
         0o266 => do_jsa(regs, memory, n),
         0o267 => do_jra(regs, memory, n),
-        0o270 => do_add(0, regs, memory, n),
-        0o271 => do_add(1, regs, memory, n),
-        0o272 => do_add(2, regs, memory, n),
-        0o273 => do_add(3, regs, memory, n),
-        0o274 => do_sub(0, regs, memory, n),
-        0o275 => do_sub(1, regs, memory, n),
-        0o276 => do_sub(2, regs, memory, n),
-        0o277 => do_sub(3, regs, memory, n),
+        0o270 => do_add(false, 0, regs, memory, n),
+        0o271 => do_add(false, 1, regs, memory, n),
+        0o272 => do_add(false, 2, regs, memory, n),
+        0o273 => do_add(false, 3, regs, memory, n),
+        0o274 => do_add(true, 0, regs, memory, n),
+        0o275 => do_add(true, 1, regs, memory, n),
+        0o276 => do_add(true, 2, regs, memory, n),
+        0o277 => do_add(true, 3, regs, memory, n),
         0o300 => do_compare(0, true, regs, memory, n),
         0o301 => do_compare(1, true, regs, memory, n),
         0o302 => do_compare(2, true, regs, memory, n),
@@ -158,7 +158,7 @@ fn carry_out_common<M: JobMemory>(
         0o375 => do_skip(5, Change::Down, regs, memory, n),
         0o376 => do_skip(6, Change::Down, regs, memory, n),
         0o377 => do_skip(7, Change::Down, regs, memory, n),
-        _ => Outcome::Stop(refusal(n.op, n.ac, StopReason::IllegalInstruction)),
+        _ => Outcome::Stop(refusal(op, n.ac(), StopReason::IllegalInstruction)),
     };
     Some(outcome)
 }
@@ -166,21 +166,20 @@ fn carry_out_common<M: JobMemory>(
 /// Carries out another operation whose address is known.
 #[inline(always)]
 fn carry_out_rest<M: JobMemory>(
+    op: u32,
     regs: &mut Regs,
     memory: &mut M,
     n: Instruction,
     word: Word,
 ) -> Option<Outcome>
-    requires op { n.op < 2 ^ 9 }
-    requires range { (n.op < 0o250) ⊎ (0o400 ≤ n.op) }
-    requires ac { n.ac < 16 }
-    requires e { n.e < 2 ^ 18 }
-    ensures none { IsNone result ↔ (family_of n.op ≡ Xct) }
+    requires op { op ≡ n.op }
+    requires range { (op < 0o250) ⊎ (0o400 ≤ op) × (op < 0o1000) }
+    ensures none { IsNone result ↔ (family_of op ≡ Xct) }
     ensures kept { IsNone result → (regs.new ≡ regs.old) × (M.words memory.new ≡ M.words memory.old) }
-    ensures after { IfSome result (λ o. record { regs = regs.new; core = M.words memory.new; outcome = o } ≡ (if is_listed (family_of n.op) n.ac then carried_out (family_of n.op) regs.old (M.words memory.old) n (used_in (target_of regs.old.ac (M.words memory.old) word)) else stopped regs.old (M.words memory.old) IllegalInstruction)) }
+    ensures after { IfSome result (λ o. record { regs = regs.new; core = M.words memory.new; outcome = o } ≡ (if is_listed (family_of op) n.ac then carried_out (family_of op) regs.old (M.words memory.old) n (used_in (target_of regs.old.ac (M.words memory.old) word)) else stopped regs.old (M.words memory.old) IllegalInstruction)) }
     ensures place { M.place memory.new ≡ M.place memory.old }
 {
-    let outcome = match n.op {
+    let outcome = match op {
         0o47 => do_call(CallKind::Calli, regs, memory, n),
         0o51 => do_call(CallKind::Ttcall, regs, memory, n),
         0o133 => do_ibp(regs, memory, n),
@@ -188,16 +187,16 @@ fn carry_out_rest<M: JobMemory>(
         0o135 => use_byte(true, regs, memory, n),
         0o136 => use_next_byte(false, regs, memory, n),
         0o137 => use_byte(false, regs, memory, n),
-        0o200 => do_move(0, regs, memory, n),
-        0o201 => do_move(1, regs, memory, n),
-        0o202 => do_move(2, regs, memory, n),
-        0o203 => do_move(3, regs, memory, n),
-        0o204..=0o207 => do_movs(n.op % 4, regs, memory, n),
-        0o210..=0o213 => do_movn(n.op % 4, regs, memory, n),
-        0o214..=0o217 => do_movm(n.op % 4, regs, memory, n),
-        0o220..=0o223 => do_imul(n.op % 4, regs, memory, n),
-        0o224..=0o227 => do_mul(n.op % 4, regs, memory, n),
-        0o230..=0o233 => do_idiv(n.op % 4, regs, memory, n),
+        0o200 => do_move(Transfer::Plain, 0, regs, memory, n),
+        0o201 => do_move(Transfer::Plain, 1, regs, memory, n),
+        0o202 => do_move(Transfer::Plain, 2, regs, memory, n),
+        0o203 => do_move(Transfer::Plain, 3, regs, memory, n),
+        0o204..=0o207 => do_move(Transfer::Swapped, op % 4, regs, memory, n),
+        0o210..=0o213 => do_move(Transfer::Negated, op % 4, regs, memory, n),
+        0o214..=0o217 => do_move(Transfer::Magnitude, op % 4, regs, memory, n),
+        0o220..=0o223 => do_imul(op % 4, regs, memory, n),
+        0o224..=0o227 => do_mul(op % 4, regs, memory, n),
+        0o230..=0o233 => do_idiv(op % 4, regs, memory, n),
         0o240..=0o242 | 0o245..=0o246 => do_shift(regs, memory, n),
         0o243 => do_jffo(regs, memory, n),
         0o400..=0o407
@@ -207,7 +206,7 @@ fn carry_out_rest<M: JobMemory>(
         | 0o440..=0o447
         | 0o450..=0o457
         | 0o460..=0o467
-        | 0o470..=0o477 => in_mode!(do_boolean, regs, memory, n),
+        | 0o470..=0o477 => in_mode!(do_boolean, op, regs, memory, n),
         0o500..=0o507
         | 0o510..=0o517
         | 0o520..=0o527
@@ -215,12 +214,12 @@ fn carry_out_rest<M: JobMemory>(
         | 0o540..=0o547
         | 0o550..=0o557
         | 0o560..=0o567
-        | 0o570..=0o577 => in_mode!(do_half, regs, memory, n),
+        | 0o570..=0o577 => in_mode!(do_half, op, regs, memory, n),
         0o600..=0o607 | 0o610..=0o617 => do_test(0, regs, memory, n),
         0o620..=0o627 | 0o630..=0o637 => do_test(1, regs, memory, n),
         0o640..=0o647 | 0o650..=0o657 => do_test(2, regs, memory, n),
         0o660..=0o667 | 0o670..=0o677 => do_test(3, regs, memory, n),
-        _ => Outcome::Stop(refusal(n.op, n.ac, StopReason::IllegalInstruction)),
+        _ => Outcome::Stop(refusal(op, n.ac(), StopReason::IllegalInstruction)),
     };
     Some(outcome)
 }
@@ -233,25 +232,23 @@ pub fn carry_out<M: JobMemory>(
     n: Instruction,
     word: Word,
 ) -> Option<Outcome>
-    requires op { n.op < 2 ^ 9 }
-    requires ac { n.ac < 16 }
-    requires e { n.e < 2 ^ 18 }
     ensures none { IsNone result ↔ (family_of n.op ≡ Xct) }
     ensures kept { IsNone result → (regs.new ≡ regs.old) × (M.words memory.new ≡ M.words memory.old) }
     ensures after { IfSome result (λ o. record { regs = regs.new; core = M.words memory.new; outcome = o } ≡ (if is_listed (family_of n.op) n.ac then carried_out (family_of n.op) regs.old (M.words memory.old) n (used_in (target_of regs.old.ac (M.words memory.old) word)) else stopped regs.old (M.words memory.old) IllegalInstruction)) }
     ensures place { M.place memory.new ≡ M.place memory.old }
 {
-    if n.op.wrapping_sub(0o250) < 0o130 {
-        carry_out_common(regs, memory, n, word)
+    let op = n.op();
+    if op.wrapping_sub(0o250) < 0o130 {
+        carry_out_common(op, regs, memory, n, word)
     } else {
-        carry_out_rest(regs, memory, n, word)
+        carry_out_rest(op, regs, memory, n, word)
     }
 }
 
 /// Why a word is refused whose address is not found. It is not inlined, so that the operations that
 /// are left out have a block of code of their own.
 #[inline(never)]
-pub fn refusal(op: u32, ac: usize, reason: StopReason) -> StopReason
+pub fn refusal(op: u32, ac: Accumulator, reason: StopReason) -> StopReason
     requires { op < 2 ^ 9 }
     ensures { result ≡ refusal_of (family_of op) ac reason }
 {

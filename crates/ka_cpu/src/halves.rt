@@ -19,14 +19,13 @@ fn find_destination<M: JobMemory>(
     n: Instruction,
 ) -> Option<Word>
     requires mode { mode ≡ n.op % 4 }
-    requires ac { n.ac < 16 }
     ensures value { result ≡ destination regs.now (M.words memory.now) n }
     ensures legal { IfSome result (λ _. (w : ℕ) → memory_legal (M.words memory.now) (to_memory n w) ≡ true) }
 {
     if mode < 2 {
-        Some(regs.ac[n.ac])
+        Some(regs.ac[n.ac().index()])
     } else {
-        fetch(regs, memory, n.e)
+        fetch(regs, memory, n.e().number())
     }
 }
 
@@ -35,8 +34,6 @@ fn find_destination<M: JobMemory>(
 #[tactic(auto, unfolding(crate::specs::Halves::half_row))]
 pub fn do_half<M: JobMemory>(mode: u32, regs: &mut Regs, memory: &mut M, n: Instruction) -> Outcome
     requires mode { mode ≡ n.op % 4 }
-    requires ac { n.ac < 16 }
-    requires e { n.e < 2 ^ 18 }
     ensures after { record { regs = regs.new; core = M.words memory.new; outcome = result } ≡ finished regs.old (M.words memory.old) n (half_row regs.old (M.words memory.old) n) }
     ensures place { M.place memory.new ≡ M.place memory.old }
 {
@@ -46,7 +43,7 @@ pub fn do_half<M: JobMemory>(mode: u32, regs: &mut Regs, memory: &mut M, n: Inst
     let Some(old) = find_destination(mode, regs, memory, n) else {
         return ILLEGAL;
     };
-    put_moved(mode, regs, memory, n, move_half(n.op / 4 % 16, word, old));
+    put_moved(mode, regs, memory, n, move_half(n.op() / 4 % 16, word, old));
     regs.pc = regs.pc.plus(1);
     Outcome::Done
 }

@@ -5,16 +5,65 @@ ghost use Rattle.ka_cpu.specs.Places.{is_legal};
 ghost use Rattle.ka_cpu.specs.Effects.{moved_operand, computed_operand, to_memory, moved_to_ac, computed_to_ac, memory_legal, ac_memory, core_memory, ac_put, carried_flags};
 
 use crate::memory::store;
-use crate::{JobMemory, Outcome, Regs, StopReason, fetch};
-use word36::Word;
+use crate::{Accumulator, JobMemory, Outcome, Regs, StopReason, fetch};
+use std::marker::Model;
+use word36::{Address, Word};
 
-/// An instruction whose address is known: its operation (below 1000 octal), its AC field (below
-/// 20 octal) and its E (below 1000000 octal).
+/// An instruction whose address is known.
 #[derive(Clone, Copy)]
 pub struct Instruction {
-    pub op: u32,
-    pub ac: usize,
-    pub e: u32,
+    op: u32,
+    ac: Accumulator,
+    e: Address,
+}
+
+impl Model for Instruction {
+    ghost use Rattle.std.specs.Prelude.{◌<◌, ◌^◌};
+    ghost use Rattle.ka_cpu.specs.Instructions.{Instruction};
+
+    ghost Value = { Instruction };
+
+    ghost view = { λ n. record { op = n.op; ac = n.ac; e = n.e } };
+
+    ghost inverse = { λ n. record { op = n.op; ac = n.ac; e = n.e } };
+
+    ghost invariant = { λ n. n.op < 2 ^ 9 };
+}
+
+impl Instruction {
+    /// The instruction of this operation, AC field and address.
+    #[inline(always)]
+    pub fn new(op: u32, ac: Accumulator, e: Address) -> Instruction
+        requires { op < 2 ^ 9 }
+        ensures { result ≡ record { op = op; ac = ac; e = e } }
+    {
+        Instruction { op, ac, e }
+    }
+
+    /// Its operation.
+    #[inline(always)]
+    pub fn op(self) -> u32
+        ensures value { result ≡ self.op }
+        ensures below { result < 2 ^ 9 }
+    {
+        self.op
+    }
+
+    /// Its AC field.
+    #[inline(always)]
+    pub fn ac(self) -> Accumulator
+        ensures { result ≡ self.ac }
+    {
+        self.ac
+    }
+
+    /// Its address.
+    #[inline(always)]
+    pub fn e(self) -> Address
+        ensures { result ≡ self.e }
+    {
+        self.e
+    }
 }
 
 /// What comes of an instruction that names an illegal place.
@@ -29,14 +78,12 @@ pub fn operand_to_move<M: JobMemory>(
     n: Instruction,
 ) -> Option<Word>
     requires mode { mode ≡ n.op % 4 }
-    requires ac { n.ac < 16 }
-    requires e { n.e < 2 ^ 18 }
     ensures { result ≡ moved_operand regs.now (M.words memory.now) n }
 {
     match mode {
-        1 => Some(Word::join(0, n.e)),
-        2 => Some(regs.ac[n.ac]),
-        _ => fetch(regs, memory, n.e),
+        1 => Some(Word::join(0, n.e().number())),
+        2 => Some(regs.ac[n.ac().index()]),
+        _ => fetch(regs, memory, n.e().number()),
     }
 }
 
@@ -50,14 +97,13 @@ pub fn operand_to_compute<M: JobMemory>(
     n: Instruction,
 ) -> Option<Word>
     requires mode { mode ≡ n.op % 4 }
-    requires e { n.e < 2 ^ 18 }
     ensures value { result ≡ computed_operand regs.now (M.words memory.now) n }
     ensures legal { IfSome result (λ _. (w : ℕ) → memory_legal (M.words memory.now) (to_memory n w) ≡ true) }
 {
     if mode == 1 {
-        Some(Word::join(0, n.e))
+        Some(Word::join(0, n.e().number()))
     } else {
-        fetch(regs, memory, n.e)
+        fetch(regs, memory, n.e().number())
     }
 }
 
@@ -75,7 +121,7 @@ pub fn can_store<M: JobMemory>(mode: u32, memory: &M, n: Instruction) -> bool
     requires { mode ≡ n.op % 4 }
     ensures { (w : ℕ) → result ≡ memory_legal (M.words memory.now) (to_memory n w) }
 {
-    mode < 2 || is_legal_place(memory, n.e)
+    mode < 2 || is_legal_place(memory, n.e().number())
 }
 
 /// Puts a result where MOVE to MOVM and the halfwords put it.
@@ -88,20 +134,19 @@ pub fn put_moved<M: JobMemory>(
     word: Word,
 )
     requires mode { mode ≡ n.op % 4 }
-    requires ac { n.ac < 16 }
     ensures regs { regs.new ≡ record regs.old { ac = ac_put (ac_memory regs.old.ac (to_memory n word)) n.ac (moved_to_ac n word) } }
     ensures core { M.words memory.new ≡ core_memory (M.words memory.old) (to_memory n word) }
     ensures place { M.place memory.new ≡ M.place memory.old }
 {
     match mode {
-        0 | 1 => regs.ac[n.ac] = word,
+        0 | 1 => regs.ac[n.ac().index()] = word,
         2 => {
-            store(regs, memory, n.e, word);
+            store(regs, memory, n.e().number(), word);
         }
         _ => {
-            store(regs, memory, n.e, word);
-            if n.ac != 0 {
-                regs.ac[n.ac] = word;
+            store(regs, memory, n.e().number(), word);
+            if n.ac().number() != 0 {
+                regs.ac[n.ac().index()] = word;
             }
         }
     }
@@ -117,19 +162,18 @@ pub fn put_computed<M: JobMemory>(
     word: Word,
 )
     requires mode { mode ≡ n.op % 4 }
-    requires ac { n.ac < 16 }
     ensures regs { regs.new ≡ record regs.old { ac = ac_put (ac_memory regs.old.ac (to_memory n word)) n.ac (computed_to_ac n word) } }
     ensures core { M.words memory.new ≡ core_memory (M.words memory.old) (to_memory n word) }
     ensures place { M.place memory.new ≡ M.place memory.old }
 {
     match mode {
-        0 | 1 => regs.ac[n.ac] = word,
+        0 | 1 => regs.ac[n.ac().index()] = word,
         2 => {
-            store(regs, memory, n.e, word);
+            store(regs, memory, n.e().number(), word);
         }
         _ => {
-            store(regs, memory, n.e, word);
-            regs.ac[n.ac] = word;
+            store(regs, memory, n.e().number(), word);
+            regs.ac[n.ac().index()] = word;
         }
     }
 }

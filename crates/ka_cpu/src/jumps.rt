@@ -1,8 +1,9 @@
 //! JFFO, AOBJP, AOBJN, JRST, JFCL, subroutine calls and calls of the monitor.
 
-ghost use Rattle.std.specs.Prelude.{◌≡◌, ◌<◌, ◌^◌, Ok};
+ghost use Rattle.std.specs.Prelude.{◌≡◌, ◌+◌, ◌%◌, ◌^◌, true, false, Ok};
 ghost use Rattle.ka_cpu.specs.Effects.{finished};
 ghost use Rattle.ka_cpu.specs.Addresses.{target_of, used_in};
+ghost use Rattle.ka_cpu.specs.Places.{ac_with, core_with, is_legal};
 ghost use Rattle.ka_cpu.specs.Jumps.{jffo_row, aobj_row, jrst_row, jfcl_row, jsr_row, jsp_row, jsa_row, jra_row, call_row};
 
 use crate::address::find_used;
@@ -17,18 +18,16 @@ use word36::{Address, Word};
 #[inline(always)]
 #[tactic(auto, unfolding(crate::specs::Jumps::jffo_row))]
 pub fn do_jffo<M: JobMemory>(regs: &mut Regs, memory: &mut M, n: Instruction) -> Outcome
-    requires ac { n.ac < 16 }
-    requires e { n.e < 2 ^ 18 }
     ensures after { record { regs = regs.new; core = M.words memory.new; outcome = result } ≡ finished regs.old (M.words memory.old) n (Ok (jffo_row regs.old n)) }
     ensures place { M.place memory.new ≡ M.place memory.old }
 {
-    let a = regs.ac[n.ac];
+    let a = regs.ac[n.ac().index()];
     if a.number() == 0 {
-        regs.ac[(n.ac + 1) % 16] = Word::new(0);
+        regs.ac[n.ac().next().index()] = Word::new(0);
         regs.pc = regs.pc.plus(1);
     } else {
-        regs.ac[(n.ac + 1) % 16] = leading_zeros(a);
-        regs.pc = Address::new(n.e);
+        regs.ac[n.ac().next().index()] = leading_zeros(a);
+        regs.pc = n.e();
     }
     Outcome::Done
 }
@@ -37,20 +36,14 @@ pub fn do_jffo<M: JobMemory>(regs: &mut Regs, memory: &mut M, n: Instruction) ->
 #[inline(always)]
 #[tactic(auto, unfolding(crate::specs::Jumps::aobj_row))]
 pub fn do_aobj<M: JobMemory>(regs: &mut Regs, memory: &mut M, n: Instruction) -> Outcome
-    requires ac { n.ac < 16 }
-    requires e { n.e < 2 ^ 18 }
     ensures after { record { regs = regs.new; core = M.words memory.new; outcome = result } ≡ finished regs.old (M.words memory.old) n (Ok (aobj_row regs.old n)) }
     ensures place { M.place memory.new ≡ M.place memory.old }
 {
-    let word = count_up(regs.ac[n.ac]);
-    regs.ac[n.ac] = word;
+    let word = count_up(regs.ac[n.ac().index()]);
+    regs.ac[n.ac().index()] = word;
     let negative = word.is_negative();
-    let test = if n.op % 2 == 0 { !negative } else { negative };
-    regs.pc = if test {
-        Address::new(n.e)
-    } else {
-        regs.pc.plus(1)
-    };
+    let test = if n.op() % 2 == 0 { !negative } else { negative };
+    regs.pc = if test { n.e() } else { regs.pc.plus(1) };
     Outcome::Done
 }
 
@@ -58,25 +51,23 @@ pub fn do_aobj<M: JobMemory>(regs: &mut Regs, memory: &mut M, n: Instruction) ->
 #[inline(always)]
 #[tactic(auto, unfolding(crate::specs::Jumps::jrst_row))]
 pub fn do_jrst<M: JobMemory>(regs: &mut Regs, memory: &mut M, n: Instruction, word: Word) -> Outcome
-    requires ac { n.ac < 16 }
-    requires e { n.e < 2 ^ 18 }
     ensures after { record { regs = regs.new; core = M.words memory.new; outcome = result } ≡ finished regs.old (M.words memory.old) n (Ok (jrst_row regs.old n (used_in (target_of regs.old.ac (M.words memory.old) word)))) }
     ensures place { M.place memory.new ≡ M.place memory.old }
 {
-    match n.ac {
+    match n.ac().number() {
         0 => {
-            regs.pc = Address::new(n.e);
+            regs.pc = n.e();
             Outcome::Done
         }
         2 => {
             if let Some(used) = find_used(regs, memory, word) {
                 regs.flags = flags_of(used);
             }
-            regs.pc = Address::new(n.e);
+            regs.pc = n.e();
             Outcome::Done
         }
         _ => {
-            regs.pc = Address::new(n.e);
+            regs.pc = n.e();
             Outcome::Stop(StopReason::Halt)
         }
     }
@@ -86,15 +77,13 @@ pub fn do_jrst<M: JobMemory>(regs: &mut Regs, memory: &mut M, n: Instruction, wo
 #[inline(always)]
 #[tactic(auto, unfolding(crate::specs::Jumps::jfcl_row))]
 pub fn do_jfcl<M: JobMemory>(regs: &mut Regs, memory: &mut M, n: Instruction) -> Outcome
-    requires ac { n.ac < 16 }
-    requires e { n.e < 2 ^ 18 }
     ensures after { record { regs = regs.new; core = M.words memory.new; outcome = result } ≡ finished regs.old (M.words memory.old) n (Ok (jfcl_row regs.old n)) }
     ensures place { M.place memory.new ≡ M.place memory.old }
 {
     let old = regs.flags;
-    let overflow = n.ac >> 3 & 1 == 1;
-    let carry0 = n.ac >> 2 & 1 == 1;
-    let carry1 = n.ac >> 1 & 1 == 1;
+    let overflow = n.ac().number() >> 3 & 1 == 1;
+    let carry0 = n.ac().number() >> 2 & 1 == 1;
+    let carry1 = n.ac().number() >> 1 & 1 == 1;
     let test = old.overflow && overflow || old.carry0 && carry0 || old.carry1 && carry1;
     regs.flags = Flags {
         overflow: old.overflow && !overflow,
@@ -102,29 +91,38 @@ pub fn do_jfcl<M: JobMemory>(regs: &mut Regs, memory: &mut M, n: Instruction) ->
         carry1: old.carry1 && !carry1,
         no_divide: old.no_divide,
     };
-    regs.pc = if test {
-        Address::new(n.e)
-    } else {
-        regs.pc.plus(1)
-    };
+    regs.pc = if test { n.e() } else { regs.pc.plus(1) };
     Outcome::Done
+}
+
+/// Stores a word at E and goes on behind it, where E is legal; whether it is.
+#[inline(always)]
+fn enter_behind<M: JobMemory>(regs: &mut Regs, memory: &mut M, n: Instruction, word: Word) -> bool
+    ensures legal { result ≡ is_legal (M.words memory.old) n.e }
+    ensures kept { result ≡ false → (regs.new ≡ regs.old) × (M.words memory.new ≡ M.words memory.old) }
+    ensures regs { result ≡ true → regs.new ≡ record regs.old { ac = ac_with regs.old.ac n.e word; pc = (n.e + 1) % 2 ^ 18 } }
+    ensures core { result ≡ true → M.words memory.new ≡ core_with (M.words memory.old) n.e word }
+    ensures place { M.place memory.new ≡ M.place memory.old }
+{
+    if !is_legal_place(memory, n.e().number()) {
+        return false;
+    }
+    store(regs, memory, n.e().number(), word);
+    regs.pc = n.e().plus(1);
+    true
 }
 
 /// JSR
 #[inline(always)]
 #[tactic(auto, unfolding(crate::specs::Jumps::jsr_row))]
 pub fn do_jsr<M: JobMemory>(regs: &mut Regs, memory: &mut M, n: Instruction) -> Outcome
-    requires ac { n.ac < 16 }
-    requires e { n.e < 2 ^ 18 }
     ensures after { record { regs = regs.new; core = M.words memory.new; outcome = result } ≡ finished regs.old (M.words memory.old) n (Ok (jsr_row regs.old n)) }
     ensures place { M.place memory.new ≡ M.place memory.old }
 {
-    if !is_legal_place(memory, n.e) {
+    let word = pc_word(regs.flags, regs.pc.plus(1));
+    if !enter_behind(regs, memory, n, word) {
         return ILLEGAL;
     }
-    let word = pc_word(regs.flags, regs.pc.plus(1));
-    store(regs, memory, n.e, word);
-    regs.pc = Address::new(n.e).plus(1);
     Outcome::Done
 }
 
@@ -132,13 +130,11 @@ pub fn do_jsr<M: JobMemory>(regs: &mut Regs, memory: &mut M, n: Instruction) -> 
 #[inline(always)]
 #[tactic(auto, unfolding(crate::specs::Jumps::jsp_row))]
 pub fn do_jsp<M: JobMemory>(regs: &mut Regs, memory: &mut M, n: Instruction) -> Outcome
-    requires ac { n.ac < 16 }
-    requires e { n.e < 2 ^ 18 }
     ensures after { record { regs = regs.new; core = M.words memory.new; outcome = result } ≡ finished regs.old (M.words memory.old) n (Ok (jsp_row regs.old n)) }
     ensures place { M.place memory.new ≡ M.place memory.old }
 {
-    regs.ac[n.ac] = pc_word(regs.flags, regs.pc.plus(1));
-    regs.pc = Address::new(n.e);
+    regs.ac[n.ac().index()] = pc_word(regs.flags, regs.pc.plus(1));
+    regs.pc = n.e();
     Outcome::Done
 }
 
@@ -146,19 +142,15 @@ pub fn do_jsp<M: JobMemory>(regs: &mut Regs, memory: &mut M, n: Instruction) -> 
 #[inline(always)]
 #[tactic(auto, unfolding(crate::specs::Jumps::jsa_row))]
 pub fn do_jsa<M: JobMemory>(regs: &mut Regs, memory: &mut M, n: Instruction) -> Outcome
-    requires ac { n.ac < 16 }
-    requires e { n.e < 2 ^ 18 }
     ensures after { record { regs = regs.new; core = M.words memory.new; outcome = result } ≡ finished regs.old (M.words memory.old) n (Ok (jsa_row regs.old n)) }
     ensures place { M.place memory.new ≡ M.place memory.old }
 {
-    if !is_legal_place(memory, n.e) {
+    let link = Word::join(n.e().number(), regs.pc.plus(1).number());
+    let a = regs.ac[n.ac().index()];
+    if !enter_behind(regs, memory, n, a) {
         return ILLEGAL;
     }
-    let link = Word::join(n.e, regs.pc.plus(1).number());
-    let a = regs.ac[n.ac];
-    store(regs, memory, n.e, a);
-    regs.ac[n.ac] = link;
-    regs.pc = Address::new(n.e).plus(1);
+    regs.ac[n.ac().index()] = link;
     Outcome::Done
 }
 
@@ -166,17 +158,15 @@ pub fn do_jsa<M: JobMemory>(regs: &mut Regs, memory: &mut M, n: Instruction) -> 
 #[inline(always)]
 #[tactic(auto, unfolding(crate::specs::Jumps::jra_row))]
 pub fn do_jra<M: JobMemory>(regs: &mut Regs, memory: &mut M, n: Instruction) -> Outcome
-    requires ac { n.ac < 16 }
-    requires e { n.e < 2 ^ 18 }
     ensures after { record { regs = regs.new; core = M.words memory.new; outcome = result } ≡ finished regs.old (M.words memory.old) n (jra_row regs.old (M.words memory.old) n) }
     ensures place { M.place memory.new ≡ M.place memory.old }
 {
-    let a = regs.ac[n.ac];
+    let a = regs.ac[n.ac().index()];
     let Some(word) = fetch(regs, memory, a.left()) else {
         return ILLEGAL;
     };
-    regs.ac[n.ac] = word;
-    regs.pc = Address::new(n.e);
+    regs.ac[n.ac().index()] = word;
+    regs.pc = n.e();
     Outcome::Done
 }
 
@@ -189,11 +179,9 @@ pub fn do_call<M: JobMemory>(
     memory: &mut M,
     n: Instruction,
 ) -> Outcome
-    requires ac { n.ac < 16 }
-    requires e { n.e < 2 ^ 18 }
     ensures after { record { regs = regs.new; core = M.words memory.new; outcome = result } ≡ finished regs.old (M.words memory.old) n (Ok (call_row kind regs.old n)) }
     ensures place { M.place memory.new ≡ M.place memory.old }
 {
     regs.pc = regs.pc.plus(1);
-    Outcome::Call(kind, n.ac as u8, n.e)
+    Outcome::Call(kind, n.ac().number(), n.e().number())
 }

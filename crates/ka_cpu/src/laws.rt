@@ -10,7 +10,7 @@ ghost use Rattle.ka_cpu.specs.Exec.{ComesTo, ExecutesTooFar, RefusedOnTheWay, ex
 ghost use Rattle.ka_cpu.specs.Places.{is_legal, word_at};
 ghost use Rattle.ka_cpu.specs.Runs.{ran, ran_then};
 ghost use Rattle.ka_cpu.specs.Stacks.{popped, pushed};
-ghost use Rattle.ka_cpu.specs.declared.instruction.Instruction.{Instruction};
+ghost use Rattle.ka_cpu.specs.Instructions.{Instruction};
 ghost use Rattle.ka_cpu.specs.declared.outcome.Outcome.TheVariants.{Done};
 ghost use Rattle.ka_cpu.specs.declared.outcome.StopReason.TheVariants.{AddressChain, IllegalAddress};
 

@@ -1,6 +1,7 @@
 //! The processor: one instruction of a KA10 in user mode.
 #![tactic(auto)]
 
+mod accumulator;
 mod address;
 mod arithmetic;
 mod blocks;
@@ -22,6 +23,7 @@ mod registers;
 mod shifts;
 mod stacks;
 
+pub use accumulator::Accumulator;
 pub use core_words::CoreWords;
 pub use laws::{address_laws, block_laws, exec_laws, refusal_laws, run_laws, stack_laws, xct_laws};
 pub use memory::{JobMemory, fetch, store, try_store};

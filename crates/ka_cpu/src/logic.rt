@@ -15,10 +15,9 @@ use word36::Word;
 #[inline(always)]
 fn boolean_operand<M: JobMemory>(mode: u32, regs: &Regs, memory: &M, n: Instruction) -> Option<Word>
     requires mode { mode ≡ n.op % 4 }
-    requires e { n.e < 2 ^ 18 }
     ensures { result ≡ (if reads_none (n.op / 4 % 16) then Some 0 else computed_operand regs.now (M.words memory.now) n) }
 {
-    match n.op / 4 % 16 {
+    match n.op() / 4 % 16 {
         0 | 5 | 10 | 15 => Some(Word::new(0)),
         _ => operand_to_compute(mode, regs, memory, n),
     }
@@ -34,8 +33,6 @@ pub fn do_boolean<M: JobMemory>(
     n: Instruction,
 ) -> Outcome
     requires mode { mode ≡ n.op % 4 }
-    requires ac { n.ac < 16 }
-    requires e { n.e < 2 ^ 18 }
     ensures after { record { regs = regs.new; core = M.words memory.new; outcome = result } ≡ finished regs.old (M.words memory.old) n (boolean_row regs.old (M.words memory.old) n) }
     ensures place { M.place memory.new ≡ M.place memory.old }
 {
@@ -45,7 +42,7 @@ pub fn do_boolean<M: JobMemory>(
     if !can_store(mode, memory, n) {
         return ILLEGAL;
     }
-    let combined = combine(n.op / 4 % 16, regs.ac[n.ac], word);
+    let combined = combine(n.op() / 4 % 16, regs.ac[n.ac().index()], word);
     put_computed(mode, regs, memory, n, combined);
     regs.pc = regs.pc.plus(1);
     Outcome::Done
@@ -54,19 +51,18 @@ pub fn do_boolean<M: JobMemory>(
 /// The mask of a test.
 #[inline(always)]
 fn read_mask<M: JobMemory>(regs: &Regs, memory: &M, n: Instruction) -> Option<Word>
-    requires { n.e < 2 ^ 18 }
     ensures { result ≡ masked n.op (mask_source regs.now (M.words memory.now) n) }
 {
-    if n.op / 8 % 2 == 0 {
-        return Some(if n.op % 2 == 0 {
-            Word::join(0, n.e)
+    if n.op() / 8 % 2 == 0 {
+        return Some(if n.op() % 2 == 0 {
+            Word::join(0, n.e().number())
         } else {
-            Word::join(n.e, 0)
+            Word::join(n.e().number(), 0)
         });
     }
-    match fetch(regs, memory, n.e) {
+    match fetch(regs, memory, n.e().number()) {
         None => None,
-        Some(word) => Some(turn_mask(n.op, word)),
+        Some(word) => Some(turn_mask(n.op(), word)),
     }
 }
 
@@ -74,14 +70,13 @@ fn read_mask<M: JobMemory>(regs: &Regs, memory: &M, n: Instruction) -> Option<Wo
 #[inline(always)]
 fn modify(change: u32, regs: &mut Regs, n: Instruction, a: Word, mask: Word)
     requires change { change ≡ n.op / 16 % 4 }
-    requires ac { n.ac < 16 }
     ensures { regs.new ≡ record regs.old { ac = ac_put regs.old.ac n.ac (modified n.op a mask) } }
 {
     match change {
         0 => {}
-        1 => regs.ac[n.ac] = a.and(mask.not()),
-        2 => regs.ac[n.ac] = a.xor(mask),
-        _ => regs.ac[n.ac] = a.or(mask),
+        1 => regs.ac[n.ac().index()] = a.and(mask.not()),
+        2 => regs.ac[n.ac().index()] = a.xor(mask),
+        _ => regs.ac[n.ac().index()] = a.or(mask),
     }
 }
 
@@ -95,16 +90,14 @@ pub fn do_test<M: JobMemory>(
     n: Instruction,
 ) -> Outcome
     requires change { change ≡ n.op / 16 % 4 }
-    requires ac { n.ac < 16 }
-    requires e { n.e < 2 ^ 18 }
     ensures after { record { regs = regs.new; core = M.words memory.new; outcome = result } ≡ finished regs.old (M.words memory.old) n (test_row regs.old (M.words memory.old) n) }
     ensures place { M.place memory.new ≡ M.place memory.old }
 {
     let Some(mask) = read_mask(regs, memory, n) else {
         return ILLEGAL;
     };
-    let a = regs.ac[n.ac];
-    let test = skips(n.op, a.and(mask).number() == 0);
+    let a = regs.ac[n.ac().index()];
+    let test = skips(n.op(), a.and(mask).number() == 0);
     modify(change, regs, n, a, mask);
     regs.pc = regs.pc.plus(if test { 2 } else { 1 });
     Outcome::Done

@@ -1,8 +1,10 @@
 //! MOVE, MOVS, MOVN, MOVM and EXCH.
 
-ghost use Rattle.std.specs.Prelude.{◌≡◌, ◌<◌, ◌^◌, ◌%◌};
-ghost use Rattle.ka_cpu.specs.Effects.{finished};
-ghost use Rattle.ka_cpu.specs.Moves.{move_row, movs_row, movn_row, movm_row, exch_row};
+ghost use Rattle.std.specs.Prelude.{◌≡◌, ◌%◌};
+ghost use Rattle.word36.specs.Words.{complement};
+ghost use Rattle.ka_word.specs.Sums.{negated};
+ghost use Rattle.ka_cpu.specs.Effects.{finished, ac_put, ac_memory, core_memory, to_memory, moved_to_ac, sum_flags};
+ghost use Rattle.ka_cpu.specs.Moves.{move_row, exch_row};
 
 use crate::instruction::{
     ILLEGAL, Instruction, can_store, operand_to_move, put_moved, set_carries,
@@ -12,79 +14,44 @@ use crate::{JobMemory, Outcome, Regs, fetch};
 use ka_word::negate;
 use word36::Word;
 
-/// MOVE
-#[inline(always)]
-#[tactic(auto, unfolding(crate::specs::Moves::move_row))]
-pub fn do_move<M: JobMemory>(mode: u32, regs: &mut Regs, memory: &mut M, n: Instruction) -> Outcome
-    requires mode { mode ≡ n.op % 4 }
-    requires ac { n.ac < 16 }
-    requires e { n.e < 2 ^ 18 }
-    ensures after { record { regs = regs.new; core = M.words memory.new; outcome = result } ≡ finished regs.old (M.words memory.old) n (move_row regs.old (M.words memory.old) n) }
-    ensures place { M.place memory.new ≡ M.place memory.old }
-{
-    let Some(word) = operand_to_move(mode, regs, memory, n) else {
-        return ILLEGAL;
-    };
-    if !can_store(mode, memory, n) {
-        return ILLEGAL;
-    }
-    put_moved(mode, regs, memory, n, word);
-    regs.pc = regs.pc.plus(1);
-    Outcome::Done
+/// What a full-word move stores of its operand.
+#[derive(Clone, Copy)]
+pub enum Transfer {
+    /// MOVE: the operand.
+    Plain,
+    /// MOVS: the operand with its halves swapped.
+    Swapped,
+    /// MOVN: the operand negated.
+    Negated,
+    /// MOVM: the magnitude.
+    Magnitude,
 }
 
-/// MOVS
+/// Puts a word negated where a move puts its result, with the flags of that.
 #[inline(always)]
-#[tactic(auto, unfolding(crate::specs::Moves::movs_row))]
-pub fn do_movs<M: JobMemory>(mode: u32, regs: &mut Regs, memory: &mut M, n: Instruction) -> Outcome
+fn put_negated<M: JobMemory>(mode: u32, regs: &mut Regs, memory: &mut M, n: Instruction, word: Word)
     requires mode { mode ≡ n.op % 4 }
-    requires ac { n.ac < 16 }
-    requires e { n.e < 2 ^ 18 }
-    ensures after { record { regs = regs.new; core = M.words memory.new; outcome = result } ≡ finished regs.old (M.words memory.old) n (movs_row regs.old (M.words memory.old) n) }
+    ensures regs { regs.new ≡ record regs.old { ac = ac_put (ac_memory regs.old.ac (to_memory n (negated word))) n.ac (moved_to_ac n (negated word)); flags = sum_flags regs.old.flags (complement word) 1 0 } }
+    ensures core { M.words memory.new ≡ core_memory (M.words memory.old) (to_memory n (negated word)) }
     ensures place { M.place memory.new ≡ M.place memory.old }
 {
-    let Some(word) = operand_to_move(mode, regs, memory, n) else {
-        return ILLEGAL;
-    };
-    if !can_store(mode, memory, n) {
-        return ILLEGAL;
-    }
-    put_moved(mode, regs, memory, n, word.swapped());
-    regs.pc = regs.pc.plus(1);
-    Outcome::Done
-}
-
-/// MOVN
-#[inline(always)]
-#[tactic(auto, unfolding(crate::specs::Moves::movn_row))]
-pub fn do_movn<M: JobMemory>(mode: u32, regs: &mut Regs, memory: &mut M, n: Instruction) -> Outcome
-    requires mode { mode ≡ n.op % 4 }
-    requires ac { n.ac < 16 }
-    requires e { n.e < 2 ^ 18 }
-    ensures after { record { regs = regs.new; core = M.words memory.new; outcome = result } ≡ finished regs.old (M.words memory.old) n (movn_row regs.old (M.words memory.old) n) }
-    ensures place { M.place memory.new ≡ M.place memory.old }
-{
-    let Some(word) = operand_to_move(mode, regs, memory, n) else {
-        return ILLEGAL;
-    };
-    if !can_store(mode, memory, n) {
-        return ILLEGAL;
-    }
     put_moved(mode, regs, memory, n, negate(word));
     let (zero, one) = word.not().carries(Word::new(1), false);
     set_carries(regs, zero, one);
-    regs.pc = regs.pc.plus(1);
-    Outcome::Done
 }
 
-/// MOVM
+/// MOVE, MOVS, MOVN, MOVM
 #[inline(always)]
-#[tactic(auto, unfolding(crate::specs::Moves::movm_row))]
-pub fn do_movm<M: JobMemory>(mode: u32, regs: &mut Regs, memory: &mut M, n: Instruction) -> Outcome
+#[tactic(auto, unfolding(crate::specs::Moves::move_row))]
+pub fn do_move<M: JobMemory>(
+    transfer: Transfer,
+    mode: u32,
+    regs: &mut Regs,
+    memory: &mut M,
+    n: Instruction,
+) -> Outcome
     requires mode { mode ≡ n.op % 4 }
-    requires ac { n.ac < 16 }
-    requires e { n.e < 2 ^ 18 }
-    ensures after { record { regs = regs.new; core = M.words memory.new; outcome = result } ≡ finished regs.old (M.words memory.old) n (movm_row regs.old (M.words memory.old) n) }
+    ensures after { record { regs = regs.new; core = M.words memory.new; outcome = result } ≡ finished regs.old (M.words memory.old) n (move_row transfer regs.old (M.words memory.old) n) }
     ensures place { M.place memory.new ≡ M.place memory.old }
 {
     let Some(word) = operand_to_move(mode, regs, memory, n) else {
@@ -93,12 +60,17 @@ pub fn do_movm<M: JobMemory>(mode: u32, regs: &mut Regs, memory: &mut M, n: Inst
     if !can_store(mode, memory, n) {
         return ILLEGAL;
     }
-    if word.is_negative() {
-        put_moved(mode, regs, memory, n, negate(word));
-        let (zero, one) = word.not().carries(Word::new(1), false);
-        set_carries(regs, zero, one);
-    } else {
-        put_moved(mode, regs, memory, n, word);
+    match transfer {
+        Transfer::Plain => put_moved(mode, regs, memory, n, word),
+        Transfer::Swapped => put_moved(mode, regs, memory, n, word.swapped()),
+        Transfer::Negated => put_negated(mode, regs, memory, n, word),
+        Transfer::Magnitude => {
+            if word.is_negative() {
+                put_negated(mode, regs, memory, n, word);
+            } else {
+                put_moved(mode, regs, memory, n, word);
+            }
+        }
     }
     regs.pc = regs.pc.plus(1);
     Outcome::Done
@@ -108,17 +80,15 @@ pub fn do_movm<M: JobMemory>(mode: u32, regs: &mut Regs, memory: &mut M, n: Inst
 #[inline(always)]
 #[tactic(auto, using(crate::proofs::Legal::legal_from_read), unfolding(crate::specs::Moves::exch_row))]
 pub fn do_exch<M: JobMemory>(regs: &mut Regs, memory: &mut M, n: Instruction) -> Outcome
-    requires ac { n.ac < 16 }
-    requires e { n.e < 2 ^ 18 }
     ensures after { record { regs = regs.new; core = M.words memory.new; outcome = result } ≡ finished regs.old (M.words memory.old) n (exch_row regs.old (M.words memory.old) n) }
     ensures place { M.place memory.new ≡ M.place memory.old }
 {
-    let Some(word) = fetch(regs, memory, n.e) else {
+    let Some(word) = fetch(regs, memory, n.e().number()) else {
         return ILLEGAL;
     };
-    let a = regs.ac[n.ac];
-    store(regs, memory, n.e, a);
-    regs.ac[n.ac] = word;
+    let a = regs.ac[n.ac().index()];
+    store(regs, memory, n.e().number(), a);
+    regs.ac[n.ac().index()] = word;
     regs.pc = regs.pc.plus(1);
     Outcome::Done
 }

@@ -10,8 +10,8 @@ ghost use Rattle.ka_cpu.specs.Runs.{ran};
 use crate::address::find_address;
 use crate::dispatch::{carry_out, refusal};
 use crate::instruction::{ILLEGAL, Instruction};
-use crate::{CoreWords, JobMemory, Outcome, Regs, StopReason, fetch};
-use word36::Word;
+use crate::{Accumulator, CoreWords, JobMemory, Outcome, Regs, StopReason, fetch};
+use word36::{Address, Word};
 
 /// The most XCTs of one instruction (this project's profile).
 const MOST_EXECUTES: u32 = 256;
@@ -27,11 +27,10 @@ fn operation(word: Word) -> u32
 
 /// The AC field of a word.
 #[inline(always)]
-fn accumulator_field(word: Word) -> usize
-    ensures value { result ≡ ac_field word }
-    ensures below { result < 16 }
+fn accumulator_field(word: Word) -> Accumulator
+    ensures { result ≡ ac_field word }
 {
-    (word.number() >> 23 & 0o17) as usize
+    Accumulator::new((word.number() >> 23 & 0o17) as u8)
 }
 
 /// Whether a word is an XCT.
@@ -45,11 +44,11 @@ fn is_execute_word(word: Word) -> bool
 /// The word that an XCT with this E executes, over at most 255 XCTs more; it is none itself.
 #[inline(never)]
 #[tactic(auto, using(crate::proofs::Executes::xct_steps))]
-fn follow_executes<M: JobMemory>(regs: &Regs, memory: &M, e: u32) -> Result<Word, StopReason>
+fn follow_executes<M: JobMemory>(regs: &Regs, memory: &M, e: Address) -> Result<Word, StopReason>
     ensures value { result ≡ reading (word_at regs.now.ac (M.words memory.now) e) (λ v. word_behind 255 regs.now.ac (M.words memory.now) v) }
     ensures plain { IfOk result (λ w. is_xct w ≡ false) }
 {
-    let Some(first) = fetch(regs, memory, e) else {
+    let Some(first) = fetch(regs, memory, e.number()) else {
         return Err(StopReason::IllegalAddress);
     };
     let mut word = first;
@@ -58,7 +57,7 @@ fn follow_executes<M: JobMemory>(regs: &Regs, memory: &M, e: u32) -> Result<Word
             return Ok(word);
         }
         let place = find_address(regs, memory, word)?;
-        match fetch(regs, memory, place) {
+        match fetch(regs, memory, place.number()) {
             None => return Err(StopReason::IllegalAddress),
             Some(next) => word = next,
         }
@@ -72,7 +71,7 @@ fn follow_executes<M: JobMemory>(regs: &Regs, memory: &M, e: u32) -> Result<Word
 
 /// The same, inlined: so its caller, which is inlined too, keeps no place for what the call returns.
 #[inline(always)]
-fn find_executed<M: JobMemory>(regs: &Regs, memory: &M, e: u32) -> Result<Word, StopReason>
+fn find_executed<M: JobMemory>(regs: &Regs, memory: &M, e: Address) -> Result<Word, StopReason>
     ensures value { result ≡ reading (word_at regs.now.ac (M.words memory.now) e) (λ v. word_behind 255 regs.now.ac (M.words memory.now) v) }
     ensures plain { IfOk result (λ w. is_xct w ≡ false) }
 {
@@ -97,7 +96,7 @@ fn execute<M: JobMemory>(regs: &mut Regs, memory: &mut M, word: Word) -> Outcome
             Err(reason) => return Outcome::Stop(refusal(op, ac, reason)),
             Ok(e) => e,
         };
-        let instruction = Instruction { op, ac, e };
+        let instruction = Instruction::new(op, ac, e);
         if let Some(outcome) = carry_out(regs, memory, instruction, word) {
             return outcome;
         }

@@ -28,19 +28,17 @@ fn ending(runs_out: bool) -> Outcome
 #[inline(always)]
 #[tactic(auto, unfolding(crate::specs::Stacks::pushj_row))]
 pub fn do_pushj<M: JobMemory>(regs: &mut Regs, memory: &mut M, n: Instruction) -> Outcome
-    requires ac { n.ac < 16 }
-    requires e { n.e < 2 ^ 18 }
     ensures after { record { regs = regs.new; core = M.words memory.new; outcome = result } ≡ finished regs.old (M.words memory.old) n (Ok (pushj_row regs.old n)) }
     ensures place { M.place memory.new ≡ M.place memory.old }
 {
-    let old = regs.ac[n.ac];
+    let old = regs.ac[n.ac().index()];
     let (pointer, runs_out) = push_down(old);
     let word = pc_word(regs.flags, regs.pc.plus(1));
     if !try_store(regs, memory, pointer.right(), word) {
         return ILLEGAL;
     }
-    regs.ac[n.ac] = pointer;
-    regs.pc = Address::new(n.e);
+    regs.ac[n.ac().index()] = pointer;
+    regs.pc = n.e();
     ending(runs_out)
 }
 
@@ -48,21 +46,19 @@ pub fn do_pushj<M: JobMemory>(regs: &mut Regs, memory: &mut M, n: Instruction) -
 #[inline(always)]
 #[tactic(auto, unfolding(crate::specs::Stacks::push_row))]
 pub fn do_push<M: JobMemory>(regs: &mut Regs, memory: &mut M, n: Instruction) -> Outcome
-    requires ac { n.ac < 16 }
-    requires e { n.e < 2 ^ 18 }
     ensures after { record { regs = regs.new; core = M.words memory.new; outcome = result } ≡ finished regs.old (M.words memory.old) n (push_row regs.old (M.words memory.old) n) }
     ensures place { M.place memory.new ≡ M.place memory.old }
 {
-    let Some(word) = fetch(regs, memory, n.e) else {
+    let Some(word) = fetch(regs, memory, n.e().number()) else {
         return ILLEGAL;
     };
-    let old = regs.ac[n.ac];
+    let old = regs.ac[n.ac().index()];
     let (pointer, runs_out) = push_down(old);
     if !is_legal_place(memory, pointer.right()) {
         return ILLEGAL;
     }
     store(regs, memory, pointer.right(), word);
-    regs.ac[n.ac] = pointer;
+    regs.ac[n.ac().index()] = pointer;
     regs.pc = regs.pc.plus(1);
     ending(runs_out)
 }
@@ -71,21 +67,19 @@ pub fn do_push<M: JobMemory>(regs: &mut Regs, memory: &mut M, n: Instruction) ->
 #[inline(always)]
 #[tactic(auto, unfolding(crate::specs::Stacks::pop_row))]
 pub fn do_pop<M: JobMemory>(regs: &mut Regs, memory: &mut M, n: Instruction) -> Outcome
-    requires ac { n.ac < 16 }
-    requires e { n.e < 2 ^ 18 }
     ensures after { record { regs = regs.new; core = M.words memory.new; outcome = result } ≡ finished regs.old (M.words memory.old) n (pop_row regs.old (M.words memory.old) n) }
     ensures place { M.place memory.new ≡ M.place memory.old }
 {
-    let old = regs.ac[n.ac];
+    let old = regs.ac[n.ac().index()];
     let Some(word) = fetch(regs, memory, old.right()) else {
         return ILLEGAL;
     };
-    if !is_legal_place(memory, n.e) {
+    if !is_legal_place(memory, n.e().number()) {
         return ILLEGAL;
     }
     let pointer = pop_up(old);
-    store(regs, memory, n.e, word);
-    regs.ac[n.ac] = pointer;
+    store(regs, memory, n.e().number(), word);
+    regs.ac[n.ac().index()] = pointer;
     regs.pc = regs.pc.plus(1);
     ending(runs_under(old))
 }
@@ -94,17 +88,15 @@ pub fn do_pop<M: JobMemory>(regs: &mut Regs, memory: &mut M, n: Instruction) -> 
 #[inline(always)]
 #[tactic(auto, unfolding(crate::specs::Stacks::popj_row))]
 pub fn do_popj<M: JobMemory>(regs: &mut Regs, memory: &mut M, n: Instruction) -> Outcome
-    requires ac { n.ac < 16 }
-    requires e { n.e < 2 ^ 18 }
     ensures after { record { regs = regs.new; core = M.words memory.new; outcome = result } ≡ finished regs.old (M.words memory.old) n (popj_row regs.old (M.words memory.old) n) }
     ensures place { M.place memory.new ≡ M.place memory.old }
 {
-    let old = regs.ac[n.ac];
+    let old = regs.ac[n.ac().index()];
     let Some(word) = fetch(regs, memory, old.right()) else {
         return ILLEGAL;
     };
     let pointer = pop_up(old);
-    regs.ac[n.ac] = pointer;
+    regs.ac[n.ac().index()] = pointer;
     regs.pc = Address::new(word.right());
     ending(runs_under(old))
 }
