@@ -2,13 +2,15 @@
 use Rattle.std.proofs.Common.{◌≡◌, ◌≢◌, ℕ, suc, ◌+◌, ◌-◌, ◌<◌, ◌≤◌, List, [], ◌∷◌, ◌++◌, length, map, true, false, cond, arith, refl, sym, ap, ◌∙◌, Option, Some, None, append_assoc}
 use Rattle.std.proofs.lemmas.List.{map-append, append-nil}
 use Rattle.std.specs.Prelude.{Err, filter_map, is_none, not, IsSome, IfSome, ◌↔◌}
-use Rattle.std.specs.Option.{ok_or}
+use Rattle.std.specs.Option.{ok_or, option_map}
 use Rattle.std.specs.List.{list_any}
 use Rattle.std.proofs.lemmas.List.Sums.{take_while-cons}
 use Rattle.std.proofs.lemmas.List.Folds.{list_any-append}
 use Rattle.std.proofs.lemmas.Bool.Decides.{nat_tests}
 use Rattle.lock_queue.specs.declared.refusal.Refusal.TheVariants.{BadPointer, BadName}
-use Rattle.ka_word.specs.Bytes.{incremented}
+use Rattle.word36.specs.Words.{right_half}
+use Rattle.ka_word.specs.Bytes.{byte_of, incremented}
+use Rattle.ka_cpu.specs.Places.{word_at}
 use Rattle.call_block.specs.Names.{pointers_from, character_at, characters, is_zero, text_of, name_text}
 
 -- one more character
@@ -27,6 +29,12 @@ characters-next ac core p q n k x h next at =
     ∙ characters-suc ac core p (n - (k + 1))
     ∙ ap (λ (r : ℕ). cond (not (is_zero (character_at ac core r))) (character_at ac core r ∷ characters ac core r (n - (k + 1))) []) (sym next)
     ∙ ap (λ (y : Option ℕ). cond (not (is_zero y)) (y ∷ rest) []) at
+
+-- the character of the next pointer, where its word is known
+pub character_in : (ac core : List ℕ) (p q : ℕ) (word known : Option ℕ) → word ≡ word_at ac core (right_half (incremented p)) → q ≡ incremented p → word ≡ known →
+    character_at ac core q ≡ option_map (byte_of q) known
+character_in ac core p q word known is next was =
+    ap (λ (r : ℕ). option_map (byte_of q) (word_at ac core (right_half r))) next ∙ ap (option_map (byte_of q)) (sym is ∙ was)
 
 pub not_zero : (c : ℕ) → c ≢ 0 → not (is_zero (Some c)) ≡ true
 not_zero c ne = grind (arith, nat_tests)

@@ -1,12 +1,13 @@
 //! The name of a lock, as a block names it.
-ghost use Rattle.std.specs.Prelude.{◌≡◌, ◌<◌, IfSome};
-ghost use Rattle.ka_word.specs.Bytes.{incremented, size_of};
-ghost use Rattle.call_block.specs.Names.{character_at, characters, AreLegalCharacters, text_at, name_at};
+ghost use Rattle.std.specs.Prelude.{◌≡◌, ◌<◌, nat_le};
+ghost use Rattle.word36.specs.Words.{right_half};
+ghost use Rattle.ka_word.specs.Bytes.{byte_of, incremented, position_of, size_of};
+ghost use Rattle.ka_cpu.specs.Places.{word_at};
+ghost use Rattle.call_block.specs.Names.{characters, AreLegalCharacters, text_at, name_at};
 
 use crate::bits::bits;
 use arrayvec::ArrayString;
 use ka_cpu::{JobMemory, Regs, fetch};
-use ka_word::load_byte;
 use lock_queue::{Name, NameText, Refusal, UserCode};
 use word36::{NAME_LENGTH, Word};
 
@@ -16,25 +17,56 @@ const READ_AT_MOST: usize = NAME_LENGTH + 1;
 /// The bits of a character.
 const CHARACTER_BITS: u64 = 7;
 
+/// What takes a pointer to the next character of the same word.
+const CHARACTER_STEP: u64 = CHARACTER_BITS << 30;
+
+/// Whether the next character stands in the word of this one.
+fn is_next_here(pointer: Word) -> bool
+    ensures { result ≡ nat_le 7 (position_of pointer) }
+{
+    CHARACTER_BITS <= pointer.number() >> 30
+}
+
 /// The pointer to the next character, as ILDB increments it.
-#[tactic(auto, using(crate::proofs::PointerLemmas::size_of_next))]
+#[tactic(auto, using(crate::proofs::PointerLemmas::size_of_next, crate::proofs::PointerLemmas::incremented_here))]
 fn increment(pointer: Word) -> Word
     requires { size_of pointer ≡ 7 }
     ensures value { result ≡ incremented pointer }
     ensures size { size_of result ≡ 7 }
 {
-    ka_word::increment(pointer)
+    if is_next_here(pointer) {
+        Word::new(pointer.number() - CHARACTER_STEP)
+    } else {
+        ka_word::increment(pointer)
+    }
 }
 
-/// The character that a pointer points to, if its word is legal.
-#[tactic(auto, using(crate::proofs::PointerLemmas::byte_below))]
-fn character_at<M: JobMemory>(regs: &Regs, memory: &M, pointer: Word) -> Option<u8>
-    requires { size_of pointer ≡ 7 }
-    ensures value { result ≡ character_at regs.now.ac (M.words memory.now) pointer }
-    ensures ascii { IfSome result (λ c. c < 128) }
+/// The word of the next character, if it is legal, from that of this one.
+fn next_word<M: JobMemory>(
+    regs: &Regs,
+    memory: &M,
+    pointer: Word,
+    word: Option<Word>,
+) -> Option<Word>
+    requires size { size_of pointer ≡ 7 }
+    requires word { word ≡ word_at regs.now.ac (M.words memory.now) (right_half pointer) }
+    ensures { result ≡ word_at regs.now.ac (M.words memory.now) (right_half (incremented pointer)) }
 {
-    let word = fetch(regs, memory, pointer.right())?;
-    Some(load_byte(pointer, word).number() as u8)
+    if is_next_here(pointer) {
+        word
+    } else {
+        fetch(regs, memory, increment(pointer).right())
+    }
+}
+
+/// The character of a word that a pointer points to.
+#[tactic(auto, using(crate::proofs::PointerLemmas::byte_masked, crate::proofs::PointerLemmas::byte_below))]
+fn character_of(pointer: Word, word: Word) -> u8
+    requires { size_of pointer ≡ 7 }
+    ensures value { result ≡ byte_of pointer word }
+    ensures ascii { result < 128 }
+{
+    (word.number() >> (pointer.number() >> 30) & 0o177) as u8
 }
 
 /// What the increments of a pointer point to, up to the first zero or to one character more than a
@@ -48,10 +80,12 @@ fn read_characters<M: JobMemory>(
     ensures { AreLegalCharacters result (characters regs.now.ac (M.words memory.now) pointer READ_AT_MOST) }
 {
     let mut pointer = pointer;
+    let mut word = fetch(regs, memory, pointer.right());
     let mut text = ArrayString::new();
     for _count in 0..READ_AT_MOST {
+        word = next_word(regs, memory, pointer, word);
         pointer = increment(pointer);
-        let character = character_at(regs, memory, pointer)?;
+        let character = character_of(pointer, word?);
         if character == 0 {
             return Some(text);
         }

@@ -5,7 +5,7 @@ ghost use Rattle.word36.specs.declared.sizes.TheConstants.{MOST_BLOCKS};
 
 use core_store::{CoreStore, PlainCore};
 use job_sched::{Interrupts, Job, JobTable, NO_FLAGS, NO_INTERRUPTS, Stop, TimeOfDay, Wait};
-use ka_cpu::{CallKind, Flags, Regs, StopReason};
+use ka_cpu::{Accumulator, CallKind, Flags, Regs, StopReason};
 use lock_queue::{LockTable, PlainTable};
 use std::alloc::{AllocError, Global};
 use tty_lines::{LineNumber, Lines};
@@ -222,13 +222,18 @@ impl Machine {
     }
 
     /// Makes a call of a job that is there.
-    fn call(&mut self, n: u8, call: MonitorCall) -> CallOutcome {
-        if n == 0 || n > JOBS || call.ac > 0o17 || call.e > 0o777_777 {
+    fn call(&mut self, n: u8, kind: CallKind, ac: u8, e: u32) -> CallOutcome {
+        if n == 0 || n > JOBS || ac > 0o17 || e > 0o777_777 {
             return CallOutcome::Gone;
         }
         if self.table.job(n).is_none() || self.cores.blocks(n) == 0 {
             return CallOutcome::Gone;
         }
+        let call = MonitorCall {
+            kind,
+            ac: Accumulator::new(ac),
+            e: Address::new(e),
+        };
         perform(
             n,
             call,
@@ -243,14 +248,12 @@ impl Machine {
 
     /// Makes a CALLI of this AC field and number.
     fn calli(&mut self, n: u8, ac: u8, e: u32) -> CallOutcome {
-        let kind = CallKind::Calli;
-        self.call(n, MonitorCall { kind, ac, e })
+        self.call(n, CallKind::Calli, ac, e)
     }
 
     /// Makes a TTCALL of this function and E.
     fn ttcall(&mut self, n: u8, ac: u8, e: u32) -> CallOutcome {
-        let kind = CallKind::Ttcall;
-        self.call(n, MonitorCall { kind, ac, e })
+        self.call(n, CallKind::Ttcall, ac, e)
     }
 
     /// Puts a word in AC 1 of a job at its call and makes a CALLI with AC field 1; the PC and AC 1 after

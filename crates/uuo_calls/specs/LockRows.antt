@@ -39,6 +39,11 @@ abbrev pub changing : Result Block Refusal → Result LockCall Refusal
 changing (Ok block) = Ok (Modify block.wants)
 changing (Err refusal) = Err refusal
 
+-- the wants that a block gives up
+abbrev pub naming : Result Block Refusal → Result LockCall Refusal
+naming (Ok block) = Ok (DequeueNamed block.wants)
+naming (Err refusal) = Err refusal
+
 -- what ENQ. asks for: its AC is `function,,address`
 abbrev pub enq_asks : List ℕ → List ℕ → ℕ → ℕ → Bool → Result LockCall Refusal
 enq_asks regs core n w armed =
@@ -47,6 +52,19 @@ enq_asks regs core n w armed =
     if left_half w == 2 then entering Interrupt armed (block_at regs core (right_half w) n Requested) else
     if left_half w == 3 then changing (block_at regs core (right_half w) n Named) else
     Err NoFunction
+
+-- a call with the locks of a block in the place of its own, if it names locks
+abbrev pub with_block : LockCall → Result Block Refusal → Result LockCall Refusal
+with_block (Enqueue kind id wants armed) block = entering kind armed block
+with_block (Modify wants) block = changing block
+with_block (DequeueNamed wants) block = naming block
+with_block DequeueAll block = Ok DequeueAll
+with_block (DequeueId id) block = Ok (DequeueId id)
+
+-- the call that was filled in, or the refusal
+abbrev pub filled : Result (Unit {0}) Refusal → LockCall → Result LockCall Refusal
+filled (Ok u) call = Ok call
+filled (Err refusal) call = Err refusal
 
 -- what is left and answered where this is asked for
 abbrev pub asked : List Request → ℕ → Result LockCall Refusal → Outcome
@@ -68,11 +86,6 @@ enq_row n ac a =
     replied a ac
     (asked a.requests n
     (enq_asks a.job.regs.ac (core_of a.cores n) n (ac_of a.job ac) (is_some a.job.interrupts.vector)))
-
--- the wants that a block gives up
-abbrev pub naming : Result Block Refusal → Result LockCall Refusal
-naming (Ok block) = Ok (DequeueNamed block.wants)
-naming (Err refusal) = Err refusal
 
 -- what DEQ. asks for: its AC is `function,,address`, or `2,,id`
 abbrev pub deq_asks : List ℕ → List ℕ → ℕ → ℕ → Result LockCall Refusal

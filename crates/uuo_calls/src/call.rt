@@ -1,16 +1,17 @@
 //! A call of the monitor, and how it ends.
 
-use ka_cpu::CallKind;
+use ka_cpu::{Accumulator, CallKind};
+use word36::Address;
 
 /// A call of the monitor, as the processor hands it over.
 #[derive(Clone, Copy, Debug, PartialEq, Eq)]
 pub struct MonitorCall {
     /// The operation that calls: CALLI or TTCALL.
     pub kind: CallKind,
-    /// Its AC field, 0 to 17 octal.
-    pub ac: u8,
-    /// Its effective address, 0 to 777777 octal.
-    pub e: u32,
+    /// Its AC field.
+    pub ac: Accumulator,
+    /// Its effective address.
+    pub e: Address,
 }
 
 /// How a call ends.

@@ -22,18 +22,18 @@ use crate::service::{Service, service_of};
 use crate::status::enqc;
 use core_store::CoreStore;
 use job_sched::{Job, JobTable, Stop, TimeOfDay};
-use ka_cpu::StopReason;
+use ka_cpu::{Accumulator, StopReason};
 use lock_queue::LockTable;
 use tty_lines::Lines;
-use word36::{DATA_WORDS, Word};
+use word36::{Address, DATA_WORDS, Word};
 
 /// A call of a job, by its row of the table of calls.
 fn carry_out<L: LockTable, C: CoreStore>(
     service: Service,
     time: TimeOfDay,
     number: u8,
-    ac: u8,
-    e: u32,
+    ac: Accumulator,
+    e: Address,
     job: &mut Job,
     lines: &mut Lines,
     locks: &mut L,
@@ -41,8 +41,6 @@ fn carry_out<L: LockTable, C: CoreStore>(
     shared: &mut [Word; DATA_WORDS],
 ) -> CallOutcome
     requires number { IsJob number }
-    requires ac { ac < 16 }
-    requires e { e < 2 ^ 18 }
     requires core { core_of (C.meaning cores.old) number ≢ [] }
     ensures row { record { job = job.new; lines = lines.new; requests = L.requests locks.new; cores = C.meaning cores.new; shared = shared.new; ending = result }
         ≡ row_of service time number ac e (record { job = job.old; lines = lines.old; requests = L.requests locks.old; cores = C.meaning cores.old; shared = shared.old; ending = Done }) }
@@ -117,8 +115,6 @@ pub fn perform<L: LockTable, C: CoreStore>(
     time: TimeOfDay,
 ) -> CallOutcome
     requires number { IsJob number }
-    requires ac { call.ac < 16 }
-    requires e { call.e < 2 ^ 18 }
     requires there { IsSome (job_at table.old.jobs number) }
     requires core { core_of (C.meaning cores.old) number ≢ [] }
     ensures performed { record { world = record { table = table.new; lines = lines.new; requests = L.requests locks.new; cores = C.meaning cores.new; shared = shared.new }; outcome = result }

@@ -9,6 +9,7 @@ ghost use Rattle.uuo_calls.specs.CoreRow.{blocks_asked, with_highest, grown, cor
 use crate::returns::skip;
 use core_store::CoreStore;
 use job_sched::Job;
+use ka_cpu::Accumulator;
 use word36::{BLOCK_WORDS, MOST_BLOCKS, Word};
 
 /// The place that tells a job its highest legal address.
@@ -58,16 +59,15 @@ fn grow<C: CoreStore>(number: u8, cores: &mut C, blocks: u32) -> bool
 }
 
 /// CORE.
-pub(crate) fn resize_core<C: CoreStore>(number: u8, job: &mut Job, ac: u8, cores: &mut C)
+pub(crate) fn resize_core<C: CoreStore>(number: u8, job: &mut Job, ac: Accumulator, cores: &mut C)
     requires number { IsJob number }
-    requires ac { ac < 16 }
     requires core { core_of (C.meaning cores.old) number ≢ [] }
     ensures { record { job = job.new; cores = C.meaning cores.new } ≡ core_called number ac job.old (C.meaning cores.old) }
 {
-    if let Some(blocks) = blocks_asked(job.regs.ac[ac as usize]) {
+    if let Some(blocks) = blocks_asked(job.regs.ac[ac.index()]) {
         if grow(number, cores, blocks) {
             skip(job);
         }
     }
-    job.regs.ac[ac as usize] = Word::new(cores.free() as u64);
+    job.regs.ac[ac.index()] = Word::new(cores.free() as u64);
 }

@@ -6,19 +6,19 @@ ghost use Rattle.uuo_calls.specs.DataRows.{datrd, datwr};
 
 use crate::returns::{refuse, skip};
 use job_sched::Job;
+use ka_cpu::Accumulator;
 use word36::{DATA_WORDS, Word};
 
 /// The code of an index that no shared word has.
 const NO_SUCH_WORD: u8 = 1;
 
 /// DATRD.
-pub(crate) fn datrd(job: &mut Job, ac: u8, shared: &[Word; DATA_WORDS])
-    requires { ac < 16 }
+pub(crate) fn datrd(job: &mut Job, ac: Accumulator, shared: &[Word; DATA_WORDS])
     ensures { job.new ≡ datrd shared.now ac job.old }
 {
-    let at = job.regs.ac[ac as usize].right() as usize;
+    let at = job.regs.ac[ac.index()].right() as usize;
     if at < DATA_WORDS {
-        job.regs.ac[ac as usize] = shared[at];
+        job.regs.ac[ac.index()] = shared[at];
         skip(job);
     } else {
         refuse(job, ac, NO_SUCH_WORD);
@@ -26,13 +26,12 @@ pub(crate) fn datrd(job: &mut Job, ac: u8, shared: &[Word; DATA_WORDS])
 }
 
 /// DATWR.
-pub(crate) fn datwr(job: &mut Job, ac: u8, shared: &mut [Word; DATA_WORDS])
-    requires { ac < 16 }
+pub(crate) fn datwr(job: &mut Job, ac: Accumulator, shared: &mut [Word; DATA_WORDS])
     ensures { record { job = job.new; shared = shared.new } ≡ datwr ac job.old shared.old }
 {
-    let at = job.regs.ac[ac as usize].right() as usize;
+    let at = job.regs.ac[ac.index()].right() as usize;
     if at < DATA_WORDS {
-        shared[at] = job.regs.ac[(ac as usize + 1) % 16];
+        shared[at] = job.regs.ac[ac.next().index()];
         skip(job);
     } else {
         refuse(job, ac, NO_SUCH_WORD);

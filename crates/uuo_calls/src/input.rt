@@ -12,7 +12,7 @@ use core_store::{CoreStore, CoreWindow};
 use job_sched::{Job, Wait};
 use ka_cpu::{JobMemory, StopReason, is_legal_kept, store};
 use tty_lines::Lines;
-use word36::Word;
+use word36::{Address, Word};
 
 /// Whether what is to be read has come to a job's line.
 fn has_input(awaited: Awaited, job: &Job, lines: &Lines) -> bool
@@ -63,14 +63,13 @@ fn read<M: JobMemory>(
     skips: bool,
     job: &mut Job,
     memory: &mut M,
-    e: u32,
+    e: Address,
     lines: &mut Lines,
 ) -> CallOutcome
-    requires e { e < 2 ^ 18 }
     ensures called { record { job = job.new; core = M.words memory.new; lines = lines.new; ending = result } ≡ input_called awaited skips e (M.words memory.old) job.old lines.old }
     ensures place { M.place memory.new ≡ M.place memory.old }
 {
-    if !is_legal_kept(memory, e) {
+    if !is_legal_kept(memory, e.number()) {
         stop_at(job, StopReason::IllegalAddress);
         return CallOutcome::Done;
     }
@@ -78,7 +77,7 @@ fn read<M: JobMemory>(
         return go_without(awaited, skips, job);
     }
     let c = next_character(job, lines);
-    store(&mut job.regs, memory, e, c);
+    store(&mut job.regs, memory, e.number(), c);
     if skips {
         skip(job);
     }
@@ -91,12 +90,11 @@ pub(crate) fn input<C: CoreStore>(
     awaited: Awaited,
     skips: bool,
     job: &mut Job,
-    e: u32,
+    e: Address,
     lines: &mut Lines,
     cores: &mut C,
 ) -> CallOutcome
     requires number { IsJob number }
-    requires e { e < 2 ^ 18 }
     ensures called { record { job = job.new; lines = lines.new; ending = result } ≡ without_core (input_called awaited skips e (core_of (C.meaning cores.old) number) job.old lines.old) }
     ensures cores { C.meaning cores.new ≡ with_core (C.meaning cores.old) number (input_called awaited skips e (core_of (C.meaning cores.old) number) job.old lines.old).core }
 {

@@ -7,7 +7,7 @@ ghost use Rattle.uuo_calls.specs.InterruptRows.{debrk, dismissed, piini, pisys};
 use crate::returns::{refuse, skip, stop_at};
 use core_store::{CoreStore, CoreWindow};
 use job_sched::{Interrupts, Job};
-use ka_cpu::{StopReason, are_legal_kept, flags_of, word_kept};
+use ka_cpu::{Accumulator, StopReason, are_legal_kept, flags_of, word_kept};
 use word36::{Address, Word};
 
 /// The words of a vector.
@@ -23,13 +23,12 @@ const NEITHER_ON_NOR_OFF: u8 = 1;
 const NO_VECTOR: u8 = 2;
 
 /// PIINI.
-pub(crate) fn piini<C: CoreStore>(number: u8, job: &mut Job, ac: u8, cores: &mut C)
+pub(crate) fn piini<C: CoreStore>(number: u8, job: &mut Job, ac: Accumulator, cores: &mut C)
     requires number { IsJob number }
-    requires ac { ac < 16 }
     ensures job { job.new ≡ piini (core_of (C.meaning cores.old) number) ac job.old }
     ensures cores { C.meaning cores.new ≡ C.meaning cores.old }
 {
-    let place = job.regs.ac[ac as usize].right();
+    let place = job.regs.ac[ac.index()].right();
     let words = cores.window(number);
     let mut window = CoreWindow { words };
     if are_legal_kept(&mut window, place, VECTOR_WORDS) {
@@ -45,11 +44,10 @@ pub(crate) fn piini<C: CoreStore>(number: u8, job: &mut Job, ac: u8, cores: &mut
 }
 
 /// PISYS.
-pub(crate) fn pisys(job: &mut Job, ac: u8)
-    requires { ac < 16 }
+pub(crate) fn pisys(job: &mut Job, ac: Accumulator)
     ensures { job.new ≡ pisys ac job.old }
 {
-    let asks = job.regs.ac[ac as usize].number();
+    let asks = job.regs.ac[ac.index()].number();
     if asks > 1 {
         refuse(job, ac, NEITHER_ON_NOR_OFF);
     } else if job.interrupts.vector.is_none() {

@@ -11,6 +11,7 @@ ghost use Rattle.uuo_calls.specs.Around.{ac_of, with_ac, waiting};
 ghost use Rattle.uuo_calls.specs.JobRows.{calm, ticks_of};
 
 use job_sched::{Job, NO_INTERRUPTS, Stop, TimeOfDay, Wait};
+use ka_cpu::Accumulator;
 use lock_queue::LockTable;
 use word36::Word;
 
@@ -38,27 +39,24 @@ pub(crate) fn exit<L: LockTable>(number: u8, job: &mut Job, locks: &mut L)
 }
 
 /// MSTIME.
-pub(crate) fn mstime(time: TimeOfDay, job: &mut Job, ac: u8)
-    requires { ac < 16 }
+pub(crate) fn mstime(time: TimeOfDay, job: &mut Job, ac: Accumulator)
     ensures { job.new ≡ with_ac job.old ac (time * 50 / 3) }
 {
-    job.regs.ac[ac as usize] = Word::new(time.milliseconds() as u64);
+    job.regs.ac[ac.index()] = Word::new(time.milliseconds() as u64);
 }
 
 /// PJOB.
-pub(crate) fn pjob(number: u8, job: &mut Job, ac: u8)
-    requires { ac < 16 }
+pub(crate) fn pjob(number: u8, job: &mut Job, ac: Accumulator)
     ensures { job.new ≡ with_ac job.old ac number }
 {
-    job.regs.ac[ac as usize] = Word::new(number as u64);
+    job.regs.ac[ac.index()] = Word::new(number as u64);
 }
 
 /// SLEEP.
-pub(crate) fn sleep(job: &mut Job, ac: u8)
-    requires { ac < 16 }
+pub(crate) fn sleep(job: &mut Job, ac: Accumulator)
     ensures { job.new ≡ waiting job.old (Sleep (ticks_of (right_half (ac_of job.old ac)))) }
 {
-    let seconds = job.regs.ac[ac as usize].right();
+    let seconds = job.regs.ac[ac.index()].right();
     let ticks = if seconds == 0 { 1 } else { SECOND * seconds };
     job.wait = Wait::Sleep(ticks);
 }

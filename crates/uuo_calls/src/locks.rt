@@ -1,19 +1,75 @@
 //! ENQ. and DEQ.
 
-ghost use Rattle.std.specs.Prelude.{◌≡◌, ◌<◌, is_some};
+ghost use Rattle.std.specs.Prelude.{◌≡◌, ◌<◌, is_some, IsTrue, OnOk};
 ghost use Rattle.core_store.specs.Cores.{IsJob, core_of};
 ghost use Rattle.call_block.specs.Blocks.{block_at};
+ghost use Rattle.lock_queue.specs.WellFormed.{names_locks, shares_no_pools};
+ghost use Rattle.lock_queue.specs.Calls.{outcome_of};
+ghost use Rattle.lock_queue.specs.declared.call.LockCall.TheVariants.{DequeueAll, DequeueId};
 ghost use Rattle.lock_queue.specs.declared.terms.LockUse.TheVariants.{Requested, Named};
-ghost use Rattle.uuo_calls.specs.LockRows.{entering, changing, enq_asks, deq_asks, naming, asked, answered};
+ghost use Rattle.uuo_calls.specs.LockRows.{filled, with_block, entering, changing, naming, enq_asks, deq_asks, asked, answered};
 ghost use Rattle.uuo_calls.specs.Around.{ac_of};
 
 use crate::blocks::block_kept;
 use crate::returns::{refuse, skip};
 use core_store::{CoreStore, CoreWindow};
 use job_sched::{Job, Wait};
-use ka_cpu::{JobMemory, Regs};
+use ka_cpu::{Accumulator, JobMemory, Regs};
 use lock_queue::{EnqueueKind, LockCall, LockReply, LockTable, LockUse, Refusal, RequestId, Wants};
 use word36::{Address, Word};
+
+/// Fills in the locks of a call that names some, and the id of a request, from the block at an
+/// address. They are filled in where they stand: a call has room for 16 locks, too much to be moved.
+#[inline(always)]
+fn fill_call<M: JobMemory>(
+    call: &mut LockCall,
+    lock_use: LockUse,
+    regs: &Regs,
+    memory: &mut M,
+    place: Address,
+    number: u8,
+) -> Result<(), Refusal>
+    ensures call { filled result call.new ≡ with_block call.old (block_at regs.now.ac (M.words memory.old) place number lock_use) }
+    ensures named { OnOk result (IsTrue (names_locks call.new)) }
+    ensures unshared { OnOk result (IsTrue (shares_no_pools call.new)) }
+    ensures same { memory.new ≡ memory.old }
+{
+    match call {
+        LockCall::Enqueue { id, wants, .. } => {
+            *id = block_kept(regs, memory, place, number, lock_use, wants)?;
+        }
+        LockCall::Modify(wants) => {
+            block_kept(regs, memory, place, number, lock_use, wants)?;
+        }
+        LockCall::DequeueNamed(wants) => {
+            block_kept(regs, memory, place, number, lock_use, wants)?;
+        }
+        LockCall::DequeueAll | LockCall::DequeueId(_) => {}
+    }
+    Ok(())
+}
+
+/// Makes a call with the locks of the block at an address.
+#[inline(always)]
+fn call_on_block<L: LockTable, M: JobMemory>(
+    call: &mut LockCall,
+    lock_use: LockUse,
+    regs: &Regs,
+    memory: &mut M,
+    place: Address,
+    number: u8,
+    locks: &mut L,
+) -> LockReply
+    requires number { IsJob number }
+    ensures reply { result ≡ (asked (L.requests locks.old) number (with_block call.old (block_at regs.now.ac (M.words memory.old) place number lock_use))).reply }
+    ensures requests { L.requests locks.new ≡ (asked (L.requests locks.old) number (with_block call.old (block_at regs.now.ac (M.words memory.old) place number lock_use))).requests }
+    ensures same { memory.new ≡ memory.old }
+{
+    match fill_call(call, lock_use, regs, memory, place, number) {
+        Ok(()) => locks.call(number, call),
+        Err(refusal) => LockReply::Refused(refusal),
+    }
+}
 
 /// Enters the request that a block asks for, in a call of ENQ. 0 to 2.
 fn enter<L: LockTable, M: JobMemory>(
@@ -30,19 +86,21 @@ fn enter<L: LockTable, M: JobMemory>(
     ensures requests { L.requests locks.new ≡ (asked (L.requests locks.old) number (entering kind armed (block_at regs.now.ac (M.words memory.old) place number Requested))).requests }
     ensures same { memory.new ≡ memory.old }
 {
-    let mut wants = Wants::new();
-    match block_kept(regs, memory, place, number, LockUse::Requested, &mut wants) {
-        Ok(id) => {
-            let call = LockCall::Enqueue {
-                kind,
-                id,
-                wants,
-                armed,
-            };
-            locks.call(number, &call)
-        }
-        Err(refusal) => LockReply::Refused(refusal),
-    }
+    let mut call = LockCall::Enqueue {
+        kind,
+        id: RequestId::new(0),
+        wants: Wants::new(),
+        armed,
+    };
+    call_on_block(
+        &mut call,
+        LockUse::Requested,
+        regs,
+        memory,
+        place,
+        number,
+        locks,
+    )
 }
 
 /// Makes the change that a block asks for, in a call of ENQ. 3.
@@ -58,11 +116,16 @@ fn change<L: LockTable, M: JobMemory>(
     ensures requests { L.requests locks.new ≡ (asked (L.requests locks.old) number (changing (block_at regs.now.ac (M.words memory.old) place number Named))).requests }
     ensures same { memory.new ≡ memory.old }
 {
-    let mut wants = Wants::new();
-    match block_kept(regs, memory, place, number, LockUse::Named, &mut wants) {
-        Ok(_) => locks.call(number, &LockCall::Modify(wants)),
-        Err(refusal) => LockReply::Refused(refusal),
-    }
+    let mut call = LockCall::Modify(Wants::new());
+    call_on_block(
+        &mut call,
+        LockUse::Named,
+        regs,
+        memory,
+        place,
+        number,
+        locks,
+    )
 }
 
 /// Makes a call of ENQ.: the left half of AC is the function, the right half the block's address.
@@ -91,8 +154,7 @@ fn enqueue<L: LockTable, M: JobMemory>(
 }
 
 /// Tells a job what its lock call answered.
-fn answer(job: &mut Job, ac: u8, reply: LockReply)
-    requires { ac < 16 }
+fn answer(job: &mut Job, ac: Accumulator, reply: LockReply)
     ensures { job.new ≡ answered job.old ac reply }
 {
     match reply {
@@ -109,17 +171,16 @@ fn answer(job: &mut Job, ac: u8, reply: LockReply)
 pub(crate) fn enq<L: LockTable, C: CoreStore>(
     number: u8,
     job: &mut Job,
-    ac: u8,
+    ac: Accumulator,
     locks: &mut L,
     cores: &mut C,
 )
     requires number { IsJob number }
-    requires ac { ac < 16 }
     ensures job { job.new ≡ answered job.old ac (asked (L.requests locks.old) number (enq_asks job.old.regs.ac (core_of (C.meaning cores.old) number) number (ac_of job.old ac) (is_some job.old.interrupts.vector))).reply }
     ensures requests { L.requests locks.new ≡ (asked (L.requests locks.old) number (enq_asks job.old.regs.ac (core_of (C.meaning cores.old) number) number (ac_of job.old ac) (is_some job.old.interrupts.vector))).requests }
     ensures cores { C.meaning cores.new ≡ C.meaning cores.old }
 {
-    let word = job.regs.ac[ac as usize];
+    let word = job.regs.ac[ac.index()];
     let armed = job.interrupts.vector.is_some();
     let words = cores.window(number);
     let mut window = CoreWindow { words };
@@ -140,11 +201,34 @@ fn give_up<L: LockTable, M: JobMemory>(
     ensures requests { L.requests locks.new ≡ (asked (L.requests locks.old) number (naming (block_at regs.now.ac (M.words memory.old) place number Named))).requests }
     ensures same { memory.new ≡ memory.old }
 {
-    let mut wants = Wants::new();
-    match block_kept(regs, memory, place, number, LockUse::Named, &mut wants) {
-        Ok(_) => locks.call(number, &LockCall::DequeueNamed(wants)),
-        Err(refusal) => LockReply::Refused(refusal),
-    }
+    let mut call = LockCall::DequeueNamed(Wants::new());
+    call_on_block(
+        &mut call,
+        LockUse::Named,
+        regs,
+        memory,
+        place,
+        number,
+        locks,
+    )
+}
+
+/// Gives up all wants, in a call of DEQ. 1.
+fn give_up_all<L: LockTable>(number: u8, locks: &mut L) -> LockReply
+    requires number { IsJob number }
+    ensures reply { result ≡ (outcome_of (L.requests locks.old) number DequeueAll).reply }
+    ensures requests { L.requests locks.new ≡ (outcome_of (L.requests locks.old) number DequeueAll).requests }
+{
+    locks.call(number, &LockCall::DequeueAll)
+}
+
+/// Gives up all requests of an id, in a call of DEQ. 2.
+fn give_up_id<L: LockTable>(id: RequestId, number: u8, locks: &mut L) -> LockReply
+    requires number { IsJob number }
+    ensures reply { result ≡ (outcome_of (L.requests locks.old) number (DequeueId id)).reply }
+    ensures requests { L.requests locks.new ≡ (outcome_of (L.requests locks.old) number (DequeueId id)).requests }
+{
+    locks.call(number, &LockCall::DequeueId(id))
 }
 
 /// Makes a call of DEQ.: the left half of AC is the function, the right half the block's address or an
@@ -164,8 +248,8 @@ fn dequeue<L: LockTable, M: JobMemory>(
     let right = word.right();
     match word.left() {
         0 => give_up(regs, memory, Address::new(right), number, locks),
-        1 => locks.call(number, &LockCall::DequeueAll),
-        2 => locks.call(number, &LockCall::DequeueId(RequestId::new(right))),
+        1 => give_up_all(number, locks),
+        2 => give_up_id(RequestId::new(right), number, locks),
         _ => LockReply::Refused(Refusal::NoFunction),
     }
 }
@@ -174,17 +258,16 @@ fn dequeue<L: LockTable, M: JobMemory>(
 pub(crate) fn deq<L: LockTable, C: CoreStore>(
     number: u8,
     job: &mut Job,
-    ac: u8,
+    ac: Accumulator,
     locks: &mut L,
     cores: &mut C,
 )
     requires number { IsJob number }
-    requires ac { ac < 16 }
     ensures job { job.new ≡ answered job.old ac (asked (L.requests locks.old) number (deq_asks job.old.regs.ac (core_of (C.meaning cores.old) number) number (ac_of job.old ac))).reply }
     ensures requests { L.requests locks.new ≡ (asked (L.requests locks.old) number (deq_asks job.old.regs.ac (core_of (C.meaning cores.old) number) number (ac_of job.old ac))).requests }
     ensures cores { C.meaning cores.new ≡ C.meaning cores.old }
 {
-    let word = job.regs.ac[ac as usize];
+    let word = job.regs.ac[ac.index()];
     let words = cores.window(number);
     let mut window = CoreWindow { words };
     let reply = dequeue(&job.regs, &mut window, number, word, locks);

@@ -12,7 +12,7 @@ use core_store::{CoreStore, CoreWindow};
 use job_sched::{Job, Wait};
 use ka_cpu::{JobMemory, Regs, StopReason, word_kept};
 use tty_lines::{Char7, Lines};
-use word36::{OUTPUT_RING, Word};
+use word36::{Address, OUTPUT_RING, Word};
 
 /// The characters of a word, each of seven bits.
 const CHARACTERS_A_WORD: u32 = 5;
@@ -29,15 +29,15 @@ fn character(k: u32, word: Word) -> Char7
 fn read_text<M: JobMemory>(
     regs: &Regs,
     memory: &mut M,
-    e: u32,
+    e: Address,
 ) -> Option<ArrayVec<Char7, OUTPUT_RING>>
-    requires { e < 2 ^ 18 }
     ensures text { TextIs result (text_from regs.now.ac (M.words memory.old) e [] OUTPUT_RING) }
     ensures same { memory.new ≡ memory.old }
 {
+    let place = e.number();
     let mut text = ArrayVec::new();
     for i in 0..OUTPUT_RING as u32 {
-        let Some(word) = word_kept(regs, memory, e + i / CHARACTERS_A_WORD) else {
+        let Some(word) = word_kept(regs, memory, place + i / CHARACTERS_A_WORD) else {
             return None;
         };
         let c = character(i % CHARACTERS_A_WORD, word);
@@ -66,12 +66,11 @@ fn put(job: &mut Job, text: &[Char7], lines: &mut Lines) -> CallOutcome
 pub(crate) fn outstr<C: CoreStore>(
     number: u8,
     job: &mut Job,
-    e: u32,
+    e: Address,
     lines: &mut Lines,
     cores: &mut C,
 ) -> CallOutcome
     requires number { IsJob number }
-    requires e { e < 2 ^ 18 }
     ensures called { record { job = job.new; lines = lines.new; ending = result } ≡ outstr e (core_of (C.meaning cores.old) number) job.old lines.old }
     ensures cores { C.meaning cores.new ≡ C.meaning cores.old }
 {
@@ -90,18 +89,17 @@ pub(crate) fn outstr<C: CoreStore>(
 pub(crate) fn outchr<C: CoreStore>(
     number: u8,
     job: &mut Job,
-    e: u32,
+    e: Address,
     lines: &mut Lines,
     cores: &mut C,
 ) -> CallOutcome
     requires number { IsJob number }
-    requires e { e < 2 ^ 18 }
     ensures called { record { job = job.new; lines = lines.new; ending = result } ≡ outchr e (core_of (C.meaning cores.old) number) job.old lines.old }
     ensures cores { C.meaning cores.new ≡ C.meaning cores.old }
 {
     let words = cores.window(number);
     let mut window = CoreWindow { words };
-    match word_kept(&job.regs, &mut window, e) {
+    match word_kept(&job.regs, &mut window, e.number()) {
         None => {
             stop_at(job, StopReason::IllegalAddress);
             CallOutcome::Done

@@ -4,7 +4,7 @@ ghost use Rattle.std.specs.Prelude.{◌≡◌, ◌<◌, ◌^◌};
 ghost use Rattle.uuo_calls.specs.Around.{put_back, refusing, skipping, stopped_at, waiting};
 
 use job_sched::{Job, Stop, Wait};
-use ka_cpu::StopReason;
+use ka_cpu::{Accumulator, StopReason};
 use word36::Word;
 
 /// What takes an address one back, counted modulo 2^18.
@@ -18,11 +18,10 @@ pub(crate) fn skip(job: &mut Job)
 }
 
 /// Refuses the call: `0,,code` goes to AC, and nothing is skipped.
-pub(crate) fn refuse(job: &mut Job, ac: u8, code: u8)
-    requires { ac < 16 }
+pub(crate) fn refuse(job: &mut Job, ac: Accumulator, code: u8)
     ensures { job.new ≡ refusing job.old ac code }
 {
-    job.regs.ac[ac as usize] = Word::new(code as u64);
+    job.regs.ac[ac.index()] = Word::new(code as u64);
 }
 
 /// Lets the job wait and make the call again later.

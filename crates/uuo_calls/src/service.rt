@@ -3,7 +3,8 @@
 ghost use Rattle.std.specs.Prelude.{◌≡◌};
 ghost use Rattle.uuo_calls.specs.Services.{calli_of, exit_of, service_of, ttcall_of};
 
-use ka_cpu::CallKind;
+use ka_cpu::{Accumulator, CallKind};
+use word36::Address;
 
 /// What a program reads of its line.
 #[derive(Clone, Copy, Debug, PartialEq, Eq)]
@@ -48,10 +49,10 @@ pub enum Service {
 }
 
 /// EXIT with an AC field.
-fn exit_of(ac: u8) -> Service
+fn exit_of(ac: Accumulator) -> Service
     ensures { result ≡ exit_of ac }
 {
-    match ac {
+    match ac.number() {
         0 => Service::Exit,
         1 => Service::Monrt,
         _ => Service::Unlisted,
@@ -59,10 +60,10 @@ fn exit_of(ac: u8) -> Service
 }
 
 /// The CALLI of this AC field and number.
-fn calli_of(ac: u8, e: u32) -> Service
+fn calli_of(ac: Accumulator, e: Address) -> Service
     ensures { result ≡ calli_of ac e }
 {
-    match e {
+    match e.number() {
         0 => Service::Reset,
         0o11 => Service::Core,
         0o12 => exit_of(ac),
@@ -83,10 +84,10 @@ fn calli_of(ac: u8, e: u32) -> Service
 }
 
 /// The TTCALL of this function.
-fn ttcall_of(ac: u8) -> Service
+fn ttcall_of(ac: Accumulator) -> Service
     ensures { result ≡ ttcall_of ac }
 {
-    match ac {
+    match ac.number() {
         0 => Service::Input(Awaited::Character, false),
         1 => Service::Outchr,
         2 => Service::Input(Awaited::Character, true),
@@ -102,7 +103,7 @@ fn ttcall_of(ac: u8) -> Service
 }
 
 /// The call of an operation, its AC field and its E: a CALLI goes by E, a TTCALL by the AC field.
-pub(crate) fn service_of(kind: CallKind, ac: u8, e: u32) -> Service
+pub(crate) fn service_of(kind: CallKind, ac: Accumulator, e: Address) -> Service
     ensures { result ≡ service_of kind ac e }
 {
     match kind {

@@ -13,7 +13,7 @@ use crate::blocks::block_kept;
 use crate::returns::{refuse, skip};
 use core_store::{CoreStore, CoreWindow};
 use job_sched::Job;
-use ka_cpu::{JobMemory, Regs, are_legal_kept, store};
+use ka_cpu::{Accumulator, JobMemory, Regs, are_legal_kept, store};
 use lock_queue::{Key, LockTable, LockUse, Refusal, Want, Wants};
 use word36::{Address, Word};
 
@@ -83,14 +83,13 @@ fn enqc_asks<M: JobMemory>(
 fn tell<L: LockTable, M: JobMemory>(
     number: u8,
     job: &mut Job,
-    ac: u8,
+    ac: Accumulator,
     memory: &mut M,
     to: u32,
     asks: Result<(), Refusal>,
     wants: &Wants,
     locks: &L,
 )
-    requires ac { ac < 16 }
     requires to { to < 2 ^ 18 }
     requires few { OnOk asks (array_vec_len wants.now ≤ LOCKS_A_CALL) }
     ensures told { record { job = job.new; core = M.words memory.new } ≡ told (L.requests locks.now) number ac to job.old (M.words memory.old) (wants_read_as asks wants.now) }
@@ -109,17 +108,16 @@ fn tell<L: LockTable, M: JobMemory>(
 pub(crate) fn enqc<L: LockTable, C: CoreStore>(
     number: u8,
     job: &mut Job,
-    ac: u8,
+    ac: Accumulator,
     locks: &L,
     cores: &mut C,
 )
     requires number { IsJob number }
-    requires ac { ac < 16 }
     ensures job { job.new ≡ (enqc (L.requests locks.now) number ac job.old (core_of (C.meaning cores.old) number)).job }
     ensures cores { C.meaning cores.new ≡ with_core (C.meaning cores.old) number (enqc (L.requests locks.now) number ac job.old (core_of (C.meaning cores.old) number)).core }
 {
-    let word = job.regs.ac[ac as usize];
-    let to = job.regs.ac[(ac as usize + 1) % 16].right();
+    let word = job.regs.ac[ac.index()];
+    let to = job.regs.ac[ac.next().index()].right();
     let words = cores.window(number);
     let mut window = CoreWindow { words };
     let mut wants = Wants::new();
