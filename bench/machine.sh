@@ -1,11 +1,12 @@
 #!/usr/bin/env bash
-# Host instructions for a bare instruction, a step of the machine, a step with a tick behind it, and a
-# tick, of jobs that run the tight loop (callgrind, the difference of two lengths).
+# Host instructions for a bare instruction, a step of the machine, a step with a tick behind it, the same
+# as a pair of events that `System::run` is given, and a tick, of jobs that run the tight loop (callgrind,
+# the difference of two lengths).
 set -eu
 cd "$(dirname "$0")"
 program=../crates/monitor_run/out/monitor_run
 counted() { valgrind --tool=callgrind --callgrind-out-file=/dev/null "$program" "$@" 2>&1 >/dev/null | sed -n 's/.*Collected : *//p'; }
-for load in "bare 1 1" "steps 1 60" "steps 16 1" "ticked 1 1" "ticked 1 60" "ticked 16 1" "ticked 16 60" "ticks 1 1"; do
+for load in "bare 1 1" "steps 1 60" "steps 16 1" "ticked 1 1" "ticked 1 60" "ticked 16 1" "ticked 16 60" "pairs 16 1" "pairs 1 60" "ticks 1 1"; do
     set -- $load
     short=$(counted "$1" 100000 "$2" "$3")
     long=$(counted "$1" 300000 "$2" "$3")

@@ -129,3 +129,33 @@ by_place false test from end e some most few fails = circle-above test from end 
 pub circle : (test : ℕ → Bool) (from end : ℕ) → 1 ≤ from → from ≤ JOBS → end ≤ JOBS + 1 → ((m : ℕ) → end ≤ m → test m ≡ false)
     → first_from test JOBS from ≡ or_else (first_from test (end - from) from) (first_from test (min from end - 1) 1)
 circle test from end = by_place (nat_lt from end) test from end refl
+
+-- where the test fails from the end on, the search from there on begins at 1
+from-start : (test : ℕ → Bool) (from end : ℕ) → end ≤ from → 1 ≤ from → from ≤ JOBS → ((m : ℕ) → end ≤ m → test m ≡ false) → first_from test JOBS 1 ≡ first_from test JOBS from
+from-start test from end high some most fails =
+    let none : first_from test (min 1 end - 1) 1 ≡ None = first_from-zero test (min 1 end - 1) 1 (omega arith) in
+    let nothing : first_from test (end - from) from ≡ None = first_from-zero test (end - from) from (omega arith) in
+    let same : end - 1 ≡ min from end - 1 = omega arith in
+    circle test 1 end (omega arith) (omega arith) (omega arith) fails
+    ∙ ap (λ o. or_else (first_from test (end - 1) 1) o) none
+    ∙ or-none (first_from test (end - 1) 1)
+    ∙ ap (λ (k : ℕ). first_from test k 1) same
+    ∙ or-other (first_from test (end - from) from) (first_from test (min from end - 1) 1) (sym nothing)
+    ∙ sym (circle test from end some most (omega arith) fails)
+
+-- the first that is asked, where it passes
+pub found-first : (test : ℕ → Bool) (n : ℕ) → test n ≡ true → first_from test JOBS n ≡ Some n
+found-first test n passes = first_from-step test JOBS (JOBS - 1) n (omega arith) ∙ ap (λ b. cond b (Some n) (first_from test (JOBS - 1) (after n))) passes
+
+by_end : (b : Bool) (test : ℕ → Bool) (number end : ℕ) → nat_lt (after number) end ≡ b → end ≤ number + 1 → number ≤ JOBS → end ≤ JOBS + 1 → ((m : ℕ) → end ≤ m → test m ≡ false)
+    → first_from test JOBS 1 ≡ first_from test JOBS (after number)
+by_end true test number end e high most few fails =
+    let low : after number < end = ltb-true (after number) end e in
+    let one : 1 ≡ after number = omega arith in
+    ap (λ (n : ℕ). first_from test JOBS n) one
+by_end false test number end e high most few fails = from-start test (after number) end (ltb-false (after number) end e) (omega arith) (omega arith) fails
+
+-- where no jobs come after a number, the search behind it begins at 1
+pub behind-last : (test : ℕ → Bool) (number end : ℕ) → end ≤ number + 1 → number ≤ JOBS → end ≤ JOBS + 1 → ((m : ℕ) → end ≤ m → test m ≡ false)
+    → first_from test JOBS 1 ≡ first_from test JOBS (after number)
+behind-last test number end = by_end (nat_lt (after number) end) test number end refl

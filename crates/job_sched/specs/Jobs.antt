@@ -1,5 +1,5 @@
 -- What becomes of one job (this project's profile).
-use Rattle.std.specs.Prelude.{ℕ, ◌-◌, ◌==◌, ◌&&◌, nat_lt, Bool, false, is_none, is_some, not, if◌then◌else◌, Some, None}
+use Rattle.std.specs.Prelude.{ℕ, ◌-◌, ◌==◌, ◌&&◌, nat_lt, Bool, true, false, is_none, is_some, not, if◌then◌else◌, Some, None}
 use Rattle.ka_cpu.specs.declared.registers.Flags.{Flags}
 use Rattle.ka_cpu.specs.declared.registers.Regs.{Regs}
 use Rattle.job_sched.specs.declared.job.Interrupts.{Interrupts}
@@ -37,6 +37,11 @@ started_job j = record j {
 -- a job that continues: its stop ends, and its program counter and its wait stay
 abbrev pub going_on : Job → Job
 going_on j = record j { stop = None }
+
+-- a job that starts, or continues
+abbrev pub resumed_job : Bool → Job → Job
+resumed_job true = started_job
+resumed_job false = going_on
 
 -- CTRL-C at a line stops the job there, unless it is stopped already
 abbrev pub broken_job : ℕ → Job → Job

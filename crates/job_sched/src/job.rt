@@ -1,7 +1,7 @@
 //! A job.
 
 ghost use Rattle.std.specs.Prelude.{◌≡◌};
-ghost use Rattle.job_sched.specs.Jobs.{new_job, started_job, broken_job, ticked_job, is_asleep, takes_interrupts};
+ghost use Rattle.job_sched.specs.Jobs.{new_job, resumed_job, broken_job, ticked_job, is_asleep, takes_interrupts};
 ghost use Rattle.job_sched.specs.Stops.{code_of};
 
 use ka_cpu::{Flags, Regs, StopReason};
@@ -131,15 +131,18 @@ impl Job {
         interrupts.on && !interrupts.in_progress && interrupts.vector.is_some()
     }
 
-    /// Goes on at its start address, with User alone of the flags, no wait and no vector.
-    pub(crate) fn restart(&mut self)
-        ensures { self.new ≡ started_job self.old }
+    /// Starts, at its start address, with User alone of the flags, no wait and no vector; or goes on
+    /// where it was.
+    pub(crate) fn resume(&mut self, from_start: bool)
+        ensures { self.new ≡ resumed_job from_start self.old }
     {
-        self.regs.pc = self.start;
-        self.regs.flags = NO_FLAGS;
         self.stop = None;
-        self.wait = Wait::None;
-        self.interrupts = NO_INTERRUPTS;
+        if from_start {
+            self.regs.pc = self.start;
+            self.regs.flags = NO_FLAGS;
+            self.wait = Wait::None;
+            self.interrupts = NO_INTERRUPTS;
+        }
     }
 
     /// Stops, if it is at that line and not stopped already.

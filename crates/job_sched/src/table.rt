@@ -1,14 +1,14 @@
 //! The jobs by number, and which of them runs next.
 
-ghost use Rattle.std.specs.Prelude.{ℕ, false, ◌≡◌, ◌≢◌, ◌<◌, ◌≤◌, ◌-◌, ◌+◌, Some, None, length, map, OnOk, OnErr, IfSome};
+ghost use Rattle.std.specs.Prelude.{ℕ, Bool, false, ◌≡◌, ◌≢◌, ◌<◌, ◌≤◌, ◌-◌, ◌+◌, Some, None, length, map, OnOk, OnErr, IfSome};
 ghost use Rattle.std.specs.List.{list_any};
 ghost use Rattle.std.specs.Option.{option_copied, option_map};
 ghost use Rattle.word36.specs.declared.sizes.TheConstants.{JOBS};
-ghost use Rattle.job_sched.specs.Jobs.{broken_job, going_on, started_job, ticked_job};
+ghost use Rattle.job_sched.specs.Jobs.{broken_job, going_on, resumed_job, started_job, ticked_job};
 ghost use Rattle.job_sched.specs.Tables.{is_sleeper, job_at, no_jobs};
 ghost use Rattle.job_sched.specs.Changes.{broken_table, chosen, free_number, is_at, left_after, spent, standing, table_without, ticked_table, with_change, with_job};
 ghost use Rattle.job_sched.specs.Spans.{Undisturbed, is_alone, is_open};
-ghost use Rattle.job_sched.specs.Ready.{after, first_from, holds, is_ready, next_job};
+ghost use Rattle.job_sched.specs.Ready.{after, first_from, holds, is_ready, is_ready_job, next_job};
 
 use crate::{Job, JobError, Wait};
 use lock_queue::LockTable;
@@ -48,20 +48,26 @@ impl Model for JobTable {
     ghost invariant = { λ t. IsTable t.jobs t.sleepers t.vacant_from };
 }
 
-/// The number after one, in a circle.
+/// The number that is asked first behind one, in a circle: the next one, or 1 where no jobs come after
+/// it.
 #[inline(always)]
-fn number_after(number: u8) -> u8
-    ensures { result ≡ after number }
+fn first_behind(number: u8, vacant_from: u8) -> u8
+    requires { vacant_from ≤ JOBS + 1 }
+    ensures least { 1 ≤ result }
+    ensures most { result ≤ JOBS }
+    ensures found { (test : ℕ → Bool) → ((n : ℕ) → vacant_from ≤ n → test n ≡ false) → first_from test JOBS result ≡ first_from test JOBS (after number) }
 {
-    if number < JOBS {
+    if u32::from(number) + 1 < u32::from(vacant_from) {
         number + 1
+    } else if number <= JOBS {
+        1
     } else {
         number % JOBS + 1
     }
 }
 
 /// Whether the wait of a job holds.
-#[inline(always)]
+#[inline(never)]
 fn does_hold<L: LockTable>(number: u8, job: &Job, lines: &Lines, locks: &L) -> bool
     ensures { result ≡ holds lines.now (L.requests locks.now) number job.now.line job.now.wait }
 {
@@ -72,6 +78,24 @@ fn does_hold<L: LockTable>(number: u8, job: &Job, lines: &Lines, locks: &L) -> b
         Wait::Line => !lines.has_line(job.line),
         Wait::Room(places) => lines.room(job.line) < places as usize,
         Wait::Queue => locks.waiting(number),
+    }
+}
+
+/// Whether a job is at a place, is not stopped, and waits for nothing any more. Most jobs wait for
+/// nothing at all.
+#[inline(always)]
+fn is_ready_slot<L: LockTable>(number: u8, slot: &Option<Job>, lines: &Lines, locks: &L) -> bool
+    ensures { result ≡ is_ready_job lines.now (L.requests locks.now) number slot.now }
+{
+    let Some(job) = slot else {
+        return false;
+    };
+    if job.stop.is_some() {
+        return false;
+    }
+    match job.wait {
+        Wait::None => true,
+        _ => !does_hold(number, job, lines, locks),
     }
 }
 
@@ -156,10 +180,10 @@ fn break_all(line: LineNumber, jobs: &mut [Option<Job>])
     }
 }
 
-/// The job at a place starts, if it is there and stopped.
-fn start_slot(slot: &mut Option<Job>) -> Result<(), JobError>
+/// The job at a place starts, or goes on where it was, if it is there and stopped.
+fn resume_slot(slot: &mut Option<Job>, from_start: bool) -> Result<(), JobError>
     ensures answer { result ≡ standing slot.old }
-    ensures ok { OnOk result (slot.new ≡ option_map started_job slot.old) }
+    ensures ok { OnOk result (slot.new ≡ option_map (resumed_job from_start) slot.old) }
     ensures err { OnErr result (slot.new ≡ slot.old) }
     ensures awake { is_sleeper slot.old ≡ false → is_sleeper slot.new ≡ false }
     ensures none { slot.old ≡ None → slot.new ≡ None }
@@ -169,27 +193,7 @@ fn start_slot(slot: &mut Option<Job>) -> Result<(), JobError>
             if job.stop.is_none() {
                 return Err(JobError::NotStopped);
             }
-            job.restart();
-            Ok(())
-        }
-        None => Err(JobError::NoSuchJob),
-    }
-}
-
-/// The job at a place continues, if it is there and stopped.
-fn go_on_slot(slot: &mut Option<Job>) -> Result<(), JobError>
-    ensures answer { result ≡ standing slot.old }
-    ensures ok { OnOk result (slot.new ≡ option_map going_on slot.old) }
-    ensures err { OnErr result (slot.new ≡ slot.old) }
-    ensures awake { is_sleeper slot.old ≡ false → is_sleeper slot.new ≡ false }
-    ensures none { slot.old ≡ None → slot.new ≡ None }
-{
-    match slot {
-        Some(job) => {
-            if job.stop.is_none() {
-                return Err(JobError::NotStopped);
-            }
-            job.stop = None;
+            job.resume(from_start);
             Ok(())
         }
         None => Err(JobError::NoSuchJob),
@@ -226,8 +230,8 @@ impl JobTable {
         ensures { result ≡ is_ready self.now.jobs lines.now (L.requests locks.now) number }
     {
         match self.jobs.get(number as usize) {
-            Some(Some(job)) => job.stop.is_none() && !does_hold(number, job, lines, locks),
-            _ => false,
+            Some(slot) => is_ready_slot(number, slot, lines, locks),
+            None => false,
         }
     }
 
@@ -268,7 +272,13 @@ impl JobTable {
         if goes_on {
             return Some(self.current);
         }
-        self.first_ready(number_after(self.current), lines, locks)
+        let first = first_behind(self.current, self.vacant_from);
+        let number = if is_ready_slot(first, &self.jobs[first as usize], lines, locks) {
+            first
+        } else {
+            self.first_ready(first, lines, locks)?
+        };
+        Some(number)
     }
 
     /// A job is to run: it keeps what is left of its quantum where it is current, and gets a whole
@@ -313,18 +323,21 @@ impl JobTable {
         ensures most { result ≤ most }
         ensures undisturbed { 2 ≤ result → Undisturbed self.now number ticking alone result }
     {
-        let limit = if ticking && !alone {
-            most.min(u32::from(self.left))
-        } else {
-            most
-        };
-        if limit < 2 || self.current != number || self.left == 0 {
+        let lasting = ticking && !alone;
+        if lasting && self.left < 2 {
+            return 1;
+        }
+        if most < 2 || self.current != number || self.left == 0 {
             return 1;
         }
         if ticking && self.sleepers || is_open(&self.jobs[number as usize]) {
             return 1;
         }
-        limit
+        if lasting {
+            most.min(u32::from(self.left))
+        } else {
+            most
+        }
     }
 
     /// The current job has run for so many rounds in a row, each with its tick, in which nobody
@@ -343,6 +356,19 @@ impl JobTable {
         break_all(line, &mut self.jobs);
     }
 
+    /// A stopped job starts, or goes on where it was.
+    fn resume(&mut self, number: u8, from_start: bool) -> Result<(), JobError>
+        ensures answer { result ≡ standing (job_at self.old.jobs number) }
+        ensures ok { OnOk result (self.new ≡ with_change self.old number (resumed_job from_start)) }
+        ensures err { OnErr result (self.new ≡ self.old) }
+    {
+        let jobs = &mut self.jobs;
+        if number > JOBS {
+            return Err(JobError::NoSuchJob);
+        }
+        resume_slot(&mut jobs[number as usize], from_start)
+    }
+
     /// A stopped job starts: it goes on at its start address, waits for nothing and has no vector.
     /// `NoSuchJob` where there is none, `NotStopped` where it is not stopped.
     pub fn start(&mut self, number: u8) -> Result<(), JobError>
@@ -350,11 +376,7 @@ impl JobTable {
         ensures ok { OnOk result (self.new ≡ with_change self.old number started_job) }
         ensures err { OnErr result (self.new ≡ self.old) }
     {
-        let jobs = &mut self.jobs;
-        if number > JOBS {
-            return Err(JobError::NoSuchJob);
-        }
-        start_slot(&mut jobs[number as usize])
+        self.resume(number, true)
     }
 
     /// A stopped job continues: its program counter and its wait stay. `NoSuchJob` where there is
@@ -364,11 +386,7 @@ impl JobTable {
         ensures ok { OnOk result (self.new ≡ with_change self.old number going_on) }
         ensures err { OnErr result (self.new ≡ self.old) }
     {
-        let jobs = &mut self.jobs;
-        if number > JOBS {
-            return Err(JobError::NoSuchJob);
-        }
-        go_on_slot(&mut jobs[number as usize])
+        self.resume(number, false)
     }
 
     /// Puts a job at a number.

@@ -1,5 +1,5 @@
 //! The parts of the machine, seen as one state, and what each event does to them.
-ghost use Rattle.std.specs.Prelude.{◌≡◌, ◌<◌, ◌≤◌, ◌^◌, [], Some, IfOk, slice_get};
+ghost use Rattle.std.specs.Prelude.{◌≡◌, ◌<◌, ◌≤◌, ◌^◌, ◌+◌, if◌then◌else◌, is_some, [], Some, IfOk, slice_get};
 ghost use Rattle.word36.specs.declared.sizes.TheConstants.{MOST_BLOCKS};
 ghost use Rattle.core_store.specs.Cores.{IsJob, core_of};
 ghost use Rattle.job_sched.specs.Ready.{next_job};
@@ -53,23 +53,27 @@ impl<L: LockTable, C: CoreStore> Model for Parts<L, C> {
     ghost view = { λ p. record { world = record { table = p.table; lines = p.lines; requests = L.requests p.locks; cores = C.meaning p.cores; shared = p.shared }; time = p.time; quantum = p.quantum; blocks = p.blocks } };
 }
 
-/// Rounds that were made, and in how many of them a job ran.
+/// Rounds that were made.
 #[derive(Clone, Copy, Debug, PartialEq, Eq)]
-pub struct Rounds {
-    /// The job that ran, if one was ready.
-    pub job: Option<u8>,
+struct Rounds {
+    /// The job that ran in all of them, if one was ready.
+    job: Option<u8>,
     /// How many were made.
-    pub made: u32,
-    /// In how many of them a job ran.
-    pub ran: u32,
+    made: u32,
 }
 
-/// A round in which no job is ready.
-const IDLE_ROUND: Rounds = Rounds {
-    job: None,
-    made: 1,
-    ran: 0,
-};
+impl Rounds {
+    /// In how many of them no job ran: in all or in none.
+    #[inline(always)]
+    fn idle(self) -> u32
+        ensures { result ≡ (if is_some self.job then 0 else self.made) }
+    {
+        match self.job {
+            Some(_) => 0,
+            None => self.made,
+        }
+    }
+}
 
 /// Why a job can not start or go on, as the event says it.
 fn refusal_of(error: JobError) -> RefusedEvent
@@ -120,13 +124,12 @@ impl<L: LockTable, C: CoreStore> Parts<L, C> {
         requires some { 1 ≤ most }
         ensures state { ticked_if ticking self.new ≡ after (rounds result.made ticking) self.old }
         ensures job { result.job ≡ next_job self.old.world.table self.old.world.lines self.old.world.requests }
-        ensures count { result.ran ≡ runs_in (answers (rounds result.made ticking) self.old) }
+        ensures count { runs_in (answers (rounds result.made ticking) self.old) + (if is_some result.job then 0 else result.made) ≡ result.made }
         ensures least { 1 ≤ result.made }
         ensures most { result.made ≤ most }
-        ensures few { result.ran ≤ result.made }
     {
         let Some(n) = self.table.next(&self.lines, &self.locks) else {
-            return IDLE_ROUND;
+            return Rounds { job: None, made: 1 };
         };
         let alone = self.table.is_alone(n);
         self.table.choose(n, self.quantum);
@@ -135,7 +138,7 @@ impl<L: LockTable, C: CoreStore> Parts<L, C> {
             n,
             span,
             ticking,
-            self.quantum,
+            &self.quantum,
             &mut self.table,
             &mut self.lines,
             &mut self.locks,
@@ -143,29 +146,36 @@ impl<L: LockTable, C: CoreStore> Parts<L, C> {
             &mut self.shared,
             &mut self.time,
         );
-        Rounds {
-            job: Some(n),
-            made,
-            ran: made,
-        }
+        Rounds { job: Some(n), made }
     }
 
-    /// Some rounds, at least one: steps, each with a tick behind it where `ticking`.
+    /// So many rounds, steps that have each a tick behind it where `ticking`, and in how many of them a
+    /// job ran.
     #[inline(always)]
-    pub fn run_rounds(&mut self, most: u32, ticking: bool) -> Rounds
-        requires safe { Safe self.old }
-        requires some { 1 ≤ most }
-        ensures state { self.new ≡ after (rounds result.made ticking) self.old }
-        ensures count { result.ran ≡ runs_in (answers (rounds result.made ticking) self.old) }
-        ensures least { 1 ≤ result.made }
-        ensures most { result.made ≤ most }
-        ensures few { result.ran ≤ result.made }
+    pub fn run_rounds(&mut self, most: u32, ticking: bool) -> u32
+        requires { Safe self.old }
+        ensures state { self.new ≡ after (rounds most ticking) self.old }
+        ensures count { result ≡ runs_in (answers (rounds most ticking) self.old) }
     {
-        let some = self.run_next(most, ticking);
+        let mut idle = 0;
+        let mut left = most;
+        while left > 0 {
+            let some = self.run_next(left, ticking);
+            idle += some.idle();
+            left -= some.made;
+            self.tick_if(ticking);
+        }
+        most - idle
+    }
+
+    /// A tick, where `ticking`.
+    #[inline(always)]
+    fn tick_if(&mut self, ticking: bool)
+        ensures { self.new ≡ ticked_if ticking self.old }
+    {
         if ticking {
             self.tick();
         }
-        some
     }
 
     /// A tick.

@@ -27,13 +27,14 @@ fn pass(ticking: bool, rounds: u32, quantum: u8, table: &mut JobTable, time: &mu
 }
 
 /// A job runs for at most so many rounds, and in how many: its wait is over, it takes its turn, and the
-/// call that it makes is performed.
+/// call that it makes is performed. The quantum is read where it is needed, behind the turn, and so is
+/// not kept over it.
 #[inline(always)]
 pub(crate) fn run_job<L: LockTable, C: CoreStore>(
     n: u8,
     most: u32,
     ticking: bool,
-    quantum: u8,
+    quantum: &u8,
     table: &mut JobTable,
     lines: &mut Lines,
     locks: &mut L,
@@ -46,19 +47,22 @@ pub(crate) fn run_job<L: LockTable, C: CoreStore>(
     requires there { IsSome (job_at table.old.jobs n) }
     requires core { core_of (C.meaning cores.old) n ≢ [] }
     ensures { record { world = record { table = table.new; lines = lines.new; requests = L.requests locks.new; cores = C.meaning cores.new; shared = shared.new }; time = time.new; rounds = result }
-        ≡ runs_on (record { table = table.old; lines = lines.old; requests = L.requests locks.old; cores = C.meaning cores.old; shared = shared.old }) time.old quantum n most ticking (job_at table.old.jobs n) }
+        ≡ runs_on (record { table = table.old; lines = lines.old; requests = L.requests locks.old; cores = C.meaning cores.old; shared = shared.old }) time.old quantum.now n most ticking (job_at table.old.jobs n) }
 {
     let Some(job) = &mut table.jobs[n as usize] else {
         return 1;
     };
     job.wait = Wait::None;
     let (rounds, call) = run_turn(n, job, locks, cores, most);
-    pass(ticking, rounds, quantum, table, time);
     match call {
+        None => {
+            pass(ticking, rounds, *quantum, table, time);
+            rounds
+        }
         Some(call) => {
+            pass(ticking, rounds, *quantum, table, time);
             perform(n, call, table, lines, locks, cores, shared, *time);
             rounds
         }
-        None => rounds,
     }
 }

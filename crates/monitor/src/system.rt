@@ -10,7 +10,7 @@ ghost use Rattle.machine.specs.Safe.{Safe};
 ghost use Rattle.machine.specs.Waits.{WaitsForGrants};
 ghost use Rattle.machine.specs.Views.{job_view, word_in};
 
-use crate::parts::{Parts, Rounds};
+use crate::parts::Parts;
 use core_store::CoreStore;
 use lock_queue::LockTable;
 use machine::{Answer, Config, Event, JobView};
@@ -60,7 +60,8 @@ impl<L: LockTable, C: CoreStore> System<L, C> {
         self.happen(event)
     }
 
-    /// The event. A tick is made here, where the caller is, so that it is short.
+    /// The event. A step and a tick are made here, where the caller is, so that they are short: no place
+    /// for the answers of other events is cleared and copied.
     #[inline(always)]
     fn happen(&mut self, event: &Event) -> Answer
         ensures state { self.new ≡ (happens self.old event.now).state }
@@ -68,6 +69,10 @@ impl<L: LockTable, C: CoreStore> System<L, C> {
         ensures safe { Safe self.new }
     {
         match event {
+            Event::Step => match self.parts.step() {
+                Some(n) => Answer::Ran(n),
+                None => Answer::Idle,
+            },
             Event::Tick => {
                 self.parts.tick();
                 Answer::Done
@@ -93,32 +98,16 @@ impl<L: LockTable, C: CoreStore> System<L, C> {
     }
 
     /// Makes so many steps, each followed by a tick where `ticking`, and counts those in which a
-    /// job ran.
+    /// job ran. Each way has a copy of the loop, in which `ticking` is not looked at again.
     pub fn steps(&mut self, most: u32, ticking: bool) -> u32
         ensures state { self.new ≡ after (rounds most ticking) self.old }
         ensures count { result ≡ runs_in (answers (rounds most ticking) self.old) }
     {
-        let mut ran = 0;
-        let mut left = most;
-        while left > 0 {
-            let some = self.run_rounds(left, ticking);
-            left -= some.made;
-            ran += some.ran;
+        if ticking {
+            self.parts.run_rounds(most, true)
+        } else {
+            self.parts.run_rounds(most, false)
         }
-        ran
-    }
-
-    /// Some of these rounds, at least one.
-    #[inline(always)]
-    fn run_rounds(&mut self, most: u32, ticking: bool) -> Rounds
-        requires { 1 ≤ most }
-        ensures state { self.new ≡ after (rounds result.made ticking) self.old }
-        ensures count { result.ran ≡ runs_in (answers (rounds result.made ticking) self.old) }
-        ensures least { 1 ≤ result.made }
-        ensures most { result.made ≤ most }
-        ensures few { result.ran ≤ result.made }
-    {
-        self.parts.run_rounds(most, ticking)
     }
 
     /// What there is to see of a job, if it is there.

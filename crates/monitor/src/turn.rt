@@ -11,7 +11,8 @@ ghost use Rattle.machine.specs.Turns.{Turn, delivered, interrupted_at};
 use core_store::{CoreStore, CoreWindow};
 use job_sched::{Job, NO_FLAGS, Stop};
 use ka_cpu::{
-    JobMemory, Outcome, Regs, StopReason, are_legal_kept, pc_word, run_steps, store, word_kept,
+    Accumulator, JobMemory, Outcome, Regs, StopReason, are_legal_kept, pc_word, run_steps, store,
+    word_kept,
 };
 use lock_queue::{LockTable, RequestId};
 use machine::VECTOR_WORDS;
@@ -29,7 +30,6 @@ fn execute<C: CoreStore>(
 ) -> (u32, Option<MonitorCall>)
     requires { IsJob number }
     ensures turn { record { turn = record { job = job.new; cores = C.meaning cores.new; requests = []; call = result.1 }; rounds = result.0 } ≡ stretch_by number job.old (C.meaning cores.old) [] (ran most job.old.regs (core_of (C.meaning cores.old) number)) }
-    ensures fields { IfSome result.1 (λ call. (call.ac < 16) × (call.e < 2 ^ 18)) }
 {
     let words = cores.window(number);
     let (steps, outcome) = run_steps(&mut job.regs, words, u64::from(most));
@@ -40,7 +40,11 @@ fn execute<C: CoreStore>(
             job.stop = Some(Stop::Fault(reason));
             (rounds, None)
         }
-        Outcome::Call(kind, ac, e) => (rounds, Some(MonitorCall { kind, ac, e })),
+        Outcome::Call(kind, ac, e) => {
+            let ac = Accumulator::new(ac);
+            let e = Address::new(e);
+            (rounds, Some(MonitorCall { kind, ac, e }))
+        }
     }
 }
 
@@ -100,7 +104,6 @@ fn take_turn<L: LockTable, C: CoreStore>(
     ensures cores { C.meaning cores.new ≡ (stretch_of number most job.old (C.meaning cores.old) (L.requests locks.old)).turn.cores }
     ensures job { job.new ≡ (stretch_of number most job.old (C.meaning cores.old) (L.requests locks.old)).turn.job }
     ensures turn { record { turn = record { job = job.new; cores = C.meaning cores.new; requests = L.requests locks.new; call = result.1 }; rounds = result.0 } ≡ stretch_of number most job.old (C.meaning cores.old) (L.requests locks.old) }
-    ensures fields { IfSome result.1 (λ call. (call.ac < 16) × (call.e < 2 ^ 18)) }
 {
     if job.interrupts.on && !job.interrupts.in_progress {
         if let Some(vector) = job.interrupts.vector {
@@ -125,7 +128,6 @@ pub(crate) fn run_turn<L: LockTable, C: CoreStore>(
     requires number { IsJob number }
     requires core { core_of (C.meaning cores.old) number ≢ [] }
     ensures turn { record { turn = record { job = job.new; cores = C.meaning cores.new; requests = L.requests locks.new; call = result.1 }; rounds = result.0 } ≡ stretch_of number most job.old (C.meaning cores.old) (L.requests locks.old) }
-    ensures fields { IfSome result.1 (λ call. (call.ac < 16) × (call.e < 2 ^ 18)) }
     ensures least { 1 ≤ most → 1 ≤ result.0 }
     ensures core { core_of (C.meaning cores.new) number ≢ [] }
     ensures wait { job.new.wait ≡ job.old.wait }

@@ -1,5 +1,5 @@
 -- What a step of one job leaves of another's core, and which events are no step.
-use Rattle.std.proofs.Common.{◌≡◌, ◌≢◌, ◌∙◌, ap, subst, ℕ, ◌+◌, false, ◌&&◌, ◌==◌, nat_lt, nat_le, List, [], length, Option, Some, None, Result, Ok, Err, refl}
+use Rattle.std.proofs.Common.{◌≡◌, ◌≢◌, ◌∙◌, ap, ℕ, false, ◌&&◌, ◌==◌, nat_lt, nat_le, List, [], length, Option, Some, None, Result, Ok, Err, refl}
 use Rattle.std.proofs.lemmas.List.{get_or-set_other}
 use Rattle.std.specs.List.{list_any}
 use Rattle.machine.specs.declared.sizes.TheConstants.{INTERRUPT_CHARACTER}
@@ -10,16 +10,12 @@ use Rattle.ka_cpu.specs.declared.outcome.Outcome.{Outcome}
 use Rattle.ka_cpu.specs.declared.outcome.Outcome.TheVariants as outcome
 use Rattle.ka_cpu.specs.declared.outcome.StopReason.TheVariants.{IllegalAddress}
 use Rattle.ka_cpu.specs.Places.{are_legal}
-use Rattle.core_store.specs.Cores.{Cores, core_of, blocks_of, with_core, resized}
+use Rattle.core_store.specs.Cores.{Cores, core_of, with_core}
 use Rattle.lock_queue.specs.declared.request.Request.{Request}
 use Rattle.tty_lines.specs.Rings.{input_of}
 use Rattle.job_sched.specs.declared.job.Job.{Job}
 use Rattle.job_sched.specs.Tables.{Table}
-use Rattle.uuo_calls.specs.declared.service.Service.{Service}
-use Rattle.uuo_calls.specs.declared.service.Service.TheVariants.{Reset, Core, Exit, Monrt, Logout, Mstime, Pjob, Sleep, Piini, Pisys, Debrk, Enq, Deq, Enqc, Datrd, Datwr, Input, Outchr, Outstr, Clrbfi, Clrbfo, Skpin, Unlisted}
-use Rattle.uuo_calls.specs.Around.{Around, ac_of, stopped}
-use Rattle.uuo_calls.specs.CoreRow.{grown, blocks_asked, core_done, with_highest}
-use Rattle.uuo_calls.specs.Performed.{row_of}
+use Rattle.uuo_calls.specs.Around.{stopped}
 use Rattle.job_sched.specs.Tables.{job_at}
 use Rattle.job_sched.specs.declared.job_error.JobError.{JobError}
 use Rattle.uuo_calls.specs.Performed.{World}
@@ -30,48 +26,8 @@ use Rattle.machine.specs.Machine.{S, Made, made_if, started, continued, killed, 
 use Rattle.machine.specs.Turns.{Turn, turned, concluded, told_at, interrupted_at, done}
 use Rattle.ka_cpu.proofs.ExecLaws.{by_test}
 
-pub other-core : (cores : Cores) (n job : ℕ) (words : List ℕ) → job ≢ n → core_of (with_core cores n words) job ≡ core_of cores job
+other-core : (cores : Cores) (n job : ℕ) (words : List ℕ) → job ≢ n → core_of (with_core cores n words) job ≡ core_of cores job
 other-core cores n job words ne = get_or-set_other cores.cores n job words [] ne
-
--- CORE
-same-grown : (cores new : Cores) (n job : ℕ) (asks : Option ℕ) → job ≢ n → grown cores n asks ≡ Some new → core_of new job ≡ core_of cores job
-same-grown cores new n job None ne = λ e. cc
-same-grown cores new n job (Some blocks) ne =
-    by_test (λ o. o ≡ Some new → core_of new job ≡ core_of cores job) (nat_le blocks (cores.free + blocks_of cores n)) (Some (with_highest (resized cores n blocks) n blocks)) None
-    (λ _ e.
-    let is : with_highest (resized cores n blocks) n blocks ≡ new = cc in
-    subst (λ c. core_of c job ≡ core_of cores job) is (other-core (resized cores n blocks) n job _ ne ∙ get_or-set_other cores.cores n job _ [] ne))
-    (λ _ e. cc)
-
-same-done : (ac job : ℕ) (o : Option Cores) (j : Job) (cores : Cores) → ((new : Cores) → o ≡ Some new → core_of new job ≡ core_of cores job)
-    → core_of (core_done ac o j cores).cores job ≡ core_of cores job
-same-done ac job None j cores h = refl
-same-done ac job (Some new) j cores h = h new refl
-
-pub same-row : (service : Service) (time n ac e job : ℕ) (a : Around) → job ≢ n → core_of (row_of service time n ac e a).cores job ≡ core_of a.cores job
-same-row Reset time n ac e job a ne = refl
-same-row Core time n ac e job a ne = same-done ac job (grown a.cores n (blocks_asked (ac_of a.job ac))) a.job a.cores (λ new is. same-grown a.cores new n job (blocks_asked (ac_of a.job ac)) ne is)
-same-row Exit time n ac e job a ne = refl
-same-row Monrt time n ac e job a ne = refl
-same-row Logout time n ac e job a ne = refl
-same-row Mstime time n ac e job a ne = refl
-same-row Pjob time n ac e job a ne = refl
-same-row Sleep time n ac e job a ne = refl
-same-row Piini time n ac e job a ne = refl
-same-row Pisys time n ac e job a ne = refl
-same-row Debrk time n ac e job a ne = refl
-same-row Enq time n ac e job a ne = refl
-same-row Deq time n ac e job a ne = refl
-same-row Enqc time n ac e job a ne = other-core a.cores n job _ ne
-same-row Datrd time n ac e job a ne = refl
-same-row Datwr time n ac e job a ne = refl
-same-row (Input unit skips) time n ac e job a ne = other-core a.cores n job _ ne
-same-row Outchr time n ac e job a ne = refl
-same-row Outstr time n ac e job a ne = refl
-same-row Clrbfi time n ac e job a ne = refl
-same-row Clrbfo time n ac e job a ne = refl
-same-row (Skpin unit) time n ac e job a ne = refl
-same-row Unlisted time n ac e job a ne = refl
 
 cores-concluded : (j : Job) (cores : Cores) (requests : List Request) (o : Outcome) → (concluded j cores requests o).cores ≡ cores
 cores-concluded j cores requests outcome.Done = refl

@@ -41,11 +41,6 @@ runs-more_rounds k ticking s n ran =
     ∙ runs-rounds k ticking s
     ∙ ap (λ (a : Answer). one_if (has_run a) + runs_in (answers (rounds k ticking) (after (rounds 1 ticking) s))) ran
 
--- and one in which none does is not
-pub runs-idle : (ticking : Bool) (s : S) → has_run (happens s Step).answer ≡ false → runs_in (answers (rounds 1 ticking) s) ≡ 0
-runs-idle true s idle = runs-rounds 0 true s ∙ ap (λ b. one_if b + 0) idle
-runs-idle false s idle = runs-rounds 0 false s ∙ ap (λ b. one_if b + 0) idle
-
 -- so many rounds, and then the others
 rounds-parted : (a b : ℕ) (ticking : Bool) (s : S) → after (rounds (a + b) ticking) s ≡ after (rounds b ticking) (after (rounds a ticking) s)
 rounds-parted zero b ticking s = ap (λ (i : ℕ). after (rounds i ticking) s) (zero-add b)

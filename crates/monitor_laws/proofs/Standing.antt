@@ -13,14 +13,12 @@ use Rattle.job_sched.specs.Ready.{next_job}
 use Rattle.job_sched.specs.Tables.{job_at}
 use Rattle.job_sched.specs.declared.job.Interrupts.{Interrupts}
 use Rattle.job_sched.specs.declared.job.Job.{Job}
-use Rattle.uuo_calls.specs.declared.call.CallOutcome.{CallOutcome}
-use Rattle.uuo_calls.specs.declared.call.CallOutcome.TheVariants as ending
-use Rattle.uuo_calls.specs.declared.service.Service.{Service}
-use Rattle.uuo_calls.specs.Around.{Around}
 use Rattle.job_sched.specs.Jobs.{started_job}
-use Rattle.uuo_calls.specs.Performed.{World, row_of, around, performed_by, with_around, left_by}
+use Rattle.uuo_calls.specs.Laws.{IsSpared}
+use Rattle.uuo_calls.specs.Performed.{World, performed, performed_by}
 use Rattle.uuo_calls.specs.Services.{service_of}
 use Rattle.uuo_calls.specs.declared.call.MonitorCall.{MonitorCall}
+use Rattle.uuo_calls.proofs.Frames.{others-spared}
 use Rattle.machine.specs.declared.event.Event.{Event}
 use Rattle.machine.specs.declared.event.Event.TheVariants.{Step, Tick, Typed, Take, Login, Start, Continue, Kill, Restart}
 use Rattle.machine.specs.declared.sizes.TheConstants.{INTERRUPT_CHARACTER}
@@ -35,8 +33,8 @@ use Rattle.machine.specs.Turns.{Turn, turn_of, due}
 use Rattle.monitor_laws.proofs.Housing.{at-ticked, at-mapped, there-below}
 use Rattle.monitor_laws.proofs.Keeping.{kept-turned, apart-kept}
 use Rattle.ka_cpu.proofs.ExecLaws.{by_test}
-use Rattle.monitor_laws.proofs.OtherCores.{same-row, same-turned, jobs-chosen}
-use Rattle.monitor_laws.proofs.Outputs.{output-other, output-row, input-same}
+use Rattle.monitor_laws.proofs.OtherCores.{same-turned, jobs-chosen}
+use Rattle.monitor_laws.proofs.Outputs.{output-other, input-same}
 use Rattle.monitor_laws.proofs.Safety.{IsFree, free-number}
 
 -- what is known of the job at each time of a run
@@ -75,27 +73,18 @@ other-line : (w : World) (n m line : ℕ) → LinesApart w.table.jobs → line_o
 other-line w n m line apart at ne j is same = ne (apart n m line at (ap line_of is ∙ ap Some (sym same)))
 
 -- another job's step
-same-left : (o : CallOutcome) (w : World) (m n line : ℕ) → n ≢ m → Same w (left_by o w m) n line
-same-left ending.Done w m n line ne = same-world w n line
-same-left ending.Empty w m n line ne = same-world w n line
-same-left ending.Gone w m n line ne = record { jobs = get_or-set_other w.table.jobs m n None None ne; core = get_or-set_other w.cores.cores m n [] [] ne; output = refl }
-
-same-performed : (w : World) (time m n line : ℕ) (o : Option Job) (service : Service) (ac e : ℕ) → n ≢ m → ((j : Job) → o ≡ Some j → line ≢ j.line)
-    → Same w (performed_by w time m o service ac e).world n line
-same-performed w time m n line None service ac e ne other = same-world w n line
-same-performed w time m n line (Some j) service ac e ne other =
-    let a : Around = row_of service time m ac e (around w j) in
-    let l = same-left a.ending (with_around w m a) m n line ne in
-    record {
-      jobs = l.jobs ∙ get_or-set_other w.table.jobs m n (Some a.job) None ne;
-      core = l.core ∙ same-row service time m ac e n (around w j) ne;
-      output = l.output ∙ output-row service time m ac e line (around w j) (other j refl);
-    }
+same-performed : (w : World) (time m n line : ℕ) (c : MonitorCall) (o : Option Job) → job_at w.table.jobs m ≡ o → n ≢ m → ((j : Job) → o ≡ Some j → line ≢ j.line)
+    → Same w (performed w time m c).world n line
+same-performed w time m n line c None is ne other =
+    subst (λ (o : Option Job). Same w (performed_by w time m o (service_of c.kind c.ac c.e) c.ac c.e).world n line) (sym is) (same-world w n line)
+same-performed w time m n line c (Some j) is ne other =
+    let spared : IsSpared w (performed w time m c).world m j.line = (others-spared w time m c j is).0 in
+    record { jobs = spared.jobs n ne; core = spared.cores n ne; output = spared.output line (other j refl) }
 
 same-called : (w : World) (time m n line : ℕ) (c : Option MonitorCall) → n ≢ m → ((j : Job) → job_at w.table.jobs m ≡ Some j → line ≢ j.line)
     → Same w (called w time m c) n line
 same-called w time m n line None ne other = same-world w n line
-same-called w time m n line (Some c) ne other = same-performed w time m n line (job_at w.table.jobs m) (service_of c.kind c.ac c.e) c.ac c.e ne other
+same-called w time m n line (Some c) ne other = same-performed w time m n line c (job_at w.table.jobs m) refl ne other
 
 same-ran : (w : World) (time m n line : ℕ) (o : Option Job) → job_at w.table.jobs m ≡ o → Housed w.table.jobs w.cores → LinesApart w.table.jobs
     → line_of (job_at w.table.jobs n) ≡ Some line → n ≢ m → Same w (ran w time m o) n line

@@ -29,11 +29,11 @@ use Rattle.uuo_calls.specs.Performed.{World}
 use Rattle.machine.specs.declared.event.Answer.TheVariants.{Ran as RanAnswer}
 use Rattle.machine.specs.declared.event.Event.TheVariants.{Step}
 use Rattle.machine.specs.Machine.{S, Made, after, after_turn, answers, awake, called, happens, stepped, with_turn, ran as ran_job}
-use Rattle.machine.specs.Rounds.{has_run, rounds, runs_in}
+use Rattle.machine.specs.Rounds.{rounds, runs_in}
 use Rattle.machine.specs.Safe.{Safe}
 use Rattle.machine.specs.Stretches.{Stretch, Stretched, ended, run_out, runs_on, stretch_of, stretched, table_after, ticked_if, time_after}
 use Rattle.machine.specs.Turns.{Turn, both, concluded, due, executed, turn_of, turned}
-use Rattle.monitor_laws.proofs.Rounding.{rounds-more, runs-idle, runs-more_rounds}
+use Rattle.monitor_laws.proofs.Rounding.{rounds-more, runs-more_rounds}
 use Rattle.monitor_laws.proofs.Turning.{some-concluded, some-turned, some-with_core, wait-concluded, wait-turned}
 use Rattle.monitor_laws.proofs.Safety.{Runs, runs-next, next-ready}
 
@@ -475,27 +475,7 @@ goes-on s n (suc zero) ticking safe next some alone =
     subst (λ (x : Stretched). GoesOn s ticking 1 x) (sym (runs-one (chosen_world s n) s.time s.quantum n ticking (job_at s.world.table.jobs n))) (goes-one s n ticking next)
 goes-on s n (suc (suc k)) ticking safe next some alone = goes-some s n (suc k) ticking (job_at s.world.table.jobs n) safe next (alone (omega arith)) refl
 
--- an idle round
-pub record Idles (s : S) (ticking : Bool) : Type 0 where
-  pub state : ticked_if ticking s ≡ after (rounds 1 ticking) s
-  pub count : 0 ≡ runs_in (answers (rounds 1 ticking) s)
-
-pub idles : (s : S) (ticking : Bool) → next_job s.world.table s.world.lines s.world.requests ≡ None → Idles s ticking
-idles s ticking next = record {
-  state = sym (round-is s ticking ∙ ap (λ o. ticked_if ticking (stepped s o).state) next);
-  count = sym (runs-idle ticking s (ap (λ o. has_run (stepped s o).answer) next));
-}
-
 -- what the job that is next leaves
-pub step-made : (s : S) (n : ℕ) (w : World) (time made : ℕ) → next_job s.world.table s.world.lines s.world.requests ≡ Some n
-    → record { world = w; time = time; rounds = made }
-    ≡ runs_on (record s.world { table = chosen s.world.table n s.quantum }) s.time s.quantum n 1 false (job_at (chosen s.world.table n s.quantum).jobs n)
-    → record s { world = w; time = time } ≡ (stepped s (next_job s.world.table s.world.lines s.world.requests)).state
-step-made s n w time made next is =
-    ap (λ (x : Stretched). record s { world = x.world; time = x.time }) (is ∙ runs-one (chosen_world s n) s.time s.quantum n false (job_at (chosen s.world.table n s.quantum).jobs n))
-    ∙ ap (λ (l : List (Option Job)). record s { world = ran_job (chosen_world s n) s.time n (job_at l n) }) (jobs-of_chosen s.world.table n s.quantum)
-    ∙ sym (ap (λ o. (stepped s o).state) next)
-
 pub rounds-made : (s : S) (n k : ℕ) (ticking : Bool) (w : World) (time made : ℕ) → Safe s → next_job s.world.table s.world.lines s.world.requests ≡ Some n → 1 ≤ k
     → (2 ≤ k → Undisturbed (chosen s.world.table n s.quantum) n ticking (is_alone s.world.table n) k)
     → record { world = w; time = time; rounds = made }

@@ -9,9 +9,8 @@ use Rattle.ka_cpu.specs.declared.outcome.Outcome.{Outcome}
 use Rattle.ka_cpu.specs.declared.outcome.Outcome.TheVariants as outcome
 use Rattle.core_store.specs.Cores.{Cores, core_of, with_core}
 use Rattle.lock_queue.specs.declared.request.Request.{Request}
-use Rattle.lock_queue.specs.Jobs.{pending}
 use Rattle.job_sched.specs.declared.job.Job.{Job}
-use Rattle.machine.specs.Turns.{Turn, turn_of, turned, due, concluded, told_at, interrupted_at, noted}
+use Rattle.machine.specs.Turns.{Turn, turned, concluded, told_at, interrupted_at, noted}
 use Rattle.ka_cpu.proofs.ExecLaws.{by_test, length-core_with, length-exec}
 
 below-some : (cores : List (List ℕ)) (free n : ℕ) → core_of (record { cores = cores; free = free }) n ≢ [] → n < length cores
@@ -47,9 +46,6 @@ some-turned n j cores requests (Some x) some =
     (λ _. some-with_core cores n _ some (length-noted j.regs (core_of cores n) x.0 x.1))
     (λ _. some)
 
-pub some_turn : (n : ℕ) (j : Job) (cores : Cores) (requests : List Request) → core_of cores n ≢ [] → core_of (turn_of n j cores requests).cores n ≢ []
-some_turn n j cores requests some = some-turned n j cores requests (due j.interrupts (pending requests n)) some
-
 -- a turn leaves what its job waits for
 pub wait-concluded : (j : Job) (cores : Cores) (requests : List Request) (o : Outcome) → (concluded j cores requests o).job.wait ≡ j.wait
 wait-concluded j cores requests outcome.Done = refl
@@ -60,6 +56,3 @@ pub wait-turned : (n : ℕ) (j : Job) (cores : Cores) (requests : List Request) 
 wait-turned n j cores requests None = wait-concluded _ _ requests (exec j.regs (core_of cores n)).outcome
 wait-turned n j cores requests (Some x) =
     by_test (λ (t : Turn). t.job.wait ≡ j.wait) _ (told_at n cores requests (interrupted_at j (core_of cores n) x.0 x.1)) _ (λ _. refl) (λ _. refl)
-
-pub wait_turn : (n : ℕ) (j : Job) (cores : Cores) (requests : List Request) → (turn_of n j cores requests).job.wait ≡ j.wait
-wait_turn n j cores requests = wait-turned n j cores requests (due j.interrupts (pending requests n))

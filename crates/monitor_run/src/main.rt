@@ -1,7 +1,8 @@
 //! Runs a loop in some jobs of the machine, for measuring.
 //!
 //! Arguments: what is run (`bare` bare instructions, `steps` steps of the machine, `ticked` steps
-//! with a tick behind each, `ticks` ticks alone), how many, the jobs (1 to 16) and the quantum.
+//! with a tick behind each, `pairs` the same as lists of two events, `ticks` ticks alone), how many,
+//! the jobs (1 to 16) and the quantum.
 #![tactic(auto)]
 
 use core_store::{CoreStore, CoreWindow, PlainCore};
@@ -30,6 +31,7 @@ enum Load {
     Bare,
     Steps,
     Ticked,
+    Pairs,
     Ticks,
 }
 
@@ -63,6 +65,16 @@ fn bare(cores: &mut PlainCore, most: u32) -> u32 {
     done
 }
 
+/// So many steps with a tick behind each, as lists of two events.
+#[inline(never)]
+fn pairs(system: &mut Plain, most: u32) -> u32 {
+    let mut replies = [Answer::Done, Answer::Done];
+    for _ in 0..most {
+        system.run(&[Event::Step, Event::Tick], &mut replies);
+    }
+    most
+}
+
 /// Ticks alone, beside a job of an image that cannot begin.
 #[inline(never)]
 fn ticks(system: &mut Plain, image: &Image, most: u32) -> u32 {
@@ -92,6 +104,7 @@ fn main(rt: HostRuntime) -> io::Result<ExitCode> {
             "bare" => load = Load::Bare,
             "steps" => load = Load::Steps,
             "ticked" => load = Load::Ticked,
+            "pairs" => load = Load::Pairs,
             "ticks" => load = Load::Ticks,
             text => {
                 if i > 0 && i <= 3 {
@@ -126,6 +139,7 @@ fn main(rt: HostRuntime) -> io::Result<ExitCode> {
         }
         Load::Steps => system.steps(numbers[0], false),
         Load::Ticked => system.steps(numbers[0], true),
+        Load::Pairs => pairs(&mut system, numbers[0]),
         Load::Ticks => ticks(&mut system, &image, numbers[0]),
     };
     println!(rt; "{count}")?;

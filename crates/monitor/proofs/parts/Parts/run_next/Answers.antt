@@ -51,8 +51,7 @@ returns g c =
     record {
       state = rw (← c.self.view_is) x.state;
       job = rw (← c.self.view_is) (sym c.in-Some.is ∙ c.next.ensures);
-      count = rw (← c.self.view_is) x.count;
+      count = rw (← c.self.view_is) (omega (arith, x.count));
       least = x.least;
       most = omega (arith, x.most, c.span-span.ensures.most);
-      few = omega arith;
     }

@@ -1,13 +1,10 @@
-use Rattle.std.proofs.Common.{◌∙◌, arith}
-use Rattle.monitor_laws.proofs.Rounding.{rounds-left, runs-left}
+use Rattle.std.proofs.Common.{true, false}
+use Rattle.machine.specs.Rounds.{rounds}
+use Rattle.monitor_laws.proofs.Rounding.{safe-after}
 use Rattle.monitor.proofs.system.System.steps.Goals as goal
 
-pub loop-left-preserved : goal.loop-left-preserved
-loop-left-preserved g c =
-    let rest = rounds-left c.loop-left.left c.run_rounds-some.result.made c.args.ticking c.loop-left.self c.run_rounds-some.new.self c.run_rounds-some.ensures.most c.run_rounds-some.ensures.state in
-    let runs = runs-left c.loop-left.left c.run_rounds-some.result.made c.run_rounds-some.result.ran c.args.ticking c.loop-left.self c.run_rounds-some.new.self c.run_rounds-some.ensures.most c.run_rounds-some.ensures.state c.run_rounds-some.ensures.count in
-    record {
-      few = omega (arith, c.loop-left.invariant.few, c.run_rounds-some.ensures.few, c.run_rounds-some.ensures.most);
-      rest = rest ∙ c.loop-left.invariant.rest;
-      count = omega (arith, runs, c.loop-left.invariant.count);
-    }
+pub invariant_of-self : goal.invariant_of-self
+invariant_of-self g c = rw c.run_rounds.ensures.state (safe-after (rounds c.args.most true) _ c.self.invariant)
+
+pub invariant_of-self-else-ticking : goal.invariant_of-self-else-ticking
+invariant_of-self-else-ticking g c = rw c.run_rounds-else-ticking.ensures.state (safe-after (rounds c.args.most false) _ c.self.invariant)
