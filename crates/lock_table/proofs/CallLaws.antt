@@ -203,7 +203,7 @@ named-woken fs job named h =
     ap (raised []) (named-after fs job named) ∙ raised-all (left_of job (DequeueNamed named)) (left-keeps job (DequeueNamed named)) fs h
 
 -- wants of which none is named all stay
-none-lost : (named ws : List Want) → list_any (λ w. names named w.key) ws ≡ false → filter (λ w. not (names named w.key)) ws ≡ ws
+pub none-lost : (named ws : List Want) → list_any (λ w. names named w.key) ws ≡ false → filter (λ w. not (names named w.key)) ws ≡ ws
 none-lost named [] h = refl
 none-lost named (w ∷ ws) h =
     let p = or_parts (names named w.key) (list_any (λ w. names named w.key) ws) h in

@@ -5,3 +5,5 @@ pub mod RenewalLaws
 pub mod DepartureLaws
 pub mod CallLaws
 mod WaiterLaws
+pub mod WalkLaws
+pub mod GivingUpLaws

@@ -1,15 +1,14 @@
 -- Grants beside requests that are right answer for the grants behind the requests before them.
-use Rattle.std.proofs.Common.{◌≡◌, ◌∙◌, sym, ap, ℕ, zero, suc, ◌+◌, ◌<◌, ◌==◌, Bool, true, false, not, ◌&&◌, ◌||◌, cond, List, [], ◌∷◌, ◌++◌, append-nil, append_assoc, length, get_or, take, drop, filter, Some, slice_get, refl, arith, sum_by, add-one}
+use Rattle.std.proofs.Common.{◌≡◌, ◌∙◌, sym, ap, ℕ, zero, suc, ◌+◌, ◌<◌, ◌==◌, Bool, true, false, not, ◌&&◌, ◌||◌, cond, List, [], ◌∷◌, ◌++◌, append-nil, append_assoc, length, get_or, take, drop, filter, Some, slice_get, refl, arith, add-one}
 use Rattle.std.specs.List.{list_any}
 use Rattle.std.proofs.lemmas.Bool.{and_parts, and_from}
 use Rattle.std.proofs.lemmas.List.Elements.{filter-append}
-use Rattle.std.proofs.lemmas.List.Sums.{sum_by-append}
 use Rattle.lock_queue.specs.declared.key.Key.{Key}
 use Rattle.lock_queue.specs.declared.request.Request.{Request}
 use Rattle.lock_queue.specs.declared.want.Want.{Want}
 use Rattle.lock_queue.specs.Keys.{same_key}
 use Rattle.lock_queue.specs.Jobs.{is_blocking, is_interrupt, is_blocked, is_waiting_job, is_pending, pending, first_id, as_told, told_behind, told_of, is_kept_by, is_blocked_by, waits_for}
-use Rattle.lock_queue.specs.Queue.{all_wants, wants_at, amount_of, names, granted, is_granted, granted_behind, chosen_behind, some_behind, is_owner, is_waiter, waiters}
+use Rattle.lock_queue.specs.Queue.{all_wants, wants_at, names, granted, is_granted, granted_behind, chosen_behind, some_behind, is_owner, is_waiter, waiters}
 use Rattle.lock_queue.specs.StatusWords.{first_level, standing, level_of, status_of}
 use Rattle.lock_queue.proofs.StatusLaws.{first_of}
 use Rattle.lock_table.specs.Filings.{Filing, requests_in, AreRight, same_flag, are_right}
@@ -172,22 +171,7 @@ status-right fs key asker h =
     ∙ ap (standing key asker (level_of (requests_in fs) key) (requests_in (filter (owns key) fs)))
     (chosen-right (is_waiter key) (awaits key) (λ e f g. ap (λ b. names f.request.wants.items key && not b) (sym g)) [] fs h)
 
--- ---- the amounts of a key from the request at i on
-
-pub amounts-from : (key : Key) (fs : List Filing) (i : ℕ) (f : Filing) → i < length fs → f ≡ get_or fs i f
-    → sum_by amount_of (wants_at (requests_in (drop i fs)) key)
-    ≡ sum_by amount_of (filter (λ v. same_key v.key key) f.request.wants.items) + sum_by amount_of (wants_at (requests_in (drop (i + 1) fs)) key)
-amounts-from key [] i f lt is = absurd (omega arith)
-amounts-from key (x ∷ fs) zero f lt is =
-    rw (
-      filter-append (λ v. same_key v.key key) x.request.wants.items (all_wants (requests_in fs)),
-      sum_by-append amount_of (filter (λ v. same_key v.key key) x.request.wants.items) (wants_at (requests_in fs) key),
-      is,
-    ) refl
-amounts-from key (x ∷ fs) (suc i) f lt is =
-    rw (add-one (suc i)) (amounts-from key fs i f (omega arith) is ∙ rw (add-one i) refl)
-
--- the first level from the request at i on
+-- ---- the first level from the request at i on
 first_level-append : (xs ys : List Want) → first_level (xs ++ ys) ≡ first_of (first_level xs) (first_level ys)
 first_level-append [] ys = refl
 first_level-append (x ∷ xs) ys = refl

@@ -1,7 +1,9 @@
 -- A request whose signature does not meet a key's bit has no want of the key.
-use Rattle.std.proofs.Common.{◌≡◌, ◌∙◌, sym, ap, ℕ, ◌==◌, Bool, true, false, not, inl, inr, ◌||◌, List, [], ◌∷◌, filter, refl, arith, min, bit_and, bit_or, cond}
+use Rattle.std.proofs.Common.{◌≡◌, ◌∙◌, sym, ap, ℕ, ◌==◌, Bool, true, false, not, inl, inr, ◌||◌, List, [], ◌∷◌, filter, length, refl, arith, min, bit_and, bit_or, cond}
 use Rattle.std.specs.Int.{bit_at}
 use Rattle.std.proofs.lemmas.Bool.{eqb-true}
+use Rattle.std.proofs.lemmas.Bool.Decides.{nat_tests}
+use Rattle.std.proofs.lemmas.Nat.{le_or_r, pow_pos}
 use Rattle.std.proofs.lemmas.Nat.Bits.{bit_at_and, bit_at_or, bit_at-pow_same, bit_at-zero, bit_at-lt}
 use Rattle.lock_queue.specs.declared.key.Key.{Key}
 use Rattle.lock_queue.specs.declared.want.Want.{Want}
@@ -76,3 +78,8 @@ unmet_names ws k h =
 pub unmet_wants : (ws : List Want) (k : Key) → meets (signature_of ws) (bit_of k) ≡ false
     → filter (λ w. same_key w.key k) ws ≡ []
 unmet_wants ws k h = names-none ws k (unmet_names ws k h)
+
+-- a signature is 0 where there are no wants
+pub bare_signature : (ws : List Want) → (signature_of ws == 0) ≡ not (not (length ws == 0))
+bare_signature [] = refl
+bare_signature (w ∷ ws) = grind (arith, nat_tests, le_or_r (signature_of ws) (bit_of w.key), pow_pos (group_of w.key))

@@ -5,7 +5,7 @@ use Rattle.lock_queue.specs.declared.call.LockCall.{LockCall}
 use Rattle.lock_queue.specs.declared.call.LockCall.TheVariants.{DequeueAll, DequeueId}
 use Rattle.lock_queue.specs.declared.want.Want.{Want}
 use Rattle.lock_queue.specs.Changes.{changed}
-use Rattle.lock_queue.specs.Dequeues.{has_wants, without_keys_of, has_id}
+use Rattle.lock_queue.specs.Dequeues.{has_wants, without_keys, without_keys_of, has_id}
 use Rattle.lock_queue.specs.Jobs.{is_blocking}
 use Rattle.lock_queue.specs.Queue.{names}
 use Rattle.lock_table.specs.declared.departures.Leaving.{Leaving}
@@ -33,7 +33,15 @@ signature_where test (f ∷ later) =
 abbrev pub loses : ℕ → List Want → Filing → Bool
 loses job named f = f.request.job == job && list_any (λ w. names named w.key) f.request.wants.items
 
--- a request without its wants of the named keys, where it is the job's
+-- the groups that it touched then
+abbrev pub lost_bits : ℕ → List Want → Filing → ℕ
+lost_bits job named f = if loses job named f then signature_of f.request.wants.items else 0
+
+-- a request without its wants of the named keys
+abbrev pub fewer : List Want → Filing → Filing
+fewer named f = filing (without_keys named f.request) f.granted
+
+-- the same, where it is the job's
 abbrev pub with_fewer : ℕ → List Want → Filing → Filing
 with_fewer job named f = filing (without_keys_of job named f.request) f.granted
 

@@ -4,3 +4,4 @@ pub mod Renewals
 pub mod Departures
 pub mod Findings
 pub mod Waiters
+pub mod Walks

@@ -2,8 +2,10 @@
 use Rattle.std.specs.Prelude.{◌≡◌, ⊤, ℕ, Bool, true, false, not, ◌&&◌, if◌then◌else◌, List, [], ◌∷◌, ◌++◌}
 use Rattle.lock_queue.specs.declared.grant.Grant.{Grant}
 use Rattle.lock_queue.specs.declared.request.Request.{Request}
+use Rattle.lock_queue.specs.declared.want.Want.{Want}
+use Rattle.lock_queue.specs.Keys.{same_key}
 use Rattle.lock_queue.specs.Grants.{is_told_of, grant_of}
-use Rattle.lock_queue.specs.Queue.{granted_behind}
+use Rattle.lock_queue.specs.Queue.{is_pooled, agree, granted_behind}
 use Rattle.lock_table.specs.Filings.{Filing, filing}
 use Rattle.lock_table.specs.Signatures.{meets, signature_of}
 
@@ -46,3 +48,9 @@ raised earlier (f ∷ later) =
     if (is_told_of f.request.kind && not f.granted) && granted_behind earlier f.request
     then grant_of f.request ∷ raised (earlier ++ f.request ∷ []) later
     else raised (earlier ++ f.request ∷ []) later
+
+-- whether the first of a request's wants does not fit behind the first of an earlier request's
+abbrev pub shuts : List Want → List Want → Bool
+shuts [] later = false
+shuts (v ∷ vs) [] = false
+shuts (v ∷ vs) (w ∷ ws) = (not (is_pooled w) && not (agree v w)) && same_key v.key w.key

@@ -34,7 +34,7 @@ fn has_pooled(filed: &[Filed], job: u8, key: &Key) -> bool
 {
     let bit = bit_of(key);
     for f in filed {
-        if f.request().job == job && is_pooled_at(f, key, bit) {
+        if f.job() == job && is_pooled_at(f, key, bit) {
             return true;
         }
     }
@@ -76,7 +76,7 @@ pub fn write_changed(later: &mut Shelf, filed: &[Filed], job: u8, changes: &[Wan
     later.clear();
     for f in filed {
         let r = f.request();
-        if r.job == job {
+        if f.job() == job {
             let wants = changed_wants(changes, &r.wants);
             later.push(r.job, r.id, r.kind, r.told, &wants, f.is_granted());
         } else {

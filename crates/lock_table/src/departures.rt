@@ -1,10 +1,10 @@
 //! Requests that leave, or lose wants.
-ghost use Rattle.std.specs.Prelude.{◌≡◌, ◌≤◌, [], map, filter, length};
+ghost use Rattle.std.specs.Prelude.{◌≡◌, ◌≤◌, ◌<◌, ◌+◌, [], ◌∷◌, ◌++◌, map, filter, length, get_or, take, drop};
 ghost use Rattle.std.specs.List.{list_any};
 ghost use Rattle.word36.specs.declared.sizes.TheConstants.{REQUESTS};
 ghost use Rattle.lock_queue.specs.Queue.{names};
-ghost use Rattle.lock_table.specs.Departures.{leaves, stays, signature_where, loses, with_fewer, keeps_wants};
-ghost use Rattle.lock_table.specs.Filings.{requests_in, AreRight};
+ghost use Rattle.lock_table.specs.Departures.{leaves, stays, signature_where, loses, lost_bits, with_fewer, keeps_wants};
+ghost use Rattle.lock_table.specs.Filings.{Filing, requests_in, AreRight};
 ghost use Rattle.lock_table.specs.Renewals.{raised};
 
 use crate::filed::Filed;
@@ -23,18 +23,23 @@ pub enum Leaving {
     Blocked,
 }
 
+/// Whether a request of the job leaves.
+fn is_chosen(f: &Filed, leaving: &Leaving) -> bool
+    ensures { result ≡ leaves f.now.request.job leaving.now f.now }
+{
+    let r = f.request();
+    match leaving {
+        Leaving::All => true,
+        Leaving::OfId(id) => r.id == *id,
+        Leaving::Blocked => matches!(r.kind, EnqueueKind::Blocking) && !f.is_granted(),
+    }
+}
+
 /// Whether a request leaves.
 pub fn does_leave(f: &Filed, job: u8, leaving: &Leaving) -> bool
     ensures { result ≡ leaves job leaving.now f.now }
 {
-    let r = f.request();
-    match leaving {
-        Leaving::All => r.job == job,
-        Leaving::OfId(id) => r.job == job && r.id == *id,
-        Leaving::Blocked => {
-            r.job == job && matches!(r.kind, EnqueueKind::Blocking) && !f.is_granted()
-        }
-    }
+    f.job() == job && is_chosen(f, leaving)
 }
 
 /// Takes out the requests that leave, and answers the groups that they touched.
@@ -75,42 +80,66 @@ fn is_some_named(wants: &[Want], named: &[Want]) -> bool
 fn does_lose(f: &Filed, job: u8, named: &[Want]) -> bool
     ensures { result ≡ loses job named.now f.now }
 {
-    f.request().job == job && is_some_named(f.wants(), named)
+    f.job() == job && is_some_named(f.wants(), named)
 }
 
-/// The groups of all requests that lose wants.
-fn signature_lost(filed: &[Filed], job: u8, named: &[Want]) -> u64
-    ensures { result ≡ signature_where (loses job named.now) filed.now }
+/// Takes the request at a place out where it has no wants.
+fn remove_bare(shelf: &mut Shelf, i: usize)
+    requires { i < length shelf.old }
+    ensures { (d : Filing) → shelf.new ≡
+        take i shelf.old ++ filter keeps_wants (get_or shelf.old i d ∷ []) ++ drop (i + 1) shelf.old }
 {
-    let mut bits = 0;
-    for i in (0..filed.len()).rev() {
-        let f = &filed[i];
-        if does_lose(f, job, named) {
-            bits |= f.signature();
-        }
+    if shelf.as_slice()[i].is_bare() {
+        shelf.remove(i);
     }
+}
+
+/// Takes the named wants out of the request at a place, and the request where none is left; answers
+/// the groups that it touched, where it loses wants. Kept apart, so that the walk itself stays short.
+#[inline(never)]
+fn give_up_of_job_at(shelf: &mut Shelf, i: usize, job: u8, named: &[Want]) -> u64
+    requires { i < length shelf.old }
+    ensures value { (d : Filing) → shelf.new ≡
+        take i shelf.old ++ filter keeps_wants (with_fewer job named.now (get_or shelf.old i d) ∷ []) ++ drop (i + 1) shelf.old }
+    ensures bits { (d : Filing) → result ≡ lost_bits job named.now (get_or shelf.old i d) }
+{
+    let f = &shelf.as_slice()[i];
+    if !does_lose(f, job, named) {
+        remove_bare(shelf, i);
+        return 0;
+    }
+    let bits = f.signature();
+    shelf.remove_keys_at(i, named);
+    remove_bare(shelf, i);
     bits
 }
 
-/// Takes the wants of the named keys out of the job's requests.
-pub fn remove_keys_of(filed: &mut [Filed], job: u8, named: &[Want])
-    ensures { filed.new ≡ map (with_fewer job named.now) filed.old }
+/// The same. Most requests are of other jobs and have wants: those stay as they are.
+fn give_up_at(shelf: &mut Shelf, i: usize, job: u8, named: &[Want]) -> u64
+    requires { i < length shelf.old }
+    ensures value { (d : Filing) → shelf.new ≡
+        take i shelf.old ++ filter keeps_wants (with_fewer job named.now (get_or shelf.old i d) ∷ []) ++ drop (i + 1) shelf.old }
+    ensures bits { (d : Filing) → result ≡ lost_bits job named.now (get_or shelf.old i d) }
 {
-    for f in filed.iter_mut() {
-        if f.request().job == job {
-            f.remove_keys(named);
-        }
+    let f = &shelf.as_slice()[i];
+    if f.job() != job && !f.is_bare() {
+        0
+    } else {
+        give_up_of_job_at(shelf, i, job, named)
     }
 }
 
-fn remove_empty(shelf: &mut Shelf)
-    ensures { shelf.new ≡ filter keeps_wants shelf.old }
+/// Takes the named wants out of the job's requests, and the requests that are left without wants;
+/// answers the groups of all that lost wants.
+fn give_up(shelf: &mut Shelf, job: u8, named: &[Want]) -> u64
+    ensures value { shelf.new ≡ filter keeps_wants (map (with_fewer job named.now) shelf.old) }
+    ensures bits { result ≡ signature_where (loses job named.now) shelf.old }
 {
+    let mut bits = 0;
     for i in (0..shelf.as_slice().len()).rev() {
-        if shelf.as_slice()[i].wants().is_empty() {
-            shelf.remove(i);
-        }
+        bits |= give_up_at(shelf, i, job, named);
     }
+    bits
 }
 
 /// Takes the named wants out of the job's requests, and the requests that are left without wants, and
@@ -124,8 +153,6 @@ pub fn depart_named(shelf: &mut Shelf, job: u8, named: &[Want], woken: &mut Woke
     ensures woken { woken.new.items ≡
         raised [] (filter keeps_wants (map (with_fewer job named.now) shelf.old)) }
 {
-    let bits = signature_lost(shelf.as_slice(), job, named);
-    shelf.remove_keys_of(job, named);
-    remove_empty(shelf);
+    let bits = give_up(shelf, job, named);
     shelf.renew(bits, woken);
 }

@@ -1,53 +1,57 @@
 //! Why a request that arrives is refused.
-ghost use Rattle.std.specs.Prelude.{◌≡◌, [], filter, nat_le};
-ghost use Rattle.std.specs.List.{list_all, list_any};
-ghost use Rattle.lock_queue.specs.Enqueues.{are_alike, enqueue_fault, some_too_low, enqueue_refusal};
-ghost use Rattle.lock_queue.specs.Keys.{same_key};
+ghost use Rattle.std.specs.Prelude.{◌≡◌, ◌==◌, ◌&&◌, ◌||◌, [], nat_le};
+ghost use Rattle.std.specs.List.{list_any};
+ghost use Rattle.lock_queue.specs.Enqueues.{enqueue_fault, some_too_low, enqueue_refusal};
 ghost use Rattle.lock_queue.specs.Outcomes.{first_refusal};
-ghost use Rattle.lock_queue.specs.Queue.{wants_at, wants_of};
+ghost use Rattle.lock_queue.specs.Queue.{names, wants_of};
 ghost use Rattle.lock_table.specs.Filings.{requests_in};
-ghost use Rattle.lock_table.specs.Signatures.{bit_of};
 
 use crate::filed::Filed;
-use crate::fits::job_has_key;
+use crate::fits::job_names;
 use crate::signature::bit_of;
+use crate::walks::{from_met, next_met};
 use lock_queue::steps::{are_alike_in, names_key, reach_level};
-use lock_queue::{EnqueueKind, Level, Refusal, Want};
+use lock_queue::{EnqueueKind, Key, Level, Refusal, Want};
 use word36::REQUESTS;
 
-/// Whether the request's wants of a want's key have its level and its pool's size.
-#[tactic(auto, using(crate::proofs::SignatureLaws::unmet_wants))]
-fn is_alike(f: &Filed, w: &Want, bit: u64) -> bool
-    requires { bit ≡ bit_of w.now.key }
-    ensures { result ≡ list_all (λ v. are_alike v w.now)
-        (filter (λ v. same_key v.key w.now.key) f.now.request.wants.items) }
+/// Whether the job names the key in a request, or did so before.
+fn is_named_so_far(before: bool, f: &Filed, job: u8, key: &Key) -> bool
+    ensures { result ≡
+        (before || (f.now.request.job == job && names f.now.request.wants.items key.now)) }
 {
-    !f.meets(bit) || are_alike_in(f.wants(), w)
+    before || job_names(f, job, key)
 }
 
-/// Whether the present wants of a want's key have its level and its pool's size.
-fn are_all_alike(filed: &[Filed], w: &Want) -> bool
-    ensures { result ≡ list_all (λ v. are_alike v w.now) (wants_at (requests_in filed.now) w.now.key) }
+/// Why a want is refused beside the present ones: one of its key differs from it, or is the job's.
+fn fault_beside(filed: &[Filed], job: u8, w: &Want) -> Option<Refusal>
+    ensures { result ≡ enqueue_fault (requests_in filed.now) job [] w.now }
 {
     let bit = bit_of(&w.key);
-    for f in filed {
-        if !is_alike(f, w, bit) {
-            return false;
+    let mut is_named = false;
+    let mut rest = from_met(filed, bit);
+    while let [f, ..] = rest {
+        if !are_alike_in(f.wants(), w) {
+            return Some(Refusal::Differs);
         }
+        is_named = is_named_so_far(is_named, f, job, &w.key);
+        rest = next_met(rest, bit);
     }
-    true
+    if is_named {
+        Some(Refusal::NamedAlready)
+    } else {
+        None
+    }
 }
 
 /// Why a want is refused that comes after the call's earlier ones.
 fn fault_of(filed: &[Filed], job: u8, earlier: &[Want], w: &Want) -> Option<Refusal>
     ensures { result ≡ enqueue_fault (requests_in filed.now) job earlier.now w.now }
 {
-    if !are_all_alike(filed, w) {
-        Some(Refusal::Differs)
-    } else if names_key(earlier, &w.key) || job_has_key(filed, job, &w.key) {
+    let fault = fault_beside(filed, job, w);
+    if fault.is_none() && names_key(earlier, &w.key) {
         Some(Refusal::NamedAlready)
     } else {
-        None
+        fault
     }
 }
 
@@ -68,10 +72,12 @@ fn job_reaches_level(filed: &[Filed], job: u8, level: Level) -> bool
     ensures { result ≡
         list_any (λ v. nat_le level v.level) (wants_of (requests_in filed.now) job) }
 {
-    for f in filed {
-        if f.request().job == job && reach_level(f.wants(), level) {
+    let mut rest = filed;
+    while let [f, later @ ..] = rest {
+        if f.job() == job && reach_level(f.wants(), level) {
             return true;
         }
+        rest = later;
     }
     false
 }

@@ -1,16 +1,19 @@
 //! A request with what is kept beside it.
-ghost use Rattle.std.specs.Prelude.{◌≡◌, ◌≤◌, true, false, length, IfOk, IsTrue};
+ghost use Rattle.std.specs.Prelude.{◌≡◌, ◌≤◌, true, false, length, not, IfOk, IsTrue};
 ghost use Rattle.std.specs.List.{list_all};
 ghost use Rattle.word36.specs.declared.sizes.TheConstants.{LOCKS_A_CALL};
-ghost use Rattle.lock_queue.specs.Dequeues.{without_keys};
+ghost use Rattle.lock_queue.specs.Dequeues.{has_wants, without_keys};
 ghost use Rattle.lock_queue.specs.Enqueues.{request_of};
 ghost use Rattle.lock_queue.specs.WellFormed.{is_in_range};
 ghost use Rattle.lock_table.specs.Filings.{filing};
 ghost use Rattle.lock_table.specs.Findings.{with_told};
 ghost use Rattle.lock_table.specs.Renewals.{with_grant};
 ghost use Rattle.lock_table.specs.Signatures.{meets, signature_of};
+ghost use Rattle.lock_table.specs.Waiters.{waiter_bit};
+ghost use Rattle.lock_table.specs.Walks.{touched};
 
 use crate::signature::signature_of;
+use crate::waiters::waiter_bit;
 use lock_queue::steps::{remove_keys, write_request};
 use lock_queue::{EnqueueKind, Request, RequestId, Want, Wants};
 use std::alloc::{AllocError, Global};
@@ -22,6 +25,8 @@ use std::marker::Model;
 pub struct Filed {
     request: Box<Request>,
     signature: u64,
+    waiter: u32,
+    job: u8,
     granted: bool,
 }
 
@@ -29,12 +34,14 @@ impl Model for Filed {
     ghost use Rattle.std.specs.Prelude.{◌≡◌};
     ghost use Rattle.lock_table.specs.Filings.{Filing, filing};
     ghost use Rattle.lock_table.specs.Signatures.{signature_of};
+    ghost use Rattle.lock_table.specs.Waiters.{waiter_bit};
 
     ghost Value = { Filing };
 
     ghost view = { λ f. filing f.request.value f.granted };
 
-    ghost invariant = { λ f. f.signature ≡ signature_of f.request.value.wants.items };
+    ghost invariant = { λ f. (f.signature ≡ signature_of f.request.value.wants.items)
+        × (f.waiter ≡ waiter_bit (filing f.request.value f.granted)) × (f.job ≡ f.request.value.job) };
 }
 
 impl Filed {
@@ -43,6 +50,8 @@ impl Filed {
         Ok(Filed {
             request: Box::new(alloc, Request::default())?,
             signature: 0,
+            waiter: 0,
+            job: 0,
             granted: false,
         })
     }
@@ -52,6 +61,20 @@ impl Filed {
         ensures { result.now ≡ self.now.request }
     {
         &self.request
+    }
+
+    /// Whose it is.
+    pub fn job(&self) -> u8
+        ensures { result ≡ self.now.request.job }
+    {
+        self.job
+    }
+
+    /// The bit of the job that waits by it, or 0 where none does.
+    pub fn waiter_bit(&self) -> u32
+        ensures { result ≡ waiter_bit self.now }
+    {
+        self.waiter
     }
 
     /// Its wants.
@@ -75,6 +98,13 @@ impl Filed {
         self.signature
     }
 
+    /// Those of these groups that its wants touch.
+    pub fn touched(&self, bits: u64) -> u64
+        ensures { result ≡ touched bits self.now }
+    {
+        self.signature & bits
+    }
+
     /// Whether its wants touch one of these groups.
     pub fn meets(&self, bits: u64) -> bool
         ensures { result ≡ meets (signature_of self.now.request.wants.items) bits }
@@ -82,11 +112,20 @@ impl Filed {
         self.signature & bits != 0
     }
 
+    /// Whether it has no wants.
+    #[tactic(auto, using(crate::proofs::SignatureLaws::bare_signature))]
+    pub fn is_bare(&self) -> bool
+        ensures { result ≡ not (has_wants self.now.request) }
+    {
+        self.signature == 0
+    }
+
     /// Grants it.
     pub fn grant(&mut self)
         ensures { self.new ≡ with_grant self.old }
     {
         self.granted = true;
+        self.waiter = 0;
     }
 
     /// Marks it as told.
@@ -112,6 +151,8 @@ impl Filed {
     {
         write_request(&mut self.request, job, id, kind, told, wants);
         self.signature = signature_of(wants.as_slice());
+        self.waiter = waiter_bit(job, kind, granted);
+        self.job = job;
         self.granted = granted;
     }
 

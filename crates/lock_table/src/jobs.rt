@@ -20,7 +20,7 @@ fn does_block(f: &Filed, job: u8) -> bool
     ensures { result ≡ blocks job f.now }
 {
     let r = f.request();
-    r.job == job && matches!(r.kind, EnqueueKind::Blocking) && !f.is_granted()
+    f.job() == job && matches!(r.kind, EnqueueKind::Blocking) && !f.is_granted()
 }
 
 /// Whether the job waits by one of its requests.
@@ -34,7 +34,7 @@ fn does_pend(f: &Filed, job: u8) -> bool
     ensures { result ≡ pends job f.now }
 {
     let r = f.request();
-    r.job == job && matches!(r.kind, EnqueueKind::Interrupt) && !r.told && f.is_granted()
+    f.job() == job && matches!(r.kind, EnqueueKind::Interrupt) && !r.told && f.is_granted()
 }
 
 /// The id of the job's first granted interrupt request of which it was not told.
@@ -79,7 +79,7 @@ fn job_is_in_the_way(earlier: &[Filed], w: &Want, job: u8) -> bool
 {
     let bit = bit_of(&w.key);
     for f in earlier {
-        if f.request().job == job && is_in_the_way(f, w, bit) {
+        if f.job() == job && is_in_the_way(f, w, bit) {
             return true;
         }
     }

@@ -15,5 +15,6 @@ mod shelf;
 mod signature;
 mod standing;
 mod waiters;
+mod walks;
 
 pub use indexed::IndexedTable;

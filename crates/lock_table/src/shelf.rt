@@ -1,20 +1,18 @@
 //! The requests that are present, in order of arrival, and the room for others.
-ghost use Rattle.std.specs.Prelude.{◌≡◌, ◌+◌, ◌<◌, ◌≤◌, [], ◌∷◌, ◌++◌, length, map, remove, IfOk, IsTrue, vec_capacity};
+ghost use Rattle.std.specs.Prelude.{◌≡◌, ◌+◌, ◌<◌, ◌≤◌, [], ◌∷◌, ◌++◌, length, get_or, take, drop, remove, IfOk, IsTrue, vec_capacity};
 ghost use Rattle.std.specs.List.{list_all, list_any};
 ghost use Rattle.word36.specs.declared.sizes.TheConstants.{LOCKS_A_CALL, REQUESTS};
 ghost use Rattle.lock_queue.specs.Enqueues.{request_of};
 ghost use Rattle.lock_queue.specs.Queue.{granted_behind};
 ghost use Rattle.lock_queue.specs.WellFormed.{are_well_formed, is_in_range};
-ghost use Rattle.lock_table.specs.Departures.{with_fewer};
-ghost use Rattle.lock_table.specs.Filings.{filing, requests_in, AreRight};
+ghost use Rattle.lock_table.specs.Departures.{fewer};
+ghost use Rattle.lock_table.specs.Filings.{Filing, filing, requests_in, AreRight};
 ghost use Rattle.lock_table.specs.Findings.{blocks, told_in};
 ghost use Rattle.lock_table.specs.Renewals.{renewed, risen};
 
-use crate::departures::remove_keys_of;
 use crate::filed::Filed;
 use crate::jobs::{does_some_block, tell};
 use crate::renewal::renew;
-use crate::waiters::waiter_bit;
 use lock_queue::{EnqueueKind, RequestId, Want, Wants, Woken};
 use std::alloc::{AllocError, Global};
 use std::marker::Model;
@@ -109,7 +107,7 @@ impl Shelf {
     {
         let mut filed = self.spare.swap_remove(self.spare.len() - 1);
         filed.write(job, id, kind, told, wants, granted);
-        self.waiters |= waiter_bit(&filed);
+        self.waiters |= filed.waiter_bit();
         let _ = self.present.push(filed);
     }
 
@@ -190,11 +188,14 @@ impl Shelf {
         tell(self.present.as_mut_slice(), job);
     }
 
-    /// Takes the wants of the named keys out of the job's requests.
-    pub fn remove_keys_of(&mut self, job: u8, named: &[Want])
-        ensures { self.new ≡ map (with_fewer job named.now) self.old }
+    /// Takes the wants of the named keys out of the request at a place.
+    #[tactic(auto, using(lock_queue::proofs::ListSteps::set_split))]
+    pub fn remove_keys_at(&mut self, i: usize, named: &[Want])
+        requires { i < length self.old }
+        ensures { (d : Filing) → self.new ≡
+            take i self.old ++ fewer named.now (get_or self.old i d) ∷ drop (i + 1) self.old }
     {
         self.waiters_known = false;
-        remove_keys_of(self.present.as_mut_slice(), job, named);
+        self.present[i].remove_keys(named);
     }
 }

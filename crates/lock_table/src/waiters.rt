@@ -1,21 +1,18 @@
 //! The jobs that wait, as the bits of a number.
-ghost use Rattle.std.specs.Prelude.{◌≡◌};
-ghost use Rattle.lock_table.specs.Waiters.{waiter_bit};
+ghost use Rattle.std.specs.Prelude.{◌≡◌, ◌&&◌, ◌^◌, ◌%◌, not, if◌then◌else◌};
+ghost use Rattle.lock_queue.specs.Jobs.{is_blocking};
 
-use crate::filed::Filed;
 use lock_queue::EnqueueKind;
 
 /// The bits of a set of jobs, one for each number from 0 to 31.
 const JOB_BITS: u8 = 32;
 
 /// The bit of the job that waits by a request, or 0 where none does.
-#[inline(always)]
-pub fn waiter_bit(f: &Filed) -> u32
-    ensures { result ≡ waiter_bit f.now }
+pub fn waiter_bit(job: u8, kind: EnqueueKind, granted: bool) -> u32
+    ensures { result ≡ (if not granted && is_blocking kind then 2 ^ (job % 32) else 0) }
 {
-    let r = f.request();
-    if !f.is_granted() && matches!(r.kind, EnqueueKind::Blocking) {
-        1 << (r.job % JOB_BITS)
+    if !granted && matches!(kind, EnqueueKind::Blocking) {
+        1 << (job % JOB_BITS)
     } else {
         0
     }
