@@ -15,7 +15,7 @@ use Rattle.mac_text.specs.declared.syntax.Statement.TheVariants as statements
 use Rattle.mac_text.specs.declared.syntax.Line.{Line}
 use Rattle.mac_asm.specs.declared.error.AsmCode.{AsmCode}
 use Rattle.mac_asm.specs.declared.error.AsmCode.TheVariants.{Syntax, UnknownName, DefinedTwice, DoesNotFit, NotYetDefined, PlaceTooHigh, NoEnd}
-use Rattle.mac_asm.specs.declared.sums.Sum.{Sum}
+use Rattle.std.specs.Prelude.{ℤ}
 use Rattle.mac_asm.specs.Values.{◌>>=◌, value_of, natural_of}
 use Rattle.mac_asm.specs.Places.{Labels, names_at, count_of, size_of, are_among, is_count_settled, is_settled}
 use Rattle.mac_asm.specs.Assembly.{have_words, are_apart, are_below}
@@ -119,7 +119,7 @@ if-unfit : (o : Option ℕ) → is_some o ≡ false → count_if o ≡ Err DoesN
 if-unfit None h = refl
 if-unfit (Some n) h = absurd (cc)
 
-from-unfit : (v : Option Sum) → is_some v ≡ true → is_some (v >>= natural_of) ≡ false → count_from v ≡ Err DoesNotFit
+from-unfit : (v : Option ℤ) → is_some v ≡ true → is_some (v >>= natural_of) ≡ false → count_from v ≡ Err DoesNotFit
 from-unfit None h k = absurd (cc)
 from-unfit (Some sum) h k = if-unfit (natural_of sum) k
 

@@ -14,7 +14,7 @@ use Rattle.mac_text.specs.declared.syntax.Statement.{Statement}
 use Rattle.mac_text.specs.declared.syntax.Statement.TheVariants as statements
 use Rattle.mac_asm.specs.declared.error.AsmCode.{AsmCode}
 use Rattle.mac_asm.specs.declared.error.AsmCode.TheVariants.{DoesNotFit}
-use Rattle.mac_asm.specs.declared.sums.Sum.{Sum}
+use Rattle.std.specs.Prelude.{ℤ}
 use Rattle.mac_asm.specs.Values.{◌>>=◌, value_of, natural_of}
 use Rattle.mac_asm.specs.Places.{Labels, names_at, count_of, size_of, are_among, is_count_settled}
 use Rattle.mac_asm.specs.Assembly.{have_words, are_apart, are_below}
@@ -42,7 +42,7 @@ if-counts : (o : Option ℕ) → is_ok (count_if o) ≡ true → is_some o ≡ t
 if-counts None h = absurd (cc)
 if-counts (Some n) h = refl
 
-from-counts : (v : Option Sum) → is_ok (count_from v) ≡ true → (is_some v ≡ true) × (is_some (v >>= natural_of) ≡ true)
+from-counts : (v : Option ℤ) → is_ok (count_from v) ≡ true → (is_some v ≡ true) × (is_some (v >>= natural_of) ≡ true)
 from-counts None h = absurd (cc)
 from-counts (Some sum) h = (refl, if-counts (natural_of sum) h)
 
@@ -57,7 +57,7 @@ counts-if : (o : Option ℕ) (d : ℕ) → is_some o ≡ true → count_if o ≡
 counts-if None d h = absurd (cc)
 counts-if (Some n) d h = refl
 
-counts-from : (v : Option Sum) (d : ℕ) → is_some v ≡ true → is_some (v >>= natural_of) ≡ true
+counts-from : (v : Option ℤ) (d : ℕ) → is_some v ≡ true → is_some (v >>= natural_of) ≡ true
     → count_from v ≡ Ok (unwrap_or (v >>= natural_of) d)
 counts-from None d h k = absurd (cc)
 counts-from (Some sum) d h k = counts-if (natural_of sum) d k

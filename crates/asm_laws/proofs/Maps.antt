@@ -10,7 +10,7 @@ use Rattle.mac_text.specs.declared.syntax.Data.{Data}
 use Rattle.mac_text.specs.declared.syntax.Data.TheVariants as data_of
 use Rattle.mac_text.specs.declared.syntax.Statement.{Statement}
 use Rattle.mac_text.specs.declared.syntax.Statement.TheVariants as statements
-use Rattle.mac_asm.specs.declared.sums.Sum.{Sum}
+use Rattle.std.specs.Prelude.{ℤ, pos}
 use Rattle.mac_asm.specs.Values.{◌>>=◌, term_value, signed, value_onto, value_of, natural_of}
 use Rattle.asm_laws.proofs.Options.{bind_same, is_some_bind}
 use Rattle.mac_asm.specs.Places.{Labels, names_at, count_of, size_of, place_behind, is_among, are_among, is_count_settled, is_settled}
@@ -35,7 +35,7 @@ term-settled xs ys here (Label name) h = lookup-front (nat_eq name) xs ys (is_so
 term-settled xs ys here Here h = refl
 term-settled xs ys here (Literal n) h = refl
 
-pub sum-settled : (xs ys : Labels) (here : ℕ) (sum : Sum) (e : List SignedTerm) → are_among (keys_of xs) e ≡ true
+pub sum-settled : (xs ys : Labels) (here : ℕ) (sum : ℤ) (e : List SignedTerm) → are_among (keys_of xs) e ≡ true
     → value_onto (names_at (xs ++ ys) here []) sum e ≡ value_onto (names_at xs here []) sum e
 sum-settled xs ys here sum [] h = refl
 sum-settled xs ys here sum (t ∷ e) h =
@@ -49,7 +49,7 @@ sum-settled xs ys here sum (t ∷ e) h =
 pub count-settled : (xs ys : Labels) (here : ℕ) (e : List SignedTerm) → are_among (keys_of xs) e ≡ true
     → count_of (names_at (xs ++ ys) here []) e ≡ count_of (names_at xs here []) e
 unfolding count_of value_of
-count-settled xs ys here e h = ap (λ v. v >>= natural_of) (sum-settled xs ys here (record { plus = 0; minus = 0 }) e h)
+count-settled xs ys here e h = ap (λ v. v >>= natural_of) (sum-settled xs ys here (pos 0) e h)
 
 pub size-settled : (xs ys : Labels) (here : ℕ) (given : Data) → is_count_settled (keys_of xs) given ≡ true
     → size_of (xs ++ ys) here given ≡ size_of xs here given
@@ -80,7 +80,7 @@ term-known xs here (Label name) = is_some-lookup (nat_eq name) xs
 term-known xs here Here = refl
 term-known xs here (Literal n) = refl
 
-pub sum-known : (xs : Labels) (here : ℕ) (sum : Sum) (e : List SignedTerm)
+pub sum-known : (xs : Labels) (here : ℕ) (sum : ℤ) (e : List SignedTerm)
     → is_some (value_onto (names_at xs here []) sum e) ≡ are_among (keys_of xs) e
 sum-known xs here sum [] = refl
 sum-known xs here sum (t ∷ e) =
@@ -93,9 +93,9 @@ sum-known xs here sum (t ∷ e) =
 pub value-known : (xs : Labels) (here : ℕ) (e : List SignedTerm)
     → is_some (value_of (names_at xs here []) e) ≡ are_among (keys_of xs) e
 unfolding value_of
-value-known xs here e = sum-known xs here (record { plus = 0; minus = 0 }) e
+value-known xs here e = sum-known xs here (pos 0) e
 
 pub value-settled : (xs ys : Labels) (here : ℕ) (e : List SignedTerm) → are_among (keys_of xs) e ≡ true
     → value_of (names_at (xs ++ ys) here []) e ≡ value_of (names_at xs here []) e
 unfolding value_of
-value-settled xs ys here e h = sum-settled xs ys here (record { plus = 0; minus = 0 }) e h
+value-settled xs ys here e h = sum-settled xs ys here (pos 0) e h

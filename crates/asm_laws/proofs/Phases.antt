@@ -14,7 +14,7 @@ use Rattle.mac_text.specs.declared.syntax.Statement.TheVariants as statements
 use Rattle.mac_text.specs.declared.syntax.Line.{Line}
 use Rattle.mac_asm.specs.declared.error.AsmCode.{AsmCode}
 use Rattle.mac_asm.specs.declared.error.AsmCode.TheVariants.{Syntax, UnknownName, DefinedTwice, DoesNotFit, NotYetDefined, PlaceTooHigh, NoEnd}
-use Rattle.mac_asm.specs.declared.sums.Sum.{Sum}
+use Rattle.std.specs.Prelude.{ℤ}
 use Rattle.mac_asm.specs.Values.{value_of, natural_of}
 use Rattle.mac_asm.specs.Places.{Labels, names_at, Placed}
 use Rattle.mac_asm.specs.Assembly.{Assembled, first_place, start_at, are_apart}
@@ -81,7 +81,7 @@ layout-count_if : (o : Option ℕ) → may_fail of_layout (count_if o) ≡ true
 layout-count_if None = refl
 layout-count_if (Some n) = refl
 
-layout-count_from : (v : Option Sum) → may_fail of_layout (count_from v) ≡ true
+layout-count_from : (v : Option ℤ) → may_fail of_layout (count_from v) ≡ true
 layout-count_from None = refl
 layout-count_from (Some sum) = layout-count_if (natural_of sum)
 

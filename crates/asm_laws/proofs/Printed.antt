@@ -1,5 +1,6 @@
 -- A word as it is printed is read back.
-use Rattle.std.proofs.Common.{◌≡◌, ◌≤◌, ◌<◌, ◌∙◌, sym, ap, subst, ℕ, ◌+◌, ◌-◌, ◌*◌, ◌/◌, ◌%◌, ◌^◌, ◌==◌, Bool, true, false, nat_eq, nat_le, List, [], ◌∷◌, Option, Some, None, option_map, if◌then◌else◌, arith, refl}
+use Rattle.std.proofs.Common.{◌≡◌, ◌<◌, ◌∙◌, sym, ap, ℕ, ◌+◌, ◌*◌, ◌/◌, ◌%◌, ◌^◌, ◌==◌, Bool, true, false, nat_eq, nat_le, [], ◌∷◌, Option, Some, None, option_map, if◌then◌else◌, arith, refl}
+use Rattle.std.specs.Prelude.{pos}
 use Rattle.std.proofs.lemmas.Bool.{le-leb}
 use Rattle.std.proofs.lemmas.Bool.Decides.{nat_tests}
 use Rattle.word36.specs.Words.{left_half, right_half}
@@ -14,27 +15,23 @@ cond-true : {A : Type 0} (b : Bool) (x y : A) → b ≡ true → (if b then x el
 cond-true true x y h = refl
 cond-true false x y h = absurd (cc)
 
-value-number : (names : Names) (n : ℕ) → value_of names (number_alone n) ≡ Some (record { plus = n; minus = 0 })
+value-number : (names : Names) (n : ℕ) → value_of names (number_alone n) ≡ Some (pos n)
 unfolding value_of
 value-number names n =
     let e : 0 + n ≡ n = omega (arith) in
-    ap (λ p. Some (record { plus = p; minus = 0 })) e
+    ap (λ p. Some (pos p)) e
 
-half-residue : (n : ℕ) → n < 2 ^ 18 → residue_of 262143 262143 262144 (record { plus = n; minus = 0 }) ≡ Some n
+half-residue : (n : ℕ) → n < 2 ^ 18 → residue_of 262143 262143 262144 (pos n) ≡ Some n
 unfolding residue_of
 half-residue n h =
-    let e : (n - 0) % 262144 ≡ n = omega (arith, h) in
-    cond-true (nat_le 0 n) _ _ (le-leb 0 n (omega arith))
-    ∙ cond-true (nat_le (n - 0) 262143) _ _ (le-leb (n - 0) 262143 (omega (arith, h)))
-    ∙ ap Some e
+    let e : n % 262144 ≡ n = omega (arith, h) in
+    cond-true (nat_le n 262143) _ _ (le-leb n 262143 (omega (arith, h))) ∙ ap Some e
 
-register-residue : (n : ℕ) → n < 2 ^ 4 → residue_of 0 15 16 (record { plus = n; minus = 0 }) ≡ Some n
+register-residue : (n : ℕ) → n < 2 ^ 4 → residue_of 0 15 16 (pos n) ≡ Some n
 unfolding residue_of
 register-residue n h =
-    let e : (n - 0) % 16 ≡ n = omega (arith, h) in
-    cond-true (nat_le 0 n) _ _ (le-leb 0 n (omega arith))
-    ∙ cond-true (nat_le (n - 0) 15) _ _ (le-leb (n - 0) 15 (omega (arith, h)))
-    ∙ ap Some e
+    let e : n % 16 ≡ n = omega (arith, h) in
+    cond-true (nat_le n 15) _ _ (le-leb n 15 (omega (arith, h))) ∙ ap Some e
 
 half-number : (names : Names) (n : ℕ) → n < 2 ^ 18 → half_of names (number_alone n) ≡ Some n
 unfolding fitted

@@ -8,7 +8,7 @@ use Rattle.mac_text.specs.declared.syntax.SignedTerm.{SignedTerm}
 use Rattle.mac_text.specs.declared.syntax.TextForm.{TextForm}
 use Rattle.mac_text.specs.declared.syntax.Data.{Data}
 use Rattle.mac_text.specs.declared.syntax.Data.TheVariants as data_of
-use Rattle.mac_asm.specs.declared.sums.Sum.{Sum}
+use Rattle.std.specs.Prelude.{ℤ, pos}
 use Rattle.mac_asm.specs.Values.{◌>>=◌, term_value, signed, value_onto, value_of, natural_of}
 use Rattle.mac_asm.specs.Packing.{words_in}
 use Rattle.mac_asm.specs.Words.{words_of, words_of_all, text_word, text_words_from, alone}
@@ -24,7 +24,7 @@ term-free labels here literals above (Label name) h = refl
 term-free labels here literals above Here h = refl
 term-free labels here literals above (Literal n) h = absurd (cc)
 
-sum-free : (labels : Labels) (here : ℕ) (literals above : List ℕ) (sum : Sum) (e : List SignedTerm)
+sum-free : (labels : Labels) (here : ℕ) (literals above : List ℕ) (sum : ℤ) (e : List SignedTerm)
     → are_among above e ≡ true
     → value_onto (names_at labels here literals) sum e ≡ value_onto (names_at labels here []) sum e
 sum-free labels here literals above sum [] h = refl
@@ -42,7 +42,7 @@ pub count-free : (labels : Labels) (here : ℕ) (literals above : List ℕ) (e :
     → count_of (names_at labels here literals) e ≡ count_of (names_at labels here []) e
 unfolding count_of value_of
 count-free labels here literals above e h =
-    ap (λ v. v >>= natural_of) (sum-free labels here literals above (record { plus = 0; minus = 0 }) e h)
+    ap (λ v. v >>= natural_of) (sum-free labels here literals above (pos 0) e h)
 
 alone-length : (o : Option ℕ) (words : List ℕ) → alone o ≡ Some words → length words ≡ 1
 alone-length None words h = absurd (cc)

@@ -1,6 +1,5 @@
 -- The symbols of a source with an image are the labels of its map.
 use Rattle.std.proofs.Common.{◌≡◌, ℕ, List, Result, Ok, Err, refl, sym, ap, ◌∙◌}
-use Rattle.mac_text.specs.Lines.{program_of}
 use Rattle.mac_text.specs.declared.syntax.Line.{Line}
 use Rattle.mac_asm.specs.Assembly.{Assembled, IsAssembly}
 use Rattle.mac_asm.specs.Found.{map_of}

@@ -1,11 +1,11 @@
 -- Marks, places and labels while lines are laid out.
-use Rattle.std.proofs.Common.{◌≡◌, ◌∙◌, sym, ap, refl, subst, ℕ, zero, suc, ◌+◌, ◌-◌, ◌^◌, ◌<◌, ◌≤◌, ◌⊎◌, inl, inr, Bool, true, false, not, ◌&&◌, ◌||◌, ◌==◌, cond, nat_eq, nat_lt, nat_le, IfOk, List, [], ◌∷◌, ◌++◌, length, take, drop, replicate, get_or, min, map, is_some, Option, Some, None, Result, Ok, Err, append-nil, arith, length-append, length-drop, append_assoc}
+use Rattle.std.proofs.Common.{◌≡◌, ◌∙◌, sym, ap, refl, subst, ℕ, zero, suc, ◌+◌, ◌-◌, ◌^◌, ◌<◌, ◌≤◌, ◌⊎◌, inl, inr, Bool, true, false, not, ◌&&◌, ◌||◌, ◌==◌, cond, nat_eq, nat_lt, nat_le, IfOk, List, [], ◌∷◌, ◌++◌, length, take, drop, set, replicate, get_or, min, map, is_some, Option, Some, None, Result, Ok, Err, append-nil, arith, length-append, length-drop, append_assoc}
 use Rattle.std.specs.List.{range_with_len, list_any, between}
 use Rattle.std.specs.Map.{lookup, keys_of}
 use Rattle.indexmap.specs.IndexMap.{insert_entry}
 use Rattle.std.proofs.lemmas.Map.Made.{is_some-lookup}
 use Rattle.std.proofs.lemmas.Bool.{and_parts}
-use Rattle.std.proofs.lemmas.List.{at_drop_all, drop_more, take_more, take_all, take-append-drop, map-append, length-take-le, length-replicate, get_or-take, get_or-drop, get_or-replicate, get_or_append_left, get_or-append_right}
+use Rattle.std.proofs.lemmas.List.{at_drop_all, drop_more, take_more, take_all, take-append-drop, map-append, length-take-le, length-replicate, length-set, get_or-set_same, get_or-set_other, get_or-take, get_or-drop, get_or-replicate, get_or_append_left, get_or-append_right}
 use Rattle.std.proofs.lemmas.List.Folds.{list_any-append}
 use Rattle.std.proofs.lemmas.Bool.Decides.{nat_tests, leb_tells, eqb_tells}
 use Rattle.mac_asm.specs.declared.error.AsmCode.{AsmCode}
@@ -342,6 +342,60 @@ three a b c false true true e f g = rw (e, f, e) refl
 three a b c false true false e f g = rw (e, f, e) refl
 three a b c false false true e f g = absurd (grind (arith, nat_tests))
 three a b c false false false e f g = rw (e, f, g) refl
+
+-- the place of one word
+no_places : (place : ℕ) → 2 ^ 18 ≤ place → places_in place 1 ≡ []
+no_places place le =
+    let no : nat_le 1 (2 ^ 18 - place) ≡ false = grind (arith, nat_tests) in
+    let k : 2 ^ 18 - place ≡ 0 = omega arith in
+    ap (λ b. range_with_len place (cond b 1 (2 ^ 18 - place))) no ∙ ap (range_with_len place) k
+
+own_place : (place : ℕ) → place < 2 ^ 18 → places_in place 1 ≡ place ∷ []
+own_place place lt =
+    let yes : nat_le 1 (2 ^ 18 - place) ≡ true = grind (arith, nat_tests) in
+    ap (λ b. range_with_len place (cond b 1 (2 ^ 18 - place))) yes
+
+pub one_high : (past : List ℕ) (place : ℕ) → 2 ^ 18 ≤ place → Some PlaceTooHigh ≡ taking past place 1
+one_high past place le =
+    let none : places_in place 1 ≡ [] = no_places place le in
+    let high : (not (1 == 0) && not (nat_le (place + 1) (2 ^ 18))) ≡ true = grind (arith, nat_tests) in
+    sym (taking_by past place 1 false true (ap (list_any (is_taken past)) none) high ∙ least_none (Some PlaceTooHigh))
+
+pub high_marks : (marks : List Bool) (past : List ℕ) (place : ℕ) → 2 ^ 18 ≤ place → AreMarks marks past → AreMarks marks (past ++ places_in place 1)
+high_marks marks past place le m = subst (AreMarks marks) (sym (ap (λ l. past ++ l) (no_places place le) ∙ append-nil past)) m
+
+pub one_low : (marks : List Bool) (past : List ℕ) (at place : ℕ) (twice : Bool) → at ≡ min place (length marks) → (at ≡ length marks → ⊥) → AreMarks marks past
+    → get_or marks at false ≡ twice → code_if twice DefinedTwice ≡ taking past place 1
+one_low marks past at place twice clamped within m is =
+    let same : at ≡ place = omega arith in
+    let lt : place < 2 ^ 18 = omega (arith, m.all) in
+    let low : (not (1 == 0) && not (nat_le (place + 1) (2 ^ 18))) ≡ false = grind (arith, nat_tests) in
+    let any : list_any (is_taken past) (places_in place 1) ≡ twice =
+    ap (list_any (is_taken past)) (own_place place lt) ∙ or_false (is_taken past place) ∙ sym (m.each place lt) ∙ sym (ap (λ p. get_or marks p false) same) ∙ is in
+    sym (taking_by past place 1 twice false any low ∙ code_least_none (code_if twice DefinedTwice))
+
+set_each : (marks : List Bool) (past : List ℕ) (place p : ℕ) → place < 2 ^ 18 → p < 2 ^ 18 → AreMarks marks past
+    → get_or (set marks place true) p false ≡ is_taken (past ++ place ∷ []) p
+set_each marks past place p lt below m =
+    elim (eqb_tells p place) [
+      | inl e ↦ (let same : p ≡ place = e.1 in
+          let yes : nat_eq p place ≡ true = grind (arith, nat_tests, e.1) in
+          ap (λ q. get_or (set marks place true) q false) same ∙ get_or-set_same marks place true false (omega (arith, m.all))
+          ∙ sym (taken_more past (place ∷ []) p true (ap (λ b. b || false) yes) ∙ or_true (is_taken past p)))
+      | inr e ↦ (let no : nat_eq p place ≡ false = e.0 in
+          get_or-set_other marks place p true false (λ h. e.1 h) ∙ m.each p below
+          ∙ sym (taken_more past (place ∷ []) p false (ap (λ b. b || false) no) ∙ or_false (is_taken past p)))
+    ]
+
+pub low_marks : (marks : List Bool) (past : List ℕ) (at place : ℕ) → at ≡ min place (length marks) → (at ≡ length marks → ⊥) → AreMarks marks past
+    → AreMarks (set marks at true) (past ++ places_in place 1)
+low_marks marks past at place clamped within m =
+    let same : place ≡ at = omega arith in
+    let lt : place < 2 ^ 18 = omega (arith, m.all) in
+    subst (λ p. AreMarks (set marks p true) (past ++ places_in place 1)) same (subst (λ l. AreMarks (set marks place true) (past ++ l)) (sym (own_place place lt)) (record {
+      all = length-set marks place true ∙ m.all;
+      each = λ p below. set_each marks past place p lt below m;
+    }))
 
 pub least_assoc : (a b c : Option AsmCode) → least (least a b) c ≡ least a (least b c)
 unfolding least

@@ -39,9 +39,13 @@ unfoldable pub all_words_of : Names → Data → Option (List ℕ)
 all_words_of names (data_of.Block count) = option_map (λ n. replicate n 0) (count_of names count)
 all_words_of names given = words_of names given
 
--- the same in their places, from a place on
+-- words in their places, from a place on
+abbrev pub at_places : ℕ → List ℕ → List (ℕ × ℕ)
+at_places place words = zip (range_with_len place (length words)) words
+
+-- the words of a statement in their places, from a place on
 unfoldable pub words_from : Names → ℕ → Data → Option (List (ℕ × ℕ))
-words_from names place given = option_map (λ words. zip (range_with_len place (length words)) words) (all_words_of names given)
+words_from names place given = option_map (at_places place) (all_words_of names given)
 
 -- the words of a line's statement
 unfoldable pub statement_words : Names → Option Statement → Option (List (ℕ × ℕ))

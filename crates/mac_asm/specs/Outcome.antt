@@ -1,6 +1,6 @@
 -- What a source comes to (this project's profile): its image, or the first line at fault with the least code of what is
 -- wrong with it. The lines are laid out from above first; where that is right, their words are worked out.
-use Rattle.std.specs.Prelude.{ℕ, ◌+◌, ◌^◌, Bool, true, false, not, is_some, nat_lt, nat_le, nat_eq, ◌-◌, ◌&&◌, ◌==◌, List, [], ◌∷◌, ◌++◌, length, map, take, drop, reverse, unwrap_or, zip, Option, Some, None, Result, Ok, Err, if◌then◌else◌}
+use Rattle.std.specs.Prelude.{ℕ, ℤ, ◌+◌, ◌^◌, Bool, true, false, not, is_some, nat_lt, nat_le, nat_eq, ◌-◌, ◌&&◌, ◌==◌, List, [], ◌∷◌, ◌++◌, length, map, take, drop, reverse, unwrap_or, zip, Option, Some, None, Result, Ok, Err, if◌then◌else◌}
 use Rattle.std.specs.List.{range_with_len, list_all, list_any}
 use Rattle.std.specs.Map.{keys_of}
 use Rattle.mac_text.specs.Lines.{program_of, is_end}
@@ -12,7 +12,6 @@ use Rattle.mac_text.specs.declared.syntax.Statement.TheVariants as statements
 use Rattle.mac_text.specs.declared.syntax.Line.{Line}
 use Rattle.mac_asm.specs.declared.error.AsmCode.{AsmCode}
 use Rattle.mac_asm.specs.declared.error.AsmCode.TheVariants.{Syntax, UnknownName, DefinedTwice, DoesNotFit, NotYetDefined, PlaceTooHigh, NoEnd}
-use Rattle.mac_asm.specs.declared.sums.Sum.{Sum}
 use Rattle.mac_asm.specs.Values.{◌>>=◌, Names, value_of, natural_of}
 use Rattle.mac_asm.specs.Packing.{words_in}
 use Rattle.mac_asm.specs.Words.{are_known, is_known_if}
@@ -52,9 +51,9 @@ count_if None = Err DoesNotFit
 count_if (Some n) = Ok n
 
 -- its labels stand earlier, and it has no literal
-abbrev pub count_from : Option Sum → Result ℕ AsmCode
+abbrev pub count_from : Option ℤ → Result ℕ AsmCode
 count_from None = Err NotYetDefined
-count_from (Some sum) = count_if (natural_of sum)
+count_from (Some value) = count_if (natural_of value)
 
 unfoldable pub checked_count : Labels → ℕ → List SignedTerm → Result ℕ AsmCode
 checked_count labels here e = count_from (value_of (names_at labels here []) e)

@@ -25,9 +25,9 @@ ascii_word text from =
 abbrev pub sixbit_code : ℕ → Option ℕ
 sixbit_code c = if nat_le 0o40 (upper_case c) && nat_le (upper_case c) 0o137 then Some (upper_case c - 0o40) else None
 
--- the code of the character at a place, a space's behind the last
+-- the code of character `at` of a text, a space's behind the last
 unfoldable pub sixbit_at : List ℕ → ℕ → Option ℕ
-sixbit_at text place = if nat_lt place (length text) then sixbit_code (slice_index text place) else Some 0
+sixbit_at text at = if nat_lt at (length text) then sixbit_code (slice_index text at) else Some 0
 
 -- six characters of six bits, where each has a code
 unfoldable pub sixbit_word : List ℕ → ℕ → Option ℕ

@@ -1,5 +1,5 @@
--- The values of expressions: whole numbers without bound on the way.
-use Rattle.std.specs.Prelude.{ℕ, ◌+◌, ◌-◌, ◌%◌, Bool, nat_eq, nat_le, is_some, List, [], ◌∷◌, slice_get, Option, Some, None, option_and_then, if◌then◌else◌}
+-- The values of expressions: whole numbers without bound.
+use Rattle.std.specs.Prelude.{ℕ, suc, ◌-◌, ◌%◌, ℤ, pos, negsuc, ◌+ℤ◌, ◌-ℤ◌, Bool, nat_eq, nat_le, is_some, List, [], ◌∷◌, slice_get, Option, Some, None, option_and_then, if◌then◌else◌}
 use Rattle.std.specs.List.{list_all}
 use Rattle.indexmap.specs.IndexMap.{get}
 use Rattle.mac_text.specs.declared.syntax.Sign.{Sign}
@@ -8,7 +8,6 @@ use Rattle.mac_text.specs.declared.syntax.Term.{Term}
 use Rattle.mac_text.specs.declared.syntax.Term.TheVariants.{Number, Label, Here, Literal}
 use Rattle.mac_text.specs.declared.syntax.SignedTerm.{SignedTerm}
 use Rattle.mac_asm.specs.declared.sums.Scope.{Scope}
-use Rattle.mac_asm.specs.declared.sums.Sum.{Sum}
 
 infixl 10 ◌>>=◌
 abbrev pub ◌>>=◌ : {A B : Type 0} → Option A → (A → Option B) → Option B
@@ -30,39 +29,37 @@ term_value names (Label label) = names.number_of label
 term_value names Here = Some names.here
 term_value names (Literal at) = slice_get names.literals at
 
--- a value is what is added, less what is taken away
-abbrev pub signed : Sign → ℕ → Sum → Sum
-signed Plus n s = record s { plus = s.plus + n }
-signed Minus n s = record s { minus = s.minus + n }
+-- a value with one more term
+abbrev pub signed : Sign → ℕ → ℤ → ℤ
+signed Plus n value = value +ℤ pos n
+signed Minus n value = value -ℤ pos n
 
 -- a value and more terms
-abbrev pub value_onto : Names → Sum → List SignedTerm → Option Sum
-value_onto names sum [] = Some sum
-value_onto names sum (t ∷ ts) = term_value names t.term >>= λ n. value_onto names (signed t.sign n sum) ts
+abbrev pub value_onto : Names → ℤ → List SignedTerm → Option ℤ
+value_onto names value [] = Some value
+value_onto names value (t ∷ ts) = term_value names t.term >>= λ n. value_onto names (signed t.sign n value) ts
 
 -- the value of an expression, if each of its terms has one
-unfoldable pub value_of : Names → List SignedTerm → Option Sum
-value_of names terms = value_onto names (record { plus = 0; minus = 0 }) terms
+unfoldable pub value_of : Names → List SignedTerm → Option ℤ
+value_of names terms = value_onto names (pos 0) terms
+
+-- a number modulo a size, where it is at most `most`
+abbrev pub residue_above : ℕ → ℕ → ℕ → Option ℕ
+residue_above most size n = if nat_le n most then Some (n % size) else None
+
+-- the negative of a number modulo a size, where the number is at most `least`
+abbrev pub residue_below : ℕ → ℕ → ℕ → Option ℕ
+residue_below least size n = if nat_le n least then Some ((size - n) % size) else None
 
 -- the value modulo a size, where it is at least the negative of `least` and at most `most`
-unfoldable pub residue_of : ℕ → ℕ → ℕ → Sum → Option ℕ
-residue_of least most size s =
-    if nat_le s.minus s.plus
-    then (if nat_le (s.plus - s.minus) most then Some ((s.plus - s.minus) % size) else None)
-    else (if nat_le (s.minus - s.plus) least then Some ((size - (s.minus - s.plus)) % size) else None)
+unfoldable pub residue_of : ℕ → ℕ → ℕ → ℤ → Option ℕ
+residue_of least most size (pos n) = residue_above most size n
+residue_of least most size (negsuc n) = residue_below least size (suc n)
 
 -- the value, where it is not below 0
-unfoldable pub natural_of : Sum → Option ℕ
-natural_of s = if nat_le s.minus s.plus then Some (s.plus - s.minus) else None
-
-abbrev pub sum_plus : ℕ → Sum
-sum_plus n = record { plus = n; minus = 0 }
-
-abbrev pub negated : Sum → Sum
-negated s = record { plus = s.minus; minus = s.plus }
-
-abbrev pub less_one : Sum → Sum
-less_one s = record s { minus = s.minus + 1 }
+unfoldable pub natural_of : ℤ → Option ℕ
+natural_of (pos n) = Some n
+natural_of (negsuc n) = None
 
 -- whether each term has a value
 unfoldable pub is_known : Names → List SignedTerm → Bool

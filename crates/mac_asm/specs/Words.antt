@@ -1,6 +1,6 @@
 -- The words of statements (MACRO-10 Assembler Manual, this project's profile): nothing where a name is not known or a
 -- value does not fit.
-use Rattle.std.specs.Prelude.{◌≡◌, ℕ, zero, suc, ◌<◌, ◌+◌, ◌-◌, ◌*◌, ◌^◌, Bool, true, false, ◌&&◌, not, is_none, nat_le, List, [], ◌∷◌, ◌++◌, length, Option, Some, None, option_map, if◌then◌else◌}
+use Rattle.std.specs.Prelude.{◌≡◌, ℕ, zero, suc, pos, neg_ℤ, ◌-ℤ◌, ◌<◌, ◌+◌, ◌-◌, ◌*◌, ◌^◌, Bool, true, false, ◌&&◌, not, is_none, nat_le, List, [], ◌∷◌, ◌++◌, length, Option, Some, None, option_map, if◌then◌else◌}
 use Rattle.std.specs.List.{list_all}
 use Rattle.ka_isa.specs.declared.Fields.{Fields}
 use Rattle.ka_isa.specs.Fields.{fields_of, word_of as encoded}
@@ -11,12 +11,12 @@ use Rattle.mac_text.specs.declared.syntax.TextForm.{TextForm}
 use Rattle.mac_text.specs.declared.syntax.TextForm.TheVariants.{Ascii, Asciz, Sixbit}
 use Rattle.mac_text.specs.declared.syntax.Data.{Data}
 use Rattle.mac_text.specs.declared.syntax.Data.TheVariants as data_of
-use Rattle.mac_asm.specs.Values.{◌>>=◌, Names, value_of, residue_of, negated, less_one, is_known}
+use Rattle.mac_asm.specs.Values.{◌>>=◌, Names, value_of, residue_of, is_known}
 use Rattle.mac_asm.specs.Packing.{words_in, ascii_word, sixbit_word}
 
 -- the value of an expression modulo a size, where it is at least the negative of `least` and at most `most`
 unfoldable pub fitted : Names → ℕ → ℕ → ℕ → List SignedTerm → Option ℕ
-fitted names least most size e = value_of names e >>= λ s. residue_of least most size s
+fitted names least most size e = value_of names e >>= residue_of least most size
 
 -- a word is a value from -2^35 to 2^36-1, modulo 2^36
 abbrev pub word_of : Names → List SignedTerm → Option ℕ
@@ -109,8 +109,8 @@ unfoldable pub iowd_of : Names → List SignedTerm → List SignedTerm → Optio
 iowd_of names count address = do
   c ← value_of names count
   a ← value_of names address
-  l ← residue_of 262143 262143 262144 (negated c)
-  r ← residue_of 262143 262143 262144 (less_one a)
+  l ← residue_of 262143 262143 262144 (neg_ℤ c)
+  r ← residue_of 262143 262143 262144 (a -ℤ pos 1)
   Some (l * 2 ^ 18 + r)
 
 -- each item's word, in order

@@ -1,24 +1,27 @@
 //! The image of a source.
 
-ghost use Rattle.std.specs.Prelude.{◌≡◌, ◌^◌, IfOk, zip, length, if◌then◌else◌};
+ghost use Rattle.std.specs.Prelude.{◌≡◌, ◌^◌, IfOk, option_map, replicate, zip, length, if◌then◌else◌};
 ghost use Rattle.std.specs.List.{list_all};
 ghost use Rattle.mac_text.specs.Lines.{is_end};
-ghost use Rattle.mac_asm.specs.Words.{are_known};
+ghost use Rattle.mac_asm.specs.Words.{are_known, alone, word_of, words_of_all, text_words_from};
+ghost use Rattle.mac_asm.specs.Packing.{words_in};
 ghost use Rattle.mac_asm.specs.declared.error.AsmCode.TheVariants.{UnknownName, DoesNotFit};
 ghost use Rattle.mac_asm.specs.Values.{names_of};
 ghost use Rattle.mac_asm.specs.Places.{count_of};
-ghost use Rattle.mac_asm.specs.Assembly.{words_from, literal_words, statement_words};
+ghost use Rattle.mac_asm.specs.Assembly.{at_places, words_from, literal_words, statement_words};
 ghost use Rattle.mac_asm.specs.Outcome.{is_statement_known, is_line_known, lines_with, outcome_placed, has_end, outcome_of};
 ghost use Rattle.mac_asm.specs.Filled.{Puts, PutsLine, PutsLines, Assembles, start_named, empty_cells, refusal_of};
 ghost use Rattle.mac_asm.specs.Symbols.{image_in, symbols_of};
 
-use crate::cells::{put, put_zeros, words_in_cells};
+use crate::cells::{put, put_one, put_zeros, words_in_cells};
 use crate::error::{AsmCode, AsmError};
 use crate::layout::lay_out;
 use crate::places::{FIRST, PLACES};
 use crate::sums::{Labels, Scope, value};
-use crate::words::{are_known, is_known_if, push_words, start};
-use mac_text::{Data, Expression, Line, ParseError, Statement, parse};
+use crate::words::{
+    are_known, halves, instruction, iowd, is_known_if, pointer, push_all, push_text, start, word,
+};
+use mac_text::{Data, Expression, Line, ParseError, Statement, TextForm, parse};
 use std::alloc::{AllocError, Global};
 use whole_numbers::Natural;
 use word36::{Image, Word};
@@ -48,7 +51,71 @@ fn block_len<'a>(
 }
 
 impl Core {
+    /// Puts a word in a place; false where there is none.
+    #[inline(always)]
+    fn put_one(&mut self, place: &Natural, word: Option<Word>) -> bool
+        ensures { Puts result self.old.cells.items self.new.cells.items (option_map (at_places place.now) (alone word)) }
+    {
+        match word {
+            None => false,
+            Some(word) => {
+                put_one(self.cells.as_mut_slice(), place, word);
+                true
+            }
+        }
+    }
+
+    /// Puts zeros from a place on; false where their count is not known or below 0.
+    fn put_block<'a>(
+        &mut self,
+        alloc: Global,
+        place: &Natural,
+        count: &'a Expression,
+        scope: &Scope<'a>,
+    ) -> Result<bool, AllocError>
+        ensures { IfOk result (λ fits. Puts fits self.old.cells.items self.new.cells.items (option_map (at_places place.now) (option_map (λ n. replicate n 0) (count_of (names_of scope.now) count.now)))) }
+    {
+        match block_len(alloc, count, scope)? {
+            None => Ok(false),
+            Some(count) => {
+                put_zeros(self.cells.as_mut_slice(), place, &count);
+                Ok(true)
+            }
+        }
+    }
+
+    /// Puts the words of values from a place on; false where one is not known or does not fit.
+    fn put_values<'a>(
+        &mut self,
+        alloc: Global,
+        place: &Natural,
+        values: &'a [Expression],
+        scope: &Scope<'a>,
+    ) -> Result<bool, AllocError>
+        ensures { IfOk result (λ fits. Puts fits self.old.cells.items self.new.cells.items (option_map (at_places place.now) (words_of_all (word_of (names_of scope.now)) values.now))) }
+    {
+        self.next.clear();
+        if !push_all(alloc, &mut self.next, values, scope)? {
+            return Ok(false);
+        }
+        put(self.cells.as_mut_slice(), place, self.next.as_slice());
+        Ok(true)
+    }
+
+    /// Puts the words of a text from a place on; false where a character has no code.
+    fn put_text(&mut self, place: &Natural, form: TextForm, text: &[u8]) -> Result<bool, AllocError>
+        ensures { IfOk result (λ fits. Puts fits self.old.cells.items self.new.cells.items (option_map (at_places place.now) (text_words_from form text.now 0 (words_in form (length text.now))))) }
+    {
+        self.next.clear();
+        if !push_text(&mut self.next, form, text)? {
+            return Ok(false);
+        }
+        put(self.cells.as_mut_slice(), place, self.next.as_slice());
+        Ok(true)
+    }
+
     /// Puts the words of a statement from a place on; false where a value is not known or does not fit.
+    #[tactic(auto, unfolding(crate::specs::Assembly::words_from, crate::specs::Assembly::all_words_of, crate::specs::Words::words_of))]
     fn put<'a>(
         &mut self,
         alloc: Global,
@@ -58,21 +125,25 @@ impl Core {
     ) -> Result<bool, AllocError>
         ensures { IfOk result (λ fits. Puts fits self.old.cells.items self.new.cells.items (words_from (names_of scope.now) place.now given.now)) }
     {
-        if let Data::Block(count) = given {
-            return match block_len(alloc, count, scope)? {
-                None => Ok(false),
-                Some(count) => {
-                    put_zeros(self.cells.as_mut_slice(), place, &count);
-                    Ok(true)
-                }
-            };
+        match given {
+            Data::Instruction(given) => {
+                Ok(self.put_one(place, instruction(alloc, given, scope)?))
+            }
+            Data::Value(value) => Ok(self.put_one(place, word(alloc, value, scope)?)),
+            Data::Halves(left, right) => {
+                Ok(self.put_one(place, halves(alloc, left, right, scope)?))
+            }
+            Data::Iowd(count, address) => {
+                Ok(self.put_one(place, iowd(alloc, count, address, scope)?))
+            }
+            Data::Point(size, address, position) => Ok(self.put_one(
+                place,
+                pointer(alloc, size, address, position, scope)?,
+            )),
+            Data::Exp(values) => self.put_values(alloc, place, values.as_slice(), scope),
+            Data::Text(form, text) => self.put_text(place, *form, text.as_slice()),
+            Data::Block(count) => self.put_block(alloc, place, count, scope),
         }
-        self.next.clear();
-        if !push_words(alloc, &mut self.next, given, scope)? {
-            return Ok(false);
-        }
-        put(self.cells.as_mut_slice(), place, self.next.as_slice());
-        Ok(true)
     }
 
     /// Puts the words of a line's literals in their places, likewise.
@@ -134,6 +205,7 @@ impl Core {
     }
 
     /// Puts the words of all lines, and gives the start.
+    #[inline(never)]
     fn put_lines<'a>(
         &mut self,
         alloc: Global,

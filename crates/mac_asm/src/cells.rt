@@ -1,12 +1,23 @@
 //! The words of a program in the cells of a memory.
 
-ghost use Rattle.std.specs.Prelude.{◌≡◌, ◌≤◌, ◌^◌, IfOk, length, replicate};
+ghost use Rattle.std.specs.Prelude.{◌≡◌, ◌≤◌, ◌^◌, IfOk, Some, length, replicate, set};
 ghost use Rattle.mac_asm.specs.Filled.{put_from, words_in_cells};
 
 use crate::places::clamped;
 use std::alloc::{AllocError, Global};
 use whole_numbers::Natural;
 use word36::Word;
+
+/// Puts a word in a place; one that has no cell is put nowhere.
+#[inline(always)]
+pub fn put_one(cells: &mut [Option<Word>], place: &Natural, word: Word)
+    ensures { cells.new ≡ set cells.old place.now (Some word) }
+{
+    let at = clamped(place, cells.len());
+    if at < cells.len() {
+        cells[at] = Some(word);
+    }
+}
 
 /// Puts words from a place on; one that has no cell is put nowhere.
 pub fn put(cells: &mut [Option<Word>], place: &Natural, words: &[Word])

@@ -154,6 +154,39 @@ fn mark(taken: &mut [bool], place: &Natural, size: &Natural)
     taken[first..first + len].fill(true);
 }
 
+/// Takes the place of one word; its code, where another word stands there, or there is no such place.
+#[inline(always)]
+fn take_one(taken: &mut [bool], place: &Natural) -> Option<AsmCode>
+    ensures code { (past : List ℕ) → AreMarks taken.old past → result ≡ taking past place.now 1 }
+    ensures marks { (past : List ℕ) → AreMarks taken.old past → AreMarks taken.new (past ++ places_in place.now 1) }
+{
+    let at = clamped(place, taken.len());
+    if at == taken.len() {
+        return Some(AsmCode::PlaceTooHigh);
+    }
+    let twice = taken[at];
+    taken[at] = true;
+    if twice {
+        Some(AsmCode::DefinedTwice)
+    } else {
+        None
+    }
+}
+
+/// Takes the places of so many words from one on, likewise.
+#[inline(always)]
+fn take(taken: &mut [bool], place: &Natural, size: &Natural) -> Option<AsmCode>
+    ensures code { (past : List ℕ) → AreMarks taken.old past → result ≡ taking past place.now size.now }
+    ensures marks { (past : List ℕ) → AreMarks taken.old past → AreMarks taken.new (past ++ places_in place.now size.now) }
+{
+    if size.to_u64() == Some(1) {
+        return take_one(taken, place);
+    }
+    let code = taking(taken, place, size);
+    mark(taken, place, size);
+    code
+}
+
 /// Gives each of these labels a place; false at the first that has one already, whose place is then lost.
 fn define(
     alloc: Global,
@@ -272,13 +305,14 @@ fn radix_code(radix: &Natural) -> Option<AsmCode>
 }
 
 impl Progress {
-    fn new(alloc: Global) -> Result<Progress, AllocError>
+    /// No line is laid out; there is room for so many lines and labels.
+    fn new(alloc: Global, lines: usize, labels: usize) -> Result<Progress, AllocError>
         ensures { IfOk result (λ progress. StandsFor progress empty_layout) }
     {
         Ok(Progress {
-            labels: IndexMap::new(alloc),
+            labels: IndexMap::with_capacity(alloc, labels)?,
             place: Natural::from_u64(FIRST as u64),
-            places: Vec::new(alloc),
+            places: Vec::with_capacity(alloc, lines)?,
             taken: vec![in alloc; false; PLACES]?,
             sizes: Vec::new(alloc),
         })
@@ -313,8 +347,7 @@ impl Progress {
         match size {
             Err(code) => Ok(Some(code)),
             Ok(words) => {
-                let code = taking(&self.taken, &self.place, &words);
-                mark(&mut self.taken, &self.place, &words);
+                let code = take(&mut self.taken, &self.place, &words);
                 self.place.add(alloc, &words)?;
                 Ok(code)
             }
@@ -370,10 +403,14 @@ impl Progress {
 /// a word where its place has one already (3), or is 1000000 octal or above (6); a literal where it has no words (4); LOC,
 /// BLOCK and RADIX where their value does not fit (4) or speaks of a later label or a literal (5). Literals stand behind
 /// END, and are looked at there.
+#[inline(never)]
 pub fn lay_out(alloc: Global, lines: &[Line]) -> Result<Layout, AsmError>
     ensures { MatchResult result (λ layout. IsLayoutOf layout lines.now) (λ e. Refuses e lines.now) }
 {
-    let mut progress = Progress::new(alloc)?;
+    let labels = lines.iter().fold(0usize, |count, line| {
+        count.saturating_add(line.labels.len())
+    });
+    let mut progress = Progress::new(alloc, lines.len(), labels)?;
     for (i, line) in lines.iter().enumerate() {
         if let Some(code) = progress.place_line(alloc, line)? {
             return Err(AsmError::Line { line: i + 1, code });

@@ -19,13 +19,13 @@ pub fn text_words(form: TextForm, len: usize) -> usize
     }
 }
 
-/// The character at a place, 0 where there is none.
-fn character(text: &[u8], place: usize) -> u64
-    ensures value { result ≡ slice_index text.now place % 128 }
+/// Character `at` of a text, 0 where there is none.
+fn character(text: &[u8], at: usize) -> u64
+    ensures value { result ≡ slice_index text.now at % 128 }
     ensures below { result < 128 }
 {
-    if place < text.len() {
-        u64::from(text[place]) % 128
+    if at < text.len() {
+        u64::from(text[at]) % 128
     } else {
         0
     }
@@ -66,14 +66,14 @@ fn sixbit_code(c: u8) -> Option<u64>
     }
 }
 
-/// The code of the character at a place, a space's behind the last.
+/// The code of character `at` of a text, a space's behind the last.
 #[tactic(auto, unfolding(crate::specs::Packing::sixbit_at))]
-fn sixbit_at(text: &[u8], place: usize) -> Option<u64>
-    ensures code { result ≡ sixbit_at text.now place }
+fn sixbit_at(text: &[u8], at: usize) -> Option<u64>
+    ensures code { result ≡ sixbit_at text.now at }
     ensures below { IfSome result (λ code. code < 64) }
 {
-    if place < text.len() {
-        sixbit_code(text[place])
+    if at < text.len() {
+        sixbit_code(text[at])
     } else {
         Some(0)
     }

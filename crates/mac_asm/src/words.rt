@@ -3,20 +3,47 @@
 ghost use Rattle.std.specs.Prelude.{◌≡◌, ◌<◌, ◌≤◌, ◌^◌, ◌++◌, [], ◌∷◌, Some, None, IfOk, IfSome, length, true, false};
 ghost use Rattle.mac_asm.specs.Values.{names_of, is_known};
 ghost use Rattle.mac_asm.specs.Packing.{words_in};
-ghost use Rattle.mac_asm.specs.Words.{fitted, word_of, half_of, register_of, start_of, operand_of, or_zero, AreFields, pointer_word, text_word, is_missing, with_accumulator, with_operand, instruction_of, at_most, position_of, pointer_of, halves_of, iowd_of, words_of_all, text_words_from, words_of, alone, is_known_if, is_operand_known, are_known, Adds};
+ghost use Rattle.mac_asm.specs.Words.{fitted, word_of, half_of, register_of, start_of, operand_of, or_zero, AreFields, pointer_word, text_word, is_missing, with_accumulator, with_operand, instruction_of, at_most, position_of, pointer_of, halves_of, iowd_of, words_of_all, text_words_from, is_known_if, is_operand_known, are_known, Adds};
 ghost use Rattle.std.specs.List.{list_all};
 
-use crate::sums::{Scope, is_known, value};
+use crate::sums::{Scope, is_known, short_above, short_residue, short_value, value};
 use crate::texts::{ascii_word, sixbit_word, text_words};
 use ka_isa::{Fields, decode, encode};
-use mac_text::{Data, Expression, Instruction, Operand, TextForm};
+use mac_text::{Data, Expression, Instruction, Operand, Parts, TextForm};
 use std::alloc::{AllocError, Global};
 use whole_numbers::Natural;
 use word36::Word;
 
 /// The value of an expression modulo a size, where it is at least `-least` and at most `most`.
-#[tactic(auto, unfolding(crate::specs::Words::fitted))]
+#[tactic(auto, unfolding(crate::specs::Words::fitted, crate::specs::Values::value_of, crate::specs::Values::residue_of))]
+#[inline(always)]
 fn fitted<'a>(
+    alloc: Global,
+    expression: &'a Expression,
+    scope: &Scope<'a>,
+    least: u64,
+    most: u64,
+    size: u64,
+) -> Result<Option<u64>, AllocError>
+    requires least { least ≤ size }
+    requires size { 0 < size }
+    requires most { most < 2 ^ 63 }
+    ensures value { IfOk result (λ r. r ≡ fitted (names_of scope.now) least most size expression.now) }
+    ensures below { IfOk result (λ r. IfSome r (λ n. n < size)) }
+{
+    if let Parts::Number(number) = expression.parts() {
+        return Ok(short_above(number, most, size));
+    }
+    match short_value(expression, scope) {
+        Some(value) => Ok(short_residue(value, least, most, size)),
+        None => long_fitted(alloc, expression, scope, least, most, size),
+    }
+}
+
+/// The same where 64 bits are not enough, or a name is not known.
+#[tactic(auto, unfolding(crate::specs::Words::fitted))]
+#[inline(never)]
+fn long_fitted<'a>(
     alloc: Global,
     expression: &'a Expression,
     scope: &Scope<'a>,
@@ -37,7 +64,7 @@ fn fitted<'a>(
 }
 
 /// The word of a value from -2^35 to 2^36-1.
-fn word<'a>(
+pub fn word<'a>(
     alloc: Global,
     expression: &'a Expression,
     scope: &Scope<'a>,
@@ -127,6 +154,7 @@ fn address<'a>(
 
 /// The fields of an address part: indirect bit, index register and address, a missing part being 0.
 #[tactic(auto, unfolding(crate::specs::Words::operand_of))]
+#[inline(always)]
 fn operand<'a>(
     alloc: Global,
     operand: &'a Operand,
@@ -203,7 +231,7 @@ fn with_operand<'a>(
 
 /// The word of an instruction: that of its name, with the fields that are written.
 #[tactic(auto, unfolding(crate::specs::Words::instruction_of))]
-fn instruction<'a>(
+pub fn instruction<'a>(
     alloc: Global,
     given: &'a Instruction,
     scope: &Scope<'a>,
@@ -247,21 +275,21 @@ fn position(position: &Option<Natural>) -> Option<u64>
     }
 }
 
-/// The pointer to a byte of `size` bits.
+/// The pointer to a byte of `size` bits, of which bit `last` of the word is the last.
 #[tactic(auto, unfolding(crate::specs::Words::pointer_of))]
-fn pointer<'a>(
+pub fn pointer<'a>(
     alloc: Global,
     size: &Natural,
     given: &'a Operand,
-    place: &Option<Natural>,
+    last: &Option<Natural>,
     scope: &Scope<'a>,
 ) -> Result<Option<Word>, AllocError>
-    ensures { IfOk result (λ r. r ≡ pointer_of (names_of scope.now) size.now given.now place.now) }
+    ensures { IfOk result (λ r. r ≡ pointer_of (names_of scope.now) size.now given.now last.now) }
 {
     let Some(s) = at_most(36, size) else {
         return Ok(None);
     };
-    let Some(p) = position(place) else {
+    let Some(p) = position(last) else {
         return Ok(None);
     };
     let Some((i, x, y)) = operand(alloc, given, scope)? else {
@@ -284,7 +312,7 @@ fn pointer_word(p: u64, s: u64, i: bool, x: u8, y: u32) -> Word
 
 /// `left,,right`.
 #[tactic(auto, unfolding(crate::specs::Words::halves_of))]
-fn halves<'a>(
+pub fn halves<'a>(
     alloc: Global,
     left: &'a Expression,
     right: &'a Expression,
@@ -303,7 +331,7 @@ fn halves<'a>(
 
 /// `-count,,address-1`.
 #[tactic(auto, unfolding(crate::specs::Words::iowd_of))]
-fn iowd<'a>(
+pub fn iowd<'a>(
     alloc: Global,
     count: &'a Expression,
     address: &'a Expression,
@@ -328,19 +356,6 @@ fn iowd<'a>(
     Ok(Some(Word::join(left as u32, right as u32)))
 }
 
-/// Adds the word, where there is one.
-fn push(words: &mut Vec<Word>, word: Option<Word>) -> Result<bool, AllocError>
-    ensures { IfOk result (λ added. Adds added words.old.items words.new.items (alone word)) }
-{
-    match word {
-        None => Ok(false),
-        Some(word) => {
-            words.push(word)?;
-            Ok(true)
-        }
-    }
-}
-
 /// Word i of a text.
 #[tactic(auto, unfolding(crate::specs::Words::text_word))]
 fn text_word(form: TextForm, text: &[u8], i: usize) -> Option<Word>
@@ -353,8 +368,8 @@ fn text_word(form: TextForm, text: &[u8], i: usize) -> Option<Word>
     }
 }
 
-/// Adds the words of a text.
-fn push_text(words: &mut Vec<Word>, form: TextForm, text: &[u8]) -> Result<bool, AllocError>
+/// Adds the words of a text; false where a character has no code.
+pub fn push_text(words: &mut Vec<Word>, form: TextForm, text: &[u8]) -> Result<bool, AllocError>
     ensures { IfOk result (λ added. Adds added words.old.items words.new.items (text_words_from form text.now 0 (words_in form (length text.now)))) }
 {
     for i in 0..text_words(form, text.len()) {
@@ -366,8 +381,8 @@ fn push_text(words: &mut Vec<Word>, form: TextForm, text: &[u8]) -> Result<bool,
     Ok(true)
 }
 
-/// Adds the words of values.
-fn push_all<'a>(
+/// Adds the words of values; false where one is not known or does not fit.
+pub fn push_all<'a>(
     alloc: Global,
     words: &mut Vec<Word>,
     expressions: &'a [Expression],
@@ -376,35 +391,12 @@ fn push_all<'a>(
     ensures { IfOk result (λ added. Adds added words.old.items words.new.items (words_of_all (word_of (names_of scope.now)) expressions.now)) }
 {
     for expression in expressions {
-        if !push(words, word(alloc, expression, scope)?)? {
-            return Ok(false);
+        match word(alloc, expression, scope)? {
+            None => return Ok(false),
+            Some(word) => words.push(word)?,
         }
     }
     Ok(true)
-}
-
-/// Adds the words of a statement, but for those of BLOCK; false where a value is not known or does not fit.
-#[tactic(auto, unfolding(crate::specs::Words::words_of))]
-pub fn push_words<'a>(
-    alloc: Global,
-    words: &mut Vec<Word>,
-    data: &'a Data,
-    scope: &Scope<'a>,
-) -> Result<bool, AllocError>
-    ensures { IfOk result (λ added. Adds added words.old.items words.new.items (words_of (names_of scope.now) data.now)) }
-{
-    match data {
-        Data::Value(expression) => push(words, word(alloc, expression, scope)?),
-        Data::Halves(left, right) => push(words, halves(alloc, left, right, scope)?),
-        Data::Iowd(count, address) => push(words, iowd(alloc, count, address, scope)?),
-        Data::Exp(expressions) => push_all(alloc, words, expressions.as_slice(), scope),
-        Data::Point(size, address, position) => {
-            push(words, pointer(alloc, size, address, position, scope)?)
-        }
-        Data::Text(form, text) => push_text(words, *form, text.as_slice()),
-        Data::Block(_) => Ok(true),
-        Data::Instruction(given) => push(words, instruction(alloc, given, scope)?),
-    }
 }
 
 fn is_operand_known<'a>(operand: &'a Operand, scope: &Scope<'a>) -> bool

@@ -1,14 +1,27 @@
--- Names are ASCII.
-use Rattle.std.proofs.Common.{◌≡◌, ℕ, zero, suc, ◌<◌, ◌≤◌, List, [], ◌∷◌, Bool, true, false, length, get_or, take, map, cond, inl, inr, arith, refl, sym, subst}
-use Rattle.std.specs.List.{prefix_len}
+-- What is ASCII.
+use Rattle.std.proofs.Common.{◌≡◌, ℕ, zero, suc, ◌<◌, List, [], ◌∷◌, true, length, get_or, take, map, inl, inr, arith, sym, ap, ◌∙◌, ◌+◌}
+use Rattle.std.specs.Prelude.{◌&&◌, max}
+use Rattle.std.specs.List.{prefix_len, list_all}
 use Rattle.std.specs.Str.{IsAscii, IsUtf8}
 use Rattle.std.proofs.lemmas.Bool.{cases_lt}
 use Rattle.std.proofs.lemmas.Bool.Decides.{nat_tests}
 use Rattle.std.proofs.lemmas.List.{get_or-take, get_or_past, length-take}
-use Rattle.std.proofs.lemmas.List.Sums.{prefix_len_passes, prefix_len-le-length}
+use Rattle.std.proofs.lemmas.List.Folds.{list_all_more}
+use Rattle.mac_text.specs.Lines.{is_ascii}
+use Rattle.std.proofs.lemmas.List.Sums.{prefix_len_passes}
 use Rattle.std.proofs.lemmas.Str.{IsUtf8-from_ascii}
 use Rattle.mac_text.specs.Characters.{is_name_character, upper_case}
 use Rattle.mac_text.specs.Scan.{word_of}
+
+-- ---- texts
+
+greater_is_ascii : (a b : ℕ) → is_ascii (max a b) ≡ (is_ascii a && is_ascii b)
+greater_is_ascii a b = grind (arith, nat_tests)
+
+pub ascii_so_far : (greatest : ℕ) (text : List ℕ) (i : ℕ) → i < length text → is_ascii greatest ≡ list_all is_ascii (take i text) → is_ascii (max greatest (get_or text i 0)) ≡ list_all is_ascii (take (i + 1) text)
+ascii_so_far greatest text i lt h = greater_is_ascii greatest (get_or text i 0) ∙ ap (λ b. b && is_ascii (get_or text i 0)) h ∙ sym (list_all_more is_ascii text i 0 lt)
+
+-- ---- names
 
 name_character_is_ascii : (c : ℕ) → is_name_character c ≡ true → c < 128
 name_character_is_ascii c h = grind (arith, nat_tests)

@@ -1,8 +1,12 @@
 pub mod CharacterLemmas
+pub mod NameLemmas
 pub mod ItemLemmas
 pub mod AsciiLemmas
 pub mod WordLemmas
+pub mod TermLemmas
+pub mod DigitLemmas
 pub mod LineLemmas
 pub mod SourceLemmas
+pub mod OperationLemmas
 pub mod NumberTexts
 pub mod PrintedLemmas

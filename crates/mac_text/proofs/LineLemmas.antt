@@ -2,7 +2,9 @@
 use Rattle.std.proofs.Common.{◌≡◌, ◌≢◌, ℕ, zero, suc, ◌+◌, ◌-◌, ◌<◌, ◌≤◌, ◌==◌, List, [], ◌∷◌, ◌++◌, Option, Some, None, Result, Ok, Err, Bor, Bool, true, false, cond, length, get_or, take, drop, map, refl, sym, ap, subst, ◌∙◌, append_assoc, append-nil, take-append-drop, get_or-take, length-take-le, take_all, eq-eqb, arith}
 use Rattle.std.specs.List.{All, slice_split}
 use Rattle.std.specs.Str.Lines.{lines, lines_of_parts, strip_carriage_return}
-use Rattle.std.proofs.lemmas.Bool.{ne_eqb}
+use Rattle.std.proofs.lemmas.Bool.{ne_eqb, and_parts}
+use Rattle.std.specs.List.{list_all}
+use Rattle.std.proofs.lemmas.List.Folds.{list_all-append}
 use Rattle.std.proofs.lemmas.List.{drop_more, take_rest}
 use Rattle.std.proofs.lemmas.List.Splits.{slice_split_at, slice_split_none, length-slice_split}
 use Rattle.std.proofs.lemmas.List.Elements.{All-from_get_or}
@@ -93,3 +95,14 @@ pub lines_last : (text : List ℕ) → 0 < length text → ((k : ℕ) → k < le
 lines_last text some before =
     let none = subst (All (λ b. newline b ≡ false)) (take_all (length text) text (omega arith)) (none_before text (length text) (omega arith) before) in
     ap lines_of_parts (slice_split_none newline text none) ∙ ap (λ b. cond b [] (text ∷ [])) (ne_eqb (length text) 0 (λ e. omega arith)) ∙ sym (ap (λ l. text ∷ lines l) (drop_past text (length text) (omega arith)))
+
+-- what holds of each character holds of those in front and those behind
+pub parts_pass : (p : ℕ → Bool) (n : ℕ) (text : List ℕ) → list_all p text ≡ true → (list_all p (take n text) ≡ true) × (list_all p (drop n text) ≡ true)
+parts_pass p n text h = and_parts (list_all p (take n text)) (list_all p (drop n text)) (sym (list_all-append p (take n text) (drop n text)) ∙ ap (list_all p) (take-append-drop n text) ∙ h)
+
+pub front_passes : (p : ℕ → Bool) (n : ℕ) (text : List ℕ) → list_all p text ≡ true → list_all p (strip_carriage_return (take n text)) ≡ true
+front_passes p n text h = stripped (get_or (take n text) (length (take n text) - 1) 0 == 13) (take n text) (parts_pass p n text h).0
+  where
+    stripped : (ends : Bool) (line : List ℕ) → list_all p line ≡ true → list_all p (cond ends (take (length line - 1) line) line) ≡ true
+    stripped true line h = (parts_pass p (length line - 1) line h).0
+    stripped false line h = h

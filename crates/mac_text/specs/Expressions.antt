@@ -70,6 +70,12 @@ signed_if (Some sign) s = do
 unfoldable pub next_term_at : Scan → Option (Option SignedTerm × Scan)
 next_term_at s = signed_if (sign_at s).0 (sign_at s).1
 
+-- a term alone, with its sign before it
+abbrev pub first_at : Sign → Scan → Option (List SignedTerm × Scan)
+first_at sign s = do
+  first ← signed_at sign s
+  Some (first.0 ∷ [], first.1)
+
 -- a sign or none, and terms joined by signs; a line has no more terms than characters
 unfoldable pub expression_at : Scan → Option (List SignedTerm × Scan)
 expression_at s = do

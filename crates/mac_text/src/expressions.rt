@@ -1,13 +1,16 @@
 //! Numbers, terms and expressions.
 
-ghost use Rattle.std.specs.Prelude.{◌≡◌, ◌++◌, [], ◌∷◌, length};
-ghost use Rattle.mac_text.specs.Scan.{Gives, with_front, items_at};
+ghost use Rattle.std.specs.Prelude.{◌≡◌, ℕ, [], Some, option_map, IfSome};
+ghost use Rattle.std.specs.Option.{IfNone};
+ghost use Rattle.mac_text.specs.Scan.{Gives, after_blanks, with_front, items_at};
 ghost use Rattle.mac_text.specs.Names.{is_name};
-ghost use Rattle.mac_text.specs.Expressions.{word_term_at, marked_at, literal_at, term_at, sign_at, signed_at, next_term_at, expression_at, optional_at};
+ghost use Rattle.mac_text.specs.Expressions.{word_term_at, marked_at, literal_at, term_at, sign_at, signed_at, term_of_word, first_at, next_term_at, expression_at, optional_at};
+ghost use Rattle.mac_text.specs.Terms.{alone};
+ghost use Rattle.mac_text.specs.declared.syntax.Sign.TheVariants.{Plus};
 
 use crate::characters::is_digit;
 use crate::fault::Fault;
-use crate::numbers::number;
+use crate::numbers::{leading_number, number};
 use crate::place::{clear, fill};
 use crate::scanner::Scanner;
 use crate::sum::Expression;
@@ -98,6 +101,7 @@ fn term(scan: &mut Scanner<'_>) -> Result<Term, Fault>
 fn sign(scan: &mut Scanner<'_>) -> Option<Sign>
     ensures value { result ≡ (sign_at scan.old).0 }
     ensures rest { scan.new ≡ (sign_at scan.old).1 }
+    ensures skipped { IfNone result (after_blanks scan.new.rest ≡ scan.new.rest) }
 {
     scan.skip();
     match scan.head() {
@@ -113,12 +117,59 @@ fn sign(scan: &mut Scanner<'_>) -> Option<Sign>
     }
 }
 
+#[inline(never)]
 #[tactic(auto, unfolding(crate::specs::Expressions::signed_at))]
 fn signed_term(sign: Sign, scan: &mut Scanner<'_>) -> Result<SignedTerm, Fault>
     ensures { Gives (λ x. (x, scan.new)) result (signed_at sign scan.old) }
 {
     let term = term(scan)?;
     Ok(SignedTerm { sign, term })
+}
+
+/// A label or the point alone.
+fn lone_name(word: &[u8]) -> Option<Expression>
+    ensures { IfSome result (λ e. (radix : ℕ) → option_map (alone Plus) (term_of_word radix word.now) ≡ Some e) }
+{
+    if is_name(word) {
+        Some(Expression::label(Symbol::of(word)))
+    } else if word == b".".as_slice() {
+        Some(Expression::here())
+    } else {
+        None
+    }
+}
+
+/// The expression of the next term, whose sign came before it, where it takes no memory.
+fn lone_term(sign: Sign, scan: &mut Scanner<'_>) -> Option<Expression>
+    requires { after_blanks scan.old.rest ≡ scan.old.rest }
+    ensures read { IfSome result (λ e. first_at sign scan.old ≡ Some (e, scan.new)) }
+    ensures unread { IfNone result (scan.new ≡ scan.old) }
+{
+    if let Some((number, len)) = leading_number(scan.radix(), scan.rest()) {
+        scan.advance(len);
+        return Some(Expression::number(sign, number));
+    }
+    match sign {
+        Sign::Minus => None,
+        Sign::Plus => {
+            let word = scan.word();
+            let expression = lone_name(word)?;
+            scan.advance(word.len());
+            Some(expression)
+        }
+    }
+}
+
+/// The expression of the next term, whose sign came before it.
+fn first_term(sign: Sign, scan: &mut Scanner<'_>) -> Result<Expression, Fault>
+    requires { after_blanks scan.old.rest ≡ scan.old.rest }
+    ensures { Gives (λ e. (e, scan.new)) result (first_at sign scan.old) }
+{
+    if let Some(expression) = lone_term(sign, scan) {
+        return Ok(expression);
+    }
+    let term = signed_term(sign, scan)?;
+    Ok(Expression::of(scan.alloc(), term)?)
 }
 
 /// The next term behind its sign, if a sign comes next.
@@ -132,12 +183,11 @@ fn next_term(scan: &mut Scanner<'_>) -> Result<Option<SignedTerm>, Fault>
     }
 }
 
-/// Terms, each behind its sign.
-fn more_terms(scan: &mut Scanner<'_>, expression: &mut Expression) -> Result<(), Fault>
-    ensures { Gives (λ _. (expression.new, scan.new)) result
-        (with_front expression.old (items_at next_term_at (length scan.old.rest) scan.old)) }
+/// Terms, each behind its sign; there are at most so many.
+#[inline(never)]
+fn more_terms(scan: &mut Scanner<'_>, most: usize, expression: &mut Expression) -> Result<(), Fault>
+    ensures { Gives (λ _. (expression.new, scan.new)) result (with_front expression.old (items_at next_term_at most scan.old)) }
 {
-    let most = scan.len();
     for _ in 0..most {
         match next_term(scan)? {
             None => return Ok(()),
@@ -148,18 +198,28 @@ fn more_terms(scan: &mut Scanner<'_>, expression: &mut Expression) -> Result<(),
 }
 
 /// An expression: a sign or none, and terms joined by signs.
-#[tactic(auto, unfolding(crate::specs::Expressions::expression_at))]
+#[inline(never)]
+#[tactic(auto, unfolding(crate::specs::Expressions::expression_at), using(crate::proofs::TermLemmas::no_more_terms, crate::proofs::TermLemmas::more_behind_blanks, crate::proofs::TermLemmas::first_behind_blanks, crate::proofs::WordLemmas::skip_twice))]
 pub fn expression(scan: &mut Scanner<'_>) -> Result<Expression, Fault>
     ensures { Gives (λ x. (x, scan.new)) result (expression_at scan.old) }
 {
-    let sign = sign(scan).unwrap_or(Sign::Plus);
-    let first = signed_term(sign, scan)?;
-    let mut expression = Expression::of(scan.alloc(), first)?;
-    more_terms(scan, &mut expression)?;
+    let sign = match sign(scan) {
+        None => Sign::Plus,
+        Some(sign) => {
+            scan.skip();
+            sign
+        }
+    };
+    let mut expression = first_term(sign, scan)?;
+    let most = scan.len();
+    if scan.is_at_sign() {
+        more_terms(scan, most, &mut expression)?;
+    }
     Ok(expression)
 }
 
 /// Reads an expression, if one comes next, and puts it in place.
+#[inline(always)]
 #[tactic(auto, unfolding(crate::specs::Expressions::optional_at))]
 pub fn optional_expression(
     scan: &mut Scanner<'_>,

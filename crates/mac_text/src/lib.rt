@@ -5,8 +5,10 @@ mod characters;
 mod expressions;
 mod fault;
 mod keyword;
+mod labels;
 mod line;
 mod numbers;
+mod operations;
 mod place;
 mod printed;
 mod scanner;
@@ -18,12 +20,15 @@ mod symbol;
 mod syntax;
 mod texts;
 
+pub use characters::upper_case;
 pub use fault::ParseError;
+pub use labels::Labels;
+pub use line::is_end;
 pub use printed::printed_word;
 pub use sequence::Sequence;
 pub use source::parse;
 pub use sum::{Expression, Parts};
-pub use symbol::Symbol;
+pub use symbol::{Symbol, symbols_tell_names};
 pub use syntax::{
     Data, Instruction, Line, Operand, Program, Sign, SignedTerm, Statement, Term, TextForm,
 };

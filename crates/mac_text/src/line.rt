@@ -1,12 +1,15 @@
 //! Lines.
 
-ghost use Rattle.std.specs.Prelude.{◌≡◌, ◌≤◌, Some, length, map};
+ghost use Rattle.std.specs.Prelude.{◌≡◌, ◌<◌, ◌≤◌, Some, true, IsTrue, IfOk, length, map};
+ghost use Rattle.std.specs.Option.{IfNone, OnSome};
 ghost use Rattle.std.specs.List.{list_all};
-ghost use Rattle.mac_text.specs.Scan.{Gives, with_front, items_at};
+ghost use Rattle.mac_text.specs.Scan.{Gives, after_blanks, word_of, items_at};
 ghost use Rattle.mac_text.specs.Lines.{is_ascii, next_label_at, optional_statement_at, whole_statement_at, gives_words, with_words, literal_data, literal_of, literals_of, line_of, radix_after, is_end};
 
+use crate::characters::is_ascii;
 use crate::expressions::is_name;
 use crate::fault::Fault;
+use crate::labels::Labels;
 use crate::place::{clear, discard};
 use crate::scanner::Scanner;
 use crate::sequence::Sequence;
@@ -15,55 +18,69 @@ use crate::symbol::Symbol;
 use crate::syntax::{Data, Line, Statement, TextForm};
 use std::alloc::Global;
 
-/// The next label, if one comes next: a name with a colon right behind it.
-#[tactic(auto, unfolding(crate::specs::Lines::next_label_at), using(crate::proofs::WordLemmas::word_length))]
-fn next_label(scan: &mut Scanner<'_>) -> Option<Symbol>
-    ensures { next_label_at scan.old ≡ Some (result, scan.new) }
+/// The next label, if one comes next: a name with a colon right behind it. With it comes the word that stands there.
+#[tactic(auto, unfolding(crate::specs::Lines::next_label_at), using(crate::proofs::WordLemmas::word_length, crate::proofs::WordLemmas::skip_twice))]
+fn next_label<'a>(scan: &mut Scanner<'a>) -> (Option<Symbol>, &'a [u8])
+    ensures label { next_label_at scan.old ≡ Some (result.0, scan.new) }
+    ensures word { IfNone result.0 (result.1.now ≡ word_of (after_blanks scan.new.rest)) }
+    ensures shorter { OnSome result.0 (length scan.new.rest < length scan.old.rest) }
 {
     scan.skip();
     let word = scan.word();
     if is_name(word) && scan.has_colon_behind(word.len()) {
         scan.advance(word.len() + 1);
-        Some(Symbol::of(word))
+        (Some(Symbol::of(word)), word)
     } else {
-        None
+        (None, word)
     }
 }
 
-/// The labels at the head of a line.
-fn labels(scan: &mut Scanner<'_>) -> Result<Sequence<Symbol>, Fault>
-    ensures { Gives (λ x. (x, scan.new)) result (items_at next_label_at (length scan.old.rest) scan.old) }
+/// The labels at the head of a line, and the word behind them.
+fn labels<'a>(scan: &mut Scanner<'a>) -> Result<(Labels, &'a [u8]), Fault>
+    ensures labels { Gives (λ x. (x.0, scan.new)) result (items_at next_label_at (length scan.old.rest) scan.old) }
+    ensures word { IfOk result (λ x. x.1.now ≡ word_of (after_blanks scan.new.rest)) }
 {
-    let mut labels = Sequence::new(scan.alloc());
+    let mut labels = Labels::new();
     let most = scan.len();
     for _ in 0..most {
         match next_label(scan) {
-            None => return Ok(labels),
-            Some(label) => labels.push(label)?,
+            (None, word) => return Ok((labels, word)),
+            (Some(label), _) => labels.push(scan.alloc(), label)?,
         }
     }
-    Ok(labels)
+    Ok((labels, &[]))
 }
 
-/// The statement of a line, if there is one.
-#[tactic(auto, unfolding(crate::specs::Lines::optional_statement_at))]
-fn optional_statement(scan: &mut Scanner<'_>, place: &mut Option<Statement>) -> Result<(), Fault>
+/// The statement of a line, if there is one, where this word comes next.
+#[tactic(auto, unfolding(crate::specs::Lines::optional_statement_at), using(crate::proofs::WordLemmas::skip_twice))]
+fn optional_statement(
+    scan: &mut Scanner<'_>,
+    word: &[u8],
+    place: &mut Option<Statement>,
+) -> Result<(), Fault>
+    requires { word.now ≡ word_of (after_blanks scan.old.rest) }
     ensures { Gives (λ _. (place.new, scan.new)) result (optional_statement_at scan.old) }
 {
     if scan.is_at_end() {
         clear(place);
     } else {
-        statement(scan, place)?;
+        statement(scan, word, place)?;
     }
     Ok(())
 }
 
-/// The statement of a line, if there is one, with nothing behind it but a comment.
+/// The statement of a line, if there is one, where this word comes next, with nothing behind it but a comment.
+#[inline(always)]
 #[tactic(auto, unfolding(crate::specs::Lines::whole_statement_at))]
-fn whole_statement(scan: &mut Scanner<'_>, place: &mut Option<Statement>) -> Result<(), Fault>
+fn whole_statement(
+    scan: &mut Scanner<'_>,
+    word: &[u8],
+    place: &mut Option<Statement>,
+) -> Result<(), Fault>
+    requires { word.now ≡ word_of (after_blanks scan.old.rest) }
     ensures { Gives (λ _. (place.new, scan.new)) result (whole_statement_at scan.old) }
 {
-    optional_statement(scan, place)?;
+    optional_statement(scan, word, place)?;
     if scan.is_at_end() {
         Ok(())
     } else {
@@ -115,7 +132,8 @@ fn literal(alloc: Global, radix: u8, text: &[u8]) -> Result<Data, Fault>
 {
     let mut scan = Scanner::new(alloc, radix, true, text);
     let mut place = None;
-    match whole_statement(&mut scan, &mut place) {
+    let word = scan.next_word();
+    match whole_statement(&mut scan, word, &mut place) {
         Ok(()) => literal_data(place),
         Err(fault) => {
             discard(place);
@@ -136,25 +154,27 @@ fn literals(alloc: Global, radix: u8, texts: &[&[u8]]) -> Result<Sequence<Data>,
     Ok(literals)
 }
 
-fn is_ascii(text: &[u8]) -> bool
-    ensures { result ≡ list_all is_ascii text.now }
-{
-    text.iter().all(|c| *c < 128)
-}
-
-/// Reads what stands on a line, and puts it in place.
+/// Reads what stands on a line, and puts it in place. The line may be known to be ASCII.
 #[inline(never)]
 #[tactic(auto, unfolding(crate::specs::Lines::line_of))]
-pub fn read_line(alloc: Global, radix: u8, text: &[u8], place: &mut Line) -> Result<(), Fault>
-    requires { radix ≤ 10 }
+pub fn read_line(
+    alloc: Global,
+    radix: u8,
+    is_known_ascii: bool,
+    text: &[u8],
+    place: &mut Line,
+) -> Result<(), Fault>
+    requires radix { radix ≤ 10 }
+    requires known { IsTrue is_known_ascii → list_all is_ascii text.now ≡ true }
     ensures { Gives (λ _. place.new) result (line_of radix text.now) }
 {
-    if !is_ascii(text) {
+    if !is_known_ascii && !is_ascii(text) {
         return Err(Fault::Syntax);
     }
     let mut scan = Scanner::new(alloc, radix, false, text);
-    place.labels = labels(&mut scan)?;
-    whole_statement(&mut scan, &mut place.statement)?;
+    let (labels, word) = labels(&mut scan)?;
+    place.labels = labels;
+    whole_statement(&mut scan, word, &mut place.statement)?;
     place.literals = literals(alloc, radix, scan.cuts())?;
     Ok(())
 }

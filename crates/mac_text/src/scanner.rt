@@ -1,8 +1,10 @@
 //! A line as it is read from left to right.
 
-ghost use Rattle.std.specs.Prelude.{◌≡◌, ◌<◌, ◌≤◌, List, [], ◌∷◌, ◌++◌, map, Some, None, Bool, true, false, IsTrue, length, drop};
-ghost use Rattle.mac_text.specs.Scan.{Gives, Scan, skipped, head_of, begins_with, meets, eaten, word_of, take_cut, begins_expression, is_at_end, without, meets_commas, commas_eaten, comment_of};
+ghost use Rattle.std.specs.Prelude.{◌≡◌, ◌<◌, ◌≤◌, List, [], ◌∷◌, ◌++◌, ◌||◌, map, Some, None, Bool, true, false, IsTrue, length, drop};
+ghost use Rattle.mac_text.specs.Scan.{Gives, Scan, after_blanks, skipped, head_of, begins_with, meets, eaten, word_of, take_cut, begins_expression, is_at_end, without, meets_commas, commas_eaten, comment_of};
+ghost use Rattle.std.specs.List.{list_all};
 ghost use Rattle.std.specs.Str.{IsAscii};
+ghost use Rattle.mac_text.specs.Characters.{is_name_character};
 ghost use Rattle.mac_text.specs.Texts.{take_text};
 
 use crate::characters::{blanks_len, is_name_character, title_len, word_len};
@@ -102,13 +104,23 @@ impl<'a> Scanner<'a> {
     }
 
     /// The letters, digits and the like that come next.
-    #[tactic(auto, using(crate::proofs::AsciiLemmas::word_is_ascii))]
+    #[tactic(auto, using(crate::proofs::AsciiLemmas::word_is_ascii, crate::proofs::WordLemmas::word_passes))]
     pub fn word(&self) -> &'a [u8]
         ensures value { result.now ≡ word_of self.now.rest }
+        ensures characters { list_all is_name_character result.now ≡ true }
         ensures ascii { IsAscii result.now }
     {
         let rest = self.rest;
         &rest[..word_len(rest)]
+    }
+
+    /// The same, behind blanks.
+    pub fn next_word(&self) -> &'a [u8]
+        ensures { result.now ≡ word_of (after_blanks self.now.rest) }
+    {
+        let rest = self.rest;
+        let text = &rest[blanks_len(rest)..];
+        &text[..word_len(text)]
     }
 
     /// Whether a colon stands behind so many bytes.
@@ -188,6 +200,18 @@ impl<'a> Scanner<'a> {
         ensures { map (λ cut. cut.now) result.now ≡ self.now.cuts }
     {
         self.cuts.as_slice()
+    }
+
+    /// Goes over blanks. Whether a sign comes next.
+    pub fn is_at_sign(&mut self) -> bool
+        ensures is { result ≡ (meets 43 self.old || meets 45 self.old) }
+        ensures rest { self.new ≡ skipped self.old }
+    {
+        self.skip();
+        match self.head() {
+            None => false,
+            Some(c) => c == b'+' || c == b'-',
+        }
     }
 
     /// Whether an expression comes next.

@@ -1,15 +1,18 @@
 //! Statements.
 
-ghost use Rattle.std.specs.Prelude.{◌≡◌, IsTrue, length};
+ghost use Rattle.std.specs.Prelude.{◌≡◌, ◌≤◌, length};
 ghost use Rattle.std.specs.Str.{IsAscii};
-ghost use Rattle.mac_text.specs.Scan.{Gives, present, with_front, items_at};
+ghost use Rattle.mac_text.specs.Scan.{Gives, after_blanks, word_of, present, with_front, items_at};
 ghost use Rattle.mac_text.specs.declared.syntax.Data.TheVariants as data_of;
-ghost use Rattle.mac_text.specs.Statements.{with_data, index_at, operand_at, operands_at, is_allowed, instruction_at, pair_at, next_expression_at, expressions_at, decimal_at, number_at, point_at, value_at, form_at, operation_of, statement_at};
+ghost use Rattle.mac_text.specs.Statements.{with_data, index_at, operand_at, operands_at, is_allowed, instruction_at, pair_at, next_expression_at, expressions_at, decimal_at, number_at, point_at, value_at, form_at, formed_at, operation_of, statement_at};
+ghost use Rattle.mac_text.specs.Names.{folded};
+ghost use Rattle.mac_text.specs.Keywords.{form_of};
 
 use crate::expressions::{expression, is_name, marked_number, optional_expression};
 use crate::fault::Fault;
 use crate::keyword::{Form, form_of};
 use crate::numbers::number;
+use crate::operations::operation;
 use crate::place::{clear, fill};
 use crate::scanner::Scanner;
 use crate::sequence::Sequence;
@@ -20,6 +23,7 @@ use ka_isa::{Named, named};
 use whole_numbers::Natural;
 
 /// The register of an address part: an expression in parentheses, or nothing.
+#[inline(always)]
 #[tactic(auto, unfolding(crate::specs::Statements::index_at))]
 fn index(scan: &mut Scanner<'_>, place: &mut Option<Expression>) -> Result<(), Fault>
     ensures { Gives (λ _. (place.new, scan.new)) result (index_at scan.old) }
@@ -36,6 +40,7 @@ fn index(scan: &mut Scanner<'_>, place: &mut Option<Expression>) -> Result<(), F
 }
 
 /// An address part, of which each piece may be missing.
+#[inline(always)]
 #[tactic(auto, unfolding(crate::specs::Statements::operand_at))]
 fn operand(scan: &mut Scanner<'_>, place: &mut Operand) -> Result<(), Fault>
     ensures { Gives (λ _. (place.new, scan.new)) result (operand_at scan.old) }
@@ -75,6 +80,7 @@ fn is_allowed(named: Named, accumulator: &Option<Expression>, operand: &Operand)
 }
 
 /// Reads what follows the name of an instruction, and puts the statement in place.
+#[inline(always)]
 #[tactic(auto, unfolding(crate::specs::Statements::instruction_at))]
 fn instruction(
     named: Named,
@@ -251,9 +257,9 @@ fn form_statement(form: Form, scan: &mut Scanner<'_>) -> Result<Statement, Fault
     }
 }
 
-/// The operation that a name stands for.
+/// What a name stands for, of an operation or a call.
 #[tactic(auto, using(crate::proofs::AsciiLemmas::is_text))]
-fn operation(name: &[u8]) -> Option<Named>
+fn meaning(name: &[u8]) -> Option<Named>
     requires { IsAscii name.now }
     ensures { result ≡ operation_of name.now }
 {
@@ -285,24 +291,49 @@ fn formed_statement(
     Ok(())
 }
 
-/// Reads a statement, and puts it in place. Its first name tells its form or its operation; where it tells none, it
-/// is a value.
-#[tactic(auto, unfolding(crate::specs::Statements::statement_at))]
-pub fn statement(scan: &mut Scanner<'_>, place: &mut Option<Statement>) -> Result<(), Fault>
-    ensures { Gives (λ _. (place.new, scan.new)) result (present (statement_at scan.old)) }
+/// Reads a statement that begins with this name, and puts it in place. The name tells its form or its operation; where
+/// it tells none, the statement is a value.
+#[inline(never)]
+fn named_statement(
+    word: &[u8],
+    scan: &mut Scanner<'_>,
+    place: &mut Option<Statement>,
+) -> Result<(), Fault>
+    requires ascii { IsAscii word.now }
+    requires within { length word.now ≤ length scan.old.rest }
+    ensures { Gives (λ _. (place.new, scan.new)) result (present (formed_at (form_of (folded word.now)) word.now scan.old)) }
 {
-    scan.skip();
-    let word = scan.word();
-    if is_name(word) {
-        let name = folded(word);
-        if let Some(form) = form_of(name.as_slice()) {
-            scan.advance(word.len());
-            return formed_statement(form, scan, place);
-        }
-        if let Some(named) = operation(name.as_slice()) {
-            scan.advance(word.len());
-            return instruction(named, scan, place);
-        }
+    let name = folded(word);
+    if let Some(form) = form_of(name.as_slice()) {
+        scan.advance(word.len());
+        return formed_statement(form, scan, place);
+    }
+    if let Some(named) = meaning(name.as_slice()) {
+        scan.advance(word.len());
+        return instruction(named, scan, place);
     }
     value_statement(scan, place)
+}
+
+/// Reads a statement that begins with this word, and puts it in place. Most begin with the name of an operation.
+#[tactic(auto, unfolding(crate::specs::Statements::statement_at), using(crate::proofs::AsciiLemmas::word_is_ascii, crate::proofs::WordLemmas::word_passes, crate::proofs::WordLemmas::word_within))]
+pub fn statement(
+    scan: &mut Scanner<'_>,
+    word: &[u8],
+    place: &mut Option<Statement>,
+) -> Result<(), Fault>
+    requires skipped { after_blanks scan.old.rest ≡ scan.old.rest }
+    requires word { word.now ≡ word_of scan.old.rest }
+    ensures { Gives (λ _. (place.new, scan.new)) result (present (statement_at scan.old)) }
+{
+    if !is_name(word) {
+        return value_statement(scan, place);
+    }
+    match operation(word) {
+        None => named_statement(word, scan, place),
+        Some(named) => {
+            scan.advance(word.len());
+            instruction(named, scan, place)
+        }
+    }
 }

@@ -1,7 +1,9 @@
 //! Expressions: sums of terms.
 
 ghost use Rattle.std.specs.Prelude.{◌≡◌, [], ◌∷◌, ◌++◌, OnOk, IfOk, IfSome};
-ghost use Rattle.mac_text.specs.Terms.{terms_of, terms_in};
+ghost use Rattle.mac_text.specs.Terms.{alone, terms_of, terms_in};
+ghost use Rattle.mac_text.specs.declared.syntax.Sign.TheVariants.{Plus};
+ghost use Rattle.mac_text.specs.declared.syntax.Term.TheVariants.{Number, Label, Here};
 
 use crate::place::discard;
 use crate::symbol::Symbol;
@@ -25,6 +27,8 @@ enum Terms {
     Label(Symbol),
     Here,
     Literal(usize),
+    /// Two terms.
+    Pair(Box<[SignedTerm; 2]>),
     Sum(Box<Vec<SignedTerm>>),
 }
 
@@ -67,8 +71,37 @@ impl Expression {
             Terms::Label(label) => Parts::Label(*label),
             Terms::Here => Parts::Here,
             Terms::Literal(at) => Parts::Literal(*at),
+            Terms::Pair(terms) => Parts::Sum(&terms[..]),
             Terms::Sum(terms) => Parts::Sum(terms.as_slice()),
         }
+    }
+
+    /// A number with its sign.
+    pub(crate) fn number(sign: Sign, number: u64) -> Self
+        ensures { result ≡ alone sign (Number number) }
+    {
+        Expression {
+            terms: match sign {
+                Sign::Plus => Terms::Number(number),
+                Sign::Minus => Terms::Negative(number),
+            },
+        }
+    }
+
+    /// A label.
+    pub(crate) fn label(label: Symbol) -> Self
+        ensures { result ≡ alone Plus (Label label) }
+    {
+        Expression {
+            terms: Terms::Label(label),
+        }
+    }
+
+    /// The point.
+    pub(crate) fn here() -> Self
+        ensures { result ≡ alone Plus Here }
+    {
+        Expression { terms: Terms::Here }
     }
 
     /// The expression of one term.
@@ -92,11 +125,40 @@ impl Expression {
     pub(crate) fn push(&mut self, alloc: Global, term: SignedTerm) -> Result<(), AllocError>
         ensures { OnOk result (self.new ≡ self.old ++ term ∷ []) }
     {
-        let mut terms = several(alloc, mem::replace(&mut self.terms, Terms::Here))?;
-        terms.push(term)?;
-        *self = boxed(alloc, terms)?;
+        self.terms = match mem::replace(&mut self.terms, Terms::Here) {
+            Terms::Number(n) => pair(alloc, Sign::Plus, Term::Number(Natural::from_u64(n)), term)?,
+            Terms::Negative(n) => {
+                pair(alloc, Sign::Minus, Term::Number(Natural::from_u64(n)), term)?
+            }
+            Terms::Label(label) => pair(alloc, Sign::Plus, Term::Label(label), term)?,
+            Terms::Here => pair(alloc, Sign::Plus, Term::Here, term)?,
+            Terms::Literal(at) => pair(alloc, Sign::Plus, Term::Literal(at), term)?,
+            Terms::Pair(terms) => longer(
+                alloc,
+                Vec::from_array(alloc, Box::into_inner(terms))?,
+                term,
+            )?,
+            Terms::Sum(terms) => longer(alloc, Box::into_inner(terms), term)?,
+        };
         Ok(())
     }
+}
+
+/// Two terms.
+fn pair(alloc: Global, sign: Sign, first: Term, second: SignedTerm) -> Result<Terms, AllocError>
+    ensures { IfOk result (λ terms. terms_of terms ≡ record { sign = sign; term = first } ∷ second ∷ []) }
+{
+    let first = SignedTerm { sign, term: first };
+    Ok(Terms::Pair(Box::new(alloc, [first, second])?))
+}
+
+/// These terms and one more.
+fn longer(alloc: Global, terms: Vec<SignedTerm>, last: SignedTerm) -> Result<Terms, AllocError>
+    ensures { IfOk result (λ longer. terms_of longer ≡ terms.items ++ last ∷ []) }
+{
+    let mut terms = terms;
+    terms.push(last)?;
+    Ok(Terms::Sum(Box::new(alloc, terms)?))
 }
 
 /// The expression of these terms.
@@ -120,21 +182,4 @@ fn small(term: &SignedTerm) -> Option<Terms>
         (Sign::Plus, Term::Literal(at)) => Some(Terms::Literal(*at)),
         (Sign::Minus, Term::Label(_) | Term::Here | Term::Literal(_)) => None,
     }
-}
-
-/// The terms as a list.
-fn several(alloc: Global, terms: Terms) -> Result<Vec<SignedTerm>, AllocError>
-    ensures { IfOk result (λ list. list.items ≡ terms_of terms) }
-{
-    let (sign, term) = match terms {
-        Terms::Number(n) => (Sign::Plus, Term::Number(Natural::from_u64(n))),
-        Terms::Negative(n) => (Sign::Minus, Term::Number(Natural::from_u64(n))),
-        Terms::Label(label) => (Sign::Plus, Term::Label(label)),
-        Terms::Here => (Sign::Plus, Term::Here),
-        Terms::Literal(at) => (Sign::Plus, Term::Literal(at)),
-        Terms::Sum(terms) => return Ok(Box::into_inner(terms)),
-    };
-    let mut list = Vec::new(alloc);
-    list.push(SignedTerm { sign, term })?;
-    Ok(list)
 }

@@ -1,11 +1,12 @@
 //! Names as the assembler keeps them.
 
-ghost use Rattle.std.specs.Prelude.{◌≡◌, ◌<◌, map, take};
+ghost use Rattle.std.specs.Prelude.{◌≡◌, ◌<◌, ◌↔◌, ℕ, List, true};
+ghost use Rattle.std.specs.List.{list_all};
 ghost use Rattle.std.specs.Str.{IsAscii};
-ghost use Rattle.mac_text.specs.Characters.{upper_case};
-ghost use Rattle.mac_text.specs.Names.{folded, sixbit_of, code_at, symbol_of};
+ghost use Rattle.mac_text.specs.Characters.{is_name_character, upper_case};
+ghost use Rattle.mac_text.specs.Names.{folded, code_at, symbol_of};
 
-use crate::characters::upper_case;
+use crate::characters::{sixbit, upper_case};
 use arrayvec::ArrayVec;
 use std::marker::Model;
 
@@ -30,11 +31,17 @@ impl Model for Symbol {
 
 impl Symbol {
     /// The symbol of a name.
+    #[tactic(auto, unfolding(crate::specs::Names::symbol_of))]
     pub fn of(name: &[u8]) -> Symbol
         ensures { result ≡ symbol_of name.now }
     {
         Symbol {
-            sixbit: sixbit(folded(name).as_slice()),
+            sixbit: code_at(name, 0) * (1 << 30)
+                + code_at(name, 1) * (1 << 24)
+                + code_at(name, 2) * (1 << 18)
+                + code_at(name, 3) * (1 << 12)
+                + code_at(name, 4) * (1 << 6)
+                + code_at(name, 5),
         }
     }
 
@@ -45,6 +52,13 @@ impl Symbol {
         self.sixbit
     }
 }
+
+/// Two names are one symbol exactly where their first six characters are the same, letters folded to upper case.
+#[tactic(auto, using(crate::proofs::NameLemmas::one_symbol))]
+pub fn symbols_tell_names()
+    ensures { (a b : List ℕ) → list_all is_name_character a ≡ true → list_all is_name_character b ≡ true
+        → (symbol_of a ≡ symbol_of b) ↔ (folded a ≡ folded b) }
+{}
 
 /// The characters of a name that count.
 pub fn folded(name: &[u8]) -> ArrayVec<u8, NAME_CHARACTERS>
@@ -58,25 +72,15 @@ pub fn folded(name: &[u8]) -> ArrayVec<u8, NAME_CHARACTERS>
     characters
 }
 
-/// Six characters in SIXBIT, blanks behind them where they are fewer.
-fn sixbit(characters: &[u8]) -> u64
-    ensures { result ≡ sixbit_of characters.now }
-{
-    code_at(characters, 0) * (1 << 30)
-        + code_at(characters, 1) * (1 << 24)
-        + code_at(characters, 2) * (1 << 18)
-        + code_at(characters, 3) * (1 << 12)
-        + code_at(characters, 4) * (1 << 6)
-        + code_at(characters, 5)
-}
-
-/// The code of a character in SIXBIT, a blank's where there is none.
-fn code_at(characters: &[u8], at: usize) -> u64
-    ensures code { result ≡ code_at characters.now at }
+/// The code in SIXBIT of one of the first six characters of a name, a blank's where there is none.
+#[tactic(auto, using(crate::proofs::NameLemmas::code_of_character, crate::proofs::NameLemmas::code_of_none))]
+fn code_at(name: &[u8], at: usize) -> u64
+    requires { at < 6 }
+    ensures code { result ≡ code_at (folded name.now) at }
     ensures below { result < 64 }
 {
-    if at < characters.len() {
-        u64::from(characters[at].saturating_sub(0o40) % 64)
+    if at < name.len() {
+        u64::from(sixbit(name[at]))
     } else {
         0
     }

@@ -1,5 +1,6 @@
 //! The statements of a source.
 
+use crate::labels::Labels;
 use crate::sequence::Sequence;
 use crate::sum::Expression;
 use crate::symbol::Symbol;
@@ -99,7 +100,7 @@ pub enum Statement {
 #[derive(Debug, Drop)]
 pub struct Line {
     /// The labels at its head, in order.
-    pub labels: Sequence<Symbol>,
+    pub labels: Labels,
     pub statement: Option<Statement>,
     /// What stands in its literals, in order.
     pub literals: Sequence<Data>,

@@ -1,6 +1,7 @@
-use Rattle.std.proofs.Common.{◌≡◌, ◌+◌, ◌≤◌, length}
+use Rattle.std.proofs.Common.{◌≡◌, ◌+◌, ◌≤◌, true, IsTrue, length}
+use Rattle.std.specs.List.{list_all}
 use Rattle.std.specs.Str.Lines.{lines}
-use Rattle.mac_text.specs.Lines.{lines_from, program_of}
+use Rattle.mac_text.specs.Lines.{is_ascii, lines_from, program_of}
 use Rattle.mac_text.proofs.SourceLemmas.{with_lines}
 use Rattle.mac_text.proofs.source.parse.Given as goal
 
@@ -8,6 +9,7 @@ use Rattle.mac_text.proofs.source.parse.Given as goal
 abbrev pub invariant-loop-rest : goal.invariant-loop-rest
 invariant-loop-rest l = (l.radix ≤ 10)
     × (length l.program + length l.rest ≤ length l.fn.source)
+    × (IsTrue l.is_known_ascii → list_all is_ascii l.rest ≡ true)
     × (with_lines l.program (lines_from l.radix (length l.program + 1) (lines l.rest)) ≡ program_of l.fn.source)
 
 abbrev pub decreases-loop-rest : goal.decreases-loop-rest

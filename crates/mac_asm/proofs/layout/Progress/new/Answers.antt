@@ -4,10 +4,10 @@ use Rattle.mac_asm.proofs.layout.Progress.new.Goals as goal
 
 pub returns : goal.returns
 returns c = record {
-  labels = c.new.ensures.empty;
+  labels = c.in_ok-with_capacity.ensures.empty;
   apart = apart_nil;
   place = c.from_u64.ensures;
-  places = c.new-2.ensures.items;
+  places = c.in_ok-with_capacity-2.ensures.items;
   taken = unmarked_all c.in_ok-vec.field-0.items _ refl (c.in_ok-vec.ensures.items_if_clones_equal (λ y h. h));
-  sizes = c.new-3.ensures.items;
+  sizes = c.new.ensures.items;
 }

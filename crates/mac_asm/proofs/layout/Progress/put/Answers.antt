@@ -8,12 +8,11 @@ use Rattle.mac_asm.proofs.layout.Progress.put.Goals as goal
 pub returns-in_ok-add-in-Ok : goal.returns-in_ok-add-in-Ok
 returns-in_ok-add-in-Ok c = λ s m.
     let now = c.args.self.now in
-    let before : AreMarks c.deref.result.now s.taken = subst (λ l. AreMarks l s.taken) (sym c.deref.ensures.value) m.taken in
     let same : AreMarks c.deref_mut.result.now s.taken = subst (λ l. AreMarks l s.taken) (sym c.deref_mut.ensures.value) m.taken in
-    let after : AreMarks c.mark.new.taken (s.taken ++ places_in now.place c.in-Ok.words) = c.mark.ensures s.taken same in
-    let long : length c.mark.new.taken ≡ now.taken.len = after.all ∙ sym same.all ∙ c.deref_mut.ensures.len in
+    let after : AreMarks c.take-code.new.taken (s.taken ++ places_in now.place c.in-Ok.words) = c.take-code.ensures.marks s.taken same in
+    let long : length c.take-code.new.taken ≡ now.taken.len = after.all ∙ sym same.all ∙ c.deref_mut.ensures.len in
     rw c.in-Ok.is (
-      c.taking-code.ensures s.taken before ∙ ap (λ n. taking s.taken n c.in-Ok.words) m.place,
+      c.take-code.ensures.code s.taken same ∙ ap (λ n. taking s.taken n c.in-Ok.words) m.place,
       λ h. with_size_stands now _ s c.in-Ok.words m refl c.in_ok-add-in-Ok.ensures refl
-          (subst (λ l. AreMarks l (s.taken ++ places_in now.place c.in-Ok.words)) (sym (with_items_is now.taken c.mark.new.taken long)) after) refl,
+          (subst (λ l. AreMarks l (s.taken ++ places_in now.place c.in-Ok.words)) (sym (with_items_is now.taken c.take-code.new.taken long)) after) refl,
     )
