@@ -30,7 +30,7 @@ fn operation(word: Word) -> u32
 fn accumulator_field(word: Word) -> Accumulator
     ensures { result ≡ ac_field word }
 {
-    Accumulator::new((word.number() >> 23 & 0o17) as u8)
+    Accumulator::new((word.number() >> 23 & 0o17) as usize)
 }
 
 /// Whether a word is an XCT.
