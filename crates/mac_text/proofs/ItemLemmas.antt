@@ -1,6 +1,6 @@
 -- Items one after another: the steps of a loop that reads them.
-use Rattle.std.proofs.Common.{◌≡◌, ℕ, zero, suc, ◌+◌, ◌-◌, ◌<◌, ◌≤◌, List, [], ◌∷◌, ◌++◌, Option, Some, None, refl, sym, ap, ◌∙◌, append_assoc, append-nil, arith}
-use Rattle.mac_text.specs.Scan.{Scan, ◌>>=◌, with_front, items_at, Fails}
+use Rattle.std.proofs.Common.{◌≡◌, ℕ, suc, ◌+◌, ◌-◌, ◌<◌, ◌≤◌, List, [], ◌∷◌, ◌++◌, Option, Some, None, refl, sym, ap, ◌∙◌, append_assoc, append-nil, arith}
+use Rattle.mac_text.specs.Scan.{Scan, with_front, items_at, Fails}
 use Rattle.mac_text.specs.declared.fault.Fault.{Fault}
 use Rattle.mac_text.specs.declared.fault.Fault.TheVariants as faults
 

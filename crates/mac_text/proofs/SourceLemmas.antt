@@ -1,5 +1,5 @@
 -- The steps of the loop over a source's lines.
-use Rattle.std.proofs.Common.{◌≡◌, ℕ, ◌+◌, List, [], ◌∷◌, ◌++◌, Option, Some, None, Result, Ok, Err, Bool, true, false, cond, length, refl, sym, ap, ◌∙◌, append_assoc, append-nil, length-append, arith}
+use Rattle.std.proofs.Common.{◌≡◌, ℕ, ◌+◌, List, [], ◌∷◌, ◌++◌, Some, None, Result, Ok, Err, true, false, cond, length, refl, sym, ap, ◌∙◌, append_assoc, append-nil, length-append, arith}
 use Rattle.std.specs.Str.Lines.{lines}
 use Rattle.mac_text.specs.Lines.{line_of, line_then, lines_from, program_of, with_line, is_end, radix_after}
 use Rattle.mac_text.specs.declared.syntax.Line.{Line}

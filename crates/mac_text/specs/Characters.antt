@@ -1,5 +1,5 @@
 -- The characters of a source (MACRO-10 Assembler Manual).
-use Rattle.std.specs.Prelude.{ℕ, ◌-◌, Bool, ◌==◌, ◌||◌, ◌&&◌, nat_le, nat_lt, if◌then◌else◌}
+use Rattle.std.specs.Prelude.{ℕ, ◌-◌, Bool, ◌==◌, ◌||◌, ◌&&◌, nat_le, if◌then◌else◌}
 
 -- spaces, tabs and form feeds separate
 abbrev pub is_blank : ℕ → Bool

@@ -1,6 +1,6 @@
 -- Terms and expressions (MACRO-10 Assembler Manual, this project's profile): each reads from a place in a line, and
 -- gives what was read and the place behind it.
-use Rattle.std.specs.Prelude.{ℕ, Bool, ◌==◌, ◌||◌, List, [], ◌∷◌, ◌++◌, length, Option, Some, None, option_map, unwrap_or, codes, if◌then◌else◌}
+use Rattle.std.specs.Prelude.{ℕ, ◌==◌, ◌||◌, List, [], ◌∷◌, length, Option, Some, None, option_map, unwrap_or, codes, if◌then◌else◌}
 use Rattle.std.specs.Str.{bytes_eq}
 use Rattle.mac_text.specs.Names.{is_name, symbol_of}
 use Rattle.mac_text.specs.Numbers.{number_of}

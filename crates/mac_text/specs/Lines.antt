@@ -1,12 +1,12 @@
 -- Lines and whole sources (MACRO-10 Assembler Manual, this project's profile).
-use Rattle.std.specs.Prelude.{◌≡◌, ℕ, ◌+◌, Bool, true, false, ◌==◌, ◌&&◌, not, nat_lt, nat_le, List, [], ◌∷◌, ◌++◌, length, Option, Some, None, Result, Ok, Err, if◌then◌else◌}
+use Rattle.std.specs.Prelude.{◌≡◌, ℕ, ◌+◌, Bool, true, false, ◌==◌, ◌&&◌, not, nat_lt, nat_le, List, [], ◌∷◌, length, Option, Some, None, Result, Ok, Err, if◌then◌else◌}
 use Rattle.std.specs.List.{list_all}
 use Rattle.std.specs.Str.Lines.{lines}
 use Rattle.mac_text.specs.Names.{is_name, symbol_of}
 use Rattle.mac_text.specs.Scan.{◌>>=◌, Scan, skipped, without, begins_with, word_of, is_at_end, items_at}
 use Rattle.mac_text.specs.Texts.{after_word}
 use Rattle.mac_text.specs.Statements.{statement_at}
-use Rattle.mac_text.specs.declared.syntax.TextForm.TheVariants.{Ascii, Asciz, Sixbit}
+use Rattle.mac_text.specs.declared.syntax.TextForm.TheVariants.{Ascii, Sixbit}
 use Rattle.mac_text.specs.declared.syntax.Data.{Data}
 use Rattle.mac_text.specs.declared.syntax.Data.TheVariants as data_of
 use Rattle.mac_text.specs.declared.syntax.Statement.{Statement}

@@ -1,5 +1,5 @@
 -- Names (MACRO-10 Assembler Manual): six characters count, in upper case.
-use Rattle.std.specs.Prelude.{ℕ, ◌+◌, ◌-◌, ◌*◌, ◌^◌, ◌%◌, Bool, false, List, [], ◌∷◌, map, take, slice_index, ◌==◌, ◌&&◌, not, if◌then◌else◌}
+use Rattle.std.specs.Prelude.{ℕ, ◌+◌, ◌-◌, ◌*◌, ◌^◌, ◌%◌, Bool, false, List, [], ◌∷◌, map, take, slice_index, ◌==◌, ◌&&◌, not}
 use Rattle.mac_text.specs.Characters.{upper_case, is_digit}
 
 -- the characters of a name that count

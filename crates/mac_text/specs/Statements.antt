@@ -1,6 +1,6 @@
 -- Statements (MACRO-10 Assembler Manual, this project's profile): each reads from a place in a line, and gives what was
 -- read and the place behind it.
-use Rattle.std.specs.Prelude.{ℕ, Bool, true, false, ◌==◌, ◌||◌, ◌&&◌, not, is_none, List, [], ◌∷◌, length, Option, Some, None, option_map, if◌then◌else◌}
+use Rattle.std.specs.Prelude.{ℕ, Bool, false, ◌||◌, ◌&&◌, not, is_none, List, [], ◌∷◌, length, Option, Some, None, if◌then◌else◌}
 use Rattle.mac_text.specs.Names.{is_name, folded}
 use Rattle.mac_text.specs.Numbers.{number_of}
 use Rattle.mac_text.specs.Scan.{◌>>=◌, Scan, skipped, without, meets, eaten, meets_commas, commas_eaten, word_of, comment_of, with_front, items_at}

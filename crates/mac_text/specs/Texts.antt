@@ -1,5 +1,5 @@
 -- Texts between two equal characters, and where a literal ends.
-use Rattle.std.specs.Prelude.{ℕ, ◌+◌, ◌-◌, ◌==◌, List, [], ◌∷◌, length, take, drop, position, Option, Some, None, option_map, if◌then◌else◌}
+use Rattle.std.specs.Prelude.{ℕ, ◌+◌, ◌-◌, ◌==◌, List, [], ◌∷◌, length, take, drop, position, Option, Some, None, option_map}
 use Rattle.std.specs.List.{prefix_len}
 use Rattle.mac_text.specs.Characters.{is_name_character}
 use Rattle.mac_text.specs.Names.{folded}
