@@ -231,7 +231,7 @@ impl Machine {
         }
         let call = MonitorCall {
             kind,
-            ac: Accumulator::new(ac as usize),
+            ac: Accumulator::new(ac),
             e: Address::new(e),
         };
         perform(

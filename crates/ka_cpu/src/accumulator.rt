@@ -7,7 +7,7 @@ use std::marker::Model;
 /// The number of an accumulator, 0 to 17 octal, which contracts see as that number.
 #[derive(Clone, Copy, Debug, PartialEq, Eq)]
 pub struct Accumulator {
-    number: usize,
+    number: u8,
 }
 
 impl Model for Accumulator {
@@ -25,7 +25,7 @@ impl Model for Accumulator {
 impl Accumulator {
     /// The accumulator of this number.
     #[inline(always)]
-    pub fn new(number: usize) -> Accumulator
+    pub fn new(number: u8) -> Accumulator
         requires { number < 16 }
         ensures { result ≡ number }
     {
@@ -38,7 +38,7 @@ impl Accumulator {
         ensures value { result ≡ self }
         ensures below { result < 16 }
     {
-        self.number as u8
+        self.number
     }
 
     /// Its place in `Regs::ac`.
@@ -47,7 +47,7 @@ impl Accumulator {
         ensures value { result ≡ self }
         ensures below { result < 16 }
     {
-        self.number
+        self.number as usize
     }
 
     /// The accumulator after it; after 17 octal comes 0.

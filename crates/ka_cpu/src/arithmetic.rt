@@ -31,7 +31,7 @@ pub fn do_add<M: JobMemory>(
         return ILLEGAL;
     };
     let next = regs.pc.plus(1);
-    let a = regs.ac[n.ac().index()];
+    let a = regs.ac[n.ac()];
     let term = if subtracts { word.not() } else { word };
     put_computed(mode, regs, memory, n, a.sum(term, subtracts));
     let (zero, one) = a.carries(term, subtracts);
@@ -45,7 +45,7 @@ fn put_next(regs: &mut Regs, n: Instruction, word: Word)
     ensures { regs.new ≡ record regs.old { ac = ac_put regs.old.ac (next_ac n) (to_next n word) } }
 {
     if n.op() % 4 != 2 {
-        regs.ac[n.ac().next().index()] = word;
+        regs.ac[(n.ac() + 1) % 16] = word;
     }
 }
 
@@ -60,7 +60,7 @@ pub fn do_imul<M: JobMemory>(mode: u32, regs: &mut Regs, memory: &mut M, n: Inst
     let Some(word) = operand_to_compute(mode, regs, memory, n) else {
         return ILLEGAL;
     };
-    let (_, low, overflows) = split_product(regs.ac[n.ac().index()], word);
+    let (_, low, overflows) = split_product(regs.ac[n.ac()], word);
     put_computed(mode, regs, memory, n, low);
     if overflows {
         regs.flags.overflow = true;
@@ -80,7 +80,7 @@ pub fn do_mul<M: JobMemory>(mode: u32, regs: &mut Regs, memory: &mut M, n: Instr
     let Some(word) = operand_to_compute(mode, regs, memory, n) else {
         return ILLEGAL;
     };
-    let a = regs.ac[n.ac().index()];
+    let a = regs.ac[n.ac()];
     let (high, low, _) = split_product(a, word);
     let both_least = a.number() == LEAST && word.number() == LEAST;
     put_computed(mode, regs, memory, n, high);
@@ -105,7 +105,7 @@ pub fn do_idiv<M: JobMemory>(mode: u32, regs: &mut Regs, memory: &mut M, n: Inst
     let Some(word) = operand_to_compute(mode, regs, memory, n) else {
         return ILLEGAL;
     };
-    let a = regs.ac[n.ac().index()];
+    let a = regs.ac[n.ac()];
     if has_no_quotient(a, word) {
         regs.flags.overflow = true;
         regs.flags.no_divide = true;

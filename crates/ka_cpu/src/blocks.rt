@@ -86,7 +86,7 @@ pub fn do_blt<M: JobMemory>(regs: &mut Regs, memory: &mut M, n: Instruction) -> 
     ensures after { record { regs = regs.new; core = M.words memory.new; outcome = result } ≡ blt_after regs.old (M.words memory.old) n }
     ensures place { M.place memory.new ≡ M.place memory.old }
 {
-    let a = regs.ac[n.ac().index()];
+    let a = regs.ac[n.ac()];
     let from = a.left();
     let to = a.right();
     let count = n.e().number().saturating_sub(to) + 1;

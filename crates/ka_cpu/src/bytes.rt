@@ -47,9 +47,9 @@ fn move_byte<M: JobMemory>(
     ensures place { M.place memory.new ≡ M.place memory.old }
 {
     let next = regs.pc.plus(1);
-    let a = regs.ac[n.ac().index()];
+    let a = regs.ac[n.ac()];
     if is_load {
-        regs.ac[n.ac().index()] = load_byte(pointer, word);
+        regs.ac[n.ac()] = load_byte(pointer, word);
     } else {
         store(regs, memory, e.number(), deposit_byte(pointer, a, word));
     }

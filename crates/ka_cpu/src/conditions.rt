@@ -51,7 +51,7 @@ pub fn do_compare<M: JobMemory>(
     let Some(word) = operand_to_compare(is_immediate, regs, memory, n) else {
         return ILLEGAL;
     };
-    let test = compare(digit, regs.ac[n.ac().index()], word);
+    let test = compare(digit, regs.ac[n.ac()], word);
     regs.pc = regs.pc.plus(if test { 2 } else { 1 });
     Outcome::Done
 }
@@ -102,11 +102,11 @@ pub fn do_jump<M: JobMemory>(
     ensures after { record { regs = regs.new; core = M.words memory.new; outcome = result } ≡ finished regs.old (M.words memory.old) n (Ok (jump_row change regs.old n)) }
     ensures place { M.place memory.new ≡ M.place memory.old }
 {
-    let a = regs.ac[n.ac().index()];
+    let a = regs.ac[n.ac()];
     let word = change_word(change, a);
     match change {
         Change::Keep => {}
-        _ => regs.ac[n.ac().index()] = word,
+        _ => regs.ac[n.ac()] = word,
     }
     set_change_flags(change, regs, a);
     let test = compare_zero(digit, word);
@@ -157,8 +157,8 @@ pub fn do_skip<M: JobMemory>(
     let pc = regs.pc;
     let word = change_word(change, old);
     store_changed(change, regs, memory, n.e().number(), word);
-    if n.ac().number() != 0 {
-        regs.ac[n.ac().index()] = word;
+    if n.ac() != 0 {
+        regs.ac[n.ac()] = word;
     }
     set_change_flags(change, regs, old);
     let test = compare_zero(digit, word);

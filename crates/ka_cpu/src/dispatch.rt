@@ -20,7 +20,7 @@ use crate::logic::{do_boolean, do_test};
 use crate::moves::{Transfer, do_exch, do_move};
 use crate::shifts::do_shift;
 use crate::stacks::{do_pop, do_popj, do_push, do_pushj};
-use crate::{Accumulator, CallKind, JobMemory, Outcome, Regs, StopReason};
+use crate::{CallKind, JobMemory, Outcome, Regs, StopReason};
 use ka_isa::{Change, Family, classify};
 use word36::Word;
 
@@ -38,12 +38,12 @@ macro_rules! in_mode {
 }
 
 /// Whether the operations of a family are listed, and not left out.
-fn is_listed_family(family: Family, ac: Accumulator) -> bool
+fn is_listed_family(family: Family, ac: usize) -> bool
     ensures { result ≡ is_listed family ac }
 {
     match family {
         Family::Other => false,
-        Family::Jrst => matches!(ac.number(), 0 | 2 | 4),
+        Family::Jrst => ac == 0 || ac == 2 || ac == 4,
         _ => true,
     }
 }
@@ -70,7 +70,7 @@ fn carry_out_common<M: JobMemory>(
         0o251 => do_blt(regs, memory, n),
         0o252..=0o253 => do_aobj(regs, memory, n),
         0o254 => {
-            let ac = n.ac().number();
+            let ac = n.ac();
             if ac != 0 && ac != 2 && ac != 4 {
                 return Some(Outcome::Stop(StopReason::IllegalInstruction));
             }
@@ -248,7 +248,7 @@ pub fn carry_out<M: JobMemory>(
 /// Why a word is refused whose address is not found. It is not inlined, so that the operations that
 /// are left out have a block of code of their own.
 #[inline(never)]
-pub fn refusal(op: u32, ac: Accumulator, reason: StopReason) -> StopReason
+pub fn refusal(op: u32, ac: usize, reason: StopReason) -> StopReason
     requires { op < 2 ^ 9 }
     ensures { result ≡ refusal_of (family_of op) ac reason }
 {

@@ -23,7 +23,7 @@ fn find_destination<M: JobMemory>(
     ensures legal { IfSome result (λ _. (w : ℕ) → memory_legal (M.words memory.now) (to_memory n w) ≡ true) }
 {
     if mode < 2 {
-        Some(regs.ac[n.ac().index()])
+        Some(regs.ac[n.ac()])
     } else {
         fetch(regs, memory, n.e().number())
     }

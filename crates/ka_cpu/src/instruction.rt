@@ -5,7 +5,7 @@ ghost use Rattle.ka_cpu.specs.Places.{is_legal};
 ghost use Rattle.ka_cpu.specs.Effects.{moved_operand, computed_operand, to_memory, moved_to_ac, computed_to_ac, memory_legal, ac_memory, core_memory, ac_put, carried_flags};
 
 use crate::memory::store;
-use crate::{Accumulator, JobMemory, Outcome, Regs, StopReason, fetch};
+use crate::{JobMemory, Outcome, Regs, StopReason, fetch};
 use std::marker::Model;
 use word36::{Address, Word};
 
@@ -13,7 +13,7 @@ use word36::{Address, Word};
 #[derive(Clone, Copy)]
 pub struct Instruction {
     op: u32,
-    ac: Accumulator,
+    ac: usize,
     e: Address,
 }
 
@@ -27,14 +27,15 @@ impl Model for Instruction {
 
     ghost inverse = { λ n. record { op = n.op; ac = n.ac; e = n.e } };
 
-    ghost invariant = { λ n. n.op < 2 ^ 9 };
+    ghost invariant = { λ n. (n.op < 2 ^ 9) × (n.ac < 16) };
 }
 
 impl Instruction {
     /// The instruction of this operation, AC field and address.
     #[inline(always)]
-    pub fn new(op: u32, ac: Accumulator, e: Address) -> Instruction
-        requires { op < 2 ^ 9 }
+    pub fn new(op: u32, ac: usize, e: Address) -> Instruction
+        requires op { op < 2 ^ 9 }
+        requires ac { ac < 16 }
         ensures { result ≡ record { op = op; ac = ac; e = e } }
     {
         Instruction { op, ac, e }
@@ -49,10 +50,11 @@ impl Instruction {
         self.op
     }
 
-    /// Its AC field.
+    /// Its AC field, 0 to 17 octal.
     #[inline(always)]
-    pub fn ac(self) -> Accumulator
-        ensures { result ≡ self.ac }
+    pub fn ac(self) -> usize
+        ensures value { result ≡ self.ac }
+        ensures below { result < 16 }
     {
         self.ac
     }
@@ -82,7 +84,7 @@ pub fn operand_to_move<M: JobMemory>(
 {
     match mode {
         1 => Some(Word::join(0, n.e().number())),
-        2 => Some(regs.ac[n.ac().index()]),
+        2 => Some(regs.ac[n.ac()]),
         _ => fetch(regs, memory, n.e().number()),
     }
 }
@@ -139,14 +141,14 @@ pub fn put_moved<M: JobMemory>(
     ensures place { M.place memory.new ≡ M.place memory.old }
 {
     match mode {
-        0 | 1 => regs.ac[n.ac().index()] = word,
+        0 | 1 => regs.ac[n.ac()] = word,
         2 => {
             store(regs, memory, n.e().number(), word);
         }
         _ => {
             store(regs, memory, n.e().number(), word);
-            if n.ac().number() != 0 {
-                regs.ac[n.ac().index()] = word;
+            if n.ac() != 0 {
+                regs.ac[n.ac()] = word;
             }
         }
     }
@@ -167,13 +169,13 @@ pub fn put_computed<M: JobMemory>(
     ensures place { M.place memory.new ≡ M.place memory.old }
 {
     match mode {
-        0 | 1 => regs.ac[n.ac().index()] = word,
+        0 | 1 => regs.ac[n.ac()] = word,
         2 => {
             store(regs, memory, n.e().number(), word);
         }
         _ => {
             store(regs, memory, n.e().number(), word);
-            regs.ac[n.ac().index()] = word;
+            regs.ac[n.ac()] = word;
         }
     }
 }

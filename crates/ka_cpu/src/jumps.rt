@@ -21,12 +21,12 @@ pub fn do_jffo<M: JobMemory>(regs: &mut Regs, memory: &mut M, n: Instruction) ->
     ensures after { record { regs = regs.new; core = M.words memory.new; outcome = result } ≡ finished regs.old (M.words memory.old) n (Ok (jffo_row regs.old n)) }
     ensures place { M.place memory.new ≡ M.place memory.old }
 {
-    let a = regs.ac[n.ac().index()];
+    let a = regs.ac[n.ac()];
     if a.number() == 0 {
-        regs.ac[n.ac().next().index()] = Word::new(0);
+        regs.ac[(n.ac() + 1) % 16] = Word::new(0);
         regs.pc = regs.pc.plus(1);
     } else {
-        regs.ac[n.ac().next().index()] = leading_zeros(a);
+        regs.ac[(n.ac() + 1) % 16] = leading_zeros(a);
         regs.pc = n.e();
     }
     Outcome::Done
@@ -39,8 +39,8 @@ pub fn do_aobj<M: JobMemory>(regs: &mut Regs, memory: &mut M, n: Instruction) ->
     ensures after { record { regs = regs.new; core = M.words memory.new; outcome = result } ≡ finished regs.old (M.words memory.old) n (Ok (aobj_row regs.old n)) }
     ensures place { M.place memory.new ≡ M.place memory.old }
 {
-    let word = count_up(regs.ac[n.ac().index()]);
-    regs.ac[n.ac().index()] = word;
+    let word = count_up(regs.ac[n.ac()]);
+    regs.ac[n.ac()] = word;
     let negative = word.is_negative();
     let test = if n.op() % 2 == 0 { !negative } else { negative };
     regs.pc = if test { n.e() } else { regs.pc.plus(1) };
@@ -54,7 +54,7 @@ pub fn do_jrst<M: JobMemory>(regs: &mut Regs, memory: &mut M, n: Instruction, wo
     ensures after { record { regs = regs.new; core = M.words memory.new; outcome = result } ≡ finished regs.old (M.words memory.old) n (Ok (jrst_row regs.old n (used_in (target_of regs.old.ac (M.words memory.old) word)))) }
     ensures place { M.place memory.new ≡ M.place memory.old }
 {
-    match n.ac().number() {
+    match n.ac() {
         0 => {
             regs.pc = n.e();
             Outcome::Done
@@ -81,9 +81,9 @@ pub fn do_jfcl<M: JobMemory>(regs: &mut Regs, memory: &mut M, n: Instruction) ->
     ensures place { M.place memory.new ≡ M.place memory.old }
 {
     let old = regs.flags;
-    let overflow = n.ac().number() >> 3 & 1 == 1;
-    let carry0 = n.ac().number() >> 2 & 1 == 1;
-    let carry1 = n.ac().number() >> 1 & 1 == 1;
+    let overflow = n.ac() >> 3 & 1 == 1;
+    let carry0 = n.ac() >> 2 & 1 == 1;
+    let carry1 = n.ac() >> 1 & 1 == 1;
     let test = old.overflow && overflow || old.carry0 && carry0 || old.carry1 && carry1;
     regs.flags = Flags {
         overflow: old.overflow && !overflow,
@@ -133,7 +133,7 @@ pub fn do_jsp<M: JobMemory>(regs: &mut Regs, memory: &mut M, n: Instruction) -> 
     ensures after { record { regs = regs.new; core = M.words memory.new; outcome = result } ≡ finished regs.old (M.words memory.old) n (Ok (jsp_row regs.old n)) }
     ensures place { M.place memory.new ≡ M.place memory.old }
 {
-    regs.ac[n.ac().index()] = pc_word(regs.flags, regs.pc.plus(1));
+    regs.ac[n.ac()] = pc_word(regs.flags, regs.pc.plus(1));
     regs.pc = n.e();
     Outcome::Done
 }
@@ -146,11 +146,11 @@ pub fn do_jsa<M: JobMemory>(regs: &mut Regs, memory: &mut M, n: Instruction) -> 
     ensures place { M.place memory.new ≡ M.place memory.old }
 {
     let link = Word::join(n.e().number(), regs.pc.plus(1).number());
-    let a = regs.ac[n.ac().index()];
+    let a = regs.ac[n.ac()];
     if !enter_behind(regs, memory, n, a) {
         return ILLEGAL;
     }
-    regs.ac[n.ac().index()] = link;
+    regs.ac[n.ac()] = link;
     Outcome::Done
 }
 
@@ -161,11 +161,11 @@ pub fn do_jra<M: JobMemory>(regs: &mut Regs, memory: &mut M, n: Instruction) -> 
     ensures after { record { regs = regs.new; core = M.words memory.new; outcome = result } ≡ finished regs.old (M.words memory.old) n (jra_row regs.old (M.words memory.old) n) }
     ensures place { M.place memory.new ≡ M.place memory.old }
 {
-    let a = regs.ac[n.ac().index()];
+    let a = regs.ac[n.ac()];
     let Some(word) = fetch(regs, memory, a.left()) else {
         return ILLEGAL;
     };
-    regs.ac[n.ac().index()] = word;
+    regs.ac[n.ac()] = word;
     regs.pc = n.e();
     Outcome::Done
 }
@@ -183,5 +183,5 @@ pub fn do_call<M: JobMemory>(
     ensures place { M.place memory.new ≡ M.place memory.old }
 {
     regs.pc = regs.pc.plus(1);
-    Outcome::Call(kind, n.ac().number(), n.e().number())
+    Outcome::Call(kind, n.ac() as u8, n.e().number())
 }

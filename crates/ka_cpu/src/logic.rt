@@ -42,7 +42,7 @@ pub fn do_boolean<M: JobMemory>(
     if !can_store(mode, memory, n) {
         return ILLEGAL;
     }
-    let combined = combine(n.op() / 4 % 16, regs.ac[n.ac().index()], word);
+    let combined = combine(n.op() / 4 % 16, regs.ac[n.ac()], word);
     put_computed(mode, regs, memory, n, combined);
     regs.pc = regs.pc.plus(1);
     Outcome::Done
@@ -74,9 +74,9 @@ fn modify(change: u32, regs: &mut Regs, n: Instruction, a: Word, mask: Word)
 {
     match change {
         0 => {}
-        1 => regs.ac[n.ac().index()] = a.and(mask.not()),
-        2 => regs.ac[n.ac().index()] = a.xor(mask),
-        _ => regs.ac[n.ac().index()] = a.or(mask),
+        1 => regs.ac[n.ac()] = a.and(mask.not()),
+        2 => regs.ac[n.ac()] = a.xor(mask),
+        _ => regs.ac[n.ac()] = a.or(mask),
     }
 }
 
@@ -96,7 +96,7 @@ pub fn do_test<M: JobMemory>(
     let Some(mask) = read_mask(regs, memory, n) else {
         return ILLEGAL;
     };
-    let a = regs.ac[n.ac().index()];
+    let a = regs.ac[n.ac()];
     let test = skips(n.op(), a.and(mask).number() == 0);
     modify(change, regs, n, a, mask);
     regs.pc = regs.pc.plus(if test { 2 } else { 1 });

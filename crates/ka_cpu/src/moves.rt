@@ -86,9 +86,9 @@ pub fn do_exch<M: JobMemory>(regs: &mut Regs, memory: &mut M, n: Instruction) ->
     let Some(word) = fetch(regs, memory, n.e().number()) else {
         return ILLEGAL;
     };
-    let a = regs.ac[n.ac().index()];
+    let a = regs.ac[n.ac()];
     store(regs, memory, n.e().number(), a);
-    regs.ac[n.ac().index()] = word;
+    regs.ac[n.ac()] = word;
     regs.pc = regs.pc.plus(1);
     Outcome::Done
 }

@@ -10,7 +10,7 @@ ghost use Rattle.ka_cpu.specs.Runs.{ran};
 use crate::address::find_address;
 use crate::dispatch::{carry_out, refusal};
 use crate::instruction::{ILLEGAL, Instruction};
-use crate::{Accumulator, CoreWords, JobMemory, Outcome, Regs, StopReason, fetch};
+use crate::{CoreWords, JobMemory, Outcome, Regs, StopReason, fetch};
 use word36::{Address, Word};
 
 /// The most XCTs of one instruction (this project's profile).
@@ -27,10 +27,11 @@ fn operation(word: Word) -> u32
 
 /// The AC field of a word.
 #[inline(always)]
-fn accumulator_field(word: Word) -> Accumulator
-    ensures { result ≡ ac_field word }
+fn accumulator_field(word: Word) -> usize
+    ensures value { result ≡ ac_field word }
+    ensures below { result < 16 }
 {
-    Accumulator::new((word.number() >> 23 & 0o17) as usize)
+    (word.number() >> 23 & 0o17) as usize
 }
 
 /// Whether a word is an XCT.

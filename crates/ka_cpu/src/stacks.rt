@@ -31,13 +31,13 @@ pub fn do_pushj<M: JobMemory>(regs: &mut Regs, memory: &mut M, n: Instruction) -
     ensures after { record { regs = regs.new; core = M.words memory.new; outcome = result } ≡ finished regs.old (M.words memory.old) n (Ok (pushj_row regs.old n)) }
     ensures place { M.place memory.new ≡ M.place memory.old }
 {
-    let old = regs.ac[n.ac().index()];
+    let old = regs.ac[n.ac()];
     let (pointer, runs_out) = push_down(old);
     let word = pc_word(regs.flags, regs.pc.plus(1));
     if !try_store(regs, memory, pointer.right(), word) {
         return ILLEGAL;
     }
-    regs.ac[n.ac().index()] = pointer;
+    regs.ac[n.ac()] = pointer;
     regs.pc = n.e();
     ending(runs_out)
 }
@@ -52,13 +52,13 @@ pub fn do_push<M: JobMemory>(regs: &mut Regs, memory: &mut M, n: Instruction) ->
     let Some(word) = fetch(regs, memory, n.e().number()) else {
         return ILLEGAL;
     };
-    let old = regs.ac[n.ac().index()];
+    let old = regs.ac[n.ac()];
     let (pointer, runs_out) = push_down(old);
     if !is_legal_place(memory, pointer.right()) {
         return ILLEGAL;
     }
     store(regs, memory, pointer.right(), word);
-    regs.ac[n.ac().index()] = pointer;
+    regs.ac[n.ac()] = pointer;
     regs.pc = regs.pc.plus(1);
     ending(runs_out)
 }
@@ -70,7 +70,7 @@ pub fn do_pop<M: JobMemory>(regs: &mut Regs, memory: &mut M, n: Instruction) -> 
     ensures after { record { regs = regs.new; core = M.words memory.new; outcome = result } ≡ finished regs.old (M.words memory.old) n (pop_row regs.old (M.words memory.old) n) }
     ensures place { M.place memory.new ≡ M.place memory.old }
 {
-    let old = regs.ac[n.ac().index()];
+    let old = regs.ac[n.ac()];
     let Some(word) = fetch(regs, memory, old.right()) else {
         return ILLEGAL;
     };
@@ -79,7 +79,7 @@ pub fn do_pop<M: JobMemory>(regs: &mut Regs, memory: &mut M, n: Instruction) -> 
     }
     let pointer = pop_up(old);
     store(regs, memory, n.e().number(), word);
-    regs.ac[n.ac().index()] = pointer;
+    regs.ac[n.ac()] = pointer;
     regs.pc = regs.pc.plus(1);
     ending(runs_under(old))
 }
@@ -91,12 +91,12 @@ pub fn do_popj<M: JobMemory>(regs: &mut Regs, memory: &mut M, n: Instruction) ->
     ensures after { record { regs = regs.new; core = M.words memory.new; outcome = result } ≡ finished regs.old (M.words memory.old) n (popj_row regs.old (M.words memory.old) n) }
     ensures place { M.place memory.new ≡ M.place memory.old }
 {
-    let old = regs.ac[n.ac().index()];
+    let old = regs.ac[n.ac()];
     let Some(word) = fetch(regs, memory, old.right()) else {
         return ILLEGAL;
     };
     let pointer = pop_up(old);
-    regs.ac[n.ac().index()] = pointer;
+    regs.ac[n.ac()] = pointer;
     regs.pc = Address::new(word.right());
     ending(runs_under(old))
 }

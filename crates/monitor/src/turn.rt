@@ -41,7 +41,7 @@ fn execute<C: CoreStore>(
             (rounds, None)
         }
         Outcome::Call(kind, ac, e) => {
-            let ac = Accumulator::new(ac as usize);
+            let ac = Accumulator::new(ac);
             let e = Address::new(e);
             (rounds, Some(MonitorCall { kind, ac, e }))
         }

@@ -17,7 +17,7 @@ returns-in-Some-clause-after g c =
     let core = words c.words.memory in
     let here = words c.args.memory.now in
     let p : c.operation-op.result ≡ op_of c.words.word = c.operation-op.ensures.value in
-    let q : c.accumulator_field-ac.result ≡ ac_field c.words.word = c.accumulator_field-ac.ensures in
+    let q : c.accumulator_field-ac.result ≡ ac_field c.words.word = c.accumulator_field-ac.ensures.value in
     let f : (family_of c.operation-op.result ≡ Xct → ⊥) = (λ x. let t : true ≡ false = c.in-Some.ensures.none.1 (ap (λ (n : Instruction). family_of n.op) c.new-instruction.ensures ∙ x) in cc) in
     let h : Ok c.in-Ok.e ≡ address_in (target_of c.words.regs.ac core c.words.word) = c.in-Ok.ensures in
     c.in-Some.ensures.after
