@@ -54,7 +54,7 @@ apart-join (n ∷ a) b p q r =
     (list_any-append (nat_eq n) a b ∙ or_from _ _ (not-true (list_any (nat_eq n) a) h.0) o.0))
     (apart-join a b h.1 q o.1)
 
-below-none : (q p n : ℕ) → q < p → list_any (nat_eq q) (range_with_len p n) ≡ false
+pub below-none : (q p n : ℕ) → q < p → list_any (nat_eq q) (range_with_len p n) ≡ false
 below-none q p zero h = refl
 below-none q p (suc n) h =
     let next : q < p + 1 = omega arith in
@@ -70,10 +70,10 @@ range-apart p (suc n) =
     let next : p < p + 1 = omega arith in
     and_from _ _ (not_from_false (list_any (nat_eq p) (range_with_len (p + 1) n)) (below-none p (p + 1) n next)) (range-apart (p + 1) n)
 
-lt-from : (n m : ℕ) → nat_lt n m ≡ true → n < m
+pub lt-from : (n m : ℕ) → nat_lt n m ≡ true → n < m
 lt-from n m h = grind (arith, common_steps)
 
-lt-test : (n m : ℕ) → n < m → nat_lt n m ≡ true
+pub lt-test : (n m : ℕ) → n < m → nat_lt n m ≡ true
 lt-test n m h = grind (arith, common_steps)
 
 -- places in a row are below 2 ^ 18 where the last is
@@ -112,7 +112,7 @@ code_if-none true c h = absurd (cc)
 code_if-none false c h = refl
 
 -- the places of so many words are those told, unless too high
-high-free : (p n : ℕ) → (not (n == 0) && not (nat_le (p + n) (2 ^ 18))) ≡ false → are_below (range_with_len p n) ≡ true
+pub high-free : (p n : ℕ) → (not (n == 0) && not (nat_le (p + n) (2 ^ 18))) ≡ false → are_below (range_with_len p n) ≡ true
 high-free p zero h = refl
 high-free p (suc n) h = low-range p (suc n) (low p (suc n) h (grind arith))
   where

@@ -7,7 +7,7 @@ use Rattle.mac_asm.specs.declared.error.AsmCode.{AsmCode}
 use Rattle.mac_asm.specs.declared.error.AsmCode.TheVariants.{NoEnd}
 use Rattle.mac_asm.specs.Places.{Placed}
 use Rattle.mac_asm.specs.Assembly.{Assembled, lines_placed}
-use Rattle.mac_asm.specs.Found.{map_of}
+use Rattle.asm_laws.specs.Found.{map_of}
 use Rattle.mac_asm.specs.Outcome.{Fault, Layout, empty_layout, line_code, with_line, unless_fault, laid_out, line_words, value_code, and_words, words_given, outcome_from, has_end, outcome_read, outcome_of}
 use Rattle.asm_laws.specs.Faults.{FirstLaid, FirstGiven, TellsFirst}
 use Rattle.asm_laws.proofs.Codes.{told-from}
@@ -106,7 +106,7 @@ given-from (at ∷ later) n fault h =
       told = i.told;
     }))
 
-first-laid : (lines : List Line) (fault : Fault) → laid_out empty_layout 1 lines ≡ Err fault → FirstLaid lines fault
+pub first-laid : (lines : List Line) (fault : Fault) → laid_out empty_layout 1 lines ≡ Err fault → FirstLaid lines fault
 first-laid lines fault h =
     let i = laid-from lines empty_layout 1 fault h in
     record {
@@ -120,7 +120,7 @@ first-laid lines fault h =
       told = i.told;
     }
 
-first-given : (lines : List Placed) (fault : Fault) → words_given 1 lines ≡ Err fault → FirstGiven lines fault
+pub first-given : (lines : List Placed) (fault : Fault) → words_given 1 lines ≡ Err fault → FirstGiven lines fault
 first-given lines fault h =
     let i = given-from lines 1 fault h in
     record {
@@ -134,7 +134,7 @@ first-given lines fault h =
       told = i.told;
     }
 
-if-same : (b : Bool) (r : Result Assembled Fault) (fault : Fault) → b ≡ true → (if b then r else Err fault) ≡ r
+pub if-same : (b : Bool) (r : Result Assembled Fault) (fault : Fault) → b ≡ true → (if b then r else Err fault) ≡ r
 if-same true r fault h = refl
 if-same false r fault h = absurd (cc)
 

@@ -115,7 +115,7 @@ all-low : (labels : List ℕ) (p : ℕ) → nat_lt p (2 ^ 18) ≡ true → are_b
 all-low [] p h = refl
 all-low (n ∷ labels) p h = and_from _ _ h (all-low labels p h)
 
-own-low : (labels : List ℕ) (p : ℕ) → (not (length labels == 0) && not (nat_lt p (2 ^ 18))) ≡ false
+pub own-low : (labels : List ℕ) (p : ℕ) → (not (length labels == 0) && not (nat_lt p (2 ^ 18))) ≡ false
     → are_below (values_of (map (λ name. (name, p)) labels)) ≡ true
 own-low [] p h = refl
 own-low (n ∷ labels) p h = all-low (n ∷ labels) p (low (length labels) p h)

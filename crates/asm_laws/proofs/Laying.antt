@@ -14,7 +14,7 @@ use Rattle.mac_asm.specs.declared.error.AsmCode.{AsmCode}
 use Rattle.mac_asm.specs.declared.error.AsmCode.TheVariants.{DefinedTwice, DoesNotFit, PlaceTooHigh}
 use Rattle.mac_asm.specs.Places.{Labels, names_at, size_of, place_behind, Located, located, place_after, literal_sizes, placed, is_count_settled, is_settled, are_settled}
 use Rattle.mac_asm.specs.Assembly.{statement_words, all_statement_words, allows, are_allowed, have_words, are_apart, are_below}
-use Rattle.mac_asm.specs.Found.{labels_met}
+use Rattle.asm_laws.specs.Found.{labels_met}
 use Rattle.mac_asm.specs.Outcome.{Fault, count_or, literal_size, with_labels, with_statement, taken_by, place_by, statement_code, line_code, with_line, unless_fault, laid_out}
 use Rattle.asm_laws.specs.Laws.{places_of, ranges_from}
 use Rattle.asm_laws.proofs.Options.{bind_some}
@@ -114,7 +114,7 @@ step line lines q xs p t zs lits c =
     }
 
 -- END takes no place
-end-places : (xs : Labels) (p : ℕ) (s : Option Statement) → is_end_statement s ≡ true
+pub end-places : (xs : Labels) (p : ℕ) (s : Option Statement) → is_end_statement s ≡ true
     → (range_of xs p s ≡ []) × (place_behind xs p s ≡ p)
 unfolding place_behind
 end-places xs p None h = absurd (cc)
@@ -171,7 +171,7 @@ unless-cases q n (Some code) r fault h k f =
     ap (λ x. q x.code) (sym same) ∙ k
 
 -- the layout behind a line without a fault
-behind-line : (xs : Labels) (p : ℕ) (ps t : List ℕ) (sz : List (Result ℕ AsmCode)) (line : Line)
+pub behind-line : (xs : Labels) (p : ℕ) (ps t : List ℕ) (sz : List (Result ℕ AsmCode)) (line : Line)
     → StatementFits (xs ++ own p line) p t line.statement
     → with_line (state xs p ps t sz) line
     ≡ state (xs ++ own p line) (next_place xs p line) (ps ++ (p ∷ [])) (t ++ range_of (xs ++ own p line) p line.statement)

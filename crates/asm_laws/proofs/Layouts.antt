@@ -14,7 +14,7 @@ use Rattle.mac_text.specs.declared.syntax.Line.{Line}
 use Rattle.mac_asm.specs.declared.error.AsmCode.{AsmCode}
 use Rattle.mac_asm.specs.Places.{Labels, size_of, place_behind, Located, located, place_after, literal_sizes, is_count_settled, is_settled, are_settled}
 use Rattle.mac_asm.specs.Assembly.{are_apart, are_below}
-use Rattle.mac_asm.specs.Found.{labels_met}
+use Rattle.asm_laws.specs.Found.{labels_met}
 use Rattle.mac_asm.specs.Outcome.{Fault, literal_size, Layout, labels_code, taking_all, with_labels, with_statement, statement_code, line_code, with_line, unless_fault, laid_out, has_end}
 use Rattle.asm_laws.specs.Laws.{statement_size, places_of}
 use Rattle.asm_laws.proofs.Unique.{own, keys-grow, labels_in}

@@ -23,3 +23,11 @@ pub mod Laying
 pub mod Codes
 pub mod First
 pub mod Printed
+pub mod Least
+pub mod Sizing
+pub mod Taking
+pub mod LineCodes
+pub mod Wrong
+pub mod Known
+pub mod Firsts
+pub mod MetLines

@@ -9,7 +9,7 @@ use Rattle.mac_asm.specs.declared.error.AsmCode.{AsmCode}
 use Rattle.mac_asm.specs.declared.error.AsmCode.TheVariants.{DefinedTwice, DoesNotFit, NoEnd, NotYetDefined, PlaceTooHigh, Syntax, UnknownName}
 use Rattle.mac_asm.specs.Places.{Labels, are_settled, literal_sizes, Placed}
 use Rattle.mac_asm.specs.Assembly.{Assembled, IsAssembly, lines_at, lines_placed, words_at, have_words, are_allowed, are_apart, are_below, start_at}
-use Rattle.mac_asm.specs.Found.{map_of}
+use Rattle.asm_laws.specs.Found.{map_of}
 use Rattle.mac_asm.specs.Outcome.{Fault, Layout, empty_layout, has_end, is_line_known, laid_out, line_code, outcome_of, value_code, words_given}
 use Rattle.asm_laws.specs.Laws.{places_taken}
 

@@ -4,9 +4,10 @@ ghost use Rattle.mac_text.specs.Lines.{program_of};
 ghost use Rattle.mac_text.specs.declared.syntax.Line.{Line as LineView};
 ghost use Rattle.mac_asm.specs.Assembly.{Assembled, IsAssembly};
 ghost use Rattle.asm_laws.specs.Example.{example_image, example_source};
-ghost use Rattle.mac_asm.specs.Found.{image_of};
+ghost use Rattle.asm_laws.specs.Found.{image_of};
 ghost use Rattle.mac_asm.specs.Outcome.{Fault, has_end, outcome_of};
 ghost use Rattle.mac_asm.specs.Symbols.{symbols_of};
+ghost use Rattle.asm_laws.specs.Codes.{IsMet, IsTold};
 ghost use Rattle.asm_laws.specs.Faults.{TellsCode, TellsFault, TellsFirst, TellsReading};
 ghost use Rattle.asm_laws.specs.Laws.{EarlierLabelsSettle, IsByPlace, IsReadBack, StatementsFillTheirPlaces, TakesItsPlaces};
 
@@ -46,6 +47,19 @@ pub fn reading_is_told()
 /// Of lines that END ends, the first at fault is told.
 pub fn first_faults_are_told()
     ensures { (source : List ℕ) (read : List LineView) (fault : Fault) → program_of source ≡ Ok read → has_end read ≡ true → outcome_of source ≡ Err fault → TellsFirst read fault }
+{}
+
+/// Of lines that END ends, a fault is told exactly where it names the first line with which something is wrong, by what
+/// stands up to it, and the least code of what is; and, where all lines can be laid out, the first whose values are not all
+/// known or do not fit. What stands below that line changes nothing.
+pub fn least_codes_are_told()
+    ensures { (source : List ℕ) (read : List LineView) (fault : Fault) → program_of source ≡ Ok read → has_end read ≡ true → (outcome_of source ≡ Err fault) ↔ IsTold read fault }
+{}
+
+/// Lines whose LOC and BLOCK speak of earlier labels alone are met from above as they stand under the map of their
+/// labels; and a label is in the map exactly where a line bears it.
+pub fn lines_are_met()
+    ensures { (lines : List LineView) → IsMet lines }
 {}
 
 /// The code of a fault in lines that were read names what is not so of them.

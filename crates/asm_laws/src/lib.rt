@@ -6,6 +6,6 @@ mod laws;
 pub use laws::{
     assemblies_are_found, codes_are_told, earlier_labels_settle, example_is_assembled,
     faults_tell_lines, first_faults_are_told, images_are_by_place, images_are_told,
-    images_are_unique, printed_words_are_read, reading_is_told, statements_fill_their_places,
-    words_take_their_places,
+    images_are_unique, least_codes_are_told, lines_are_met, printed_words_are_read,
+    reading_is_told, statements_fill_their_places, symbols_are_labels, words_take_their_places,
 };

@@ -1,8 +1,7 @@
 //! Which sources are in the grammar, and what their statements are.
 
-use mac_text::{
-    Data, Expression, ParseError, Parts, SignedTerm, Statement, Symbol, Term, parse, printed_word,
-};
+use ka_isa::text_of;
+use mac_text::{Data, Expression, ParseError, Parts, SignedTerm, Statement, Symbol, Term, parse};
 use std::alloc::Global;
 use std::test::Fail;
 use word36::Word;
@@ -211,10 +210,15 @@ fn large_numbers(rt: HostRuntime) -> Result<(), Fail> {
 
 #[test]
 fn printed_words(rt: HostRuntime) -> Result<(), Fail> {
-    let program = printed_word(rt.alloc(), Word::new(0o201_060_000_005))
+    let text = text_of(Word::new(0o201_060_000_005));
+    let mut source = vec![in rt.alloc(); b' ']?;
+    source.extend_from_slice(text.as_str().as_bytes())?;
+    source.push(b'\n')?;
+    let program = parse(rt.alloc(), source.as_slice())
         .ok()
         .ok_or("it is right")?;
-    match &program.as_slice()[0].statement {
+    let line = program.as_slice().first().ok_or("a line")?;
+    match &line.statement {
         Some(Statement::Data(Data::Instruction(given))) => {
             assert_eq!(rt; given.word.number(), 0o201_000_000_000);
             assert!(rt; given.accumulator.is_some());

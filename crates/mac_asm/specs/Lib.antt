@@ -3,8 +3,8 @@ pub mod Packing
 pub mod Words
 pub mod Places
 pub mod Assembly
-pub mod Found
 pub mod Outcome
+pub mod Errors
 pub mod Layouts
 pub mod Filled
 pub mod Symbols

@@ -2,7 +2,6 @@
 
 ghost use Rattle.std.specs.Prelude.{◌≡◌, ◌^◌, IfOk, option_map, replicate, zip, length, if◌then◌else◌};
 ghost use Rattle.std.specs.List.{list_all};
-ghost use Rattle.mac_text.specs.Lines.{is_end};
 ghost use Rattle.mac_asm.specs.Words.{are_known, alone, word_of, words_of_all, text_words_from};
 ghost use Rattle.mac_asm.specs.Packing.{words_in};
 ghost use Rattle.mac_asm.specs.declared.error.AsmCode.TheVariants.{UnknownName, DoesNotFit};
@@ -21,7 +20,7 @@ use crate::sums::{Labels, Scope, value};
 use crate::words::{
     are_known, halves, instruction, iowd, is_known_if, pointer, push_all, push_text, start, word,
 };
-use mac_text::{Data, Expression, Line, ParseError, Statement, TextForm, parse};
+use mac_text::{Data, Expression, Line, ParseError, Statement, TextForm, is_end, parse};
 use std::alloc::{AllocError, Global};
 use whole_numbers::Natural;
 use word36::{Image, Word};
@@ -324,13 +323,6 @@ fn fill<'a>(
         words: words_in_cells(alloc, core.cells.as_slice())?,
         start,
     })
-}
-
-/// Whether a line is END.
-fn is_end(line: &Line) -> bool
-    ensures { result ≡ is_end line.now }
-{
-    matches!(&line.statement, Some(Statement::End(_)))
 }
 
 /// Whether the last line is END.

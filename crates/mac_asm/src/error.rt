@@ -1,10 +1,12 @@
 //! Why a source has no image.
-ghost use Rattle.std.specs.Prelude.{◌≡◌};
+ghost use Rattle.std.specs.Prelude.{◌≡◌, Some};
+ghost use Rattle.mac_asm.specs.Errors.{error_text};
 ghost use Rattle.mac_asm.specs.Outcome.{number_of, least};
 ghost use Rattle.mac_asm.specs.declared.error.AsmError.TheVariants.{Memory};
 
 use std::alloc::{AllocError, AllocFailed};
-use thiserror::Error;
+use std::error::Error;
+use std::fmt;
 
 /// What is wrong with a line (this project's profile).
 #[derive(Clone, Copy, Debug, PartialEq, Eq)]
@@ -43,13 +45,29 @@ impl AsmCode {
 }
 
 /// Why a source has no image.
-#[derive(Debug, Drop, Error)]
+#[derive(Debug, Drop)]
 pub enum AsmError {
-    #[error("line {line}: code {}", .code.number())]
+    /// What is wrong with a line, counted from 1.
     Line { line: usize, code: AsmCode },
-    #[error("there is no memory")]
+    /// There was no memory.
     Memory,
 }
+
+impl fmt::Display for AsmError {
+    ghost output = { λ e. Some (error_text e) };
+
+    fn fmt<W: fmt::Write>(&self, f: &mut fmt::Formatter<W>) -> fmt::Result {
+        match self {
+            AsmError::Line { line, code } => {
+                let number = code.number();
+                write!(f, "line {line}: code {number}")
+            }
+            AsmError::Memory => f.write_str("there is no memory"),
+        }
+    }
+}
+
+impl Error for AsmError {}
 
 impl From<AllocError> for AsmError {
     ghost from_gives = { λ _ e. e ≡ Memory };

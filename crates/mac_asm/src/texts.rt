@@ -1,11 +1,10 @@
 //! Texts packed into words.
 
-ghost use Rattle.std.specs.Prelude.{◌≡◌, ◌+◌, ◌-◌, ◌<◌, ◌≤◌, ◌%◌, ◌^◌, IfSome, slice_index};
-ghost use Rattle.mac_text.specs.Characters.{upper_case};
-ghost use Rattle.mac_asm.specs.Packing.{words_in, ascii_word, sixbit_code, sixbit_at, sixbit_word};
+ghost use Rattle.std.specs.Prelude.{◌≡◌, ◌<◌, ◌%◌, ◌^◌, slice_index};
+ghost use Rattle.mac_asm.specs.Packing.{words_in, ascii_word, sixbit_word};
 
-use mac_text::TextForm;
-use word36::Word;
+use mac_text::{TextForm, folded};
+use word36::{Word, sixbit};
 
 /// How many words a text of so many characters takes.
 pub fn text_words(form: TextForm, len: usize) -> usize
@@ -46,52 +45,11 @@ pub fn ascii_word(text: &[u8], from: usize) -> Word
     )
 }
 
-/// The letter in upper case; another character is itself.
-fn upper_case(c: u8) -> u8
-    ensures { result ≡ upper_case c }
-{
-    if c >= b'a' && c <= b'z' { c - 32 } else { c }
-}
-
-/// The code of a character in SIXBIT, letters folded to upper case.
-fn sixbit_code(c: u8) -> Option<u64>
-    ensures code { result ≡ sixbit_code c }
-    ensures below { IfSome result (λ code. code < 64) }
-{
-    let c = upper_case(c);
-    if c >= 0o40 && c <= 0o137 {
-        Some(u64::from(c - 0o40))
-    } else {
-        None
-    }
-}
-
-/// The code of character `at` of a text, a space's behind the last.
-#[tactic(auto, unfolding(crate::specs::Packing::sixbit_at))]
-fn sixbit_at(text: &[u8], at: usize) -> Option<u64>
-    ensures code { result ≡ sixbit_at text.now at }
-    ensures below { IfSome result (λ code. code < 64) }
-{
-    if at < text.len() {
-        sixbit_code(text[at])
-    } else {
-        Some(0)
-    }
-}
-
-/// Six characters of six bits, where each has a code.
+/// Six characters of six bits, where each has a code; letters are folded to upper case, and spaces stand behind the last.
 #[tactic(auto, unfolding(crate::specs::Packing::sixbit_word))]
 pub fn sixbit_word(text: &[u8], from: usize) -> Option<Word>
-    requires { from < 2 ^ 63 }
     ensures { result ≡ sixbit_word text.now from }
 {
-    let a = sixbit_at(text, from)?;
-    let b = sixbit_at(text, from + 1)?;
-    let c = sixbit_at(text, from + 2)?;
-    let d = sixbit_at(text, from + 3)?;
-    let e = sixbit_at(text, from + 4)?;
-    let f = sixbit_at(text, from + 5)?;
-    Some(Word::new(
-        a * (1 << 30) + b * (1 << 24) + c * (1 << 18) + d * (1 << 12) + e * (1 << 6) + f,
-    ))
+    let rest = &text[from.min(text.len())..];
+    sixbit(folded(rest).as_slice())
 }

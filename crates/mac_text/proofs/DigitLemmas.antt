@@ -15,16 +15,16 @@ use Rattle.mac_text.specs.Expressions.{term_of_word}
 use Rattle.mac_text.proofs.WordLemmas.{word_length}
 use Rattle.mac_text.specs.declared.syntax.Term.TheVariants.{Number}
 
-digit_is_digit : (radix c : ℕ) → radix ≤ 10 → is_digit_of radix c ≡ true → is_digit c ≡ true
+pub digit_is_digit : (radix c : ℕ) → radix ≤ 10 → is_digit_of radix c ≡ true → is_digit c ≡ true
 digit_is_digit radix c r h = grind (arith, nat_tests)
 
-digit_names : (c : ℕ) → is_digit c ≡ true → is_name_character c ≡ true
+pub digit_names : (c : ℕ) → is_digit c ≡ true → is_name_character c ≡ true
 digit_names c h = grind (arith, nat_tests)
 
 digit_is_no_point : (c : ℕ) (cs : List ℕ) → is_digit c ≡ true → bytes_eq (c ∷ cs) (codes ".") ≡ false
 digit_is_no_point c cs h = let other : (c == 46) ≡ false = grind (arith, nat_tests) in rw other refl
 
-no_name : (c : ℕ) (cs : List ℕ) → is_digit c ≡ true → is_name (c ∷ cs) ≡ false
+pub no_name : (c : ℕ) (cs : List ℕ) → is_digit c ≡ true → is_name (c ∷ cs) ≡ false
 no_name c [] h = rw h refl
 no_name c (d ∷ cs) h = rw h refl
 
@@ -38,7 +38,7 @@ word_ends radix (suc i) (c ∷ cs) r w h e =
     let more = word_ends radix i cs r (omega arith) p.1 (λ lt. e (omega arith)) in
     rw (digit_names c (digit_is_digit radix c r p.0), more) (omega arith)
 
-digits_term : (radix : ℕ) (digits : List ℕ) → radix ≤ 10 → 0 < length digits → list_all (is_digit_of radix) digits ≡ true → term_of_word radix digits ≡ Some (Number (digits_value radix digits))
+pub digits_term : (radix : ℕ) (digits : List ℕ) → radix ≤ 10 → 0 < length digits → list_all (is_digit_of radix) digits ≡ true → term_of_word radix digits ≡ Some (Number (digits_value radix digits))
 unfolding number_of
 digits_term radix [] r w h = absurd (omega arith)
 digits_term radix (c ∷ cs) r w h =

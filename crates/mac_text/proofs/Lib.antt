@@ -10,3 +10,9 @@ pub mod SourceLemmas
 pub mod OperationLemmas
 pub mod NumberTexts
 pub mod PrintedLemmas
+pub mod WrittenTerms
+pub mod WrittenParts
+pub mod WrittenStatements
+pub mod WrittenLines
+pub mod WrittenLiterals
+pub mod WrittenExampleLemmas

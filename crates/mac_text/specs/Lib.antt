@@ -9,3 +9,5 @@ pub mod Expressions
 pub mod Statements
 pub mod Lines
 pub mod Printed
+pub mod Written
+pub mod WrittenExample

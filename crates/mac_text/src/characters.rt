@@ -1,6 +1,6 @@
 //! The characters that a line is made of.
 
-ghost use Rattle.std.specs.Prelude.{◌≡◌, ◌<◌, ◌≤◌, ◌-◌, ◌%◌, length};
+ghost use Rattle.std.specs.Prelude.{◌≡◌, ◌<◌, ◌≤◌, ◌==◌, ◌-◌, ◌%◌, length, not};
 ghost use Rattle.std.specs.List.{prefix_len, list_all};
 ghost use Rattle.mac_text.specs.Characters.{is_blank, is_digit, is_name_character, upper_case};
 ghost use Rattle.mac_text.specs.Scan.{is_title_character};
@@ -70,6 +70,16 @@ pub fn blanks_len(text: &[u8]) -> usize
         }
     }
     text.len()
+}
+
+/// Whether a text begins with a blank.
+pub fn begins_with_blank(text: &[u8]) -> bool
+    ensures { result ≡ not (prefix_len is_blank text.now == 0) }
+{
+    match text {
+        [] => false,
+        [first, ..] => is_blank(*first),
+    }
 }
 
 /// How many characters of names and numbers a text begins with.

@@ -6,11 +6,11 @@ mod expressions;
 mod fault;
 mod keyword;
 mod labels;
+mod laws;
 mod line;
 mod numbers;
 mod operations;
 mod place;
-mod printed;
 mod scanner;
 mod sequence;
 mod source;
@@ -23,12 +23,12 @@ mod texts;
 pub use characters::upper_case;
 pub use fault::ParseError;
 pub use labels::Labels;
+pub use laws::{an_example_is_written, written_lines_are_read};
 pub use line::is_end;
-pub use printed::printed_word;
 pub use sequence::Sequence;
 pub use source::parse;
 pub use sum::{Expression, Parts};
-pub use symbol::{Symbol, symbols_tell_names};
+pub use symbol::{Symbol, folded, symbols_tell_names};
 pub use syntax::{
     Data, Instruction, Line, Operand, Program, Sign, SignedTerm, Statement, Term, TextForm,
 };

@@ -143,6 +143,7 @@ fn literal(alloc: Global, radix: u8, text: &[u8]) -> Result<Data, Fault>
 }
 
 /// The statements in the literals of a line.
+#[inline(never)]
 fn literals(alloc: Global, radix: u8, texts: &[&[u8]]) -> Result<Sequence<Data>, Fault>
     requires { radix ≤ 10 }
     ensures { Gives (λ x. x) result (literals_of radix (map (λ text. text.now) texts.now)) }
@@ -152,6 +153,25 @@ fn literals(alloc: Global, radix: u8, texts: &[&[u8]]) -> Result<Sequence<Data>,
         literals.push(literal(alloc, radix, text)?)?;
     }
     Ok(literals)
+}
+
+/// Reads the statements in the literals of a line, and puts them in place. Most lines have none.
+#[inline(always)]
+#[tactic(auto, unfolding(crate::specs::Lines::literals_of))]
+fn fill_literals(
+    alloc: Global,
+    radix: u8,
+    texts: &[&[u8]],
+    place: &mut Sequence<Data>,
+) -> Result<(), Fault>
+    requires { radix ≤ 10 }
+    ensures { Gives (λ _. place.new) result (literals_of radix (map (λ text. text.now) texts.now)) }
+{
+    if texts.is_empty() && place.is_empty() {
+        return Ok(());
+    }
+    *place = literals(alloc, radix, texts)?;
+    Ok(())
 }
 
 /// Reads what stands on a line, and puts it in place. The line may be known to be ASCII.
@@ -175,8 +195,7 @@ pub fn read_line(
     let (labels, word) = labels(&mut scan)?;
     place.labels = labels;
     whole_statement(&mut scan, word, &mut place.statement)?;
-    place.literals = literals(alloc, radix, scan.cuts())?;
-    Ok(())
+    fill_literals(alloc, radix, scan.cuts(), &mut place.literals)
 }
 
 /// The radix of the numbers on the lines behind this one.

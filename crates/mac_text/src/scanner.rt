@@ -7,7 +7,7 @@ ghost use Rattle.std.specs.Str.{IsAscii};
 ghost use Rattle.mac_text.specs.Characters.{is_name_character};
 ghost use Rattle.mac_text.specs.Texts.{take_text};
 
-use crate::characters::{blanks_len, is_name_character, title_len, word_len};
+use crate::characters::{begins_with_blank, blanks_len, is_name_character, title_len, word_len};
 use crate::fault::Fault;
 use crate::texts::text_of;
 use std::alloc::Global;
@@ -79,7 +79,9 @@ impl<'a> Scanner<'a> {
         ensures { self.new ≡ skipped self.old }
     {
         let rest = self.rest;
-        self.rest = &rest[blanks_len(rest)..];
+        if begins_with_blank(rest) {
+            self.rest = &rest[blanks_len(rest)..];
+        }
     }
 
     /// The next byte.

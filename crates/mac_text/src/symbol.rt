@@ -60,7 +60,7 @@ pub fn symbols_tell_names()
         → (symbol_of a ≡ symbol_of b) ↔ (folded a ≡ folded b) }
 {}
 
-/// The characters of a name that count.
+/// The first six characters of a text, in upper case: those of a name that count.
 pub fn folded(name: &[u8]) -> ArrayVec<u8, NAME_CHARACTERS>
     ensures characters { result.items ≡ folded name.now }
     ensures ascii { IsAscii name.now → IsAscii result.items }
