@@ -1,5 +1,6 @@
 -- What holds of the names and the blocks that are read, in other words than those that define them.
 use Rattle.std.specs.Prelude.{◌≡◌, ℕ, ◌+◌, ◌*◌, ◌%◌, ◌^◌, ◌<◌, ◌≤◌, Some, Result, Ok, Err, IsOk, List, length, slice_get, slice_index, All, MatchResult}
+use Rattle.word36.specs.declared.sizes.TheConstants.{NAME_LENGTH}
 use Rattle.word36.specs.Words.{joined}
 use Rattle.ka_cpu.specs.Places.{word_at}
 use Rattle.lock_queue.specs.declared.name.Name.TheVariants.{Text}
@@ -25,11 +26,11 @@ abbrev pub IsAscizAt : List ℕ → List ℕ → ℕ → List ℕ → Type 0
 IsAscizAt ac core place text =
     (j : ℕ) → 5 * j ≤ length text → word_at ac core ((place + j) % 2 ^ 18) ≡ Some (asciz_word text j)
 
--- a text of 1 to 30 characters that stands as ASCIZ at a place is the name that the pointer to it,
+-- a text of 1 to NAME_LENGTH characters that stands as ASCIZ at a place is the name that the pointer to it,
 -- `440700,,place`, stands for
 abbrev pub AscizNamesAreRead : Type 0
 AscizNamesAreRead =
-    (ac core : List ℕ) (place : ℕ) (text : List ℕ) → place < 2 ^ 18 → 1 ≤ length text → length text ≤ 30
+    (ac core : List ℕ) (place : ℕ) (text : List ℕ) → place < 2 ^ 18 → 1 ≤ length text → length text ≤ NAME_LENGTH
     → All (λ c. (1 ≤ c) × (c < 2 ^ 7)) text → IsAscizAt ac core place text
     → name_at ac core (joined 0o440700 place) ≡ Ok (Text text)
 

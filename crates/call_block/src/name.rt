@@ -102,7 +102,7 @@ fn read_text<M: JobMemory>(regs: &Regs, memory: &M, pointer: Word) -> Result<Nam
     let Some(text) = read_characters(regs, memory, pointer) else {
         return Err(Refusal::BadPointer);
     };
-    NameText::new(text.as_str()).ok_or(Refusal::BadName)
+    NameText::held(text).ok_or(Refusal::BadName)
 }
 
 /// The name that a word of a block stands for.

@@ -31,7 +31,7 @@ const CODE: u64 = 0o500000_000001;
 /// A lock by the user code 1, of all jobs and exclusive.
 pub const EXCLUSIVE: Lock = [ALL, CODE, 0];
 
-/// The same shared.
+/// A lock by the user code 1, of all jobs and shared.
 const SHARED: Lock = [0o400000_777777, CODE, 0];
 
 /// The code 1 at level 3.

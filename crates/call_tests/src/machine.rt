@@ -9,7 +9,7 @@ use ka_cpu::{Accumulator, CallKind, Flags, Regs, StopReason};
 use lock_queue::{LockTable, PlainTable};
 use std::alloc::{AllocError, Global};
 use tty_lines::{LineNumber, Lines};
-use uuo_calls::{CallOutcome, MonitorCall, perform, remove_job};
+use uuo_calls::{CallOutcome, CallRoom, MonitorCall, perform, remove_job};
 use word36::{Address, DATA_WORDS, JOBS, LINES, Word};
 
 /// The PC of a job that makes a call at 140 octal, and after a call that does not skip.
@@ -29,6 +29,7 @@ pub struct Machine {
     pub locks: PlainTable,
     pub cores: PlainCore,
     pub shared: [Word; DATA_WORDS],
+    pub room: CallRoom,
     pub time: TimeOfDay,
 }
 
@@ -44,6 +45,7 @@ impl Machine {
             locks: PlainTable::new(alloc)?,
             cores: PlainCore::new(alloc, blocks)?,
             shared: [Word::new(0); DATA_WORDS],
+            room: CallRoom::new(),
             time: TimeOfDay::new(0),
         })
     }
@@ -242,6 +244,7 @@ impl Machine {
             &mut self.locks,
             &mut self.cores,
             &mut self.shared,
+            &mut self.room,
             self.time,
         )
     }

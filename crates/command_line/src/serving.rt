@@ -48,8 +48,8 @@ pub fn program<S: AsStr, R: ByteIn, W: ByteOut, E: ByteOut>(
     }
 }
 
-/// The same over ports that keep what passes them: where a line was refused, a line on standard error
-/// says what is wrong with it. It goes to `telling`, which may be another port on the same stream.
+/// The program over ports that keep what passes them: where a line was refused, a line on standard
+/// error says what is wrong with it. It goes to `telling`, which may be another port on the same stream.
 pub fn program_told<S: AsStr, R: ByteIn + Drop, W: ByteOut + Drop, E: ByteOut, T: ByteOut>(
     alloc: Global,
     words: &[S],

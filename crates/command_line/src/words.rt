@@ -85,7 +85,7 @@ fn make_top<'a>(alloc: Global) -> Command<'a>
     with_version(top)
 }
 
-/// The same command with the version.
+/// A command with the version added.
 fn with_version<'a>(command: Command<'a>) -> Command<'a>
     ensures shape { app_of result ≡ versioned (app_of command.entry) }
     ensures local { (fields_of result).has_globals ≡ (fields_of command.entry).has_globals }
@@ -101,7 +101,7 @@ fn described<'a>(alloc: Global, name: &'a str, about: &'a str, end: &'a str) -> 
     with_texts(Command::new(alloc, name), about, end)
 }
 
-/// The same command with these texts.
+/// A command with these texts added.
 fn with_texts<'a>(command: Command<'a>, about: &'a str, end: &'a str) -> Command<'a>
     ensures shape { app_of result ≡ app_of command.entry }
     ensures globals { (fields_of result).has_globals ≡ (fields_of command.entry).has_globals }

@@ -11,4 +11,4 @@ pub use job::{Interrupts, Job, NO_FLAGS, NO_INTERRUPTS, Stop, Wait};
 pub use job_error::JobError;
 pub use laws::{alone_means_no_other_is_ready, idle_means_none_is_ready, next_is_ready};
 pub use table::{JobTable, PLACES};
-pub use time_of_day::{TICKS_A_DAY, TimeOfDay};
+pub use time_of_day::{TICKS_A_DAY, TICKS_A_SECOND, TimeOfDay};

@@ -66,9 +66,9 @@ fn first_behind(number: u8, vacant_from: u8) -> u8
     }
 }
 
-/// Whether the wait of a job holds.
-#[inline(never)]
-fn does_hold<L: LockTable>(number: u8, job: &Job, lines: &Lines, locks: &L) -> bool
+/// Whether the wait of a job holds, told in place.
+#[inline(always)]
+fn holds_here<L: LockTable>(number: u8, job: &Job, lines: &Lines, locks: &L) -> bool
     ensures { result ≡ holds lines.now (L.requests locks.now) number job.now.line job.now.wait }
 {
     match job.wait {
@@ -79,6 +79,14 @@ fn does_hold<L: LockTable>(number: u8, job: &Job, lines: &Lines, locks: &L) -> b
         Wait::Room(places) => lines.room(job.line) < places as usize,
         Wait::Queue => locks.waiting(number),
     }
+}
+
+/// Whether the wait of a job holds, out of line, where a job rarely waits.
+#[inline(never)]
+fn does_hold<L: LockTable>(number: u8, job: &Job, lines: &Lines, locks: &L) -> bool
+    ensures { result ≡ holds lines.now (L.requests locks.now) number job.now.line job.now.wait }
+{
+    holds_here(number, job, lines, locks)
 }
 
 /// Whether a job is at a place, is not stopped, and waits for nothing any more. Most jobs wait for
@@ -235,6 +243,19 @@ impl JobTable {
         }
     }
 
+    /// The same of a number that has a place. It is asked of one job after another, of which most wait:
+    /// so their waits are told in place.
+    #[inline(always)]
+    fn is_ready_at<L: LockTable>(&self, number: u8, lines: &Lines, locks: &L) -> bool
+        requires { number ≤ JOBS }
+        ensures { result ≡ is_ready self.now.jobs lines.now (L.requests locks.now) number }
+    {
+        let Some(job) = &self.jobs[number as usize] else {
+            return false;
+        };
+        job.stop.is_none() && !holds_here(number, job, lines, locks)
+    }
+
     /// The first ready number from one on and below another.
     #[inline(always)]
     fn first_between<L: LockTable>(&self, from: u8, to: u8, lines: &Lines, locks: &L) -> Option<u8>
@@ -242,7 +263,7 @@ impl JobTable {
         ensures { result ≡ first_from (is_ready self.now.jobs lines.now (L.requests locks.now)) (to - from) from }
     {
         for number in from..to {
-            if self.ready(number, lines, locks) {
+            if self.is_ready_at(number, lines, locks) {
                 return Some(number);
             }
         }

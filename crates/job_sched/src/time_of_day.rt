@@ -6,8 +6,11 @@ ghost use Rattle.job_sched.specs.declared.time_of_day.TheConstants.{TICKS_A_DAY}
 
 use std::marker::Model;
 
-/// The ticks of a day, 60 a second.
-pub const TICKS_A_DAY: u32 = 5_184_000;
+/// The ticks of a second.
+pub const TICKS_A_SECOND: u32 = 60;
+
+/// The ticks of a day.
+pub const TICKS_A_DAY: u32 = 86_400 * TICKS_A_SECOND;
 
 /// The time of day in ticks of a sixtieth of a second since midnight, which contracts see as their
 /// number.

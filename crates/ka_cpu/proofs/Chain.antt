@@ -1,5 +1,6 @@
 use Rattle.std.proofs.Common.{◌≡◌, ℕ, ◌+◌, ◌-◌, ◌/◌, ◌%◌, ◌^◌, ◌∙◌, ◌<◌, ◌≤◌, suc, zero, Option, Some, None, Ok, Err, Result, List, true, false, refl, arith, ap, sym, nat_eq}
 use Rattle.std.proofs.lemmas.Bool.{eqb-true}
+use Rattle.ka_cpu.specs.declared.limits.TheConstants.{MOST_LINKS}
 use Rattle.ka_cpu.specs.Places.{word_at}
 use Rattle.ka_cpu.specs.Addresses.{Target, target_here, target_of, target_from, is_indirect, direct_address, address_in, used_in, pair_in}
 use Rattle.ka_cpu.specs.declared.outcome.StopReason.{StopReason}
@@ -14,8 +15,8 @@ end_at : (n : ℕ) (ac core : List ℕ) (w : ℕ) (u : Option ℕ) → n ≡ 0 �
 unfolding target_from
 end_at n ac core w u e h = rw e (rw h refl)
 
-pub target_end : (i : ℕ) (ac core : List ℕ) (w : ℕ) (u : Option ℕ) → 256 ≤ i → is_indirect w ≡ true → target_from (256 - i) ac core w u ≡ Err AddressChain
-target_end i ac core w u b h = end_at (256 - i) ac core w u (omega arith) h
+pub target_end : (i : ℕ) (ac core : List ℕ) (w : ℕ) (u : Option ℕ) → MOST_LINKS ≤ i → is_indirect w ≡ true → target_from (MOST_LINKS - i) ac core w u ≡ Err AddressChain
+target_end i ac core w u b h = end_at (MOST_LINKS - i) ac core w u (omega arith) h
 
 illegal_at : (m n : ℕ) (ac core : List ℕ) (w : ℕ) (u : Option ℕ) → n ≡ suc m → is_indirect w ≡ true → word_at ac core (direct_address ac w) ≡ None → target_from n ac core w u ≡ Err IllegalAddress
 unfolding target_from
@@ -25,11 +26,11 @@ turn_at : (m n : ℕ) (ac core : List ℕ) (w v : ℕ) (u : Option ℕ) → n �
 unfolding target_from
 turn_at m n ac core w v u e h r = rw e (rw h (rw r refl))
 
-pub target_illegal : (i : ℕ) (ac core : List ℕ) (w : ℕ) (u : Option ℕ) → i < 256 → is_indirect w ≡ true → word_at ac core (direct_address ac w) ≡ None → target_from (256 - i) ac core w u ≡ Err IllegalAddress
-target_illegal i ac core w u b h r = illegal_at (256 - (i + 1)) (256 - i) ac core w u (omega arith) h r
+pub target_illegal : (i : ℕ) (ac core : List ℕ) (w : ℕ) (u : Option ℕ) → i < MOST_LINKS → is_indirect w ≡ true → word_at ac core (direct_address ac w) ≡ None → target_from (MOST_LINKS - i) ac core w u ≡ Err IllegalAddress
+target_illegal i ac core w u b h r = illegal_at (MOST_LINKS - (i + 1)) (MOST_LINKS - i) ac core w u (omega arith) h r
 
-pub target_turn : (i : ℕ) (ac core : List ℕ) (w v : ℕ) (u : Option ℕ) → i < 256 → is_indirect w ≡ true → word_at ac core (direct_address ac w) ≡ Some v → target_from (256 - i) ac core w u ≡ target_from (256 - (i + 1)) ac core v (Some v)
-target_turn i ac core w v u b h r = turn_at (256 - (i + 1)) (256 - i) ac core w v u (omega arith) h r
+pub target_turn : (i : ℕ) (ac core : List ℕ) (w v : ℕ) (u : Option ℕ) → i < MOST_LINKS → is_indirect w ≡ true → word_at ac core (direct_address ac w) ≡ Some v → target_from (MOST_LINKS - i) ac core w u ≡ target_from (MOST_LINKS - (i + 1)) ac core v (Some v)
+target_turn i ac core w v u b h r = turn_at (MOST_LINKS - (i + 1)) (MOST_LINKS - i) ac core w v u (omega arith) h r
 
 pub ruleset chain_steps = (target_direct, target_end, target_illegal, target_turn)
 
@@ -61,7 +62,7 @@ used_from_err (Err r) s h = refl
 used_from_err (Ok t) s h = cc
 
 pub address_direct : (ac core : List ℕ) (w : ℕ) → is_indirect w ≡ false → address_in (target_of ac core w) ≡ Ok (direct_address ac w)
-address_direct ac core w h = ap address_in (target_direct 256 ac core w None h)
+address_direct ac core w h = ap address_in (target_direct MOST_LINKS ac core w None h)
 
 -- neither I nor X
 pub address_plain : (ac core : List ℕ) (w : ℕ) → nat_eq (w / 2 ^ 18 % 2 ^ 5) 0 ≡ true → address_in (target_of ac core w) ≡ Ok (w % 2 ^ 18)

@@ -1,4 +1,5 @@
 use Rattle.std.proofs.Common.{◌≡◌, ℕ, ◌≤◌, ◌⊎◌, suc, zero, Option, Some, None, Ok, Err, Result, List, [], ◌∷◌, length, Bool, true, false, cond, refl, arith, sym, ◌∙◌, inl, inr, ap}
+use Rattle.ka_cpu.specs.declared.limits.TheConstants.{MOST_LINKS}
 use Rattle.ka_cpu.specs.Places.{word_at}
 use Rattle.ka_cpu.specs.Addresses.{Target, target_here, target_from, target_of, is_indirect, direct_address, LeadsTo, reading}
 use Rattle.ka_cpu.specs.declared.outcome.StopReason.{StopReason}
@@ -36,10 +37,10 @@ chain_only (suc n) ac core w u t h =
           (q.0 ∷ rest.0, omega arith, (p.0, q.1, rest.2)))
     ]
 
-pub found : (ac core vs : List ℕ) (w : ℕ) (t : Target) → length vs ≤ 256 → LeadsTo ac core w None vs t → target_of ac core w ≡ Ok t
-found ac core vs w t b h = chain_found 256 ac core w None vs t b h
+pub found : (ac core vs : List ℕ) (w : ℕ) (t : Target) → length vs ≤ MOST_LINKS → LeadsTo ac core w None vs t → target_of ac core w ≡ Ok t
+found ac core vs w t b h = chain_found MOST_LINKS ac core w None vs t b h
 
-pub only : (ac core : List ℕ) (w : ℕ) (t : Target) → target_of ac core w ≡ Ok t → (vs : List ℕ) × (length vs ≤ 256) × LeadsTo ac core w None vs t
-only ac core w t h = chain_only 256 ac core w None t h
+pub only : (ac core : List ℕ) (w : ℕ) (t : Target) → target_of ac core w ≡ Ok t → (vs : List ℕ) × (length vs ≤ MOST_LINKS) × LeadsTo ac core w None vs t
+only ac core w t h = chain_only MOST_LINKS ac core w None t h
 
 pub ruleset chain_laws = (found, only)

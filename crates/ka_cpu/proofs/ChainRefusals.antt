@@ -1,5 +1,6 @@
 -- Where an address is refused, and where an XCT is.
 use Rattle.std.proofs.Common.{◌≡◌, ◌<◌, ◌≤◌, ◌↔◌, ◌⊎◌, ◌∙◌, ℕ, zero, suc, Bool, true, false, cond, List, [], ◌∷◌, length, Option, Some, None, Result, Ok, Err, refl, subst, sym, ap, inl, inr, arith}
+use Rattle.ka_cpu.specs.declared.limits.TheConstants.{MOST_EXECUTES, MOST_LINKS}
 use Rattle.ka_cpu.specs.Addresses.{Target, Path, Links, LeadsOutside, LeadsTooFar, target_of, target_from, target_here, is_indirect, direct_address, reading, at_target}
 use Rattle.ka_cpu.specs.Exec.{Executes, ComesTo, RefusedOnTheWay, ExecutesTooFar, executed_word, is_xct, word_behind}
 use Rattle.ka_cpu.specs.Places.{word_at}
@@ -46,11 +47,11 @@ links-from (suc n) ac core w used =
 
 outside-only : (ac core : List ℕ) (w : ℕ) → target_of ac core w ≡ Err IllegalAddress → LeadsOutside ac core w
 unfolding LinksFrom
-outside-only ac core w e = let P : Result Target StopReason → Type 0 = λ r. LinksFrom 256 ac core w r in subst P e (links-from 256 ac core w None)
+outside-only ac core w e = let P : Result Target StopReason → Type 0 = λ r. LinksFrom MOST_LINKS ac core w r in subst P e (links-from MOST_LINKS ac core w None)
 
 far-only : (ac core : List ℕ) (w : ℕ) → target_of ac core w ≡ Err AddressChain → LeadsTooFar ac core w
 unfolding LinksFrom
-far-only ac core w e = let P : Result Target StopReason → Type 0 = λ r. LinksFrom 256 ac core w r in subst P e (links-from 256 ac core w None)
+far-only ac core w e = let P : Result Target StopReason → Type 0 = λ r. LinksFrom MOST_LINKS ac core w r in subst P e (links-from MOST_LINKS ac core w None)
 
 outside-found : (n : ℕ) (ac core : List ℕ) (w : ℕ) (used : Option ℕ) (vs : List ℕ) (v : ℕ) → length vs < n → Path (Links ac core) w vs v → is_indirect v ≡ true
     → word_at ac core (direct_address ac v) ≡ None → target_from n ac core w used ≡ Err IllegalAddress
@@ -68,10 +69,10 @@ far-found (suc n) ac core w used [] v b p i = absurd (omega arith)
 far-found (suc n) ac core w used (x ∷ xs) v b p i = rw p.0.0 (rw p.0.1 (far-found n ac core x (Some x) xs v (omega arith) p.1 i))
 
 pub outside_law : (ac core : List ℕ) (w : ℕ) → (target_of ac core w ≡ Err IllegalAddress) ↔ LeadsOutside ac core w
-outside_law ac core w = (outside-only ac core w, λ h. outside-found 256 ac core w None h.0 h.1 h.2 h.3 h.4 h.5)
+outside_law ac core w = (outside-only ac core w, λ h. outside-found MOST_LINKS ac core w None h.0 h.1 h.2 h.3 h.4 h.5)
 
 pub far_law : (ac core : List ℕ) (w : ℕ) → (target_of ac core w ≡ Err AddressChain) ↔ LeadsTooFar ac core w
-far_law ac core w = (far-only ac core w, λ h. far-found 256 ac core w None h.0 h.1 h.2 h.3 h.4)
+far_law ac core w = (far-only ac core w, λ h. far-found MOST_LINKS ac core w None h.0 h.1 h.2 h.3 h.4)
 
 -- what a result says of the XCTs from w, over at most n of them
 XctsFrom : ℕ → List ℕ → List ℕ → ℕ → Result ℕ StopReason → Type 0
@@ -152,14 +153,14 @@ xcts-from : (n : ℕ) (ac core : List ℕ) (w : ℕ) → XctsFrom n ac core w (w
 xcts-from zero ac core w = xcts-end-by (is_xct w) ac core w refl
 xcts-from (suc n) ac core w = xcts-next-by (is_xct w) n ac core w refl (λ v. xcts-from n ac core v)
 
-comes-only : (ac core : List ℕ) (w v : ℕ) → word_behind 256 ac core w ≡ Ok v → ComesTo ac core w v
+comes-only : (ac core : List ℕ) (w v : ℕ) → word_behind MOST_EXECUTES ac core w ≡ Ok v → ComesTo ac core w v
 unfolding XctsFrom
-comes-only ac core w v e = let P : Result ℕ StopReason → Type 0 = λ r. XctsFrom 256 ac core w r in subst P e (xcts-from 256 ac core w)
+comes-only ac core w v e = let P : Result ℕ StopReason → Type 0 = λ r. XctsFrom MOST_EXECUTES ac core w r in subst P e (xcts-from MOST_EXECUTES ac core w)
 
-refused-only : (ac core : List ℕ) (w : ℕ) (r : StopReason) → word_behind 256 ac core w ≡ Err r
+refused-only : (ac core : List ℕ) (w : ℕ) (r : StopReason) → word_behind MOST_EXECUTES ac core w ≡ Err r
     → RefusedOnTheWay ac core w r ⊎ ((r ≡ AddressChain) × ExecutesTooFar ac core w)
 unfolding XctsFrom
-refused-only ac core w r e = let P : Result ℕ StopReason → Type 0 = λ x. XctsFrom 256 ac core w x in subst P e (xcts-from 256 ac core w)
+refused-only ac core w r e = let P : Result ℕ StopReason → Type 0 = λ x. XctsFrom MOST_EXECUTES ac core w x in subst P e (xcts-from MOST_EXECUTES ac core w)
 
 comes-found : (n : ℕ) (ac core : List ℕ) (w v : ℕ) (vs : List ℕ) → length vs ≤ n → Path (Executes ac core) w vs v → is_xct v ≡ false → word_behind n ac core w ≡ Ok v
 comes-found n ac core w v [] b p x = rw (← p) (behind_plain n ac core v x)
@@ -179,15 +180,15 @@ far-xct (suc n) ac core w v [] b p x = absurd (omega arith)
 far-xct (suc n) ac core w v (y ∷ ys) b p x = behind_on n ac core w y p.0 ∙ far-xct n ac core y v ys (omega arith) p.1 x
 
 refused-found : (ac core : List ℕ) (w : ℕ) (r : StopReason) → RefusedOnTheWay ac core w r ⊎ ((r ≡ AddressChain) × ExecutesTooFar ac core w)
-    → word_behind 256 ac core w ≡ Err r
-refused-found ac core w r (inl h) = way-found 256 ac core w h.1 r h.0 h.2 h.3 h.4 h.5
-refused-found ac core w r (inr h) = far-xct 256 ac core w h.1.1 h.1.0 h.1.2 h.1.3 h.1.4 ∙ ap (λ (x : StopReason). Err x) (sym h.0)
+    → word_behind MOST_EXECUTES ac core w ≡ Err r
+refused-found ac core w r (inl h) = way-found MOST_EXECUTES ac core w h.1 r h.0 h.2 h.3 h.4 h.5
+refused-found ac core w r (inr h) = far-xct MOST_EXECUTES ac core w h.1.1 h.1.0 h.1.2 h.1.3 h.1.4 ∙ ap (λ (x : StopReason). Err x) (sym h.0)
 
-pub comes_law : (ac core : List ℕ) (w v : ℕ) → (word_behind 256 ac core w ≡ Ok v) ↔ ComesTo ac core w v
-comes_law ac core w v = (comes-only ac core w v, λ h. comes-found 256 ac core w v h.0 h.1 h.2 h.3)
+pub comes_law : (ac core : List ℕ) (w v : ℕ) → (word_behind MOST_EXECUTES ac core w ≡ Ok v) ↔ ComesTo ac core w v
+comes_law ac core w v = (comes-only ac core w v, λ h. comes-found MOST_EXECUTES ac core w v h.0 h.1 h.2 h.3)
 
 pub refused_law : (ac core : List ℕ) (w : ℕ) (r : StopReason)
-    → (word_behind 256 ac core w ≡ Err r) ↔ (RefusedOnTheWay ac core w r ⊎ ((r ≡ AddressChain) × ExecutesTooFar ac core w))
+    → (word_behind MOST_EXECUTES ac core w ≡ Err r) ↔ (RefusedOnTheWay ac core w r ⊎ ((r ≡ AddressChain) × ExecutesTooFar ac core w))
 refused_law ac core w r = (refused-only ac core w r, refused-found ac core w r)
 
 pub ruleset refusal_laws = (outside_law, far_law)

@@ -9,6 +9,7 @@ use Rattle.ka_isa.specs.declared.Change.{Change}
 use Rattle.ka_isa.specs.declared.Family.{Family}
 use Rattle.ka_isa.specs.declared.Family.TheVariants.{Byte, Move, Movs, Movn, Movm, Imul, Mul, Idiv, Shift, Jffo, Exch, Blt, Aobj, Jrst, Jfcl, Xct, Pushj, Push, Pop, Popj, Jsr, Jsp, Jsa, Jra, Add, Sub, Compare, JumpOn, SkipOn, Boolean, Half, Test, Calli, Ttcall, Other}
 use Rattle.word36.specs.Words.{right_half, is_negative}
+use Rattle.ka_cpu.specs.declared.limits.TheConstants.{MOST_LINKS}
 use Rattle.ka_cpu.specs.Addresses.{Target, target_of, target_from, is_indirect, direct_address, index_of, reading, at_target}
 use Rattle.ka_cpu.specs.Blocks.{Store, stored, moved_words, blt_after, all_legal}
 use Rattle.ka_word.specs.Bytes.{byte_of, deposited, incremented}
@@ -497,7 +498,7 @@ keeps-performed : (g : Regs) (core : List ℕ) (w : ℕ) → Keeps g core (perfo
 unfolding performed
 keeps-performed g core w =
     by_test (Keeps g core) (is_listed (family_of (op_of w)) (ac_field w)) _ _
-    (λ _. keeps-address g core w (target_of g.ac core w) (target-below 256 g.ac core w None))
+    (λ _. keeps-address g core w (target_of g.ac core w) (target-below MOST_LINKS g.ac core w None))
     (λ _. keeps-stopped g core reason.IllegalInstruction)
 
 keeps-word : (g : Regs) (core : List ℕ) (r : Result ℕ StopReason) → Keeps g core (word_performed g core r)
@@ -520,7 +521,7 @@ pc-exec g core h = (keeps-exec g core).pc h
 pub ends-exec : (g : Regs) (core : List ℕ) → EndsAs (exec g core).outcome g core (exec g core).regs (exec g core).core
 ends-exec g core = (keeps-exec g core).ends
 
--- the same of a state that is known to be what an instruction leaves
+-- how an instruction ends, of a state that is known to be what it leaves
 pub ends_by : (g h : Regs) (core rest : List ℕ) (o : Outcome) → record { regs = h; core = rest; outcome = o } ≡ exec g core → EndsAs o g core h rest
 ends_by g h core rest o e = let P : After → Type 0 = λ a. EndsAs a.outcome g core a.regs a.core in subst P (sym e) (ends-exec g core)
 

@@ -2,6 +2,7 @@
 -- (DECsystem-10 Processor Reference Manual, "Effective address calculation").
 use Rattle.std.specs.Prelude.{◌≡◌, ◌<◌, true, false, [], ◌∷◌, ℕ, length, zero, suc, ◌+◌, ◌/◌, ◌%◌, ◌^◌, nat_eq, Bool, if◌then◌else◌, Option, Some, None, List, slice_index, Result, Ok, Err}
 use Rattle.word36.specs.Words.{right_half}
+use Rattle.ka_cpu.specs.declared.limits.TheConstants.{MOST_LINKS}
 use Rattle.ka_cpu.specs.Places.{word_at}
 use Rattle.ka_cpu.specs.declared.outcome.StopReason.{StopReason}
 use Rattle.ka_cpu.specs.declared.outcome.StopReason.TheVariants.{IllegalAddress, AddressChain}
@@ -44,9 +45,9 @@ target_from (suc n) ac core w used =
     then reading (word_at ac core (direct_address ac w)) (λ v. target_from n ac core v (Some v))
     else Ok (target_here ac w used)
 
--- this project's profile: at most 256 indirect words
+-- this project's profile: at most MOST_LINKS indirect words
 abbrev pub target_of : List ℕ → List ℕ → ℕ → Result Target StopReason
-target_of ac core w = target_from 256 ac core w None
+target_of ac core w = target_from MOST_LINKS ac core w None
 
 -- the same as a relation: w leads to t by these links, the words that are read on the way
 abbrev pub LeadsTo : List ℕ → List ℕ → ℕ → Option ℕ → List ℕ → Target → Type 0
@@ -63,14 +64,14 @@ Path Follows w (x ∷ xs) v = Follows w x × Path Follows x xs v
 abbrev pub Links : List ℕ → List ℕ → ℕ → ℕ → Type 0
 Links ac core w v = (is_indirect w ≡ true) × (word_at ac core (direct_address ac w) ≡ Some v)
 
--- fewer than 256 links from w lead to an indirect word that names an illegal place
+-- fewer than MOST_LINKS links from w lead to an indirect word that names an illegal place
 abbrev pub LeadsOutside : List ℕ → List ℕ → ℕ → Type 0
 LeadsOutside ac core w =
-    (vs : List ℕ) × (v : ℕ) × (length vs < 256) × Path (Links ac core) w vs v × (is_indirect v ≡ true) × (word_at ac core (direct_address ac v) ≡ None)
+    (vs : List ℕ) × (v : ℕ) × (length vs < MOST_LINKS) × Path (Links ac core) w vs v × (is_indirect v ≡ true) × (word_at ac core (direct_address ac v) ≡ None)
 
--- 256 links from w lead to one more
+-- MOST_LINKS links from w lead to one more
 abbrev pub LeadsTooFar : List ℕ → List ℕ → ℕ → Type 0
-LeadsTooFar ac core w = (vs : List ℕ) × (v : ℕ) × (length vs ≡ 256) × Path (Links ac core) w vs v × (is_indirect v ≡ true)
+LeadsTooFar ac core w = (vs : List ℕ) × (v : ℕ) × (length vs ≡ MOST_LINKS) × Path (Links ac core) w vs v × (is_indirect v ≡ true)
 
 -- what follows the calculation of an address
 abbrev pub at_target : {A : Type 0} → Result Target StopReason → (Target → Result A StopReason) → Result A StopReason

@@ -31,7 +31,7 @@ unfoldable pub moved_words : ℕ → Store → ℕ → ℕ → Store
 moved_words zero t s d = t
 moved_words (suc k) t s d = moved_words k (stored t d (word_at t.ac t.core (s % 2 ^ 18))) (s + 1) (d + 1)
 
--- the same in core alone, where no register is touched and no place wraps
+-- k words are moved in core alone, where no register is touched and no place wraps
 unfoldable pub copied : ℕ → List ℕ → ℕ → ℕ → List ℕ
 copied zero words s d = words
 copied (suc k) words s d = copied k (slice_set words d (slice_index words s)) (s + 1) (d + 1)

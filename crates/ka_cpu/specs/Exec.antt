@@ -7,6 +7,7 @@ use Rattle.ka_cpu.specs.Places.{word_at}
 use Rattle.ka_cpu.specs.Addresses.{Target, Path, reading, target_of, at_target}
 use Rattle.ka_cpu.specs.Effects.{After, Effect, stopped, finished}
 use Rattle.ka_cpu.specs.Moves.{move_row, exch_row}
+use Rattle.ka_cpu.specs.declared.limits.TheConstants.{MOST_EXECUTES}
 use Rattle.ka_cpu.specs.declared.moves.Transfer.TheVariants.{Plain, Swapped, Negated, Magnitude}
 use Rattle.ka_cpu.specs.Halves.{half_row}
 use Rattle.ka_cpu.specs.Arithmetic.{add_row, imul_row, mul_row, idiv_row}
@@ -32,7 +33,7 @@ abbrev pub ac_field : ℕ → ℕ
 ac_field w = w / 2 ^ 23 % 2 ^ 4
 
 -- XCT, 256 octal: the word at its E is executed in place, and its own AC field is not looked at. At most n XCTs
--- are followed (in `exec` 256: this project's profile).
+-- are followed (in `exec` MOST_EXECUTES: this project's profile).
 abbrev pub is_execute : Family → Bool
 is_execute Xct = true
 is_execute _ = false
@@ -54,18 +55,18 @@ executed_word ac core w = at_target (target_of ac core w) (λ t. reading (word_a
 abbrev pub Executes : List ℕ → List ℕ → ℕ → ℕ → Type 0
 Executes ac core w v = (is_xct w ≡ true) × (executed_word ac core w ≡ Ok v)
 
--- at most 256 XCTs from w lead to the word v, which is none
+-- at most MOST_EXECUTES XCTs from w lead to the word v, which is none
 abbrev pub ComesTo : List ℕ → List ℕ → ℕ → ℕ → Type 0
-ComesTo ac core w v = (vs : List ℕ) × (length vs ≤ 256) × Path (Executes ac core) w vs v × (is_xct v ≡ false)
+ComesTo ac core w v = (vs : List ℕ) × (length vs ≤ MOST_EXECUTES) × Path (Executes ac core) w vs v × (is_xct v ≡ false)
 
--- fewer than 256 XCTs from w lead to one whose word is refused for this reason
+-- fewer than MOST_EXECUTES XCTs from w lead to one whose word is refused for this reason
 abbrev pub RefusedOnTheWay : List ℕ → List ℕ → ℕ → StopReason → Type 0
 RefusedOnTheWay ac core w r =
-    (vs : List ℕ) × (v : ℕ) × (length vs < 256) × Path (Executes ac core) w vs v × (is_xct v ≡ true) × (executed_word ac core v ≡ Err r)
+    (vs : List ℕ) × (v : ℕ) × (length vs < MOST_EXECUTES) × Path (Executes ac core) w vs v × (is_xct v ≡ true) × (executed_word ac core v ≡ Err r)
 
--- 256 XCTs from w lead to one more
+-- MOST_EXECUTES XCTs from w lead to one more
 abbrev pub ExecutesTooFar : List ℕ → List ℕ → ℕ → Type 0
-ExecutesTooFar ac core w = (vs : List ℕ) × (v : ℕ) × (length vs ≡ 256) × Path (Executes ac core) w vs v × (is_xct v ≡ true)
+ExecutesTooFar ac core w = (vs : List ℕ) × (v : ℕ) × (length vs ≡ MOST_EXECUTES) × Path (Executes ac core) w vs v × (is_xct v ≡ true)
 
 -- the operations that are not left out; JRST has AC 0, 2 and 4 alone
 abbrev pub is_listed : Family → ℕ → Bool
@@ -131,4 +132,4 @@ word_performed g core (Ok w) = performed g core w
 
 -- the instruction at the PC
 unfoldable pub exec : Regs → List ℕ → After
-exec g core = word_performed g core (reading (word_at g.ac core g.pc) (λ w. word_behind 256 g.ac core w))
+exec g core = word_performed g core (reading (word_at g.ac core g.pc) (λ w. word_behind MOST_EXECUTES g.ac core w))

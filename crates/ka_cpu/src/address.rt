@@ -3,11 +3,8 @@
 ghost use Rattle.std.specs.Prelude.{◌≡◌, ◌^◌, nat_eq, ◌/◌, ◌%◌};
 ghost use Rattle.ka_cpu.specs.Addresses.{address_in, pair_in, direct_address, is_indirect, target_of, used_after, used_in};
 
-use crate::{JobMemory, Regs, StopReason, fetch};
+use crate::{JobMemory, MOST_LINKS, Regs, StopReason, fetch};
 use word36::{Address, Word};
-
-/// The most indirect words of one address (this project's profile).
-const MOST_LINKS: u32 = 256;
 
 /// Y, plus the right half of the index register where there is one.
 #[inline(always)]
@@ -51,7 +48,7 @@ fn is_plain(word: Word) -> bool
     word.number() >> 18 & 0o37 == 0
 }
 
-/// The address to which a word leads and what was used last on the way, over at most 256 indirect words.
+/// The address to which a word leads and what was used last on the way, over at most `MOST_LINKS` indirect words.
 #[inline(never)]
 #[tactic(auto, using(crate::proofs::Chain::chain_steps))]
 fn follow_chain<M: JobMemory>(

@@ -11,31 +11,32 @@ ghost use Rattle.ka_cpu.specs.Places.{is_legal, word_at};
 ghost use Rattle.ka_cpu.specs.Runs.{ran, ran_then};
 ghost use Rattle.ka_cpu.specs.Stacks.{popped, pushed};
 ghost use Rattle.ka_cpu.specs.Instructions.{Instruction};
+ghost use Rattle.ka_cpu.specs.declared.limits.TheConstants.{MOST_EXECUTES, MOST_LINKS};
 ghost use Rattle.ka_cpu.specs.declared.outcome.Outcome.TheVariants.{Done};
 ghost use Rattle.ka_cpu.specs.declared.outcome.StopReason.TheVariants.{AddressChain, IllegalAddress};
 
 use crate::{Regs, StopReason};
 
-/// An address is what a chain of at most 256 links leads to, and there is no other.
+/// An address is what a chain of at most `MOST_LINKS` links leads to, and there is no other.
 #[tactic(auto, using(crate::proofs::ChainLaw::chain_laws))]
 pub fn address_laws()
-    ensures found { (ac core vs : List ℕ) (w : ℕ) (t : Target) → length vs ≤ 256 → LeadsTo ac core w None vs t → target_of ac core w ≡ Ok t }
-    ensures only { (ac core : List ℕ) (w : ℕ) (t : Target) → target_of ac core w ≡ Ok t → ((vs : List ℕ) × (length vs ≤ 256) × LeadsTo ac core w None vs t) }
+    ensures found { (ac core vs : List ℕ) (w : ℕ) (t : Target) → length vs ≤ MOST_LINKS → LeadsTo ac core w None vs t → target_of ac core w ≡ Ok t }
+    ensures only { (ac core : List ℕ) (w : ℕ) (t : Target) → target_of ac core w ≡ Ok t → ((vs : List ℕ) × (length vs ≤ MOST_LINKS) × LeadsTo ac core w None vs t) }
 {}
 
 /// An address is refused as illegal exactly where a link before the limit names an illegal place, and
-/// as too long a chain exactly where 256 links lead to one more.
+/// as too long a chain exactly where `MOST_LINKS` links lead to one more.
 #[tactic(auto, using(crate::proofs::ChainRefusals::refusal_laws))]
 pub fn refusal_laws()
     ensures illegal { (ac core : List ℕ) (w : ℕ) → (target_of ac core w ≡ Err IllegalAddress) ↔ LeadsOutside ac core w }
     ensures too_long { (ac core : List ℕ) (w : ℕ) → (target_of ac core w ≡ Err AddressChain) ↔ LeadsTooFar ac core w }
 {}
 
-/// What is executed is the word that at most 256 XCTs lead to; it is refused exactly where the word of
-/// one of them is, or, as too long a chain, where 256 lead to one more.
+/// What is executed is the word that at most `MOST_EXECUTES` XCTs lead to; it is refused exactly where the
+/// word of one of them is, or, as too long a chain, where so many lead to one more.
 pub fn xct_laws()
-    ensures found { (ac core : List ℕ) (w v : ℕ) → (word_behind 256 ac core w ≡ Ok v) ↔ ComesTo ac core w v }
-    ensures refused { (ac core : List ℕ) (w : ℕ) (r : StopReason) → (word_behind 256 ac core w ≡ Err r) ↔ (RefusedOnTheWay ac core w r ⊎ ((r ≡ AddressChain) × ExecutesTooFar ac core w)) }
+    ensures found { (ac core : List ℕ) (w v : ℕ) → (word_behind MOST_EXECUTES ac core w ≡ Ok v) ↔ ComesTo ac core w v }
+    ensures refused { (ac core : List ℕ) (w : ℕ) (r : StopReason) → (word_behind MOST_EXECUTES ac core w ≡ Err r) ↔ (RefusedOnTheWay ac core w r ⊎ ((r ≡ AddressChain) × ExecutesTooFar ac core w)) }
 {}
 
 /// An instruction leaves as many registers and words of core as there were, and a PC below 1000000

@@ -1,6 +1,7 @@
 //! One instruction, and instructions one after another.
 
 ghost use Rattle.std.specs.Prelude.{◌≡◌, ◌<◌, ◌^◌, false, IfOk};
+ghost use Rattle.ka_cpu.specs.declared.limits.TheConstants.{MOST_EXECUTES};
 ghost use Rattle.ka_cpu.specs.Addresses.{reading};
 ghost use Rattle.ka_cpu.specs.Effects.{EndsAs};
 ghost use Rattle.ka_cpu.specs.Exec.{ac_field, exec, is_xct, op_of, word_behind, word_performed};
@@ -10,11 +11,8 @@ ghost use Rattle.ka_cpu.specs.Runs.{ran};
 use crate::address::find_address;
 use crate::dispatch::{carry_out, refusal};
 use crate::instruction::{ILLEGAL, Instruction};
-use crate::{CoreWords, JobMemory, Outcome, Regs, StopReason, fetch};
+use crate::{CoreWords, JobMemory, MOST_EXECUTES, Outcome, Regs, StopReason, fetch};
 use word36::{Address, Word};
-
-/// The most XCTs of one instruction (this project's profile).
-const MOST_EXECUTES: u32 = 256;
 
 /// The operation of a word.
 #[inline(always)]
@@ -70,7 +68,8 @@ fn follow_executes<M: JobMemory>(regs: &Regs, memory: &M, e: Address) -> Result<
     }
 }
 
-/// The same, inlined: so its caller, which is inlined too, keeps no place for what the call returns.
+/// The word that an XCT with this E executes. It is inlined, so that its caller, which is inlined too,
+/// keeps no place for what the call of `follow_executes` returns.
 #[inline(always)]
 fn find_executed<M: JobMemory>(regs: &Regs, memory: &M, e: Address) -> Result<Word, StopReason>
     ensures value { result ≡ reading (word_at regs.now.ac (M.words memory.now) e) (λ v. word_behind 255 regs.now.ac (M.words memory.now) v) }
@@ -86,7 +85,7 @@ fn find_executed<M: JobMemory>(regs: &Regs, memory: &M, e: Address) -> Result<Wo
 #[inline(always)]
 #[tactic(auto, using(crate::proofs::Executes::executions))]
 fn execute<M: JobMemory>(regs: &mut Regs, memory: &mut M, word: Word) -> Outcome
-    ensures after { record { regs = regs.new; core = M.words memory.new; outcome = result } ≡ word_performed regs.old (M.words memory.old) (word_behind 256 regs.old.ac (M.words memory.old) word) }
+    ensures after { record { regs = regs.new; core = M.words memory.new; outcome = result } ≡ word_performed regs.old (M.words memory.old) (word_behind MOST_EXECUTES regs.old.ac (M.words memory.old) word) }
     ensures place { M.place memory.new ≡ M.place memory.old }
 {
     let mut word = word;

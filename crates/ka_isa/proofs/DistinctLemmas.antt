@@ -62,6 +62,6 @@ pub named_of_name : (code : ℕ) (name : Name) → Some name ≡ name_of code �
 unfolding name_of
 named_of_name code name e = named_of_operation name code (found operations code name all_found e)
 
--- the same of what may have no name
+-- what a name means, of an operation that may have none
 pub named_of_name_of : (code : ℕ) (name : Name) (r : Option Name) → r ≡ name_of code → r ≡ Some name → named_of name ≡ option_map (λ _. operation_meaning code) (name_of code)
 named_of_name_of code name r e s = named_of_name code name (sym s ∙ e) ∙ ap (option_map (λ _. operation_meaning code)) (sym s ∙ e)

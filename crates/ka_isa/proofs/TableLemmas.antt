@@ -60,7 +60,7 @@ none_past entries code h p =
     let parts = and_parts (are_entries operations 0 entries) (end_before operations (length entries)) h in
     sym (past operations (length entries) code parts.1 p)
 
--- the same of an entry that was read from a table of texts
+-- an entry that was read from a table of texts is that of its code
 pub is_entry_read : (table : List (Bor (List ℕ))) (code : ℕ) (entry d : Bor (List ℕ)) → are_by_code (map (λ name. name.now) table) ≡ true → true ≡ nat_lt code (length table) → entry ≡ get_or table code d → is_entry (name_of code) entry.now ≡ true
 is_entry_read table code entry d h p e =
     let below = ltb-true code (length table) (sym p) in

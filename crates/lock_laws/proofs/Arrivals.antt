@@ -38,7 +38,7 @@ first_refusal-None fault e (x ∷ ws) h (y ∷ a) b w is =
     let later = (or_else-None (fault e x) (first_refusal fault (e ++ x ∷ []) ws) h).1 in
     subst (λ l. fault l w ≡ None) (push-append e x a ∙ ap (λ u. e ++ u ∷ a) same) (first_refusal-None fault (e ++ x ∷ []) ws later a b w rest)
 
--- the same for levels
+-- where no want is too low, each is not behind the ones before it
 some_too_low-none : (e ws : List Want) → some_too_low e ws ≡ false → (a b : List Want) (w : Want) → ws ≡ a ++ w ∷ b
     → is_too_low (e ++ a) w ≡ false
 some_too_low-none e [] h [] b w is = cc

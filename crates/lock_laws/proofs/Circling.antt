@@ -44,7 +44,7 @@ record MapSplit {X Y : Type 0} (f : X → Y) (xs : List X) (a : List Y) (y : Y) 
   item_is : f item ≡ y
   after_is : map f after ≡ b
 
--- the same behind one more item
+-- a split behind one more item
 map-split-behind : {X Y : Type 0} (f : X → Y) (x : X) (xs : List X) (z : Y) (a : List Y) (y : Y) (b : List Y)
     → f x ≡ z → MapSplit f xs a y b
     → MapSplit f (x ∷ xs) (z ∷ a) y b
@@ -144,7 +144,7 @@ waits-retold before after s w a b r is blocking waits q h =
     λ mine. w p.earlier p.later p.request p.is (subst (λ n. is_blocking n ≡ true) (sym p.kind) blocking) (p.granted ∙ waits) from.0 from.1
     (sym from.2 ∙ mine ∙ sym p.job)
 
--- the same, by places
+-- a job waits by its latest request, by places
 pub by_latest : (rs : List Request) → WaitsLast rs → WaitsByLatest rs
 unfolding WaitsLast
 by_latest rs w i j r s lt at_i at_j blocking waits =

@@ -98,6 +98,10 @@ granted_behind-fewer a b q r s f t =
     list_all-each (fits a) q.wants.items
     (λ w h. fits-fewer a b w s (list_all-Has (fits b) r.wants.items w t (Sub-Has w f h)))
 
+-- wants that agree with one agree with each other
+pub agree-joined : (u v w : Want) → agree u w ≡ true → agree v w ≡ true → agree u v ≡ true
+agree-joined u v w a b = and_from u.shared v.shared (and_parts u.shared w.shared a).0 (and_parts v.shared w.shared b).0
+
 -- where a want does not fit, no later one of its key does
 pub overtaken : (xs ys : List Want) (v w : Want) (o p : Option PoolShare) → v.pool ≡ o → same_pool_size o p ≡ true
     → Sub xs ys → Has ys v
@@ -106,9 +110,9 @@ pub overtaken : (xs ys : List Want) (v w : Want) (o p : Option PoolShare) → v.
 overtaken xs ys v w None None e same s h sum f =
     let bad = list_all-fails (λ u. agree u v) xs f in
     false_from_ne_true _ (λ t.
-    let first = and_parts bad.0.shared w.shared (list_all-Has (λ u. agree u w) ys bad.0 t (Sub-Has bad.0 s bad.1)) in
-    let second = and_parts v.shared w.shared (list_all-Has (λ u. agree u w) ys v t h) in
-    both_ways (agree bad.0 v) bad.2 (and_from bad.0.shared v.shared first.0 second.0))
+    let first = list_all-Has (λ u. agree u w) ys bad.0 t (Sub-Has bad.0 s bad.1) in
+    let second = list_all-Has (λ u. agree u w) ys v t h in
+    both_ways (agree bad.0 v) bad.2 (agree-joined bad.0 v w first second))
 overtaken xs ys v w (Some a) (Some b) e same s h sum f =
     let more : a.size < sum_by amount_of xs + a.amount = leb-false _ _ f in
     let size : a.size ≡ b.size = eqb-true a.size b.size same in

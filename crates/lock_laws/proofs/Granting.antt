@@ -10,7 +10,7 @@ use Rattle.lock_queue.specs.Keys.{same_key}
 use Rattle.lock_queue.specs.Pools.{PoolShare}
 use Rattle.lock_queue.specs.Queue.{wants_at, agree, amount_of, is_pooled, fits_beside, fits, granted_behind, is_granted, names, is_owner, chosen_behind, owners}
 use Rattle.lock_laws.specs.Claims.{Claim, claim_of, claims_of, claims}
-use Rattle.lock_laws.specs.Safe.{ExclusiveAlone, AllOrNone, FitsInFront, NoOvertaking}
+use Rattle.lock_laws.specs.Safe.{ExclusiveAlone, OwnersAgree, AllOrNone, FitsInFront, NoOvertaking}
 use Rattle.lock_laws.proofs.Fitting.{eq-same_key, names-found, wants_at-append, Has-wants_at, overtaken}
 use Rattle.lock_queue.proofs.Lists.{Has, Has-right, Has-map, Has-flat_map, Pairs, Pairs-both, Pairs-weaker, Sub, Sub-refl, Sub-none, Sub-append, list_all-Has, sum-append, sum-cons, list_any-Has}
 use Rattle.lock_laws.proofs.Places.{Split, chosen-Has, Has-chosen, chosen_none, chosen_behind-append, slice_get-Has, between, push-append, nil-append, Has-middle}
@@ -93,6 +93,17 @@ agrees : (a : List Request) (u w : Want) → Has (wants_at a w.key) u → w.pool
 agrees a u w h e f =
     let all : list_all (λ v. agree v w) (wants_at a w.key) ≡ true = subst (λ o. fits_beside (wants_at a w.key) w o ≡ true) e f in
     list_all-Has (λ v. agree v w) (wants_at a w.key) u all h
+
+-- and those before it stand in the requests before
+pub owners_agree : (rs : List Request) → OwnersAgree rs
+owners_agree rs i j r s v w lt at_i at_j is has_v has_w e none =
+    let hv : Has r.wants.items v = Contains-Has r.wants.items v has_v in
+    let hw : Has s.wants.items w = Contains-Has s.wants.items w has_w in
+    let m = between rs i j r s lt at_i at_j in
+    let all : granted_behind (take j rs) s ≡ true = subst (λ o. is_granted (take j rs) o ≡ true) at_j is in
+    let ok : fits (take j rs) w ≡ true = list_all-Has (fits (take j rs)) s.wants.items w all hw in
+    let there : Has (wants_at (take i rs ++ r ∷ m.0) w.key) v = Has-wants_at (take i rs) m.0 r w.key v hv e in
+    agrees (take j rs) v w (subst (λ l. Has (wants_at l w.key) v) (sym m.1) there) none ok
 
 -- what an owner has of the key
 record Owner (key : Key) (rs : List Request) (r : Request) : Type 0 where

@@ -8,7 +8,7 @@ use Rattle.lock_queue.specs.Calls.{outcome_of, requests_after}
 use Rattle.lock_laws.specs.Claims.{claims_of, claims, AreAlike, AreApart, Rises}
 use Rattle.lock_laws.specs.Safe.{Safe}
 use Rattle.lock_laws.proofs.CallSteps.{Step, grows, releases, step_of}
-use Rattle.lock_laws.proofs.Granting.{alone, all_or_none, fits_in_front, no_overtaking}
+use Rattle.lock_laws.proofs.Granting.{alone, owners_agree, all_or_none, fits_in_front, no_overtaking}
 use Rattle.lock_queue.proofs.Lists.{Has, Pairs, Pairs-append, Pairs-joined, Pairs-weaker, Sub-Pairs, flat_map-append}
 use Rattle.lock_laws.proofs.Places.{nil-append}
 use Rattle.lock_laws.proofs.PoolSums.{pools_suffice}
@@ -65,6 +65,7 @@ kept-none = record { ordered = tt; few = omega arith }
 pub safe-kept : (requests : List Request) → Kept requests → Safe requests
 safe-kept requests k = record {
   exclusive_alone = alone requests k.ordered;
+  owners_agree = owners_agree requests;
   pools_suffice = pools_suffice requests k.ordered;
   all_or_none = all_or_none requests;
   fits_in_front = fits_in_front requests k.ordered;

@@ -149,7 +149,7 @@ pub chosen-place : (test : Test) (e a b : List Request) (r : Request) → test (
     → chosen_behind test e (a ++ r ∷ b) ≡ chosen_behind test e a ++ r ∷ chosen_behind test ((e ++ a) ++ r ∷ []) b
 chosen-place test e a b r t = chosen_behind-append test e a (r ∷ b) ∙ rw t refl
 
--- the same for a test that some request passes
+-- a request that passes, with those around it
 pub record Found (test : Test) (e rs : List Request) : Type 0 where
   pub request : Request
   pub split : Split rs request

@@ -8,7 +8,7 @@ use Rattle.lock_queue.specs.Queue.{all_wants, fits, fits_beside, granted_behind}
 use Rattle.lock_laws.specs.Claims.{claim_of, claims_of, claims}
 use Rattle.lock_queue.proofs.Lists.{Has}
 
--- the same requests in the same places, but for what their jobs were told
+-- two lists with equal requests in equal places, but for what their jobs were told
 pub data Retold : List Request → List Request → Type 0 where
   none : Retold [] []
   next : {before after : List Request} (r q : Request) → q.job ≡ r.job → q.kind ≡ r.kind
@@ -73,7 +73,7 @@ pub record Place (after a : List Request) (r : Request) (b : List Request) : Typ
   pub front : Retold a earlier
   pub rest : Retold b later
 
--- the same behind one more request
+-- a place behind one more request
 place-from : (x y : Request) (after a : List Request) (r : Request) (b : List Request) → y.job ≡ x.job → y.kind ≡ x.kind
     → y.wants.items ≡ x.wants.items → Place after a r b → Place (y ∷ after) (x ∷ a) r b
 place-from x y after a r b j k w o =

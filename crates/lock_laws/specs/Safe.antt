@@ -1,11 +1,11 @@
 -- What holds of the requests at every time (ENQ/DEQ of the TOPS-10 Monitor Calls Manual, in this project's profile).
-use Rattle.std.specs.Prelude.{◌≡◌, ℕ, ◌+◌, ◌^◌, ◌<◌, ◌≤◌, true, false, List, [], ◌∷◌, length, take, Some, slice_get, sum_by, Contains, AllPairs, IsTrue}
+use Rattle.std.specs.Prelude.{◌≡◌, ℕ, ◌+◌, ◌^◌, ◌<◌, ◌≤◌, true, false, List, [], ◌∷◌, length, take, Some, None, slice_get, sum_by, Contains, AllPairs, IsTrue}
 use Rattle.word36.specs.declared.sizes.TheConstants.{REQUESTS}
 use Rattle.lock_queue.specs.declared.key.Key.{Key}
 use Rattle.lock_queue.specs.declared.request.Request.{Request}
 use Rattle.lock_queue.specs.declared.want.Want.{Want}
 use Rattle.lock_queue.specs.Pools.{PoolShare}
-use Rattle.lock_queue.specs.Queue.{names, wants_at, amount_of, fits, granted, owners}
+use Rattle.lock_queue.specs.Queue.{names, wants_at, agree, amount_of, fits, granted, owners}
 use Rattle.lock_queue.specs.declared.status.Status.{Status}
 use Rattle.lock_queue.specs.StatusWords.{is_exclusive, status_of, left_bit, words_of}
 use Rattle.lock_queue.specs.WellFormed.{are_well_formed}
@@ -17,6 +17,14 @@ abbrev pub ExclusiveAlone : List Request → Type 0
 ExclusiveAlone requests =
     (key : Key) (r : Request) (w : Want) → Contains (owners requests key) r → Contains r.wants.items w → w.key ≡ key
     → is_exclusive w ≡ true → owners requests key ≡ r ∷ []
+
+-- where a request is granted, its wants without a pool agree with each earlier want of their keys: so the owners of a key
+-- without a pool agree pairwise
+abbrev pub OwnersAgree : List Request → Type 0
+OwnersAgree requests =
+    (i j : ℕ) (r s : Request) (v w : Want) → i < j → slice_get requests i ≡ Some r → slice_get requests j ≡ Some s
+    → granted requests j ≡ true → Contains r.wants.items v → Contains s.wants.items w → v.key ≡ w.key → w.pool ≡ None
+    → agree v w ≡ true
 
 -- the owners' amounts of a key add up to at most the size of its pool
 abbrev pub PoolsSuffice : List Request → Type 0
@@ -60,6 +68,7 @@ pub record ToldAlike (requests : List Request) (key : Key) : Type 0 where
 
 pub record Safe (requests : List Request) : Type 0 where
   pub exclusive_alone : ExclusiveAlone requests
+  pub owners_agree : OwnersAgree requests
   pub pools_suffice : PoolsSuffice requests
   pub all_or_none : AllOrNone requests
   pub fits_in_front : FitsInFront requests

@@ -2,7 +2,7 @@
 use Rattle.std.specs.Prelude.{◌≡◌, ◌<◌, ◌/◌, ◌%◌, ℕ, Bool, false, ◌&&◌, List, slice_index_or}
 use Rattle.word36.specs.declared.sizes.TheConstants.{JOBS}
 use Rattle.lock_queue.specs.Waits.{leads_to}
-use Rattle.lock_picture.specs.declared.circles.TheConstants.{NUMBERS, PAIRS}
+use Rattle.queue_script.specs.declared.circles.TheConstants.{NUMBERS, PAIRS}
 
 -- a table says of each two jobs whether this holds of them
 abbrev pub Tells : List Bool → (ℕ → ℕ → Bool) → Type 0

@@ -1,76 +1,9 @@
-//! Tables of pairs of jobs, and the circles in them.
-ghost use Rattle.std.specs.Prelude.{◌≡◌, ◌<◌, ◌&&◌, ◌||◌, ℕ, false, slice_index_or};
-ghost use Rattle.std.specs.List.{list_any};
-ghost use Rattle.lock_queue.specs.Waits.{leads_to, jobs};
+//! The circles in a table of pairs of jobs.
+ghost use Rattle.std.specs.Prelude.{◌≡◌, ◌<◌};
 ghost use Rattle.queue_script.specs.WaitPairs.{pair_in};
 ghost use Rattle.lock_picture.specs.Graphs.{Tells, closes_circle};
 
-use word36::JOBS;
-
-/// One more than the largest job's number.
-pub const NUMBERS: usize = JOBS as usize + 1;
-
-/// The places of a table of pairs.
-pub const PAIRS: usize = NUMBERS * NUMBERS;
-
-/// Something of each two jobs: the place k of the row j says it of the jobs j and k.
-pub type PairTable = [bool; PAIRS];
-
-/// Whether a job waits for one that is reached.
-fn is_step(pairs: &PairTable, reached: &[bool; NUMBERS], job: usize, other: usize) -> bool
-    requires job { job < NUMBERS }
-    requires other { other < NUMBERS }
-    ensures { result ≡ (pair_in pairs.now job other && slice_index_or reached.now other false) }
-{
-    pairs[NUMBERS * job + other] && reached[other]
-}
-
-/// Whether a job waits for one of those that are reached.
-fn has_step(pairs: &PairTable, reached: &[bool; NUMBERS], job: usize) -> bool
-    requires { job < NUMBERS }
-    ensures { result ≡ list_any (λ m. pair_in pairs.now job m && slice_index_or reached.now m false) jobs }
-{
-    for other in 1..NUMBERS {
-        if is_step(pairs, reached, job, other) {
-            return true;
-        }
-    }
-    false
-}
-
-/// Whether a job waits for the target, or for a job from which a walk leads there.
-fn leads_on(pairs: &PairTable, reached: &[bool; NUMBERS], job: usize, target: usize) -> bool
-    requires job { job < NUMBERS }
-    requires target { target < NUMBERS }
-    ensures { result ≡ (pair_in pairs.now job target || list_any (λ m. pair_in pairs.now job m && slice_index_or reached.now m false) jobs) }
-{
-    pairs[NUMBERS * job + target] || has_step(pairs, reached, job)
-}
-
-/// From which jobs a walk of one pair more leads to the target.
-fn lead_further(pairs: &PairTable, reached: &[bool; NUMBERS], target: usize) -> [bool; NUMBERS]
-    requires { target < NUMBERS }
-    ensures { (j : ℕ) → j < NUMBERS → slice_index_or result j false
-        ≡ (pair_in pairs.now j target || list_any (λ m. pair_in pairs.now j m && slice_index_or reached.now m false) jobs) }
-{
-    let mut further = [false; NUMBERS];
-    for job in 0..NUMBERS {
-        further[job] = leads_on(pairs, reached, job, target);
-    }
-    further
-}
-
-/// From which jobs a walk leads to the target.
-fn leading_to(pairs: &PairTable, target: usize) -> [bool; NUMBERS]
-    requires { target < NUMBERS }
-    ensures { (j : ℕ) → j < NUMBERS → slice_index_or result j false ≡ leads_to (pair_in pairs.now) JOBS j target }
-{
-    let mut reached = [false; NUMBERS];
-    for steps in 0..JOBS {
-        reached = lead_further(pairs, &reached, target);
-    }
-    reached
-}
+use queue_script::circles::{NUMBERS, PAIRS, PairTable, leading_to};
 
 /// Whether one job waits for another from which a walk of waits leads back.
 fn does_close_circle(pairs: &PairTable, job: usize, other: usize) -> bool

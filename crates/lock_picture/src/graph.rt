@@ -5,10 +5,11 @@ ghost use Rattle.lock_queue.specs.Waits.{waits_hard_for};
 ghost use Rattle.queue_script.specs.WaitPairs.{pair_in};
 ghost use Rattle.lock_picture.specs.Graphs.{Tells, closes_circle};
 
-use crate::circles::{NUMBERS, PAIRS, PairTable, circle_table};
+use crate::circles::circle_table;
 use crate::copies::requests_in;
 use crate::hard_waits::does_wait_hard_for;
 use lock_queue::{LockTable, Request};
+use queue_script::circles::{NUMBERS, PAIRS, PairTable};
 use std::alloc::{AllocError, Global};
 
 /// Who waits for whom: for an owner, or for one that only stands in front, and in a circle or not.

@@ -1,62 +1,12 @@
 //! Who waits for an owner.
-ghost use Rattle.std.specs.Prelude.{◌≡◌, ◌+◌, nat_le, sum_by};
-ghost use Rattle.std.specs.List.{list_all, list_any};
-ghost use Rattle.lock_queue.specs.Jobs.{is_blocked, is_in_the_way};
-ghost use Rattle.lock_queue.specs.Queue.{agree, amount_of, chosen, fits, granted_behind, requests_of, wants_at};
+ghost use Rattle.std.specs.Prelude.{◌≡◌};
+ghost use Rattle.std.specs.List.{list_any};
+ghost use Rattle.lock_queue.specs.Jobs.{is_in_the_way};
+ghost use Rattle.lock_queue.specs.Queue.{chosen, granted_behind, requests_of, wants_at};
 ghost use Rattle.lock_queue.specs.Waits.{is_withheld_by, is_withheld_from, waits_hard_for};
 
-use lock_queue::steps::{all_agree_in, room_beside, some_in_the_way};
-use lock_queue::{EnqueueKind, Key, Pool, Request, Want};
-
-/// Whether each earlier want of a want's key agrees with it.
-fn all_agree(earlier: &[Request], w: &Want) -> bool
-    ensures { result ≡ list_all (λ v. agree v w.now) (wants_at earlier.now w.now.key) }
-{
-    for r in earlier {
-        if !all_agree_in(r.wants.as_slice(), w) {
-            return false;
-        }
-    }
-    true
-}
-
-/// Whether the earlier amounts of a key and this one add up to at most the pool's size.
-fn is_room(earlier: &[Request], key: &Key, pool: Pool) -> bool
-    ensures { result ≡ nat_le (sum_by amount_of (wants_at earlier.now key.now) + pool.amount) pool.size }
-{
-    let mut left = pool.size() - pool.amount();
-    for r in earlier {
-        match room_beside(r.wants.as_slice(), key, left) {
-            Some(rest) => left = rest,
-            None => return false,
-        }
-    }
-    true
-}
-
-/// Whether a want fits behind the earlier requests.
-fn is_fitting(earlier: &[Request], w: &Want) -> bool
-    ensures { result ≡ fits earlier.now w.now }
-{
-    match w.pool {
-        None => all_agree(earlier, w),
-        Some(pool) => is_room(earlier, &w.key, pool),
-    }
-}
-
-/// Whether a request is granted behind the earlier ones.
-fn is_granted(earlier: &[Request], r: &Request) -> bool
-    ensures { result ≡ granted_behind earlier.now r.now }
-{
-    r.wants.as_slice().iter().all(|w| is_fitting(earlier, w))
-}
-
-/// Whether the job waits by this request.
-fn is_blocked(earlier: &[Request], r: &Request, job: u8) -> bool
-    ensures { result ≡ is_blocked job earlier.now r.now }
-{
-    r.job == job && matches!(r.kind, EnqueueKind::Blocking) && !is_granted(earlier, r)
-}
+use lock_queue::steps::{is_blocked, is_fitting, is_granted, some_in_the_way};
+use lock_queue::{Request, Want};
 
 /// Whether a want that the owner owns is in a want's way.
 fn owner_is_in_the_way(earlier: &[Request], w: &Want, owner: u8) -> bool

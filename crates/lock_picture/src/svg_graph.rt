@@ -1,6 +1,6 @@
 //! The graph of waits in a picture.
 
-use crate::circles::NUMBERS;
+use queue_script::circles::NUMBERS;
 use crate::frame::{Frame, TOP, radius_of};
 use crate::graph::{Graph, Wait};
 use std::fmt;

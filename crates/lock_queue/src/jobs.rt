@@ -11,7 +11,7 @@ use crate::row::Row;
 use crate::{EnqueueKind, Request, RequestId, Want};
 
 /// Whether the job waits by this request: it is blocking, and not granted behind the earlier ones.
-fn is_blocked(earlier: &[Request], r: &Request, job: u8) -> bool
+pub fn is_blocked(earlier: &[Request], r: &Request, job: u8) -> bool
     ensures { result ≡ is_blocked job earlier.now r.now }
 {
     r.job == job && matches!(r.kind, EnqueueKind::Blocking) && !is_granted(earlier, r)

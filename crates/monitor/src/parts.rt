@@ -21,7 +21,7 @@ use machine::{Answer, Config, Event, INTERRUPT_CHARACTER, JobView, RefusedEvent}
 use std::alloc::{AllocError, Global};
 use std::marker::Model;
 use tty_lines::{Char7, LineNumber, Lines};
-use uuo_calls::remove_job;
+use uuo_calls::{CallRoom, remove_job};
 use word36::{Address, BLOCK_WORDS, DATA_WORDS, Image, Word};
 
 /// The parts of the machine.
@@ -37,6 +37,8 @@ pub struct Parts<L: LockTable, C: CoreStore> {
     cores: C,
     /// The words that all jobs share.
     shared: [Word; DATA_WORDS],
+    /// Room for the locks of a call.
+    room: CallRoom,
     /// The time of day in ticks.
     time: TimeOfDay,
     /// The ticks of a quantum.
@@ -100,6 +102,7 @@ impl<L: LockTable, C: CoreStore> Parts<L, C> {
             locks,
             cores,
             shared: [Word::new(0); DATA_WORDS],
+            room: CallRoom::new(),
             time: TimeOfDay::new(0),
             quantum: config.quantum(),
             blocks: config.blocks(),
@@ -144,6 +147,7 @@ impl<L: LockTable, C: CoreStore> Parts<L, C> {
             &mut self.locks,
             &mut self.cores,
             &mut self.shared,
+            &mut self.room,
             &mut self.time,
         );
         Rounds { job: Some(n), made }

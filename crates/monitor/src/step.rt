@@ -10,7 +10,7 @@ use core_store::CoreStore;
 use job_sched::{JobTable, TimeOfDay, Wait};
 use lock_queue::LockTable;
 use tty_lines::Lines;
-use uuo_calls::perform;
+use uuo_calls::{CallRoom, perform};
 use word36::{DATA_WORDS, Word};
 
 /// The ticks behind all of some rounds but the last go by, where ticks go by.
@@ -40,6 +40,7 @@ pub(crate) fn run_job<L: LockTable, C: CoreStore>(
     locks: &mut L,
     cores: &mut C,
     shared: &mut [Word; DATA_WORDS],
+    room: &mut CallRoom,
     time: &mut TimeOfDay,
 ) -> u32
     requires number { IsJob n }
@@ -61,7 +62,7 @@ pub(crate) fn run_job<L: LockTable, C: CoreStore>(
         }
         Some(call) => {
             pass(ticking, rounds, *quantum, table, time);
-            perform(n, call, table, lines, locks, cores, shared, *time);
+            perform(n, call, table, lines, locks, cores, shared, room, *time);
             rounds
         }
     }

@@ -147,7 +147,7 @@ after_outcome w time n j core o =
     let t : Turn = concluded j (with_core w.cores n core) w.requests o in
     called (with_turn w n t) time n t.call
 
--- the same after its turn
+-- what stands before an instruction still stands after its job's turn
 before-turn : (w : World) (n line : ℕ) (t : Turn) (core first taken : List ℕ) (x : Solo) → t.cores ≡ with_core w.cores n core → Before w n line first taken x
     → Before (with_turn w n t) n line first taken x
 before-turn w n line t core first taken x is b = record {

@@ -42,7 +42,7 @@ pub enum Row<'a> {
     Repeats(u32, Event<'a>, Reply<'a>),
     /// So many steps, in so many of which a job runs.
     Steps(u32, u32),
-    /// The same with a tick behind each step.
+    /// So many steps with a tick behind each, in so many of which a job runs.
     Rounds(u32, u32),
     /// Steps with a tick behind each: the numbers of the jobs that run, 0 where none does.
     Turns(&'a [u8]),

@@ -8,7 +8,7 @@ use Rattle.lock_queue.specs.Jobs.{is_blocked, is_blocked_by, is_kept_by, is_wait
 use Rattle.lock_queue.specs.Queue.{some_behind}
 use Rattle.lock_queue.specs.Waits.{numbers_from, jobs, leads_to}
 use Rattle.lock_queue.specs.declared.request.Request.{Request}
-use Rattle.queue_script.specs.declared.wait_pairs.TheConstants.{NUMBERS, PAIRS}
+use Rattle.queue_script.specs.declared.circles.TheConstants.{NUMBERS, PAIRS}
 use Rattle.word36.specs.declared.sizes.TheConstants.{JOBS}
 use Rattle.queue_script.specs.WaitPairs.{pair_in, circle_job, circle_jobs}
 

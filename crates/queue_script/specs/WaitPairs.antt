@@ -4,7 +4,7 @@ use Rattle.std.specs.List.{flat_map}
 use Rattle.lock_queue.specs.Jobs.{waits_for}
 use Rattle.lock_queue.specs.Waits.{jobs, is_in_circle}
 use Rattle.lock_queue.specs.declared.request.Request.{Request}
-use Rattle.queue_script.specs.declared.wait_pairs.TheConstants.{NUMBERS}
+use Rattle.queue_script.specs.declared.circles.TheConstants.{NUMBERS}
 
 -- `j FOR k`, where the job j waits for the job k
 abbrev pub pair_line : List Request → ℕ → ℕ → List ℕ

@@ -4,6 +4,7 @@
 mod asm_sources;
 mod call_room;
 mod call_wants;
+pub mod circles;
 mod commands;
 mod endings;
 mod listings;

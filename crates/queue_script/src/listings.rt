@@ -4,6 +4,7 @@ ghost use Rattle.std.specs.List.{flat_map, list_all};
 ghost use Rattle.word36.specs.Octal.{last_digit, octal};
 ghost use Rattle.queue_script.specs.Listings.{word_line, image_text, fault_text};
 
+use crate::printing::push_word;
 use mac_asm::AsmCode;
 use script_io::push_decimal;
 use std::alloc::AllocError;
@@ -31,14 +32,12 @@ pub fn octal_digits(number: u32) -> [u8; 6]
 
 /// Adds a line of a place and its word.
 #[tactic(auto, using(std::proofs::Common::append_assoc))]
-fn push_word(out: &mut Vec<u8>, place: u32, word: Word) -> Result<(), AllocError>
+fn push_word_line(out: &mut Vec<u8>, place: u32, word: Word) -> Result<(), AllocError>
     ensures { OnOk result (out.new.items ≡ out.old.items ++ word_line (place, word)) }
 {
     out.extend_from_slice(&octal_digits(place))?;
     out.push(b' ')?;
-    out.extend_from_slice(&octal_digits(word.left()))?;
-    out.extend_from_slice(b",,")?;
-    out.extend_from_slice(&octal_digits(word.right()))?;
+    push_word(out, word)?;
     out.push(b'\n')?;
     Ok(())
 }
@@ -48,7 +47,7 @@ fn push_words(out: &mut Vec<u8>, words: &[(u32, Word)]) -> Result<(), AllocError
     ensures { OnOk result (out.new.items ≡ out.old.items ++ flat_map word_line words.now) }
 {
     for word in words {
-        push_word(out, word.0, word.1)?;
+        push_word_line(out, word.0, word.1)?;
     }
     Ok(())
 }

@@ -1,10 +1,11 @@
 //! Who waits for whom.
-ghost use Rattle.std.specs.Prelude.{◌≡◌, ◌++◌, ◌<◌, ◌/◌, ◌%◌, ◌&&◌, ◌||◌, OnOk, ℕ, false, slice_index_or};
-ghost use Rattle.lock_queue.specs.Waits.{leads_to, jobs};
+ghost use Rattle.std.specs.Prelude.{◌≡◌, ◌++◌, ◌<◌, ◌/◌, ◌%◌, OnOk, ℕ, false, slice_index_or};
+ghost use Rattle.lock_queue.specs.Waits.{jobs};
 ghost use Rattle.queue_script.specs.WaitPairs.{pair_line, waits_text, pairs_text, pair_in, circle_job, circle_jobs, or_none};
-ghost use Rattle.std.specs.List.{flat_map, list_any};
+ghost use Rattle.std.specs.List.{flat_map};
 ghost use Rattle.lock_queue.specs.Jobs.{waits_for};
 
+use crate::circles::{NUMBERS, PAIRS, PairTable, leading_to};
 use lock_queue::LockTable;
 use script_io::push_decimal;
 use std::alloc::AllocError;
@@ -57,15 +58,6 @@ fn push_pairs<L: LockTable>(out: &mut Vec<u8>, table: &L) -> Result<(), AllocErr
     Ok(())
 }
 
-/// One more than the largest job's number.
-const NUMBERS: usize = JOBS as usize + 1;
-
-/// The places of a table of pairs.
-const PAIRS: usize = NUMBERS * NUMBERS;
-
-/// Whether each job waits for each: the place k of the row j says it of the jobs j and k.
-type PairTable = [bool; PAIRS];
-
 /// The table of who waits for whom.
 fn pair_table<L: LockTable>(table: &L) -> PairTable
     ensures { (i : ℕ) → i < PAIRS → slice_index_or result i false ≡ waits_for (L.requests table.now) (i / NUMBERS) (i % NUMBERS) }
@@ -75,66 +67,6 @@ fn pair_table<L: LockTable>(table: &L) -> PairTable
         pairs[i] = does_wait(table, (i / NUMBERS) as u8, (i % NUMBERS) as u8);
     }
     pairs
-}
-
-/// Whether a job waits for one that is reached.
-fn is_step(pairs: &PairTable, reached: &[bool; NUMBERS], job: usize, other: usize) -> bool
-    requires job { job < NUMBERS }
-    requires other { other < NUMBERS }
-    ensures { result ≡ (pair_in pairs.now job other && slice_index_or reached.now other false) }
-{
-    pairs[NUMBERS * job + other] && reached[other]
-}
-
-/// Whether a job waits for one of those that are reached.
-fn has_step(pairs: &PairTable, reached: &[bool; NUMBERS], job: usize) -> bool
-    requires { job < NUMBERS }
-    ensures { result ≡ list_any (λ m. pair_in pairs.now job m && slice_index_or reached.now m false) jobs }
-{
-    for other in 1..NUMBERS {
-        if is_step(pairs, reached, job, other) {
-            return true;
-        }
-    }
-    false
-}
-
-/// Whether a job waits for the target, or for a job from which a walk leads there.
-fn leads_on(pairs: &PairTable, reached: &[bool; NUMBERS], job: usize, target: usize) -> bool
-    requires job { job < NUMBERS }
-    requires target { target < NUMBERS }
-    ensures { result ≡ (pair_in pairs.now job target || list_any (λ m. pair_in pairs.now job m && slice_index_or reached.now m false) jobs) }
-{
-    pairs[NUMBERS * job + target] || has_step(pairs, reached, job)
-}
-
-/// From which jobs a walk of one pair more leads to the target.
-fn lead_further(pairs: &PairTable, reached: &[bool; NUMBERS], target: usize) -> [bool; NUMBERS]
-    requires { target < NUMBERS }
-    ensures { (j : ℕ) → j < NUMBERS → slice_index_or result j false
-        ≡ (pair_in pairs.now j target || list_any (λ m. pair_in pairs.now j m && slice_index_or reached.now m false) jobs) }
-{
-    let mut further = [false; NUMBERS];
-    for job in 0..NUMBERS {
-        further[job] = leads_on(pairs, reached, job, target);
-    }
-    further
-}
-
-/// From which jobs a walk leads to the target.
-fn leading_to(pairs: &PairTable, target: usize) -> [bool; NUMBERS]
-    requires { target < NUMBERS }
-    ensures { (j : ℕ) → j < NUMBERS → slice_index_or result j false ≡ leads_to (pair_in pairs.now) JOBS j target }
-{
-    let mut reached = [false; NUMBERS];
-    for steps in 0..JOBS {
-        let further = lead_further(pairs, &reached, target);
-        if further == reached {
-            return reached;
-        }
-        reached = further;
-    }
-    reached
 }
 
 /// Adds a job from which a walk leads back.

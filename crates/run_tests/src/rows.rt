@@ -40,7 +40,7 @@ fn two_jobs_count_under_a_lock(rt: HostRuntime) -> Result<(), Fail> {
     let mut text = Vec::from_slice(alloc, COUNTER_TEXT)?;
     text.extend_from_slice(b"RAN 2204 IDLE 3796\n000000,,000310\n")?;
     expect(&rt, alloc, script.as_slice(), text.as_slice());
-    // The same with the longest quantum, where no tick comes between the steps of a count.
+    // And with the longest quantum, where no tick comes between the steps of a count.
     let mut long = Vec::from_slice(alloc, COUNTER)?;
     long.extend_from_slice(b"RUN 6000\nDATA 0\n")?;
     expect_on(

@@ -24,6 +24,6 @@ pub unless_ended-same : {E : Type 0} (o : Option E) (s t : Transcript E) → is_
 unless_ended-same (Some e) s t h = refl
 unless_ended-same None s t h = cc
 
--- the same where there is no end
+-- where there is no end nothing need be shown of what is behind it
 pub never_ended-same : {E : Type 0} (s t : Transcript E) → false ≡ true → s ≡ t
 never_ended-same s t h = cc

@@ -6,6 +6,7 @@ use Rattle.job_sched.specs.Jobs.{halted, no_interrupts}
 use Rattle.job_sched.specs.declared.job.Job.{Job}
 use Rattle.job_sched.specs.declared.job.Stop.TheVariants.{Exit, Monitor}
 use Rattle.job_sched.specs.declared.job.Wait.TheVariants.{Sleep}
+use Rattle.job_sched.specs.declared.time_of_day.TheConstants.{TICKS_A_SECOND}
 use Rattle.uuo_calls.specs.Around.{Around, ac_of, with_ac, waiting}
 
 -- the job has no vector
@@ -33,7 +34,7 @@ pjob_row n ac a = record a { job = with_ac a.job ac n }
 
 -- so many seconds in ticks, and one tick for none
 abbrev pub ticks_of : ℕ → ℕ
-ticks_of seconds = if seconds == 0 then 1 else 60 * seconds
+ticks_of seconds = if seconds == 0 then 1 else TICKS_A_SECOND * seconds
 
 abbrev pub sleep_row : ℕ → Around → Around
 sleep_row ac a = record a { job = waiting a.job (Sleep (ticks_of (right_half (ac_of a.job ac)))) }

@@ -18,6 +18,7 @@ use crate::jobs::{exit, mstime, pjob, reset, sleep};
 use crate::locks::{deq, enq};
 use crate::output::{outchr, outstr};
 use crate::returns::stop_at;
+use crate::room::CallRoom;
 use crate::service::{Service, service_of};
 use crate::status::enqc;
 use core_store::CoreStore;
@@ -39,6 +40,7 @@ fn carry_out<L: LockTable, C: CoreStore>(
     locks: &mut L,
     cores: &mut C,
     shared: &mut [Word; DATA_WORDS],
+    room: &mut CallRoom,
 ) -> CallOutcome
     requires number { IsJob number }
     requires core { core_of (C.meaning cores.old) number ≢ [] }
@@ -57,9 +59,9 @@ fn carry_out<L: LockTable, C: CoreStore>(
         Service::Piini => piini(number, job, ac, cores),
         Service::Pisys => pisys(job, ac),
         Service::Debrk => debrk(number, job, cores),
-        Service::Enq => enq(number, job, ac, locks, cores),
-        Service::Deq => deq(number, job, ac, locks, cores),
-        Service::Enqc => enqc(number, job, ac, locks, cores),
+        Service::Enq => enq(number, job, ac, locks, cores, room),
+        Service::Deq => deq(number, job, ac, locks, cores, room),
+        Service::Enqc => enqc(number, job, ac, locks, cores, room),
         Service::Datrd => datrd(job, ac, shared),
         Service::Datwr => datwr(job, ac, shared),
         Service::Input(awaited, skips) => {
@@ -101,8 +103,9 @@ pub fn remove_job<L: LockTable, C: CoreStore>(
 /// 0 to 5 and 11 to 14 octal. A refused call puts its code in AC, does not skip and changes nothing
 /// else, but for a request of ENQ. 2 that is not granted at once, which stays. Any other call stops the
 /// job as an illegal instruction, and one that meets an illegal address stops it for that; both put
-/// the PC back and change nothing else. Nothing takes memory. It is not inlined, so that a step without a
-/// call is short.
+/// the PC back and change nothing else. Nothing takes memory: a call that names locks reads them into
+/// the room that is lent, and what it leaves there means nothing. It is not inlined, so that a step
+/// without a call is short.
 #[inline(never)]
 pub fn perform<L: LockTable, C: CoreStore>(
     number: u8,
@@ -112,6 +115,7 @@ pub fn perform<L: LockTable, C: CoreStore>(
     locks: &mut L,
     cores: &mut C,
     shared: &mut [Word; DATA_WORDS],
+    room: &mut CallRoom,
     time: TimeOfDay,
 ) -> CallOutcome
     requires number { IsJob number }
@@ -125,7 +129,7 @@ pub fn perform<L: LockTable, C: CoreStore>(
     let outcome = match &mut table.jobs[number as usize] {
         Some(job) => {
             let outcome = carry_out(
-                service, time, number, ac, e, job, lines, locks, cores, shared,
+                service, time, number, ac, e, job, lines, locks, cores, shared, room,
             );
             table.sleepers |= job.is_asleep();
             outcome

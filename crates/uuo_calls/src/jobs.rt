@@ -10,13 +10,10 @@ ghost use Rattle.job_sched.specs.declared.job.Wait.TheVariants.{Sleep};
 ghost use Rattle.uuo_calls.specs.Around.{ac_of, with_ac, waiting};
 ghost use Rattle.uuo_calls.specs.JobRows.{calm, ticks_of};
 
-use job_sched::{Job, NO_INTERRUPTS, Stop, TimeOfDay, Wait};
+use job_sched::{Job, NO_INTERRUPTS, Stop, TICKS_A_SECOND, TimeOfDay, Wait};
 use ka_cpu::Accumulator;
 use lock_queue::LockTable;
 use word36::Word;
-
-/// The ticks of a second.
-const SECOND: u32 = 60;
 
 /// RESET.
 pub(crate) fn reset<L: LockTable>(number: u8, job: &mut Job, locks: &mut L)
@@ -57,6 +54,6 @@ pub(crate) fn sleep(job: &mut Job, ac: Accumulator)
     ensures { job.new ≡ waiting job.old (Sleep (ticks_of (right_half (ac_of job.old ac)))) }
 {
     let seconds = job.regs.ac[ac.index()].right();
-    let ticks = if seconds == 0 { 1 } else { SECOND * seconds };
+    let ticks = if seconds == 0 { 1 } else { TICKS_A_SECOND * seconds };
     job.wait = Wait::Sleep(ticks);
 }

@@ -13,6 +13,7 @@ mod laws;
 mod locks;
 mod output;
 mod returns;
+mod room;
 mod service;
 mod status;
 
@@ -22,3 +23,4 @@ pub use laws::{
     core_answers_free_blocks, empty_steps_wait, mstime_answers_milliseconds, others_are_spared,
     refusals_change_ac_alone, texts_go_whole,
 };
+pub use room::CallRoom;

@@ -6,16 +6,16 @@ ghost use Rattle.call_block.specs.Blocks.{block_at};
 ghost use Rattle.lock_queue.specs.WellFormed.{names_locks, shares_no_pools};
 ghost use Rattle.lock_queue.specs.Calls.{outcome_of};
 ghost use Rattle.lock_queue.specs.declared.call.LockCall.TheVariants.{DequeueAll, DequeueId};
-ghost use Rattle.lock_queue.specs.declared.terms.LockUse.TheVariants.{Requested, Named};
-ghost use Rattle.uuo_calls.specs.LockRows.{filled, with_block, entering, changing, naming, enq_asks, deq_asks, asked, answered};
+ghost use Rattle.uuo_calls.specs.LockRows.{filled, with_block, enq_asks, deq_asks, asked, answered};
 ghost use Rattle.uuo_calls.specs.Around.{ac_of};
 
 use crate::blocks::block_kept;
 use crate::returns::{refuse, skip};
+use crate::room::{CallRoom, be_changing, be_entering, be_naming};
 use core_store::{CoreStore, CoreWindow};
 use job_sched::{Job, Wait};
 use ka_cpu::{Accumulator, JobMemory, Regs};
-use lock_queue::{EnqueueKind, LockCall, LockReply, LockTable, LockUse, Refusal, RequestId, Wants};
+use lock_queue::{EnqueueKind, LockCall, LockReply, LockTable, LockUse, Refusal, RequestId};
 use word36::{Address, Word};
 
 /// Fills in the locks of a call that names some, and the id of a request, from the block at an
@@ -71,63 +71,6 @@ fn call_on_block<L: LockTable, M: JobMemory>(
     }
 }
 
-/// Enters the request that a block asks for, in a call of ENQ. 0 to 2.
-fn enter<L: LockTable, M: JobMemory>(
-    kind: EnqueueKind,
-    armed: bool,
-    regs: &Regs,
-    memory: &mut M,
-    place: Address,
-    number: u8,
-    locks: &mut L,
-) -> LockReply
-    requires number { IsJob number }
-    ensures reply { result ≡ (asked (L.requests locks.old) number (entering kind armed (block_at regs.now.ac (M.words memory.old) place number Requested))).reply }
-    ensures requests { L.requests locks.new ≡ (asked (L.requests locks.old) number (entering kind armed (block_at regs.now.ac (M.words memory.old) place number Requested))).requests }
-    ensures same { memory.new ≡ memory.old }
-{
-    let mut call = LockCall::Enqueue {
-        kind,
-        id: RequestId::new(0),
-        wants: Wants::new(),
-        armed,
-    };
-    call_on_block(
-        &mut call,
-        LockUse::Requested,
-        regs,
-        memory,
-        place,
-        number,
-        locks,
-    )
-}
-
-/// Makes the change that a block asks for, in a call of ENQ. 3.
-fn change<L: LockTable, M: JobMemory>(
-    regs: &Regs,
-    memory: &mut M,
-    place: Address,
-    number: u8,
-    locks: &mut L,
-) -> LockReply
-    requires number { IsJob number }
-    ensures reply { result ≡ (asked (L.requests locks.old) number (changing (block_at regs.now.ac (M.words memory.old) place number Named))).reply }
-    ensures requests { L.requests locks.new ≡ (asked (L.requests locks.old) number (changing (block_at regs.now.ac (M.words memory.old) place number Named))).requests }
-    ensures same { memory.new ≡ memory.old }
-{
-    let mut call = LockCall::Modify(Wants::new());
-    call_on_block(
-        &mut call,
-        LockUse::Named,
-        regs,
-        memory,
-        place,
-        number,
-        locks,
-    )
-}
-
 /// Makes a call of ENQ.: the left half of AC is the function, the right half the block's address.
 fn enqueue<L: LockTable, M: JobMemory>(
     regs: &Regs,
@@ -136,6 +79,7 @@ fn enqueue<L: LockTable, M: JobMemory>(
     word: Word,
     armed: bool,
     locks: &mut L,
+    room: &mut CallRoom,
 ) -> LockReply
     requires number { IsJob number }
     ensures reply { result ≡ (asked (L.requests locks.old) number (enq_asks regs.now.ac (M.words memory.old) number word armed)).reply }
@@ -147,10 +91,16 @@ fn enqueue<L: LockTable, M: JobMemory>(
         0 => EnqueueKind::Blocking,
         1 => EnqueueKind::AtOnce,
         2 => EnqueueKind::Interrupt,
-        3 => return change(regs, memory, place, number, locks),
+        3 => {
+            let call = &mut room.naming;
+            be_changing(call);
+            return call_on_block(call, LockUse::Named, regs, memory, place, number, locks);
+        }
         _ => return LockReply::Refused(Refusal::NoFunction),
     };
-    enter(kind, armed, regs, memory, place, number, locks)
+    let call = &mut room.entering;
+    be_entering(call, kind, armed);
+    call_on_block(call, LockUse::Requested, regs, memory, place, number, locks)
 }
 
 /// Tells a job what its lock call answered.
@@ -174,6 +124,7 @@ pub(crate) fn enq<L: LockTable, C: CoreStore>(
     ac: Accumulator,
     locks: &mut L,
     cores: &mut C,
+    room: &mut CallRoom,
 )
     requires number { IsJob number }
     ensures job { job.new ≡ answered job.old ac (asked (L.requests locks.old) number (enq_asks job.old.regs.ac (core_of (C.meaning cores.old) number) number (ac_of job.old ac) (is_some job.old.interrupts.vector))).reply }
@@ -184,33 +135,8 @@ pub(crate) fn enq<L: LockTable, C: CoreStore>(
     let armed = job.interrupts.vector.is_some();
     let words = cores.window(number);
     let mut window = CoreWindow { words };
-    let reply = enqueue(&job.regs, &mut window, number, word, armed, locks);
+    let reply = enqueue(&job.regs, &mut window, number, word, armed, locks, room);
     answer(job, ac, reply);
-}
-
-/// Gives up the wants that a block names, in a call of DEQ. 0.
-fn give_up<L: LockTable, M: JobMemory>(
-    regs: &Regs,
-    memory: &mut M,
-    place: Address,
-    number: u8,
-    locks: &mut L,
-) -> LockReply
-    requires number { IsJob number }
-    ensures reply { result ≡ (asked (L.requests locks.old) number (naming (block_at regs.now.ac (M.words memory.old) place number Named))).reply }
-    ensures requests { L.requests locks.new ≡ (asked (L.requests locks.old) number (naming (block_at regs.now.ac (M.words memory.old) place number Named))).requests }
-    ensures same { memory.new ≡ memory.old }
-{
-    let mut call = LockCall::DequeueNamed(Wants::new());
-    call_on_block(
-        &mut call,
-        LockUse::Named,
-        regs,
-        memory,
-        place,
-        number,
-        locks,
-    )
 }
 
 /// Gives up all wants, in a call of DEQ. 1.
@@ -239,6 +165,7 @@ fn dequeue<L: LockTable, M: JobMemory>(
     number: u8,
     word: Word,
     locks: &mut L,
+    room: &mut CallRoom,
 ) -> LockReply
     requires number { IsJob number }
     ensures reply { result ≡ (asked (L.requests locks.old) number (deq_asks regs.now.ac (M.words memory.old) number word)).reply }
@@ -247,7 +174,12 @@ fn dequeue<L: LockTable, M: JobMemory>(
 {
     let right = word.right();
     match word.left() {
-        0 => give_up(regs, memory, Address::new(right), number, locks),
+        0 => {
+            let call = &mut room.naming;
+            be_naming(call);
+            let place = Address::new(right);
+            call_on_block(call, LockUse::Named, regs, memory, place, number, locks)
+        }
         1 => give_up_all(number, locks),
         2 => give_up_id(RequestId::new(right), number, locks),
         _ => LockReply::Refused(Refusal::NoFunction),
@@ -261,6 +193,7 @@ pub(crate) fn deq<L: LockTable, C: CoreStore>(
     ac: Accumulator,
     locks: &mut L,
     cores: &mut C,
+    room: &mut CallRoom,
 )
     requires number { IsJob number }
     ensures job { job.new ≡ answered job.old ac (asked (L.requests locks.old) number (deq_asks job.old.regs.ac (core_of (C.meaning cores.old) number) number (ac_of job.old ac))).reply }
@@ -270,6 +203,6 @@ pub(crate) fn deq<L: LockTable, C: CoreStore>(
     let word = job.regs.ac[ac.index()];
     let words = cores.window(number);
     let mut window = CoreWindow { words };
-    let reply = dequeue(&job.regs, &mut window, number, word, locks);
+    let reply = dequeue(&job.regs, &mut window, number, word, locks, room);
     answer(job, ac, reply);
 }

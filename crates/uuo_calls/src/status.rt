@@ -11,6 +11,7 @@ ghost use Rattle.uuo_calls.specs.StatusRow.{Places, stored, status_words, enqc_a
 
 use crate::blocks::block_kept;
 use crate::returns::{refuse, skip};
+use crate::room::CallRoom;
 use core_store::{CoreStore, CoreWindow};
 use job_sched::Job;
 use ka_cpu::{Accumulator, JobMemory, Regs, are_legal_kept, store};
@@ -111,6 +112,7 @@ pub(crate) fn enqc<L: LockTable, C: CoreStore>(
     ac: Accumulator,
     locks: &L,
     cores: &mut C,
+    room: &mut CallRoom,
 )
     requires number { IsJob number }
     ensures job { job.new ≡ (enqc (L.requests locks.now) number ac job.old (core_of (C.meaning cores.old) number)).job }
@@ -120,7 +122,7 @@ pub(crate) fn enqc<L: LockTable, C: CoreStore>(
     let to = job.regs.ac[ac.next().index()].right();
     let words = cores.window(number);
     let mut window = CoreWindow { words };
-    let mut wants = Wants::new();
-    let asks = enqc_asks(&job.regs, &mut window, number, word, to, &mut wants);
-    tell(number, job, ac, &mut window, to, asks, &wants, locks);
+    let wants = &mut room.told;
+    let asks = enqc_asks(&job.regs, &mut window, number, word, to, wants);
+    tell(number, job, ac, &mut window, to, asks, wants, locks);
 }

@@ -1,6 +1,7 @@
 use Rattle.std.proofs.Common.{◌≡◌, if◌then◌else◌, ◌∙◌, refl, ap, sym, List, ℕ, Result, Ok, true, false}
 use Rattle.ka_isa.specs.Families.{family_of}
 use Rattle.ka_isa.specs.declared.Family.TheVariants.{Xct}
+use Rattle.ka_cpu.specs.declared.limits.TheConstants.{MOST_EXECUTES}
 use Rattle.ka_cpu.specs.Addresses.{address_in, target_of, used_in}
 use Rattle.ka_cpu.specs.Effects.{stopped}
 use Rattle.ka_cpu.specs.Exec.{ac_field, carried_out, is_listed, op_of, word_behind, word_performed}
@@ -22,9 +23,9 @@ returns-in-Some-clause-after g c =
     let h : Ok c.in-Ok.e ≡ address_in (target_of c.words.regs.ac core c.words.word) = c.in-Ok.ensures in
     c.in-Some.ensures.after
     ∙ ap (λ (n : Instruction). if is_listed (family_of n.op) n.ac then carried_out (family_of n.op) c.words.regs core n (used_in (target_of c.words.regs.ac core c.words.word)) else stopped c.words.regs core IllegalInstruction) c.new-instruction.ensures
-    ∙ sym (executed_by 256 c.words.regs core c.words.word c.operation-op.result c.accumulator_field-ac.result c.in-Ok.e p q f h)
-    ∙ ap (λ (r : Regs). word_performed r core (word_behind 256 r.ac core c.words.word)) c.words.invariant.regs
-    ∙ ap (λ (m : List ℕ). word_performed c.args.regs.now m (word_behind 256 c.args.regs.now.ac m c.words.word)) c.words.invariant.core
+    ∙ sym (executed_by MOST_EXECUTES c.words.regs core c.words.word c.operation-op.result c.accumulator_field-ac.result c.in-Ok.e p q f h)
+    ∙ ap (λ (r : Regs). word_performed r core (word_behind MOST_EXECUTES r.ac core c.words.word)) c.words.invariant.regs
+    ∙ ap (λ (m : List ℕ). word_performed c.args.regs.now m (word_behind MOST_EXECUTES c.args.regs.now.ac m c.words.word)) c.words.invariant.core
     ∙ ap (λ (x : Result ℕ StopReason). word_performed c.args.regs.now here x) c.words.invariant.behind
 
 pub returns-in-Err-find_executed-clause-after : goal.returns-in-Err-find_executed-clause-after

@@ -1,4 +1,5 @@
 use Rattle.std.proofs.Common.{◌≡◌, if◌then◌else◌}
+use Rattle.ka_cpu.specs.declared.limits.TheConstants.{MOST_EXECUTES}
 use Rattle.ka_cpu.specs.Exec.{is_xct, word_behind}
 use Rattle.ka_cpu.proofs.processor.execute.Given as goal
 
@@ -7,7 +8,7 @@ invariant-words g l = record {
   regs : l.regs ≡ l.fn.regs;
   core : g.M.JobMemory.words l.memory ≡ g.M.JobMemory.words l.fn.memory;
   place : g.M.JobMemory.place l.memory ≡ g.M.JobMemory.place l.fn.memory;
-  behind : word_behind 256 l.fn.regs.ac (g.M.JobMemory.words l.fn.memory) l.word ≡ word_behind 256 l.fn.regs.ac (g.M.JobMemory.words l.fn.memory) l.fn.word;
+  behind : word_behind MOST_EXECUTES l.fn.regs.ac (g.M.JobMemory.words l.fn.memory) l.word ≡ word_behind MOST_EXECUTES l.fn.regs.ac (g.M.JobMemory.words l.fn.memory) l.fn.word;
 }
 
 -- the word behind an XCT is none

@@ -1,4 +1,5 @@
 use Rattle.std.proofs.Common.{◌≡◌, ◌-◌}
+use Rattle.ka_cpu.specs.declared.limits.TheConstants.{MOST_EXECUTES}
 use Rattle.ka_cpu.specs.Addresses.{reading}
 use Rattle.ka_cpu.specs.Exec.{word_behind}
 use Rattle.ka_cpu.specs.Places.{word_at}
@@ -6,5 +7,5 @@ use Rattle.ka_cpu.proofs.processor.follow_executes.Given as goal
 
 abbrev pub invariant-loop-turn : goal.invariant-loop-turn
 invariant-loop-turn g l =
-    word_behind (256 - l.turn) l.regs.ac (g.M.JobMemory.words l.memory) l.word
+    word_behind (MOST_EXECUTES - l.turn) l.regs.ac (g.M.JobMemory.words l.memory) l.word
     ≡ reading (word_at l.regs.ac (g.M.JobMemory.words l.memory) l.fn.e) (λ v. word_behind 255 l.regs.ac (g.M.JobMemory.words l.memory) v)

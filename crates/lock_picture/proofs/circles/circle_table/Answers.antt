@@ -3,7 +3,7 @@ use Rattle.std.proofs.Math.ListN.{length-set}
 use Rattle.queue_script.specs.WaitPairs.{pair_in}
 use Rattle.queue_script.proofs.PairLemmas.{set-known}
 use Rattle.lock_picture.specs.Graphs.{closes_circle}
-use Rattle.lock_picture.specs.declared.circles.TheConstants.{NUMBERS}
+use Rattle.queue_script.specs.declared.circles.TheConstants.{NUMBERS}
 use Rattle.lock_picture.proofs.circles.circle_table.Goals as goal
 
 pub loop-i-preserved : goal.loop-i-preserved

@@ -1,7 +1,7 @@
 use Rattle.std.proofs.Common.{◌≡◌, ◌<◌, ◌/◌, ◌%◌, ℕ, false, length, slice_index_or}
 use Rattle.queue_script.specs.WaitPairs.{pair_in}
 use Rattle.lock_picture.specs.Graphs.{closes_circle}
-use Rattle.lock_picture.specs.declared.circles.TheConstants.{NUMBERS, PAIRS}
+use Rattle.queue_script.specs.declared.circles.TheConstants.{NUMBERS, PAIRS}
 use Rattle.lock_picture.proofs.circles.circle_table.Given as goal
 
 abbrev pub invariant-loop-i : goal.invariant-loop-i

@@ -1,6 +1,6 @@
 use Rattle.std.proofs.Common.{◌≡◌, ◌<◌, ◌/◌, ◌%◌, ℕ, false, length, slice_index_or}
 use Rattle.lock_queue.specs.Waits.{waits_hard_for}
-use Rattle.lock_picture.specs.declared.circles.TheConstants.{NUMBERS, PAIRS}
+use Rattle.queue_script.specs.declared.circles.TheConstants.{NUMBERS, PAIRS}
 use Rattle.lock_picture.proofs.graph.hard_table.Given as goal
 
 abbrev pub invariant-loop-i : goal.invariant-loop-i

@@ -2,7 +2,7 @@ use Rattle.std.proofs.Common.{◌<◌, ◌/◌, ◌%◌, ◌∙◌, ℕ, length,
 use Rattle.std.proofs.Math.ListN.{length-set}
 use Rattle.lock_queue.specs.Jobs.{waits_for}
 use Rattle.queue_script.proofs.PairLemmas.{set-known}
-use Rattle.lock_picture.specs.declared.circles.TheConstants.{NUMBERS}
+use Rattle.queue_script.specs.declared.circles.TheConstants.{NUMBERS}
 use Rattle.lock_picture.proofs.graph.wait_table.Goals as goal
 
 pub loop-i-preserved : goal.loop-i-preserved

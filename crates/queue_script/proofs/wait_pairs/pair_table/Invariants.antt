@@ -1,6 +1,6 @@
 use Rattle.std.proofs.Common.{◌≡◌, ◌<◌, ◌/◌, ◌%◌, ℕ, false, length, slice_index_or}
 use Rattle.lock_queue.specs.Jobs.{waits_for}
-use Rattle.queue_script.specs.declared.wait_pairs.TheConstants.{NUMBERS, PAIRS}
+use Rattle.queue_script.specs.declared.circles.TheConstants.{NUMBERS, PAIRS}
 use Rattle.queue_script.proofs.wait_pairs.pair_table.Given as goal
 
 abbrev pub invariant-loop-i : goal.invariant-loop-i

@@ -3,7 +3,7 @@ use Rattle.std.specs.List.{flat_map}
 use Rattle.lock_queue.specs.Waits.{jobs}
 use Rattle.queue_script.specs.WaitPairs.{pair_line}
 use Rattle.queue_script.proofs.PairLemmas.{texts-start, texts-step, texts-end}
-use Rattle.queue_script.specs.declared.wait_pairs.TheConstants.{NUMBERS}
+use Rattle.queue_script.specs.declared.circles.TheConstants.{NUMBERS}
 use Rattle.queue_script.proofs.wait_pairs.push_pairs.Goals as goal
 
 pub loop-job-init : goal.loop-job-init

@@ -4,7 +4,7 @@ use Rattle.std.specs.List.{list_any}
 use Rattle.lock_queue.specs.Waits.{jobs}
 use Rattle.queue_script.specs.WaitPairs.{pair_in}
 use Rattle.queue_script.proofs.PairLemmas.{set-known}
-use Rattle.queue_script.proofs.wait_pairs.lead_further.Goals as goal
+use Rattle.queue_script.proofs.circles.lead_further.Goals as goal
 
 pub loop-job-preserved : goal.loop-job-preserved
 loop-job-preserved c =

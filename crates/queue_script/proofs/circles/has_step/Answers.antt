@@ -3,8 +3,8 @@ use Rattle.std.specs.List.{list_any}
 use Rattle.lock_queue.specs.Waits.{jobs}
 use Rattle.queue_script.specs.WaitPairs.{pair_in}
 use Rattle.queue_script.proofs.PairLemmas.{any-start, any-step, any-found, any-end}
-use Rattle.queue_script.specs.declared.wait_pairs.TheConstants.{NUMBERS}
-use Rattle.queue_script.proofs.wait_pairs.has_step.Goals as goal
+use Rattle.queue_script.specs.declared.circles.TheConstants.{NUMBERS}
+use Rattle.queue_script.proofs.circles.has_step.Goals as goal
 
 pub loop-other-init : goal.loop-other-init
 loop-other-init c = any-start (λ m. pair_in c.args.pairs.now c.args.job m && slice_index_or c.args.reached.now m false)

@@ -3,9 +3,9 @@ use Rattle.std.specs.Prelude.{replicate}
 use Rattle.lock_queue.specs.Waits.{leads_to}
 use Rattle.queue_script.specs.WaitPairs.{pair_in}
 use Rattle.queue_script.proofs.PairLemmas.{all-false, leads-end, leads-start, leads-step, same-bools}
-use Rattle.queue_script.specs.declared.wait_pairs.TheConstants.{NUMBERS}
+use Rattle.queue_script.specs.declared.circles.TheConstants.{NUMBERS}
 use Rattle.word36.specs.declared.sizes.TheConstants.{JOBS}
-use Rattle.queue_script.proofs.wait_pairs.leading_to.Goals as goal
+use Rattle.queue_script.proofs.circles.leading_to.Goals as goal
 
 pub loop-steps-init : goal.loop-steps-init
 loop-steps-init c = λ j h. all-false (replicate NUMBERS false) j refl ∙ sym (leads-start (pair_in c.args.pairs.now) j c.args.target)

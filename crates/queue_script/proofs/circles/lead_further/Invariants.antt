@@ -2,8 +2,8 @@ use Rattle.std.proofs.Common.{◌≡◌, ◌<◌, ◌&&◌, ◌||◌, ℕ, false
 use Rattle.std.specs.List.{list_any}
 use Rattle.lock_queue.specs.Waits.{jobs}
 use Rattle.queue_script.specs.WaitPairs.{pair_in}
-use Rattle.queue_script.specs.declared.wait_pairs.TheConstants.{NUMBERS}
-use Rattle.queue_script.proofs.wait_pairs.lead_further.Given as goal
+use Rattle.queue_script.specs.declared.circles.TheConstants.{NUMBERS}
+use Rattle.queue_script.proofs.circles.lead_further.Given as goal
 
 abbrev pub invariant-loop-job : goal.invariant-loop-job
 invariant-loop-job l = record {

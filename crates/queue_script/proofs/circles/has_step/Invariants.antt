@@ -2,8 +2,8 @@ use Rattle.std.proofs.Common.{◌≡◌, ◌&&◌, ◌-◌, false, slice_index_o
 use Rattle.std.specs.List.{list_any}
 use Rattle.lock_queue.specs.Waits.{jobs, numbers_from}
 use Rattle.queue_script.specs.WaitPairs.{pair_in}
-use Rattle.lock_picture.specs.declared.circles.TheConstants.{NUMBERS}
-use Rattle.lock_picture.proofs.circles.has_step.Given as goal
+use Rattle.queue_script.specs.declared.circles.TheConstants.{NUMBERS}
+use Rattle.queue_script.proofs.circles.has_step.Given as goal
 
 abbrev pub invariant-loop-other : goal.invariant-loop-other
 invariant-loop-other l =
