@@ -26,11 +26,10 @@ use Rattle.lock_table.specs.declared.departures.Leaving.{Leaving}
 use Rattle.lock_table.specs.declared.departures.Leaving.TheVariants.{All, OfId, Blocked}
 use Rattle.lock_table.specs.Departures.{leaves, stays, signature_where, loses, with_fewer, keeps_wants, with_change, call_of, leaving_of}
 use Rattle.lock_table.specs.Filings.{Filing, requests_in, AreRight}
-use Rattle.lock_table.specs.Findings.{lost_in}
 use Rattle.lock_table.specs.Renewals.{raised, AreOutdated}
 use Rattle.lock_table.specs.Signatures.{group_of, meets, signature_of}
-use Rattle.lock_table.proofs.DepartureLaws.{after, put, at_key, Changes, outdated, outdated-changed, lost-changed, Keeps, raised-all}
-use Rattle.lock_table.proofs.Fitting.{same_key-eq, same_key-swap}
+use Rattle.lock_table.proofs.ChangeLaws.{change-key, at-changed, all-unchanged}
+use Rattle.lock_table.proofs.DepartureLaws.{lost_in, after, put, at_key, Changes, outdated, outdated-changed, lost-changed, Keeps, raised-all}
 use Rattle.lock_table.proofs.RightLaws.{chosen-right}
 use Rattle.lock_table.proofs.SignatureLaws.{unmet-right, unsigned, signed, names-none, no-bit-left, no-bit-or}
 
@@ -322,47 +321,6 @@ pub change-woken : (fs : List Filing) (job : ℕ) (changes : ArrayVec Want) → 
     → raised [] (map (with_change job changes.items) fs) ≡ woken (left_of job (Modify changes)) (requests_in fs)
 change-woken fs job changes h =
     ap (raised []) (change-after fs job changes) ∙ raised-all (left_of job (Modify changes)) (left-keeps job (Modify changes)) fs h
-
-change-key : (cs : List Want) (w : Want) → (changed_want cs w).key ≡ w.key
-change-key [] w = refl
-change-key (c ∷ cs) w =
-    elim (same_key w.key c.key) as (λ b. (cond b (record w { shared = c.shared }) (changed_want cs w)).key ≡ w.key) [
-      | true ↦ refl
-      | false ↦ change-key cs w
-    ]
-
-unchanged : (cs : List Want) (w : Want) → names cs w.key ≡ false → changed_want cs w ≡ w
-unchanged [] w h = refl
-unchanged (c ∷ cs) w h =
-    let p = or_parts (same_key c.key w.key) (names cs w.key) h in
-    go (same_key w.key c.key) refl p.0 (unchanged cs w p.1)
-  where
-    go : (b : Bool) → same_key w.key c.key ≡ b → same_key c.key w.key ≡ false → changed_want cs w ≡ w
-        → cond b (record w { shared = c.shared }) (changed_want cs w) ≡ w
-    go true e other rest = absurd (let swapped = same_key-swap w.key c.key e in cc)
-    go false e other rest = rest
-
-at-changed : (cs ws : List Want) (k : Key) → names cs k ≡ false
-    → filter (λ w. same_key w.key k) (map (changed_want cs) ws) ≡ filter (λ w. same_key w.key k) ws
-at-changed cs [] k h = refl
-at-changed cs (w ∷ ws) k h =
-    ap (λ key. cond (same_key key k) (changed_want cs w ∷ filter (λ w. same_key w.key k) (map (changed_want cs) ws)) (filter (λ w. same_key w.key k) (map (changed_want cs) ws))) (change-key cs w)
-    ∙ go (same_key w.key k) refl (at-changed cs ws k h)
-  where
-    go : (b : Bool) → same_key w.key k ≡ b
-        → filter (λ w. same_key w.key k) (map (changed_want cs) ws) ≡ filter (λ w. same_key w.key k) ws
-        → cond b (changed_want cs w ∷ filter (λ w. same_key w.key k) (map (changed_want cs) ws)) (filter (λ w. same_key w.key k) (map (changed_want cs) ws))
-        ≡ cond b (w ∷ filter (λ w. same_key w.key k) ws) (filter (λ w. same_key w.key k) ws)
-    go true e rest =
-        ap (λ v. v ∷ filter (λ w. same_key w.key k) (map (changed_want cs) ws)) (unchanged cs w (ap (names cs) (same_key-eq w.key k e) ∙ h))
-        ∙ ap (λ l. w ∷ l) rest
-    go false e rest = rest
-
-all-unchanged : (cs ws : List Want) → ((w : Want) → Has ws w → names cs w.key ≡ false) → map (changed_want cs) ws ≡ ws
-all-unchanged cs [] h = refl
-all-unchanged cs (w ∷ ws) h =
-    ap (λ v. v ∷ map (changed_want cs) ws) (unchanged cs w (h w (inl refl)))
-    ∙ ap (λ l. w ∷ l) (all-unchanged cs ws (λ v k. h v (inr k)))
 
 module _ (job : ℕ) (cs : List Want) where
   changes-of : (b : Bool) (f : Filing)

@@ -13,11 +13,20 @@ use Rattle.lock_queue.specs.Queue.{all_wants, wants_at, fits, granted_behind, is
 use Rattle.lock_queue.proofs.GrantLaws.{left-gone, left-stays}
 use Rattle.lock_queue.proofs.Lists.{Has, Sub, Sub-append, Sub-none, Sub-refl, flat_map-append}
 use Rattle.lock_table.specs.Filings.{Filing, filing, requests_in, AreRight}
-use Rattle.lock_table.specs.Findings.{lost_at, lost_in}
 use Rattle.lock_table.specs.Renewals.{raised, AreOutdated}
 use Rattle.lock_table.specs.Signatures.{group_of, meets, signature_of}
 use Rattle.lock_table.proofs.Fitting.{wants_at-append, granted_behind-fewer, granted-same-at}
 use Rattle.lock_table.proofs.SignatureLaws.{unmet-right, signed}
+
+-- whether a request has a grant that does not hold, and touches one of the groups
+abbrev pub lost_at : ℕ → List Request → Filing → Bool
+lost_at bits earlier f =
+    f.granted && (meets (signature_of f.request.wants.items) bits && not (granted_behind earlier f.request))
+
+-- the same of one of these
+abbrev pub lost_in : ℕ → List Request → List Filing → Bool
+lost_in bits earlier [] = false
+lost_in bits earlier (f ∷ later) = lost_at bits earlier f || lost_in bits (earlier ++ f.request ∷ []) later
 
 abbrev pub put : Option Request → Bool → List Filing → List Filing
 put None g rest = rest
@@ -32,7 +41,7 @@ abbrev pub at_key : Key → Option Request → List Want
 at_key k None = []
 at_key k (Some r) = filter (λ w. same_key w.key k) r.wants.items
 
-wants_at-one : (r : Request) (k : Key) → wants_at (r ∷ []) k ≡ filter (λ w. same_key w.key k) r.wants.items
+pub wants_at-one : (r : Request) (k : Key) → wants_at (r ∷ []) k ≡ filter (λ w. same_key w.key k) r.wants.items
 wants_at-one r k = ap (filter (λ w. same_key w.key k)) (append-nil r.wants.items)
 
 all_wants-more : (e : List Request) (r : Request) → all_wants (e ++ r ∷ []) ≡ all_wants e ++ all_wants (r ∷ [])

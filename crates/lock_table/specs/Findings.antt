@@ -5,10 +5,9 @@ use Rattle.lock_queue.specs.declared.key.Key.{Key}
 use Rattle.lock_queue.specs.declared.request.Request.{Request}
 use Rattle.lock_queue.specs.declared.status.Status.{Status}
 use Rattle.lock_queue.specs.Jobs.{is_blocking, is_interrupt, first_id, as_told, is_kept_by}
-use Rattle.lock_queue.specs.Queue.{names, granted_behind}
+use Rattle.lock_queue.specs.Queue.{names}
 use Rattle.lock_queue.specs.StatusWords.{standing, level_of}
 use Rattle.lock_table.specs.Filings.{Filing, filing, requests_in}
-use Rattle.lock_table.specs.Signatures.{meets, signature_of}
 
 -- a request by which the job waits
 abbrev pub blocks : ℕ → Filing → Bool
@@ -46,13 +45,3 @@ awaits key f = names f.request.wants.items key && not f.granted
 abbrev pub status_in : List Filing → Key → ℕ → Status
 status_in filings key asker =
     standing key asker (level_of (requests_in filings) key) (requests_in (filter (owns key) filings)) (requests_in (filter (awaits key) filings))
-
--- whether a request has a grant that does not hold, and touches one of the groups
-abbrev pub lost_at : ℕ → List Request → Filing → Bool
-lost_at bits earlier f =
-    f.granted && (meets (signature_of f.request.wants.items) bits && not (granted_behind earlier f.request))
-
--- the same of one of these
-abbrev pub lost_in : ℕ → List Request → List Filing → Bool
-lost_in bits earlier [] = false
-lost_in bits earlier (f ∷ later) = lost_at bits earlier f || lost_in bits (earlier ++ f.request ∷ []) later

@@ -5,3 +5,6 @@ pub mod Departures
 pub mod Findings
 pub mod Waiters
 pub mod Walks
+pub mod Counted
+pub mod Levels
+pub mod Changing

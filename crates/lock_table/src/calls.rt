@@ -11,18 +11,17 @@ ghost use Rattle.lock_queue.specs.WellFormed.{are_well_formed, names_locks, shar
 ghost use Rattle.lock_table.specs.Filings.{requests_in, AreRight};
 ghost use Rattle.lock_table.specs.Departures.{call_of, leaving_of};
 
-use crate::changes::{is_some_lost, refusal_of_modify, write_changed};
+use crate::changes::{is_some_lost, refusal_of_modify};
 use crate::departures::{Leaving, depart, depart_named};
 use crate::dequeues::{does_some_leave, refusal_of_dequeue};
 use crate::enqueues::refusal_of_enqueue;
-use crate::fits::are_fitting;
+use crate::fits::are_fitting_last;
 use crate::shelf::Shelf;
 use crate::signature::signature_of;
 use lock_queue::{EnqueueKind, LockCall, LockReply, Refusal, RequestId, Wants, Woken};
-use std::mem;
 
 /// Takes in a request that is not refused.
-#[tactic(auto, using(lock_queue::proofs::Granted::arrival_granted, lock_queue::proofs::Granted::arrival_waiting))]
+#[tactic(auto, using(lock_queue::proofs::Granted::arrival_granted, lock_queue::proofs::Granted::arrival_waiting, crate::proofs::CountLaws::passed_alike))]
 fn arrive(shelf: &mut Shelf, job: u8, kind: EnqueueKind, id: RequestId, wants: &Wants) -> LockReply
     requires room { length shelf.old < REQUESTS }
     requires job { (1 ≤ job) × (job ≤ JOBS) }
@@ -30,6 +29,7 @@ fn arrive(shelf: &mut Shelf, job: u8, kind: EnqueueKind, id: RequestId, wants: &
     requires unshared { IsTrue (list_all shares_no_pool wants.now.items) }
     requires passed { first_refusal (enqueue_fault (requests_in shelf.old) job) [] wants.now.items ≡ None }
     requires right { AreRight [] shelf.old }
+    requires well { IsTrue (are_well_formed (requests_in shelf.old)) }
     ensures requests { requests_in shelf.new ≡
         (arrival (requests_in shelf.old) job kind id wants.now).requests }
     ensures reply { result ≡ (arrival (requests_in shelf.old) job kind id wants.now).reply }
@@ -37,7 +37,7 @@ fn arrive(shelf: &mut Shelf, job: u8, kind: EnqueueKind, id: RequestId, wants: &
     ensures few { length (requests_in shelf.old) ≤ REQUESTS → length (requests_in shelf.new) ≤ REQUESTS }
     ensures well { IsTrue (are_well_formed (requests_in shelf.old)) → IsTrue (are_well_formed (requests_in shelf.new)) }
 {
-    if are_fitting(shelf.as_slice(), wants.as_slice()) {
+    if are_fitting_last(shelf, wants.as_slice()) {
         let told = matches!(kind, EnqueueKind::Interrupt);
         shelf.push(job, id, kind, told, wants, true);
         return LockReply::Granted;
@@ -67,6 +67,7 @@ fn enqueue(
     requires some { IsTrue (nat_le 1 (length wants.now.items)) }
     requires unshared { IsTrue (list_all shares_no_pool wants.now.items) }
     requires right { AreRight [] shelf.old }
+    requires well { IsTrue (are_well_formed (requests_in shelf.old)) }
     ensures requests { requests_in shelf.new ≡
         (enqueue (requests_in shelf.old) job kind id wants.now armed).requests }
     ensures reply { result ≡ (enqueue (requests_in shelf.old) job kind id wants.now armed).reply }
@@ -74,39 +75,32 @@ fn enqueue(
     ensures few { length (requests_in shelf.old) ≤ REQUESTS → length (requests_in shelf.new) ≤ REQUESTS }
     ensures well { IsTrue (are_well_formed (requests_in shelf.old)) → IsTrue (are_well_formed (requests_in shelf.new)) }
 {
-    match refusal_of_enqueue(shelf.as_slice(), job, kind, wants.as_slice(), armed) {
+    match refusal_of_enqueue(shelf, job, kind, wants.as_slice(), armed) {
         Some(refusal) => LockReply::Refused(refusal),
         None => arrive(shelf, job, kind, id, wants),
     }
 }
 
-fn modify(
-    present: &mut Shelf,
-    changed: &mut Shelf,
-    job: u8,
-    changes: &Wants,
-    woken: &mut Woken,
-) -> LockReply
-    requires { AreRight [] present.old }
-    ensures requests { requests_in present.new ≡
-        (outcome_of (requests_in present.old) job (Modify changes.now)).requests }
-    ensures reply { result ≡ (outcome_of (requests_in present.old) job (Modify changes.now)).reply }
-    ensures right { AreRight [] present.new }
-    ensures few { length (requests_in present.old) ≤ REQUESTS → length (requests_in present.new) ≤ REQUESTS }
-    ensures woken { woken.new.items ≡ woken_by (requests_in present.old) job (Modify changes.now) }
+/// Makes wants of the job shared or exclusive where they stand, unless a grant would be lost by it.
+fn modify(shelf: &mut Shelf, job: u8, changes: &Wants, woken: &mut Woken) -> LockReply
+    requires { AreRight [] shelf.old }
+    ensures requests { requests_in shelf.new ≡
+        (outcome_of (requests_in shelf.old) job (Modify changes.now)).requests }
+    ensures reply { result ≡ (outcome_of (requests_in shelf.old) job (Modify changes.now)).reply }
+    ensures right { AreRight [] shelf.new }
+    ensures few { length (requests_in shelf.old) ≤ REQUESTS → length (requests_in shelf.new) ≤ REQUESTS }
+    ensures woken { woken.new.items ≡ woken_by (requests_in shelf.old) job (Modify changes.now) }
 {
     woken.clear();
     let wanted = changes.as_slice();
-    if let Some(refusal) = refusal_of_modify(present.as_slice(), job, wanted) {
+    if let Some(refusal) = refusal_of_modify(shelf.as_slice(), job, wanted) {
         return LockReply::Refused(refusal);
     }
-    let bits = signature_of(wanted);
-    write_changed(changed, present.as_slice(), job, wanted);
-    if is_some_lost(changed.as_slice(), bits) {
+    if is_some_lost(shelf.as_slice(), job, wanted) {
         return LockReply::Refused(Refusal::WouldLose);
     }
-    mem::swap(present, changed);
-    present.renew(bits, woken);
+    shelf.change(job, wanted);
+    shelf.renew(signature_of(wanted), woken);
     LockReply::Done
 }
 
@@ -156,24 +150,19 @@ fn dequeue(shelf: &mut Shelf, job: u8, id: Option<RequestId>, woken: &mut Woken)
 }
 
 /// Makes a job's call, and fills in the grants that it makes.
-pub fn make_call(
-    present: &mut Shelf,
-    changed: &mut Shelf,
-    job: u8,
-    call: &LockCall,
-    woken: &mut Woken,
-) -> LockReply
+pub fn make_call(shelf: &mut Shelf, job: u8, call: &LockCall, woken: &mut Woken) -> LockReply
     requires job { (1 ≤ job) × (job ≤ JOBS) }
     requires named { IsTrue (names_locks call.now) }
     requires unshared { IsTrue (shares_no_pools call.now) }
-    requires right { AreRight [] present.old }
-    ensures requests { requests_in present.new ≡
-        (outcome_of (requests_in present.old) job call.now).requests }
-    ensures reply { result ≡ (outcome_of (requests_in present.old) job call.now).reply }
-    ensures right { AreRight [] present.new }
-    ensures woken { woken.new.items ≡ woken_by (requests_in present.old) job call.now }
-    ensures few { length (requests_in present.old) ≤ REQUESTS → length (requests_in present.new) ≤ REQUESTS }
-    ensures well { IsTrue (are_well_formed (requests_in present.old)) → IsTrue (are_well_formed (requests_in present.new)) }
+    requires right { AreRight [] shelf.old }
+    requires well { IsTrue (are_well_formed (requests_in shelf.old)) }
+    ensures requests { requests_in shelf.new ≡
+        (outcome_of (requests_in shelf.old) job call.now).requests }
+    ensures reply { result ≡ (outcome_of (requests_in shelf.old) job call.now).reply }
+    ensures right { AreRight [] shelf.new }
+    ensures woken { woken.new.items ≡ woken_by (requests_in shelf.old) job call.now }
+    ensures few { length (requests_in shelf.old) ≤ REQUESTS → length (requests_in shelf.new) ≤ REQUESTS }
+    ensures well { IsTrue (are_well_formed (requests_in shelf.old)) → IsTrue (are_well_formed (requests_in shelf.new)) }
 {
     match call {
         LockCall::Enqueue {
@@ -183,11 +172,11 @@ pub fn make_call(
             armed,
         } => {
             woken.clear();
-            enqueue(present, job, *kind, *id, wants, *armed)
+            enqueue(shelf, job, *kind, *id, wants, *armed)
         }
-        LockCall::Modify(changes) => modify(present, changed, job, changes, woken),
-        LockCall::DequeueNamed(named) => dequeue_named(present, job, named, woken),
-        LockCall::DequeueAll => dequeue(present, job, None, woken),
-        LockCall::DequeueId(id) => dequeue(present, job, Some(*id), woken),
+        LockCall::Modify(changes) => modify(shelf, job, changes, woken),
+        LockCall::DequeueNamed(named) => dequeue_named(shelf, job, named, woken),
+        LockCall::DequeueAll => dequeue(shelf, job, None, woken),
+        LockCall::DequeueId(id) => dequeue(shelf, job, Some(*id), woken),
     }
 }

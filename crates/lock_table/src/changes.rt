@@ -1,30 +1,32 @@
 //! Wants that are made shared or exclusive.
-ghost use Rattle.std.specs.Prelude.{◌≡◌, ◌≤◌, [], filter, length, map};
+ghost use Rattle.std.specs.Prelude.{◌≡◌, ◌<◌, ◌+◌, ◌++◌, ◌==◌, ◌&&◌, [], drop, filter, get_or, if◌then◌else◌, length, map, not, set, take};
 ghost use Rattle.std.specs.List.{list_any};
-ghost use Rattle.word36.specs.declared.sizes.TheConstants.{REQUESTS};
 ghost use Rattle.lock_queue.specs.Changes.{modify_fault};
 ghost use Rattle.lock_queue.specs.Keys.{same_key};
 ghost use Rattle.lock_queue.specs.Outcomes.{first_refusal};
-ghost use Rattle.lock_queue.specs.Queue.{is_pooled, wants_at, requests_of};
+ghost use Rattle.lock_queue.specs.Queue.{all_wants, is_pooled, wants_at, requests_of};
+ghost use Rattle.lock_table.specs.Changing.{fits_held, held_with, held_unless_lost, as_changed_at, costs_grant};
+ghost use Rattle.lock_table.specs.Counted.{AreCounted};
 ghost use Rattle.lock_table.specs.Departures.{with_change};
-ghost use Rattle.lock_table.specs.Filings.{requests_in};
-ghost use Rattle.lock_table.specs.Findings.{lost_at, lost_in};
-ghost use Rattle.lock_table.specs.Signatures.{bit_of};
+ghost use Rattle.lock_table.specs.Filings.{Filing, requests_in};
+ghost use Rattle.lock_table.specs.Signatures.{signature_of};
+ghost use Rattle.lock_table.specs.Waiters.{waiters_in};
 
+use crate::counting::count_changes;
 use crate::filed::Filed;
-use crate::fits::{are_fitting, job_has_key};
-use crate::shelf::Shelf;
-use crate::signature::bit_of;
-use lock_queue::steps::{changed_wants, is_pooled_in, names_key};
+use crate::fits::job_has_key;
+use crate::signature::{bit_of, signature_of};
+use crate::walks::{from_met, next_met};
+use lock_counts::LockCounts;
+use lock_queue::steps::{is_pooled, is_pooled_in, names_key};
 use lock_queue::{Key, Refusal, Want};
 
-#[tactic(auto, using(crate::proofs::SignatureLaws::unmet_wants))]
-fn is_pooled_at(f: &Filed, key: &Key, bit: u64) -> bool
-    requires { bit ≡ bit_of key.now }
-    ensures { result ≡
-        list_any is_pooled (filter (λ v. same_key v.key key.now) f.now.request.wants.items) }
+/// Whether a request is the job's and has a want of the key that is of a pool.
+fn has_own_pooled(f: &Filed, job: u8, key: &Key) -> bool
+    ensures { result ≡ (f.now.request.job == job
+        && list_any is_pooled (filter (λ v. same_key v.key key.now) f.now.request.wants.items)) }
 {
-    f.meets(bit) && is_pooled_in(f.wants(), key)
+    f.job() == job && is_pooled_in(f.wants(), key)
 }
 
 /// Whether a want of the job of this key is of a pool.
@@ -33,10 +35,12 @@ fn has_pooled(filed: &[Filed], job: u8, key: &Key) -> bool
         list_any is_pooled (wants_at (requests_of (requests_in filed.now) job) key.now) }
 {
     let bit = bit_of(key);
-    for f in filed {
-        if f.job() == job && is_pooled_at(f, key, bit) {
+    let mut rest = from_met(filed, bit);
+    while let [f, ..] = rest {
+        if has_own_pooled(f, job, key) {
             return true;
         }
+        rest = next_met(rest, bit);
     }
     false
 }
@@ -68,38 +72,161 @@ pub fn refusal_of_modify(filed: &[Filed], job: u8, changes: &[Want]) -> Option<R
     None
 }
 
-/// Writes the requests over others, those of the job being changed, with the grants as they were.
-pub fn write_changed(later: &mut Shelf, filed: &[Filed], job: u8, changes: &[Want])
-    requires { length filed.now ≤ REQUESTS }
-    ensures { later.new ≡ map (with_change job changes.now) filed.now }
+/// How the wants of a key that a walk has passed hold it.
+#[derive(Clone, Copy, Debug, PartialEq, Eq)]
+pub enum Hold {
+    /// There are none.
+    Free,
+    /// All of them are shared.
+    Shared,
+    /// One of them is exclusive.
+    Exclusive,
+}
+
+/// Whether a want without a pool fits behind wants that hold its key so.
+fn is_fitting_behind(hold: Hold, shared: bool) -> bool
+    ensures { result ≡ fits_held hold shared }
 {
-    later.clear();
-    for f in filed {
-        let r = f.request();
-        if f.job() == job {
-            let wants = changed_wants(changes, &r.wants);
-            later.push(r.job, r.id, r.kind, r.told, &wants, f.is_granted());
-        } else {
-            later.push(r.job, r.id, r.kind, r.told, &r.wants, f.is_granted());
-        }
+    match hold {
+        Hold::Free => true,
+        Hold::Shared => shared,
+        Hold::Exclusive => false,
     }
 }
 
-/// Whether a request that touches one of the groups loses its grant.
-fn is_lost(earlier: &[Filed], f: &Filed, bits: u64) -> bool
-    ensures { result ≡ lost_at bits (requests_in earlier.now) f.now }
+/// Whether a want that is then shared or not is shut out by wants that hold its key so. The amounts of
+/// a pool stay, so a want of one is not.
+fn is_shut_out(hold: Hold, w: &Want, shared: bool) -> bool
+    ensures { result ≡ (not (is_pooled w.now) && not (fits_held hold shared)) }
 {
-    f.is_granted() && f.meets(bits) && !are_fitting(earlier, f.wants())
+    !is_pooled(w) && !is_fitting_behind(hold, shared)
 }
 
-/// Whether a request that touches one of the groups loses its grant.
-pub fn is_some_lost(later: &[Filed], bits: u64) -> bool
-    ensures { result ≡ lost_in bits [] later.now }
+/// Whether a want of the key of a change is shared once that is made, where it is its job's or not.
+fn is_shared_then(w: &Want, mine: bool, c: &Want) -> bool
+    ensures { result ≡ (if mine then c.now.shared else w.now.shared) }
 {
-    for (i, f) in later.iter().enumerate() {
-        if is_lost(&later[..i], f, bits) {
-            return true;
+    if mine { c.shared } else { w.shared }
+}
+
+/// How the key is held with one more want.
+fn held_with(hold: Hold, shared: bool) -> Hold
+    ensures { result ≡ held_with hold shared }
+{
+    match hold {
+        Hold::Exclusive => Hold::Exclusive,
+        _ => if shared {
+            Hold::Shared
+        } else {
+            Hold::Exclusive
+        },
+    }
+}
+
+/// How the key of a change is held with these wants of a request too, as they are once the change is
+/// made; or nothing where the request has a grant and loses it.
+fn held_unless_lost(hold: Hold, granted: bool, wants: &[Want], mine: bool, c: &Want) -> Option<Hold>
+    ensures { result ≡ held_unless_lost hold granted (as_changed_at mine c.now wants.now) }
+{
+    let mut held = hold;
+    for w in wants {
+        if w.key.is_same(&c.key) {
+            let shared = is_shared_then(w, mine, c);
+            if granted && is_shut_out(hold, w, shared) {
+                return None;
+            }
+            held = held_with(held, shared);
         }
+    }
+    Some(held)
+}
+
+/// Whether a change of the job's wants of one key costs a grant, whosever it is.
+fn does_cost_grant(filed: &[Filed], job: u8, c: &Want) -> bool
+    ensures { result ≡ costs_grant job filed.now c.now }
+{
+    let bit = bit_of(&c.key);
+    let mut hold = Hold::Free;
+    let mut rest = from_met(filed, bit);
+    while let [f, ..] = rest {
+        match held_unless_lost(hold, f.is_granted(), f.wants(), f.job() == job, c) {
+            Some(held) => hold = held,
+            None => return true,
+        }
+        rest = next_met(rest, bit);
     }
     false
+}
+
+/// Whether one of the changes costs a grant. Nothing is changed for it.
+pub fn is_some_lost(filed: &[Filed], job: u8, changes: &[Want]) -> bool
+    ensures { result ≡ list_any (costs_grant job filed.now) changes.now }
+{
+    changes.iter().any(|c| does_cost_grant(filed, job, c))
+}
+
+/// Makes the changes in a request, where it is the job's and has a want of one of their groups.
+fn change_where_met(f: &mut Filed, job: u8, changes: &[Want], bits: u64)
+    requires { bits ≡ signature_of changes.now }
+    ensures { f.new ≡ with_change job changes.now f.old }
+{
+    if f.meets(bits) && f.job() == job {
+        f.change(changes);
+    }
+}
+
+/// Counts the wants of the request at a place as the changes leave them.
+fn count_where_met(
+    counts: &mut LockCounts,
+    filed: &[Filed],
+    i: usize,
+    job: u8,
+    changes: &[Want],
+    bits: u64,
+)
+    requires bits { bits ≡ signature_of changes.now }
+    requires there { i < length filed.now }
+    requires counted { AreCounted counts.old (all_wants (requests_in filed.now)) }
+    ensures { (d : Filing) → AreCounted counts.new
+        (all_wants (requests_in (take i filed.now))
+        ++ ((with_change job changes.now (get_or filed.now i d)).request.wants.items
+        ++ all_wants (requests_in (drop (i + 1) filed.now)))) }
+{
+    let f = &filed[i];
+    if f.meets(bits) && f.job() == job {
+        count_changes(counts, filed, i, changes);
+    }
+}
+
+/// Makes the changes in the request at a place, and counts its wants anew.
+fn change_at(
+    filed: &mut [Filed],
+    counts: &mut LockCounts,
+    i: usize,
+    job: u8,
+    changes: &[Want],
+    bits: u64,
+)
+    requires bits { bits ≡ signature_of changes.now }
+    requires there { i < length filed.old }
+    requires counted { AreCounted counts.old (all_wants (requests_in filed.old)) }
+    ensures value { (d : Filing) → filed.new ≡ set filed.old i (with_change job changes.now (get_or filed.old i d)) }
+    ensures counted { AreCounted counts.new (all_wants (requests_in filed.new)) }
+{
+    count_where_met(counts, filed, i, job, changes, bits);
+    change_where_met(&mut filed[i], job, changes, bits);
+}
+
+/// Makes the changes in the job's requests, and counts their wants anew. Grants stay as they are
+/// noted.
+pub fn change_of_job(filed: &mut [Filed], counts: &mut LockCounts, job: u8, changes: &[Want])
+    requires { AreCounted counts.old (all_wants (requests_in filed.old)) }
+    ensures value { filed.new ≡ map (with_change job changes.now) filed.old }
+    ensures waiters { waiters_in filed.new ≡ waiters_in filed.old }
+    ensures counted { AreCounted counts.new (all_wants (requests_in filed.new)) }
+{
+    let bits = signature_of(changes);
+    for i in 0..filed.len() {
+        change_at(filed, counts, i, job, changes, bits);
+    }
 }

@@ -1,41 +1,32 @@
 //! Why a request that arrives is refused.
-ghost use Rattle.std.specs.Prelude.{◌≡◌, ◌==◌, ◌&&◌, ◌||◌, [], nat_le};
-ghost use Rattle.std.specs.List.{list_any};
+ghost use Rattle.std.specs.Prelude.{◌≡◌, ◌≤◌, ◌+◌, ◌^◌, max, ◌==◌, ◌&&◌, not, if◌then◌else◌, []};
+ghost use Rattle.std.specs.List.{list_all};
 ghost use Rattle.lock_queue.specs.Enqueues.{enqueue_fault, some_too_low, enqueue_refusal};
-ghost use Rattle.lock_queue.specs.Outcomes.{first_refusal};
-ghost use Rattle.lock_queue.specs.Queue.{names, wants_of};
+ghost use Rattle.lock_queue.specs.Outcomes.{refuse_if, first_refusal};
+ghost use Rattle.lock_queue.specs.declared.refusal.Refusal.TheVariants.{NamedAlready};
+ghost use Rattle.lock_counts.specs.Counts.{has_wants, is_like};
+ghost use Rattle.lock_queue.specs.Queue.{wants_of};
 ghost use Rattle.lock_table.specs.Filings.{requests_in};
+ghost use Rattle.lock_table.specs.Levels.{above_all, some_below};
 
 use crate::filed::Filed;
-use crate::fits::job_names;
-use crate::signature::bit_of;
-use crate::walks::{from_met, next_met};
-use lock_queue::steps::{are_alike_in, names_key, reach_level};
-use lock_queue::{EnqueueKind, Key, Level, Refusal, Want};
+use crate::fits::job_has_key;
+use crate::shelf::Shelf;
+use lock_counts::Counts;
+use lock_queue::steps::names_key;
+use lock_queue::{EnqueueKind, Level, Refusal, Want};
 use word36::REQUESTS;
 
-/// Whether the job names the key in a request, or did so before.
-fn is_named_so_far(before: bool, f: &Filed, job: u8, key: &Key) -> bool
-    ensures { result ≡
-        (before || (f.now.request.job == job && names f.now.request.wants.items key.now)) }
+/// Whether a want differs from those of its key, by what is counted of these.
+fn does_differ(counts: &Counts, w: &Want) -> bool
+    ensures { result ≡ (has_wants counts.now && not (is_like counts.now w.now)) }
 {
-    before || job_names(f, job, key)
+    counts.has_wants() && !counts.is_like(w)
 }
 
-/// Why a want is refused beside the present ones: one of its key differs from it, or is the job's.
-fn fault_beside(filed: &[Filed], job: u8, w: &Want) -> Option<Refusal>
-    ensures { result ≡ enqueue_fault (requests_in filed.now) job [] w.now }
+fn refusal_of_named(is_named: bool) -> Option<Refusal>
+    ensures { result ≡ refuse_if is_named NamedAlready }
 {
-    let bit = bit_of(&w.key);
-    let mut is_named = false;
-    let mut rest = from_met(filed, bit);
-    while let [f, ..] = rest {
-        if !are_alike_in(f.wants(), w) {
-            return Some(Refusal::Differs);
-        }
-        is_named = is_named_so_far(is_named, f, job, &w.key);
-        rest = next_met(rest, bit);
-    }
     if is_named {
         Some(Refusal::NamedAlready)
     } else {
@@ -43,11 +34,26 @@ fn fault_beside(filed: &[Filed], job: u8, w: &Want) -> Option<Refusal>
     }
 }
 
-/// Why a want is refused that comes after the call's earlier ones.
-fn fault_of(filed: &[Filed], job: u8, earlier: &[Want], w: &Want) -> Option<Refusal>
-    ensures { result ≡ enqueue_fault (requests_in filed.now) job earlier.now w.now }
+/// Why a want is refused beside the present ones: one of its key differs from it, or is the job's.
+/// What is counted of the key tells the first, and the second is looked for only where there are some.
+fn fault_beside(shelf: &Shelf, job: u8, w: &Want) -> Option<Refusal>
+    ensures { result ≡ enqueue_fault (requests_in shelf.now) job [] w.now }
 {
-    let fault = fault_beside(filed, job, w);
+    match shelf.counts_of(&w.key) {
+        None => None,
+        Some(counts) => if does_differ(counts, w) {
+            Some(Refusal::Differs)
+        } else {
+            refusal_of_named(job_has_key(shelf.as_slice(), job, &w.key))
+        },
+    }
+}
+
+/// Why a want is refused that comes after the call's earlier ones.
+fn fault_of(shelf: &Shelf, job: u8, earlier: &[Want], w: &Want) -> Option<Refusal>
+    ensures { result ≡ enqueue_fault (requests_in shelf.now) job earlier.now w.now }
+{
+    let fault = fault_beside(shelf, job, w);
     if fault.is_none() && names_key(earlier, &w.key) {
         Some(Refusal::NamedAlready)
     } else {
@@ -55,11 +61,11 @@ fn fault_of(filed: &[Filed], job: u8, earlier: &[Want], w: &Want) -> Option<Refu
     }
 }
 
-fn first_fault(filed: &[Filed], job: u8, wants: &[Want]) -> Option<Refusal>
-    ensures { result ≡ first_refusal (enqueue_fault (requests_in filed.now) job) [] wants.now }
+fn first_fault(shelf: &Shelf, job: u8, wants: &[Want]) -> Option<Refusal>
+    ensures { result ≡ first_refusal (enqueue_fault (requests_in shelf.now) job) [] wants.now }
 {
     for (i, w) in wants.iter().enumerate() {
-        let fault = fault_of(filed, job, &wants[..i], w);
+        let fault = fault_of(shelf, job, &wants[..i], w);
         if fault.is_some() {
             return fault;
         }
@@ -67,55 +73,113 @@ fn first_fault(filed: &[Filed], job: u8, wants: &[Want]) -> Option<Refusal>
     None
 }
 
-/// Whether a present want of the job has this level or a higher one.
-fn job_reaches_level(filed: &[Filed], job: u8, level: Level) -> bool
-    ensures { result ≡
-        list_any (λ v. nat_le level v.level) (wants_of (requests_in filed.now) job) }
+/// The first level that is above a level.
+fn level_above(floor: u16, level: Level) -> u16
+    requires { floor ≤ 2 ^ 9 }
+    ensures value { result ≡ max floor (level + 1) }
+    ensures most { result ≤ 2 ^ 9 }
 {
-    let mut rest = filed;
-    while let [f, later @ ..] = rest {
-        if f.job() == job && reach_level(f.wants(), level) {
+    if floor > level.number() {
+        floor
+    } else {
+        level.number() + 1
+    }
+}
+
+/// The first level that is above those of these wants and at least the given one.
+fn level_above_all(wants: &[Want], floor: u16) -> u16
+    requires { floor ≤ 2 ^ 9 }
+    ensures value { result ≡ above_all floor wants.now }
+    ensures most { result ≤ 2 ^ 9 }
+{
+    let mut above = floor;
+    for w in wants {
+        above = level_above(above, w.level);
+    }
+    above
+}
+
+/// The first level that is above those of a request's wants, where it is the job's, and at least the given one.
+fn level_above_own(f: &Filed, job: u8, floor: u16) -> u16
+    requires { floor ≤ 2 ^ 9 }
+    ensures value { result ≡
+        (if f.now.request.job == job then above_all floor f.now.request.wants.items else floor) }
+    ensures most { result ≤ 2 ^ 9 }
+{
+    if f.job() == job {
+        level_above_all(f.wants(), floor)
+    } else {
+        floor
+    }
+}
+
+/// The first level that is above those of all present wants of the job; 0 where it has none.
+#[tactic(auto, using(crate::proofs::LevelLaws::level_next))]
+fn level_above_job(filed: &[Filed], job: u8) -> u16
+    ensures value { result ≡ above_all 0 (wants_of (requests_in filed.now) job) }
+    ensures most { result ≤ 2 ^ 9 }
+{
+    let mut above = 0;
+    for f in filed {
+        above = level_above_own(f, job, above);
+    }
+    above
+}
+
+/// Whether a want without bypass has a level below this one, or not above those of the wants before
+/// it.
+fn is_some_below(floor: u16, wants: &[Want]) -> bool
+    requires { floor ≤ 2 ^ 9 }
+    ensures { result ≡ some_below floor wants.now }
+{
+    let mut above = floor;
+    for w in wants {
+        if !w.bypass && w.level.number() < above {
             return true;
         }
-        rest = later;
+        above = level_above(above, w.level);
     }
     false
 }
 
+/// Whether all wants bypass the rule of levels.
+fn do_all_bypass(wants: &[Want]) -> bool
+    ensures { result ≡ list_all (λ w. w.bypass) wants.now }
+{
+    wants.iter().all(|w| w.bypass)
+}
+
 /// Whether a want without bypass has a level that is not above those of the call's wants before it
-/// and of all present wants of the job.
+/// and of all present wants of the job. The job's requests are looked for once, if at all.
+#[tactic(auto, using(crate::proofs::LevelLaws::below_order, crate::proofs::LevelLaws::bypassing_order))]
 fn are_out_of_order(filed: &[Filed], job: u8, wants: &[Want]) -> bool
     ensures { result ≡ some_too_low (wants_of (requests_in filed.now) job) wants.now }
 {
-    for (i, w) in wants.iter().enumerate() {
-        if !w.bypass
-            && (job_reaches_level(filed, job, w.level) || reach_level(&wants[..i], w.level))
-        {
-            return true;
-        }
+    if do_all_bypass(wants) {
+        return false;
     }
-    false
+    is_some_below(level_above_job(filed, job), wants)
 }
 
 /// Why a request is not taken in, if it is not: first lock by lock, then by its levels, then for want
 /// of a vector, then for want of room.
 pub fn refusal_of_enqueue(
-    filed: &[Filed],
+    shelf: &Shelf,
     job: u8,
     kind: EnqueueKind,
     wants: &[Want],
     armed: bool,
 ) -> Option<Refusal>
-    ensures { result ≡ enqueue_refusal (requests_in filed.now) job kind wants.now armed }
+    ensures { result ≡ enqueue_refusal (requests_in shelf.now) job kind wants.now armed }
 {
-    let fault = first_fault(filed, job, wants);
+    let fault = first_fault(shelf, job, wants);
     if fault.is_some() {
         fault
-    } else if are_out_of_order(filed, job, wants) {
+    } else if are_out_of_order(shelf.as_slice(), job, wants) {
         Some(Refusal::LevelOrder)
     } else if matches!(kind, EnqueueKind::Interrupt) && !armed {
         Some(Refusal::NoVector)
-    } else if filed.len() >= REQUESTS {
+    } else if shelf.as_slice().len() >= REQUESTS {
         Some(Refusal::QueueFull)
     } else {
         None

@@ -1,8 +1,9 @@
 //! A request with what is kept beside it.
-ghost use Rattle.std.specs.Prelude.{◌≡◌, ◌≤◌, true, false, length, not, IfOk, IsTrue};
+ghost use Rattle.std.specs.Prelude.{◌≡◌, ◌≤◌, true, false, length, map, not, IfOk, IsTrue};
 ghost use Rattle.std.specs.List.{list_all};
 ghost use Rattle.word36.specs.declared.sizes.TheConstants.{LOCKS_A_CALL};
-ghost use Rattle.lock_queue.specs.Dequeues.{has_wants, without_keys};
+ghost use Rattle.lock_queue.specs.Changes.{changed_want};
+ghost use Rattle.lock_queue.specs.Dequeues.{has_wants, with_wants, without_keys};
 ghost use Rattle.lock_queue.specs.Enqueues.{request_of};
 ghost use Rattle.lock_queue.specs.WellFormed.{is_in_range};
 ghost use Rattle.lock_table.specs.Filings.{filing};
@@ -10,8 +11,9 @@ ghost use Rattle.lock_table.specs.Findings.{with_told};
 ghost use Rattle.lock_table.specs.Renewals.{with_grant};
 ghost use Rattle.lock_table.specs.Signatures.{meets, signature_of};
 ghost use Rattle.lock_table.specs.Waiters.{waiter_bit};
-ghost use Rattle.lock_table.specs.Walks.{touched};
+ghost use Rattle.lock_table.specs.Walks.{touched, awaited, awaits};
 
+use crate::sharing::change_wants;
 use crate::signature::signature_of;
 use crate::waiters::waiter_bit;
 use lock_queue::steps::{remove_keys, write_request};
@@ -25,6 +27,8 @@ use std::marker::Model;
 pub struct Filed {
     request: Box<Request>,
     signature: u64,
+    /// The same where it waits, and 0 where it is granted.
+    awaited: u64,
     waiter: u32,
     job: u8,
     granted: bool,
@@ -35,12 +39,14 @@ impl Model for Filed {
     ghost use Rattle.lock_table.specs.Filings.{Filing, filing};
     ghost use Rattle.lock_table.specs.Signatures.{signature_of};
     ghost use Rattle.lock_table.specs.Waiters.{waiter_bit};
+    ghost use Rattle.lock_table.specs.Walks.{awaited_signature};
 
     ghost Value = { Filing };
 
     ghost view = { λ f. filing f.request.value f.granted };
 
     ghost invariant = { λ f. (f.signature ≡ signature_of f.request.value.wants.items)
+        × (f.awaited ≡ awaited_signature (filing f.request.value f.granted))
         × (f.waiter ≡ waiter_bit (filing f.request.value f.granted)) × (f.job ≡ f.request.value.job) };
 }
 
@@ -50,6 +56,7 @@ impl Filed {
         Ok(Filed {
             request: Box::new(alloc, Request::default())?,
             signature: 0,
+            awaited: 0,
             waiter: 0,
             job: 0,
             granted: false,
@@ -105,6 +112,20 @@ impl Filed {
         self.signature & bits
     }
 
+    /// Those of these groups that its wants touch, where it waits.
+    pub fn awaited(&self, bits: u64) -> u64
+        ensures { result ≡ awaited bits self.now }
+    {
+        self.awaited & bits
+    }
+
+    /// Whether it waits, and its wants touch one of these groups.
+    pub fn awaits(&self, bits: u64) -> bool
+        ensures { result ≡ awaits bits self.now }
+    {
+        self.awaited & bits != 0
+    }
+
     /// Whether its wants touch one of these groups.
     pub fn meets(&self, bits: u64) -> bool
         ensures { result ≡ meets (signature_of self.now.request.wants.items) bits }
@@ -125,6 +146,7 @@ impl Filed {
         ensures { self.new ≡ with_grant self.old }
     {
         self.granted = true;
+        self.awaited = 0;
         self.waiter = 0;
     }
 
@@ -151,6 +173,7 @@ impl Filed {
     {
         write_request(&mut self.request, job, id, kind, told, wants);
         self.signature = signature_of(wants.as_slice());
+        self.awaited = if granted { 0 } else { self.signature };
         self.waiter = waiter_bit(job, kind, granted);
         self.job = job;
         self.granted = granted;
@@ -162,5 +185,17 @@ impl Filed {
     {
         remove_keys(&mut self.request, named);
         self.signature = signature_of(self.request.wants.as_slice());
+        self.awaited = if self.granted { 0 } else { self.signature };
+    }
+
+    /// Makes its wants shared or exclusive, each as the change of its key says, if there is one. Kept
+    /// apart, so that a walk over requests stays short.
+    #[inline(never)]
+    #[tactic(auto, using(crate::proofs::ChangeLaws::changed_signature))]
+    pub fn change(&mut self, changes: &[Want])
+        ensures { self.new ≡ filing
+            (with_wants self.old.request (map (changed_want changes.now) self.old.request.wants.items)) self.old.granted }
+    {
+        change_wants(&mut self.request, changes);
     }
 }

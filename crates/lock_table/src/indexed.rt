@@ -17,7 +17,6 @@ use std::alloc::{AllocError, Global};
 #[derive(Drop)]
 pub struct IndexedTable {
     present: Shelf,
-    changed: Shelf,
     unheard: Woken,
     ghost right: { IsTrue (are_right [] present) },
     ghost few: { length (requests_in present) ≤ REQUESTS },
@@ -34,23 +33,16 @@ impl LockTable for IndexedTable {
     fn new(alloc: Global) -> Result<Self, AllocError> {
         Ok(IndexedTable {
             present: Shelf::new(alloc)?,
-            changed: Shelf::new(alloc)?,
             unheard: Woken::new(),
         })
     }
 
     fn call(&mut self, job: u8, call: &LockCall) -> LockReply {
-        make_call(
-            &mut self.present,
-            &mut self.changed,
-            job,
-            call,
-            &mut self.unheard,
-        )
+        make_call(&mut self.present, job, call, &mut self.unheard)
     }
 
     fn call_waking(&mut self, job: u8, call: &LockCall, woken: &mut Woken) -> LockReply {
-        make_call(&mut self.present, &mut self.changed, job, call, woken)
+        make_call(&mut self.present, job, call, woken)
     }
 
     fn release(&mut self, job: u8) {

@@ -3,6 +3,7 @@
 
 mod calls;
 mod changes;
+mod counting;
 mod departures;
 mod dequeues;
 mod enqueues;
@@ -11,6 +12,7 @@ mod fits;
 mod indexed;
 mod jobs;
 mod renewal;
+mod sharing;
 mod shelf;
 mod signature;
 mod standing;

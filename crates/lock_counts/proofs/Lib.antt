@@ -1,0 +1,5 @@
+pub mod KeyLaws
+pub mod HashLaws
+pub mod EntryLaws
+pub mod NumberLaws
+pub mod SortLaws

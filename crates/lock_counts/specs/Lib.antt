@@ -1,0 +1,4 @@
+pub mod Counts
+pub mod Hashes
+pub mod Numbers
+pub mod Entries

@@ -1,0 +1,12 @@
+use Rattle.std.proofs.Common.{◌≡◌, ◌≤◌, drop}
+use Rattle.lock_queue.specs.Queue.{wants_of}
+use Rattle.lock_table.specs.Filings.{requests_in}
+use Rattle.lock_table.specs.Levels.{above_all}
+use Rattle.lock_table.proofs.enqueues.level_above_job.Given as goal
+
+abbrev pub invariant-loop-f : goal.invariant-loop-f
+invariant-loop-f l =
+    record {
+      value : above_all l.above (wants_of (requests_in (drop l.f-index l.filed)) l.job) ≡ above_all 0 (wants_of (requests_in l.filed) l.job);
+      most : l.above ≤ 512;
+    }
