@@ -1,5 +1,5 @@
 -- What a change leaves as it was, and how the wants of its key are walked over.
-use Rattle.std.proofs.Common.{◌≡◌, ◌∙◌, ◌≤◌, sym, ap, ℕ, ◌==◌, Bool, true, false, ◌&&◌, ◌||◌, cond, inr, inl, List, [], ◌∷◌, ◌++◌, filter, map, length, get_or, drop, refl, arith, bit_or, zero, suc, ◌+◌, ◌<◌, set, take, add-one}
+use Rattle.std.proofs.Common.{◌≡◌, ◌∙◌, ◌≤◌, sym, ap, ℕ, ◌==◌, Bool, true, false, ◌&&◌, ◌||◌, cond, inr, inl, List, [], ◌∷◌, ◌++◌, filter, map, length, get_or, drop, refl, arith, bit_or}
 use Rattle.std.specs.List.{list_any}
 use Rattle.std.proofs.lemmas.List.Elements.{filter-append}
 use Rattle.std.proofs.lemmas.List.Folds.{list_any-append}
@@ -174,16 +174,3 @@ first-own p job k (x ∷ xs) f some is =
         ap (list_any p) (filter-append (λ w. same_key w.key k) x.request.wants.items (all_wants others))
         ∙ list_any-append p (filter (λ w. same_key w.key k) x.request.wants.items) (wants_at others k)
     go false = refl
-
--- one step of a walk that changes each request
-next-suc : (g : Filing → Filing) (fs : List Filing) (i : ℕ) (d : Filing) → i < length fs
-    → take (suc i) (set fs i (g (get_or fs i d))) ++ map g (drop (suc i) (set fs i (g (get_or fs i d))))
-    ≡ take i fs ++ map g (drop i fs)
-next-suc g [] i d lt = absurd (omega arith)
-next-suc g (f ∷ fs) zero d lt = refl
-next-suc g (f ∷ fs) (suc i) d lt = ap (λ l. f ∷ l) (next-suc g fs i d (omega arith))
-
-pub change-next : (g : Filing → Filing) (fs now : List Filing) (i : ℕ) (d : Filing) → i < length fs → now ≡ set fs i (g (get_or fs i d))
-    → take (i + 1) now ++ map g (drop (i + 1) now) ≡ take i fs ++ map g (drop i fs)
-change-next g fs now i d lt is =
-    ap (λ l. take (i + 1) l ++ map g (drop (i + 1) l)) is ∙ rw (add-one i) (next-suc g fs i d lt)

@@ -45,7 +45,7 @@ same_name-refl : (a : Name) → same_name a a ≡ true
 same_name-refl (Text a) = (bytes_eq-Decides a a).1 refl
 same_name-refl (Code a) = eq-eqb a a refl
 
-pub same_key-refl : (a : Key) → same_key a a ≡ true
+same_key-refl : (a : Key) → same_key a a ≡ true
 same_key-refl a = and_from _ _ (same_scope-refl a.scope) (same_name-refl a.name)
 
 pub same_key-swap : (a b : Key) → same_key a b ≡ true → same_key b a ≡ true

@@ -6,8 +6,7 @@ pub mod DepartureLaws
 pub mod ChangeLaws
 pub mod CallLaws
 pub mod LossLaws
+pub mod LevelLaws
 mod WaiterLaws
 pub mod WalkLaws
 pub mod GivingUpLaws
-pub mod CountLaws
-pub mod LevelLaws

@@ -1,9 +1,7 @@
 -- Renewed grants are right, and those that rise are all that are raised.
-use Rattle.std.proofs.Common.{◌≡◌, ◌∙◌, sym, ap, subst, ℕ, zero, suc, ◌+◌, ◌<◌, ◌≤◌, ◌==◌, Bool, true, false, not, inl, inr, ◌&&◌, cond, if◌then◌else◌, List, [], ◌∷◌, ◌++◌, append-nil, append_assoc, length, length-append, take, drop, get_or, Option, Some, None, is_some, refl, arith, bit_and}
+use Rattle.std.proofs.Common.{◌≡◌, ◌∙◌, sym, ap, subst, ℕ, zero, suc, ◌<◌, Bool, true, false, not, inl, inr, ◌&&◌, cond, List, [], ◌∷◌, ◌++◌, length, get_or, Option, Some, None, is_some, refl, arith}
 use Rattle.std.specs.List.{list_all}
-use Rattle.std.proofs.Math.Seq.{take-append_seam, drop-append_seam}
 use Rattle.std.proofs.lemmas.Bool.{and_parts}
-use Rattle.std.proofs.lemmas.List.{take-append-drop, map-append}
 use Rattle.lock_queue.specs.declared.request.Request.{Request}
 use Rattle.lock_queue.specs.declared.want.Want.{Want}
 use Rattle.lock_queue.specs.Keys.{same_key}
@@ -14,7 +12,6 @@ use Rattle.lock_queue.specs.Queue.{all_wants, wants_at, is_pooled, agree, fits_b
 use Rattle.lock_table.specs.Filings.{Filing, requests_in, AreRight}
 use Rattle.lock_table.specs.Renewals.{rises, with_grant, renewed, risen, raised, shuts, AreOutdated}
 use Rattle.lock_table.specs.Signatures.{meets, signature_of}
-use Rattle.lock_table.specs.Walks.{awaits, from_awaiting}
 
 pub renewed-requests : (bits : ℕ) (e : List Request) (fs : List Filing) → requests_in (renewed bits e fs) ≡ requests_in fs
 renewed-requests bits e [] = refl
@@ -111,96 +108,3 @@ pub kept_waiting : (fs : List Filing) (i : ℕ) (g f : Filing) → i < length fs
 kept_waiting fs i g f lt is h =
     shut-all (requests_in fs) g.request.wants.items f.request.wants.items
     (λ v k. wants-Has (requests_in fs) g.request v (place-Has fs i g lt is) k) h
-
--- ---- requests that a renewal passes over
-
-module _ (bits : ℕ) where
-  idle : (e : List Request) (f : Filing) → awaits bits f ≡ false → rises bits e f ≡ false
-  idle e f h = go f.granted h
-    where
-      go : (g : Bool) → not (bit_and (if g then 0 else signature_of f.request.wants.items) bits == 0) ≡ false
-          → (not g && (meets (signature_of f.request.wants.items) bits && granted_behind e f.request)) ≡ false
-      go true t = refl
-      go false t = ap (λ b. b && granted_behind e f.request) t
-
-  -- those before the first that waits and touches one of the groups
-  abbrev pub passed : List Filing → List Filing
-  passed [] = []
-  passed (f ∷ fs) = if awaits bits f then [] else f ∷ passed fs
-
-  passed-split : (fs : List Filing) → fs ≡ passed fs ++ from_awaiting bits fs
-  passed-split [] = refl
-  passed-split (f ∷ fs) = go (awaits bits f) (passed-split fs)
-    where
-      go : (b : Bool) → fs ≡ passed fs ++ from_awaiting bits fs
-          → f ∷ fs ≡ cond b [] (f ∷ passed fs) ++ cond b (f ∷ fs) (from_awaiting bits fs)
-      go true t = refl
-      go false t = ap (λ l. f ∷ l) t
-
-  passed-renewed : (e : List Request) (fs : List Filing)
-      → renewed bits e fs ≡ passed fs ++ renewed bits (e ++ requests_in (passed fs)) (from_awaiting bits fs)
-  passed-renewed e [] = refl
-  passed-renewed e (f ∷ fs) = go (awaits bits f) refl (passed-renewed (e ++ f.request ∷ []) fs)
-    where
-      go : (b : Bool) → awaits bits f ≡ b
-          → renewed bits (e ++ f.request ∷ []) fs
-          ≡ passed fs ++ renewed bits ((e ++ f.request ∷ []) ++ requests_in (passed fs)) (from_awaiting bits fs)
-          → renewed bits e (f ∷ fs)
-          ≡ cond b [] (f ∷ passed fs) ++ renewed bits (e ++ requests_in (cond b [] (f ∷ passed fs))) (cond b (f ∷ fs) (from_awaiting bits fs))
-      go true is t = ap (λ l. renewed bits l (f ∷ fs)) (sym (append-nil e))
-      go false is t =
-          ap (λ b. cond b (with_grant f ∷ renewed bits (e ++ f.request ∷ []) fs) (f ∷ renewed bits (e ++ f.request ∷ []) fs)) (idle e f is)
-          ∙ ap (λ l. f ∷ l) t
-          ∙ ap (λ l. f ∷ (passed fs ++ renewed bits l (from_awaiting bits fs))) (append_assoc e (f.request ∷ []) (requests_in (passed fs)))
-
-  passed-risen : (e : List Request) (fs : List Filing)
-      → risen bits e fs ≡ risen bits (e ++ requests_in (passed fs)) (from_awaiting bits fs)
-  passed-risen e [] = refl
-  passed-risen e (f ∷ fs) = go (awaits bits f) refl (passed-risen (e ++ f.request ∷ []) fs)
-    where
-      go : (b : Bool) → awaits bits f ≡ b
-          → risen bits (e ++ f.request ∷ []) fs ≡ risen bits ((e ++ f.request ∷ []) ++ requests_in (passed fs)) (from_awaiting bits fs)
-          → risen bits e (f ∷ fs)
-          ≡ risen bits (e ++ requests_in (cond b [] (f ∷ passed fs))) (cond b (f ∷ fs) (from_awaiting bits fs))
-      go true is t = ap (λ l. risen bits l (f ∷ fs)) (sym (append-nil e))
-      go false is t =
-          ap (λ b. cond (b && is_told_of f.request.kind) (grant_of f.request ∷ risen bits (e ++ f.request ∷ []) fs) (risen bits (e ++ f.request ∷ []) fs)) (idle e f is)
-          ∙ t
-          ∙ ap (λ l. risen bits l (from_awaiting bits fs)) (append_assoc e (f.request ∷ []) (requests_in (passed fs)))
-
-  module _ (xs : List Filing) (i j : ℕ) (le : i ≤ length xs) (is : j + length (from_awaiting bits (drop i xs)) ≡ length xs) where
-    abbrev front : List Filing
-    front = take i xs ++ passed (drop i xs)
-
-    abbrev rest : List Filing
-    rest = from_awaiting bits (drop i xs)
-
-    whole : xs ≡ front ++ rest
-    whole =
-        sym (take-append-drop i xs) ∙ ap (λ l. take i xs ++ l) (passed-split (drop i xs))
-        ∙ sym (append_assoc (take i xs) (passed (drop i xs)) rest)
-
-    front-long : length front ≡ j
-    front-long = let all = ap length whole in omega (arith, all, length-append front rest, is)
-
-    take-is : take j xs ≡ front
-    take-is = ap (λ n. take n xs) (sym front-long) ∙ ap (take (length front)) whole ∙ take-append_seam front rest
-
-    drop-is : drop j xs ≡ rest
-    drop-is = ap (λ n. drop n xs) (sym front-long) ∙ ap (drop (length front)) whole ∙ drop-append_seam front rest
-
-    earlier : requests_in (take i xs) ++ requests_in (passed (drop i xs)) ≡ requests_in (take j xs)
-    earlier = sym (map-append (λ (f : Filing). f.request) (take i xs) (passed (drop i xs))) ∙ ap requests_in (sym take-is)
-
-    pub next-renewed : take i xs ++ renewed bits (requests_in (take i xs)) (drop i xs) ≡ take j xs ++ renewed bits (requests_in (take j xs)) (drop j xs)
-    next-renewed =
-        ap (λ l. take i xs ++ l) (passed-renewed (requests_in (take i xs)) (drop i xs))
-        ∙ sym (append_assoc (take i xs) (passed (drop i xs)) (renewed bits (requests_in (take i xs) ++ requests_in (passed (drop i xs))) rest))
-        ∙ ap (λ l. l ++ renewed bits (requests_in (take i xs) ++ requests_in (passed (drop i xs))) rest) (sym take-is)
-        ∙ ap (λ l. take j xs ++ renewed bits l rest) earlier
-        ∙ ap (λ l. take j xs ++ renewed bits (requests_in (take j xs)) l) (sym drop-is)
-
-    pub next-risen : risen bits (requests_in (take i xs)) (drop i xs) ≡ risen bits (requests_in (take j xs)) (drop j xs)
-    next-risen =
-        passed-risen (requests_in (take i xs)) (drop i xs) ∙ ap (λ l. risen bits l rest) earlier
-        ∙ ap (risen bits (requests_in (take j xs))) (sym drop-is)

@@ -13,7 +13,7 @@ use Rattle.lock_queue.proofs.Lists.{Has}
 use Rattle.lock_table.specs.Signatures.{group_of, bit_of, signature_of, meets}
 use Rattle.lock_table.proofs.Fitting.{same_key-eq}
 
-pub not-false : (b : Bool) → not b ≡ false → b ≡ true
+not-false : (b : Bool) → not b ≡ false → b ≡ true
 not-false true h = refl
 not-false false h = absurd (cc)
 

@@ -1,7 +1,6 @@
 -- A job's bit tells whether it waits.
-use Rattle.std.proofs.Common.{◌≡◌, ◌∙◌, sym, ap, ℕ, zero, suc, ◌==◌, ◌<◌, ◌%◌, ◌/◌, ◌^◌, Bool, true, false, not, ◌&&◌, ◌||◌, cond, if◌then◌else◌, List, [], ◌∷◌, ◌++◌, refl, arith, max, bit_and, bit_or, nat_le, length, get_or, set, remove}
+use Rattle.std.proofs.Common.{◌≡◌, ◌∙◌, ap, ℕ, ◌==◌, ◌<◌, ◌%◌, ◌/◌, ◌^◌, Bool, true, false, not, ◌&&◌, ◌||◌, cond, if◌then◌else◌, List, [], ◌∷◌, ◌++◌, refl, arith, max, bit_and, bit_or, nat_le, length}
 use Rattle.std.specs.Int.{bit_at}
-use Rattle.std.specs.Int.Bits.{or_zero_r}
 use Rattle.std.specs.List.{list_any}
 use Rattle.std.proofs.lemmas.Bool.{and_parts, eqb-true, eq-eqb, leb-true}
 use Rattle.std.proofs.lemmas.Nat.Bits.{bit_at_or, bit_at-pow_same, bit_at-pow_other, bit_at-zero, shr_and_one}
@@ -88,16 +87,3 @@ waiters_told bits job (f ∷ fs) = go (pends job f) (waiters_told (bit_or bits (
         → with_waiters bits (cond b (with_told f ∷ fs) (f ∷ told_in job fs)) ≡ with_waiters bits (f ∷ fs)
     go true t = refl
     go false t = t
-
-pub waiters_set : (bits : ℕ) (fs : List Filing) (i : ℕ) (y d : Filing) → i < length fs → waiter_bit y ≡ waiter_bit (get_or fs i d)
-    → with_waiters bits (set fs i y) ≡ with_waiters bits fs
-waiters_set bits [] i y d lt same = absurd (omega arith)
-waiters_set bits (f ∷ fs) zero y d lt same = ap (λ n. with_waiters (bit_or bits n) fs) same
-waiters_set bits (f ∷ fs) (suc i) y d lt same = waiters_set (bit_or bits (waiter_bit f)) fs i y d (omega arith) same
-
-pub waiters_remove : (bits : ℕ) (fs : List Filing) (i : ℕ) (d : Filing) → i < length fs → waiter_bit (get_or fs i d) ≡ 0
-    → with_waiters bits (remove fs i) ≡ with_waiters bits fs
-waiters_remove bits [] i d lt none = absurd (omega arith)
-waiters_remove bits (f ∷ fs) zero d lt none =
-    ap (λ n. with_waiters n fs) (sym (or_zero_r bits)) ∙ ap (λ n. with_waiters (bit_or bits n) fs) (sym none)
-waiters_remove bits (f ∷ fs) (suc i) d lt none = waiters_remove (bit_or bits (waiter_bit f)) fs i d (omega arith) none

@@ -1,5 +1,5 @@
 -- What a walk passes over has no want of the key.
-use Rattle.std.proofs.Common.{◌≡◌, ◌∙◌, sym, ap, ℕ, ◌==◌, ◌≤◌, Bool, true, false, not, ◌&&◌, ◌||◌, ◌+◌, cond, if◌then◌else◌, sum_by, List, [], ◌∷◌, ◌++◌, length, get_or, drop, filter, refl, arith, bit_or}
+use Rattle.std.proofs.Common.{◌≡◌, ◌∙◌, sym, ap, ℕ, ◌==◌, ◌≤◌, Bool, true, false, not, ◌&&◌, ◌||◌, ◌+◌, cond, sum_by, List, [], ◌∷◌, ◌++◌, length, get_or, drop, filter, refl, arith, bit_or}
 use Rattle.std.proofs.lemmas.List.Elements.{filter-append}
 use Rattle.std.specs.List.{list_all}
 use Rattle.std.proofs.lemmas.List.Folds.{list_any-append, list_all-append}
@@ -11,8 +11,11 @@ use Rattle.lock_queue.specs.Keys.{same_key}
 use Rattle.lock_queue.specs.Queue.{all_wants, wants_at, wants_of, names, amount_of}
 use Rattle.lock_table.specs.Filings.{Filing, requests_in}
 use Rattle.lock_table.specs.Signatures.{bit_of, signature_of, meets}
-use Rattle.lock_table.specs.Walks.{touched, from_met, awaited, awaits, from_awaiting}
+use Rattle.lock_table.specs.Walks.{touched, from_met}
 use Rattle.lock_table.proofs.SignatureLaws.{unmet_names, unmet_wants}
+
+met-skip : (bits : ℕ) (f : Filing) (fs : List Filing) → touched bits f ≡ 0 → from_met bits (f ∷ fs) ≡ from_met bits fs
+met-skip bits f fs e = ap (λ n. cond (not (n == 0)) (f ∷ fs) (from_met bits fs)) e
 
 or-left : (a b : ℕ) → bit_or a b ≡ 0 → a ≡ 0
 or-left a b h = omega (arith, le_or_l a b, h)
@@ -20,61 +23,16 @@ or-left a b h = omega (arith, le_or_l a b, h)
 or-right : (a b : ℕ) → bit_or a b ≡ 0 → b ≡ 0
 or-right a b h = omega (arith, le_or_r a b, h)
 
--- a walk to the first request of which a number is not 0
-module _ (mark : Filing → ℕ) where
-  abbrev pub from_marked : List Filing → List Filing
-  from_marked [] = []
-  from_marked (f ∷ later) = if not (mark f == 0) then f ∷ later else from_marked later
-
-  marked-skip : (f : Filing) (fs : List Filing) → mark f ≡ 0 → from_marked (f ∷ fs) ≡ from_marked fs
-  marked-skip f fs e = ap (λ n. cond (not (n == 0)) (f ∷ fs) (from_marked fs)) e
-
-  marked-four : (a b c d : Filing) (fs : List Filing)
-      → bit_or (bit_or (mark a) (mark b)) (bit_or (mark c) (mark d)) ≡ 0
-      → from_marked (a ∷ b ∷ c ∷ d ∷ fs) ≡ from_marked fs
-  marked-four a b c d fs h =
-      let front = or-left (bit_or (mark a) (mark b)) (bit_or (mark c) (mark d)) h in
-      let back = or-right (bit_or (mark a) (mark b)) (bit_or (mark c) (mark d)) h in
-      marked-skip a (b ∷ c ∷ d ∷ fs) (or-left (mark a) (mark b) front)
-      ∙ marked-skip b (c ∷ d ∷ fs) (or-right (mark a) (mark b) front)
-      ∙ marked-skip c (d ∷ fs) (or-left (mark c) (mark d) back)
-      ∙ marked-skip d fs (or-right (mark c) (mark d) back)
-
-  -- the same of a list's first four
-  marked-from : (xs : List Filing) (a b c d : Filing) → 4 ≤ length xs
-      → a ≡ get_or xs 0 a → b ≡ get_or xs 1 b → c ≡ get_or xs 2 c → d ≡ get_or xs 3 d
-      → bit_or (bit_or (mark a) (mark b)) (bit_or (mark c) (mark d)) ≡ 0
-      → from_marked (drop 4 xs) ≡ from_marked xs
-  marked-from [] a b c d le ia ib ic id h = absurd (omega arith)
-  marked-from (w ∷ []) a b c d le ia ib ic id h = absurd (omega arith)
-  marked-from (w ∷ x ∷ []) a b c d le ia ib ic id h = absurd (omega arith)
-  marked-from (w ∷ x ∷ y ∷ []) a b c d le ia ib ic id h = absurd (omega arith)
-  marked-from (w ∷ x ∷ y ∷ z ∷ fs) a b c d le ia ib ic id h =
-      let same : bit_or (bit_or (mark w) (mark x)) (bit_or (mark y) (mark z)) ≡ 0 = cc in
-      sym (marked-four w x y z fs same)
-
-  -- and of its first eight
-  pub marked-eight : (xs : List Filing) (a b c d e f g h : Filing) → 8 ≤ length xs
-      → a ≡ get_or xs 0 a → b ≡ get_or xs 1 b → c ≡ get_or xs 2 c → d ≡ get_or xs 3 d
-      → e ≡ get_or xs 4 e → f ≡ get_or xs 5 f → g ≡ get_or xs 6 g → h ≡ get_or xs 7 h
-      → bit_or (bit_or (mark a) (mark b)) (bit_or (mark c) (mark d)) ≡ 0
-      → bit_or (bit_or (mark e) (mark f)) (bit_or (mark g) (mark h)) ≡ 0
-      → from_marked (drop 8 xs) ≡ from_marked xs
-  marked-eight [] a b c d e f g h le ia ib ic id ie iff ig ih front back = absurd (omega arith)
-  marked-eight (p ∷ []) a b c d e f g h le ia ib ic id ie iff ig ih front back = absurd (omega arith)
-  marked-eight (p ∷ q ∷ []) a b c d e f g h le ia ib ic id ie iff ig ih front back = absurd (omega arith)
-  marked-eight (p ∷ q ∷ r ∷ []) a b c d e f g h le ia ib ic id ie iff ig ih front back = absurd (omega arith)
-  marked-eight (p ∷ q ∷ r ∷ s ∷ xs) a b c d e f g h le ia ib ic id ie iff ig ih front back =
-      marked-from xs e f g h (omega arith) ie iff ig ih back
-      ∙ marked-from (p ∷ q ∷ r ∷ s ∷ xs) a b c d (omega arith) ia ib ic id front
-
-met-marked : (bits : ℕ) (fs : List Filing) → from_met bits fs ≡ from_marked (touched bits) fs
-met-marked bits [] = refl
-met-marked bits (f ∷ fs) = ap (λ l. cond (meets (signature_of f.request.wants.items) bits) (f ∷ fs) l) (met-marked bits fs)
-
-awaiting-marked : (bits : ℕ) (fs : List Filing) → from_awaiting bits fs ≡ from_marked (awaited bits) fs
-awaiting-marked bits [] = refl
-awaiting-marked bits (f ∷ fs) = ap (λ l. cond (awaits bits f) (f ∷ fs) l) (awaiting-marked bits fs)
+met-four : (bits : ℕ) (a b c d : Filing) (fs : List Filing)
+    → bit_or (bit_or (touched bits a) (touched bits b)) (bit_or (touched bits c) (touched bits d)) ≡ 0
+    → from_met bits (a ∷ b ∷ c ∷ d ∷ fs) ≡ from_met bits fs
+met-four bits a b c d fs h =
+    let front = or-left (bit_or (touched bits a) (touched bits b)) (bit_or (touched bits c) (touched bits d)) h in
+    let back = or-right (bit_or (touched bits a) (touched bits b)) (bit_or (touched bits c) (touched bits d)) h in
+    met-skip bits a (b ∷ c ∷ d ∷ fs) (or-left (touched bits a) (touched bits b) front)
+    ∙ met-skip bits b (c ∷ d ∷ fs) (or-right (touched bits a) (touched bits b) front)
+    ∙ met-skip bits c (d ∷ fs) (or-left (touched bits c) (touched bits d) back)
+    ∙ met-skip bits d fs (or-right (touched bits c) (touched bits d) back)
 
 pub met_wants : (k : Key) (fs : List Filing) → wants_at (requests_in (from_met (bit_of k) fs)) k ≡ wants_at (requests_in fs) k
 met_wants k [] = refl
@@ -109,23 +67,33 @@ met_names job k (f ∷ fs) = go (meets (signature_of f.request.wants.items) (bit
     go true e t = refl
     go false e t = t ∙ mine (f.request.job == job) (unmet_names f.request.wants.items k e)
 
+-- the same of a list's first four
+met-from : (bits : ℕ) (xs : List Filing) (a b c d : Filing) → 4 ≤ length xs
+    → a ≡ get_or xs 0 a → b ≡ get_or xs 1 b → c ≡ get_or xs 2 c → d ≡ get_or xs 3 d
+    → bit_or (bit_or (touched bits a) (touched bits b)) (bit_or (touched bits c) (touched bits d)) ≡ 0
+    → from_met bits (drop 4 xs) ≡ from_met bits xs
+met-from bits [] a b c d le ia ib ic id h = absurd (omega arith)
+met-from bits (w ∷ []) a b c d le ia ib ic id h = absurd (omega arith)
+met-from bits (w ∷ x ∷ []) a b c d le ia ib ic id h = absurd (omega arith)
+met-from bits (w ∷ x ∷ y ∷ []) a b c d le ia ib ic id h = absurd (omega arith)
+met-from bits (w ∷ x ∷ y ∷ z ∷ fs) a b c d le ia ib ic id h =
+    let same : bit_or (bit_or (touched bits w) (touched bits x)) (bit_or (touched bits y) (touched bits z)) ≡ 0 = cc in
+    sym (met-four bits w x y z fs same)
+
+-- and of its first eight
 pub met-eight : (bits : ℕ) (xs : List Filing) (a b c d e f g h : Filing) → 8 ≤ length xs
     → a ≡ get_or xs 0 a → b ≡ get_or xs 1 b → c ≡ get_or xs 2 c → d ≡ get_or xs 3 d
     → e ≡ get_or xs 4 e → f ≡ get_or xs 5 f → g ≡ get_or xs 6 g → h ≡ get_or xs 7 h
     → bit_or (bit_or (touched bits a) (touched bits b)) (bit_or (touched bits c) (touched bits d)) ≡ 0
     → bit_or (bit_or (touched bits e) (touched bits f)) (bit_or (touched bits g) (touched bits h)) ≡ 0
     → from_met bits (drop 8 xs) ≡ from_met bits xs
-met-eight bits xs a b c d e f g h le ia ib ic id ie iff ig ih front back =
-    met-marked bits (drop 8 xs) ∙ marked-eight (touched bits) xs a b c d e f g h le ia ib ic id ie iff ig ih front back ∙ sym (met-marked bits xs)
-
-pub awaiting-eight : (bits : ℕ) (xs : List Filing) (a b c d e f g h : Filing) → 8 ≤ length xs
-    → a ≡ get_or xs 0 a → b ≡ get_or xs 1 b → c ≡ get_or xs 2 c → d ≡ get_or xs 3 d
-    → e ≡ get_or xs 4 e → f ≡ get_or xs 5 f → g ≡ get_or xs 6 g → h ≡ get_or xs 7 h
-    → bit_or (bit_or (awaited bits a) (awaited bits b)) (bit_or (awaited bits c) (awaited bits d)) ≡ 0
-    → bit_or (bit_or (awaited bits e) (awaited bits f)) (bit_or (awaited bits g) (awaited bits h)) ≡ 0
-    → from_awaiting bits (drop 8 xs) ≡ from_awaiting bits xs
-awaiting-eight bits xs a b c d e f g h le ia ib ic id ie iff ig ih front back =
-    awaiting-marked bits (drop 8 xs) ∙ marked-eight (awaited bits) xs a b c d e f g h le ia ib ic id ie iff ig ih front back ∙ sym (awaiting-marked bits xs)
+met-eight bits [] a b c d e f g h le ia ib ic id ie iff ig ih front back = absurd (omega arith)
+met-eight bits (p ∷ []) a b c d e f g h le ia ib ic id ie iff ig ih front back = absurd (omega arith)
+met-eight bits (p ∷ q ∷ []) a b c d e f g h le ia ib ic id ie iff ig ih front back = absurd (omega arith)
+met-eight bits (p ∷ q ∷ r ∷ []) a b c d e f g h le ia ib ic id ie iff ig ih front back = absurd (omega arith)
+met-eight bits (p ∷ q ∷ r ∷ s ∷ xs) a b c d e f g h le ia ib ic id ie iff ig ih front back =
+    met-from bits xs e f g h (omega arith) ie iff ig ih back
+    ∙ met-from bits (p ∷ q ∷ r ∷ s ∷ xs) a b c d (omega arith) ia ib ic id front
 
 pub or-assoc : (a b c : Bool) → ((a || b) || c) ≡ (a || (b || c))
 or-assoc true b c = refl

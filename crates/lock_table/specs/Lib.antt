@@ -5,6 +5,5 @@ pub mod Departures
 pub mod Findings
 pub mod Waiters
 pub mod Walks
-pub mod Counted
-pub mod Levels
 pub mod Changing
+pub mod Levels

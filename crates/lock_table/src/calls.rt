@@ -15,13 +15,13 @@ use crate::changes::{is_some_lost, refusal_of_modify};
 use crate::departures::{Leaving, depart, depart_named};
 use crate::dequeues::{does_some_leave, refusal_of_dequeue};
 use crate::enqueues::refusal_of_enqueue;
-use crate::fits::are_fitting_last;
+use crate::fits::are_fitting;
 use crate::shelf::Shelf;
 use crate::signature::signature_of;
 use lock_queue::{EnqueueKind, LockCall, LockReply, Refusal, RequestId, Wants, Woken};
 
 /// Takes in a request that is not refused.
-#[tactic(auto, using(lock_queue::proofs::Granted::arrival_granted, lock_queue::proofs::Granted::arrival_waiting, crate::proofs::CountLaws::passed_alike))]
+#[tactic(auto, using(lock_queue::proofs::Granted::arrival_granted, lock_queue::proofs::Granted::arrival_waiting))]
 fn arrive(shelf: &mut Shelf, job: u8, kind: EnqueueKind, id: RequestId, wants: &Wants) -> LockReply
     requires room { length shelf.old < REQUESTS }
     requires job { (1 ≤ job) × (job ≤ JOBS) }
@@ -29,7 +29,6 @@ fn arrive(shelf: &mut Shelf, job: u8, kind: EnqueueKind, id: RequestId, wants: &
     requires unshared { IsTrue (list_all shares_no_pool wants.now.items) }
     requires passed { first_refusal (enqueue_fault (requests_in shelf.old) job) [] wants.now.items ≡ None }
     requires right { AreRight [] shelf.old }
-    requires well { IsTrue (are_well_formed (requests_in shelf.old)) }
     ensures requests { requests_in shelf.new ≡
         (arrival (requests_in shelf.old) job kind id wants.now).requests }
     ensures reply { result ≡ (arrival (requests_in shelf.old) job kind id wants.now).reply }
@@ -37,7 +36,7 @@ fn arrive(shelf: &mut Shelf, job: u8, kind: EnqueueKind, id: RequestId, wants: &
     ensures few { length (requests_in shelf.old) ≤ REQUESTS → length (requests_in shelf.new) ≤ REQUESTS }
     ensures well { IsTrue (are_well_formed (requests_in shelf.old)) → IsTrue (are_well_formed (requests_in shelf.new)) }
 {
-    if are_fitting_last(shelf, wants.as_slice()) {
+    if are_fitting(shelf.as_slice(), wants.as_slice()) {
         let told = matches!(kind, EnqueueKind::Interrupt);
         shelf.push(job, id, kind, told, wants, true);
         return LockReply::Granted;
@@ -67,7 +66,6 @@ fn enqueue(
     requires some { IsTrue (nat_le 1 (length wants.now.items)) }
     requires unshared { IsTrue (list_all shares_no_pool wants.now.items) }
     requires right { AreRight [] shelf.old }
-    requires well { IsTrue (are_well_formed (requests_in shelf.old)) }
     ensures requests { requests_in shelf.new ≡
         (enqueue (requests_in shelf.old) job kind id wants.now armed).requests }
     ensures reply { result ≡ (enqueue (requests_in shelf.old) job kind id wants.now armed).reply }
@@ -75,7 +73,7 @@ fn enqueue(
     ensures few { length (requests_in shelf.old) ≤ REQUESTS → length (requests_in shelf.new) ≤ REQUESTS }
     ensures well { IsTrue (are_well_formed (requests_in shelf.old)) → IsTrue (are_well_formed (requests_in shelf.new)) }
 {
-    match refusal_of_enqueue(shelf, job, kind, wants.as_slice(), armed) {
+    match refusal_of_enqueue(shelf.as_slice(), job, kind, wants.as_slice(), armed) {
         Some(refusal) => LockReply::Refused(refusal),
         None => arrive(shelf, job, kind, id, wants),
     }
@@ -155,7 +153,6 @@ pub fn make_call(shelf: &mut Shelf, job: u8, call: &LockCall, woken: &mut Woken)
     requires named { IsTrue (names_locks call.now) }
     requires unshared { IsTrue (shares_no_pools call.now) }
     requires right { AreRight [] shelf.old }
-    requires well { IsTrue (are_well_formed (requests_in shelf.old)) }
     ensures requests { requests_in shelf.new ≡
         (outcome_of (requests_in shelf.old) job call.now).requests }
     ensures reply { result ≡ (outcome_of (requests_in shelf.old) job call.now).reply }

@@ -1,23 +1,20 @@
 //! Wants that are made shared or exclusive.
-ghost use Rattle.std.specs.Prelude.{◌≡◌, ◌<◌, ◌+◌, ◌++◌, ◌==◌, ◌&&◌, [], drop, filter, get_or, if◌then◌else◌, length, map, not, set, take};
+ghost use Rattle.std.specs.Prelude.{◌≡◌, ◌==◌, ◌&&◌, [], filter, if◌then◌else◌, map, not};
 ghost use Rattle.std.specs.List.{list_any};
 ghost use Rattle.lock_queue.specs.Changes.{modify_fault};
 ghost use Rattle.lock_queue.specs.Keys.{same_key};
 ghost use Rattle.lock_queue.specs.Outcomes.{first_refusal};
-ghost use Rattle.lock_queue.specs.Queue.{all_wants, is_pooled, wants_at, requests_of};
+ghost use Rattle.lock_queue.specs.Queue.{is_pooled, wants_at, requests_of};
 ghost use Rattle.lock_table.specs.Changing.{fits_held, held_with, held_unless_lost, as_changed_at, costs_grant};
-ghost use Rattle.lock_table.specs.Counted.{AreCounted};
 ghost use Rattle.lock_table.specs.Departures.{with_change};
-ghost use Rattle.lock_table.specs.Filings.{Filing, requests_in};
+ghost use Rattle.lock_table.specs.Filings.{requests_in};
 ghost use Rattle.lock_table.specs.Signatures.{signature_of};
 ghost use Rattle.lock_table.specs.Waiters.{waiters_in};
 
-use crate::counting::count_changes;
 use crate::filed::Filed;
 use crate::fits::job_has_key;
 use crate::signature::{bit_of, signature_of};
 use crate::walks::{from_met, next_met};
-use lock_counts::LockCounts;
 use lock_queue::steps::{is_pooled, is_pooled_in, names_key};
 use lock_queue::{Key, Refusal, Want};
 
@@ -175,58 +172,13 @@ fn change_where_met(f: &mut Filed, job: u8, changes: &[Want], bits: u64)
     }
 }
 
-/// Counts the wants of the request at a place as the changes leave them.
-fn count_where_met(
-    counts: &mut LockCounts,
-    filed: &[Filed],
-    i: usize,
-    job: u8,
-    changes: &[Want],
-    bits: u64,
-)
-    requires bits { bits ≡ signature_of changes.now }
-    requires there { i < length filed.now }
-    requires counted { AreCounted counts.old (all_wants (requests_in filed.now)) }
-    ensures { (d : Filing) → AreCounted counts.new
-        (all_wants (requests_in (take i filed.now))
-        ++ ((with_change job changes.now (get_or filed.now i d)).request.wants.items
-        ++ all_wants (requests_in (drop (i + 1) filed.now)))) }
-{
-    let f = &filed[i];
-    if f.meets(bits) && f.job() == job {
-        count_changes(counts, filed, i, changes);
-    }
-}
-
-/// Makes the changes in the request at a place, and counts its wants anew.
-fn change_at(
-    filed: &mut [Filed],
-    counts: &mut LockCounts,
-    i: usize,
-    job: u8,
-    changes: &[Want],
-    bits: u64,
-)
-    requires bits { bits ≡ signature_of changes.now }
-    requires there { i < length filed.old }
-    requires counted { AreCounted counts.old (all_wants (requests_in filed.old)) }
-    ensures value { (d : Filing) → filed.new ≡ set filed.old i (with_change job changes.now (get_or filed.old i d)) }
-    ensures counted { AreCounted counts.new (all_wants (requests_in filed.new)) }
-{
-    count_where_met(counts, filed, i, job, changes, bits);
-    change_where_met(&mut filed[i], job, changes, bits);
-}
-
-/// Makes the changes in the job's requests, and counts their wants anew. Grants stay as they are
-/// noted.
-pub fn change_of_job(filed: &mut [Filed], counts: &mut LockCounts, job: u8, changes: &[Want])
-    requires { AreCounted counts.old (all_wants (requests_in filed.old)) }
+/// Makes the changes in the job's requests. Grants stay as they are noted.
+pub fn change_of_job(filed: &mut [Filed], job: u8, changes: &[Want])
     ensures value { filed.new ≡ map (with_change job changes.now) filed.old }
     ensures waiters { waiters_in filed.new ≡ waiters_in filed.old }
-    ensures counted { AreCounted counts.new (all_wants (requests_in filed.new)) }
 {
     let bits = signature_of(changes);
-    for i in 0..filed.len() {
-        change_at(filed, counts, i, job, changes, bits);
+    for f in filed.iter_mut() {
+        change_where_met(f, job, changes, bits);
     }
 }

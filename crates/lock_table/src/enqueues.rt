@@ -1,32 +1,42 @@
 //! Why a request that arrives is refused.
-ghost use Rattle.std.specs.Prelude.{◌≡◌, ◌≤◌, ◌+◌, ◌^◌, max, ◌==◌, ◌&&◌, not, if◌then◌else◌, []};
+ghost use Rattle.std.specs.Prelude.{◌≡◌, ◌≤◌, ◌+◌, ◌^◌, max, ◌==◌, ◌&&◌, ◌||◌, not, if◌then◌else◌, []};
 ghost use Rattle.std.specs.List.{list_all};
 ghost use Rattle.lock_queue.specs.Enqueues.{enqueue_fault, some_too_low, enqueue_refusal};
-ghost use Rattle.lock_queue.specs.Outcomes.{refuse_if, first_refusal};
-ghost use Rattle.lock_queue.specs.declared.refusal.Refusal.TheVariants.{NamedAlready};
-ghost use Rattle.lock_counts.specs.Counts.{has_wants, is_like};
-ghost use Rattle.lock_queue.specs.Queue.{wants_of};
+ghost use Rattle.lock_queue.specs.Outcomes.{first_refusal};
+ghost use Rattle.lock_queue.specs.Queue.{names, wants_of};
 ghost use Rattle.lock_table.specs.Filings.{requests_in};
 ghost use Rattle.lock_table.specs.Levels.{above_all, some_below};
 
 use crate::filed::Filed;
-use crate::fits::job_has_key;
-use crate::shelf::Shelf;
-use lock_counts::Counts;
-use lock_queue::steps::names_key;
-use lock_queue::{EnqueueKind, Level, Refusal, Want};
+use crate::fits::job_names;
+use crate::signature::bit_of;
+use crate::walks::{from_met, next_met};
+use lock_queue::steps::{are_alike_in, names_key};
+use lock_queue::{EnqueueKind, Key, Level, Refusal, Want};
 use word36::REQUESTS;
 
-/// Whether a want differs from those of its key, by what is counted of these.
-fn does_differ(counts: &Counts, w: &Want) -> bool
-    ensures { result ≡ (has_wants counts.now && not (is_like counts.now w.now)) }
+/// Whether the job names the key in a request, or did so before.
+fn is_named_so_far(before: bool, f: &Filed, job: u8, key: &Key) -> bool
+    ensures { result ≡
+        (before || (f.now.request.job == job && names f.now.request.wants.items key.now)) }
 {
-    counts.has_wants() && !counts.is_like(w)
+    before || job_names(f, job, key)
 }
 
-fn refusal_of_named(is_named: bool) -> Option<Refusal>
-    ensures { result ≡ refuse_if is_named NamedAlready }
+/// Why a want is refused beside the present ones: one of its key differs from it, or is the job's.
+fn fault_beside(filed: &[Filed], job: u8, w: &Want) -> Option<Refusal>
+    ensures { result ≡ enqueue_fault (requests_in filed.now) job [] w.now }
 {
+    let bit = bit_of(&w.key);
+    let mut is_named = false;
+    let mut rest = from_met(filed, bit);
+    while let [f, ..] = rest {
+        if !are_alike_in(f.wants(), w) {
+            return Some(Refusal::Differs);
+        }
+        is_named = is_named_so_far(is_named, f, job, &w.key);
+        rest = next_met(rest, bit);
+    }
     if is_named {
         Some(Refusal::NamedAlready)
     } else {
@@ -34,26 +44,11 @@ fn refusal_of_named(is_named: bool) -> Option<Refusal>
     }
 }
 
-/// Why a want is refused beside the present ones: one of its key differs from it, or is the job's.
-/// What is counted of the key tells the first, and the second is looked for only where there are some.
-fn fault_beside(shelf: &Shelf, job: u8, w: &Want) -> Option<Refusal>
-    ensures { result ≡ enqueue_fault (requests_in shelf.now) job [] w.now }
-{
-    match shelf.counts_of(&w.key) {
-        None => None,
-        Some(counts) => if does_differ(counts, w) {
-            Some(Refusal::Differs)
-        } else {
-            refusal_of_named(job_has_key(shelf.as_slice(), job, &w.key))
-        },
-    }
-}
-
 /// Why a want is refused that comes after the call's earlier ones.
-fn fault_of(shelf: &Shelf, job: u8, earlier: &[Want], w: &Want) -> Option<Refusal>
-    ensures { result ≡ enqueue_fault (requests_in shelf.now) job earlier.now w.now }
+fn fault_of(filed: &[Filed], job: u8, earlier: &[Want], w: &Want) -> Option<Refusal>
+    ensures { result ≡ enqueue_fault (requests_in filed.now) job earlier.now w.now }
 {
-    let fault = fault_beside(shelf, job, w);
+    let fault = fault_beside(filed, job, w);
     if fault.is_none() && names_key(earlier, &w.key) {
         Some(Refusal::NamedAlready)
     } else {
@@ -61,11 +56,11 @@ fn fault_of(shelf: &Shelf, job: u8, earlier: &[Want], w: &Want) -> Option<Refusa
     }
 }
 
-fn first_fault(shelf: &Shelf, job: u8, wants: &[Want]) -> Option<Refusal>
-    ensures { result ≡ first_refusal (enqueue_fault (requests_in shelf.now) job) [] wants.now }
+fn first_fault(filed: &[Filed], job: u8, wants: &[Want]) -> Option<Refusal>
+    ensures { result ≡ first_refusal (enqueue_fault (requests_in filed.now) job) [] wants.now }
 {
     for (i, w) in wants.iter().enumerate() {
-        let fault = fault_of(shelf, job, &wants[..i], w);
+        let fault = fault_of(filed, job, &wants[..i], w);
         if fault.is_some() {
             return fault;
         }
@@ -164,22 +159,22 @@ fn are_out_of_order(filed: &[Filed], job: u8, wants: &[Want]) -> bool
 /// Why a request is not taken in, if it is not: first lock by lock, then by its levels, then for want
 /// of a vector, then for want of room.
 pub fn refusal_of_enqueue(
-    shelf: &Shelf,
+    filed: &[Filed],
     job: u8,
     kind: EnqueueKind,
     wants: &[Want],
     armed: bool,
 ) -> Option<Refusal>
-    ensures { result ≡ enqueue_refusal (requests_in shelf.now) job kind wants.now armed }
+    ensures { result ≡ enqueue_refusal (requests_in filed.now) job kind wants.now armed }
 {
-    let fault = first_fault(shelf, job, wants);
+    let fault = first_fault(filed, job, wants);
     if fault.is_some() {
         fault
-    } else if are_out_of_order(shelf.as_slice(), job, wants) {
+    } else if are_out_of_order(filed, job, wants) {
         Some(Refusal::LevelOrder)
     } else if matches!(kind, EnqueueKind::Interrupt) && !armed {
         Some(Refusal::NoVector)
-    } else if shelf.as_slice().len() >= REQUESTS {
+    } else if filed.len() >= REQUESTS {
         Some(Refusal::QueueFull)
     } else {
         None

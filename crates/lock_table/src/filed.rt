@@ -11,7 +11,7 @@ ghost use Rattle.lock_table.specs.Findings.{with_told};
 ghost use Rattle.lock_table.specs.Renewals.{with_grant};
 ghost use Rattle.lock_table.specs.Signatures.{meets, signature_of};
 ghost use Rattle.lock_table.specs.Waiters.{waiter_bit};
-ghost use Rattle.lock_table.specs.Walks.{touched, awaited, awaits};
+ghost use Rattle.lock_table.specs.Walks.{touched};
 
 use crate::sharing::change_wants;
 use crate::signature::signature_of;
@@ -27,8 +27,6 @@ use std::marker::Model;
 pub struct Filed {
     request: Box<Request>,
     signature: u64,
-    /// The same where it waits, and 0 where it is granted.
-    awaited: u64,
     waiter: u32,
     job: u8,
     granted: bool,
@@ -39,14 +37,12 @@ impl Model for Filed {
     ghost use Rattle.lock_table.specs.Filings.{Filing, filing};
     ghost use Rattle.lock_table.specs.Signatures.{signature_of};
     ghost use Rattle.lock_table.specs.Waiters.{waiter_bit};
-    ghost use Rattle.lock_table.specs.Walks.{awaited_signature};
 
     ghost Value = { Filing };
 
     ghost view = { λ f. filing f.request.value f.granted };
 
     ghost invariant = { λ f. (f.signature ≡ signature_of f.request.value.wants.items)
-        × (f.awaited ≡ awaited_signature (filing f.request.value f.granted))
         × (f.waiter ≡ waiter_bit (filing f.request.value f.granted)) × (f.job ≡ f.request.value.job) };
 }
 
@@ -56,7 +52,6 @@ impl Filed {
         Ok(Filed {
             request: Box::new(alloc, Request::default())?,
             signature: 0,
-            awaited: 0,
             waiter: 0,
             job: 0,
             granted: false,
@@ -112,20 +107,6 @@ impl Filed {
         self.signature & bits
     }
 
-    /// Those of these groups that its wants touch, where it waits.
-    pub fn awaited(&self, bits: u64) -> u64
-        ensures { result ≡ awaited bits self.now }
-    {
-        self.awaited & bits
-    }
-
-    /// Whether it waits, and its wants touch one of these groups.
-    pub fn awaits(&self, bits: u64) -> bool
-        ensures { result ≡ awaits bits self.now }
-    {
-        self.awaited & bits != 0
-    }
-
     /// Whether its wants touch one of these groups.
     pub fn meets(&self, bits: u64) -> bool
         ensures { result ≡ meets (signature_of self.now.request.wants.items) bits }
@@ -146,7 +127,6 @@ impl Filed {
         ensures { self.new ≡ with_grant self.old }
     {
         self.granted = true;
-        self.awaited = 0;
         self.waiter = 0;
     }
 
@@ -173,7 +153,6 @@ impl Filed {
     {
         write_request(&mut self.request, job, id, kind, told, wants);
         self.signature = signature_of(wants.as_slice());
-        self.awaited = if granted { 0 } else { self.signature };
         self.waiter = waiter_bit(job, kind, granted);
         self.job = job;
         self.granted = granted;
@@ -185,7 +164,6 @@ impl Filed {
     {
         remove_keys(&mut self.request, named);
         self.signature = signature_of(self.request.wants.as_slice());
-        self.awaited = if self.granted { 0 } else { self.signature };
     }
 
     /// Makes its wants shared or exclusive, each as the change of its key says, if there is one. Kept

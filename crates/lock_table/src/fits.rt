@@ -1,13 +1,12 @@
 //! Which wants fit behind some requests. Only requests that touch a key's group are looked at.
-ghost use Rattle.std.specs.Prelude.{◌≡◌, ◌==◌, ◌&&◌, ◌+◌, ◌<◌, [], nat_le, filter, sum_by, MatchOption};
+ghost use Rattle.std.specs.Prelude.{◌≡◌, ◌==◌, ◌&&◌, ◌+◌, ◌<◌, nat_le, filter, sum_by, MatchOption};
 ghost use Rattle.std.specs.List.{list_all};
 ghost use Rattle.lock_queue.specs.Keys.{same_key};
-ghost use Rattle.lock_queue.specs.Queue.{names, wants_at, wants_of, agree, amount_of, fits_beside, fits};
+ghost use Rattle.lock_queue.specs.Queue.{names, wants_at, wants_of, agree, amount_of, fits};
 ghost use Rattle.lock_table.specs.Filings.{requests_in};
 ghost use Rattle.lock_table.specs.Signatures.{bit_of};
 
 use crate::filed::Filed;
-use crate::shelf::Shelf;
 use crate::signature::bit_of;
 use crate::walks::{from_met, next_met};
 use lock_queue::steps::{do_agree, names_key, room_beside};
@@ -112,31 +111,4 @@ pub fn are_fitting(earlier: &[Filed], wants: &[Want]) -> bool
     ensures { result ≡ list_all (fits (requests_in earlier.now)) wants.now }
 {
     wants.iter().all(|w| is_fitting(earlier, w))
-}
-
-/// Whether a want fits where there is no other of its key.
-fn is_fitting_alone(w: &Want) -> bool
-    ensures { result ≡ fits_beside [] w.now w.now.pool }
-{
-    match w.pool {
-        None => true,
-        Some(pool) => pool.amount() <= pool.size(),
-    }
-}
-
-/// Whether a want fits behind all requests that are present, by what is counted of its key.
-fn is_fitting_last(shelf: &Shelf, w: &Want) -> bool
-    ensures { result ≡ fits (requests_in shelf.now) w.now }
-{
-    match shelf.counts_of(&w.key) {
-        Some(counts) => counts.has_room(w),
-        None => is_fitting_alone(w),
-    }
-}
-
-/// Whether all of these wants fit behind all requests that are present.
-pub fn are_fitting_last(shelf: &Shelf, wants: &[Want]) -> bool
-    ensures { result ≡ list_all (fits (requests_in shelf.now)) wants.now }
-{
-    wants.iter().all(|w| is_fitting_last(shelf, w))
 }

@@ -3,7 +3,6 @@
 
 mod calls;
 mod changes;
-mod counting;
 mod departures;
 mod dequeues;
 mod enqueues;

@@ -1,5 +1,5 @@
-//! Grants that are made when requests have left or changed.
-ghost use Rattle.std.specs.Prelude.{◌≡◌, ◌≤◌, ◌<◌, ◌+◌, ◌++◌, [], false, length, take, drop, IsTrue};
+//! Grants that are made when requests have left or changed, and the jobs that wait then.
+ghost use Rattle.std.specs.Prelude.{◌≡◌, ◌≤◌, [], false, length, IsTrue};
 ghost use Rattle.word36.specs.declared.sizes.TheConstants.{REQUESTS};
 ghost use Rattle.lock_queue.specs.Queue.{granted_behind};
 ghost use Rattle.lock_table.specs.Filings.{requests_in};
@@ -8,7 +8,6 @@ ghost use Rattle.lock_table.specs.Waiters.{waiters_in};
 
 use crate::filed::Filed;
 use crate::fits::are_fitting;
-use crate::walks::from_awaiting;
 use lock_queue::Woken;
 use lock_queue::steps::{do_agree, grant_of, is_pooled, is_told_of};
 
@@ -42,65 +41,27 @@ fn does_rise(earlier: &[Filed], f: &Filed, bits: u64, last: &mut usize) -> bool
     are_fitting(earlier, f.wants())
 }
 
-/// The place of the first request, from a place on, that waits and touches one of the groups; the
-/// number of requests, where there is none.
-fn next_awaiting(filed: &[Filed], from: usize, bits: u64) -> usize
-    requires { from ≤ length filed.now }
-    ensures least { from ≤ result }
-    ensures most { result ≤ length filed.now }
-    ensures value { take from filed.now ++ renewed bits (requests_in (take from filed.now)) (drop from filed.now)
-        ≡ take result filed.now ++ renewed bits (requests_in (take result filed.now)) (drop result filed.now) }
-    ensures grants { risen bits (requests_in (take from filed.now)) (drop from filed.now)
-        ≡ risen bits (requests_in (take result filed.now)) (drop result filed.now) }
-{
-    let rest = &filed[from..];
-    filed.len() - from_awaiting(rest, bits).len()
-}
-
-/// Grants the request at a place, where it rises, fills in its grant, where its job is told, and
-/// answers whether the job waited by it.
-#[tactic(auto, using(crate::proofs::WaiterLaws::waiters_set))]
-fn raise_at(filed: &mut [Filed], i: usize, bits: u64, last: &mut usize, woken: &mut Woken) -> bool
-    requires there { i < length filed.old }
-    requires room { length woken.old.items < REQUESTS }
-    ensures value { take (i + 1) filed.new ++ renewed bits (requests_in (take (i + 1) filed.new)) (drop (i + 1) filed.new)
-        ≡ take i filed.old ++ renewed bits (requests_in (take i filed.old)) (drop i filed.old) }
-    ensures grants { woken.new.items ++ risen bits (requests_in (take (i + 1) filed.new)) (drop (i + 1) filed.new)
-        ≡ woken.old.items ++ risen bits (requests_in (take i filed.old)) (drop i filed.old) }
-    ensures waiters { result ≡ false → waiters_in filed.new ≡ waiters_in filed.old }
-    ensures few { length woken.new.items ≤ length woken.old.items + 1 }
-    ensures long { length filed.new ≡ length filed.old }
-{
-    let all = &filed[..];
-    if !does_rise(&all[..i], &all[i], bits, last) {
-        return false;
-    }
-    let r = all[i].request();
-    if is_told_of(r.kind) {
-        woken.push(grant_of(r));
-    }
-    let is_freed = all[i].waiter_bit() != 0;
-    filed[i].grant();
-    is_freed
-}
-
-/// Grants what rises, fills in the grants of those whose jobs are told, and answers whether a job
-/// waited by one of them.
-pub fn renew(filed: &mut [Filed], bits: u64, woken: &mut Woken) -> bool
+/// Grants what rises, fills in the grants of those whose jobs are told, and answers the bits of the
+/// jobs that wait then.
+pub fn renew(filed: &mut [Filed], bits: u64, woken: &mut Woken) -> u32
     requires { length filed.old ≤ REQUESTS }
     ensures value { filed.new ≡ renewed bits [] filed.old }
     ensures woken { woken.new.items ≡ risen bits [] filed.old }
-    ensures waiters { result ≡ false → waiters_in filed.new ≡ waiters_in filed.old }
+    ensures waiters { result ≡ waiters_in filed.new }
 {
     woken.clear();
-    let mut is_freed = false;
+    let mut waiters = 0;
     let mut last = 0;
-    let mut i = next_awaiting(filed, 0, bits);
-    while i < filed.len() {
-        if raise_at(filed, i, bits, &mut last, woken) {
-            is_freed = true;
+    for i in 0..filed.len() {
+        let all = &filed[..];
+        if does_rise(&all[..i], &all[i], bits, &mut last) {
+            let r = all[i].request();
+            if is_told_of(r.kind) {
+                woken.push(grant_of(r));
+            }
+            filed[i].grant();
         }
-        i = next_awaiting(filed, i + 1, bits);
+        waiters |= filed[i].waiter_bit();
     }
-    is_freed
+    waiters
 }

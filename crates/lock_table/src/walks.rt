@@ -1,6 +1,6 @@
 //! Walks that look only into requests that touch a key's group.
 ghost use Rattle.std.specs.Prelude.{◌≡◌, ◌<◌, ◌≤◌, drop, length, bit_or, IsTrue};
-ghost use Rattle.lock_table.specs.Walks.{touched, from_met, awaited, from_awaiting};
+ghost use Rattle.lock_table.specs.Walks.{touched, from_met};
 
 use crate::filed::Filed;
 
@@ -60,37 +60,4 @@ fn does_first_meet(filed: &[Filed], bits: u64) -> bool
         [f, ..] => f.meets(bits),
         [] => false,
     }
-}
-
-/// The groups that those of four requests touch that wait.
-#[inline(always)]
-fn awaited_by_four(a: &Filed, b: &Filed, c: &Filed, d: &Filed, bits: u64) -> u64
-    ensures { result ≡ bit_or (bit_or (awaited bits a.now) (awaited bits b.now))
-        (bit_or (awaited bits c.now) (awaited bits d.now)) }
-{
-    (a.awaited(bits) | b.awaited(bits)) | (c.awaited(bits) | d.awaited(bits))
-}
-
-/// The requests from the first on that waits and touches one of the groups. Eight at a time are
-/// passed over.
-pub fn from_awaiting(filed: &[Filed], bits: u64) -> &[Filed]
-    ensures value { result.now ≡ from_awaiting bits filed.now }
-    ensures shorter { length result.now ≤ length filed.now }
-{
-    let mut rest = filed;
-    while let [a, b, c, d, e, f, g, h, later @ ..] = rest {
-        let front = awaited_by_four(a, b, c, d, bits);
-        let back = awaited_by_four(e, f, g, h, bits);
-        if front | back != 0 {
-            break;
-        }
-        rest = later;
-    }
-    while let [f, later @ ..] = rest {
-        if f.awaits(bits) {
-            break;
-        }
-        rest = later;
-    }
-    rest
 }

@@ -6,21 +6,21 @@ use Rattle.lock_queue.proofs.WellKept.{right_job, well-arrival}
 use Rattle.lock_table.specs.Filings.{requests_in}
 use Rattle.lock_table.proofs.calls.arrive.Goals as goal
 
-pub returns-then-are_fitting_last-clause-right : goal.returns-then-are_fitting_last-clause-right
-returns-then-are_fitting_last-clause-right c =
+pub returns-then-are_fitting-clause-right : goal.returns-then-are_fitting-clause-right
+returns-then-are_fitting-clause-right c =
     let rs = requests_in c.args.shelf.now in
-    let fit : list_all (fits rs) c.args.wants.now.items ≡ true = grind (arith, c.if-are_fitting_last.true, c.are_fitting_last.ensures, c.as_slice.ensures.value) in
+    let fit : list_all (fits rs) c.args.wants.now.items ≡ true = grind (arith, c.if-are_fitting.true, c.are_fitting.ensures, c.as_slice.ensures.value, c.as_slice-2.ensures.value) in
     c.push.ensures.right c.requires.right (sym fit)
 
-pub returns-then-are_fitting_last-clause-well : goal.returns-then-are_fitting_last-clause-well
-returns-then-are_fitting_last-clause-well c = λ well.
+pub returns-then-are_fitting-clause-well : goal.returns-then-are_fitting-clause-well
+returns-then-are_fitting-clause-well c = λ well.
     subst (λ l. are_well_formed l ≡ true) (sym c.push.ensures.requests)
     (well-arrival (requests_in c.args.shelf.now) c.args.job c.args.id c.args.kind _ c.args.wants.now (right_job c.args.job c.requires.job) c.requires.some c.requires.unshared c.requires.passed c.push.ensures.few c.push.ensures.range well)
 
 pub returns-in-Blocking-clause-right : goal.returns-in-Blocking-clause-right
 returns-in-Blocking-clause-right c =
     let rs = requests_in c.args.shelf.now in
-    let fit : list_all (fits rs) c.args.wants.now.items ≡ false = grind (arith, c.if-are_fitting_last.false, c.are_fitting_last.ensures, c.as_slice.ensures.value) in
+    let fit : list_all (fits rs) c.args.wants.now.items ≡ false = grind (arith, c.if-are_fitting.false, c.are_fitting.ensures, c.as_slice.ensures.value, c.as_slice-2.ensures.value) in
     c.push-in-Blocking.ensures.right c.requires.right (sym fit)
 
 pub returns-in-Blocking-clause-well : goal.returns-in-Blocking-clause-well
@@ -31,7 +31,7 @@ returns-in-Blocking-clause-well c = λ well.
 pub returns-in-Interrupt-kind-clause-right : goal.returns-in-Interrupt-kind-clause-right
 returns-in-Interrupt-kind-clause-right c =
     let rs = requests_in c.args.shelf.now in
-    let fit : list_all (fits rs) c.args.wants.now.items ≡ false = grind (arith, c.if-are_fitting_last.false, c.are_fitting_last.ensures, c.as_slice.ensures.value) in
+    let fit : list_all (fits rs) c.args.wants.now.items ≡ false = grind (arith, c.if-are_fitting.false, c.are_fitting.ensures, c.as_slice.ensures.value, c.as_slice-2.ensures.value) in
     c.push-in-Interrupt-kind.ensures.right c.requires.right (sym fit)
 
 pub returns-in-Interrupt-kind-clause-well : goal.returns-in-Interrupt-kind-clause-well

@@ -1,26 +1,49 @@
-use Rattle.std.proofs.Common.{◌∙◌, not, sym, ap}
-use Rattle.std.proofs.lemmas.Bool.{and_parts}
-use Rattle.lock_counts.specs.Counts.{has_wants, is_like}
-use Rattle.lock_queue.specs.declared.refusal.Refusal.TheVariants.{NamedAlready}
-use Rattle.lock_queue.specs.Outcomes.{refuse_if}
-use Rattle.lock_queue.specs.Queue.{names, wants_of}
+use Rattle.std.proofs.Common.{◌≡◌, ◌∙◌, sym, ap, true, false, not, drop, ◌==◌, ◌&&◌, ◌||◌, filter, arith}
+use Rattle.std.specs.List.{list_all}
+use Rattle.lock_queue.specs.declared.refusal.Refusal.TheVariants.{Differs, NamedAlready}
+use Rattle.lock_queue.specs.Outcomes.{or_else, refuse_if}
+use Rattle.lock_queue.specs.Enqueues.{are_alike}
+use Rattle.lock_queue.specs.Keys.{same_key}
+use Rattle.lock_queue.specs.Queue.{names, wants_at, wants_of}
 use Rattle.lock_table.specs.Filings.{requests_in}
-use Rattle.lock_table.proofs.CountLaws.{fault-none, fault-differs, fault-alike, not-true}
+use Rattle.lock_table.specs.Walks.{from_met}
+use Rattle.lock_table.proofs.WalkLaws.{met_names, met_wants, walk-all, or-assoc, walk-names, first-all}
 use Rattle.lock_table.proofs.enqueues.fault_beside.Goals as goal
 
-pub returns-in-None : goal.returns-in-None
-returns-in-None c = fault-none (requests_in c.args.shelf.now) c.args.job c.args.w.now c.in-None.ensures
+pub loop-rest-init : goal.loop-rest-init
+loop-rest-init c =
+    let k = c.args.w.now.key in
+    let are = c.from_met-rest.ensures.value ∙ ap (λ b. from_met b c.args.filed.now) c.bit_of-bit.ensures in record {
+      alike = ap (λ l. list_all (λ v. are_alike v c.args.w.now) (wants_at (requests_in l) k)) are
+          ∙ ap (list_all (λ v. are_alike v c.args.w.now)) (met_wants k c.args.filed.now);
+      named = ap (λ l. names (wants_of (requests_in l) c.args.job) k) are ∙ met_names c.args.job k c.args.filed.now;
+    }
 
-pub returns-then-does_differ : goal.returns-then-does_differ
-returns-then-does_differ c =
-    let counts = c.in-Some.counts.now in
-    let p = and_parts (has_wants counts) (not (is_like counts c.args.w.now)) (sym c.does_differ.ensures ∙ c.if-does_differ.true) in
-    fault-differs (requests_in c.args.shelf.now) c.args.job c.args.w.now counts c.in-Some.ensures p.0 (not-true (is_like counts c.args.w.now) p.1)
+pub loop-rest-preserved : goal.loop-rest-preserved
+loop-rest-preserved c =
+    let w = c.args.w.now in
+    let xs = c.loop-rest.rest.now in
+    let ys = c.next_met-rest.result.now in
+    let f = c.f-item.result in
+    let all = walk-all w.key c.bit_of-bit.result xs ys f c.bit_of-bit.ensures c.in-len1-up.len_at_least c.f-item.is c.next_met-rest.ensures.value (λ v. are_alike v w) in
+    let named = walk-names w.key c.bit_of-bit.result xs ys f c.bit_of-bit.ensures c.in-len1-up.len_at_least c.f-item.is c.next_met-rest.ensures.value c.args.job in
+    let mine : list_all (λ v. are_alike v w) (filter (λ v. same_key v.key w.key) f.request.wants.items) ≡ true =
+    grind (arith, c.are_alike_in.ensures, c.wants.ensures, c.if-not-are_alike_in.false) in record {
+      alike = sym (all ∙ ap (λ b. b && list_all (λ v. are_alike v w) (wants_at (requests_in ys) w.key)) mine) ∙ c.loop-rest.invariant.alike;
+      named = ap (λ b. b || names (wants_of (requests_in ys) c.args.job) w.key) c.is_named_so_far-is_named.ensures
+          ∙ or-assoc c.loop-rest.is_named (f.request.job == c.args.job && names f.request.wants.items w.key) (names (wants_of (requests_in ys) c.args.job) w.key)
+          ∙ ap (λ b. c.loop-rest.is_named || b) (sym named) ∙ c.loop-rest.invariant.named;
+    }
 
-pub returns-else-does_differ : goal.returns-else-does_differ
-returns-else-does_differ c =
-    let counts = c.in-Some.counts.now in
-    let rs = requests_in c.args.shelf.now in
-    c.refusal_of_named.ensures
-    ∙ ap (λ b. refuse_if b NamedAlready) (c.job_has_key.ensures ∙ ap (λ l. names (wants_of (requests_in l) c.args.job) c.args.w.now.key) c.as_slice.ensures.value)
-    ∙ fault-alike rs c.args.job c.args.w.now counts c.in-Some.ensures (sym c.does_differ.ensures ∙ c.if-does_differ.false)
+pub returns-then-not-are_alike_in : goal.returns-then-not-are_alike_in
+returns-then-not-are_alike_in c =
+    let w = c.args.w.now in
+    let f = c.f-item.result in
+    let xs = c.loop-rest.rest.now in
+    let rs = requests_in c.args.filed.now in
+    let all = first-all (λ v. are_alike v w) w.key xs f c.in-len1-up.len_at_least c.f-item.is in
+    let mine : list_all (λ v. are_alike v w) (filter (λ v. same_key v.key w.key) f.request.wants.items) ≡ false =
+    grind (arith, c.are_alike_in.ensures, c.wants.ensures, c.if-not-are_alike_in.true) in
+    let off : list_all (λ v. are_alike v w) (wants_at rs w.key) ≡ false =
+    sym c.loop-rest.invariant.alike ∙ all ∙ ap (λ b. b && list_all (λ v. are_alike v w) (wants_at (requests_in (drop 1 xs)) w.key)) mine in
+    sym (ap (λ b. or_else (refuse_if (not b) Differs) (refuse_if (names (wants_of rs c.args.job) w.key) NamedAlready)) off)

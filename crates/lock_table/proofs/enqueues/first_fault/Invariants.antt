@@ -6,5 +6,5 @@ use Rattle.lock_table.proofs.enqueues.first_fault.Given as goal
 
 abbrev pub invariant-loop-i : goal.invariant-loop-i
 invariant-loop-i l =
-    first_refusal (enqueue_fault (requests_in l.shelf) l.job) (take l.i l.wants) (drop l.i l.wants)
-    ≡ first_refusal (enqueue_fault (requests_in l.shelf) l.job) [] l.wants
+    first_refusal (enqueue_fault (requests_in l.filed) l.job) (take l.i l.wants) (drop l.i l.wants)
+    ≡ first_refusal (enqueue_fault (requests_in l.filed) l.job) [] l.wants

@@ -1,4 +1,0 @@
-pub mod Counts
-pub mod Hashes
-pub mod Numbers
-pub mod Entries
