@@ -1,8 +1,8 @@
 //! The graph of waits in a picture.
 
-use queue_script::circles::NUMBERS;
 use crate::frame::{Frame, TOP, radius_of};
 use crate::graph::{Graph, Wait};
+use queue_script::circles::NUMBERS;
 use std::fmt;
 
 /// The places round a middle, from the top on: how far right and how far down of the corner of the

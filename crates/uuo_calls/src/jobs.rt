@@ -54,6 +54,10 @@ pub(crate) fn sleep(job: &mut Job, ac: Accumulator)
     ensures { job.new ≡ waiting job.old (Sleep (ticks_of (right_half (ac_of job.old ac)))) }
 {
     let seconds = job.regs.ac[ac.index()].right();
-    let ticks = if seconds == 0 { 1 } else { TICKS_A_SECOND * seconds };
+    let ticks = if seconds == 0 {
+        1
+    } else {
+        TICKS_A_SECOND * seconds
+    };
     job.wait = Wait::Sleep(ticks);
 }
