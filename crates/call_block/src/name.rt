@@ -3,16 +3,14 @@ ghost use Rattle.std.specs.Prelude.{◌≡◌, ◌<◌, nat_le};
 ghost use Rattle.word36.specs.Words.{right_half};
 ghost use Rattle.ka_word.specs.Bytes.{byte_of, incremented, position_of, size_of};
 ghost use Rattle.ka_cpu.specs.Places.{word_at};
+ghost use Rattle.lock_queue.specs.declared.name.TheConstants.{NAME_ROOM};
 ghost use Rattle.call_block.specs.Names.{characters, AreLegalCharacters, text_at, name_at};
 
 use crate::bits::bits;
 use arrayvec::ArrayString;
 use ka_cpu::{JobMemory, Regs, fetch};
-use lock_queue::{Name, NameText, Refusal, UserCode};
-use word36::{NAME_LENGTH, Word};
-
-/// One character more than a name may have, so that a longer name shows.
-const READ_AT_MOST: usize = NAME_LENGTH + 1;
+use lock_queue::{NAME_ROOM, Name, NameText, Refusal, UserCode};
+use word36::Word;
 
 /// The bits of a character.
 const CHARACTER_BITS: u64 = 7;
@@ -75,14 +73,14 @@ fn read_characters<M: JobMemory>(
     regs: &Regs,
     memory: &M,
     pointer: Word,
-) -> Option<ArrayString<READ_AT_MOST>>
+) -> Option<ArrayString<NAME_ROOM>>
     requires { size_of pointer ≡ 7 }
-    ensures { AreLegalCharacters result (characters regs.now.ac (M.words memory.now) pointer READ_AT_MOST) }
+    ensures { AreLegalCharacters result (characters regs.now.ac (M.words memory.now) pointer NAME_ROOM) }
 {
     let mut pointer = pointer;
     let mut word = fetch(regs, memory, pointer.right());
     let mut text = ArrayString::new();
-    for _count in 0..READ_AT_MOST {
+    for _count in 0..NAME_ROOM {
         word = next_word(regs, memory, pointer, word);
         pointer = increment(pointer);
         let character = character_of(pointer, word?);

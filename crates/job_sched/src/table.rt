@@ -243,8 +243,8 @@ impl JobTable {
         }
     }
 
-    /// The same of a number that has a place. It is asked of one job after another, of which most wait:
-    /// so their waits are told in place.
+    /// Whether the job of a number that has a place is ready. It is asked of one job after another, of
+    /// which most wait: so their waits are told in place.
     #[inline(always)]
     fn is_ready_at<L: LockTable>(&self, number: u8, lines: &Lines, locks: &L) -> bool
         requires { number ≤ JOBS }

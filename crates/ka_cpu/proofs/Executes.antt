@@ -123,7 +123,7 @@ executed_by k g core w op ac e p q f h = rw (p, q) (executed_done k g core w e (
 
 -- an XCT by its address
 pub xct_turn : (ac core : List ℕ) (w op e : ℕ) → op ≡ op_of w → family_of op ≡ Xct → Ok e ≡ address_in (target_of ac core w)
-    → word_behind MOST_EXECUTES ac core w ≡ reading (word_at ac core e) (λ v. word_behind 255 ac core v)
+    → word_behind MOST_EXECUTES ac core w ≡ reading (word_at ac core e) (λ v. word_behind (MOST_EXECUTES - 1) ac core v)
 xct_turn ac core w op e p f h =
     let q : family_of (op_of w) ≡ Xct = ap family_of (sym p) ∙ f in
     let b : 0 < MOST_EXECUTES = omega arith in
@@ -131,29 +131,29 @@ xct_turn ac core w op e p f h =
 
 -- what it executes is found in the state h, rest, which is that of g, core, and that of k, start
 xct_found : (g k : Regs) (core start : List ℕ) (w op e : ℕ) (x : Result ℕ StopReason) → g ≡ k → core ≡ start → op ≡ op_of w → family_of op ≡ Xct
-    → Ok e ≡ address_in (target_of g.ac core w) → x ≡ reading (word_at g.ac core e) (λ v. word_behind 255 g.ac core v) → word_behind MOST_EXECUTES k.ac start w ≡ x
+    → Ok e ≡ address_in (target_of g.ac core w) → x ≡ reading (word_at g.ac core e) (λ v. word_behind (MOST_EXECUTES - 1) g.ac core v) → word_behind MOST_EXECUTES k.ac start w ≡ x
 xct_found g k core start w op e x i j p f h q =
     let P : Regs → Type 0 = λ r. word_behind MOST_EXECUTES r.ac start w ≡ x in
     let Q : List ℕ → Type 0 = λ m. word_behind MOST_EXECUTES g.ac m w ≡ x in
     subst P i (subst Q j (xct_turn g.ac core w op e p f h ∙ sym q))
 
 xct_here : (g h : Regs) (core rest : List ℕ) (e : ℕ) (x : Result ℕ StopReason) → h ≡ g → rest ≡ core
-    → x ≡ reading (word_at h.ac rest e) (λ v. word_behind 255 h.ac rest v) → x ≡ reading (word_at g.ac core e) (λ v. word_behind 255 g.ac core v)
+    → x ≡ reading (word_at h.ac rest e) (λ v. word_behind (MOST_EXECUTES - 1) h.ac rest v) → x ≡ reading (word_at g.ac core e) (λ v. word_behind (MOST_EXECUTES - 1) g.ac core v)
 xct_here g h core rest e x i j q =
-    let P : Regs → Type 0 = λ r. x ≡ reading (word_at r.ac core e) (λ v. word_behind 255 r.ac core v) in
-    let Q : List ℕ → Type 0 = λ m. x ≡ reading (word_at h.ac m e) (λ v. word_behind 255 h.ac m v) in
+    let P : Regs → Type 0 = λ r. x ≡ reading (word_at r.ac core e) (λ v. word_behind (MOST_EXECUTES - 1) r.ac core v) in
+    let Q : List ℕ → Type 0 = λ m. x ≡ reading (word_at h.ac m e) (λ v. word_behind (MOST_EXECUTES - 1) h.ac m v) in
     subst P i (subst Q j q)
 
 pub xct_refused : (g h k : Regs) (core rest start : List ℕ) (w u op e : ℕ) (r : StopReason) → h ≡ g → rest ≡ core → g ≡ k → core ≡ start
     → word_behind MOST_EXECUTES k.ac start w ≡ word_behind MOST_EXECUTES k.ac start u → op ≡ op_of w → family_of op ≡ Xct → Ok e ≡ address_in (target_of g.ac core w)
-    → Err r ≡ reading (word_at h.ac rest e) (λ v. word_behind 255 h.ac rest v) → stopped h rest r ≡ word_performed k start (word_behind MOST_EXECUTES k.ac start u)
+    → Err r ≡ reading (word_at h.ac rest e) (λ v. word_behind (MOST_EXECUTES - 1) h.ac rest v) → stopped h rest r ≡ word_performed k start (word_behind MOST_EXECUTES k.ac start u)
 xct_refused g h k core rest start w u op e r a b i j n p f x q =
     ap (λ (s : Regs). stopped s rest r) (a ∙ i) ∙ ap (λ (m : List ℕ). stopped k m r) (b ∙ j)
     ∙ sym (ap (λ (y : Result ℕ StopReason). word_performed k start y) (sym n ∙ xct_found g k core start w op e (Err r) i j p f x (xct_here g h core rest e (Err r) a b q)))
 
 pub xct_next : (g h k : Regs) (core rest start : List ℕ) (w u op e v : ℕ) → h ≡ g → rest ≡ core → g ≡ k → core ≡ start
     → word_behind MOST_EXECUTES k.ac start w ≡ word_behind MOST_EXECUTES k.ac start u → op ≡ op_of w → family_of op ≡ Xct → Ok e ≡ address_in (target_of g.ac core w)
-    → Ok v ≡ reading (word_at h.ac rest e) (λ v. word_behind 255 h.ac rest v) → is_xct v ≡ false → word_behind MOST_EXECUTES k.ac start v ≡ word_behind MOST_EXECUTES k.ac start u
+    → Ok v ≡ reading (word_at h.ac rest e) (λ v. word_behind (MOST_EXECUTES - 1) h.ac rest v) → is_xct v ≡ false → word_behind MOST_EXECUTES k.ac start v ≡ word_behind MOST_EXECUTES k.ac start u
 xct_next g h k core rest start w u op e v a b i j n p f x q y =
     behind_plain MOST_EXECUTES k.ac start v y ∙ (sym (xct_found g k core start w op e (Ok v) i j p f x (xct_here g h core rest e (Ok v) a b q)) ∙ n)
 

@@ -1,6 +1,6 @@
 //! One instruction, and instructions one after another.
 
-ghost use Rattle.std.specs.Prelude.{◌≡◌, ◌<◌, ◌^◌, false, IfOk};
+ghost use Rattle.std.specs.Prelude.{◌≡◌, ◌<◌, ◌^◌, ◌-◌, false, IfOk};
 ghost use Rattle.ka_cpu.specs.declared.limits.TheConstants.{MOST_EXECUTES};
 ghost use Rattle.ka_cpu.specs.Addresses.{reading};
 ghost use Rattle.ka_cpu.specs.Effects.{EndsAs};
@@ -40,11 +40,11 @@ fn is_execute_word(word: Word) -> bool
     operation(word) == 0o256
 }
 
-/// The word that an XCT with this E executes, over at most 255 XCTs more; it is none itself.
+/// The word that an XCT with this E executes, over at most `MOST_EXECUTES` - 1 XCTs more; it is none itself.
 #[inline(never)]
 #[tactic(auto, using(crate::proofs::Executes::xct_steps))]
 fn follow_executes<M: JobMemory>(regs: &Regs, memory: &M, e: Address) -> Result<Word, StopReason>
-    ensures value { result ≡ reading (word_at regs.now.ac (M.words memory.now) e) (λ v. word_behind 255 regs.now.ac (M.words memory.now) v) }
+    ensures value { result ≡ reading (word_at regs.now.ac (M.words memory.now) e) (λ v. word_behind (MOST_EXECUTES - 1) regs.now.ac (M.words memory.now) v) }
     ensures plain { IfOk result (λ w. is_xct w ≡ false) }
 {
     let Some(first) = fetch(regs, memory, e.number()) else {
@@ -72,7 +72,7 @@ fn follow_executes<M: JobMemory>(regs: &Regs, memory: &M, e: Address) -> Result<
 /// keeps no place for what the call of `follow_executes` returns.
 #[inline(always)]
 fn find_executed<M: JobMemory>(regs: &Regs, memory: &M, e: Address) -> Result<Word, StopReason>
-    ensures value { result ≡ reading (word_at regs.now.ac (M.words memory.now) e) (λ v. word_behind 255 regs.now.ac (M.words memory.now) v) }
+    ensures value { result ≡ reading (word_at regs.now.ac (M.words memory.now) e) (λ v. word_behind (MOST_EXECUTES - 1) regs.now.ac (M.words memory.now) v) }
     ensures plain { IfOk result (λ w. is_xct w ≡ false) }
 {
     match follow_executes(regs, memory, e) {

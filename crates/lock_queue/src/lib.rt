@@ -27,7 +27,7 @@ mod want;
 pub use call::{LockCall, LockReply};
 pub use grant::{Grant, Woken};
 pub use key::{Key, Scope};
-pub use name::{Name, NameText, UserCode};
+pub use name::{NAME_ROOM, Name, NameText, UserCode};
 pub use plain::PlainTable;
 pub use pool::Pool;
 pub use refusal::Refusal;

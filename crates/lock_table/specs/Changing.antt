@@ -24,7 +24,7 @@ held_with Free shared = if shared then Shared else Exclusive
 held_with Shared shared = if shared then Shared else Exclusive
 held_with Exclusive shared = Exclusive
 
--- the same with some more wants of the key
+-- how the key is held with some more wants of it
 abbrev pub held_by : Hold → List Want → Hold
 held_by hold [] = hold
 held_by hold (w ∷ ws) = held_by (held_with hold w.shared) ws

@@ -4,6 +4,16 @@ use Rattle.mac_text.specs.Scan.{Scan, with_front, items_at, Fails}
 use Rattle.mac_text.specs.declared.fault.Fault.{Fault}
 use Rattle.mac_text.specs.declared.fault.Fault.TheVariants as faults
 
+-- the first item and those behind it
+pub one_more : {X : Type 0} (next : Scan → Option (Option X × Scan)) (n : ℕ) (s t u : Scan) (x : X) (xs : List X) → next s ≡ Some (Some x, t) → items_at next n t ≡ Some (xs, u) → items_at next (suc n) s ≡ Some (x ∷ xs, u)
+unfolding items_at
+one_more next n s t u x xs a b = rw (a, b) refl
+
+-- no item comes
+pub no_more : {X : Type 0} (next : Scan → Option (Option X × Scan)) (n : ℕ) (s t : Scan) → next s ≡ Some (None, t) → items_at next (suc n) s ≡ Some ([], t)
+unfolding items_at
+no_more next n s t a = rw a refl
+
 regroup : {X : Type 0} (front : List X) (x : X) (read : Option (List X × Scan)) → with_front front (with_front (x ∷ []) read) ≡ with_front (front ++ x ∷ []) read
 regroup front x None = refl
 regroup front x (Some r) = ap (λ l. Some (l, r.1)) (sym (append_assoc front (x ∷ []) r.0))

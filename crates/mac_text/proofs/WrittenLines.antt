@@ -13,6 +13,7 @@ use Rattle.mac_text.specs.declared.syntax.Sign.{Sign}
 use Rattle.mac_text.specs.declared.syntax.Sign.TheVariants.{Plus, Minus}
 use Rattle.mac_text.specs.declared.syntax.Data.{Data}
 use Rattle.mac_text.specs.declared.syntax.Statement.{Statement}
+use Rattle.mac_text.proofs.ItemLemmas.{one_more, no_more}
 use Rattle.mac_text.proofs.NumberTexts.{word_read, behind_read}
 use Rattle.mac_text.proofs.WrittenTerms.{skip_blanks, skip_to, firm_stays, word_begins, name_some, digits_are_characters, drop_further}
 use Rattle.mac_text.proofs.WrittenLiterals.{cut_nothing, literal_cut}
@@ -58,14 +59,6 @@ label_read s l x e =
 no_label : (s : Scan) → is_label (after_blanks s.rest) ≡ false → next_label_at s ≡ Some (None, skipped s)
 unfolding next_label_at
 no_label s h = rw h refl
-
-one_more : {X : Type 0} (next : Scan → Option (Option X × Scan)) (n : ℕ) (s t u : Scan) (x : X) (xs : List X) → next s ≡ Some (Some x, t) → items_at next n t ≡ Some (xs, u) → items_at next (suc n) s ≡ Some (x ∷ xs, u)
-unfolding items_at
-one_more next n s t u x xs a b = rw (a, b) refl
-
-no_more : {X : Type 0} (next : Scan → Option (Option X × Scan)) (n : ℕ) (s t : Scan) → next s ≡ Some (None, t) → items_at next (suc n) s ≡ Some ([], t)
-unfolding items_at
-no_more next n s t a = rw a refl
 
 labels_read : (n radix : ℕ) (labels : List LabelText) (rest : List ℕ) → length (labels_before labels rest) ≤ n → is_label (after_blanks rest) ≡ false
     → items_at next_label_at n (scan_of radix false (labels_before labels rest)) ≡ Some (map (λ l. symbol_of l.name.text) labels, scan_of radix false (after_blanks rest))

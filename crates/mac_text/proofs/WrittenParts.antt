@@ -16,6 +16,7 @@ use Rattle.mac_text.specs.Written.{Blanks, DigitsText, MarkedText, NumberText, S
 use Rattle.mac_text.specs.declared.syntax.SignedTerm.{SignedTerm}
 use Rattle.mac_text.specs.declared.syntax.Operand.{Operand}
 use Rattle.mac_text.specs.declared.syntax.Data.TheVariants as data_of
+use Rattle.mac_text.proofs.ItemLemmas.{one_more, no_more}
 use Rattle.mac_text.proofs.WordLemmas.{skip_twice}
 use Rattle.mac_text.proofs.NumberTexts.{ends_word, word_read}
 use Rattle.mac_text.proofs.WrittenTerms.{skip_to, blanks_end, EndsSum, word_begins, digits_are_characters, digits_read, marked_is_read, expression_read, expression_begins, expression_behind_blanks, longer_term}
@@ -338,14 +339,6 @@ module _ (radix : ℕ) (in_literal : Bool) {L : Type 0} (text_of : L → List �
   unfolding items_before
   items_end [] rest end = end
   items_end (i ∷ is) rest end = sum_ends_at i.before 44 (expression_before text_of i.value (items_before text_of is rest)) refl refl
-
-  one_more : {X : Type 0} (next : Scan → Option (Option X × Scan)) (n : ℕ) (s t u : Scan) (x : X) (xs : List X) → next s ≡ Some (Some x, t) → items_at next n t ≡ Some (xs, u) → items_at next (suc n) s ≡ Some (x ∷ xs, u)
-  unfolding items_at
-  one_more next n s t u x xs a b = rw (a, b) refl
-
-  no_more : {X : Type 0} (next : Scan → Option (Option X × Scan)) (n : ℕ) (s t : Scan) → next s ≡ Some (None, t) → items_at next (suc n) s ≡ Some ([], t)
-  unfolding items_at
-  no_more next n s t a = rw a refl
 
   items_read : (n : ℕ) (earlier : List L) (items : List (ItemText radix L)) (rest : List ℕ) → length (after_blanks (items_before text_of items rest)) ≤ n → EndsSum rest → begins_with 44 (after_blanks rest) ≡ false
       → items_at next_expression_at n (at earlier (after_blanks (items_before text_of items rest))) ≡ Some (items_given earlier items, at (items_literals earlier items) (after_blanks rest))

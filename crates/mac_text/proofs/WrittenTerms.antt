@@ -20,6 +20,7 @@ use Rattle.mac_text.specs.declared.syntax.Sign.TheVariants.{Plus, Minus}
 use Rattle.mac_text.specs.declared.syntax.Term.{Term}
 use Rattle.mac_text.specs.declared.syntax.Term.TheVariants as terms
 use Rattle.mac_text.specs.declared.syntax.SignedTerm.{SignedTerm}
+use Rattle.mac_text.proofs.ItemLemmas.{one_more, no_more}
 use Rattle.mac_text.proofs.WordLemmas.{skip_twice}
 use Rattle.mac_text.proofs.DigitLemmas.{digit_is_digit, digit_names, digits_term}
 use Rattle.mac_text.proofs.NumberTexts.{ends_word, word_read}
@@ -236,14 +237,6 @@ module _ (radix : ℕ) (in_literal : Bool) {L : Type 0} (text_of : L → List �
       let there = sign_is_read m.sign.sign earlier (m.before.text ++ sign_character m.sign.sign ∷ tail) tail (skip_to m.before _ (sign_is_firm m.sign.sign tail).0) in
       let term = term_read earlier tail m.term x (skip_to m.sign.behind _ (term_begins m.term x).firm) e in
       rw (there, term) refl
-
-  one_more : {X : Type 0} (next : Scan → Option (Option X × Scan)) (n : ℕ) (s t u : Scan) (x : X) (xs : List X) → next s ≡ Some (Some x, t) → items_at next n t ≡ Some (xs, u) → items_at next (suc n) s ≡ Some (x ∷ xs, u)
-  unfolding items_at
-  one_more next n s t u x xs a b = rw (a, b) refl
-
-  no_more : {X : Type 0} (next : Scan → Option (Option X × Scan)) (n : ℕ) (s t : Scan) → next s ≡ Some (None, t) → items_at next (suc n) s ≡ Some ([], t)
-  unfolding items_at
-  no_more next n s t a = rw a refl
 
   more_read : (n : ℕ) (earlier : List L) (more : List (MoreText radix L)) (rest : List ℕ) → length (more_before text_of more rest) ≤ n → EndsSum rest
       → items_at next_term_at n (at earlier (more_before text_of more rest)) ≡ Some (more_given earlier more, at (more_literals earlier more) (after_blanks rest))
