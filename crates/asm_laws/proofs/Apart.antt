@@ -5,10 +5,12 @@ use Rattle.std.specs.List.{range_with_len, list_any}
 use Rattle.std.proofs.lemmas.Bool.{and_parts, and_from, or_parts, or_from, not-true, not_from_false}
 use Rattle.std.proofs.lemmas.List.Folds.{list_any-append}
 use Rattle.std.proofs.lemmas.Grind.{common_steps}
-use Rattle.mac_asm.specs.declared.error.AsmCode.{AsmCode}
-use Rattle.mac_asm.specs.declared.error.AsmCode.TheVariants.{DefinedTwice, PlaceTooHigh}
-use Rattle.mac_asm.specs.Assembly.{are_apart, are_below}
-use Rattle.mac_asm.specs.Outcome.{number_of, least, code_if, is_taken, places_in, taking}
+use Rattle.mac_layout.specs.declared.error.AsmCode.{AsmCode}
+use Rattle.mac_layout.specs.declared.error.AsmCode.TheVariants.{DefinedTwice, PlaceTooHigh}
+use Rattle.mac_layout.specs.Places.{are_apart}
+use Rattle.mac_asm.specs.Assembly.{are_below}
+use Rattle.mac_layout.specs.Faults.{number_of, least, code_if}
+use Rattle.mac_layout.specs.LaidOut.{is_taken, places_in, taking}
 
 none-taken : (b : List ℕ) → list_any (is_taken []) b ≡ false
 none-taken [] = refl

@@ -6,13 +6,15 @@ use Rattle.std.specs.Map.{keys_of, values_of}
 use Rattle.std.proofs.lemmas.Bool.{and_parts, and_left, and_right, false_from_ne_true}
 use Rattle.mac_text.specs.Lines.{program_of}
 use Rattle.mac_text.specs.declared.syntax.Line.{Line}
-use Rattle.mac_asm.specs.declared.error.AsmCode.{AsmCode}
-use Rattle.mac_asm.specs.declared.error.AsmCode.TheVariants.{UnknownName, DefinedTwice, DoesNotFit, NotYetDefined, PlaceTooHigh, NoEnd}
-use Rattle.mac_asm.specs.Values.{◌>>=◌}
-use Rattle.mac_asm.specs.Places.{Placed, literal_sizes, are_settled}
-use Rattle.mac_asm.specs.Assembly.{first_place, lines_at, literal_places, lines_placed, all_statement_words, all_literal_words, words_at, have_words, are_allowed, start_at, are_apart, are_below}
+use Rattle.mac_layout.specs.declared.error.AsmCode.{AsmCode}
+use Rattle.mac_layout.specs.declared.error.AsmCode.TheVariants.{UnknownName, DefinedTwice, DoesNotFit, NotYetDefined, PlaceTooHigh, NoEnd}
+use Rattle.mac_layout.specs.Values.{◌>>=◌}
+use Rattle.mac_layout.specs.Places.{Placed, literal_sizes, are_settled, first_place, are_apart}
+use Rattle.mac_asm.specs.Assembly.{lines_at, literal_places, lines_placed, all_statement_words, all_literal_words, words_at, have_words, are_allowed, start_at, are_below}
 use Rattle.asm_laws.specs.Found.{map_of}
-use Rattle.mac_asm.specs.Outcome.{Fault, Layout, empty_layout, unless_fault, laid_out, places_of_literals, lines_with, line_words, has_start, is_line_known, value_code, and_words, words_given, image_with, outcome_placed, outcome_from, has_end, outcome_read, outcome_of}
+use Rattle.mac_layout.specs.Faults.{Fault, unless_fault}
+use Rattle.mac_layout.specs.LaidOut.{Layout, empty_layout, laid_out, places_of_literals}
+use Rattle.mac_asm.specs.Outcome.{lines_with, line_words, has_start, is_line_known, value_code, and_words, words_given, image_with, outcome_placed, outcome_from, has_end, outcome_read, outcome_of}
 use Rattle.asm_laws.specs.Faults.{all_fit, TellsCode}
 use Rattle.asm_laws.specs.Laws.{places_taken}
 use Rattle.asm_laws.proofs.Options.{bind_some}

@@ -12,13 +12,13 @@ use Rattle.mac_text.specs.declared.syntax.Data.{Data}
 use Rattle.mac_text.specs.declared.syntax.Data.TheVariants as data_of
 use Rattle.mac_text.specs.declared.syntax.Statement.{Statement}
 use Rattle.mac_text.specs.declared.syntax.Statement.TheVariants as statements
-use Rattle.mac_asm.specs.declared.error.AsmCode.{AsmCode}
-use Rattle.mac_asm.specs.declared.error.AsmCode.TheVariants.{DoesNotFit}
+use Rattle.mac_layout.specs.declared.error.AsmCode.{AsmCode}
+use Rattle.mac_layout.specs.declared.error.AsmCode.TheVariants.{DoesNotFit}
 use Rattle.std.specs.Prelude.{ℤ}
-use Rattle.mac_asm.specs.Values.{◌>>=◌, value_of, natural_of}
-use Rattle.mac_asm.specs.Places.{Labels, names_at, count_of, size_of, are_among, is_count_settled}
-use Rattle.mac_asm.specs.Assembly.{have_words, are_apart, are_below}
-use Rattle.mac_asm.specs.Outcome.{count_if, count_from, checked_count, checked_size, at_least_one, literal_size, count_or, taking, taking_size, taking_all, places_in}
+use Rattle.mac_layout.specs.Values.{◌>>=◌, value_of, natural_of}
+use Rattle.mac_layout.specs.Places.{Labels, names_at, count_of, size_of, are_among, is_count_settled, are_apart}
+use Rattle.mac_asm.specs.Assembly.{have_words, are_below}
+use Rattle.mac_layout.specs.LaidOut.{count_if, count_from, checked_count, checked_size, at_least_one, literal_size, count_or, taking, taking_size, taking_all, places_in}
 use Rattle.asm_laws.specs.Laws.{ranges_from}
 use Rattle.asm_laws.proofs.Maps.{value-known}
 use Rattle.asm_laws.proofs.Apart.{apart-parts, least-none, none-least, whole-range, taking-none, none-taking}

@@ -1,13 +1,12 @@
 -- The image of an example, by computation.
 use Rattle.std.proofs.Common.{◌≡◌, Some, refl}
-use Rattle.mac_asm.specs.Assembly.{IsAssembly}
+use Rattle.mac_asm.specs.Assembly.{IsAssembly, all_words_of, words_from, statement_words, literal_words, all_statement_words, all_literal_words, words_at, start_at}
 use Rattle.asm_laws.specs.Example.{example_source, example_image}
 use Rattle.asm_laws.proofs.Found.{found_image}
-use Rattle.mac_asm.specs.Assembly.{all_words_of, words_from, statement_words, literal_words, all_statement_words, all_literal_words, words_at, start_at, are_apart}
+use Rattle.mac_layout.specs.Places.{are_apart, count_of, size_of, place_behind, located, place_after, places_from, placed, are_settled}
 use Rattle.asm_laws.specs.Found.{labels_met, image_under, image_of}
 use Rattle.mac_asm.specs.Packing.{ascii_word, sixbit_word}
-use Rattle.mac_asm.specs.Places.{count_of, size_of, place_behind, located, place_after, places_from, placed, are_settled}
-use Rattle.mac_asm.specs.Values.{value_of, residue_of, natural_of, is_known}
+use Rattle.mac_layout.specs.Values.{value_of, residue_of, natural_of, is_known}
 use Rattle.mac_asm.specs.Words.{fitted, operand_of, with_accumulator, with_operand, instruction_of, position_of, pointer_of, halves_of, iowd_of, text_word, words_of, are_known}
 use Rattle.ka_isa.specs.Operations.{operations, calls, meanings, named_of, name_of}
 use Rattle.mac_text.specs.Expressions.{word_term_at, marked_at, literal_at, term_at, sign_at, signed_at, next_term_at, expression_at, optional_at}

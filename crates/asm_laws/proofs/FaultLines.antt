@@ -4,11 +4,13 @@ use Rattle.std.specs.Prelude.{if◌then◌else◌}
 use Rattle.std.specs.Str.Lines.{lines as lines_in}
 use Rattle.mac_text.specs.Lines.{is_end, with_line, line_of, line_then, lines_from, program_of, radix_after}
 use Rattle.mac_text.specs.declared.syntax.Line.{Line}
-use Rattle.mac_asm.specs.declared.error.AsmCode.{AsmCode}
-use Rattle.mac_asm.specs.declared.error.AsmCode.TheVariants.{NoEnd, Syntax}
-use Rattle.mac_asm.specs.Places.{Labels, Placed}
+use Rattle.mac_layout.specs.declared.error.AsmCode.{AsmCode}
+use Rattle.mac_layout.specs.declared.error.AsmCode.TheVariants.{NoEnd, Syntax}
+use Rattle.mac_layout.specs.Places.{Labels, Placed}
 use Rattle.mac_asm.specs.Assembly.{Assembled}
-use Rattle.mac_asm.specs.Outcome.{Fault, Layout, empty_layout, line_code, unless_fault, laid_out, lines_with, places_of_literals, value_code, and_words, words_given, image_with, outcome_placed, outcome_from, has_end, outcome_read, outcome_of, with_line as layout_behind}
+use Rattle.mac_layout.specs.Faults.{Fault, unless_fault}
+use Rattle.mac_layout.specs.LaidOut.{Layout, empty_layout, line_code, laid_out, places_of_literals, with_line as layout_behind}
+use Rattle.mac_asm.specs.Outcome.{lines_with, value_code, and_words, words_given, image_with, outcome_placed, outcome_from, has_end, outcome_read, outcome_of}
 
 -- at least n, and of so many
 abbrev Within : ℕ → ℕ → ℕ → Type 0

@@ -3,12 +3,14 @@ use Rattle.std.proofs.Common.{◌≡◌, ◌∙◌, sym, ap, subst, ℕ, ◌+◌
 use Rattle.std.specs.Prelude.{is_ok, if◌then◌else◌, unwrap_or}
 use Rattle.mac_text.specs.Lines.{program_of}
 use Rattle.mac_text.specs.declared.syntax.Line.{Line}
-use Rattle.mac_asm.specs.declared.error.AsmCode.{AsmCode}
-use Rattle.mac_asm.specs.declared.error.AsmCode.TheVariants.{NoEnd}
-use Rattle.mac_asm.specs.Places.{Placed}
+use Rattle.mac_layout.specs.declared.error.AsmCode.{AsmCode}
+use Rattle.mac_layout.specs.declared.error.AsmCode.TheVariants.{NoEnd}
+use Rattle.mac_layout.specs.Places.{Placed}
 use Rattle.mac_asm.specs.Assembly.{Assembled, lines_placed}
 use Rattle.asm_laws.specs.Found.{map_of}
-use Rattle.mac_asm.specs.Outcome.{Fault, Layout, empty_layout, line_code, with_line, unless_fault, laid_out, line_words, value_code, and_words, words_given, outcome_from, has_end, outcome_read, outcome_of}
+use Rattle.mac_layout.specs.Faults.{Fault, unless_fault}
+use Rattle.mac_layout.specs.LaidOut.{Layout, empty_layout, line_code, with_line, laid_out}
+use Rattle.mac_asm.specs.Outcome.{line_words, value_code, and_words, words_given, outcome_from, has_end, outcome_read, outcome_of}
 use Rattle.asm_laws.specs.Faults.{FirstLaid, FirstGiven, TellsFirst}
 use Rattle.asm_laws.proofs.Codes.{told-from}
 use Rattle.asm_laws.proofs.Told.{laid-placed}

@@ -5,12 +5,14 @@ use Rattle.std.specs.List.{list_all}
 use Rattle.std.proofs.lemmas.Bool.{and_parts, and_from, cases_Bool, false_from_ne_true, not_from_false}
 use Rattle.mac_text.specs.Lines.{program_of}
 use Rattle.mac_text.specs.declared.syntax.Line.{Line}
-use Rattle.mac_asm.specs.declared.error.AsmCode.{AsmCode}
-use Rattle.mac_asm.specs.declared.error.AsmCode.TheVariants.{Syntax, UnknownName, DefinedTwice, DoesNotFit, NotYetDefined, PlaceTooHigh, NoEnd}
-use Rattle.mac_asm.specs.Places.{Placed}
-use Rattle.mac_asm.specs.Assembly.{first_place, lines_placed, start_at}
+use Rattle.mac_layout.specs.declared.error.AsmCode.{AsmCode}
+use Rattle.mac_layout.specs.declared.error.AsmCode.TheVariants.{Syntax, UnknownName, DefinedTwice, DoesNotFit, NotYetDefined, PlaceTooHigh, NoEnd}
+use Rattle.mac_layout.specs.Places.{Placed, first_place}
+use Rattle.mac_asm.specs.Assembly.{lines_placed, start_at}
 use Rattle.asm_laws.specs.Found.{map_of}
-use Rattle.mac_asm.specs.Outcome.{Fault, Layout, empty_layout, line_code, with_line, unless_fault, laid_out, places_of_literals, lines_with, line_words, is_line_known, value_code, and_words, words_given, image_with, outcome_placed, outcome_from, has_end, outcome_read, outcome_of}
+use Rattle.mac_layout.specs.Faults.{Fault, unless_fault}
+use Rattle.mac_layout.specs.LaidOut.{Layout, empty_layout, line_code, with_line, laid_out, places_of_literals}
+use Rattle.mac_asm.specs.Outcome.{lines_with, line_words, is_line_known, value_code, and_words, words_given, image_with, outcome_placed, outcome_from, has_end, outcome_read, outcome_of}
 use Rattle.asm_laws.specs.Faults.{FirstLaid, FirstGiven}
 use Rattle.asm_laws.specs.Codes.{LaidFault, is_given, is_value_wrong, ValueFault, IsTold}
 use Rattle.asm_laws.proofs.Layouts.{AllRight, final, laid-right, right-laid}

@@ -12,11 +12,12 @@ use Rattle.mac_text.specs.declared.syntax.Data.{Data}
 use Rattle.mac_text.specs.declared.syntax.Statement.{Statement}
 use Rattle.mac_text.specs.declared.syntax.Statement.TheVariants as statements
 use Rattle.mac_text.specs.declared.syntax.Line.{Line}
-use Rattle.mac_asm.specs.declared.error.AsmCode.{AsmCode}
-use Rattle.mac_asm.specs.declared.error.AsmCode.TheVariants.{DefinedTwice, DoesNotFit, PlaceTooHigh}
-use Rattle.mac_asm.specs.Places.{Labels, size_of, place_behind, is_count_settled, is_settled}
-use Rattle.mac_asm.specs.Assembly.{have_words, are_apart, are_below}
-use Rattle.mac_asm.specs.Outcome.{code_if, code_of, checked_count, checked_size, literal_size, Layout, taking_size, labels_code, with_labels, statement_code, taken_by, place_by, with_statement, line_code, with_line, places_in, count_or}
+use Rattle.mac_layout.specs.declared.error.AsmCode.{AsmCode}
+use Rattle.mac_layout.specs.declared.error.AsmCode.TheVariants.{DefinedTwice, DoesNotFit, PlaceTooHigh}
+use Rattle.mac_layout.specs.Places.{Labels, size_of, place_behind, is_count_settled, is_settled, are_apart}
+use Rattle.mac_asm.specs.Assembly.{have_words, are_below}
+use Rattle.mac_layout.specs.Faults.{code_if, code_of}
+use Rattle.mac_layout.specs.LaidOut.{checked_count, checked_size, literal_size, Layout, taking_size, labels_code, with_labels, statement_code, taken_by, place_by, with_statement, line_code, with_line, places_in, count_or}
 use Rattle.asm_laws.specs.Laws.{statement_size}
 use Rattle.asm_laws.proofs.Unique.{own, keys-grow}
 use Rattle.asm_laws.proofs.Apart.{code_if-none, least-none, none-least, whole-range, taking-none, none-taking}

@@ -5,8 +5,8 @@ use Rattle.std.proofs.lemmas.List.{append-nil}
 use Rattle.std.proofs.lemmas.Bool.{and_parts, and_from}
 use Rattle.mac_text.specs.Lines.{program_of}
 use Rattle.mac_text.specs.declared.syntax.Line.{Line}
-use Rattle.mac_asm.specs.Places.{Labels, place_behind, located, literal_sizes, are_settled}
-use Rattle.mac_asm.specs.Assembly.{Assembled, IsAssembly, first_place, lines_at, lines_placed, words_at, have_words, are_allowed, are_apart, are_below, start_at, by_place}
+use Rattle.mac_layout.specs.Places.{Labels, place_behind, located, literal_sizes, are_settled, first_place, are_apart}
+use Rattle.mac_asm.specs.Assembly.{Assembled, IsAssembly, lines_at, lines_placed, words_at, have_words, are_allowed, are_below, start_at, by_place}
 use Rattle.asm_laws.specs.Found.{labels_met, map_of, are_placed, image_under, image_of, image_of_lines}
 use Rattle.asm_laws.proofs.Maps.{place-settled}
 use Rattle.asm_laws.proofs.Options.{some_parts, if_some, if_true, bind_some, bind_at}

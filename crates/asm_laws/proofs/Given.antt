@@ -5,10 +5,11 @@ use Rattle.std.specs.List.{list_all}
 use Rattle.std.specs.List.Sorted.{IsPermutation}
 use Rattle.std.proofs.lemmas.List.Sorted.{IsPermutation-refl, IsPermutation-trans, IsPermutation-append, IsPermutation-append_comm, IsPermutation-append_left, IsPermutation-append_right}
 use Rattle.std.proofs.lemmas.Bool.{and_parts, and_from}
-use Rattle.mac_asm.specs.declared.error.AsmCode.{AsmCode}
-use Rattle.mac_asm.specs.Places.{Placed}
+use Rattle.mac_layout.specs.declared.error.AsmCode.{AsmCode}
+use Rattle.mac_layout.specs.Places.{Placed}
 use Rattle.mac_asm.specs.Assembly.{statement_words, literal_words, all_statement_words, all_literal_words}
-use Rattle.mac_asm.specs.Outcome.{Fault, unless_fault, line_words, has_start, value_code, and_words, words_given}
+use Rattle.mac_layout.specs.Faults.{Fault, unless_fault}
+use Rattle.mac_asm.specs.Outcome.{line_words, has_start, value_code, and_words, words_given}
 use Rattle.asm_laws.proofs.Options.{some_parts, bind_some, bind_at}
 
 abbrev Words : Type 0

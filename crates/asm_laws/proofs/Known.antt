@@ -14,10 +14,10 @@ use Rattle.mac_text.specs.declared.syntax.Data.TheVariants as data_of
 use Rattle.mac_text.specs.declared.syntax.Statement.{Statement}
 use Rattle.mac_text.specs.declared.syntax.Statement.TheVariants as statements
 use Rattle.mac_text.specs.declared.syntax.Line.{Line}
-use Rattle.mac_asm.specs.Values.{◌>>=◌, Names, term_value, signed, value_onto, value_of, is_known}
+use Rattle.mac_layout.specs.Values.{◌>>=◌, Names, term_value, signed, value_onto, value_of, is_known}
 use Rattle.mac_asm.specs.Words.{fitted, word_of, half_of, register_of, or_zero, operand_of, is_missing, with_accumulator, with_operand, instruction_of, at_most, position_of, pointer_of, halves_of, iowd_of, words_of_all, words_of, is_known_if, is_operand_known, are_known}
-use Rattle.mac_asm.specs.Places.{Labels, size_of, place_after, Located, sizes_at, literal_sizes, places_from, Placed, placed}
-use Rattle.mac_asm.specs.Assembly.{first_place, lines_at, literal_places, lines_placed, all_words_of, words_from, statement_words, literal_words, start_by}
+use Rattle.mac_layout.specs.Places.{Labels, size_of, place_after, Located, sizes_at, literal_sizes, places_from, Placed, placed, first_place}
+use Rattle.mac_asm.specs.Assembly.{lines_at, literal_places, lines_placed, all_words_of, words_from, statement_words, literal_words, start_by}
 use Rattle.mac_asm.specs.Outcome.{line_words, has_start, is_statement_known, is_line_known}
 use Rattle.asm_laws.specs.Codes.{is_given}
 

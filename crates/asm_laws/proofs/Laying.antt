@@ -10,12 +10,13 @@ use Rattle.mac_text.specs.Lines.{is_end, is_end_statement}
 use Rattle.mac_text.specs.declared.syntax.Statement.{Statement}
 use Rattle.mac_text.specs.declared.syntax.Statement.TheVariants as statements
 use Rattle.mac_text.specs.declared.syntax.Line.{Line}
-use Rattle.mac_asm.specs.declared.error.AsmCode.{AsmCode}
-use Rattle.mac_asm.specs.declared.error.AsmCode.TheVariants.{DefinedTwice, DoesNotFit, PlaceTooHigh}
-use Rattle.mac_asm.specs.Places.{Labels, names_at, size_of, place_behind, Located, located, place_after, literal_sizes, placed, is_count_settled, is_settled, are_settled}
-use Rattle.mac_asm.specs.Assembly.{statement_words, all_statement_words, allows, are_allowed, have_words, are_apart, are_below}
+use Rattle.mac_layout.specs.declared.error.AsmCode.{AsmCode}
+use Rattle.mac_layout.specs.declared.error.AsmCode.TheVariants.{DefinedTwice, DoesNotFit, PlaceTooHigh}
+use Rattle.mac_layout.specs.Places.{Labels, names_at, size_of, place_behind, Located, located, place_after, literal_sizes, placed, is_count_settled, is_settled, are_settled, are_apart}
+use Rattle.mac_asm.specs.Assembly.{statement_words, all_statement_words, allows, are_allowed, have_words, are_below}
 use Rattle.asm_laws.specs.Found.{labels_met}
-use Rattle.mac_asm.specs.Outcome.{Fault, count_or, literal_size, with_labels, with_statement, taken_by, place_by, statement_code, line_code, with_line, unless_fault, laid_out}
+use Rattle.mac_layout.specs.Faults.{Fault, unless_fault}
+use Rattle.mac_layout.specs.LaidOut.{count_or, literal_size, with_labels, with_statement, taken_by, place_by, statement_code, line_code, with_line, laid_out}
 use Rattle.asm_laws.specs.Laws.{places_of, ranges_from}
 use Rattle.asm_laws.proofs.Options.{bind_some}
 use Rattle.asm_laws.proofs.Unique.{own, labels_in, Settled, settled_parts}

@@ -11,11 +11,13 @@ use Rattle.mac_text.specs.declared.syntax.Data.{Data}
 use Rattle.mac_text.specs.declared.syntax.Statement.{Statement}
 use Rattle.mac_text.specs.declared.syntax.Statement.TheVariants as statements
 use Rattle.mac_text.specs.declared.syntax.Line.{Line}
-use Rattle.mac_asm.specs.declared.error.AsmCode.{AsmCode}
-use Rattle.mac_asm.specs.Places.{Labels, size_of, place_behind, Located, located, place_after, literal_sizes, is_count_settled, is_settled, are_settled}
-use Rattle.mac_asm.specs.Assembly.{are_apart, are_below}
+use Rattle.mac_layout.specs.declared.error.AsmCode.{AsmCode}
+use Rattle.mac_layout.specs.Places.{Labels, size_of, place_behind, Located, located, place_after, literal_sizes, is_count_settled, is_settled, are_settled, are_apart}
+use Rattle.mac_asm.specs.Assembly.{are_below}
 use Rattle.asm_laws.specs.Found.{labels_met}
-use Rattle.mac_asm.specs.Outcome.{Fault, literal_size, Layout, labels_code, taking_all, with_labels, with_statement, statement_code, line_code, with_line, unless_fault, laid_out, has_end}
+use Rattle.mac_layout.specs.Faults.{Fault, unless_fault}
+use Rattle.mac_layout.specs.LaidOut.{literal_size, Layout, labels_code, taking_all, with_labels, with_statement, statement_code, line_code, with_line, laid_out}
+use Rattle.mac_asm.specs.Outcome.{has_end}
 use Rattle.asm_laws.specs.Laws.{statement_size, places_of}
 use Rattle.asm_laws.proofs.Unique.{own, keys-grow, labels_in}
 use Rattle.asm_laws.proofs.Maps.{place-settled, size-settled}

@@ -1,9 +1,9 @@
 -- The least of four codes is told.
 use Rattle.std.proofs.Common.{◌≡◌, ◌∙◌, ap, subst, ◌<◌, Bool, true, false, Option, Some, None, refl, arith}
 use Rattle.std.specs.Prelude.{◌||◌}
-use Rattle.mac_asm.specs.declared.error.AsmCode.{AsmCode}
-use Rattle.mac_asm.specs.declared.error.AsmCode.TheVariants.{Syntax, UnknownName, DefinedTwice, DoesNotFit, NotYetDefined, PlaceTooHigh, NoEnd}
-use Rattle.mac_asm.specs.Outcome.{number_of, least, code_if}
+use Rattle.mac_layout.specs.declared.error.AsmCode.{AsmCode}
+use Rattle.mac_layout.specs.declared.error.AsmCode.TheVariants.{Syntax, UnknownName, DefinedTwice, DoesNotFit, NotYetDefined, PlaceTooHigh, NoEnd}
+use Rattle.mac_layout.specs.Faults.{number_of, least, code_if}
 use Rattle.asm_laws.specs.Codes.{IsLeast}
 
 -- the first of the codes of laying out that is so

@@ -12,12 +12,13 @@ use Rattle.mac_text.specs.declared.syntax.Data.{Data}
 use Rattle.mac_text.specs.declared.syntax.Statement.{Statement}
 use Rattle.mac_text.specs.declared.syntax.Statement.TheVariants as statements
 use Rattle.mac_text.specs.declared.syntax.Line.{Line}
-use Rattle.mac_asm.specs.declared.error.AsmCode.{AsmCode}
-use Rattle.mac_asm.specs.declared.error.AsmCode.TheVariants.{DefinedTwice, PlaceTooHigh}
-use Rattle.mac_asm.specs.Places.{Labels, names_at, count_of, size_of, place_behind, are_among, is_count_settled, is_settled}
-use Rattle.mac_asm.specs.Assembly.{are_apart, are_below}
+use Rattle.mac_layout.specs.declared.error.AsmCode.{AsmCode}
+use Rattle.mac_layout.specs.declared.error.AsmCode.TheVariants.{DefinedTwice, PlaceTooHigh}
+use Rattle.mac_layout.specs.Places.{Labels, names_at, count_of, size_of, place_behind, are_among, is_count_settled, is_settled, are_apart}
+use Rattle.mac_asm.specs.Assembly.{are_below}
 use Rattle.asm_laws.specs.Found.{labels_met}
-use Rattle.mac_asm.specs.Outcome.{least, code_of, checked_count, literal_size, Layout, is_taken, taking_size, labels_code, with_labels, statement_code, line_code, with_line}
+use Rattle.mac_layout.specs.Faults.{least, code_of}
+use Rattle.mac_layout.specs.LaidOut.{checked_count, literal_size, Layout, is_taken, taking_size, labels_code, with_labels, statement_code, line_code, with_line}
 use Rattle.asm_laws.specs.Codes.{Met, lines_met, place_met, statement_places, is_literal_unfit, is_statement_unfit}
 use Rattle.asm_laws.proofs.Unique.{own, keys-grow}
 use Rattle.asm_laws.proofs.Apart.{apart-parts, apart-join, least-none, code_if-none}

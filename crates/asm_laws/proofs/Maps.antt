@@ -11,9 +11,9 @@ use Rattle.mac_text.specs.declared.syntax.Data.TheVariants as data_of
 use Rattle.mac_text.specs.declared.syntax.Statement.{Statement}
 use Rattle.mac_text.specs.declared.syntax.Statement.TheVariants as statements
 use Rattle.std.specs.Prelude.{ℤ, pos}
-use Rattle.mac_asm.specs.Values.{◌>>=◌, term_value, signed, value_onto, value_of, natural_of}
+use Rattle.mac_layout.specs.Values.{◌>>=◌, term_value, signed, value_onto, value_of, natural_of}
 use Rattle.asm_laws.proofs.Options.{bind_same, is_some_bind}
-use Rattle.mac_asm.specs.Places.{Labels, names_at, count_of, size_of, place_behind, is_among, are_among, is_count_settled, is_settled}
+use Rattle.mac_layout.specs.Places.{Labels, names_at, count_of, size_of, place_behind, is_among, are_among, is_count_settled, is_settled}
 
 cond-found : {X : Type 0} (b : Bool) (x : X) (p q : Option X) → (is_some q ≡ true → p ≡ q)
     → is_some (cond b (Some x) q) ≡ true

@@ -4,8 +4,7 @@ use Rattle.std.specs.List.{range_with_len}
 use Rattle.std.specs.Map.{keys_of}
 use Rattle.std.proofs.lemmas.List.{append-nil}
 use Rattle.mac_text.specs.declared.syntax.Line.{Line}
-use Rattle.mac_asm.specs.Places.{Labels, size_of, place_behind, place_after, Located, located, literal_sizes, are_settled}
-use Rattle.mac_asm.specs.Assembly.{first_place}
+use Rattle.mac_layout.specs.Places.{Labels, size_of, place_behind, place_after, Located, located, literal_sizes, are_settled, first_place}
 use Rattle.asm_laws.specs.Found.{labels_met}
 use Rattle.asm_laws.specs.Laws.{places_of}
 use Rattle.asm_laws.specs.Codes.{located_at, lines_met, place_met, statement_places, sizes_of_literals, IsMet}

@@ -1,6 +1,6 @@
 -- Values that may be absent.
 use Rattle.std.proofs.Common.{◌≡◌, ap, Bool, true, false, ◌&&◌, is_some, Option, Some, None, Result, Ok, if◌then◌else◌, refl}
-use Rattle.mac_asm.specs.Values.{◌>>=◌}
+use Rattle.mac_layout.specs.Values.{◌>>=◌}
 
 pub some_parts : {A : Type 0} (x y : A) → Some x ≡ Some y → x ≡ y
 some_parts x y h = cc

@@ -9,7 +9,8 @@ use Rattle.std.proofs.lemmas.Bool.{and_parts, or_parts, not-true, eqb-true}
 use Rattle.std.proofs.lemmas.List.Sorted.{IsPermutation-sym, IsPermutation-map, Contains-permutation}
 use Rattle.std.proofs.lemmas.Map.Keys.{IsDistinct-IsPermutation}
 use Rattle.std.proofs.lemmas.Map.Views.{Contains-from_lookup, lookup-from_Contains}
-use Rattle.mac_asm.specs.Assembly.{word_at, by_place, are_apart}
+use Rattle.mac_layout.specs.Places.{are_apart}
+use Rattle.mac_asm.specs.Assembly.{word_at, by_place}
 use Rattle.asm_laws.proofs.Apart.{nat_eq-sym}
 
 all-unequal : (n : ℕ) (ns : List ℕ) → list_any (nat_eq n) ns ≡ false → AllByRecursion (λ y. nat_eq n y ≡ false) ns

@@ -12,13 +12,15 @@ use Rattle.mac_text.specs.declared.syntax.Data.TheVariants as data_of
 use Rattle.mac_text.specs.declared.syntax.Statement.{Statement}
 use Rattle.mac_text.specs.declared.syntax.Statement.TheVariants as statements
 use Rattle.mac_text.specs.declared.syntax.Line.{Line}
-use Rattle.mac_asm.specs.declared.error.AsmCode.{AsmCode}
-use Rattle.mac_asm.specs.declared.error.AsmCode.TheVariants.{Syntax, UnknownName, DefinedTwice, DoesNotFit, NotYetDefined, PlaceTooHigh, NoEnd}
+use Rattle.mac_layout.specs.declared.error.AsmCode.{AsmCode}
+use Rattle.mac_layout.specs.declared.error.AsmCode.TheVariants.{Syntax, UnknownName, DefinedTwice, DoesNotFit, NotYetDefined, PlaceTooHigh, NoEnd}
 use Rattle.std.specs.Prelude.{ℤ}
-use Rattle.mac_asm.specs.Values.{value_of, natural_of}
-use Rattle.mac_asm.specs.Places.{Labels, names_at, Placed}
-use Rattle.mac_asm.specs.Assembly.{Assembled, first_place, start_at, are_apart}
-use Rattle.mac_asm.specs.Outcome.{Fault, number_of, least, code_if, code_of, count_if, count_from, count_or, checked_count, checked_size, at_least_one, literal_size, Layout, empty_layout, places_in, taking, taking_size, taking_all, labels_code, with_labels, with_statement, statement_code, line_code, unless_fault, laid_out, places_of_literals, lines_with, line_words, has_start, is_line_known, value_code, and_words, words_given, image_with, outcome_placed, outcome_from, has_end, outcome_read, outcome_of, with_line as layout_behind}
+use Rattle.mac_layout.specs.Values.{value_of, natural_of}
+use Rattle.mac_layout.specs.Places.{Labels, names_at, Placed, first_place, are_apart}
+use Rattle.mac_asm.specs.Assembly.{Assembled, start_at}
+use Rattle.mac_layout.specs.Faults.{Fault, number_of, least, code_if, code_of, unless_fault}
+use Rattle.mac_layout.specs.LaidOut.{count_if, count_from, count_or, checked_count, checked_size, at_least_one, literal_size, Layout, empty_layout, places_in, taking, taking_size, taking_all, labels_code, with_labels, with_statement, statement_code, line_code, laid_out, places_of_literals, with_line as layout_behind}
+use Rattle.mac_asm.specs.Outcome.{lines_with, line_words, has_start, is_line_known, value_code, and_words, words_given, image_with, outcome_placed, outcome_from, has_end, outcome_read, outcome_of}
 use Rattle.asm_laws.proofs.Unique.{own}
 
 -- the codes of laying out, and those of values

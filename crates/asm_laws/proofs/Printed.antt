@@ -8,7 +8,7 @@ use Rattle.ka_isa.specs.declared.Fields.{Fields}
 use Rattle.ka_isa.specs.Fields.{fields_of, word_of as encoded}
 use Rattle.ka_isa.specs.Operations.{Name, name_of}
 use Rattle.mac_text.specs.Printed.{number_alone, unless_zero, instruction_with, named_data, data_of_word}
-use Rattle.mac_asm.specs.Values.{◌>>=◌, Names, value_of, residue_of}
+use Rattle.mac_layout.specs.Values.{◌>>=◌, Names, value_of, residue_of}
 use Rattle.mac_asm.specs.Words.{fitted, half_of, register_of, or_zero, operand_of, with_accumulator, with_operand, instruction_of, halves_of, words_of}
 
 cond-true : {A : Type 0} (b : Bool) (x y : A) → b ≡ true → (if b then x else y) ≡ x

@@ -3,7 +3,9 @@ use Rattle.std.proofs.Common.{◌≡◌, ℕ, List, Result, Ok, Err, refl, sym, 
 use Rattle.mac_text.specs.declared.syntax.Line.{Line}
 use Rattle.mac_asm.specs.Assembly.{Assembled, IsAssembly}
 use Rattle.asm_laws.specs.Found.{map_of}
-use Rattle.mac_asm.specs.Outcome.{Fault, Layout, laid_out, empty_layout, outcome_from, outcome_read, outcome_of}
+use Rattle.mac_layout.specs.Faults.{Fault}
+use Rattle.mac_layout.specs.LaidOut.{Layout, laid_out, empty_layout}
+use Rattle.mac_asm.specs.Outcome.{outcome_from, outcome_read, outcome_of}
 use Rattle.mac_asm.specs.Symbols.{symbols_laid, symbols_read, symbols_of}
 use Rattle.asm_laws.proofs.Found.{met_only}
 use Rattle.asm_laws.proofs.Told.{read-ok, laid-layout, image-told}

@@ -5,9 +5,11 @@ use Rattle.std.specs.List.{range_with_len, list_any}
 use Rattle.std.proofs.lemmas.Bool.{and_parts, and_from, or_from, cases_Bool, true_from_ne_false, not_from_true, not_from_false}
 use Rattle.std.proofs.lemmas.List.Folds.{list_any-append, list_all-append}
 use Rattle.std.proofs.lemmas.Grind.{common_steps}
-use Rattle.mac_asm.specs.declared.error.AsmCode.{AsmCode}
-use Rattle.mac_asm.specs.Assembly.{are_apart, are_below}
-use Rattle.mac_asm.specs.Outcome.{least, is_taken, places_in, count_or, taking, taking_size, taking_all}
+use Rattle.mac_layout.specs.declared.error.AsmCode.{AsmCode}
+use Rattle.mac_layout.specs.Places.{are_apart}
+use Rattle.mac_asm.specs.Assembly.{are_below}
+use Rattle.mac_layout.specs.Faults.{least}
+use Rattle.mac_layout.specs.LaidOut.{is_taken, places_in, count_or, taking, taking_size, taking_all}
 use Rattle.asm_laws.specs.Laws.{ranges_from}
 use Rattle.asm_laws.proofs.Apart.{apart-join, range-apart, free-high, high-free, lt-from}
 use Rattle.asm_laws.proofs.Clear.{no-true}

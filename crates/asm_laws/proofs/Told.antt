@@ -11,12 +11,14 @@ use Rattle.mac_text.specs.Lines.{program_of, is_end, is_end_statement}
 use Rattle.mac_text.specs.declared.syntax.Statement.{Statement}
 use Rattle.mac_text.specs.declared.syntax.Statement.TheVariants as statements
 use Rattle.mac_text.specs.declared.syntax.Line.{Line}
-use Rattle.mac_asm.specs.declared.error.AsmCode.TheVariants.{NoEnd}
-use Rattle.mac_asm.specs.Values.{Names}
-use Rattle.mac_asm.specs.Places.{Labels, names_at, located, place_behind, place_after, literal_sizes, places_from, Placed, placed}
-use Rattle.mac_asm.specs.Assembly.{Assembled, IsAssembly, first_place, lines_at, literal_places, lines_placed, all_statement_words, all_literal_words, words_at, have_words, are_allowed, start_by, start_at, by_place, are_apart, are_below}
+use Rattle.mac_layout.specs.declared.error.AsmCode.TheVariants.{NoEnd}
+use Rattle.mac_layout.specs.Values.{Names}
+use Rattle.mac_layout.specs.Places.{Labels, names_at, located, place_behind, place_after, literal_sizes, places_from, Placed, placed, first_place, are_apart}
+use Rattle.mac_asm.specs.Assembly.{Assembled, IsAssembly, lines_at, literal_places, lines_placed, all_statement_words, all_literal_words, words_at, have_words, are_allowed, start_by, start_at, by_place, are_below}
 use Rattle.asm_laws.specs.Found.{map_of}
-use Rattle.mac_asm.specs.Outcome.{Fault, count_or, Layout, empty_layout, taking_all, laid_out, places_of_literals, lines_with, has_start, words_given, image_with, outcome_placed, outcome_from, has_end, outcome_read, outcome_of}
+use Rattle.mac_layout.specs.Faults.{Fault}
+use Rattle.mac_layout.specs.LaidOut.{count_or, Layout, empty_layout, taking_all, laid_out, places_of_literals}
+use Rattle.mac_asm.specs.Outcome.{lines_with, has_start, words_given, image_with, outcome_placed, outcome_from, has_end, outcome_read, outcome_of}
 use Rattle.asm_laws.specs.Laws.{places_of, ranges_from, places_taken}
 use Rattle.asm_laws.proofs.Options.{some_parts, bind_some, bind_at}
 use Rattle.asm_laws.proofs.Found.{map_is_met, met_only}

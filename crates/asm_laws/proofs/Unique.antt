@@ -6,7 +6,7 @@ use Rattle.std.proofs.lemmas.List.{map-append}
 use Rattle.std.proofs.lemmas.Bool.{and_parts}
 use Rattle.mac_text.specs.declared.syntax.Line.{Line}
 use Rattle.mac_text.specs.Lines.{program_of}
-use Rattle.mac_asm.specs.Places.{Labels, place_behind, located, labels_at, is_settled, is_count_settled, are_settled}
+use Rattle.mac_layout.specs.Places.{Labels, place_behind, located, labels_at, is_settled, is_count_settled, are_settled}
 use Rattle.mac_asm.specs.Assembly.{Assembled, IsAssembly, lines_at, lines_placed, words_at, start_at, by_place}
 use Rattle.asm_laws.proofs.Options.{some_same, ok_same}
 use Rattle.asm_laws.proofs.Maps.{place-settled}

@@ -12,8 +12,8 @@ use Rattle.mac_text.specs.declared.syntax.Data.TheVariants as data_of
 use Rattle.mac_text.specs.declared.syntax.Statement.{Statement}
 use Rattle.mac_text.specs.declared.syntax.Statement.TheVariants as statements
 use Rattle.mac_text.specs.declared.syntax.Line.{Line}
-use Rattle.mac_asm.specs.Places.{Labels, names_at, count_of, size_of, place_behind, Located, located, literal_sizes, placed, are_among, is_count_settled, is_settled, are_settled}
-use Rattle.mac_asm.specs.Assembly.{all_words_of, words_from, statement_words, all_statement_words, allows, are_allowed, have_words, are_apart, are_below}
+use Rattle.mac_layout.specs.Places.{Labels, names_at, count_of, size_of, place_behind, Located, located, literal_sizes, placed, are_among, is_count_settled, is_settled, are_settled, are_apart}
+use Rattle.mac_asm.specs.Assembly.{all_words_of, words_from, statement_words, all_statement_words, allows, are_allowed, have_words, are_below}
 use Rattle.asm_laws.specs.Found.{labels_met}
 use Rattle.asm_laws.specs.Laws.{places_of}
 use Rattle.asm_laws.proofs.Options.{bind_some}

@@ -11,12 +11,12 @@ use Rattle.mac_text.specs.declared.syntax.Data.{Data}
 use Rattle.mac_text.specs.declared.syntax.Statement.{Statement}
 use Rattle.mac_text.specs.declared.syntax.Statement.TheVariants as statements
 use Rattle.mac_text.specs.declared.syntax.Line.{Line}
-use Rattle.mac_asm.specs.declared.error.AsmCode.{AsmCode}
-use Rattle.mac_asm.specs.declared.error.AsmCode.TheVariants.{Syntax, UnknownName, DefinedTwice, DoesNotFit, NotYetDefined, PlaceTooHigh, NoEnd}
-use Rattle.mac_asm.specs.Places.{Labels, size_of, is_settled}
-use Rattle.mac_asm.specs.Assembly.{first_place, are_apart, are_below}
+use Rattle.mac_layout.specs.declared.error.AsmCode.{AsmCode}
+use Rattle.mac_layout.specs.declared.error.AsmCode.TheVariants.{Syntax, UnknownName, DefinedTwice, DoesNotFit, NotYetDefined, PlaceTooHigh, NoEnd}
+use Rattle.mac_layout.specs.Places.{Labels, size_of, is_settled, first_place, are_apart}
+use Rattle.mac_asm.specs.Assembly.{are_below}
 use Rattle.asm_laws.specs.Found.{map_of}
-use Rattle.mac_asm.specs.Outcome.{literal_size, is_taken, Layout, empty_layout, taking_all, with_labels, statement_code, line_code, with_line}
+use Rattle.mac_layout.specs.LaidOut.{literal_size, is_taken, Layout, empty_layout, taking_all, with_labels, statement_code, line_code, with_line}
 use Rattle.asm_laws.specs.Laws.{ranges_from}
 use Rattle.asm_laws.specs.Codes.{Met, met_at, lines_met, place_met, statement_places, sizes_of_literals, literal_places_at, is_statement_unfit, is_literal_unfit, has_unfit_literal, has_early_literal, at_end, is_wrong_at, is_wrong, AreRight, IsLeast}
 use Rattle.asm_laws.proofs.Unique.{own}

@@ -8,13 +8,14 @@ use Rattle.mac_text.specs.declared.syntax.Data.TheVariants as data_of
 use Rattle.mac_text.specs.declared.syntax.Statement.{Statement}
 use Rattle.mac_text.specs.declared.syntax.Statement.TheVariants as statements
 use Rattle.mac_text.specs.declared.syntax.Line.{Line}
-use Rattle.mac_asm.specs.declared.error.AsmCode.{AsmCode}
-use Rattle.mac_asm.specs.declared.error.AsmCode.TheVariants.{DefinedTwice, DoesNotFit, NotYetDefined, PlaceTooHigh, UnknownName}
-use Rattle.mac_asm.specs.Values.{value_of, natural_of}
-use Rattle.mac_asm.specs.Places.{Labels, names_at, size_of, place_behind, place_after, literal_sizes, Located, Placed, is_count_settled, is_settled, are_settled}
-use Rattle.mac_asm.specs.Assembly.{first_place, lines_at, lines_placed, are_apart, are_below}
+use Rattle.mac_layout.specs.declared.error.AsmCode.{AsmCode}
+use Rattle.mac_layout.specs.declared.error.AsmCode.TheVariants.{DefinedTwice, DoesNotFit, NotYetDefined, PlaceTooHigh, UnknownName}
+use Rattle.mac_layout.specs.Values.{value_of, natural_of}
+use Rattle.mac_layout.specs.Places.{Labels, names_at, size_of, place_behind, place_after, literal_sizes, Located, Placed, is_count_settled, is_settled, are_settled, first_place, are_apart}
+use Rattle.mac_asm.specs.Assembly.{lines_at, lines_placed, are_below}
 use Rattle.asm_laws.specs.Found.{own_labels, map_of}
-use Rattle.mac_asm.specs.Outcome.{Fault, number_of, line_words, has_start, is_line_known}
+use Rattle.mac_layout.specs.Faults.{Fault, number_of}
+use Rattle.mac_asm.specs.Outcome.{line_words, has_start, is_line_known}
 use Rattle.asm_laws.specs.Laws.{places_of, ranges_from}
 
 -- a line as it is met from above: its place, and the labels of the lines up to it, its own among them

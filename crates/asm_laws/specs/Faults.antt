@@ -5,12 +5,14 @@ use Rattle.std.specs.Map.{keys_of, values_of}
 use Rattle.std.specs.Str.Lines.{lines}
 use Rattle.mac_text.specs.Lines.{program_of}
 use Rattle.mac_text.specs.declared.syntax.Line.{Line}
-use Rattle.mac_asm.specs.declared.error.AsmCode.{AsmCode}
-use Rattle.mac_asm.specs.declared.error.AsmCode.TheVariants.{DefinedTwice, DoesNotFit, NoEnd, NotYetDefined, PlaceTooHigh, Syntax, UnknownName}
-use Rattle.mac_asm.specs.Places.{Labels, are_settled, literal_sizes, Placed}
-use Rattle.mac_asm.specs.Assembly.{Assembled, IsAssembly, lines_at, lines_placed, words_at, have_words, are_allowed, are_apart, are_below, start_at}
+use Rattle.mac_layout.specs.declared.error.AsmCode.{AsmCode}
+use Rattle.mac_layout.specs.declared.error.AsmCode.TheVariants.{DefinedTwice, DoesNotFit, NoEnd, NotYetDefined, PlaceTooHigh, Syntax, UnknownName}
+use Rattle.mac_layout.specs.Places.{Labels, are_settled, literal_sizes, Placed, are_apart}
+use Rattle.mac_asm.specs.Assembly.{Assembled, IsAssembly, lines_at, lines_placed, words_at, have_words, are_allowed, are_below, start_at}
 use Rattle.asm_laws.specs.Found.{map_of}
-use Rattle.mac_asm.specs.Outcome.{Fault, Layout, empty_layout, has_end, is_line_known, laid_out, line_code, outcome_of, value_code, words_given}
+use Rattle.mac_layout.specs.Faults.{Fault}
+use Rattle.mac_layout.specs.LaidOut.{Layout, empty_layout, laid_out, line_code}
+use Rattle.mac_asm.specs.Outcome.{has_end, is_line_known, outcome_of, value_code, words_given}
 use Rattle.asm_laws.specs.Laws.{places_taken}
 
 -- a fault is told only of a source without an image, and names a line of it, counted from 1; of a source of no lines, 0

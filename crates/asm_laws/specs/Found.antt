@@ -3,9 +3,9 @@ use Rattle.std.specs.Prelude.{ℕ, Bool, ◌&&◌, List, [], ◌∷◌, ◌++◌
 use Rattle.std.specs.Map.{keys_of, values_of}
 use Rattle.mac_text.specs.Lines.{program_of}
 use Rattle.mac_text.specs.declared.syntax.Line.{Line}
-use Rattle.mac_asm.specs.Values.{◌>>=◌}
-use Rattle.mac_asm.specs.Places.{Labels, labels_at, place_behind, literal_sizes, are_settled}
-use Rattle.mac_asm.specs.Assembly.{Assembled, first_place, lines_at, lines_placed, words_at, have_words, are_allowed, are_apart, are_below, start_at, by_place}
+use Rattle.mac_layout.specs.Values.{◌>>=◌}
+use Rattle.mac_layout.specs.Places.{Labels, labels_at, place_behind, literal_sizes, are_settled, first_place, are_apart}
+use Rattle.mac_asm.specs.Assembly.{Assembled, lines_at, lines_placed, words_at, have_words, are_allowed, are_below, start_at, by_place}
 
 -- the labels of a line at a place
 abbrev pub own_labels : ℕ → Line → Labels

@@ -10,10 +10,10 @@ use Rattle.mac_text.specs.declared.syntax.Data.{Data}
 use Rattle.mac_text.specs.declared.syntax.Statement.{Statement}
 use Rattle.mac_text.specs.declared.syntax.Statement.TheVariants as statements
 use Rattle.mac_text.specs.declared.syntax.Line.{Line}
-use Rattle.mac_asm.specs.Values.{Names, value_of}
+use Rattle.mac_layout.specs.Values.{Names, value_of}
 use Rattle.mac_asm.specs.Words.{words_of}
-use Rattle.mac_asm.specs.Places.{Labels, names_at, size_of, are_among, is_count_settled, are_settled, Located, place_after, literal_sizes}
-use Rattle.mac_asm.specs.Assembly.{Assembled, IsAssembly, all_words_of, first_place, lines_at, lines_placed, words_at}
+use Rattle.mac_layout.specs.Places.{Labels, names_at, size_of, are_among, is_count_settled, are_settled, Located, place_after, literal_sizes, first_place}
+use Rattle.mac_asm.specs.Assembly.{Assembled, IsAssembly, all_words_of, lines_at, lines_placed, words_at}
 
 -- an expression of earlier labels and no literal is one that earlier labels make known, and later ones do not change it
 pub record EarlierLabelsSettle : Type 0 where

@@ -5,10 +5,11 @@ use Rattle.std.specs.List.{last_or}
 use Rattle.std.proofs.lemmas.List.{drop_more, take_all}
 use Rattle.std.proofs.lemmas.Bool.{cases_lt}
 use Rattle.mac_text.specs.declared.syntax.Line.{Line}
-use Rattle.mac_asm.specs.declared.error.AsmCode.TheVariants.{UnknownName, DoesNotFit}
-use Rattle.mac_asm.specs.Places.{Labels, Placed, names_at}
-use Rattle.mac_asm.specs.Assembly.{first_place, start_by, start_from, start_at}
-use Rattle.mac_asm.specs.Outcome.{Fault, line_words, has_start, is_line_known, value_code, unless_fault, and_words, words_given, lines_with}
+use Rattle.mac_layout.specs.declared.error.AsmCode.TheVariants.{UnknownName, DoesNotFit}
+use Rattle.mac_layout.specs.Places.{Labels, Placed, names_at, first_place}
+use Rattle.mac_asm.specs.Assembly.{start_by, start_from, start_at}
+use Rattle.mac_layout.specs.Faults.{Fault, unless_fault}
+use Rattle.mac_asm.specs.Outcome.{line_words, has_start, is_line_known, value_code, and_words, words_given, lines_with}
 use Rattle.mac_asm.specs.Filled.{Cells, put_all, PutsLine, filled_with, filled}
 use Rattle.mac_asm.proofs.LineLemmas.{put_more, place_next, place_none}
 

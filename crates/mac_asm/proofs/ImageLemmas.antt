@@ -6,11 +6,12 @@ use Rattle.std.specs.Map.{lookup}
 use Rattle.std.proofs.lemmas.List.{length-set, length-replicate, reverse-append, get_or-set_same, get_or-set_other, get_or-replicate}
 use Rattle.std.proofs.lemmas.Bool.{cases_Bool, eqb-true}
 use Rattle.std.proofs.lemmas.Bool.Decides.{nat_tests}
-use Rattle.mac_asm.specs.declared.error.AsmError.{AsmError}
-use Rattle.mac_asm.specs.declared.error.AsmError.TheVariants as errors
-use Rattle.mac_asm.specs.Places.{Placed}
-use Rattle.mac_asm.specs.Assembly.{first_place, start_at, word_at, by_place}
-use Rattle.mac_asm.specs.Outcome.{Fault, words_given, image_with, outcome_placed}
+use Rattle.mac_layout.specs.declared.error.AsmError.{AsmError}
+use Rattle.mac_layout.specs.declared.error.AsmError.TheVariants as errors
+use Rattle.mac_layout.specs.Places.{Placed, first_place}
+use Rattle.mac_asm.specs.Assembly.{start_at, word_at, by_place}
+use Rattle.mac_layout.specs.Faults.{Fault}
+use Rattle.mac_asm.specs.Outcome.{words_given, image_with, outcome_placed}
 use Rattle.mac_asm.specs.Filled.{Cells, put_all, words_in_cells, filled_with, filled, empty_cells, PutsLines, Assembles}
 
 pub by_place_below : (words : List (ℕ × ℕ)) (n : ℕ) → n ≡ 2 ^ 18 → by_place words ≡ filter_map (word_at words) (range_with_len 0 n)
@@ -121,16 +122,6 @@ unfolding outcome_placed
 outcome_filled n start lines old new words all empty is words_is =
     image_filled n (unwrap_or (start_at lines) first_place) start (words_given 1 lines) new all (ap (λ cells. filled cells lines) (sym empty) ∙ is)
     ∙ ap (λ ws. Ok (record { words = ws; start = start })) (sym words_is)
-
-length_filled : (n start begins : ℕ) (given : Result (List (ℕ × ℕ)) Fault) (new : Cells) → filled_with (empty_cells n) start given ≡ Ok (new, begins) → length new ≡ n
-length_filled n start begins (Ok words) new is =
-    let cells_are : put_all (empty_cells n) words ≡ new = (same_pair (put_all (empty_cells n) words) new start begins is).0 in
-    ap length (sym cells_are) ∙ put_length (empty_cells n) words ∙ empty_length n
-length_filled n start begins (Err fault) new is = cc
-
--- as many cells as before
-pub filled_length : (n start : ℕ) (lines : List Placed) (old new : Cells) → old ≡ empty_cells n → filled old lines ≡ Ok (new, start) → length new ≡ n
-filled_length n start lines old new empty is = length_filled n (unwrap_or (start_at lines) first_place) start (words_given 1 lines) new (ap (λ cells. filled cells lines) (sym empty) ∙ is)
 
 image_fails : (start begins : ℕ) (old : Cells) (given : Result (List (ℕ × ℕ)) Fault) (fault : Fault) → filled_with old start given ≡ Err fault → image_with begins given ≡ Err fault
 image_fails start begins old (Ok words) fault is = cc

@@ -1,6 +1,4 @@
-pub mod ValueLemmas
 pub mod PushLemmas
-pub mod LayoutLemmas
 pub mod CellLemmas
 pub mod PutLemmas
 pub mod LineLemmas

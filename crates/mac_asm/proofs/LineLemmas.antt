@@ -6,8 +6,8 @@ use Rattle.std.proofs.lemmas.Option.{slice_get_read, slice_get_past}
 use borrow.Author.Tests.{ltb-true, ltb-false}
 use Rattle.mac_text.specs.declared.syntax.Data.{Data}
 use Rattle.mac_text.specs.declared.syntax.Line.{Line}
-use Rattle.mac_asm.specs.Values.{◌>>=◌, Names}
-use Rattle.mac_asm.specs.Places.{Placed}
+use Rattle.mac_layout.specs.Values.{◌>>=◌, Names}
+use Rattle.mac_layout.specs.Places.{Placed}
 use Rattle.mac_asm.specs.Assembly.{words_from, literal_words, statement_words}
 use Rattle.mac_asm.specs.Outcome.{line_words, has_start}
 use Rattle.mac_asm.specs.Filled.{Cells, put_all, start_named, PutsLine}

@@ -8,13 +8,15 @@ use Rattle.mac_text.specs.declared.syntax.Line.{Line}
 use Rattle.mac_text.specs.Lines.{is_end, program_of, Refuses as Unread}
 use Rattle.mac_text.specs.declared.fault.ParseError.{ParseError}
 use Rattle.mac_text.specs.declared.fault.ParseError.TheVariants as parse_errors
-use Rattle.mac_asm.specs.declared.error.AsmCode.TheVariants.{Syntax, NoEnd}
-use Rattle.mac_asm.specs.declared.error.AsmError.{AsmError}
-use Rattle.mac_asm.specs.declared.error.AsmError.TheVariants as errors
-use Rattle.mac_asm.specs.declared.layout.Layout.{Layout as Given}
-use Rattle.mac_asm.specs.Outcome.{has_end, laid_out, empty_layout, lines_with, places_of_literals, outcome_placed, outcome_from, outcome_read, outcome_of}
-use Rattle.mac_asm.specs.Layouts.{IsLayoutOf, Refuses}
-use Rattle.mac_asm.specs.Filled.{Assembles, refusal_of}
+use Rattle.mac_layout.specs.declared.error.AsmCode.TheVariants.{Syntax, NoEnd}
+use Rattle.mac_layout.specs.declared.error.AsmError.{AsmError}
+use Rattle.mac_layout.specs.declared.error.AsmError.TheVariants as errors
+use Rattle.mac_layout.specs.declared.layout.Layout.{Layout as Given}
+use Rattle.mac_layout.specs.LaidOut.{laid_out, empty_layout, places_of_literals}
+use Rattle.mac_asm.specs.Outcome.{has_end, lines_with, outcome_placed, outcome_from, outcome_read, outcome_of}
+use Rattle.mac_layout.specs.Layouts.{IsLayoutOf, Refuses}
+use Rattle.mac_layout.specs.Errors.{refusal_of}
+use Rattle.mac_asm.specs.Filled.{Assembles}
 
 -- the last line
 one_line : (line last : Line) → Some last ≡ slice_get (line ∷ []) (length (line ∷ []) - 1) → line ≡ last

@@ -2,7 +2,7 @@
 use Rattle.std.proofs.Common.{◌≡◌, ℕ, suc, ◌+◌, ◌-◌, ◌<◌, List, [], ◌∷◌, ◌++◌, Option, Some, None, refl, sym, ap, ◌∙◌, append_assoc, arith}
 use Rattle.mac_text.specs.declared.syntax.TextForm.{TextForm}
 use Rattle.mac_asm.specs.Words.{text_word, text_words_from}
-use Rattle.mac_asm.specs.Values.{◌>>=◌}
+use Rattle.mac_layout.specs.Values.{◌>>=◌}
 
 -- what was added before comes first
 abbrev pub with_words : List ℕ → Option (List ℕ) → Option (List ℕ)

@@ -1,17 +1,9 @@
 -- The words of statements put into cells.
-use Rattle.std.proofs.Common.{◌≡◌, ℕ, ◌+◌, ◌≤◌, List, [], ◌∷◌, ◌++◌, length, take, drop, Option, Some, true, refl, sym, ap, ◌∙◌, arith}
+use Rattle.std.proofs.Common.{◌≡◌, ℕ, ◌+◌, List, [], ◌∷◌, ◌++◌, Option, Some, true, refl, sym, ap, ◌∙◌}
 use Rattle.std.specs.Prelude.{set, option_map}
-use Rattle.std.proofs.lemmas.List.{take-append-le, take_all}
 use Rattle.mac_asm.specs.Words.{Adds}
 use Rattle.mac_asm.specs.Assembly.{at_places}
 use Rattle.mac_asm.specs.Filled.{Cells, put_from, put_all}
-
--- what is written back into a vector of the same length
-pub written : (new old : Cells) (len : ℕ) → length new ≡ length old → len ≡ length old → take len (new ++ drop (length new) old) ≡ new
-written new old len same all =
-    let fits : len ≤ length new = omega arith in
-    let whole : length new ≤ len = omega arith in
-    take-append-le len new (drop (length new) old) fits ∙ take_all len new whole
 
 put_places : (cells : Cells) (place : ℕ) (words : List ℕ) → put_all cells (at_places place words) ≡ put_from cells place words
 put_places cells place [] = refl

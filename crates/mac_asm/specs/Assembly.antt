@@ -1,7 +1,7 @@
 -- What it is for an image to be the assembly of a source (MACRO-10 Assembler Manual, this project's profile): one map from
 -- labels to numbers satisfies all lines at once.
-use Rattle.std.specs.Prelude.{◌≡◌, ℕ, ◌^◌, Bool, true, not, nat_eq, nat_lt, nat_le, ◌&&◌, List, [], ◌∷◌, ◌++◌, length, replicate, flat_map, filter_map, zip, Option, Some, None, is_some, option_map, Ok}
-use Rattle.std.specs.List.{range_with_len, last_or, list_all, list_any}
+use Rattle.std.specs.Prelude.{◌≡◌, ℕ, ◌^◌, Bool, true, nat_eq, nat_lt, nat_le, ◌&&◌, List, [], ◌∷◌, ◌++◌, length, replicate, flat_map, filter_map, zip, Option, Some, None, is_some, option_map, Ok}
+use Rattle.std.specs.List.{range_with_len, last_or, list_all}
 use Rattle.std.specs.Map.{lookup, keys_of, values_of}
 use Rattle.mac_text.specs.Lines.{program_of}
 use Rattle.mac_text.specs.declared.syntax.Data.{Data}
@@ -9,18 +9,14 @@ use Rattle.mac_text.specs.declared.syntax.Data.TheVariants as data_of
 use Rattle.mac_text.specs.declared.syntax.Statement.{Statement}
 use Rattle.mac_text.specs.declared.syntax.Statement.TheVariants as statements
 use Rattle.mac_text.specs.declared.syntax.Line.{Line}
-use Rattle.mac_asm.specs.Values.{◌>>=◌, Names}
+use Rattle.mac_layout.specs.Values.{◌>>=◌, Names}
 use Rattle.mac_asm.specs.Words.{words_of, start_of}
-use Rattle.mac_asm.specs.Places.{Labels, count_of, Located, located, place_after, labels_at, literal_sizes, places_from, Placed, placed, are_settled}
+use Rattle.mac_layout.specs.Places.{Labels, first_place, are_apart, count_of, Located, located, place_after, labels_at, literal_sizes, places_from, Placed, placed, are_settled}
 
 -- words with their places, by rising place, and the start
 pub record Assembled : Type 0 where
   pub words : List (ℕ × ℕ)
   pub start : ℕ
-
--- the place of the first line, and the start where END names none
-abbrev pub first_place : ℕ
-first_place = 0o140
 
 -- the lines with their places
 abbrev pub lines_at : Labels → List Line → List Located
@@ -114,11 +110,6 @@ word_at words place = option_map (λ word. (place, word)) (lookup (nat_eq place)
 
 unfoldable pub by_place : List (ℕ × ℕ) → List (ℕ × ℕ)
 by_place words = filter_map (word_at words) (range_with_len 0 (2 ^ 18))
-
--- no number stands twice
-unfoldable pub are_apart : List ℕ → Bool
-are_apart [] = true
-are_apart (n ∷ ns) = not (list_any (nat_eq n) ns) && are_apart ns
 
 abbrev pub are_below : List ℕ → Bool
 are_below ns = list_all (λ n. nat_lt n (2 ^ 18)) ns

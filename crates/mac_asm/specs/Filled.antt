@@ -1,20 +1,26 @@
 -- Words put into the cells of a memory, and how an answer of the assembler tells what a source comes to.
-use Rattle.std.specs.Prelude.{◌≡◌, ℕ, ◌+◌, Bool, true, List, [], ◌∷◌, set, Option, Some, None, option_map, Result, Ok, Err, unwrap_or, is_some, ◌&&◌, false, replicate, if◌then◌else◌}
+use Rattle.std.specs.Prelude.{◌≡◌, ℕ, ◌+◌, ◌-◌, ◌^◌, Bool, true, List, [], ◌∷◌, ◌++◌, length, set, Option, Some, None, option_map, Result, Ok, Err, unwrap_or, is_some, ◌&&◌, false, replicate, if◌then◌else◌}
 use Rattle.word36.specs.declared.image.Image.{Image}
-use Rattle.mac_asm.specs.declared.error.AsmCode.TheVariants.{Syntax}
-use Rattle.mac_asm.specs.declared.error.AsmError.{AsmError}
-use Rattle.mac_asm.specs.declared.error.AsmError.TheVariants as errors
-use Rattle.mac_text.specs.declared.fault.ParseError.{ParseError}
-use Rattle.mac_text.specs.declared.fault.ParseError.TheVariants as parse_errors
+use Rattle.mac_layout.specs.declared.error.AsmError.{AsmError}
+use Rattle.mac_layout.specs.declared.error.AsmError.TheVariants as errors
 use Rattle.mac_text.specs.declared.syntax.Statement.{Statement}
-use Rattle.mac_asm.specs.Values.{Names}
-use Rattle.mac_asm.specs.Places.{Placed}
-use Rattle.mac_asm.specs.Assembly.{Assembled, first_place, start_by, start_at}
-use Rattle.mac_asm.specs.Outcome.{Fault, line_words, has_start, words_given}
+use Rattle.mac_layout.specs.Values.{Names}
+use Rattle.mac_layout.specs.Places.{Placed, first_place}
+use Rattle.mac_asm.specs.Assembly.{Assembled, start_by, start_at}
+use Rattle.mac_layout.specs.Faults.{Fault}
+use Rattle.mac_asm.specs.Outcome.{line_words, has_start, words_given}
 
 -- a memory: the word of each place, if it has one
 abbrev pub Cells : Type 0
 Cells = List (Option ℕ)
+
+-- a memory of so many cells with no word
+unfoldable pub empty_cells : ℕ → Cells
+empty_cells n = replicate n None
+
+-- the cells of 2 ^ 18 places, where only the first have a word
+unfoldable pub all_cells : Cells → Cells
+all_cells first = first ++ empty_cells (2 ^ 18 - length first)
 
 -- words put from a place on; one that has no cell is put nowhere
 abbrev pub put_from : Cells → ℕ → List ℕ → Cells
@@ -60,15 +66,6 @@ abbrev pub PutsLines : Result ℕ AsmError → Cells → Cells → List Placed �
 PutsLines (Ok start) old new lines = filled old lines ≡ Ok (new, start)
 PutsLines (Err (errors.Line line code)) old new lines = filled old lines ≡ Err (record { line = line; code = code })
 PutsLines (Err errors.Memory) old new lines = Unit {0}
-
--- a memory of so many cells with no word
-unfoldable pub empty_cells : ℕ → Cells
-empty_cells n = replicate n None
-
--- what is told of a source that could not be read
-abbrev pub refusal_of : ParseError → AsmError
-refusal_of parse_errors.Memory = errors.Memory
-refusal_of (parse_errors.Syntax line) = errors.Line line Syntax
 
 -- the answer is the image, or the line at fault with its code; where there was no memory nothing is told
 abbrev pub Assembles : Result Image AsmError → Result Assembled Fault → Type 0

@@ -1,10 +1,13 @@
-pub mod Values
+pub use Rattle.mac_layout.specs.Values
+pub use Rattle.mac_layout.specs.TextSizes
+pub use Rattle.mac_layout.specs.Places
+pub use Rattle.mac_layout.specs.Faults
+pub use Rattle.mac_layout.specs.LaidOut
+pub use Rattle.mac_layout.specs.Layouts
+pub use Rattle.mac_layout.specs.Errors
 pub mod Packing
 pub mod Words
-pub mod Places
 pub mod Assembly
 pub mod Outcome
-pub mod Errors
-pub mod Layouts
 pub mod Filled
 pub mod Symbols

@@ -3,10 +3,11 @@ use Rattle.std.specs.Prelude.{ℕ, List, [], Result, Ok, Err}
 use Rattle.word36.specs.declared.image.Image.{Image}
 use Rattle.mac_text.specs.Lines.{program_of}
 use Rattle.mac_text.specs.declared.syntax.Line.{Line}
-use Rattle.mac_asm.specs.declared.error.AsmError.{AsmError}
+use Rattle.mac_layout.specs.declared.error.AsmError.{AsmError}
 use Rattle.mac_asm.specs.declared.assembly.Listing.{Listing}
-use Rattle.mac_asm.specs.Places.{Labels}
-use Rattle.mac_asm.specs.Outcome.{Fault, Layout, laid_out, empty_layout}
+use Rattle.mac_layout.specs.Places.{Labels}
+use Rattle.mac_layout.specs.Faults.{Fault}
+use Rattle.mac_layout.specs.LaidOut.{Layout, laid_out, empty_layout}
 
 abbrev pub image_in : Result Listing AsmError → Result Image AsmError
 image_in (Ok listing) = Ok listing.image

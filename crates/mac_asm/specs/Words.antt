@@ -11,8 +11,9 @@ use Rattle.mac_text.specs.declared.syntax.TextForm.{TextForm}
 use Rattle.mac_text.specs.declared.syntax.TextForm.TheVariants.{Ascii, Asciz, Sixbit}
 use Rattle.mac_text.specs.declared.syntax.Data.{Data}
 use Rattle.mac_text.specs.declared.syntax.Data.TheVariants as data_of
-use Rattle.mac_asm.specs.Values.{◌>>=◌, Names, value_of, residue_of, is_known}
-use Rattle.mac_asm.specs.Packing.{words_in, ascii_word, sixbit_word}
+use Rattle.mac_layout.specs.Values.{◌>>=◌, Names, value_of, residue_of, is_known}
+use Rattle.mac_layout.specs.TextSizes.{words_in}
+use Rattle.mac_asm.specs.Packing.{ascii_word, sixbit_word}
 
 -- the value of an expression modulo a size, where it is at least the negative of `least` and at most `most`
 unfoldable pub fitted : Names → ℕ → ℕ → ℕ → List SignedTerm → Option ℕ

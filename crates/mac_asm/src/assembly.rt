@@ -3,24 +3,21 @@
 ghost use Rattle.std.specs.Prelude.{◌≡◌, ◌^◌, IfOk, option_map, replicate, zip, length, if◌then◌else◌};
 ghost use Rattle.std.specs.List.{list_all};
 ghost use Rattle.mac_asm.specs.Words.{are_known, alone, word_of, words_of_all, text_words_from};
-ghost use Rattle.mac_asm.specs.Packing.{words_in};
-ghost use Rattle.mac_asm.specs.declared.error.AsmCode.TheVariants.{UnknownName, DoesNotFit};
-ghost use Rattle.mac_asm.specs.Values.{names_of};
-ghost use Rattle.mac_asm.specs.Places.{count_of};
+ghost use Rattle.mac_layout.specs.TextSizes.{words_in};
+ghost use Rattle.mac_layout.specs.declared.error.AsmCode.TheVariants.{UnknownName, DoesNotFit};
+ghost use Rattle.mac_layout.specs.Values.{names_of};
+ghost use Rattle.mac_layout.specs.Places.{count_of};
 ghost use Rattle.mac_asm.specs.Assembly.{at_places, words_from, literal_words, statement_words};
 ghost use Rattle.mac_asm.specs.Outcome.{is_statement_known, is_line_known, lines_with, outcome_placed, has_end, outcome_of};
-ghost use Rattle.mac_asm.specs.Filled.{Puts, PutsLine, PutsLines, Assembles, start_named, empty_cells, refusal_of};
+ghost use Rattle.mac_asm.specs.Filled.{Puts, PutsLine, PutsLines, Assembles, start_named};
 ghost use Rattle.mac_asm.specs.Symbols.{image_in, symbols_of};
 
-use crate::cells::{put, put_one, put_zeros, words_in_cells};
-use crate::error::{AsmCode, AsmError};
-use crate::layout::lay_out;
-use crate::places::{FIRST, PLACES};
-use crate::sums::{Labels, Scope, value};
+use crate::cells::Cells;
 use crate::words::{
     are_known, halves, instruction, iowd, is_known_if, pointer, push_all, push_text, start, word,
 };
-use mac_text::{Data, Expression, Line, ParseError, Statement, TextForm, is_end, parse};
+use mac_layout::{AsmCode, AsmError, FIRST, Labels, Scope, lay_out, value};
+use mac_text::{Data, Expression, Line, Statement, TextForm, is_end, parse};
 use std::alloc::{AllocError, Global};
 use whole_numbers::Natural;
 use word36::{Image, Word};
@@ -28,14 +25,13 @@ use word36::{Image, Word};
 /// The memory that a source fills.
 #[derive(Drop)]
 struct Core {
-    /// The word of each place, if it has one.
-    cells: Vec<Option<Word>>,
+    cells: Cells,
     /// The words of the statement in hand.
     next: Vec<Word>,
 }
 
 /// How many words BLOCK gives, where its value is known and not below 0.
-#[tactic(auto, unfolding(crate::specs::Places::count_of))]
+#[tactic(auto, unfolding(mac_layout::specs::Places::count_of))]
 fn block_len<'a>(
     alloc: Global,
     count: &'a Expression,
@@ -52,14 +48,14 @@ fn block_len<'a>(
 impl Core {
     /// Puts a word in a place; false where there is none.
     #[inline(always)]
-    fn put_one(&mut self, place: &Natural, word: Option<Word>) -> bool
-        ensures { Puts result self.old.cells.items self.new.cells.items (option_map (at_places place.now) (alone word)) }
+    fn put_one(&mut self, place: &Natural, word: Option<Word>) -> Result<bool, AllocError>
+        ensures { IfOk result (λ fits. Puts fits self.old.cells self.new.cells (option_map (at_places place.now) (alone word))) }
     {
         match word {
-            None => false,
+            None => Ok(false),
             Some(word) => {
-                put_one(self.cells.as_mut_slice(), place, word);
-                true
+                self.cells.put_one(place, word)?;
+                Ok(true)
             }
         }
     }
@@ -72,12 +68,12 @@ impl Core {
         count: &'a Expression,
         scope: &Scope<'a>,
     ) -> Result<bool, AllocError>
-        ensures { IfOk result (λ fits. Puts fits self.old.cells.items self.new.cells.items (option_map (at_places place.now) (option_map (λ n. replicate n 0) (count_of (names_of scope.now) count.now)))) }
+        ensures { IfOk result (λ fits. Puts fits self.old.cells self.new.cells (option_map (at_places place.now) (option_map (λ n. replicate n 0) (count_of (names_of scope.now) count.now)))) }
     {
         match block_len(alloc, count, scope)? {
             None => Ok(false),
             Some(count) => {
-                put_zeros(self.cells.as_mut_slice(), place, &count);
+                self.cells.put_zeros(place, &count)?;
                 Ok(true)
             }
         }
@@ -91,25 +87,25 @@ impl Core {
         values: &'a [Expression],
         scope: &Scope<'a>,
     ) -> Result<bool, AllocError>
-        ensures { IfOk result (λ fits. Puts fits self.old.cells.items self.new.cells.items (option_map (at_places place.now) (words_of_all (word_of (names_of scope.now)) values.now))) }
+        ensures { IfOk result (λ fits. Puts fits self.old.cells self.new.cells (option_map (at_places place.now) (words_of_all (word_of (names_of scope.now)) values.now))) }
     {
         self.next.clear();
         if !push_all(alloc, &mut self.next, values, scope)? {
             return Ok(false);
         }
-        put(self.cells.as_mut_slice(), place, self.next.as_slice());
+        self.cells.put(place, self.next.as_slice())?;
         Ok(true)
     }
 
     /// Puts the words of a text from a place on; false where a character has no code.
     fn put_text(&mut self, place: &Natural, form: TextForm, text: &[u8]) -> Result<bool, AllocError>
-        ensures { IfOk result (λ fits. Puts fits self.old.cells.items self.new.cells.items (option_map (at_places place.now) (text_words_from form text.now 0 (words_in form (length text.now))))) }
+        ensures { IfOk result (λ fits. Puts fits self.old.cells self.new.cells (option_map (at_places place.now) (text_words_from form text.now 0 (words_in form (length text.now))))) }
     {
         self.next.clear();
         if !push_text(&mut self.next, form, text)? {
             return Ok(false);
         }
-        put(self.cells.as_mut_slice(), place, self.next.as_slice());
+        self.cells.put(place, self.next.as_slice())?;
         Ok(true)
     }
 
@@ -122,23 +118,19 @@ impl Core {
         given: &'a Data,
         scope: &Scope<'a>,
     ) -> Result<bool, AllocError>
-        ensures { IfOk result (λ fits. Puts fits self.old.cells.items self.new.cells.items (words_from (names_of scope.now) place.now given.now)) }
+        ensures { IfOk result (λ fits. Puts fits self.old.cells self.new.cells (words_from (names_of scope.now) place.now given.now)) }
     {
         match given {
-            Data::Instruction(given) => {
-                Ok(self.put_one(place, instruction(alloc, given, scope)?))
-            }
-            Data::Value(value) => Ok(self.put_one(place, word(alloc, value, scope)?)),
-            Data::Halves(left, right) => {
-                Ok(self.put_one(place, halves(alloc, left, right, scope)?))
-            }
+            Data::Instruction(given) => { self.put_one(place, instruction(alloc, given, scope)?) }
+            Data::Value(value) => self.put_one(place, word(alloc, value, scope)?),
+            Data::Halves(left, right) => { self.put_one(place, halves(alloc, left, right, scope)?) }
             Data::Iowd(count, address) => {
-                Ok(self.put_one(place, iowd(alloc, count, address, scope)?))
+                self.put_one(place, iowd(alloc, count, address, scope)?)
             }
-            Data::Point(size, address, position) => Ok(self.put_one(
+            Data::Point(size, address, position) => self.put_one(
                 place,
                 pointer(alloc, size, address, position, scope)?,
-            )),
+            ),
             Data::Exp(values) => self.put_values(alloc, place, values.as_slice(), scope),
             Data::Text(form, text) => self.put_text(place, *form, text.as_slice()),
             Data::Block(count) => self.put_block(alloc, place, count, scope),
@@ -152,7 +144,7 @@ impl Core {
         literals: &'a [Data],
         scope: &Scope<'a>,
     ) -> Result<bool, AllocError>
-        ensures { IfOk result (λ fits. Puts fits self.old.cells.items self.new.cells.items (literal_words (names_of scope.now) (zip scope.now.literals.now literals.now))) }
+        ensures { IfOk result (λ fits. Puts fits self.old.cells self.new.cells (literal_words (names_of scope.now) (zip scope.now.literals.now literals.now))) }
     {
         for (i, given) in literals.iter().enumerate() {
             let Some(place) = scope.literals.get(i) else {
@@ -173,7 +165,7 @@ impl Core {
         statement: &'a Option<Statement>,
         scope: &Scope<'a>,
     ) -> Result<bool, AllocError>
-        ensures { IfOk result (λ fits. Puts fits self.old.cells.items self.new.cells.items (statement_words (names_of scope.now) statement.now)) }
+        ensures { IfOk result (λ fits. Puts fits self.old.cells self.new.cells (statement_words (names_of scope.now) statement.now)) }
     {
         match statement {
             Some(Statement::Data(given)) => self.put(alloc, scope.here, given, scope),
@@ -192,7 +184,7 @@ impl Core {
         line: &'a Line,
         scope: &Scope<'a>,
     ) -> Result<Option<u32>, AllocError>
-        ensures { IfOk result (λ start. PutsLine start self.old.cells.items self.new.cells.items (record { names = names_of scope.now; line = line.now })) }
+        ensures { IfOk result (λ start. PutsLine start self.old.cells self.new.cells (record { names = names_of scope.now; line = line.now })) }
     {
         if !self.put_literals(alloc, line.literals.as_slice(), scope)? {
             return Ok(None);
@@ -213,7 +205,7 @@ impl Core {
         places: &'a [Natural],
         literals: &'a [Natural],
     ) -> Result<u32, AsmError>
-        ensures { PutsLines result self.old.cells.items self.new.cells.items (lines_with labels.now.entries places.now literals.now lines.now) }
+        ensures { PutsLines result self.old.cells self.new.cells (lines_with labels.now.entries places.now literals.now lines.now) }
     {
         let mut start = FIRST;
         let mut left = literals;
@@ -296,14 +288,6 @@ fn value_code<'a>(line: &'a Line, scope: &Scope<'a>) -> AsmCode
     }
 }
 
-/// A memory of so many cells with no word.
-#[tactic(auto, unfolding(crate::specs::Filled::empty_cells))]
-fn empty_cells(alloc: Global, len: usize) -> Result<Vec<Option<Word>>, AllocError>
-    ensures { IfOk result (λ cells. cells.items ≡ empty_cells len) }
-{
-    vec![in alloc; None; len]
-}
-
 /// The image of lines that stand at these places, or the first line of which a value is not known or does not fit.
 fn fill<'a>(
     alloc: Global,
@@ -315,12 +299,12 @@ fn fill<'a>(
     ensures { Assembles result (outcome_placed (lines_with labels.now.entries places.now literals.now lines.now)) }
 {
     let mut core = Core {
-        cells: empty_cells(alloc, PLACES)?,
+        cells: Cells::with_room(alloc, lines.len())?,
         next: Vec::new(alloc),
     };
     let start = core.put_lines(alloc, lines, labels, places, literals)?;
     Ok(Image {
-        words: words_in_cells(alloc, core.cells.as_slice())?,
+        words: core.cells.words(alloc)?,
         start,
     })
 }
@@ -332,20 +316,6 @@ fn has_end(lines: &[Line]) -> bool
     match lines.last() {
         None => false,
         Some(line) => is_end(line),
-    }
-}
-
-impl From<ParseError> for AsmError {
-    ghost from_gives = { λ e told. told ≡ refusal_of e };
-
-    fn from(e: ParseError) -> AsmError {
-        match e {
-            ParseError::Memory => AsmError::Memory,
-            ParseError::Syntax(line) => AsmError::Line {
-                line,
-                code: AsmCode::Syntax,
-            },
-        }
     }
 }
 

@@ -1,51 +1,121 @@
 //! The words of a program in the cells of a memory.
 
-ghost use Rattle.std.specs.Prelude.{◌≡◌, ◌≤◌, ◌^◌, IfOk, Some, length, replicate, set};
-ghost use Rattle.mac_asm.specs.Filled.{put_from, words_in_cells};
+ghost use Rattle.std.specs.Prelude.{◌≡◌, ◌<◌, ◌≤◌, ◌^◌, IfOk, OnOk, Some, length, replicate, set};
+ghost use Rattle.mac_asm.specs.Filled.{empty_cells, put_from, words_in_cells};
 
-use crate::places::clamped;
+use mac_layout::{PLACES, clamped};
 use std::alloc::{AllocError, Global};
+use std::marker::Model;
 use whole_numbers::Natural;
 use word36::Word;
 
-/// Puts a word in a place; one that has no cell is put nowhere.
-#[inline(always)]
-pub fn put_one(cells: &mut [Option<Word>], place: &Natural, word: Word)
-    ensures { cells.new ≡ set cells.old place.now (Some word) }
-{
-    let at = clamped(place, cells.len());
-    if at < cells.len() {
-        cells[at] = Some(word);
-    }
+/// The cells of a memory of 1000000 octal places: the word of each, if it has one.
+#[derive(Drop)]
+pub struct Cells {
+    /// The first cells; none behind them has a word.
+    first: Vec<Option<Word>>,
 }
 
-/// Puts words from a place on; one that has no cell is put nowhere.
-pub fn put(cells: &mut [Option<Word>], place: &Natural, words: &[Word])
-    ensures { cells.new ≡ put_from cells.old place.now words.now }
-{
-    let mut at = clamped(place, cells.len());
-    for word in words {
-        if at == cells.len() {
-            return;
+impl Model for Cells {
+    ghost use Rattle.std.specs.Prelude.{◌≤◌, ◌^◌, ℕ, List, Option, length};
+    ghost use Rattle.mac_asm.specs.Filled.{all_cells};
+
+    ghost Value = { List (Option ℕ) };
+
+    ghost view = { λ c. all_cells c.first.items };
+
+    ghost invariant = { λ c. length c.first.items ≤ 2 ^ 18 };
+}
+
+impl Cells {
+    /// No cell has a word; the first so many are given one without asking for memory again.
+    #[tactic(auto, using(crate::proofs::CellLemmas::all_none))]
+    pub fn with_room(alloc: Global, cells: usize) -> Result<Cells, AllocError>
+        ensures { IfOk result (λ cells. cells ≡ empty_cells (2 ^ 18)) }
+    {
+        Ok(Cells {
+            first: Vec::with_capacity(alloc, cells.min(PLACES))?,
+        })
+    }
+
+    /// How many cells there are.
+    #[tactic(auto, using(crate::proofs::CellLemmas::all_length))]
+    #[inline(always)]
+    fn len(&self) -> usize
+        ensures cells { result ≡ length self.now }
+        ensures places { result ≡ 2 ^ 18 }
+    {
+        prove!(self.first.len() <= PLACES);
+        PLACES
+    }
+
+    /// Puts a word in cell `at`.
+    #[tactic(auto, using(crate::proofs::CellLemmas::set_behind))]
+    #[inline(always)]
+    fn set(&mut self, at: usize, word: Word) -> Result<(), AllocError>
+        requires { at < 2 ^ 18 }
+        ensures { OnOk result (self.new ≡ set self.old at (Some word)) }
+    {
+        if at < self.first.len() {
+            self.first[at] = Some(word);
+            return Ok(());
         }
-        cells[at] = Some(*word);
-        at += 1;
+        self.first.resize(at, None)?;
+        self.first.push(Some(word))?;
+        Ok(())
+    }
+
+    /// Puts a word in a place; one that has no cell is put nowhere.
+    #[inline(always)]
+    pub fn put_one(&mut self, place: &Natural, word: Word) -> Result<(), AllocError>
+        ensures { OnOk result (self.new ≡ set self.old place.now (Some word)) }
+    {
+        let at = clamped(place, self.len());
+        if at < self.len() {
+            self.set(at, word)?;
+        }
+        Ok(())
+    }
+
+    /// Puts words from a place on; one that has no cell is put nowhere.
+    pub fn put(&mut self, place: &Natural, words: &[Word]) -> Result<(), AllocError>
+        ensures { OnOk result (self.new ≡ put_from self.old place.now words.now) }
+    {
+        let len = self.len();
+        let mut at = clamped(place, len);
+        for word in words {
+            if at == len {
+                return Ok(());
+            }
+            self.set(at, *word)?;
+            at += 1;
+        }
+        Ok(())
+    }
+
+    /// Puts so many words of 0 from a place on, likewise.
+    pub fn put_zeros(&mut self, place: &Natural, count: &Natural) -> Result<(), AllocError>
+        ensures { OnOk result (self.new ≡ put_from self.old place.now (replicate count.now 0)) }
+    {
+        let len = self.len();
+        let first = clamped(place, len);
+        let end = first + clamped(count, len - first);
+        for at in first..end {
+            self.set(at, Word::new(0))?;
+        }
+        Ok(())
+    }
+
+    /// The words of the cells that have one, with their places.
+    pub fn words(&self, alloc: Global) -> Result<Vec<(u32, Word)>, AllocError>
+        ensures { IfOk result (λ words. words.items ≡ words_in_cells 0 self.now) }
+    {
+        words_in_cells(alloc, self.first.as_slice())
     }
 }
 
-/// Puts so many words of 0 from a place on, likewise.
-pub fn put_zeros(cells: &mut [Option<Word>], place: &Natural, count: &Natural)
-    ensures { cells.new ≡ put_from cells.old place.now (replicate count.now 0) }
-{
-    let first = clamped(place, cells.len());
-    let end = first + clamped(count, cells.len() - first);
-    for at in first..end {
-        cells[at] = Some(Word::new(0));
-    }
-}
-
-/// The words of the cells that have one, with their places.
-pub fn words_in_cells(alloc: Global, cells: &[Option<Word>]) -> Result<Vec<(u32, Word)>, AllocError>
+/// The words of cells that have one, counted from the first.
+fn words_in_cells(alloc: Global, cells: &[Option<Word>]) -> Result<Vec<(u32, Word)>, AllocError>
     requires { length cells.now ≤ 2 ^ 18 }
     ensures { IfOk result (λ words. words.items ≡ words_in_cells 0 cells.now) }
 {

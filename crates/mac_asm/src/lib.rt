@@ -3,12 +3,8 @@
 
 mod assembly;
 mod cells;
-mod error;
-mod layout;
-mod places;
-mod sums;
 mod texts;
 mod words;
 
 pub use assembly::{Listing, assemble, assemble_with_symbols};
-pub use error::{AsmCode, AsmError};
+pub use mac_layout::{AsmCode, AsmError};

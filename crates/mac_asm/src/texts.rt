@@ -1,22 +1,10 @@
 //! Texts packed into words.
 
 ghost use Rattle.std.specs.Prelude.{◌≡◌, ◌<◌, ◌%◌, ◌^◌, slice_index};
-ghost use Rattle.mac_asm.specs.Packing.{words_in, ascii_word, sixbit_word};
+ghost use Rattle.mac_asm.specs.Packing.{ascii_word, sixbit_word};
 
-use mac_text::{TextForm, folded};
+use mac_text::folded;
 use word36::{Word, sixbit};
-
-/// How many words a text of so many characters takes.
-pub fn text_words(form: TextForm, len: usize) -> usize
-    requires { len < 2 ^ 63 }
-    ensures { result ≡ words_in form len }
-{
-    match form {
-        TextForm::Ascii => len / 5 + usize::from(len % 5 != 0),
-        TextForm::Asciz => len / 5 + 1,
-        TextForm::Sixbit => len / 6 + usize::from(len % 6 != 0),
-    }
-}
 
 /// Character `at` of a text, 0 where there is none.
 fn character(text: &[u8], at: usize) -> u64

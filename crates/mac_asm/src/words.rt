@@ -1,21 +1,21 @@
 //! The words of statements.
 
 ghost use Rattle.std.specs.Prelude.{◌≡◌, ◌<◌, ◌≤◌, ◌^◌, ◌++◌, [], ◌∷◌, Some, None, IfOk, IfSome, length, true, false};
-ghost use Rattle.mac_asm.specs.Values.{names_of, is_known};
-ghost use Rattle.mac_asm.specs.Packing.{words_in};
+ghost use Rattle.mac_layout.specs.Values.{names_of, is_known};
+ghost use Rattle.mac_layout.specs.TextSizes.{words_in};
 ghost use Rattle.mac_asm.specs.Words.{fitted, word_of, half_of, register_of, start_of, operand_of, or_zero, AreFields, pointer_word, text_word, is_missing, with_accumulator, with_operand, instruction_of, at_most, position_of, pointer_of, halves_of, iowd_of, words_of_all, text_words_from, is_known_if, is_operand_known, are_known, Adds};
 ghost use Rattle.std.specs.List.{list_all};
 
-use crate::sums::{Scope, is_known, short_above, short_residue, short_value, value};
-use crate::texts::{ascii_word, sixbit_word, text_words};
+use crate::texts::{ascii_word, sixbit_word};
 use ka_isa::{Fields, decode, encode};
+use mac_layout::{Scope, is_known, short_above, short_residue, short_value, text_words, value};
 use mac_text::{Data, Expression, Instruction, Operand, Parts, TextForm};
 use std::alloc::{AllocError, Global};
 use whole_numbers::Natural;
 use word36::Word;
 
 /// The value of an expression modulo a size, where it is at least `-least` and at most `most`.
-#[tactic(auto, unfolding(crate::specs::Words::fitted, crate::specs::Values::value_of, crate::specs::Values::residue_of))]
+#[tactic(auto, unfolding(crate::specs::Words::fitted, mac_layout::specs::Values::value_of, mac_layout::specs::Values::residue_of))]
 #[inline(always)]
 fn fitted<'a>(
     alloc: Global,
@@ -40,7 +40,8 @@ fn fitted<'a>(
     }
 }
 
-/// The same where 64 bits are not enough, or a name is not known.
+/// The value of an expression that 64 bits do not hold, or that has a name that is not known, modulo a size: nothing where
+/// the name is not known, or the value is below `-least` or above `most`.
 #[tactic(auto, unfolding(crate::specs::Words::fitted))]
 #[inline(never)]
 fn long_fitted<'a>(

@@ -16,3 +16,4 @@ pub mod WrittenStatements
 pub mod WrittenLines
 pub mod WrittenLiterals
 pub mod WrittenExampleLemmas
+pub mod WrittenSources

@@ -65,13 +65,13 @@ literals_done radix front texts i total le so_far =
 
 -- ---- lines
 
-abbrev newline : ℕ → Bool
+abbrev pub newline : ℕ → Bool
 newline b = b == 10
 
-parts_some : (bytes : List ℕ) → 0 < length (slice_split newline bytes)
+pub parts_some : (bytes : List ℕ) → 0 < length (slice_split newline bytes)
 parts_some bytes = omega (arith, length-slice_split newline bytes)
 
-parts_more : (x : List ℕ) (ys : List (List ℕ)) → 0 < length ys → lines_of_parts (x ∷ ys) ≡ strip_carriage_return x ∷ lines_of_parts ys
+pub parts_more : (x : List ℕ) (ys : List (List ℕ)) → 0 < length ys → lines_of_parts (x ∷ ys) ≡ strip_carriage_return x ∷ lines_of_parts ys
 parts_more x [] h = absurd (omega arith)
 parts_more x (y ∷ ys) h = refl
 

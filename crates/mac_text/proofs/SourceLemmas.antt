@@ -1,5 +1,7 @@
 -- The steps of the loop over a source's lines.
-use Rattle.std.proofs.Common.{◌≡◌, ℕ, ◌+◌, List, [], ◌∷◌, ◌++◌, Some, None, Result, Ok, Err, true, false, cond, length, refl, sym, ap, ◌∙◌, append_assoc, append-nil, length-append, arith}
+use Rattle.std.proofs.Common.{◌≡◌, ℕ, ◌+◌, List, [], ◌∷◌, ◌++◌, Some, None, Result, Ok, Err, true, false, cond, length, get_or, refl, sym, ap, ◌∙◌, append_assoc, append-nil, length-append, arith}
+use Rattle.std.proofs.Math.ListN.{set}
+use Rattle.std.proofs.Math.Seq.{set-append_seam, get_or-append_seam}
 use Rattle.std.specs.Str.Lines.{lines}
 use Rattle.mac_text.specs.Lines.{line_of, line_then, lines_from, program_of, with_line, is_end, radix_after}
 use Rattle.mac_text.specs.declared.syntax.Line.{Line}
@@ -13,11 +15,11 @@ regroup : (front : List Line) (line : Line) (read : Result (List Line) ℕ) → 
 regroup front line (Ok more) = ap Ok (sym (append_assoc front (line ∷ []) more))
 regroup front line (Err n) = refl
 
-lines_from-cons : (radix number : ℕ) (text : List ℕ) (texts : List (List ℕ)) → lines_from radix number (text ∷ texts) ≡ line_then number (line_of radix text) (λ line. lines_from (radix_after line radix) (number + 1) texts)
+pub lines_from-cons : (radix number : ℕ) (text : List ℕ) (texts : List (List ℕ)) → lines_from radix number (text ∷ texts) ≡ line_then number (line_of radix text) (λ line. lines_from (radix_after line radix) (number + 1) texts)
 unfolding lines_from
 lines_from-cons radix number text texts = refl
 
-lines_from-nil : (radix number : ℕ) → lines_from radix number [] ≡ Ok []
+pub lines_from-nil : (radix number : ℕ) → lines_from radix number [] ≡ Ok []
 unfolding lines_from
 lines_from-nil radix number = refl
 
@@ -58,7 +60,7 @@ pub source_done : (front : List Line) (radix number : ℕ) (all : List (List ℕ
 source_done front radix number all total none so_far =
     sym so_far ∙ ap (λ ts. with_lines front (lines_from radix number ts)) none ∙ ap (with_lines front) (lines_from-nil radix number) ∙ ap Ok (append-nil front)
 
-with_no_lines : (read : Result (List Line) ℕ) → with_lines [] read ≡ read
+pub with_no_lines : (read : Result (List Line) ℕ) → with_lines [] read ≡ read
 with_no_lines (Ok more) = refl
 with_no_lines (Err n) = refl
 
@@ -70,6 +72,13 @@ source_begins source front none = ap (λ f. with_lines f (lines_from 8 (length f
 pub lines_of_nothing : (text : List ℕ) → length text ≡ 0 → lines text ≡ []
 lines_of_nothing [] h = refl
 lines_of_nothing (b ∷ bs) h = absurd (omega arith)
+
+-- a line read in the place of the last
+pub placed : (front all : List Line) (line given : Line) (at : ℕ) → at ≡ length front → all ≡ front ++ line ∷ [] → set all at given ≡ front ++ given ∷ []
+placed front all line given at here e = rw (here, e) (set-append_seam front line [] given)
+
+pub there : (front all : List Line) (line given : Line) (at : ℕ) (d : Line) → at ≡ length front → all ≡ front ++ line ∷ [] → get_or (set all at given) at d ≡ given
+there front all line given at d here e = rw (placed front all line given at here e, here) (get_or-append_seam front given [] d)
 
 pub one_longer : (front all : List Line) (line : Line) → all ≡ front ++ line ∷ [] → length all ≡ length front + 1
 one_longer front all line e = ap length e ∙ length-append front (line ∷ [])

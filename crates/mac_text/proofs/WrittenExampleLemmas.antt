@@ -21,7 +21,7 @@ one = record { text = 32 ∷ []; blank = refl }
 abbrev asciz : NameText
 asciz = record { text = codes "ASCIZ"; characters = refl; names = refl }
 
-literal_legal : IsStatement {radix = 8} Written.nothing_of (Written.Formed asciz (Written.Text Asciz (record { before = none; delimiter = 47; text = codes "a]"; firm = refl; within = refl })))
+literal_legal : IsStatement {radix = 8} true Written.nothing_of (Written.Formed asciz (Written.Text Asciz (record { before = none; delimiter = 58; text = codes "a]"; firm = refl; within = refl })))
 unfolding form_of
 literal_legal = (refl, refl)
 
@@ -33,7 +33,7 @@ abbrev text_literal : LiteralText 8
 text_literal =
     record {
       before = none;
-      statement = Written.Formed asciz (Written.Text Asciz (record { before = none; delimiter = 47; text = codes "a]"; firm = refl; within = refl }));
+      statement = Written.Formed asciz (Written.Text Asciz (record { before = none; delimiter = 58; text = codes "a]"; firm = refl; within = refl }));
       behind = one;
       legal = literal_legal;
       given = data_of.Text Asciz (codes "a]");

@@ -1,5 +1,6 @@
 -- Lines are read as they are written.
 use Rattle.std.proofs.Common.{◌≡◌, ℕ, zero, suc, ◌≤◌, ◌==◌, ◌&&◌, not, List, [], ◌∷◌, ◌++◌, Option, Some, None, Bool, true, false, length, length-append, map, refl, ap, subst, ◌∙◌, append-nil, arith}
+use Rattle.std.specs.Prelude.{◌||◌}
 use Rattle.std.specs.List.{list_all}
 use Rattle.std.proofs.lemmas.Bool.{and_parts, not-true}
 use Rattle.mac_text.specs.Characters.{is_name_character}
@@ -76,66 +77,70 @@ labels_read (suc n) radix (l ∷ ls) rest le none =
 
 -- ---- what is no label
 
-parted_no_colon : (x : List ℕ) → parts_name x ≡ true → begins_with 58 x ≡ false
+or_false : (a : Bool) → (a || false) ≡ true → a ≡ true
+or_false true h = refl
+or_false false h = h
+
+parted_no_colon : (x : List ℕ) → parts_name false x ≡ true → begins_with 58 x ≡ false
 parted_no_colon [] h = refl
-parted_no_colon (c ∷ cs) h = not-true (c == 58) (and_parts (not (is_name_character c)) (not (c == 58)) h).1
+parted_no_colon (c ∷ cs) h = not-true (c == 58) (or_false (not (c == 58)) (and_parts (not (is_name_character c)) (not (c == 58) || false) h).1)
 
 and_false : (a : Bool) → (a && false) ≡ false
 and_false true = refl
 and_false false = refl
 
 -- a name with no colon right behind it
-parted_no_label : (name : NameText) (body : List ℕ) → parts_name body ≡ true → is_label (name.text ++ body) ≡ false
+parted_no_label : (name : NameText) (body : List ℕ) → parts_name false body ≡ true → is_label (name.text ++ body) ≡ false
 parted_no_label name body parted =
-    let behind = behind_read name.text body name.characters (parts_word_end body parted) in
+    let behind = behind_read name.text body name.characters (parts_word_end false body parted) in
     rw (behind, parted_no_colon body parted) (and_false _)
 
 no_name_no_label : (x w : List ℕ) → word_of x ≡ w → is_name w ≡ false → is_label x ≡ false
 no_name_no_label x w a b = rw (a, b) refl
 
-module _ (radix : ℕ) (in_literal : Bool) {L : Type 0} (text_of : L → List ℕ) (small : radix ≤ 10)
-    (cut : (l : L) (rest : List ℕ) → (in_literal ≡ false) × (literal_len (text_of l ++ 93 ∷ rest) ≡ Some (length (text_of l)))) where
-  parts_more : (more : List (MoreText radix L)) (rest : List ℕ) → parts_name rest ≡ true → parts_name (more_before text_of more rest) ≡ true
+module _ (radix : ℕ) {L : Type 0} (text_of : L → List ℕ) (small : radix ≤ 10)
+    (cut : (l : L) (rest : List ℕ) → (false ≡ false) × (literal_len (text_of l ++ 93 ∷ rest) ≡ Some (length (text_of l)))) where
+  parts_more : (more : List (MoreText radix L)) (rest : List ℕ) → parts_name false rest ≡ true → parts_name false (more_before text_of more rest) ≡ true
   unfolding more_before
   parts_more [] rest h = h
   parts_more (m ∷ ms) rest h =
       let tail = m.sign.behind.text ++ term_before text_of m.term (more_before text_of ms rest) in
-      blanks_part m.before.text (sign_character m.sign.sign ∷ tail) m.before.blank (signs_part m.sign.sign tail)
+      blanks_part false m.before.text (sign_character m.sign.sign ∷ tail) m.before.blank (signs_part m.sign.sign tail)
     where
-      signs_part : (sign : Sign) (x : List ℕ) → parts_name (sign_character sign ∷ x) ≡ true
+      signs_part : (sign : Sign) (x : List ℕ) → parts_name false (sign_character sign ∷ x) ≡ true
       signs_part Plus x = refl
       signs_part Minus x = refl
 
-  term_no_label : (sign : Option SignText) (t : TermText radix L) (x : List ℕ) → parts_name x ≡ true → is_label (before_if sign_before sign (term_before text_of t x)) ≡ false
+  term_no_label : (sign : Option SignText) (t : TermText radix L) (x : List ℕ) → parts_name false x ≡ true → is_label (before_if sign_before sign (term_before text_of t x)) ≡ false
   term_no_label (Some s) t x h = sign_no_label s.sign (s.behind.text ++ term_before text_of t x)
     where
       sign_no_label : (sign : Sign) (x : List ℕ) → is_label (sign_character sign ∷ x) ≡ false
       sign_no_label Plus x = refl
       sign_no_label Minus x = refl
   term_no_label None (Written.Number digits) x h =
-      no_name_no_label (digits.text ++ x) digits.text (word_read digits.text x (digits_are_characters radix digits.text small digits.digits) (parts_word_end x h)) (digits_no_name radix digits.text small digits.some digits.digits)
+      no_name_no_label (digits.text ++ x) digits.text (word_read digits.text x (digits_are_characters radix digits.text small digits.digits) (parts_word_end false x h)) (digits_no_name radix digits.text small digits.some digits.digits)
   term_no_label None (Written.Marked m) x h = refl
   term_no_label None (Written.Label name) x h = parted_no_label name x h
-  term_no_label None Written.Point x h = no_name_no_label (46 ∷ x) (46 ∷ []) (word_read (46 ∷ []) x refl (parts_word_end x h)) refl
+  term_no_label None Written.Point x h = no_name_no_label (46 ∷ x) (46 ∷ []) (word_read (46 ∷ []) x refl (parts_word_end false x h)) refl
   term_no_label None (Written.Literal l) x h = refl
 
-  value_no_label : (e : ExpressionText radix L) (rest : List ℕ) → parts_name rest ≡ true → is_label (after_blanks (expression_before text_of e rest)) ≡ false
+  value_no_label : (e : ExpressionText radix L) (rest : List ℕ) → parts_name false rest ≡ true → is_label (after_blanks (expression_before text_of e rest)) ≡ false
   value_no_label e rest h =
       let x = more_before text_of e.more rest in
-      ap is_label (skip_to e.before _ (firm_case radix in_literal text_of small cut e.sign e.term x)) ∙ term_no_label e.sign e.term x (parts_more e.more rest h)
+      ap is_label (skip_to e.before _ (firm_case radix false text_of small cut e.sign e.term x)) ∙ term_no_label e.sign e.term x (parts_more e.more rest h)
 
-  named_no_label : (name : NameText) (body : List ℕ) → parts_name body ≡ true → is_label (after_blanks (name.text ++ body)) ≡ false
+  named_no_label : (name : NameText) (body : List ℕ) → parts_name false body ≡ true → is_label (after_blanks (name.text ++ body)) ≡ false
   named_no_label name body h =
       let begin = word_begins name.text body (name_some name.text name.names) name.characters in
       ap is_label (firm_stays (name.text ++ body) begin.firm) ∙ parted_no_label name body h
 
-  statement_no_label : (st : StatementText radix L) (rest : List ℕ) → IsStatement text_of st → EndsStatement rest → is_label (after_blanks (statement_before text_of st rest)) ≡ false
-  statement_no_label (Written.Formed name form) rest is end = named_no_label name (form_before text_of form rest) (parts_form radix in_literal text_of small cut form [] rest (λ _. end.name) is.1)
-  statement_no_label (Written.Instruction name named o) rest is end = named_no_label name (operands_before text_of o rest) (parts_operands radix in_literal text_of small cut o.accumulator o.operand [] rest (λ _. end.name) is.3)
-  statement_no_label (Written.Value e) rest is end = value_no_label e rest end.name
+  statement_no_label : (st : StatementText radix L) (rest : List ℕ) → IsStatement false text_of st → EndsStatement rest → is_label (after_blanks (statement_before text_of st rest)) ≡ false
+  statement_no_label (Written.Formed name form) rest is end = named_no_label name (form_before text_of form rest) (parts_form radix false text_of small cut form [] rest (λ _. end.name false) is.1)
+  statement_no_label (Written.Instruction name named o) rest is end = named_no_label name (operands_before text_of o rest) (parts_operands radix false text_of small cut o.accumulator o.operand [] rest (λ _. end.name false) is.3)
+  statement_no_label (Written.Value e) rest is end = value_no_label e rest (end.name false)
   statement_no_label (Written.Halves p) rest is end =
       let right = expression_before text_of p.right rest in
-      value_no_label p.left (p.behind.text ++ 44 ∷ 44 ∷ right) (blanks_part p.behind.text (44 ∷ 44 ∷ right) p.behind.blank refl)
+      value_no_label p.left (p.behind.text ++ 44 ∷ 44 ∷ right) (blanks_part false p.behind.text (44 ∷ 44 ∷ right) p.behind.blank refl)
 
 -- ---- lines
 
@@ -174,7 +179,7 @@ line_case radix small labels before (Some st) behind comment is ascii =
     let rest = before.text ++ text in
     let end = statement_ends behind comment in
     let there = skip_blanks before text in
-    let none = ap is_label there ∙ statement_no_label radix false (λ (l : LiteralText radix). literal_text l) small (literal_ends radix small) st tail is end in
+    let none = ap is_label there ∙ statement_no_label radix (λ (l : LiteralText radix). literal_text l) small (literal_ends radix small) st tail is end in
     let ended = ap (is_at_end false) (comment_behind behind comment) ∙ comment_ends comment in
     line_steps radix (labels_before labels rest) _ _ _ _ _ ascii (labels_read (length (labels_before labels rest)) radix labels rest (omega arith) none)
     (whole_read radix false (λ (l : LiteralText radix). literal_text l) small (literal_ends radix small) (after_blanks rest) st tail (Rattle.mac_text.proofs.WordLemmas.skip_twice rest ∙ there) is end ended) (literals_read radix (statement_literals st) small)

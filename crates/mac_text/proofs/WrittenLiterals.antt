@@ -177,8 +177,8 @@ module _ (radix : ℕ) (small : radix ≤ 10) where
   unfolding behind_text
   other_form bytes word f a b c = rw (a, b) (c (after_word (after_blanks bytes)))
 
-  named_word : (b : Blanks) (name : NameText) (body rest : List ℕ) → parts_name body ≡ true → word_of (after_blanks ((b.text ++ (name.text ++ body)) ++ 93 ∷ rest)) ≡ name.text
-  named_word b name body rest parted = (word_there b name.text body rest (name_some name.text name.names) name.characters (parts_word_end body parted)).1
+  named_word : (b : Blanks) (name : NameText) (body rest : List ℕ) → parts_name true body ≡ true → word_of (after_blanks ((b.text ++ (name.text ++ body)) ++ 93 ∷ rest)) ≡ name.text
+  named_word b name body rest parted = (word_there b name.text body rest (name_some name.text name.names) name.characters (parts_word_end true body parted)).1
 
   named_free : (b : Blanks) (name : NameText) (body : List ℕ) → Free body → Free (b.text ++ (name.text ++ body))
   named_free b name body h = blanks_free b (name.text ++ body) (word_free name.text body name.characters h)
@@ -186,7 +186,7 @@ module _ (radix : ℕ) (small : radix ≤ 10) where
   behind_free : (b : Blanks) → Free b.text
   behind_free b = all_free is_blank b.text blank_free b.blank
 
-  plain_form : (b : Blanks) (name : NameText) (body rest : List ℕ) (f : Form) → form_of (folded name.text) ≡ Some f → parts_name body ≡ true → Free body
+  plain_form : (b : Blanks) (name : NameText) (body rest : List ℕ) (f : Form) → form_of (folded name.text) ≡ Some f → parts_name true body ≡ true → Free body
       → ((bytes x : List ℕ) → behind_form (Some f) bytes x ≡ Some bytes)
       → literal_len ((b.text ++ (name.text ++ body)) ++ 93 ∷ rest) ≡ Some (length (b.text ++ (name.text ++ body)))
   plain_form b name body rest f is parted free other =
@@ -205,13 +205,13 @@ module _ (radix : ℕ) (small : radix ≤ 10) where
       append_assoc q.before.text (q.delimiter ∷ (q.text ++ q.delimiter ∷ x)) (93 ∷ rest)
       ∙ ap (λ y. q.before.text ++ q.delimiter ∷ y) (append_assoc q.text (q.delimiter ∷ x) (93 ∷ rest))
 
-  text_form : (b : Blanks) (name : NameText) (form : TextForm) (q : QuotedText) (behind : Blanks) (rest : List ℕ) → form_of (folded name.text) ≡ Some (forms.Text form) → parts_name (quoted_before q behind.text) ≡ true
+  text_form : (b : Blanks) (name : NameText) (form : TextForm) (q : QuotedText) (behind : Blanks) (rest : List ℕ) → form_of (folded name.text) ≡ Some (forms.Text form) → parts_name true (quoted_before q behind.text) ≡ true
       → literal_len ((b.text ++ (name.text ++ quoted_before q behind.text)) ++ 93 ∷ rest) ≡ Some (length (b.text ++ (name.text ++ quoted_before q behind.text)))
   text_form b name form q behind rest is parted =
       let body = quoted_before q behind.text in
       let text = b.text ++ (name.text ++ body) in
       let tail = behind.text ++ 93 ∷ rest in
-      let e = parts_word_end body parted in
+      let e = parts_word_end true body parted in
       let there = word_there b name.text body rest (name_some name.text name.names) name.characters e in
       let after = ap after_word there.0 ∙ behind_read name.text (body ++ 93 ∷ rest) name.characters (ends_further body rest e) ∙ quoted_further q behind.text rest in
       let long : length (text ++ 93 ∷ rest) - length tail + length behind.text ≡ length text =
@@ -221,7 +221,7 @@ module _ (radix : ℕ) (small : radix ≤ 10) where
 
   -- ---- forms and operations
 
-  form_cut : (b : Blanks) (name : NameText) (form : FormText radix ⊥) (behind : Blanks) (rest : List ℕ) (given : Data) → form_of (folded name.text) ≡ Some (form_written form) → parts_name (form_before nothing_of form behind.text) ≡ true → Written.form_given [] form ≡ statements.Data given
+  form_cut : (b : Blanks) (name : NameText) (form : FormText radix ⊥) (behind : Blanks) (rest : List ℕ) (given : Data) → form_of (folded name.text) ≡ Some (form_written form) → parts_name true (form_before nothing_of form behind.text) ≡ true → Written.form_given [] form ≡ statements.Data given
       → literal_len ((b.text ++ (name.text ++ form_before nothing_of form behind.text)) ++ 93 ∷ rest) ≡ Some (length (b.text ++ (name.text ++ form_before nothing_of form behind.text)))
   form_cut b name (Written.Xwd p) behind rest given is parted gives = plain_form b name _ rest forms.Xwd is parted (pair_free p behind.text (behind_free behind)) (λ bytes x. refl)
   form_cut b name (Written.Iowd p) behind rest given is parted gives = plain_form b name _ rest forms.Iowd is parted (pair_free p behind.text (behind_free behind)) (λ bytes x. refl)
@@ -234,7 +234,7 @@ module _ (radix : ℕ) (small : radix ≤ 10) where
   form_cut b name (Written.Radix n) behind rest given is parted gives = cc
   form_cut b name (Written.Title t) behind rest given is parted gives = cc
 
-  operation_cut : (b : Blanks) (name : NameText) (body rest : List ℕ) → form_of (folded name.text) ≡ None → parts_name body ≡ true → Free body
+  operation_cut : (b : Blanks) (name : NameText) (body rest : List ℕ) → form_of (folded name.text) ≡ None → parts_name true body ≡ true → Free body
       → literal_len ((b.text ++ (name.text ++ body)) ++ 93 ∷ rest) ≡ Some (length (b.text ++ (name.text ++ body)))
   operation_cut b name body rest is parted free =
       let text = b.text ++ (name.text ++ body) in
@@ -305,12 +305,12 @@ module _ (radix : ℕ) (small : radix ≤ 10) where
       bracket_found (b.text ++ expression_before nothing_of e x) rest (blanks_free b (expression_before nothing_of e x) (expression_free e x free))
       (value_case b e.before e.sign e.term (more_before nothing_of e.more x) rest bare (Rattle.mac_text.proofs.WrittenTerms.more_end radix true nothing_of small cut_nothing e.more x end))
 
-  statement_cut : (b : Blanks) (st : StatementText radix ⊥) (behind : Blanks) (rest : List ℕ) (given : Data) → IsStatement nothing_of st → statement_given st ≡ statements.Data given
+  statement_cut : (b : Blanks) (st : StatementText radix ⊥) (behind : Blanks) (rest : List ℕ) (given : Data) → IsStatement true nothing_of st → statement_given st ≡ statements.Data given
       → literal_len ((b.text ++ statement_before nothing_of st behind.text) ++ 93 ∷ rest) ≡ Some (length (b.text ++ statement_before nothing_of st behind.text))
   statement_cut b (Written.Formed name form) behind rest given is gives =
-      form_cut b name form behind rest given is.0 (parts_form radix true nothing_of small cut_nothing form [] behind.text (λ _. (statement_ends_blank behind).name) is.1) gives
+      form_cut b name form behind rest given is.0 (parts_form radix true nothing_of small cut_nothing form [] behind.text (λ _. (statement_ends_blank behind).name true) is.1) gives
   statement_cut b (Written.Instruction name named o) behind rest given is gives =
-      operation_cut b name (operands_before nothing_of o behind.text) rest is.0 (parts_operands radix true nothing_of small cut_nothing o.accumulator o.operand [] behind.text (λ _. (statement_ends_blank behind).name) is.3)
+      operation_cut b name (operands_before nothing_of o behind.text) rest is.0 (parts_operands radix true nothing_of small cut_nothing o.accumulator o.operand [] behind.text (λ _. (statement_ends_blank behind).name true) is.3)
       (accumulator_free o.accumulator (operand_before nothing_of o.operand behind.text) (operand_free o.operand behind.text (behind_free behind)))
   statement_cut b (Written.Value e) behind rest given is gives = value_cut b e behind.text rest is (statement_ends_blank behind).part.word (behind_free behind)
   statement_cut b (Written.Halves p) behind rest given is gives =

@@ -64,12 +64,13 @@ text_read q rest =
 -- what may stand behind a statement
 pub record EndsStatement (rest : List ℕ) : Type 0 where
   pub part : EndsPart rest
-  pub name : parts_name rest ≡ true
+  pub name : (in_literal : Bool) → parts_name in_literal rest ≡ true
   pub comma : begins_with 44 (after_blanks rest) ≡ false
   pub title : after_blanks (drop (prefix_len is_title_character rest) rest) ≡ after_blanks rest
 
-blank_parts : (c : ℕ) → is_blank c ≡ true → (not (is_name_character c) && not (c == 58)) ≡ true
-blank_parts c h = grind (arith, nat_tests)
+blank_parts : (in_literal : Bool) (c : ℕ) → is_blank c ≡ true → (not (is_name_character c) && (not (c == 58) || in_literal)) ≡ true
+blank_parts true c h = grind (arith, nat_tests)
+blank_parts false c h = grind (arith, nat_tests)
 
 blank_in_title : (c : ℕ) → is_blank c ≡ true → is_title_character c ≡ true
 blank_in_title c h = grind (arith, nat_tests)
@@ -80,9 +81,9 @@ blanks_in_title (b ∷ bs) h =
     let p = and_parts (is_blank b) (list_all is_blank bs) h in
     rw (blank_in_title b p.0, blanks_in_title bs p.1) refl
 
-pub blanks_part : (bs x : List ℕ) → list_all is_blank bs ≡ true → parts_name x ≡ true → parts_name (bs ++ x) ≡ true
-blanks_part [] x h e = e
-blanks_part (b ∷ bs) x h e = blank_parts b (and_parts (is_blank b) (list_all is_blank bs) h).0
+pub blanks_part : (in_literal : Bool) (bs x : List ℕ) → list_all is_blank bs ≡ true → parts_name in_literal x ≡ true → parts_name in_literal (bs ++ x) ≡ true
+blanks_part in_literal [] x h e = e
+blanks_part in_literal (b ∷ bs) x h e = blank_parts in_literal b (and_parts (is_blank b) (list_all is_blank bs) h).0
 
 title_behind : (xs ys : List ℕ) → list_all is_title_character xs ≡ true → drop (prefix_len is_title_character (xs ++ ys)) (xs ++ ys) ≡ drop (prefix_len is_title_character ys) ys
 title_behind [] ys h = refl
@@ -97,7 +98,7 @@ statement_ends b None =
     let there = skip_to b [] refl in
     record {
       part = record { word = blanks_end b [] refl; expression = ap begins_expression there; bracket = ap (begins_with 40) there; at_sign = ap (begins_with 64) there };
-      name = blanks_part b.text [] b.blank refl;
+      name = λ in_literal. blanks_part in_literal b.text [] b.blank refl;
       comma = ap (begins_with 44) there;
       title = ap after_blanks (title_behind b.text [] (blanks_in_title b.text b.blank)) ∙ sym there;
     }
@@ -105,7 +106,7 @@ statement_ends b (Some comment) =
     let there = skip_to b (59 ∷ comment) refl in
     record {
       part = record { word = blanks_end b (59 ∷ comment) refl; expression = ap begins_expression there; bracket = ap (begins_with 40) there; at_sign = ap (begins_with 64) there };
-      name = blanks_part b.text (59 ∷ comment) b.blank refl;
+      name = λ in_literal. blanks_part in_literal b.text (59 ∷ comment) b.blank refl;
       comma = ap (begins_with 44) there;
       title = ap after_blanks (title_behind b.text (59 ∷ comment) (blanks_in_title b.text b.blank)) ∙ sym there;
     }
@@ -115,24 +116,24 @@ statement_ends_blank b = subst EndsStatement (append-nil b.text) (statement_ends
 
 -- ---- a name stays parted from what stands behind it, whatever stands behind that
 
-parts_blanks : (bs x y : List ℕ) → (parts_name x ≡ true → parts_name y ≡ true) → parts_name (bs ++ x) ≡ true → parts_name (bs ++ y) ≡ true
-parts_blanks [] x y f h = f h
-parts_blanks (b ∷ bs) x y f h = h
+parts_blanks : (in_literal : Bool) (bs x y : List ℕ) → (parts_name in_literal x ≡ true → parts_name in_literal y ≡ true) → parts_name in_literal (bs ++ x) ≡ true → parts_name in_literal (bs ++ y) ≡ true
+parts_blanks in_literal [] x y f h = f h
+parts_blanks in_literal (b ∷ bs) x y f h = h
 
-parts_word : (w x y : List ℕ) → 0 < length w → parts_name (w ++ x) ≡ true → parts_name (w ++ y) ≡ true
-parts_word [] x y some h = absurd (omega arith)
-parts_word (c ∷ cs) x y some h = h
+parts_word : (in_literal : Bool) (w x y : List ℕ) → 0 < length w → parts_name in_literal (w ++ x) ≡ true → parts_name in_literal (w ++ y) ≡ true
+parts_word in_literal [] x y some h = absurd (omega arith)
+parts_word in_literal (c ∷ cs) x y some h = h
 
-parts_number : (n : NumberText) (x y : List ℕ) → parts_name (number_before n x) ≡ true → parts_name (number_before n y) ≡ true
-parts_number (Written.Decimal before digits) x y h = parts_blanks before.text _ _ (parts_word digits.text x y digits.some) h
-parts_number (Written.Marked before m) x y h = parts_blanks before.text (Written.marked_before m x) (Written.marked_before m y) (λ k. k) h
+parts_number : (in_literal : Bool) (n : NumberText) (x y : List ℕ) → parts_name in_literal (number_before n x) ≡ true → parts_name in_literal (number_before n y) ≡ true
+parts_number in_literal (Written.Decimal before digits) x y h = parts_blanks in_literal before.text _ _ (parts_word in_literal digits.text x y digits.some) h
+parts_number in_literal (Written.Marked before m) x y h = parts_blanks in_literal before.text (Written.marked_before m x) (Written.marked_before m y) (λ k. k) h
 
-parts_title : (t x y : List ℕ) → (parts_name x ≡ true → parts_name y ≡ true) → parts_name (t ++ x) ≡ true → parts_name (t ++ y) ≡ true
-parts_title t x y f h = parts_blanks t x y f h
+parts_title : (in_literal : Bool) (t x y : List ℕ) → (parts_name in_literal x ≡ true → parts_name in_literal y ≡ true) → parts_name in_literal (t ++ x) ≡ true → parts_name in_literal (t ++ y) ≡ true
+parts_title in_literal t x y f h = parts_blanks in_literal t x y f h
 
-pub parts_word_end : (x : List ℕ) → parts_name x ≡ true → ends_word x ≡ true
-parts_word_end [] h = refl
-parts_word_end (c ∷ cs) h = (and_parts (not (is_name_character c)) (not (c == 58)) h).0
+pub parts_word_end : (in_literal : Bool) (x : List ℕ) → parts_name in_literal x ≡ true → ends_word x ≡ true
+parts_word_end in_literal [] h = refl
+parts_word_end in_literal (c ∷ cs) h = (and_parts (not (is_name_character c)) (not (c == 58) || in_literal) h).0
 
 -- ---- the steps of each reader
 
@@ -185,51 +186,51 @@ module _ (radix : ℕ) (in_literal : Bool) {L : Type 0} (text_of : L → List �
   abbrev at : List L → List ℕ → Scan
   at earlier rest = record { radix = radix; in_literal = in_literal; cuts = map text_of earlier; rest = rest }
 
-  parts_term : (t : TermText radix L) (x y : List ℕ) → parts_name (term_before text_of t x) ≡ true → parts_name (term_before text_of t y) ≡ true
-  parts_term (Written.Number digits) x y h = parts_word digits.text x y digits.some h
+  parts_term : (t : TermText radix L) (x y : List ℕ) → parts_name in_literal (term_before text_of t x) ≡ true → parts_name in_literal (term_before text_of t y) ≡ true
+  parts_term (Written.Number digits) x y h = parts_word in_literal digits.text x y digits.some h
   parts_term (Written.Marked m) x y h = h
-  parts_term (Written.Label name) x y h = parts_word name.text x y (name_some name.text name.names) h
+  parts_term (Written.Label name) x y h = parts_word in_literal name.text x y (name_some name.text name.names) h
   parts_term Written.Point x y h = h
   parts_term (Written.Literal l) x y h = h
 
-  parts_signed : (sign : Option SignText) (t : TermText radix L) (x y : List ℕ) → parts_name (before_if sign_before sign (term_before text_of t x)) ≡ true → parts_name (before_if sign_before sign (term_before text_of t y)) ≡ true
+  parts_signed : (sign : Option SignText) (t : TermText radix L) (x y : List ℕ) → parts_name in_literal (before_if sign_before sign (term_before text_of t x)) ≡ true → parts_name in_literal (before_if sign_before sign (term_before text_of t y)) ≡ true
   parts_signed None t x y h = parts_term t x y h
   parts_signed (Some s) t x y h = h
 
-  parts_expression : (e : ExpressionText radix L) (x y : List ℕ) → parts_name (expression_before text_of e x) ≡ true → parts_name (expression_before text_of e y) ≡ true
-  parts_expression e x y h = parts_blanks e.before.text _ _ (parts_signed e.sign e.term (more_before text_of e.more x) (more_before text_of e.more y)) h
+  parts_expression : (e : ExpressionText radix L) (x y : List ℕ) → parts_name in_literal (expression_before text_of e x) ≡ true → parts_name in_literal (expression_before text_of e y) ≡ true
+  parts_expression e x y h = parts_blanks in_literal e.before.text _ _ (parts_signed e.sign e.term (more_before text_of e.more x) (more_before text_of e.more y)) h
 
-  parts_optional : (e : Option (ExpressionText radix L)) (x y : List ℕ) → (parts_name x ≡ true → parts_name y ≡ true) → parts_name (before_if (expression_before text_of) e x) ≡ true → parts_name (before_if (expression_before text_of) e y) ≡ true
+  parts_optional : (e : Option (ExpressionText radix L)) (x y : List ℕ) → (parts_name in_literal x ≡ true → parts_name in_literal y ≡ true) → parts_name in_literal (before_if (expression_before text_of) e x) ≡ true → parts_name in_literal (before_if (expression_before text_of) e y) ≡ true
   parts_optional None x y f h = f h
   parts_optional (Some e) x y f h = parts_expression e x y h
 
-  parts_index : (i : Option (IndexText radix L)) (x y : List ℕ) → (parts_name x ≡ true → parts_name y ≡ true) → parts_name (before_if (index_before text_of) i x) ≡ true → parts_name (before_if (index_before text_of) i y) ≡ true
+  parts_index : (i : Option (IndexText radix L)) (x y : List ℕ) → (parts_name in_literal x ≡ true → parts_name in_literal y ≡ true) → parts_name in_literal (before_if (index_before text_of) i x) ≡ true → parts_name in_literal (before_if (index_before text_of) i y) ≡ true
   parts_index None x y f h = f h
   parts_index (Some i) x y f h =
-      parts_blanks i.before.text (40 ∷ expression_before text_of i.register (i.behind.text ++ 41 ∷ x)) (40 ∷ expression_before text_of i.register (i.behind.text ++ 41 ∷ y)) (λ k. k) h
+      parts_blanks in_literal i.before.text (40 ∷ expression_before text_of i.register (i.behind.text ++ 41 ∷ x)) (40 ∷ expression_before text_of i.register (i.behind.text ++ 41 ∷ y)) (λ k. k) h
 
-  parts_indirect : (b : Option Blanks) (x y : List ℕ) → (parts_name x ≡ true → parts_name y ≡ true) → parts_name (before_if indirect_before b x) ≡ true → parts_name (before_if indirect_before b y) ≡ true
+  parts_indirect : (b : Option Blanks) (x y : List ℕ) → (parts_name in_literal x ≡ true → parts_name in_literal y ≡ true) → parts_name in_literal (before_if indirect_before b x) ≡ true → parts_name in_literal (before_if indirect_before b y) ≡ true
   parts_indirect None x y f h = f h
-  parts_indirect (Some b) x y f h = parts_blanks b.text (64 ∷ x) (64 ∷ y) (λ k. k) h
+  parts_indirect (Some b) x y f h = parts_blanks in_literal b.text (64 ∷ x) (64 ∷ y) (λ k. k) h
 
-  parts_operand : (o : OperandText radix L) (x y : List ℕ) → (parts_name x ≡ true → parts_name y ≡ true) → parts_name (operand_before text_of o x) ≡ true → parts_name (operand_before text_of o y) ≡ true
+  parts_operand : (o : OperandText radix L) (x y : List ℕ) → (parts_name in_literal x ≡ true → parts_name in_literal y ≡ true) → parts_name in_literal (operand_before text_of o x) ≡ true → parts_name in_literal (operand_before text_of o y) ≡ true
   parts_operand o x y f h = parts_indirect o.indirect _ _ (parts_optional o.address _ _ (parts_index o.index x y f)) h
 
-  pub parts_operands : (a : Option (AccumulatorText radix L)) (o : OperandText radix L) (x y : List ℕ) → (parts_name x ≡ true → parts_name y ≡ true) → parts_name (before_if (accumulator_before text_of) a (operand_before text_of o x)) ≡ true → parts_name (before_if (accumulator_before text_of) a (operand_before text_of o y)) ≡ true
+  pub parts_operands : (a : Option (AccumulatorText radix L)) (o : OperandText radix L) (x y : List ℕ) → (parts_name in_literal x ≡ true → parts_name in_literal y ≡ true) → parts_name in_literal (before_if (accumulator_before text_of) a (operand_before text_of o x)) ≡ true → parts_name in_literal (before_if (accumulator_before text_of) a (operand_before text_of o y)) ≡ true
   parts_operands None o x y f h = parts_operand o x y f h
   parts_operands (Some a) o x y f h = parts_expression a.register _ _ h
 
-  pub parts_form : (form : FormText radix L) (x y : List ℕ) → (parts_name x ≡ true → parts_name y ≡ true) → parts_name (form_before text_of form x) ≡ true → parts_name (form_before text_of form y) ≡ true
+  pub parts_form : (form : FormText radix L) (x y : List ℕ) → (parts_name in_literal x ≡ true → parts_name in_literal y ≡ true) → parts_name in_literal (form_before text_of form x) ≡ true → parts_name in_literal (form_before text_of form y) ≡ true
   parts_form (Written.Xwd p) x y f h = parts_expression p.left _ _ h
   parts_form (Written.Iowd p) x y f h = parts_expression p.left _ _ h
   parts_form (Written.Exp e more) x y f h = parts_expression e _ _ h
-  parts_form (Written.Point p) x y f h = parts_number p.size _ _ h
-  parts_form (Written.Text form q) x y f h = parts_blanks q.before.text (q.delimiter ∷ (q.text ++ q.delimiter ∷ x)) (q.delimiter ∷ (q.text ++ q.delimiter ∷ y)) (λ k. k) h
+  parts_form (Written.Point p) x y f h = parts_number in_literal p.size _ _ h
+  parts_form (Written.Text form q) x y f h = parts_blanks in_literal q.before.text (q.delimiter ∷ (q.text ++ q.delimiter ∷ x)) (q.delimiter ∷ (q.text ++ q.delimiter ∷ y)) (λ k. k) h
   parts_form (Written.Block e) x y f h = parts_expression e x y h
   parts_form (Written.Loc e) x y f h = parts_expression e x y h
   parts_form (Written.End e) x y f h = parts_optional e x y f h
-  parts_form (Written.Radix n) x y f h = parts_number n x y h
-  parts_form (Written.Title t) x y f h = parts_title t.text x y f h
+  parts_form (Written.Radix n) x y f h = parts_number in_literal n x y h
+  parts_form (Written.Title t) x y f h = parts_title in_literal t.text x y f h
 
   -- ---- forms
 
@@ -321,21 +322,21 @@ module _ (radix : ℕ) (in_literal : Bool) {L : Type 0} (text_of : L → List �
       → expression_at (skipped (at [] (expression_before text_of e rest))) ≡ Some (expression_given [] e, at (expression_literals [] e) (after_blanks rest))
   expression_later e rest end = expression_behind_blanks (at [] (expression_before text_of e rest)) ∙ expression_read radix in_literal text_of small cut [] e rest end
 
-  name_read : (name : Written.NameText) (body : List ℕ) → parts_name body ≡ true → (after_blanks (name.text ++ body) ≡ name.text ++ body) × (word_of (name.text ++ body) ≡ name.text)
+  name_read : (name : Written.NameText) (body : List ℕ) → parts_name in_literal body ≡ true → (after_blanks (name.text ++ body) ≡ name.text ++ body) × (word_of (name.text ++ body) ≡ name.text)
   name_read name body parted =
       let begin = word_begins name.text body (name_some name.text name.names) name.characters in
-      (firm_stays (name.text ++ body) begin.firm, word_read name.text body name.characters (parts_word_end body parted))
+      (firm_stays (name.text ++ body) begin.firm, word_read name.text body name.characters (parts_word_end in_literal body parted))
 
-  pub statement_read : (st : StatementText radix L) (rest : List ℕ) → IsStatement text_of st → EndsStatement rest
+  pub statement_read : (st : StatementText radix L) (rest : List ℕ) → IsStatement in_literal text_of st → EndsStatement rest
       → statement_at (at [] (statement_before text_of st rest)) ≡ Some (statement_given st, at (statement_literals st) (statement_rest st rest))
   unfolding statement_at
   statement_read (Written.Formed name form) rest is end =
       let body = form_before text_of form rest in
-      let read = name_read name body (parts_form form [] rest (λ _. end.name) is.1) in
+      let read = name_read name body (parts_form form [] rest (λ _. end.name in_literal) is.1) in
       statement_formed (at [] (name.text ++ body)) _ name.text body (form_written form) _ read.0 read.1 name.names is.0 (form_read form rest end)
   statement_read (Written.Instruction name named o) rest is end =
       let body = operands_before text_of o rest in
-      let read = name_read name body (parts_operands o.accumulator o.operand [] rest (λ _. end.name) is.3) in
+      let read = name_read name body (parts_operands o.accumulator o.operand [] rest (λ _. end.name in_literal) is.3) in
       statement_named (at [] (name.text ++ body)) _ name.text body named _ read.0 read.1 name.names is.0 is.1 (instruction_read radix in_literal text_of small cut [] named o rest is.2 end.part end.comma)
   statement_read (Written.Value e) rest is end =
       let s = at [] (expression_before text_of e rest) in
@@ -380,7 +381,7 @@ module _ (radix : ℕ) (in_literal : Bool) {L : Type 0} (text_of : L → List �
   no_statement s a = rw a refl
 
   -- a statement behind blanks, with nothing behind it but a comment
-  pub whole_read : (text : List ℕ) (st : StatementText radix L) (rest : List ℕ) → after_blanks text ≡ after_blanks (statement_before text_of st rest) → IsStatement text_of st → EndsStatement rest → is_at_end in_literal (after_blanks rest) ≡ true
+  pub whole_read : (text : List ℕ) (st : StatementText radix L) (rest : List ℕ) → after_blanks text ≡ after_blanks (statement_before text_of st rest) → IsStatement in_literal text_of st → EndsStatement rest → is_at_end in_literal (after_blanks rest) ≡ true
       → whole_statement_at (at [] text) ≡ Some (Some (statement_given st), at (statement_literals st) (after_blanks rest))
   whole_read text st rest there is end ended =
       let begun = begun_no_end (after_blanks text) (ap begins_expression there ∙ statement_begins st rest) in

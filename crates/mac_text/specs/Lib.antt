@@ -11,3 +11,4 @@ pub mod Lines
 pub mod Printed
 pub mod Written
 pub mod WrittenExample
+pub mod WrittenSource

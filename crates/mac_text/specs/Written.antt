@@ -72,10 +72,11 @@ abbrev pub number_given : NumberText → ℕ
 number_given (Decimal before digits) = digits_value 10 digits.text
 number_given (Marked before m) = marked_number m
 
--- the text behind a name begins with neither a name's character nor a colon
-abbrev pub parts_name : List ℕ → Bool
-parts_name [] = true
-parts_name (c ∷ cs) = not (is_name_character c) && not (c == 58)
+-- the text behind a name begins with no character of a name; on a line it does not begin with a colon either, which
+-- would make the name a label, while no label stands in a literal
+abbrev pub parts_name : Bool → List ℕ → Bool
+parts_name in_literal [] = true
+parts_name in_literal (c ∷ cs) = not (is_name_character c) && (not (c == 58) || in_literal)
 
 -- nothing, or the part
 abbrev pub before_if : {X : Type 0} → (X → List ℕ → List ℕ) → Option X → List ℕ → List ℕ
@@ -408,13 +409,13 @@ statement_given (Value e) = statements.Data (data_of.Value (expression_given [] 
 statement_given (Halves p) = statements.Data (data_of.Halves (expression_given [] p.left) (right_given [] p))
 
 -- a name is that of what stands behind it, and is parted from it
-abbrev pub IsStatement : {radix : ℕ} {L : Type 0} → (L → List ℕ) → StatementText radix L → Type 0
-IsStatement text_of (Formed name form) =
-    (form_of (folded name.text) ≡ Some (form_written form)) × (parts_name (form_before text_of form []) ≡ true)
-IsStatement text_of (Instruction name named o) =
-    (form_of (folded name.text) ≡ None) × (named_of (folded name.text) ≡ Some named) × (allows named o ≡ true) × (parts_name (operands_before text_of o []) ≡ true)
-IsStatement text_of (Value e) = is_bare e ≡ true
-IsStatement text_of (Halves p) = is_bare p.left ≡ true
+abbrev pub IsStatement : {radix : ℕ} {L : Type 0} → Bool → (L → List ℕ) → StatementText radix L → Type 0
+IsStatement in_literal text_of (Formed name form) =
+    (form_of (folded name.text) ≡ Some (form_written form)) × (parts_name in_literal (form_before text_of form []) ≡ true)
+IsStatement in_literal text_of (Instruction name named o) =
+    (form_of (folded name.text) ≡ None) × (named_of (folded name.text) ≡ Some named) × (allows named o ≡ true) × (parts_name in_literal (operands_before text_of o []) ≡ true)
+IsStatement in_literal text_of (Value e) = is_bare e ≡ true
+IsStatement in_literal text_of (Halves p) = is_bare p.left ≡ true
 
 -- ---- literals and lines
 
@@ -427,7 +428,7 @@ pub record LiteralText (radix : ℕ) : Type 0 where
   pub before : Blanks
   pub statement : StatementText radix ⊥
   pub behind : Blanks
-  pub legal : IsStatement nothing_of statement
+  pub legal : IsStatement true nothing_of statement
   pub given : Data
   pub is_given : statement_given statement ≡ statements.Data given
   pub words : gives_words given ≡ true
@@ -473,7 +474,7 @@ line_given line =
 
 abbrev pub IsStatementOr : {radix : ℕ} → Option (StatementText radix (LiteralText radix)) → Type 0
 IsStatementOr None = Unit {0}
-IsStatementOr (Some statement) = IsStatement literal_text statement
+IsStatementOr (Some statement) = IsStatement false literal_text statement
 
 -- what a line must be beyond that: its statement is one, and all of it is ASCII
 pub record IsLine {radix : ℕ} (line : LineText radix) : Type 0 where

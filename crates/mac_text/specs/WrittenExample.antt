@@ -10,9 +10,9 @@ use Rattle.mac_text.specs.declared.syntax.Statement.TheVariants as statements
 use Rattle.mac_text.specs.declared.syntax.Line.{Line}
 
 abbrev pub example_text : List ℕ
-example_text = codes "loop: Move 17,@[ASCIZ/a]/ ] - ^d9(X) ; go on"
+example_text = codes "loop: Move 17,@[ASCIZ:a]: ] - ^d9(X) ; go on"
 
--- MOVE is 200 octal; the literal is the first of the line
+-- MOVE is 200 octal; the literal is the first of the line, and colons delimit its text
 abbrev pub example_line : Line
 example_line =
     record {

@@ -64,6 +64,15 @@ impl Labels {
         }
     }
 
+    /// Leaves no labels.
+    pub(crate) fn clear(&mut self)
+        ensures { self.new ≡ [] }
+    {
+        if !matches!(&self.held, Held::Nothing) {
+            self.held = Held::Nothing;
+        }
+    }
+
     /// Puts a label at the end.
     pub(crate) fn push(&mut self, alloc: Global, label: Symbol) -> Result<(), AllocError>
         ensures { OnOk result (self.new ≡ self.old ++ label ∷ []) }

@@ -23,7 +23,7 @@ mod texts;
 pub use characters::upper_case;
 pub use fault::ParseError;
 pub use labels::Labels;
-pub use laws::{an_example_is_written, written_lines_are_read};
+pub use laws::{an_example_is_written, written_lines_are_read, written_sources_are_read};
 pub use line::is_end;
 pub use sequence::Sequence;
 pub use source::parse;

@@ -35,23 +35,24 @@ fn next_label<'a>(scan: &mut Scanner<'a>) -> (Option<Symbol>, &'a [u8])
     }
 }
 
-/// The labels at the head of a line, and the word behind them.
-fn labels<'a>(scan: &mut Scanner<'a>) -> Result<(Labels, &'a [u8]), Fault>
-    ensures labels { Gives (λ x. (x.0, scan.new)) result (items_at next_label_at (length scan.old.rest) scan.old) }
-    ensures word { IfOk result (λ x. x.1.now ≡ word_of (after_blanks scan.new.rest)) }
+/// Reads the labels at the head of a line, puts them in place, and gives the word behind them.
+fn labels<'a>(scan: &mut Scanner<'a>, place: &mut Labels) -> Result<&'a [u8], Fault>
+    ensures labels { Gives (λ _. (place.new, scan.new)) result (items_at next_label_at (length scan.old.rest) scan.old) }
+    ensures word { IfOk result (λ word. word.now ≡ word_of (after_blanks scan.new.rest)) }
 {
-    let mut labels = Labels::new();
+    place.clear();
     let most = scan.len();
     for _ in 0..most {
         match next_label(scan) {
-            (None, word) => return Ok((labels, word)),
-            (Some(label), _) => labels.push(scan.alloc(), label)?,
+            (None, word) => return Ok(word),
+            (Some(label), _) => place.push(scan.alloc(), label)?,
         }
     }
-    Ok((labels, &[]))
+    Ok(&[])
 }
 
 /// The statement of a line, if there is one, where this word comes next.
+#[inline(always)]
 #[tactic(auto, unfolding(crate::specs::Lines::optional_statement_at), using(crate::proofs::WordLemmas::skip_twice))]
 fn optional_statement(
     scan: &mut Scanner<'_>,
@@ -175,7 +176,6 @@ fn fill_literals(
 }
 
 /// Reads what stands on a line, and puts it in place. The line may be known to be ASCII.
-#[inline(never)]
 #[tactic(auto, unfolding(crate::specs::Lines::line_of))]
 pub fn read_line(
     alloc: Global,
@@ -192,8 +192,7 @@ pub fn read_line(
         return Err(Fault::Syntax);
     }
     let mut scan = Scanner::new(alloc, radix, false, text);
-    let (labels, word) = labels(&mut scan)?;
-    place.labels = labels;
+    let word = labels(&mut scan, &mut place.labels)?;
     whole_statement(&mut scan, word, &mut place.statement)?;
     fill_literals(alloc, radix, scan.cuts(), &mut place.literals)
 }

@@ -116,7 +116,7 @@ impl<'a> Scanner<'a> {
         &rest[..word_len(rest)]
     }
 
-    /// The same, behind blanks.
+    /// The letters, digits and the like that come next behind blanks.
     pub fn next_word(&self) -> &'a [u8]
         ensures { result.now ≡ word_of (after_blanks self.now.rest) }
     {

@@ -29,6 +29,13 @@ impl<T> Sequence<T> {
         }
     }
 
+    /// The list of these items.
+    pub(crate) fn of(items: Vec<T>) -> Self
+        ensures { result ≡ items.items }
+    {
+        Sequence { items }
+    }
+
     /// How many items it has.
     pub fn len(&self) -> usize
         ensures { result ≡ length self.now }

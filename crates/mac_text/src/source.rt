@@ -1,19 +1,19 @@
 //! Whole sources.
 
-ghost use Rattle.std.specs.Prelude.{◌≡◌, ◌<◌, ◌∷◌, ℕ, Bool, true, length};
+ghost use Rattle.std.specs.Prelude.{◌≡◌, ◌<◌, [], ◌∷◌, ◌++◌, ℕ, Bool, true, length, OnOk};
 ghost use Rattle.std.specs.List.{list_all};
 ghost use Rattle.std.specs.Str.Lines.{lines, strip_carriage_return};
 ghost use Rattle.mac_text.specs.Lines.{program_of, Parses};
+ghost use Rattle.mac_text.specs.declared.syntax.Line.{Line};
 
 use crate::characters::is_ascii;
 use crate::fault::{Fault, ParseError};
 use crate::labels::Labels;
 use crate::line::{is_end, radix_after, read_line};
-use crate::place::discard;
 use crate::sequence::Sequence;
 use crate::syntax::{Line, Program};
 use memchr::memchr;
-use std::alloc::Global;
+use std::alloc::{AllocError, Global};
 
 /// The first line of a text, without its line feed and a carriage return before it, and what stands behind it.
 fn split_line(text: &[u8]) -> (&[u8], &[u8])
@@ -38,6 +38,18 @@ fn without_carriage_return(line: &[u8]) -> &[u8]
     }
 }
 
+/// Puts a line on which nothing stands at the end.
+fn add_line(alloc: Global, lines: &mut Vec<Line>) -> Result<(), AllocError>
+    ensures { OnOk result ((line : Line) × (lines.new.items ≡ lines.old.items ++ line ∷ [])) }
+{
+    lines.push(Line {
+        labels: Labels::new(),
+        statement: None,
+        literals: Sequence::new(alloc),
+    })?;
+    Ok(())
+}
+
 /// The statements of a source, up to END: see the grammar in `specs/`.
 ///
 /// A source is lines, which a line feed ends; a carriage return right before it counts for nothing, and the last line
@@ -47,34 +59,23 @@ pub fn parse(alloc: Global, source: &[u8]) -> Result<Program, ParseError>
     ensures { Parses result (program_of source.now) }
 {
     let is_known_ascii = is_ascii(source);
-    let mut program = Sequence::new(alloc);
+    let mut lines = Vec::new(alloc);
     let mut radix = 8;
     let mut rest = source;
     while !rest.is_empty() {
         let (text, behind) = split_line(rest);
-        let mut line = Line {
-            labels: Labels::new(),
-            statement: None,
-            literals: Sequence::new(alloc),
-        };
-        match read_line(alloc, radix, is_known_ascii, text, &mut line) {
+        let at = lines.len();
+        add_line(alloc, &mut lines)?;
+        match read_line(alloc, radix, is_known_ascii, text, &mut lines[at]) {
             Ok(()) => {}
-            Err(Fault::Memory) => {
-                discard(line);
-                return Err(ParseError::Memory);
-            }
-            Err(Fault::Syntax) => {
-                discard(line);
-                return Err(ParseError::Syntax(program.len() + 1));
-            }
+            Err(Fault::Memory) => return Err(ParseError::Memory),
+            Err(Fault::Syntax) => return Err(ParseError::Syntax(at + 1)),
         }
-        radix = radix_after(&line, radix);
-        let ends = is_end(&line);
-        program.push(line)?;
-        if ends {
-            return Ok(program);
+        radix = radix_after(&lines[at], radix);
+        if is_end(&lines[at]) {
+            return Ok(Sequence::of(lines));
         }
         rest = behind;
     }
-    Ok(program)
+    Ok(Sequence::of(lines))
 }

@@ -1,7 +1,7 @@
 //! Expressions: sums of terms.
 
 ghost use Rattle.std.specs.Prelude.{◌≡◌, [], ◌∷◌, ◌++◌, OnOk, IfOk, IfSome};
-ghost use Rattle.mac_text.specs.Terms.{alone, terms_of, terms_in};
+ghost use Rattle.mac_text.specs.Terms.{alone, many_of, terms_of, terms_in};
 ghost use Rattle.mac_text.specs.declared.syntax.Sign.TheVariants.{Plus};
 ghost use Rattle.mac_text.specs.declared.syntax.Term.TheVariants.{Number, Label, Here};
 
@@ -27,9 +27,27 @@ enum Terms {
     Label(Symbol),
     Here,
     Literal(usize),
-    /// Two terms.
-    Pair(Box<[SignedTerm; 2]>),
-    Sum(Box<Vec<SignedTerm>>),
+    /// Any other terms.
+    Many(Box<Many>),
+}
+
+/// Terms on the heap.
+#[derive(Debug, Drop)]
+enum Many {
+    Pair([SignedTerm; 2]),
+    Sum(Vec<SignedTerm>),
+}
+
+impl Many {
+    /// The terms in order.
+    fn as_slice(&self) -> &[SignedTerm]
+        ensures { result.now ≡ many_of self.now }
+    {
+        match self {
+            Many::Pair(terms) => terms.as_slice(),
+            Many::Sum(terms) => terms.as_slice(),
+        }
+    }
 }
 
 /// What an expression is made of.
@@ -71,8 +89,7 @@ impl Expression {
             Terms::Label(label) => Parts::Label(*label),
             Terms::Here => Parts::Here,
             Terms::Literal(at) => Parts::Literal(*at),
-            Terms::Pair(terms) => Parts::Sum(&terms[..]),
-            Terms::Sum(terms) => Parts::Sum(terms.as_slice()),
+            Terms::Many(terms) => Parts::Sum(terms.as_slice()),
         }
     }
 
@@ -133,12 +150,7 @@ impl Expression {
             Terms::Label(label) => pair(alloc, Sign::Plus, Term::Label(label), term)?,
             Terms::Here => pair(alloc, Sign::Plus, Term::Here, term)?,
             Terms::Literal(at) => pair(alloc, Sign::Plus, Term::Literal(at), term)?,
-            Terms::Pair(terms) => longer(
-                alloc,
-                Vec::from_array(alloc, Box::into_inner(terms))?,
-                term,
-            )?,
-            Terms::Sum(terms) => longer(alloc, Box::into_inner(terms), term)?,
+            Terms::Many(terms) => longer(alloc, Box::into_inner(terms), term)?,
         };
         Ok(())
     }
@@ -149,16 +161,19 @@ fn pair(alloc: Global, sign: Sign, first: Term, second: SignedTerm) -> Result<Te
     ensures { IfOk result (λ terms. terms_of terms ≡ record { sign = sign; term = first } ∷ second ∷ []) }
 {
     let first = SignedTerm { sign, term: first };
-    Ok(Terms::Pair(Box::new(alloc, [first, second])?))
+    Ok(Terms::Many(Box::new(alloc, Many::Pair([first, second]))?))
 }
 
 /// These terms and one more.
-fn longer(alloc: Global, terms: Vec<SignedTerm>, last: SignedTerm) -> Result<Terms, AllocError>
-    ensures { IfOk result (λ longer. terms_of longer ≡ terms.items ++ last ∷ []) }
+fn longer(alloc: Global, terms: Many, last: SignedTerm) -> Result<Terms, AllocError>
+    ensures { IfOk result (λ longer. terms_of longer ≡ many_of terms ++ last ∷ []) }
 {
-    let mut terms = terms;
+    let mut terms = match terms {
+        Many::Pair(terms) => Vec::from_array(alloc, terms)?,
+        Many::Sum(terms) => terms,
+    };
     terms.push(last)?;
-    Ok(Terms::Sum(Box::new(alloc, terms)?))
+    Ok(Terms::Many(Box::new(alloc, Many::Sum(terms))?))
 }
 
 /// The expression of these terms.
@@ -166,7 +181,7 @@ fn boxed(alloc: Global, terms: Vec<SignedTerm>) -> Result<Expression, AllocError
     ensures { IfOk result (λ e. e ≡ terms.items) }
 {
     Ok(Expression {
-        terms: Terms::Sum(Box::new(alloc, terms)?),
+        terms: Terms::Many(Box::new(alloc, Many::Sum(terms))?),
     })
 }
 

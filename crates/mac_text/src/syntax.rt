@@ -56,7 +56,7 @@ pub struct Instruction {
 pub enum TextForm {
     /// Five characters of seven bits a word.
     Ascii,
-    /// The same, with a zero character behind the last.
+    /// Five characters of seven bits a word, with a zero character behind the last.
     Asciz,
     /// Six characters of six bits a word.
     Sixbit,

@@ -3,7 +3,8 @@ use Rattle.std.specs.Prelude.{ℕ, ◌+◌, ◌-◌, Bool, true, false, List, []
 use Rattle.std.specs.List.{flat_map}
 use Rattle.std.specs.Str.Lines.{lines}
 use Rattle.mac_asm.specs.Assembly.{Assembled}
-use Rattle.mac_asm.specs.Outcome.{Fault, outcome_of}
+use Rattle.mac_layout.specs.Faults.{Fault}
+use Rattle.mac_asm.specs.Outcome.{outcome_of}
 use Rattle.word36.specs.declared.sizes.TheConstants.{TAKEN_AT_ONCE}
 use Rattle.machine.specs.Machine.{S, Made, happens, after as after_all, logged_in, at_boot}
 use Rattle.machine.specs.Views.{job_view, word_in}

@@ -3,7 +3,8 @@ use Rattle.std.specs.Prelude.{ℕ, List, ◌++◌, Result, Ok, Err, codes, decim
 use Rattle.std.specs.List.{flat_map}
 use Rattle.word36.specs.Octal.{octal, word_text}
 use Rattle.mac_asm.specs.Assembly.{Assembled}
-use Rattle.mac_asm.specs.Outcome.{Fault, number_of, outcome_of}
+use Rattle.mac_layout.specs.Faults.{Fault, number_of}
+use Rattle.mac_asm.specs.Outcome.{outcome_of}
 use Rattle.script_io.specs.Transcripts.{Transcript, closed}
 use Rattle.queue_script.specs.declared.endings.Ending.{Ending}
 use Rattle.queue_script.specs.declared.endings.Ending.TheVariants.{Done, Source}

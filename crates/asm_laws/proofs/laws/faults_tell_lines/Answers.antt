@@ -1,6 +1,7 @@
 use Rattle.std.proofs.Common.{◌≡◌, Result, Ok, Err}
 use Rattle.mac_asm.specs.Assembly.{Assembled}
-use Rattle.mac_asm.specs.Outcome.{Fault, outcome_of}
+use Rattle.mac_layout.specs.Faults.{Fault}
+use Rattle.mac_asm.specs.Outcome.{outcome_of}
 use Rattle.asm_laws.proofs.Told.{image-told}
 use Rattle.asm_laws.proofs.FaultLines.{fault-names-line}
 use Rattle.asm_laws.proofs.laws.faults_tell_lines.Goals as goal

@@ -1,6 +1,6 @@
 use Rattle.std.proofs.Common.{◌≡◌, drop}
 use Rattle.std.specs.List.{list_all}
-use Rattle.mac_asm.specs.Values.{is_known, names_of}
+use Rattle.mac_layout.specs.Values.{is_known, names_of}
 use Rattle.mac_asm.proofs.words.are_all_known.Given as goal
 
 -- all so far are known

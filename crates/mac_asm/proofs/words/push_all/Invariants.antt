@@ -1,5 +1,5 @@
 use Rattle.std.proofs.Common.{◌≡◌, drop}
-use Rattle.mac_asm.specs.Values.{names_of}
+use Rattle.mac_layout.specs.Values.{names_of}
 use Rattle.mac_asm.specs.Words.{word_of, words_of_all}
 use Rattle.mac_asm.proofs.PushLemmas.{with_words}
 use Rattle.mac_asm.proofs.words.push_all.Given as goal

@@ -1,5 +1,5 @@
 use Rattle.std.proofs.Common.{◌≡◌, ◌-◌, length}
-use Rattle.mac_asm.specs.Packing.{words_in}
+use Rattle.mac_layout.specs.TextSizes.{words_in}
 use Rattle.mac_asm.specs.Words.{text_words_from}
 use Rattle.mac_asm.proofs.PushLemmas.{with_words}
 use Rattle.mac_asm.proofs.words.push_text.Given as goal

@@ -8,9 +8,9 @@ use Rattle.mac_text.proofs.source.parse.Given as goal
 -- the lines so far and those to come are all
 abbrev pub invariant-loop-rest : goal.invariant-loop-rest
 invariant-loop-rest l = (l.radix ≤ 10)
-    × (length l.program + length l.rest ≤ length l.fn.source)
+    × (length l.lines.items + length l.rest ≤ length l.fn.source)
     × (IsTrue l.is_known_ascii → list_all is_ascii l.rest ≡ true)
-    × (with_lines l.program (lines_from l.radix (length l.program + 1) (lines l.rest)) ≡ program_of l.fn.source)
+    × (with_lines l.lines.items (lines_from l.radix (length l.lines.items + 1) (lines l.rest)) ≡ program_of l.fn.source)
 
 abbrev pub decreases-loop-rest : goal.decreases-loop-rest
 decreases-loop-rest l = length l.rest

@@ -1,7 +1,0 @@
-use Rattle.std.proofs.Common.{◌≡◌, ◌≤◌, length, drop}
-use Rattle.mac_asm.specs.Filled.{put_from}
-use Rattle.mac_asm.proofs.cells.put.Given as goal
-
--- the words that are left come behind those that were put
-abbrev pub invariant-loop-word : goal.invariant-loop-word
-invariant-loop-word l = (l.at ≤ length l.cells) × (put_from l.cells l.at (drop l.word-index l.words) ≡ put_from l.fn.cells l.fn.place l.words)

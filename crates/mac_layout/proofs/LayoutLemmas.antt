@@ -1,0 +1,620 @@
+-- Marks, places and labels while lines are laid out.
+use Rattle.std.proofs.Common.{◌≡◌, ◌∙◌, sym, ap, refl, subst, ℕ, zero, suc, ◌+◌, ◌-◌, ◌^◌, ◌<◌, ◌≤◌, ◌⊎◌, inl, inr, Bool, true, false, not, ◌&&◌, ◌||◌, ◌==◌, cond, nat_eq, nat_lt, nat_le, IfOk, List, [], ◌∷◌, ◌++◌, length, take, drop, set, replicate, get_or, min, map, is_some, Option, Some, None, Result, Ok, Err, append-nil, arith, length-append, length-drop, append_assoc}
+use Rattle.std.specs.List.{range_with_len, list_any, between}
+use Rattle.std.specs.Map.{lookup, keys_of}
+use Rattle.indexmap.specs.IndexMap.{insert_entry}
+use Rattle.std.proofs.lemmas.Map.Made.{is_some-lookup}
+use Rattle.std.proofs.lemmas.Bool.{and_parts}
+use Rattle.std.proofs.lemmas.List.{at_drop_all, drop_more, take_more, take_all, take-append-drop, map-append, length-take-le, length-replicate, length-set, get_or-set_same, get_or-set_other, get_or-take, get_or-drop, get_or-replicate, get_or_append_left, get_or-append_right}
+use Rattle.std.proofs.lemmas.List.Folds.{list_any-append}
+use Rattle.std.proofs.lemmas.Bool.Decides.{nat_tests, leb_tells, eqb_tells}
+use Rattle.mac_layout.specs.declared.error.AsmCode.{AsmCode}
+use Rattle.mac_layout.specs.declared.error.AsmCode.TheVariants.{DefinedTwice, DoesNotFit, PlaceTooHigh}
+use Rattle.mac_layout.specs.Places.{are_apart, Labels, places_from}
+use Rattle.mac_layout.specs.Faults.{Fault, unless_fault, number_of, least, code_if, code_of}
+use Rattle.mac_layout.specs.LaidOut.{Layout, checked_count, checked_size, literal_size, with_labels, labels_code, statement_code, with_statement, line_code, with_line, laid_out, count_or, is_taken, places_in, taking, taking_size, taking_all}
+use Rattle.mac_layout.specs.Layouts.{AreMarks, StandsFor, Lays, Defines, with_size}
+use Rattle.mac_text.specs.declared.syntax.SignedTerm.{SignedTerm}
+use Rattle.mac_text.specs.declared.syntax.Data.{Data}
+use Rattle.mac_text.specs.declared.syntax.Statement.{Statement}
+use Rattle.mac_text.specs.declared.syntax.Statement.TheVariants as statements
+use Rattle.mac_text.specs.declared.syntax.Line.{Line}
+use Rattle.mac_layout.specs.declared.layout.Progress.{Progress}
+
+part_fits : (place first len count : ℕ) → len ≡ count → (place ≡ first) ⊎ (len ≡ 0) → range_with_len first len ≡ range_with_len place count
+part_fits place first len count e (inl same) = ap (λ p. range_with_len p len) (sym same) ∙ ap (range_with_len place) e
+part_fits place first len count e (inr none) = ap (range_with_len first) none ∙ ap (range_with_len place) (sym none ∙ e)
+
+part_by : (place size first len : ℕ) (b : Bool) → first ≡ min place (2 ^ 18) → len ≡ min size (2 ^ 18 - first) → nat_le size (2 ^ 18 - place) ≡ b → range_with_len first len ≡ range_with_len place (cond b size (2 ^ 18 - place))
+part_by place size first len true f l e =
+    let at : (place ≡ first) ⊎ (len ≡ 0) = elim (leb_tells place (2 ^ 18)) [ inl h ↦ inl (omega (arith, h.1)) | inr h ↦ inr (omega (arith, h.1)) ] in
+    part_fits place first len size (grind (arith, nat_tests)) at
+part_by place size first len false f l e =
+    let at : (place ≡ first) ⊎ (len ≡ 0) = elim (leb_tells place (2 ^ 18)) [ inl h ↦ inl (omega (arith, h.1)) | inr h ↦ inr (omega (arith, h.1)) ] in
+    part_fits place first len (2 ^ 18 - place) (grind (arith, nat_tests)) at
+
+-- of so many places from one on, those below 2 ^ 18
+pub part_is : (all place size first len : ℕ) → first ≡ min place all → len ≡ min size (all - first) → all ≡ 2 ^ 18 → range_with_len first len ≡ places_in place size
+part_is all place size first len f l a =
+    part_by place size first len (nat_le size (2 ^ 18 - place)) (f ∙ ap (min place) a) (l ∙ ap (λ n. min size (n - first)) a) refl
+
+-- whether they are all below
+pub room_is : (all place size first : ℕ) → first ≡ min place all → all ≡ 2 ^ 18 → not (nat_le size (all - first)) ≡ (not (size == 0) && not (nat_le (place + size) (2 ^ 18)))
+room_is all place size first f a = grind (arith, nat_tests)
+
+pub no_room : (place size : ℕ) → 2 ^ 64 ≤ size → true ≡ (not (size == 0) && not (nat_le (place + size) (2 ^ 18)))
+no_room place size h = grind (arith, nat_tests)
+
+-- marks tell whether places are taken
+pub are_any_taken : (marks : List Bool) (past : List ℕ) → AreMarks marks past → (first n : ℕ) → first + n ≤ 2 ^ 18
+    → list_any (λ m. m) (take n (drop first marks)) ≡ list_any (is_taken past) (range_with_len first n)
+are_any_taken marks past m first zero le = refl
+are_any_taken marks past m first (suc n) le =
+    let here : first < 2 ^ 18 = omega arith in
+    let more = are_any_taken marks past m (first + 1) n (omega arith) in
+    ap (λ l. list_any (λ m. m) (take (suc n) l)) (drop_more marks first false (omega (arith, m.all)))
+    ∙ ap (λ b. b || list_any (λ m. m) (take n (drop (first + 1) marks))) (m.each first here)
+    ∙ ap (λ b. is_taken past first || b) more
+
+and_false : (a : Bool) → (a && false) ≡ false
+and_false true = refl
+and_false false = refl
+
+or_parts : (a b : Bool) → (a || b) ≡ false → (a ≡ false) × (b ≡ false)
+or_parts true b h = absurd (cc)
+or_parts false b h = (refl, h)
+
+is_nothing : {A : Type 0} (o : Option A) → is_some o ≡ false → o ≡ None
+is_nothing None h = refl
+is_nothing (Some x) h = absurd (cc)
+
+least_twice : (high : Bool) → least (Some DefinedTwice) (code_if high PlaceTooHigh) ≡ Some DefinedTwice
+unfolding least
+least_twice true = refl
+least_twice false = refl
+
+least_none : (code : Option AsmCode) → least None code ≡ code
+unfolding least
+least_none None = refl
+least_none (Some code) = refl
+
+taking_by : (past : List ℕ) (place size : ℕ) (any high : Bool) → list_any (is_taken past) (places_in place size) ≡ any → (not (size == 0) && not (nat_le (place + size) (2 ^ 18))) ≡ high
+    → taking past place size ≡ least (code_if any DefinedTwice) (code_if high PlaceTooHigh)
+unfolding taking
+taking_by past place size any high a h = ap (λ b. least (code_if b DefinedTwice) (code_if (not (size == 0) && not (nat_le (place + size) (2 ^ 18))) PlaceTooHigh)) a ∙ ap (λ b. least (code_if any DefinedTwice) (code_if b PlaceTooHigh)) h
+
+any_of_part : (marks : List Bool) (past : List ℕ) (place size first len : ℕ) (any : Bool) → AreMarks marks past → first + len ≤ length marks
+    → (length marks ≡ 2 ^ 18 → range_with_len first len ≡ places_in place size) → any ≡ list_any (λ m. m) (between first (first + len) marks)
+    → list_any (is_taken past) (places_in place size) ≡ any
+any_of_part marks past place size first len any m within places is =
+    let n : (first + len) - first ≡ len = omega arith in
+    ap (list_any (is_taken past)) (sym (places m.all))
+    ∙ sym (are_any_taken marks past m first len (omega (arith, m.all)))
+    ∙ sym (is ∙ ap (λ k. list_any (λ m. m) (take k (drop first marks))) n)
+
+pub taking_twice : (marks : List Bool) (past : List ℕ) (place size first len : ℕ) (any : Bool) → AreMarks marks past → first + len ≤ length marks
+    → (length marks ≡ 2 ^ 18 → range_with_len first len ≡ places_in place size) → any ≡ list_any (λ m. m) (between first (first + len) marks)
+    → any ≡ true → Some DefinedTwice ≡ taking past place size
+taking_twice marks past place size first len any m within places is e =
+    let high = not (size == 0) && not (nat_le (place + size) (2 ^ 18)) in
+    sym (least_twice high) ∙ sym (taking_by past place size true high (any_of_part marks past place size first len any m within places is ∙ e) refl)
+
+pub taking_once : (marks : List Bool) (past : List ℕ) (place size first len : ℕ) (any high : Bool) → AreMarks marks past → first + len ≤ length marks
+    → (length marks ≡ 2 ^ 18 → range_with_len first len ≡ places_in place size) → any ≡ list_any (λ m. m) (between first (first + len) marks)
+    → any ≡ false → (length marks ≡ 2 ^ 18 → high ≡ (not (size == 0) && not (nat_le (place + size) (2 ^ 18))))
+    → code_if high PlaceTooHigh ≡ taking past place size
+taking_once marks past place size first len any high m within places is e h =
+    sym (least_none (code_if high PlaceTooHigh)) ∙ sym (taking_by past place size false high (any_of_part marks past place size first len any m within places is ∙ e) (sym (h m.all)))
+
+-- which numbers stand in a range
+range_above : (p first len : ℕ) → p < first → list_any (nat_eq p) (range_with_len first len) ≡ false
+range_above p first zero lt = refl
+range_above p first (suc len) lt =
+    let no : nat_eq p first ≡ false = grind (arith, nat_tests) in
+    ap (λ b. b || list_any (nat_eq p) (range_with_len (first + 1) len)) no ∙ range_above p (first + 1) len (omega arith)
+
+range_below : (p first len : ℕ) → first + len ≤ p → list_any (nat_eq p) (range_with_len first len) ≡ false
+range_below p first zero le = refl
+range_below p first (suc len) le =
+    let no : nat_eq p first ≡ false = grind (arith, nat_tests) in
+    ap (λ b. b || list_any (nat_eq p) (range_with_len (first + 1) len)) no ∙ range_below p (first + 1) len (omega arith)
+
+or_true : (a : Bool) → (a || true) ≡ true
+or_true true = refl
+or_true false = refl
+
+or_false : (a : Bool) → (a || false) ≡ a
+or_false true = refl
+or_false false = refl
+
+range_has : (p first len : ℕ) → first ≤ p → p < first + len → list_any (nat_eq p) (range_with_len first len) ≡ true
+range_has p first zero ge lt = absurd (omega arith)
+range_has p first (suc len) ge lt =
+    elim (leb_tells p first) [
+      | inl h ↦ (let yes : nat_eq p first ≡ true = grind (arith, nat_tests, h.1) in
+          ap (λ b. b || list_any (nat_eq p) (range_with_len (first + 1) len)) yes)
+      | inr h ↦ ap (λ b. nat_eq p first || b) (range_has p (first + 1) len (omega (arith, h.1)) (omega (arith, h.1))) ∙ or_true (nat_eq p first)
+    ]
+
+-- a mark of a list in three parts
+first_part : (marks part rest : List Bool) (first p : ℕ) → first ≤ length marks → p < first → get_or (take first marks ++ (part ++ rest)) p false ≡ get_or marks p false
+first_part marks part rest first p le lt =
+    let n = length-take-le first marks le in
+    get_or_append_left (take first marks) (part ++ rest) false p (omega arith) ∙ get_or-take first marks p false lt
+
+second_part : (marks part rest : List Bool) (first len p : ℕ) → first ≤ length marks → part ≡ replicate len true → first ≤ p → p < first + len
+    → get_or (take first marks ++ (part ++ rest)) p false ≡ true
+second_part marks part rest first len p le is ge lt =
+    let n = length-take-le first marks le in
+    let k : length part ≡ len = ap length is ∙ length-replicate len true in
+    get_or-append_right (take first marks) (part ++ rest) first p false n ge
+    ∙ get_or_append_left part rest false (p - first) (omega arith)
+    ∙ ap (λ l. get_or l (p - first) false) is ∙ get_or-replicate len (p - first) true false (omega arith)
+
+third_part : (marks part : List Bool) (first len p : ℕ) → first + len ≤ length marks → length part ≡ len → first + len ≤ p
+    → get_or (take first marks ++ (part ++ drop len (drop first marks))) p false ≡ get_or marks p false
+third_part marks part first len p le k ge =
+    let n = length-take-le first marks (omega arith) in
+    let at : first + (len + (p - first - len)) ≡ p = omega arith in
+    get_or-append_right (take first marks) (part ++ drop len (drop first marks)) first p false n (omega arith)
+    ∙ get_or-append_right part (drop len (drop first marks)) len (p - first) false k (omega arith)
+    ∙ get_or-drop len (drop first marks) (p - first - len) false
+    ∙ get_or-drop first marks (len + (p - first - len)) false
+    ∙ ap (λ i. get_or marks i false) at
+
+taken_more : (past more : List ℕ) (p : ℕ) (b : Bool) → list_any (nat_eq p) more ≡ b → is_taken (past ++ more) p ≡ (is_taken past p || b)
+taken_more past more p b e = list_any-append (nat_eq p) past more ∙ ap (λ x. is_taken past p || x) e
+
+marked_each : (marks part : List Bool) (past : List ℕ) (first len p : ℕ) → AreMarks marks past → first + len ≤ length marks → part ≡ replicate len true → p < 2 ^ 18
+    → get_or (take first marks ++ (part ++ drop len (drop first marks))) p false ≡ is_taken (past ++ range_with_len first len) p
+marked_each marks part past first len p m within is lt =
+    let k : length part ≡ len = ap length is ∙ length-replicate len true in
+    let old = m.each p lt in
+    elim (leb_tells first p) [
+      | inr h ↦ first_part marks part (drop len (drop first marks)) first p (omega arith) h.1 ∙ old
+          ∙ sym (taken_more past (range_with_len first len) p false (range_above p first len h.1) ∙ or_false (is_taken past p))
+      | inl h ↦ elim (leb_tells (first + len) p) [
+        | inl g ↦ third_part marks part first len p within k g.1 ∙ old
+            ∙ sym (taken_more past (range_with_len first len) p false (range_below p first len g.1) ∙ or_false (is_taken past p))
+        | inr g ↦ second_part marks part (drop len (drop first marks)) first len p (omega arith) is h.1 g.1
+            ∙ sym (taken_more past (range_with_len first len) p true (range_has p first len h.1 g.1) ∙ or_true (is_taken past p))
+      ]
+    ]
+
+-- the marks where a part is marked
+pub marked : (marks part : List Bool) (past : List ℕ) (place size first len n : ℕ) → AreMarks marks past → first + len ≤ length marks → n ≡ len → part ≡ replicate len true
+    → (length marks ≡ 2 ^ 18 → range_with_len first len ≡ places_in place size)
+    → AreMarks (take first marks ++ (part ++ drop n (drop first marks))) (past ++ places_in place size)
+marked marks part past place size first len n m within e is places =
+    let k : length part ≡ len = ap length is ∙ length-replicate len true in
+    let rest = drop len (drop first marks) in
+    let new = take first marks ++ (part ++ rest) in
+    let all : length new ≡ 2 ^ 18 =
+    omega (arith, m.all, length-append (take first marks) (part ++ rest), length-append part rest, length-take-le first marks (omega arith), length-drop len (drop first marks), length-drop first marks) in
+    let each = λ (p : ℕ) (lt : p < 2 ^ 18). marked_each marks part past first len p m within is lt in
+    let R : ℕ → List ℕ → Type 0 = λ i places. AreMarks (take first marks ++ (part ++ drop i (drop first marks))) (past ++ places) in
+    subst (λ i. R i (places_in place size)) (sym e) (subst (R len) (places m.all) (record { all = all; each = each }))
+
+-- a label that is given twice
+apart_twice : (name : ℕ) (front rest : List ℕ) → list_any (nat_eq name) front ≡ true → are_apart (front ++ name ∷ rest) ≡ false
+unfolding are_apart
+apart_twice name [] rest h = absurd (cc)
+apart_twice name (k ∷ front) rest h =
+    elim (eqb_tells name k) [
+      | inl e ↦ (let yes : nat_eq k name ≡ true = grind (arith, nat_tests, e.1) in
+          let there : list_any (nat_eq k) (front ++ name ∷ rest) ≡ true =
+          list_any-append (nat_eq k) front (name ∷ rest) ∙ ap (λ b. list_any (nat_eq k) front || (b || list_any (nat_eq k) rest)) yes ∙ or_true (list_any (nat_eq k) front) in
+          ap (λ b. not b && are_apart (front ++ name ∷ rest)) there)
+      | inr e ↦ (let later : list_any (nat_eq name) front ≡ true = sym (ap (λ b. b || list_any (nat_eq name) front) e.0) ∙ h in
+          ap (λ b. not (list_any (nat_eq k) (front ++ name ∷ rest)) && b) (apart_twice name front rest later) ∙ and_false (not (list_any (nat_eq k) (front ++ name ∷ rest))))
+    ]
+
+-- a label that is new
+apart_once : (name : ℕ) (front : List ℕ) → are_apart front ≡ true → list_any (nat_eq name) front ≡ false → are_apart (front ++ name ∷ []) ≡ true
+unfolding are_apart
+apart_once name [] h new = refl
+apart_once name (k ∷ front) h new =
+    let parts = and_parts (not (list_any (nat_eq k) front)) (are_apart front) h in
+    let kept = or_parts (nat_eq name k) (list_any (nat_eq name) front) new in
+    let other : nat_eq k name ≡ false = grind (arith, nat_tests, kept.0) in
+    let none : list_any (nat_eq k) (front ++ name ∷ []) ≡ list_any (nat_eq k) front =
+    list_any-append (nat_eq k) front (name ∷ []) ∙ ap (λ b. list_any (nat_eq k) front || (b || false)) other ∙ or_false (list_any (nat_eq k) front) in
+    ap (λ b. not b && are_apart (front ++ name ∷ [])) none ∙ ap (λ b. b && are_apart (front ++ name ∷ [])) parts.0 ∙ apart_once name front parts.1 kept.1
+
+abbrev own : ℕ → List ℕ → Labels
+own place names = map (λ name. (name, place)) names
+
+keys_own : (place : ℕ) (names : List ℕ) → keys_of (own place names) ≡ names
+keys_own place [] = refl
+keys_own place (name ∷ names) = ap (λ l. name ∷ l) (keys_own place names)
+
+pub keys_more : (labels : Labels) (place : ℕ) (names : List ℕ) → keys_of (labels ++ own place names) ≡ keys_of labels ++ names
+keys_more labels place names = map-append (λ e. e.0) labels (own place names) ∙ ap (λ l. keys_of labels ++ l) (keys_own place names)
+
+insert_at : (name place : ℕ) (e : ℕ × ℕ) (labels : Labels) (b : Bool) → nat_eq name e.0 ≡ b → cond b (Some e.1) (lookup (nat_eq name) labels) ≡ None
+    → (lookup (nat_eq name) labels ≡ None → insert_entry nat_eq labels name place ≡ labels ++ (name, place) ∷ [])
+    → insert_entry nat_eq (e ∷ labels) name place ≡ e ∷ (labels ++ (name, place) ∷ [])
+insert_at name place e labels true is h more = absurd (cc)
+insert_at name place e labels false is h more = ap (λ b. cond b ((e.0, place) ∷ labels) (e ∷ insert_entry nat_eq labels name place)) is ∙ ap (λ l. e ∷ l) (more h)
+
+insert_new : (labels : Labels) (name place : ℕ) → lookup (nat_eq name) labels ≡ None → insert_entry nat_eq labels name place ≡ labels ++ (name, place) ∷ []
+insert_new [] name place h = refl
+insert_new (e ∷ labels) name place h = insert_at name place e labels (nat_eq name e.0) refl h (insert_new labels name place)
+
+-- one of the labels has a place already
+pub define_fails : (old now : Labels) (names : List ℕ) (place i name d : ℕ) → i < length names → now ≡ old ++ own place (take i names)
+    → name ≡ get_or names i d → is_some (lookup (nat_eq name) now) ≡ true → false ≡ are_apart (keys_of old ++ names)
+define_fails old now names place i name d lt so_far item h =
+    let keys : keys_of now ≡ keys_of old ++ take i names = ap keys_of so_far ∙ keys_more old place (take i names) in
+    let parted : take i names ++ (name ∷ drop (i + 1) names) ≡ names = ap (λ l. take i names ++ l) (ap (λ n. n ∷ drop (i + 1) names) item ∙ sym (drop_more names i d lt)) ∙ take-append-drop i names in
+    let all : keys_of now ++ name ∷ drop (i + 1) names ≡ keys_of old ++ names =
+    ap (λ l. l ++ name ∷ drop (i + 1) names) keys ∙ append_assoc (keys_of old) (take i names) (name ∷ drop (i + 1) names) ∙ ap (λ l. keys_of old ++ l) parted in
+    sym (ap are_apart (sym all) ∙ apart_twice name (keys_of now) (drop (i + 1) names) (sym (is_some-lookup (nat_eq name) now) ∙ h))
+
+-- one label more
+pub define_more : (old now new : Labels) (names : List ℕ) (place i name d : ℕ) → i < length names → now ≡ old ++ own place (take i names)
+    → name ≡ get_or names i d → is_some (lookup (nat_eq name) now) ≡ false → new ≡ insert_entry nat_eq now name place
+    → new ≡ old ++ own place (take (i + 1) names)
+define_more old now new names place i name d lt so_far item h is =
+    is ∙ insert_new now name place (is_nothing (lookup (nat_eq name) now) h)
+    ∙ ap (λ l. l ++ (name, place) ∷ []) so_far ∙ append_assoc old (own place (take i names)) ((name, place) ∷ [])
+    ∙ ap (λ l. old ++ l) (sym (map-append (λ n. (n, place)) (take i names) (name ∷ [])) ∙ ap (own place) (ap (λ n. take i names ++ n ∷ []) item ∙ sym (take_more names i d lt)))
+
+pub still_apart : (now new : Labels) (name place : ℕ) → is_some (lookup (nat_eq name) now) ≡ false → new ≡ insert_entry nat_eq now name place
+    → are_apart (keys_of now) ≡ true → are_apart (keys_of new) ≡ true
+still_apart now new name place h is apart =
+    ap (λ l. are_apart (keys_of l)) (is ∙ insert_new now name place (is_nothing (lookup (nat_eq name) now) h))
+    ∙ ap are_apart (keys_more now place (name ∷ []))
+    ∙ apart_once name (keys_of now) apart (sym (is_some-lookup (nat_eq name) now) ∙ h)
+
+pub define_done : (old now : Labels) (names : List ℕ) (place i : ℕ) → length names ≤ i → now ≡ old ++ own place (take i names)
+    → now ≡ old ++ own place names
+define_done old now names place i ge so_far = so_far ∙ ap (λ l. old ++ own place l) (take_all i names ge)
+
+-- no place is taken yet
+pub unmarked_all : (marks : List Bool) (n : ℕ) → n ≡ 2 ^ 18 → marks ≡ replicate n false → AreMarks marks []
+unmarked_all marks n all is = record {
+  all = ap length is ∙ length-replicate n false ∙ all;
+  each = λ place lt. ap (λ l. get_or l place false) is ∙ get_or-replicate n place false false (omega arith);
+}
+
+-- what is taken from a place on settles what is wrong from there on
+any_same : (a b : List ℕ) (first n : ℕ) → ((q : ℕ) → first ≤ q → is_taken a q ≡ is_taken b q) → list_any (is_taken a) (range_with_len first n) ≡ list_any (is_taken b) (range_with_len first n)
+any_same a b first zero same = refl
+any_same a b first (suc n) same =
+    ap (λ x. x || list_any (is_taken a) (range_with_len (first + 1) n)) (same first (omega arith))
+    ∙ ap (λ x. is_taken b first || x) (any_same a b (first + 1) n (λ q ge. same q (omega arith)))
+
+taking_same : (a b : List ℕ) (place size : ℕ) → ((q : ℕ) → place ≤ q → is_taken a q ≡ is_taken b q) → taking a place size ≡ taking b place size
+unfolding taking
+taking_same a b place size same =
+    ap (λ x. least (code_if x DefinedTwice) (code_if (not (size == 0) && not (nat_le (place + size) (2 ^ 18))) PlaceTooHigh))
+    (any_same a b place (cond (nat_le size (2 ^ 18 - place)) size (2 ^ 18 - place)) same)
+
+size_same : (a b : List ℕ) (place : ℕ) (size : Result ℕ AsmCode) → ((q : ℕ) → place ≤ q → is_taken a q ≡ is_taken b q) → taking_size a place size ≡ taking_size b place size
+size_same a b place (Ok size) same = taking_same a b place size same
+size_same a b place (Err code) same = refl
+
+-- the literals stand one behind the other, so none takes a place of another
+abbrev pub all_apart : List ℕ → ℕ → List (Result ℕ AsmCode) → Option AsmCode
+all_apart taken place [] = None
+all_apart taken place (size ∷ sizes) = least (taking_size taken place size) (all_apart taken (place + count_or 0 size) sizes)
+
+behind : (taken : List ℕ) (place size q : ℕ) → place + size ≤ q → is_taken (taken ++ places_in place size) q ≡ is_taken taken q
+behind taken place size q ge =
+    let few : cond (nat_le size (2 ^ 18 - place)) size (2 ^ 18 - place) ≤ size = grind (arith, nat_tests) in
+    taken_more taken (places_in place size) q false (range_below q place (cond (nat_le size (2 ^ 18 - place)) size (2 ^ 18 - place)) (omega arith)) ∙ or_false (is_taken taken q)
+
+all_same : (sizes : List (Result ℕ AsmCode)) (a b : List ℕ) (place : ℕ) → ((q : ℕ) → place ≤ q → is_taken a q ≡ is_taken b q) → all_apart b place sizes ≡ taking_all a place sizes
+unfolding taking_all
+all_same [] a b place same = refl
+all_same (size ∷ sizes) a b place same =
+    let more = all_same sizes (a ++ places_in place (count_or 0 size)) b (place + count_or 0 size) (λ q ge. behind a place (count_or 0 size) q ge ∙ same q (omega arith)) in
+    ap (λ c. least c (all_apart b (place + count_or 0 size) sizes)) (sym (size_same a b place size same)) ∙ ap (least (taking_size a place size)) more
+
+pub all_apart_is : (taken : List ℕ) (place : ℕ) (sizes : List (Result ℕ AsmCode)) → all_apart taken place sizes ≡ taking_all taken place sizes
+all_apart_is taken place sizes = all_same sizes taken taken place (λ q ge. refl)
+
+least_code : AsmCode → AsmCode → AsmCode
+least_code a b = cond (nat_le (number_of a) (number_of b)) a b
+
+least_some : (a b : AsmCode) → least (Some a) (Some b) ≡ Some (least_code a b)
+unfolding least least_code
+least_some a b = by (nat_le (number_of a) (number_of b))
+  where
+    by : (t : Bool) → cond t (Some a) (Some b) ≡ Some (cond t a b)
+    by true = refl
+    by false = refl
+
+pub code_least_none : (code : Option AsmCode) → least code None ≡ code
+unfolding least
+code_least_none None = refl
+code_least_none (Some code) = refl
+
+three : (a b c : AsmCode) (ab bc ac : Bool) → nat_le (number_of a) (number_of b) ≡ ab → nat_le (number_of b) (number_of c) ≡ bc → nat_le (number_of a) (number_of c) ≡ ac
+    → least_code (least_code a b) c ≡ least_code a (least_code b c)
+unfolding least_code
+three a b c true true true e f g = rw (e, f, g, e) refl
+three a b c true true false e f g = absurd (grind (arith, nat_tests))
+three a b c true false true e f g = rw (e, f, g) refl
+three a b c true false false e f g = rw (e, f, g) refl
+three a b c false true true e f g = rw (e, f, e) refl
+three a b c false true false e f g = rw (e, f, e) refl
+three a b c false false true e f g = absurd (grind (arith, nat_tests))
+three a b c false false false e f g = rw (e, f, g) refl
+
+-- the place of one word
+no_places : (place : ℕ) → 2 ^ 18 ≤ place → places_in place 1 ≡ []
+no_places place le =
+    let no : nat_le 1 (2 ^ 18 - place) ≡ false = grind (arith, nat_tests) in
+    let k : 2 ^ 18 - place ≡ 0 = omega arith in
+    ap (λ b. range_with_len place (cond b 1 (2 ^ 18 - place))) no ∙ ap (range_with_len place) k
+
+own_place : (place : ℕ) → place < 2 ^ 18 → places_in place 1 ≡ place ∷ []
+own_place place lt =
+    let yes : nat_le 1 (2 ^ 18 - place) ≡ true = grind (arith, nat_tests) in
+    ap (λ b. range_with_len place (cond b 1 (2 ^ 18 - place))) yes
+
+pub one_high : (past : List ℕ) (place : ℕ) → 2 ^ 18 ≤ place → Some PlaceTooHigh ≡ taking past place 1
+one_high past place le =
+    let none : places_in place 1 ≡ [] = no_places place le in
+    let high : (not (1 == 0) && not (nat_le (place + 1) (2 ^ 18))) ≡ true = grind (arith, nat_tests) in
+    sym (taking_by past place 1 false true (ap (list_any (is_taken past)) none) high ∙ least_none (Some PlaceTooHigh))
+
+pub high_marks : (marks : List Bool) (past : List ℕ) (place : ℕ) → 2 ^ 18 ≤ place → AreMarks marks past → AreMarks marks (past ++ places_in place 1)
+high_marks marks past place le m = subst (AreMarks marks) (sym (ap (λ l. past ++ l) (no_places place le) ∙ append-nil past)) m
+
+pub one_low : (marks : List Bool) (past : List ℕ) (at place : ℕ) (twice : Bool) → at ≡ min place (length marks) → (at ≡ length marks → ⊥) → AreMarks marks past
+    → get_or marks at false ≡ twice → code_if twice DefinedTwice ≡ taking past place 1
+one_low marks past at place twice clamped within m is =
+    let same : at ≡ place = omega arith in
+    let lt : place < 2 ^ 18 = omega (arith, m.all) in
+    let low : (not (1 == 0) && not (nat_le (place + 1) (2 ^ 18))) ≡ false = grind (arith, nat_tests) in
+    let any : list_any (is_taken past) (places_in place 1) ≡ twice =
+    ap (list_any (is_taken past)) (own_place place lt) ∙ or_false (is_taken past place) ∙ sym (m.each place lt) ∙ sym (ap (λ p. get_or marks p false) same) ∙ is in
+    sym (taking_by past place 1 twice false any low ∙ code_least_none (code_if twice DefinedTwice))
+
+set_each : (marks : List Bool) (past : List ℕ) (place p : ℕ) → place < 2 ^ 18 → p < 2 ^ 18 → AreMarks marks past
+    → get_or (set marks place true) p false ≡ is_taken (past ++ place ∷ []) p
+set_each marks past place p lt below m =
+    elim (eqb_tells p place) [
+      | inl e ↦ (let same : p ≡ place = e.1 in
+          let yes : nat_eq p place ≡ true = grind (arith, nat_tests, e.1) in
+          ap (λ q. get_or (set marks place true) q false) same ∙ get_or-set_same marks place true false (omega (arith, m.all))
+          ∙ sym (taken_more past (place ∷ []) p true (ap (λ b. b || false) yes) ∙ or_true (is_taken past p)))
+      | inr e ↦ (let no : nat_eq p place ≡ false = e.0 in
+          get_or-set_other marks place p true false (λ h. e.1 h) ∙ m.each p below
+          ∙ sym (taken_more past (place ∷ []) p false (ap (λ b. b || false) no) ∙ or_false (is_taken past p)))
+    ]
+
+pub low_marks : (marks : List Bool) (past : List ℕ) (at place : ℕ) → at ≡ min place (length marks) → (at ≡ length marks → ⊥) → AreMarks marks past
+    → AreMarks (set marks at true) (past ++ places_in place 1)
+low_marks marks past at place clamped within m =
+    let same : place ≡ at = omega arith in
+    let lt : place < 2 ^ 18 = omega (arith, m.all) in
+    subst (λ p. AreMarks (set marks p true) (past ++ places_in place 1)) same (subst (λ l. AreMarks (set marks place true) (past ++ l)) (sym (own_place place lt)) (record {
+      all = length-set marks place true ∙ m.all;
+      each = λ p below. set_each marks past place p lt below m;
+    }))
+
+pub least_assoc : (a b c : Option AsmCode) → least (least a b) c ≡ least a (least b c)
+unfolding least
+least_assoc None b c = ap (λ x. least x c) (least_none b) ∙ sym (least_none (least b c))
+least_assoc (Some a) None c = ap (least (Some a)) (sym (least_none c))
+least_assoc (Some a) (Some b) None = code_least_none (least (Some a) (Some b))
+least_assoc (Some a) (Some b) (Some c) =
+    ap (λ x. least x (Some c)) (least_some a b) ∙ least_some (least_code a b) c
+    ∙ ap Some (three a b c (nat_le (number_of a) (number_of b)) (nat_le (number_of b) (number_of c)) (nat_le (number_of a) (number_of c)) refl refl refl)
+    ∙ sym (least_some a (least_code b c)) ∙ ap (least (Some a)) (sym (least_some b c))
+
+-- one literal more
+pub literals_more : (past : List ℕ) (code next : Option AsmCode) (at at' : ℕ) (sizes : List (Result ℕ AsmCode)) (i : ℕ) (size d : Result ℕ AsmCode) (total : Option AsmCode) → i < length sizes
+    → size ≡ get_or sizes i d → next ≡ least code (taking_size past at size) → at' ≡ at + count_or 0 size
+    → least code (all_apart past at (drop i sizes)) ≡ total → least next (all_apart past at' (drop (i + 1) sizes)) ≡ total
+literals_more past code next at at' sizes i size d total lt item n a so_far =
+    ap (λ x. least next (all_apart past x (drop (i + 1) sizes))) a
+    ∙ ap (λ x. least x (all_apart past (at + count_or 0 size) (drop (i + 1) sizes))) n
+    ∙ least_assoc code (taking_size past at size) (all_apart past (at + count_or 0 size) (drop (i + 1) sizes))
+    ∙ ap (λ l. least code (all_apart past at l)) (ap (λ x. x ∷ drop (i + 1) sizes) item ∙ sym (drop_more sizes i d lt))
+    ∙ so_far
+
+pub literals_end : (past : List ℕ) (code : Option AsmCode) (at place : ℕ) (sizes : List (Result ℕ AsmCode)) (i : ℕ) → length sizes ≤ i
+    → least code (all_apart past at (drop i sizes)) ≡ all_apart past place sizes → code ≡ taking_all past place sizes
+literals_end past code at place sizes i ge so_far =
+    sym (code_least_none code) ∙ sym (at_drop_all (λ l. least code (all_apart past at l)) sizes i ge) ∙ so_far ∙ all_apart_is past place sizes
+
+-- the place of one literal more
+abbrev pub places_with : List ℕ → ℕ → List (Result ℕ AsmCode) → List ℕ
+places_with front at sizes = front ++ places_from at (map (count_or 0) sizes)
+
+places_cons : (at : ℕ) (size : Result ℕ AsmCode) (sizes : List (Result ℕ AsmCode)) → places_from at (map (count_or 0) (size ∷ sizes)) ≡ at ∷ places_from (at + count_or 0 size) (map (count_or 0) sizes)
+unfolding places_from
+places_cons at size sizes = refl
+
+pub places_more : (front new : List ℕ) (at at' : ℕ) (sizes : List (Result ℕ AsmCode)) (i : ℕ) (size d : Result ℕ AsmCode) (total : List ℕ) → i < length sizes
+    → size ≡ get_or sizes i d → new ≡ front ++ at ∷ [] → at' ≡ at + count_or 0 size
+    → places_with front at (drop i sizes) ≡ total → places_with new at' (drop (i + 1) sizes) ≡ total
+places_more front new at at' sizes i size d total lt item n a so_far =
+    ap (λ x. places_with new x (drop (i + 1) sizes)) a
+    ∙ ap (λ l. places_with l (at + count_or 0 size) (drop (i + 1) sizes)) n
+    ∙ append_assoc front (at ∷ []) (places_from (at + count_or 0 size) (map (count_or 0) (drop (i + 1) sizes)))
+    ∙ ap (λ l. front ++ l) (sym (places_cons at size (drop (i + 1) sizes)))
+    ∙ ap (places_with front at) (ap (λ x. x ∷ drop (i + 1) sizes) item ∙ sym (drop_more sizes i d lt))
+    ∙ so_far
+
+places_none : (at : ℕ) → places_from at [] ≡ []
+unfolding places_from
+places_none at = refl
+
+pub places_end : (front : List ℕ) (at : ℕ) (sizes : List (Result ℕ AsmCode)) (i : ℕ) (total : List ℕ) → length sizes ≤ i
+    → places_with front at (drop i sizes) ≡ total → front ≡ total
+places_end front at sizes i total ge so_far =
+    sym (append-nil front) ∙ ap (λ l. front ++ l) (sym (places_none at)) ∙ sym (at_drop_all (places_with front at) sizes i ge) ∙ so_far
+
+pub literals_begin : (past : List ℕ) (at place : ℕ) (sizes : List (Result ℕ AsmCode)) → at ≡ place
+    → least None (all_apart past at (drop 0 sizes)) ≡ all_apart past place sizes
+literals_begin past at place sizes is = least_none (all_apart past at (drop 0 sizes)) ∙ ap (λ a. all_apart past a sizes) is
+
+-- a line whose labels are new
+pub with_labels_stands : (p q : Progress) (s : Layout) (line : Line) → StandsFor p s → are_apart (keys_of s.labels ++ line.labels) ≡ true
+    → q.labels.entries ≡ p.labels.entries ++ own p.place line.labels → q.place ≡ p.place → q.places.items ≡ p.places.items ++ p.place ∷ []
+    → q.taken.items ≡ p.taken.items → q.sizes.items ≡ p.sizes.items ++ map (literal_size q.labels.entries p.place) line.literals
+    → StandsFor q (with_labels s line)
+unfolding with_labels
+with_labels_stands p q s line m apart labels place places taken sizes =
+    let all : q.labels.entries ≡ s.labels ++ own s.place line.labels = labels ∙ ap (λ l. l ++ own p.place line.labels) m.labels ∙ ap (λ n. s.labels ++ own n line.labels) m.place in
+    record {
+      labels = all;
+      apart = ap are_apart (keys_more s.labels s.place line.labels) ∙ apart;
+      place = place ∙ m.place;
+      places = places ∙ ap (λ l. l ++ p.place ∷ []) m.places ∙ ap (λ n. s.places ++ n ∷ []) m.place;
+      taken = subst (λ l. AreMarks l s.taken) (sym taken) m.taken;
+      sizes = sizes ∙ ap (λ l. l ++ map (literal_size q.labels.entries p.place) line.literals) m.sizes
+          ∙ ap (λ l. s.sizes ++ map (literal_size l p.place) line.literals) all
+          ∙ ap (λ n. s.sizes ++ map (literal_size (s.labels ++ own s.place line.labels) n) line.literals) m.place;
+    }
+
+-- a statement of a size
+pub with_size_stands : (p q : Progress) (s : Layout) (words : ℕ) → StandsFor p s → q.labels.entries ≡ p.labels.entries → q.place ≡ p.place + words
+    → q.places.items ≡ p.places.items → AreMarks q.taken.items (s.taken ++ places_in p.place words) → q.sizes.items ≡ p.sizes.items → StandsFor q (with_size s (Ok words))
+with_size_stands p q s words m labels place places taken sizes = record {
+  labels = labels ∙ m.labels;
+  apart = m.apart;
+  place = place ∙ ap (λ n. n + words) m.place;
+  places = places ∙ m.places;
+  taken = subst (λ n. AreMarks q.taken.items (s.taken ++ places_in n words)) m.place taken;
+  sizes = sizes ∙ m.sizes;
+}
+
+pub apart_nil : are_apart [] ≡ true
+unfolding are_apart
+apart_nil = refl
+
+pub if_ok_more : {T E : Type 0} (P Q : T → Type 0) → ((x : T) → P x → Q x) → (r : Result T E) → IfOk r P → IfOk r Q
+if_ok_more P Q f (Ok x) h = f x h
+if_ok_more P Q f (Err e) h = tt
+
+-- a statement that takes no place
+stands_still : (p : Progress) (s : Layout) → StandsFor p s → StandsFor p (record s { place = s.place; taken = s.taken ++ [] })
+stands_still p s m = record {
+  labels = m.labels;
+  apart = m.apart;
+  place = m.place;
+  places = m.places;
+  taken = subst (AreMarks p.taken.items) (sym (append-nil s.taken)) m.taken;
+  sizes = m.sizes;
+}
+
+pub lays_data : (p q : Progress) (st : Option Statement) (given : Data) (size : Result ℕ AsmCode) (code : Option AsmCode) → st ≡ Some (statements.Data given) → size ≡ checked_size p.labels.entries p.place given
+    → Lays p q (λ s. taking_size s.taken s.place size) (λ s. with_size s size) code → Lays p q (λ s. statement_code s st) (λ s. with_statement s st) code
+unfolding statement_code with_statement
+lays_data p q st given size code is sized h = λ s m.
+    let measured : size ≡ checked_size s.labels s.place given = sized ∙ ap (λ l. checked_size l p.place given) m.labels ∙ ap (λ n. checked_size s.labels n given) m.place in
+    let R : Option Statement → Type 0 = λ t. (code ≡ statement_code s t) × (code ≡ None → StandsFor q (with_statement s t)) in
+    let S : Result ℕ AsmCode → Type 0 = λ z. (code ≡ taking_size s.taken s.place z) × (code ≡ None → StandsFor q (with_size s z)) in
+    subst R (sym is) (subst S measured (h s m))
+
+counted : (p : Progress) (s : Layout) (e : List SignedTerm) (r : Result ℕ AsmCode) → StandsFor p s → r ≡ checked_count p.labels.entries p.place e → r ≡ checked_count s.labels s.place e
+counted p s e r m is = is ∙ ap (λ l. checked_count l p.place e) m.labels ∙ ap (λ n. checked_count s.labels n e) m.place
+
+pub lays_loc_not : (p q : Progress) (st : Option Statement) (e : List SignedTerm) (code : AsmCode) → st ≡ Some (statements.Loc e) → Err code ≡ checked_count p.labels.entries p.place e
+    → Lays p q (λ s. statement_code s st) (λ s. with_statement s st) (Some code)
+unfolding statement_code
+lays_loc_not p q st e code is wrong = λ s m.
+    (ap code_of (counted p s e (Err code) m wrong) ∙ sym (ap (statement_code s) is), λ h. absurd (cc))
+
+pub lays_loc : (p q : Progress) (st : Option Statement) (e : List SignedTerm) (n : ℕ) → st ≡ Some (statements.Loc e) → Ok n ≡ checked_count p.labels.entries p.place e
+    → q.labels.entries ≡ p.labels.entries → q.place ≡ n → q.places.items ≡ p.places.items → q.taken.items ≡ p.taken.items → q.sizes.items ≡ p.sizes.items
+    → Lays p q (λ s. statement_code s st) (λ s. with_statement s st) None
+unfolding statement_code with_statement
+lays_loc p q st e n is right labels place places taken sizes = λ s m.
+    let counts = counted p s e (Ok n) m right in
+    let next : StandsFor q (with_statement s (Some (statements.Loc e))) = record {
+      labels = labels ∙ m.labels;
+      apart = m.apart;
+      place = place ∙ ap (count_or s.place) counts;
+      places = places ∙ m.places;
+      taken = subst (AreMarks q.taken.items) (sym (append-nil s.taken)) (subst (λ l. AreMarks l s.taken) (sym taken) m.taken);
+      sizes = sizes ∙ m.sizes;
+    } in
+    (ap code_of counts ∙ sym (ap (statement_code s) is), λ h. subst (λ t. StandsFor q (with_statement s t)) (sym is) next)
+
+pub lays_radix : (p : Progress) (st : Option Statement) (n : ℕ) (code : Option AsmCode) → st ≡ Some (statements.Radix n) → code ≡ code_if (not (nat_le 2 n && nat_le n 10)) DoesNotFit
+    → Lays p p (λ s. statement_code s st) (λ s. with_statement s st) code
+unfolding statement_code with_statement
+lays_radix p st n code is h = λ s m.
+    (h ∙ sym (ap (statement_code s) is), λ _. subst (λ t. StandsFor p (with_statement s t)) (sym is) (stands_still p s m))
+
+pub lays_end : (p : Progress) (st : Option Statement) (start : Option (List SignedTerm)) (code : Option AsmCode) → st ≡ Some (statements.End start)
+    → ((past : List ℕ) → AreMarks p.taken.items past → code ≡ taking_all past p.place p.sizes.items)
+    → Lays p p (λ s. statement_code s st) (λ s. with_statement s st) code
+unfolding statement_code with_statement
+lays_end p st start code is h = λ s m. (
+  h s.taken m.taken ∙ ap (λ n. taking_all s.taken n p.sizes.items) m.place ∙ ap (taking_all s.taken s.place) m.sizes ∙ sym (ap (statement_code s) is),
+  λ _. subst (λ t. StandsFor p (with_statement s t)) (sym is) (stands_still p s m),
+)
+
+pub lays_title : (p : Progress) (st : Option Statement) → st ≡ Some statements.Title → Lays p p (λ s. statement_code s st) (λ s. with_statement s st) None
+unfolding statement_code with_statement
+lays_title p st is = λ s m.
+    (sym (ap (statement_code s) is), λ _. subst (λ t. StandsFor p (with_statement s t)) (sym is) (stands_still p s m))
+
+pub lays_nothing : (p : Progress) (st : Option Statement) → st ≡ None → Lays p p (λ s. statement_code s st) (λ s. with_statement s st) None
+unfolding statement_code with_statement
+lays_nothing p st is = λ s m.
+    (sym (ap (statement_code s) is), λ _. subst (λ t. StandsFor p (with_statement s t)) (sym is) (stands_still p s m))
+
+-- a line with a label that has a place already
+pub line_twice : (p q mid : Progress) (line : Line) → ((s : Layout) → StandsFor p s → Defines false s line mid)
+    → Lays p q (λ s. line_code s line) (λ s. with_line s line) (Some DefinedTwice)
+unfolding line_code
+line_twice p q mid line defines = λ s m.
+    (sym (ap (λ b. cond b (least (labels_code s line) (statement_code (with_labels s line) line.statement)) (Some DefinedTwice)) (sym (defines s m).0)), λ h. absurd (cc))
+
+last_none : (a b : Option AsmCode) → least a b ≡ None → b ≡ None
+last_none a None h = refl
+last_none None (Some b) h = absurd (cc (least_none (Some b)))
+last_none (Some a) (Some b) h = absurd (cc (least_some a b))
+
+-- a line whose labels are new
+pub line_lays : (p mid q : Progress) (line : Line) (labels own code : Option AsmCode)
+    → labels ≡ code_if (not (length line.labels == 0) && not (nat_lt p.place (2 ^ 18))) PlaceTooHigh
+    → ((s : Layout) → StandsFor p s → Defines true s line mid)
+    → Lays mid q (λ s. statement_code s line.statement) (λ s. with_statement s line.statement) own → code ≡ least labels own
+    → Lays p q (λ s. line_code s line) (λ s. with_line s line) code
+unfolding line_code
+line_lays p mid q line labels own code high defines lays is = λ s m.
+    let d = defines s m in
+    let r = lays (with_labels s line) (d.1 refl) in
+    let first : labels ≡ labels_code s line = high ∙ ap (λ n. code_if (not (length line.labels == 0) && not (nat_lt n (2 ^ 18))) PlaceTooHigh) m.place in (
+      is ∙ ap (λ c. least c own) first ∙ ap (least (labels_code s line)) r.0
+          ∙ ap (λ b. cond b (least (labels_code s line) (statement_code (with_labels s line) line.statement)) (Some DefinedTwice)) d.0,
+      λ h. r.1 (last_none labels own (sym is ∙ h)),
+    )
+
+-- the lines so far are laid out
+laid_out-cons : (s : Layout) (number : ℕ) (line : Line) (lines : List Line) → laid_out s number (line ∷ lines) ≡ unless_fault number (line_code s line) (laid_out (with_line s line) (number + 1) lines)
+unfolding laid_out
+laid_out-cons s number line lines = refl
+
+laid_out-nil : (s : Layout) (number : ℕ) → laid_out s number [] ≡ Ok s
+unfolding laid_out
+laid_out-nil s number = refl
+
+next_line : (s : Layout) (lines : List Line) (i : ℕ) (line d : Line) (code : Option AsmCode) (total : Result Layout Fault) → i < length lines → line ≡ get_or lines i d → code ≡ line_code s line
+    → laid_out s (i + 1) (drop i lines) ≡ total → total ≡ unless_fault (i + 1) code (laid_out (with_line s line) (i + 1 + 1) (drop (i + 1) lines))
+next_line s lines i line d code total lt item is so_far =
+    sym so_far ∙ ap (laid_out s (i + 1)) (drop_more lines i d lt ∙ ap (λ x. x ∷ drop (i + 1) lines) (sym item))
+    ∙ laid_out-cons s (i + 1) line (drop (i + 1) lines)
+    ∙ ap (λ c. unless_fault (i + 1) c (laid_out (with_line s line) (i + 1 + 1) (drop (i + 1) lines))) (sym is)
+
+pub line_goes_on : (s : Layout) (lines : List Line) (i : ℕ) (line d : Line) (total : Result Layout Fault) → i < length lines → line ≡ get_or lines i d → None ≡ line_code s line
+    → laid_out s (i + 1) (drop i lines) ≡ total → laid_out (with_line s line) (i + 1 + 1) (drop (i + 1) lines) ≡ total
+line_goes_on s lines i line d total lt item is so_far = sym (next_line s lines i line d None total lt item is so_far)
+
+pub line_fails : (s : Layout) (lines : List Line) (i : ℕ) (line d : Line) (code : AsmCode) (total : Result Layout Fault) → i < length lines → line ≡ get_or lines i d → Some code ≡ line_code s line
+    → laid_out s (i + 1) (drop i lines) ≡ total → total ≡ Err (record { line = i + 1; code = code })
+line_fails s lines i line d code total lt item is so_far = next_line s lines i line d (Some code) total lt item is so_far
+
+pub lines_done : (s : Layout) (lines : List Line) (i : ℕ) (total : Result Layout Fault) → length lines ≤ i → laid_out s (i + 1) (drop i lines) ≡ total → total ≡ Ok s
+lines_done s lines i total ge so_far = sym so_far ∙ at_drop_all (laid_out s (i + 1)) lines i ge ∙ laid_out-nil s (i + 1)

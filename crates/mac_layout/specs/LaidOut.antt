@@ -1,0 +1,137 @@
+-- Lines laid out from above (this project's profile): where the labels and the words stand, or the first line that cannot
+-- be laid out with the least code of what is wrong with it.
+use Rattle.std.specs.Prelude.{ℕ, ℤ, ◌+◌, ◌^◌, Bool, not, nat_lt, nat_le, nat_eq, ◌-◌, ◌&&◌, ◌==◌, List, [], ◌∷◌, ◌++◌, length, map, Option, Some, None, Result, Ok, Err, if◌then◌else◌}
+use Rattle.std.specs.List.{range_with_len, list_any}
+use Rattle.std.specs.Map.{keys_of}
+use Rattle.mac_text.specs.declared.syntax.SignedTerm.{SignedTerm}
+use Rattle.mac_text.specs.declared.syntax.Data.{Data}
+use Rattle.mac_text.specs.declared.syntax.Data.TheVariants as data_of
+use Rattle.mac_text.specs.declared.syntax.Statement.{Statement}
+use Rattle.mac_text.specs.declared.syntax.Statement.TheVariants as statements
+use Rattle.mac_text.specs.declared.syntax.Line.{Line}
+use Rattle.mac_layout.specs.declared.error.AsmCode.{AsmCode}
+use Rattle.mac_layout.specs.declared.error.AsmCode.TheVariants.{DefinedTwice, DoesNotFit, NotYetDefined, PlaceTooHigh}
+use Rattle.mac_layout.specs.Values.{value_of, natural_of}
+use Rattle.mac_layout.specs.TextSizes.{words_in}
+use Rattle.mac_layout.specs.Places.{Labels, names_at, labels_at, places_from, first_place, are_apart}
+use Rattle.mac_layout.specs.Faults.{Fault, least, code_if, code_of, unless_fault}
+
+-- the value of LOC or BLOCK is not negative
+abbrev pub count_if : Option ℕ → Result ℕ AsmCode
+count_if None = Err DoesNotFit
+count_if (Some n) = Ok n
+
+-- its labels stand earlier, and it has no literal
+abbrev pub count_from : Option ℤ → Result ℕ AsmCode
+count_from None = Err NotYetDefined
+count_from (Some value) = count_if (natural_of value)
+
+unfoldable pub checked_count : Labels → ℕ → List SignedTerm → Result ℕ AsmCode
+checked_count labels here e = count_from (value_of (names_at labels here []) e)
+
+-- how many words a statement gives
+unfoldable pub checked_size : Labels → ℕ → Data → Result ℕ AsmCode
+checked_size labels here (data_of.Exp es) = Ok (length es)
+checked_size labels here (data_of.Text form text) = Ok (words_in form (length text))
+checked_size labels here (data_of.Block count) = checked_count labels here count
+checked_size labels here _ = Ok 1
+
+-- a literal gives at least one word
+abbrev pub at_least_one : Result ℕ AsmCode → Result ℕ AsmCode
+at_least_one (Ok n) = if n == 0 then Err DoesNotFit else Ok n
+at_least_one (Err code) = Err code
+
+abbrev pub literal_size : Labels → ℕ → Data → Result ℕ AsmCode
+literal_size labels here given = at_least_one (checked_size labels here given)
+
+-- how far lines are laid out: the labels above with their places, the place behind the last line, the places of the
+-- lines, the places that have words, and the sizes of the literals
+pub record Layout : Type 0 where
+  pub labels : Labels
+  pub place : ℕ
+  pub places : List ℕ
+  pub taken : List ℕ
+  pub sizes : List (Result ℕ AsmCode)
+
+abbrev pub empty_layout : Layout
+empty_layout = record { labels = []; place = first_place; places = []; taken = []; sizes = [] }
+
+abbrev pub is_taken : List ℕ → ℕ → Bool
+is_taken taken place = list_any (nat_eq place) taken
+
+-- of so many places from one on, those below 2 ^ 18
+abbrev pub places_in : ℕ → ℕ → List ℕ
+places_in place size = range_with_len place (if nat_le size (2 ^ 18 - place) then size else 2 ^ 18 - place)
+
+-- so many words from a place on: each has a place of its own below 2 ^ 18
+unfoldable pub taking : List ℕ → ℕ → ℕ → Option AsmCode
+taking taken place size =
+    least (code_if (list_any (is_taken taken) (places_in place size)) DefinedTwice)
+    (code_if (not (size == 0) && not (nat_le (place + size) (2 ^ 18))) PlaceTooHigh)
+
+-- a size that could be counted, and the places that it takes
+abbrev pub taking_size : List ℕ → ℕ → Result ℕ AsmCode → Option AsmCode
+taking_size taken place (Ok size) = taking taken place size
+taking_size taken place (Err code) = Some code
+
+abbrev pub count_or : ℕ → Result ℕ AsmCode → ℕ
+count_or other (Ok n) = n
+count_or other (Err code) = other
+
+-- all literals behind END, one behind the other
+unfoldable pub taking_all : List ℕ → ℕ → List (Result ℕ AsmCode) → Option AsmCode
+taking_all taken place [] = None
+taking_all taken place (size ∷ sizes) =
+    least (taking_size taken place size)
+    (taking_all (taken ++ places_in place (count_or 0 size)) (place + count_or 0 size) sizes)
+
+-- a line with labels stands below 2 ^ 18
+abbrev pub labels_code : Layout → Line → Option AsmCode
+labels_code s line = code_if (not (length line.labels == 0) && not (nat_lt s.place (2 ^ 18))) PlaceTooHigh
+
+-- the layout where the labels of a line are known, and its literals are measured
+unfoldable pub with_labels : Layout → Line → Layout
+with_labels s line =
+    let labels = s.labels ++ labels_at (record { place = s.place; line = line }) in
+    record s { labels = labels; places = s.places ++ (s.place ∷ []); sizes = s.sizes ++ map (literal_size labels s.place) line.literals }
+
+-- the statement of a line whose labels are known
+unfoldable pub statement_code : Layout → Option Statement → Option AsmCode
+statement_code s (Some (statements.Data given)) = taking_size s.taken s.place (checked_size s.labels s.place given)
+statement_code s (Some (statements.Loc e)) = code_of (checked_count s.labels s.place e)
+statement_code s (Some (statements.Radix n)) = code_if (not (nat_le 2 n && nat_le n 10)) DoesNotFit
+statement_code s (Some (statements.End start)) = taking_all s.taken s.place s.sizes
+statement_code s _ = None
+
+abbrev pub taken_by : Layout → Option Statement → List ℕ
+taken_by s (Some (statements.Data given)) = places_in s.place (count_or 0 (checked_size s.labels s.place given))
+taken_by s _ = []
+
+-- LOC sets the place, and words take it further
+abbrev pub place_by : Layout → Option Statement → ℕ
+place_by s (Some (statements.Loc e)) = count_or s.place (checked_count s.labels s.place e)
+place_by s (Some (statements.Data given)) = s.place + count_or 0 (checked_size s.labels s.place given)
+place_by s _ = s.place
+
+-- the layout behind the statement of a line
+unfoldable pub with_statement : Layout → Option Statement → Layout
+with_statement s statement = record s { place = place_by s statement; taken = s.taken ++ taken_by s statement }
+
+-- a label is new, also among those of its own line; then the least code of the line's labels and its statement is told
+unfoldable pub line_code : Layout → Line → Option AsmCode
+line_code s line =
+    if are_apart (keys_of s.labels ++ line.labels)
+    then least (labels_code s line) (statement_code (with_labels s line) line.statement)
+    else Some DefinedTwice
+
+abbrev pub with_line : Layout → Line → Layout
+with_line s line = with_statement (with_labels s line) line.statement
+
+-- all lines, or the first that cannot be laid out
+unfoldable pub laid_out : Layout → ℕ → List Line → Result Layout Fault
+laid_out s number [] = Ok s
+laid_out s number (line ∷ lines) = unless_fault number (line_code s line) (laid_out (with_line s line) (number + 1) lines)
+
+-- literals stand from the place at END on
+abbrev pub places_of_literals : Layout → List ℕ
+places_of_literals s = places_from s.place (map (count_or 0) s.sizes)

@@ -1,0 +1,7 @@
+pub mod Values
+pub mod TextSizes
+pub mod Places
+pub mod Faults
+pub mod LaidOut
+pub mod Layouts
+pub mod Errors
