@@ -6,6 +6,10 @@ use std::alloc::Global;
 /// So many bytes are kept before finished lines are dropped.
 const KEPT: usize = 65536;
 
+/// So many bytes are looked at together for line feeds: few enough that their number fits a byte, so
+/// that many are counted in one step.
+const COUNTED: usize = 128;
+
 /// What a script or a source is written in.
 #[derive(Clone, Copy, PartialEq, Eq, Debug)]
 pub enum Language {
@@ -163,6 +167,19 @@ fn is_assemble(line: &[u8]) -> bool {
     line.starts_with(b"ASSEMBLE ".as_slice())
 }
 
+/// How many of the bytes are line feeds.
+fn line_feeds(bytes: &[u8]) -> u64 {
+    let mut count: u64 = 0;
+    for part in bytes.chunks(COUNTED) {
+        let mut found: u8 = 0;
+        for byte in part {
+            found = found.wrapping_add(u8::from(*byte == b'\n'));
+        }
+        count = count.wrapping_add(u64::from(found));
+    }
+    count
+}
+
 /// The place behind the last whole line.
 fn behind_whole_lines(bytes: &[u8]) -> Place {
     let Some(end) = memrchr(b'\n', bytes) else {
@@ -171,7 +188,7 @@ fn behind_whole_lines(bytes: &[u8]) -> Place {
     let whole = &bytes[..=end];
     Place {
         length: whole.len(),
-        lines: whole.iter().filter(|byte| **byte == b'\n').count() as u64,
+        lines: line_feeds(whole),
     }
 }
 

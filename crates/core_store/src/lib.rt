@@ -7,9 +7,7 @@ mod moves;
 mod plain;
 mod rooms;
 mod store;
-mod window;
 
 pub use block::BlockCore;
 pub use plain::PlainCore;
 pub use store::{CoreStore, NoCore};
-pub use window::CoreWindow;

@@ -6,8 +6,8 @@ ghost use Rattle.ka_cpu.specs.Places.{word_at};
 ghost use Rattle.core_store.specs.Cores.{IsJob, IsStore, Cores, core_of, blocks_of, with_core, all_free, taken, resized, given, resized_words};
 ghost use Rattle.std.specs.Prelude.{Some, None};
 
-use core_store::{CoreStore, CoreWindow, NoCore};
-use ka_cpu::{JobMemory, Outcome, Regs, fetch_kept, step};
+use core_store::{CoreStore, NoCore};
+use ka_cpu::{CoreWords, JobMemory, Outcome, Regs, fetch_kept, step};
 use std::alloc::{AllocError, Global};
 use word36::{BLOCK_WORDS, Word};
 
@@ -29,7 +29,7 @@ pub fn write_in<C: CoreStore>(cores: &mut C, job: u8, a: u32, word: Word) -> boo
     ensures free { (C.meaning cores.new).free ≡ (C.meaning cores.old).free }
 {
     let words = cores.window(job);
-    let mut window = CoreWindow { words };
+    let mut window = CoreWords { words };
     store_word(&mut window, a, word)
 }
 
@@ -40,7 +40,7 @@ pub fn step_in<C: CoreStore>(cores: &mut C, job: u8, regs: &mut Regs) -> Outcome
     ensures cores { C.meaning cores.new ≡ with_core (C.meaning cores.old) job (exec regs.old (core_of (C.meaning cores.old) job)).core }
 {
     let words = cores.window(job);
-    let mut window = CoreWindow { words };
+    let mut window = CoreWords { words };
     step(regs, &mut window)
 }
 
@@ -168,6 +168,6 @@ pub fn fetch_in<C: CoreStore>(cores: &mut C, job: u8, regs: &Regs, a: u32) -> Op
     ensures same { C.meaning cores.new ≡ C.meaning cores.old }
 {
     let words = cores.window(job);
-    let mut window = CoreWindow { words };
+    let mut window = CoreWords { words };
     fetch_kept(regs, &mut window, a)
 }

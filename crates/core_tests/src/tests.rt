@@ -5,8 +5,8 @@ ghost use Rattle.std.specs.Prelude.{◌<◌, ◌^◌};
 use crate::acts::{Act, answer, first_difference, first_word_apart, first_wrong};
 use crate::tables::{ALL_IN_ONE, GROWN, MOVED_TOGETHER, NEW_CORE};
 use crate::{come_and_go, copy_word, fetch_in, hand_over, log_in, step_beside, step_in, write_in};
-use core_store::{BlockCore, CoreStore, CoreWindow, NoCore, PlainCore};
-use ka_cpu::{Flags, JobMemory, Outcome, Regs};
+use core_store::{BlockCore, CoreStore, NoCore, PlainCore};
+use ka_cpu::{CoreWords, Flags, JobMemory, Outcome, Regs};
 use std::alloc::{AllocError, Global};
 use std::test::Fail;
 use word36::{Address, JOBS, Word};
@@ -156,7 +156,7 @@ fn moved_core(rt: HostRuntime) -> Result<(), Fail> {
 #[test]
 fn window_is_a_memory(rt: HostRuntime) -> Result<(), Fail> {
     let mut words = [Word::new(3), Word::new(4)];
-    let mut window = CoreWindow { words: &mut words };
+    let mut window = CoreWords { words: &mut words };
     assert!(rt;
         window.size() == 2 && window.write(1, Word::new(5)) && !window.write(2, Word::new(6))
     );

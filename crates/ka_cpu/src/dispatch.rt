@@ -51,7 +51,7 @@ fn is_listed_family(family: Family, ac: usize) -> bool
 /// Carries out an operation from 250 to 377 octal, jumps, pushdown instructions, sums and comparisons,
 /// whose address is known, or, where it is XCT, does nothing.
 #[inline(always)]
-fn carry_out_common<M: JobMemory>(
+fn carry_out_common<M: JobMemory, const RUN: bool>(
     op: u32,
     regs: &mut Regs,
     memory: &mut M,
@@ -165,7 +165,7 @@ fn carry_out_common<M: JobMemory>(
 
 /// Carries out another operation whose address is known.
 #[inline(always)]
-fn carry_out_rest<M: JobMemory>(
+fn carry_out_rest<M: JobMemory, const RUN: bool>(
     op: u32,
     regs: &mut Regs,
     memory: &mut M,
@@ -225,8 +225,12 @@ fn carry_out_rest<M: JobMemory>(
 }
 
 /// Carries out an instruction whose address is known, or, where it is an XCT, does nothing.
+///
+/// `RUN` is whether the caller runs instructions one after another. Nothing looks at it: it gives
+/// `run_steps` and `step` a copy of this body each, also where both have the same memory, since a body
+/// of this size is inlined only where it has one caller.
 #[inline(always)]
-pub fn carry_out<M: JobMemory>(
+pub fn carry_out<M: JobMemory, const RUN: bool>(
     regs: &mut Regs,
     memory: &mut M,
     n: Instruction,
@@ -239,9 +243,9 @@ pub fn carry_out<M: JobMemory>(
 {
     let op = n.op();
     if op.wrapping_sub(0o250) < 0o130 {
-        carry_out_common(op, regs, memory, n, word)
+        carry_out_common::<M, RUN>(op, regs, memory, n, word)
     } else {
-        carry_out_rest(op, regs, memory, n, word)
+        carry_out_rest::<M, RUN>(op, regs, memory, n, word)
     }
 }
 

@@ -81,10 +81,10 @@ fn find_executed<M: JobMemory>(regs: &Regs, memory: &M, e: Address) -> Result<Wo
     }
 }
 
-/// Executes a word, and where it is an XCT the word behind it.
+/// Executes a word, and where it is an XCT the word behind it. `RUN` is that of `carry_out`.
 #[inline(always)]
 #[tactic(auto, using(crate::proofs::Executes::executions))]
-fn execute<M: JobMemory>(regs: &mut Regs, memory: &mut M, word: Word) -> Outcome
+fn execute<M: JobMemory, const RUN: bool>(regs: &mut Regs, memory: &mut M, word: Word) -> Outcome
     ensures after { record { regs = regs.new; core = M.words memory.new; outcome = result } ≡ word_performed regs.old (M.words memory.old) (word_behind MOST_EXECUTES regs.old.ac (M.words memory.old) word) }
     ensures place { M.place memory.new ≡ M.place memory.old }
 {
@@ -97,7 +97,7 @@ fn execute<M: JobMemory>(regs: &mut Regs, memory: &mut M, word: Word) -> Outcome
             Ok(e) => e,
         };
         let instruction = Instruction::new(op, ac, e);
-        if let Some(outcome) = carry_out(regs, memory, instruction, word) {
+        if let Some(outcome) = carry_out::<M, RUN>(regs, memory, instruction, word) {
             return outcome;
         }
         match find_executed(regs, memory, e) {
@@ -107,17 +107,17 @@ fn execute<M: JobMemory>(regs: &mut Regs, memory: &mut M, word: Word) -> Outcome
     }
 }
 
-/// Executes the instruction at the PC.
+/// Executes the instruction at the PC. `RUN` is that of `carry_out`.
 #[inline(always)]
 #[tactic(auto, unfolding(crate::specs::Exec::exec))]
-fn execute_next<M: JobMemory>(regs: &mut Regs, memory: &mut M) -> Outcome
+fn execute_next<M: JobMemory, const RUN: bool>(regs: &mut Regs, memory: &mut M) -> Outcome
     ensures exec { record { regs = regs.new; core = M.words memory.new; outcome = result } ≡ exec regs.old (M.words memory.old) }
     ensures place { M.place memory.new ≡ M.place memory.old }
 {
     let Some(word) = fetch(regs, memory, regs.pc.number()) else {
         return ILLEGAL;
     };
-    execute(regs, memory, word)
+    execute::<M, RUN>(regs, memory, word)
 }
 
 /// Executes the instruction at the PC, in user mode (DECsystem-10 Processor Reference Manual, KA10).
@@ -132,7 +132,7 @@ pub fn step<M: JobMemory>(regs: &mut Regs, memory: &mut M) -> Outcome
     ensures place { M.place memory.new ≡ M.place memory.old }
     ensures ends { EndsAs result regs.old (M.words memory.old) regs.new (M.words memory.new) }
 {
-    execute_next(regs, memory)
+    execute_next::<M, false>(regs, memory)
 }
 
 /// Executes at most so many instructions, one after another, until one calls the monitor or stops, and
@@ -145,7 +145,7 @@ pub fn run_steps(regs: &mut Regs, words: &mut [Word], most: u64) -> (u64, Outcom
 {
     let mut memory = CoreWords { words };
     for left in (0..most).rev() {
-        match execute_next(regs, &mut memory) {
+        match execute_next::<CoreWords, true>(regs, &mut memory) {
             Outcome::Done => {}
             ended => return (most - left, ended),
         }

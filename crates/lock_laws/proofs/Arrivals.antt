@@ -4,6 +4,7 @@ use Rattle.std.specs.List.{list_all, list_any}
 use Rattle.std.proofs.lemmas.Bool.{or_parts, and_cases, leb-false, not-false, eq-eqb}
 use Rattle.word36.specs.declared.sizes.TheConstants.{REQUESTS}
 use Rattle.arrayvec.specs.ArrayVec.{ArrayVec}
+use Rattle.lock_queue.specs.declared.call.Asking.{Asking}
 use Rattle.lock_queue.specs.declared.call.LockReply.TheVariants.{Granted}
 use Rattle.lock_queue.specs.declared.refusal.Refusal.{Refusal}
 use Rattle.lock_queue.specs.declared.request.EnqueueKind.{EnqueueKind}
@@ -16,7 +17,7 @@ use Rattle.lock_queue.specs.Enqueues.{are_alike, enqueue_fault, is_too_low, some
 use Rattle.lock_queue.specs.Outcomes.{outcome, unless_refused, first_refusal}
 use Rattle.lock_queue.specs.Queue.{names, wants_at, wants_of, requests_of, all_wants, granted}
 use Rattle.lock_laws.specs.Claims.{Claim, claim_of, claims_of, claims}
-use Rattle.lock_laws.proofs.Fitting.{eq-same_key, keys-apart}
+use Rattle.lock_queue.proofs.Fitting.{eq-same_key, keys-apart}
 use Rattle.lock_queue.proofs.Lists.{Has, Has-left, Has-right, Has-filter, Has-flat_map, Pairs, Pairs-map, map-Has, flat_map-Has, list_all-Has, list_any-none}
 use Rattle.lock_queue.proofs.Refusing.{refuse_if-None, or_else-None}
 use Rattle.lock_laws.proofs.Places.{push-append, nil-append, split_Has}
@@ -82,8 +83,8 @@ module _ (requests : List Request) (job : ℕ) (wants : List Want) where
     pub room : length requests < REQUESTS
 
   -- a request that is not refused has passed
-  pub refusal-None : (kind : EnqueueKind) (armed : Bool) → enqueue_refusal requests job kind wants armed ≡ None → Passed
-  refusal-None kind armed h =
+  pub refusal-None : (asking : Asking) → enqueue_refusal REQUESTS requests job asking wants ≡ None → Passed
+  refusal-None asking h =
       let first = or_else-None _ _ h in
       let second = or_else-None _ _ first.1 in
       let third = or_else-None _ _ second.1 in
@@ -144,33 +145,33 @@ module _ (requests : List Request) (job : ℕ) (wants : List Want) where
       } in
       subst (λ x. Ordered x d) v.2 (subst (λ y. Ordered (claim_of r.0.job v.0) y) w.2 here)
 
-module _ (requests : List Request) (job : ℕ) (kind : EnqueueKind) (id : ℕ) (wants : ArrayVec Want) where
+module _ (requests : List Request) (job : ℕ) (asking : Asking) (wants : ArrayVec Want) where
   -- a request that has passed arrives, or does not stay
   arrived : Passed requests job wants.items → (told : Bool)
-      → Grows job requests (with_arrival requests job kind id told wants)
+      → Grows job requests (with_arrival requests job asking told wants)
   arrived p told =
-      arrives (request_of job id kind told wants) refl
+      arrives (request_of job asking told wants) refl
       (record { by = refl; room = p.room; own = own_claims requests job wants.items p; behind = claims_behind requests job wants.items p })
 
   step-not_granted : Passed requests job wants.items → (k : EnqueueKind)
-      → Grows job requests (not_granted requests (with_arrival requests job kind id false wants) k).requests
+      → Grows job requests (not_granted requests (with_arrival requests job asking false wants) k).requests
   step-not_granted p Blocking = arrived p false
   step-not_granted p AtOnce = stays refl
   step-not_granted p Interrupt = arrived p false
 
-  step-arrival : Passed requests job wants.items → Grows job requests (arrival requests job kind id wants).requests
+  step-arrival : Passed requests job wants.items → Grows job requests (arrival requests job asking wants).requests
   step-arrival p =
-      elim (granted (with_arrival requests job kind id false wants) (length requests)) as (λ b.
-      Grows job requests (cond b (outcome (with_arrival requests job kind id (is_interrupt kind) wants) Granted) (not_granted requests (with_arrival requests job kind id false wants) kind)).requests) [
-        | true ↦ arrived p (is_interrupt kind)
-        | false ↦ step-not_granted p kind
+      elim (granted (with_arrival requests job asking false wants) (length requests)) as (λ b.
+      Grows job requests (cond b (outcome (with_arrival requests job asking (is_interrupt asking.kind) wants) Granted) (not_granted requests (with_arrival requests job asking false wants) asking.kind)).requests) [
+        | true ↦ arrived p (is_interrupt asking.kind)
+        | false ↦ step-not_granted p asking.kind
       ]
 
   -- a request that is asked for arrives or leaves the list as it is
-  pub step-enqueue : (armed : Bool) → Grows job requests (enqueue requests job kind id wants armed).requests
-  step-enqueue armed = go (enqueue_refusal requests job kind wants.items armed) refl
+  pub step-enqueue : Grows job requests (enqueue REQUESTS requests job asking wants).requests
+  step-enqueue = go (enqueue_refusal REQUESTS requests job asking wants.items) refl
     where
-      go : (o : Option Refusal) → enqueue_refusal requests job kind wants.items armed ≡ o
-          → Grows job requests (unless_refused requests o (arrival requests job kind id wants)).requests
+      go : (o : Option Refusal) → enqueue_refusal REQUESTS requests job asking wants.items ≡ o
+          → Grows job requests (unless_refused requests o (arrival requests job asking wants)).requests
       go (Some f) e = stays refl
-      go None e = step-arrival (refusal-None requests job wants.items kind armed e)
+      go None e = step-arrival (refusal-None requests job wants.items asking e)

@@ -17,7 +17,7 @@ pub data Step (job : ℕ) (call : LockCall) (before after : List Request) : Type
 -- what each of the five calls does to the list
 pub step_of : (requests : List Request) (job : ℕ) (call : LockCall)
     → Step job call requests (outcome_of requests job call).requests
-step_of requests job (Enqueue kind id wants armed) = grows (step-enqueue requests job kind id wants armed)
+step_of requests job (Enqueue asking wants) = grows (step-enqueue requests job asking wants)
 step_of requests job (Modify wants) = grows (step-modify requests job wants.items)
 step_of requests job (DequeueNamed wants) = releases refl (releases-named requests job wants.items)
 step_of requests job DequeueAll = releases refl (releases-all requests job)

@@ -7,7 +7,7 @@ use Rattle.lock_queue.specs.Jobs.{is_blocking, is_blocked, is_waiting_job}
 use Rattle.lock_queue.specs.Queue.{granted_behind, is_granted, granted}
 use Rattle.lock_laws.specs.Circles.{WaitsByLatest}
 use Rattle.lock_laws.proofs.CallSteps.{Step, grows, releases}
-use Rattle.lock_laws.proofs.Fitting.{granted_behind-fewer}
+use Rattle.lock_queue.proofs.Fitting.{granted_behind-fewer}
 use Rattle.lock_queue.proofs.Lists.{Has, Has-cases, map-Has}
 use Rattle.lock_laws.proofs.Places.{some-split, split_at, Has-drop, Has-slice_get, slice_get-split, slice_get-behind, take-split}
 use Rattle.lock_laws.proofs.Retold.{Retold, Retold-back, Retold-place, Retold-jobs}

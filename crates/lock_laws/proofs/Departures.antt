@@ -8,7 +8,7 @@ use Rattle.lock_queue.specs.declared.refusal.Refusal.TheVariants.{NotPresent}
 use Rattle.lock_queue.specs.declared.request.Request.{Request}
 use Rattle.lock_queue.specs.declared.want.Want.{Want}
 use Rattle.lock_queue.specs.Dequeues.{dequeue_fault, has_wants, without_keys, without_named, dequeue_named, dequeue_where, is_of_job, has_id, dequeue_all, dequeue_id}
-use Rattle.lock_queue.specs.Jobs.{is_blocking, is_blocked, is_not_blocked, released, withdrawn}
+use Rattle.lock_queue.specs.Jobs.{is_blocking, is_blocked, is_not_blocked_where, is_one, released, withdrawn}
 use Rattle.lock_queue.specs.Outcomes.{outcome, unless_refused, first_refusal}
 use Rattle.lock_queue.specs.Queue.{names, granted_behind, chosen_behind}
 use Rattle.lock_queue.proofs.Lists.{Sub, Sub-filter, Sub-refl}
@@ -99,12 +99,12 @@ pub releases-released : (requests : List Request) (job : ℕ) → Releases job r
 releases-released requests job = releases-where job (is_of_job job) (λ r t. eqb-true r.job job t) requests
 
 -- a wait that is given up
-releases-blocked : (job : ℕ) (e rs : List Request) → Releases job rs (chosen_behind (is_not_blocked job) e rs)
+releases-blocked : (job : ℕ) (e rs : List Request) → Releases job rs (chosen_behind (is_not_blocked_where (is_one job)) e rs)
 releases-blocked job e [] = none
 releases-blocked job e (r ∷ rs) = go (releases-blocked job (e ++ r ∷ []) rs) (is_blocked job e r) refl
   where
-    go : Releases job rs (chosen_behind (is_not_blocked job) (e ++ r ∷ []) rs) → (b : Bool) → is_blocked job e r ≡ b
-        → Releases job (r ∷ rs) (cond (not b) (r ∷ chosen_behind (is_not_blocked job) (e ++ r ∷ []) rs) (chosen_behind (is_not_blocked job) (e ++ r ∷ []) rs))
+    go : Releases job rs (chosen_behind (is_not_blocked_where (is_one job)) (e ++ r ∷ []) rs) → (b : Bool) → is_blocked job e r ≡ b
+        → Releases job (r ∷ rs) (cond (not b) (r ∷ chosen_behind (is_not_blocked_where (is_one job)) (e ++ r ∷ []) rs) (chosen_behind (is_not_blocked_where (is_one job)) (e ++ r ∷ []) rs))
     go rest true t =
         let parts = and_parts (r.job == job && is_blocking r.kind) (not (granted_behind e r)) t in
         gone r (inl (eqb-true r.job job (and_parts (r.job == job) (is_blocking r.kind) parts.0).0)) rest

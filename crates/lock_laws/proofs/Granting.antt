@@ -11,7 +11,7 @@ use Rattle.lock_queue.specs.Pools.{PoolShare}
 use Rattle.lock_queue.specs.Queue.{wants_at, agree, amount_of, is_pooled, fits_beside, fits, granted_behind, is_granted, names, is_owner, chosen_behind, owners}
 use Rattle.lock_laws.specs.Claims.{Claim, claim_of, claims_of, claims}
 use Rattle.lock_laws.specs.Safe.{ExclusiveAlone, OwnersAgree, AllOrNone, FitsInFront, NoOvertaking}
-use Rattle.lock_laws.proofs.Fitting.{eq-same_key, names-found, wants_at-append, Has-wants_at, overtaken}
+use Rattle.lock_queue.proofs.Fitting.{eq-same_key, names-found, wants_at-append, Has-wants_at, overtaken}
 use Rattle.lock_queue.proofs.Lists.{Has, Has-right, Has-map, Has-flat_map, Pairs, Pairs-both, Pairs-weaker, Sub, Sub-refl, Sub-none, Sub-append, list_all-Has, sum-append, sum-cons, list_any-Has}
 use Rattle.lock_laws.proofs.Places.{Split, chosen-Has, Has-chosen, chosen_none, chosen_behind-append, slice_get-Has, between, push-append, nil-append, Has-middle}
 use Rattle.lock_laws.proofs.Steps.{Ordered}

@@ -5,12 +5,12 @@ use Rattle.std.proofs.lemmas.List.{map-append}
 use Rattle.lock_queue.specs.declared.call.LockCall.{LockCall}
 use Rattle.lock_queue.specs.declared.key.Key.{Key}
 use Rattle.lock_queue.specs.declared.request.Request.{Request}
-use Rattle.lock_queue.specs.Jobs.{is_blocking, is_not_blocked, is_pending, released, withdrawn, told_of}
+use Rattle.lock_queue.specs.Jobs.{is_blocking, is_not_blocked_where, is_one, is_pending, released, withdrawn, told_of}
 use Rattle.lock_queue.specs.Queue.{all_wants, granted_behind, names, is_owner, owners, chosen_behind}
 use Rattle.lock_laws.specs.Owning.{owns, is_dequeue, KeepsOwners}
 use Rattle.lock_laws.proofs.CallSteps.{Step, grows, releases, step_of}
 use Rattle.lock_laws.proofs.Departures.{releases-released}
-use Rattle.lock_laws.proofs.Fitting.{granted_behind-fewer, names-found}
+use Rattle.lock_queue.proofs.Fitting.{granted_behind-fewer, names-found}
 use Rattle.lock_queue.proofs.Lists.{Has, list_any-Has, list_any-found, Sub, Sub-refl, Sub-flat_map}
 use Rattle.lock_queue.proofs.WellKept.{Sub-chosen}
 use Rattle.lock_laws.proofs.Places.{Split, chosen-Has, Has-chosen, chosen-place}
@@ -101,14 +101,14 @@ pub owns-withdrawn : (requests : List Request) (waiter job : ℕ) (key : Key) �
 owns-withdrawn requests waiter job key h =
     let o : Owning requests job key = owning requests job key h in
     let a : List Request = o.split.before in
-    let stays : is_not_blocked waiter a o.request ≡ true =
+    let stays : is_not_blocked_where (is_one waiter) a o.request ≡ true =
     ap (λ b. not ((o.request.job == waiter && is_blocking o.request.kind) && not b)) o.granted ∙ not_from_false _ (and_right _ false refl) in
-    let front : Sub (all_wants (chosen_behind (is_not_blocked waiter) [] a)) (all_wants a) =
-    Sub-flat_map (λ (q : Request). q.wants.items) (Sub-chosen (is_not_blocked waiter) [] a) in
-    owns-at (withdrawn requests waiter) (chosen_behind (is_not_blocked waiter) [] a)
-    (chosen_behind (is_not_blocked waiter) (a ++ o.request ∷ []) o.split.after) o.request job key
-    (ap (chosen_behind (is_not_blocked waiter) []) o.split.is ∙ chosen-place (is_not_blocked waiter) [] a o.split.after o.request stays) o.by o.named
-    (granted_behind-fewer (chosen_behind (is_not_blocked waiter) [] a) a o.request o.request front (Sub-refl o.request.wants.items) o.granted)
+    let front : Sub (all_wants (chosen_behind (is_not_blocked_where (is_one waiter)) [] a)) (all_wants a) =
+    Sub-flat_map (λ (q : Request). q.wants.items) (Sub-chosen (is_not_blocked_where (is_one waiter)) [] a) in
+    owns-at (withdrawn requests waiter) (chosen_behind (is_not_blocked_where (is_one waiter)) [] a)
+    (chosen_behind (is_not_blocked_where (is_one waiter)) (a ++ o.request ∷ []) o.split.after) o.request job key
+    (ap (chosen_behind (is_not_blocked_where (is_one waiter)) []) o.split.is ∙ chosen-place (is_not_blocked_where (is_one waiter)) [] a o.split.after o.request stays) o.by o.named
+    (granted_behind-fewer (chosen_behind (is_not_blocked_where (is_one waiter)) [] a) a o.request o.request front (Sub-refl o.request.wants.items) o.granted)
 
 -- telling a job changes no grant
 pub owns-told : (requests : List Request) (told job : ℕ) (key : Key) → owns requests job key ≡ true

@@ -1,6 +1,5 @@
 pub mod Words
 pub mod Places
-pub mod Fitting
 pub mod Steps
 pub mod Arrivals
 pub mod Departures

@@ -15,7 +15,7 @@ use Rattle.lock_queue.specs.Outcomes.{outcome, unless_refused, refuse_if, or_els
 use Rattle.lock_queue.specs.Queue.{names, granted_behind}
 use Rattle.lock_laws.specs.Claims.{Claim, claim_of, claims_of, claims}
 use Rattle.lock_queue.proofs.Refusing.{refuse_if-None, or_else-None}
-use Rattle.lock_laws.proofs.Fitting.{names-found, names-Has}
+use Rattle.lock_queue.proofs.Fitting.{names-found, names-Has}
 use Rattle.lock_queue.proofs.Lists.{Has-map, Pairs, Pairs-map}
 use Rattle.lock_laws.proofs.Places.{push-append, nil-append}
 use Rattle.lock_laws.proofs.Steps.{Ordered, Changes, Grows, stays, changes}

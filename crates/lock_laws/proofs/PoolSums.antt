@@ -10,7 +10,7 @@ use Rattle.lock_queue.specs.Pools.{PoolShare}
 use Rattle.lock_queue.specs.Queue.{all_wants, wants_at, amount_of, amount_in, fits_beside, fits, granted_behind, names, is_owner, chosen_behind}
 use Rattle.lock_laws.specs.Claims.{Claim, claim_of, claims_of, claims}
 use Rattle.lock_laws.specs.Safe.{PoolsSuffice}
-use Rattle.lock_laws.proofs.Fitting.{eq-same_key, same_key-eq, names-found, wants_at-append}
+use Rattle.lock_queue.proofs.Fitting.{eq-same_key, same_key-eq, names-found, wants_at-append}
 use Rattle.lock_laws.proofs.Granting.{Kin, kin}
 use Rattle.lock_queue.proofs.Lists.{Has, Has-map, flat_map-Has, filter-Has, Pairs, Pairs-left, Pairs-right, list_all-Has, sum-append, sum-cons}
 use Rattle.lock_laws.proofs.Places.{nil-append}

@@ -11,7 +11,7 @@ use Rattle.lock_queue.specs.Waits.{is_walk}
 use Rattle.lock_laws.specs.Claims.{claim_of, claims_of, claims}
 use Rattle.lock_laws.specs.Circles.{has_one_plain_want, is_plain, NoPlainCircle}
 use Rattle.lock_laws.proofs.Circling.{WaitsLast}
-use Rattle.lock_laws.proofs.Fitting.{same_key-eq}
+use Rattle.lock_queue.proofs.Fitting.{same_key-eq}
 use Rattle.lock_laws.proofs.Granting.{Kin, kin, Has-claims}
 use Rattle.lock_queue.proofs.Lists.{Has, Has-filter, filter-Has, flat_map-Has, Pairs, Pairs-across, list_all-Has, list_any-found, flat_map-append}
 use Rattle.lock_laws.proofs.Places.{split_Has, some_found, Has-middle}

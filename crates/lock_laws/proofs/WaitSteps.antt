@@ -3,6 +3,8 @@ use Rattle.std.proofs.Common.{◌≡◌, ◌≢◌, ◌∙◌, sym, ap, subst, �
 use Rattle.std.proofs.lemmas.Bool.{and_parts, and_from, both_ways, eqb-true, eq-eqb, false_from_ne_true, not_from_false, or_cases}
 use Rattle.std.proofs.lemmas.Grind.{common_steps}
 use Rattle.arrayvec.specs.ArrayVec.{ArrayVec}
+use Rattle.word36.specs.declared.sizes.TheConstants.{REQUESTS}
+use Rattle.lock_queue.specs.declared.call.Asking.{Asking}
 use Rattle.lock_queue.specs.declared.call.LockCall.{LockCall}
 use Rattle.lock_queue.specs.declared.call.LockCall.TheVariants.{Enqueue, Modify, DequeueNamed, DequeueAll, DequeueId}
 use Rattle.lock_queue.specs.declared.call.LockReply.TheVariants.{Granted, Queued, Done}
@@ -24,7 +26,7 @@ use Rattle.lock_queue.specs.StatusWords.{has_job}
 use Rattle.lock_queue.proofs.Granted.{granted_last}
 use Rattle.lock_laws.proofs.CallSteps.{Step, grows, releases, step_of}
 use Rattle.lock_laws.proofs.Departures.{releases-named, releases-all, releases-id}
-use Rattle.lock_laws.proofs.Fitting.{granted_behind-fewer}
+use Rattle.lock_queue.proofs.Fitting.{granted_behind-fewer}
 use Rattle.lock_queue.proofs.Lists.{Has, Has-cases, list_any-Has, list_any-found, filter-Has, map-Has, Has-right}
 use Rattle.lock_laws.proofs.Places.{some_found, some-split, nil-append, push-append}
 use Rattle.lock_laws.proofs.Retold.{Retold, Retold-back, Retold-place, Retold-jobs}
@@ -189,29 +191,30 @@ abbrev pub Queues : List Request → ℕ → ℕ → Outcome → Type 0
 Queues requests caller n o =
     is_waiting_job o.requests n ≡ true → (is_waiting_job requests n ≡ true) ⊎ ((n ≡ caller) × (o.reply ≡ Queued))
 
-module _ (requests : List Request) (caller n id : ℕ) (wants : ArrayVec Want) where
-  queues-not_granted : (k : EnqueueKind) → Queues requests caller n (not_granted requests (with_arrival requests caller k id false wants) k)
-  queues-not_granted Blocking h =
-      elim (waiting-queued requests (request_of caller id Blocking false wants) n h) [ inl old ↦ inl old | inr mine ↦ inr (mine, refl) ]
-  queues-not_granted AtOnce h = inl h
-  queues-not_granted Interrupt h = inl (waiting-arrival requests (request_of caller id Interrupt false wants) n refl h)
+module _ (requests : List Request) (caller n : ℕ) (asking : Asking) (wants : ArrayVec Want) where
+  queues-not_granted : (k : EnqueueKind) → asking.kind ≡ k
+      → Queues requests caller n (not_granted requests (with_arrival requests caller asking false wants) k)
+  queues-not_granted Blocking is h =
+      elim (waiting-queued requests (request_of caller asking false wants) n h) [ inl old ↦ inl old | inr mine ↦ inr (mine, refl) ]
+  queues-not_granted AtOnce is h = inl h
+  queues-not_granted Interrupt is h = inl (waiting-arrival requests (request_of caller asking false wants) n (ap is_blocking is) h)
 
-  queues-arrival : (kind : EnqueueKind) → Queues requests caller n (arrival requests caller kind id wants)
-  queues-arrival kind = go (granted (with_arrival requests caller kind id false wants) (length requests)) refl
+  queues-arrival : Queues requests caller n (arrival requests caller asking wants)
+  queues-arrival = go (granted (with_arrival requests caller asking false wants) (length requests)) refl
     where
-      go : (b : Bool) → granted (with_arrival requests caller kind id false wants) (length requests) ≡ b
-          → Queues requests caller n (cond b (outcome (with_arrival requests caller kind id (is_interrupt kind) wants) Granted) (not_granted requests (with_arrival requests caller kind id false wants) kind))
+      go : (b : Bool) → granted (with_arrival requests caller asking false wants) (length requests) ≡ b
+          → Queues requests caller n (cond b (outcome (with_arrival requests caller asking (is_interrupt asking.kind) wants) Granted) (not_granted requests (with_arrival requests caller asking false wants) asking.kind))
       go true e h =
-          let t : granted_behind requests (request_of caller id kind (is_interrupt kind) wants) ≡ true = sym (granted_last requests (request_of caller id kind false wants)) ∙ e in
-          inl (waiting-granted requests (request_of caller id kind (is_interrupt kind) wants) n t h)
-      go false e h = queues-not_granted kind h
+          let t : granted_behind requests (request_of caller asking (is_interrupt asking.kind) wants) ≡ true = sym (granted_last requests (request_of caller asking false wants)) ∙ e in
+          inl (waiting-granted requests (request_of caller asking (is_interrupt asking.kind) wants) n t h)
+      go false e h = queues-not_granted asking.kind refl h
 
-  queues-enqueue : (kind : EnqueueKind) (armed : Bool) → Queues requests caller n (enqueue requests caller kind id wants armed)
-  queues-enqueue kind armed = go (enqueue_refusal requests caller kind wants.items armed)
+  queues-enqueue : Queues requests caller n (enqueue REQUESTS requests caller asking wants)
+  queues-enqueue = go (enqueue_refusal REQUESTS requests caller asking wants.items)
     where
-      go : (o : Option Refusal) → Queues requests caller n (unless_refused requests o (arrival requests caller kind id wants))
+      go : (o : Option Refusal) → Queues requests caller n (unless_refused requests o (arrival requests caller asking wants))
       go (Some f) h = inl h
-      go None h = queues-arrival kind h
+      go None h = queues-arrival h
 
 -- nor does a change
 pub waits-modify : (requests : List Request) (caller n : ℕ) (cs : List Want) → is_waiting_job (modify requests caller cs).requests n ≡ true
@@ -227,7 +230,7 @@ waits-modify requests caller n cs = go _ refl
 
 -- what a call does for those who wait
 pub waits-call : (requests : List Request) (caller n : ℕ) (call : LockCall) → Queues requests caller n (outcome_of requests caller call)
-waits-call requests caller n (Enqueue kind id wants armed) h = queues-enqueue requests caller n id wants kind armed h
+waits-call requests caller n (Enqueue asking wants) h = queues-enqueue requests caller n asking wants h
 waits-call requests caller n (Modify wants) h = inl (waits-modify requests caller n wants.items h)
 waits-call requests caller n (DequeueNamed wants) h = inl (waits-releases caller requests _ n (releases-named requests caller wants.items) h)
 waits-call requests caller n DequeueAll h = inl (waits-releases caller requests _ n (releases-all requests caller) h)

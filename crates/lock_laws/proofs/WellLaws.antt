@@ -4,6 +4,8 @@ use Rattle.std.specs.List.{list_all}
 use Rattle.std.proofs.lemmas.Bool.{and_parts, leb-true}
 use Rattle.arrayvec.specs.ArrayVec.{ArrayVec}
 use Rattle.word36.specs.declared.sizes.TheConstants.{LOCKS_A_CALL}
+use Rattle.word36.specs.declared.sizes.TheConstants.{REQUESTS}
+use Rattle.lock_queue.specs.declared.call.Asking.{Asking}
 use Rattle.lock_queue.specs.declared.call.LockCall.{LockCall}
 use Rattle.lock_queue.specs.declared.call.LockCall.TheVariants.{Enqueue, Modify, DequeueNamed, DequeueAll, DequeueId}
 use Rattle.lock_queue.specs.declared.call.LockReply.TheVariants.{Granted}
@@ -22,44 +24,44 @@ use Rattle.lock_queue.proofs.Refusing.{or_else-None}
 use Rattle.lock_queue.proofs.WellKept.{well-arrival, well-modify, well-named, well-all, well-id, well-released, well-withdrawn, well-told}
 use Rattle.lock_laws.specs.Kept.{is_in_range_call, WellFormednessIsKept}
 
-module _ (requests : List Request) (job id : ℕ) (kind : EnqueueKind) (wants : ArrayVec Want)
+module _ (requests : List Request) (job : ℕ) (asking : Asking) (wants : ArrayVec Want)
     (well : are_well_formed requests ≡ true) where
   -- with a request that has passed the requests are well-formed
   abbrev StaysWell : Type 0
-  StaysWell = (k : EnqueueKind) (told : Bool) → are_well_formed (with_arrival requests job k id told wants) ≡ true
+  StaysWell = (told : Bool) → are_well_formed (with_arrival requests job asking told wants) ≡ true
 
   well-not_granted : StaysWell → (k : EnqueueKind)
-      → are_well_formed (not_granted requests (with_arrival requests job k id false wants) k).requests ≡ true
-  well-not_granted arrives Blocking = arrives Blocking false
+      → are_well_formed (not_granted requests (with_arrival requests job asking false wants) k).requests ≡ true
+  well-not_granted arrives Blocking = arrives false
   well-not_granted arrives AtOnce = well
-  well-not_granted arrives Interrupt = arrives Interrupt false
+  well-not_granted arrives Interrupt = arrives false
 
-  well-granted : StaysWell → are_well_formed (arrival requests job kind id wants).requests ≡ true
+  well-granted : StaysWell → are_well_formed (arrival requests job asking wants).requests ≡ true
   well-granted arrives =
-      elim (granted (with_arrival requests job kind id false wants) (length requests)) as (λ b.
-      are_well_formed (cond b (outcome (with_arrival requests job kind id (is_interrupt kind) wants) Granted) (not_granted requests (with_arrival requests job kind id false wants) kind)).requests ≡ true) [
-        | true ↦ arrives kind (is_interrupt kind)
-        | false ↦ well-not_granted arrives kind
+      elim (granted (with_arrival requests job asking false wants) (length requests)) as (λ b.
+      are_well_formed (cond b (outcome (with_arrival requests job asking (is_interrupt asking.kind) wants) Granted) (not_granted requests (with_arrival requests job asking false wants) asking.kind)).requests ≡ true) [
+        | true ↦ arrives (is_interrupt asking.kind)
+        | false ↦ well-not_granted arrives asking.kind
       ]
 
-  well-enqueue : (armed : Bool) → (first_refusal (enqueue_fault requests job) [] wants.items ≡ None → StaysWell)
-      → are_well_formed (enqueue requests job kind id wants armed).requests ≡ true
-  well-enqueue armed arrives = go (enqueue_refusal requests job kind wants.items armed) refl
+  well-enqueue : (first_refusal (enqueue_fault requests job) [] wants.items ≡ None → StaysWell)
+      → are_well_formed (enqueue REQUESTS requests job asking wants).requests ≡ true
+  well-enqueue arrives = go (enqueue_refusal REQUESTS requests job asking wants.items) refl
     where
-      go : (o : Option Refusal) → enqueue_refusal requests job kind wants.items armed ≡ o
-          → are_well_formed (unless_refused requests o (arrival requests job kind id wants)).requests ≡ true
+      go : (o : Option Refusal) → enqueue_refusal REQUESTS requests job asking wants.items ≡ o
+          → are_well_formed (unless_refused requests o (arrival requests job asking wants)).requests ≡ true
       go (Some f) e = well
       go None e = well-granted (arrives (or_else-None (first_refusal (enqueue_fault requests job) [] wants.items) _ e).0)
 
 well-call : (requests : List Request) (job : ℕ) (call : LockCall) → is_call job call ≡ true → is_in_range_call call ≡ true
     → are_well_formed requests ≡ true
     → are_well_formed (outcome_of requests job call).requests ≡ true
-well-call requests job (Enqueue kind id wants armed) right range well =
-    let parts = and_parts (is_job job) (names_locks (Enqueue kind id wants armed) && shares_no_pools (Enqueue kind id wants armed)) right in
+well-call requests job (Enqueue asking wants) right range well =
+    let parts = and_parts (is_job job) (names_locks (Enqueue asking wants) && shares_no_pools (Enqueue asking wants)) right in
     let asks = and_parts (nat_le 1 (length wants.items)) (list_all shares_no_pool wants.items) parts.1 in
     let types = and_parts (nat_le (length wants.items) LOCKS_A_CALL) (list_all is_in_range wants.items) range in
-    well-enqueue requests job id kind wants well armed (λ passed k told.
-    well-arrival requests job id k told wants parts.0 asks.0 asks.1 passed (leb-true (length wants.items) LOCKS_A_CALL types.0) types.1 well)
+    well-enqueue requests job asking wants well (λ passed told.
+    well-arrival requests job asking told wants parts.0 asks.0 asks.1 passed (leb-true (length wants.items) LOCKS_A_CALL types.0) types.1 well)
 well-call requests job (Modify wants) right range well = well-modify requests job well wants
 well-call requests job (DequeueNamed wants) right range well = well-named requests job well wants
 well-call requests job DequeueAll right range well = well-all requests job well

@@ -24,7 +24,7 @@ pub record SafetyIsKept : Type 0 where
 
 -- what the types of a call say of a request that it enters: at most 16 wants, with levels and pools in range
 abbrev pub is_in_range_call : LockCall → Bool
-is_in_range_call (Enqueue kind id wants armed) = nat_le (length wants.items) LOCKS_A_CALL && list_all is_in_range wants.items
+is_in_range_call (Enqueue asking wants) = nat_le (length wants.items) LOCKS_A_CALL && list_all is_in_range wants.items
 is_in_range_call (Modify wants) = true
 is_in_range_call (DequeueNamed wants) = true
 is_in_range_call DequeueAll = true

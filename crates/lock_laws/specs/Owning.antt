@@ -13,7 +13,7 @@ abbrev pub owns : List Request → ℕ → Key → Bool
 owns requests job key = has_job (owners requests key) job
 
 abbrev pub is_dequeue : LockCall → Bool
-is_dequeue (Enqueue kind id wants armed) = false
+is_dequeue (Enqueue asking wants) = false
 is_dequeue (Modify wants) = false
 is_dequeue (DequeueNamed wants) = true
 is_dequeue DequeueAll = true

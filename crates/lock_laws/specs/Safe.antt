@@ -66,6 +66,10 @@ pub record ToldAlike (requests : List Request) (key : Key) : Type 0 where
   -- what is common to all has bits 0 to 2 clear, where the requests are well-formed
   pub below : IsTrue (are_well_formed requests) → first < 2 ^ 33
 
+-- a queue of some size holds them
+abbrev pub HoldsAtMost : ℕ → List Request → Type 0
+HoldsAtMost size requests = length requests ≤ size
+
 pub record Safe (requests : List Request) : Type 0 where
   pub exclusive_alone : ExclusiveAlone requests
   pub owners_agree : OwnersAgree requests
@@ -79,7 +83,7 @@ pub record Safe (requests : List Request) : Type 0 where
   pub apart : AllPairs AreApart (claims requests)
   -- a want without bypass has a level above every want of its job that stands before it, in its own request too
   pub rising : AllPairs Rises (claims requests)
-  -- the queue holds only so many requests
-  pub few : length requests ≤ REQUESTS
+  -- the queue of this machine holds them
+  pub few : HoldsAtMost REQUESTS requests
   -- the status words of a key differ between askers in bits 1 and 2 of word 0 alone
   pub told_alike : (key : Key) → ToldAlike requests key

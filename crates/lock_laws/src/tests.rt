@@ -10,8 +10,8 @@ use crate::{
     run_safely, safety_is_kept, waits_are_by_latest, waits_are_kept, well_formedness_is_kept,
 };
 use lock_queue::{
-    EnqueueKind, Key, Level, LockCall, LockReply, LockTable, Name, PlainTable, Pool, RequestId,
-    Scope, UserCode, Want, Wants,
+    Asking, EnqueueKind, Key, Level, LockCall, LockReply, LockTable, Name, PlainTable, Pool,
+    RequestId, Scope, UserCode, Want, Wants,
 };
 use std::test::Fail;
 
@@ -39,10 +39,12 @@ fn ask(amount: u32) -> LockCall
     ensures unshared { IsTrue (shares_no_pools result) }
 {
     LockCall::Enqueue {
-        kind: EnqueueKind::Blocking,
-        id: RequestId::new(1),
+        asking: Asking {
+            kind: EnqueueKind::Blocking,
+            id: RequestId::new(1),
+            armed: false,
+        },
         wants: drives(amount),
-        armed: false,
     }
 }
 

@@ -1,16 +1,16 @@
 //! Copies of the requests of a table.
 ghost use Rattle.std.specs.Prelude.{◌≡◌, IfOk};
 
-use lock_queue::steps::write_request;
+use lock_queue::steps::write_like;
 use lock_queue::{LockTable, Request};
 use std::alloc::{AllocError, Global};
 
-/// The same request again.
+/// A copy of a request, which its table only lends.
 fn copied(r: &Request) -> Request
     ensures { result ≡ r.now }
 {
     let mut copy = Request::default();
-    write_request(&mut copy, r.job, r.id, r.kind, r.told, &r.wants);
+    write_like(&mut copy, r, &r.wants);
     copy
 }
 

@@ -56,7 +56,7 @@ impl Hold {
             && self.owns == other.owns
     }
 
-    /// The same again.
+    /// A copy of the hold.
     pub fn copied(&self) -> Self
         ensures { result ≡ self.now }
     {

@@ -4,6 +4,8 @@ use Rattle.std.specs.List.{list_any, cons_option}
 use Rattle.std.proofs.lemmas.Bool.{and_left, and_right}
 use Rattle.std.proofs.lemmas.Bool.Decides.{nat_tests}
 use Rattle.arrayvec.specs.ArrayVec.{ArrayVec}
+use Rattle.word36.specs.declared.sizes.TheConstants.{REQUESTS}
+use Rattle.lock_queue.specs.declared.call.Asking.{Asking}
 use Rattle.lock_queue.specs.declared.call.LockCall.{LockCall}
 use Rattle.lock_queue.specs.declared.call.LockCall.TheVariants.{Enqueue, Modify, DequeueNamed, DequeueAll, DequeueId}
 use Rattle.lock_queue.specs.declared.call.LockReply.{LockReply}
@@ -63,7 +65,7 @@ if-same true r s e = e
 if-same false r s e = refl
 
 pub left-labels : (job : ℕ) (call : LockCall) → KeepsLabels (left_of job call)
-left-labels job (Enqueue kind id wants armed) r s e = let same : r ≡ s = cc in ap grant_of (sym same)
+left-labels job (Enqueue asking wants) r s e = let same : r ≡ s = cc in ap grant_of (sym same)
 left-labels job (Modify changes) r s e =
     let same : changed job changes.items r ≡ s = cc in
     ap grant_of (sym same) ∙ if-same (r.job == job) r _ refl
@@ -193,9 +195,9 @@ arrival-not_done requests x y Interrupt false e = absurd (cc)
 
 pub call-left : (requests : List Request) (job : ℕ) (call : LockCall) → (outcome_of requests job call).reply ≡ Done
     → (outcome_of requests job call).requests ≡ filter_map (left_of job call) requests
-call-left requests job (Enqueue kind id wants armed) e =
-    not-stayed requests (arrival requests job kind id wants) _ (enqueue_refusal requests job kind wants.items armed)
-    (arrival-not_done requests _ _ kind _) e
+call-left requests job (Enqueue asking wants) e =
+    not-stayed requests (arrival requests job asking wants) _ (enqueue_refusal REQUESTS requests job asking wants.items)
+    (arrival-not_done requests _ _ asking.kind _) e
 call-left requests job (Modify changes) e =
     done-left (with_changes requests job changes.items) requests _ e ∙ map-left (changed job changes.items) requests
 call-left requests job (DequeueNamed named) e =
@@ -230,10 +232,10 @@ none-woken e (r ∷ rs) =
     ∙ none-woken (e ++ r ∷ []) rs
 
 -- a request that is asked for wakes nobody
-pub woken-enqueue : (requests : List Request) (job id : ℕ) (kind : EnqueueKind) (wants : ArrayVec Want) (armed : Bool)
-    → woken_by requests job (Enqueue kind id wants armed) ≡ []
-woken-enqueue requests job id kind wants armed =
-    let reply : LockReply = (outcome_of requests job (Enqueue kind id wants armed)).reply in
+pub woken-enqueue : (requests : List Request) (job : ℕ) (asking : Asking) (wants : ArrayVec Want)
+    → woken_by requests job (Enqueue asking wants) ≡ []
+woken-enqueue requests job asking wants =
+    let reply : LockReply = (outcome_of requests job (Enqueue asking wants)).reply in
     ap (λ l. unless_refused_grants reply (map grant_of l)) (none-woken [] requests) ∙ grants-none reply
 
 -- what the marks raise behind a call that is done, and behind a release

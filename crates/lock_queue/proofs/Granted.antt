@@ -6,9 +6,9 @@ use Rattle.std.proofs.lemmas.List.Elements.{filter-append}
 use Rattle.std.proofs.lemmas.List.Sums.{sum_by-append}
 use Rattle.std.proofs.lemmas.Option.{slice_get-get_or}
 use Rattle.arrayvec.specs.ArrayVec.{ArrayVec}
+use Rattle.lock_queue.specs.declared.call.Asking.{Asking}
 use Rattle.lock_queue.specs.declared.call.LockReply.TheVariants.{Granted}
 use Rattle.lock_queue.specs.declared.key.Key.{Key}
-use Rattle.lock_queue.specs.declared.request.EnqueueKind.{EnqueueKind}
 use Rattle.lock_queue.specs.declared.request.Request.{Request}
 use Rattle.lock_queue.specs.declared.want.Want.{Want}
 use Rattle.lock_queue.specs.Enqueues.{arrival, request_of, with_arrival, not_granted}
@@ -26,24 +26,24 @@ granted_last rs r =
     ap (λ rest. is_granted rest (slice_get (rs ++ r ∷ []) (length rs))) (take-append_seam rs (r ∷ [])) ∙ ap (is_granted rs) there
 
 -- what a request leaves that arrives, by whether it is granted
-abbrev arrived : List Request → ℕ → EnqueueKind → ℕ → ArrayVec Want → Bool → Outcome
-arrived rs job kind id wants is_granted =
+abbrev arrived : List Request → ℕ → Asking → ArrayVec Want → Bool → Outcome
+arrived rs job asking wants is_granted =
     if is_granted
-    then outcome (with_arrival rs job kind id (is_interrupt kind) wants) Granted
-    else not_granted rs (with_arrival rs job kind id false wants) kind
+    then outcome (with_arrival rs job asking (is_interrupt asking.kind) wants) Granted
+    else not_granted rs (with_arrival rs job asking false wants) asking.kind
 
 -- a request that fits is granted, and the others are judged by their kind
-pub arrival_granted : (rs : List Request) (job : ℕ) (kind : EnqueueKind) (id : ℕ) (wants : ArrayVec Want)
+pub arrival_granted : (rs : List Request) (job : ℕ) (asking : Asking) (wants : ArrayVec Want)
     → list_all (fits rs) wants.items ≡ true
-    → arrival rs job kind id wants ≡ outcome (with_arrival rs job kind id (is_interrupt kind) wants) Granted
-arrival_granted rs job kind id wants h =
-    ap (arrived rs job kind id wants) (granted_last rs (request_of job id kind false wants) ∙ h)
+    → arrival rs job asking wants ≡ outcome (with_arrival rs job asking (is_interrupt asking.kind) wants) Granted
+arrival_granted rs job asking wants h =
+    ap (arrived rs job asking wants) (granted_last rs (request_of job asking false wants) ∙ h)
 
-pub arrival_waiting : (rs : List Request) (job : ℕ) (kind : EnqueueKind) (id : ℕ) (wants : ArrayVec Want)
+pub arrival_waiting : (rs : List Request) (job : ℕ) (asking : Asking) (wants : ArrayVec Want)
     → list_all (fits rs) wants.items ≡ false
-    → arrival rs job kind id wants ≡ not_granted rs (with_arrival rs job kind id false wants) kind
-arrival_waiting rs job kind id wants h =
-    ap (arrived rs job kind id wants) (granted_last rs (request_of job id kind false wants) ∙ h)
+    → arrival rs job asking wants ≡ not_granted rs (with_arrival rs job asking false wants) asking.kind
+arrival_waiting rs job asking wants h =
+    ap (arrived rs job asking wants) (granted_last rs (request_of job asking false wants) ∙ h)
 
 -- the amounts of a key from the request at i on
 pub amounts_drop : (key : Key) (rs : List Request) (i : ℕ) (r : Request) → i < length rs → r ≡ get_or rs i r

@@ -1,3 +1,4 @@
+pub mod Fitting
 pub mod GrantLaws
 pub mod Granted
 pub mod ListSteps

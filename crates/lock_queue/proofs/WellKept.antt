@@ -6,18 +6,18 @@ use Rattle.std.proofs.lemmas.List.{length-map}
 use Rattle.std.proofs.lemmas.List.Folds.{list_all-append}
 use Rattle.arrayvec.specs.ArrayVec.{ArrayVec}
 use Rattle.word36.specs.declared.sizes.TheConstants.{JOBS, LOCKS_A_CALL}
+use Rattle.lock_queue.specs.declared.call.Asking.{Asking}
 use Rattle.lock_queue.specs.declared.call.LockCall.TheVariants.{Modify, DequeueNamed, DequeueAll, DequeueId}
 use Rattle.lock_queue.specs.declared.call.LockReply.TheVariants.{Done, Refused}
 use Rattle.lock_queue.specs.declared.refusal.Refusal.{Refusal}
 use Rattle.lock_queue.specs.declared.refusal.Refusal.TheVariants.{NotPresent}
-use Rattle.lock_queue.specs.declared.request.EnqueueKind.{EnqueueKind}
 use Rattle.lock_queue.specs.declared.request.Request.{Request}
 use Rattle.lock_queue.specs.declared.want.Want.{Want}
 use Rattle.lock_queue.specs.Calls.{outcome_of}
 use Rattle.lock_queue.specs.Changes.{modify_fault, changed_want, changed, with_changes}
 use Rattle.lock_queue.specs.Dequeues.{has_wants, with_wants, without_keys, without_keys_of, without_named, dequeue_where, is_of_job, has_id}
 use Rattle.lock_queue.specs.Enqueues.{enqueue_fault, request_of}
-use Rattle.lock_queue.specs.Jobs.{as_told, is_not_blocked, is_pending, released, told_behind, told_of, withdrawn}
+use Rattle.lock_queue.specs.Jobs.{as_told, is_not_blocked_where, is_one, is_pending, released, told_behind, told_of, withdrawn}
 use Rattle.lock_queue.specs.Keys.{same_key}
 use Rattle.lock_queue.specs.Outcomes.{outcome, unless_refused, first_refusal}
 use Rattle.lock_queue.specs.Queue.{all_wants, chosen_behind, is_pooled, names, requests_of, wants_at, wants_of}
@@ -89,7 +89,7 @@ well-released requests job h = well-sub requests _ (Sub-filter (λ r. not (r.job
 
 pub well-withdrawn : (requests : List Request) (job : ℕ) → are_well_formed requests ≡ true
     → are_well_formed (withdrawn requests job) ≡ true
-well-withdrawn requests job h = well-sub requests _ (Sub-chosen (is_not_blocked job) [] requests) h
+well-withdrawn requests job h = well-sub requests _ (Sub-chosen (is_not_blocked_where (is_one job)) [] requests) h
 
 -- ---- who is told
 
@@ -285,13 +285,13 @@ module _ (requests : List Request) (job : ℕ) where
       let q = parted e w ws rest.behind in
       record { behind = and_from _ _ (not-named e w named.0) q.0; among = and_from _ _ q.1 rest.among }
 
-  pub well-arrival : (id : ℕ) (kind : EnqueueKind) (told : Bool) (wants : ArrayVec Want) → is_job job ≡ true
+  pub well-arrival : (asking : Asking) (told : Bool) (wants : ArrayVec Want) → is_job job ≡ true
       → nat_le 1 (length wants.items) ≡ true → list_all shares_no_pool wants.items ≡ true
       → first_refusal (enqueue_fault requests job) [] wants.items ≡ None
       → length wants.items ≤ LOCKS_A_CALL → list_all is_in_range wants.items ≡ true → are_well_formed requests ≡ true
-      → are_well_formed (requests ++ request_of job id kind told wants ∷ []) ≡ true
-  well-arrival id kind told wants mine some unshared passed few range well =
-      let r : Request = request_of job id kind told wants in
+      → are_well_formed (requests ++ request_of job asking told wants ∷ []) ≡ true
+  well-arrival asking told wants mine some unshared passed few range well =
+      let r : Request = request_of job asking told wants in
       let p : Parts r = record {
         job = mine;
         some = some_wants (length wants.items) some;

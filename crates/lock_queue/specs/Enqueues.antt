@@ -3,7 +3,7 @@
 use Rattle.std.specs.Prelude.{ℕ, Bool, true, false, not, ◌==◌, ◌&&◌, ◌||◌, if◌then◌else◌, List, [], ◌∷◌, ◌++◌, length, Option, Some, None, nat_le}
 use Rattle.std.specs.List.{list_all, list_any}
 use Rattle.arrayvec.specs.ArrayVec.{ArrayVec}
-use Rattle.word36.specs.declared.sizes.TheConstants.{REQUESTS}
+use Rattle.lock_queue.specs.declared.call.Asking.{Asking}
 use Rattle.lock_queue.specs.declared.call.LockReply.TheVariants.{Granted, Queued, Refused}
 use Rattle.lock_queue.specs.declared.refusal.Refusal.{Refusal}
 use Rattle.lock_queue.specs.declared.refusal.Refusal.TheVariants.{NotGranted, Differs, LevelOrder, NamedAlready, QueueFull, NoVector}
@@ -44,20 +44,20 @@ some_too_low before [] = false
 some_too_low before (w ∷ later) = is_too_low before w || some_too_low (before ++ w ∷ []) later
 
 -- why a request is not taken in, if it is not: lock by lock; then its levels, behind all present wants of the job; then
--- for want of a vector for the interrupt, and of room in the queue
-abbrev pub enqueue_refusal : List Request → ℕ → EnqueueKind → List Want → Bool → Option Refusal
-enqueue_refusal requests job kind wants armed =
+-- for want of a vector for the interrupt, and of room in a queue of this size
+abbrev pub enqueue_refusal : ℕ → List Request → ℕ → Asking → List Want → Option Refusal
+enqueue_refusal size requests job asking wants =
     or_else (first_refusal (enqueue_fault requests job) [] wants)
     (or_else (refuse_if (some_too_low (wants_of requests job) wants) LevelOrder)
-    (or_else (refuse_if (is_interrupt kind && not armed) NoVector)
-    (refuse_if (nat_le REQUESTS (length requests)) QueueFull)))
+    (or_else (refuse_if (is_interrupt asking.kind && not asking.armed) NoVector)
+    (refuse_if (nat_le size (length requests)) QueueFull)))
 
-abbrev pub request_of : ℕ → ℕ → EnqueueKind → Bool → ArrayVec Want → Request
-request_of job id kind told wants = record { job = job; id = id; kind = kind; told = told; wants = wants }
+abbrev pub request_of : ℕ → Asking → Bool → ArrayVec Want → Request
+request_of job asking told wants = record { job = job; id = asking.id; kind = asking.kind; told = told; wants = wants }
 
 -- a request that arrives goes last
-abbrev pub with_arrival : List Request → ℕ → EnqueueKind → ℕ → Bool → ArrayVec Want → List Request
-with_arrival requests job kind id told wants = requests ++ request_of job id kind told wants ∷ []
+abbrev pub with_arrival : List Request → ℕ → Asking → Bool → ArrayVec Want → List Request
+with_arrival requests job asking told wants = requests ++ request_of job asking told wants ∷ []
 
 -- a request that is not granted at once, by its kind: it waits; it does not stay; it stays, to be granted later
 abbrev pub not_granted : List Request → List Request → EnqueueKind → Outcome
@@ -67,13 +67,13 @@ not_granted requests with_it Interrupt = outcome with_it (Refused NotGranted)
 
 -- a request that is taken in: where it is granted at once, that is the answer, and the job need not be told of it by an
 -- interrupt any more
-abbrev pub arrival : List Request → ℕ → EnqueueKind → ℕ → ArrayVec Want → Outcome
-arrival requests job kind id wants =
-    if granted (with_arrival requests job kind id false wants) (length requests)
-    then outcome (with_arrival requests job kind id (is_interrupt kind) wants) Granted
-    else not_granted requests (with_arrival requests job kind id false wants) kind
+abbrev pub arrival : List Request → ℕ → Asking → ArrayVec Want → Outcome
+arrival requests job asking wants =
+    if granted (with_arrival requests job asking false wants) (length requests)
+    then outcome (with_arrival requests job asking (is_interrupt asking.kind) wants) Granted
+    else not_granted requests (with_arrival requests job asking false wants) asking.kind
 
 -- functions 0 to 2
-abbrev pub enqueue : List Request → ℕ → EnqueueKind → ℕ → ArrayVec Want → Bool → Outcome
-enqueue requests job kind id wants armed =
-    unless_refused requests (enqueue_refusal requests job kind wants.items armed) (arrival requests job kind id wants)
+abbrev pub enqueue : ℕ → List Request → ℕ → Asking → ArrayVec Want → Outcome
+enqueue size requests job asking wants =
+    unless_refused requests (enqueue_refusal size requests job asking wants.items) (arrival requests job asking wants)

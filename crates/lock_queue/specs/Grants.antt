@@ -21,7 +21,7 @@ staying_if stays r = if stays then Some r else None
 -- what a job's call, where it is not refused, leaves of a request that is present: the request, perhaps with other wants,
 -- or nothing
 abbrev pub left_of : ℕ → LockCall → Request → Option Request
-left_of job (Enqueue kind id wants armed) r = Some r
+left_of job (Enqueue asking wants) r = Some r
 left_of job (Modify changes) r = Some (changed job changes.items r)
 left_of job (DequeueNamed named) r =
     staying_if (has_wants (without_keys_of job named.items r)) (without_keys_of job named.items r)

@@ -18,23 +18,36 @@ is_interrupt Interrupt = true
 is_interrupt Blocking = false
 is_interrupt AtOnce = false
 
--- the list without the job's requests
-abbrev pub released : List Request → ℕ → List Request
-released requests job = filter (λ r. not (r.job == job)) requests
+-- whether a job is this one
+abbrev pub is_one : ℕ → ℕ → Bool
+is_one job j = j == job
 
--- a job waits by a blocking request that is not granted
+-- the list without the requests of some jobs, and of one
+abbrev pub released_where : List Request → (ℕ → Bool) → List Request
+released_where requests gone = filter (λ r. not (gone r.job)) requests
+
+abbrev pub released : List Request → ℕ → List Request
+released requests job = released_where requests (is_one job)
+
+-- some jobs wait, each by a blocking request that is not granted; and one does
+abbrev pub is_blocked_where : (ℕ → Bool) → List Request → Request → Bool
+is_blocked_where waiters earlier r = (waiters r.job && is_blocking r.kind) && not (granted_behind earlier r)
+
 abbrev pub is_blocked : ℕ → List Request → Request → Bool
-is_blocked job earlier r = (r.job == job && is_blocking r.kind) && not (granted_behind earlier r)
+is_blocked job earlier r = is_blocked_where (is_one job) earlier r
 
 abbrev pub is_waiting_job : List Request → ℕ → Bool
 is_waiting_job requests job = some_behind (is_blocked job) [] requests
 
--- the list without the requests by which the job waits
-abbrev pub is_not_blocked : ℕ → List Request → Request → Bool
-is_not_blocked job earlier r = not (is_blocked job earlier r)
+-- the list without the requests by which some jobs wait, and by which one does
+abbrev pub is_not_blocked_where : (ℕ → Bool) → List Request → Request → Bool
+is_not_blocked_where waiters earlier r = not (is_blocked_where waiters earlier r)
+
+abbrev pub withdrawn_where : List Request → (ℕ → Bool) → List Request
+withdrawn_where requests waiters = chosen (is_not_blocked_where waiters) requests
 
 abbrev pub withdrawn : List Request → ℕ → List Request
-withdrawn requests job = chosen (is_not_blocked job) requests
+withdrawn requests job = withdrawn_where requests (is_one job)
 
 -- a job's granted interrupt request of which it was not told yet
 abbrev pub is_pending : ℕ → List Request → Request → Bool

@@ -46,7 +46,7 @@ are_well_formed requests = list_all is_well_formed requests
 
 -- a call that names locks names at least one
 abbrev pub names_locks : LockCall → Bool
-names_locks (Enqueue kind id wants armed) = nat_le 1 (length wants.items)
+names_locks (Enqueue asking wants) = nat_le 1 (length wants.items)
 names_locks (Modify wants) = nat_le 1 (length wants.items)
 names_locks (DequeueNamed wants) = nat_le 1 (length wants.items)
 names_locks DequeueAll = true
@@ -54,7 +54,7 @@ names_locks (DequeueId id) = true
 
 -- a call asks for no pool that is shared
 abbrev pub shares_no_pools : LockCall → Bool
-shares_no_pools (Enqueue kind id wants armed) = list_all shares_no_pool wants.items
+shares_no_pools (Enqueue asking wants) = list_all shares_no_pool wants.items
 shares_no_pools (Modify wants) = true
 shares_no_pools (DequeueNamed wants) = true
 shares_no_pools DequeueAll = true

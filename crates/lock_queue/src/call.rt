@@ -2,19 +2,26 @@
 
 use crate::{EnqueueKind, Refusal, RequestId, Wants};
 
+/// What a call that asks for locks says of its request, beside the locks.
+#[derive(Clone, Copy)]
+pub struct Asking {
+    /// What the request does where it is not granted at once.
+    pub kind: EnqueueKind,
+    /// The job's number for it.
+    pub id: RequestId,
+    /// Whether the job can be interrupted, which a request of that kind needs.
+    pub armed: bool,
+}
+
 /// A call on the queue.
 #[derive(Drop)]
 pub enum LockCall {
     /// Ask for locks, all together (ENQ. functions 0 to 2).
     Enqueue {
-        /// What the request does where it is not granted at once.
-        kind: EnqueueKind,
-        /// The job's number for it.
-        id: RequestId,
+        /// What is said of the request.
+        asking: Asking,
         /// The locks.
         wants: Wants,
-        /// Whether the job can be interrupted, which a request of that kind needs.
-        armed: bool,
     },
     /// Make present wants shared or exclusive (ENQ. function 3).
     Modify(Wants),

@@ -96,9 +96,9 @@ pub fn write_changed(later: &mut Row, requests: &[Request], job: u8, changes: &[
     for r in requests {
         if r.job == job {
             let wants = changed_wants(changes, &r.wants);
-            later.push(r.job, r.id, r.kind, r.told, &wants);
+            later.push_like(r, &wants);
         } else {
-            later.push(r.job, r.id, r.kind, r.told, &r.wants);
+            later.push_like(r, &r.wants);
         }
     }
 }

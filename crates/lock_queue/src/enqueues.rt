@@ -1,13 +1,14 @@
 //! Why a request that arrives is refused.
 ghost use Rattle.std.specs.Prelude.{◌≡◌, [], filter, nat_le};
 ghost use Rattle.std.specs.List.{list_all, list_any};
+ghost use Rattle.word36.specs.declared.sizes.TheConstants.{REQUESTS};
 ghost use Rattle.lock_queue.specs.Enqueues.{same_pool_size, are_alike, enqueue_fault, some_too_low, enqueue_refusal};
 ghost use Rattle.lock_queue.specs.Keys.{same_key};
 ghost use Rattle.lock_queue.specs.Outcomes.{first_refusal};
 ghost use Rattle.lock_queue.specs.Queue.{wants_at, wants_of};
 
 use crate::queue::{has_want, names_key};
-use crate::{EnqueueKind, Level, Pool, Refusal, Request, Want};
+use crate::{Asking, EnqueueKind, Level, Pool, Refusal, Request, Want};
 use word36::REQUESTS;
 
 fn is_same_pool_size(a: Option<Pool>, b: Option<Pool>) -> bool
@@ -116,18 +117,17 @@ fn are_out_of_order(requests: &[Request], job: u8, wants: &[Want]) -> bool
 pub fn refusal_of_enqueue(
     requests: &[Request],
     job: u8,
-    kind: EnqueueKind,
+    asking: &Asking,
     wants: &[Want],
-    armed: bool,
 ) -> Option<Refusal>
-    ensures { result ≡ enqueue_refusal requests.now job kind wants.now armed }
+    ensures { result ≡ enqueue_refusal REQUESTS requests.now job asking.now wants.now }
 {
     let fault = first_fault(requests, job, wants);
     if fault.is_some() {
         fault
     } else if are_out_of_order(requests, job, wants) {
         Some(Refusal::LevelOrder)
-    } else if matches!(kind, EnqueueKind::Interrupt) && !armed {
+    } else if matches!(asking.kind, EnqueueKind::Interrupt) && !asking.armed {
         Some(Refusal::NoVector)
     } else if requests.len() >= REQUESTS {
         Some(Refusal::QueueFull)

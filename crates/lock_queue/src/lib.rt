@@ -24,7 +24,7 @@ mod terms;
 mod waking;
 mod want;
 
-pub use call::{LockCall, LockReply};
+pub use call::{Asking, LockCall, LockReply};
 pub use grant::{Grant, Woken};
 pub use key::{Key, Scope};
 pub use name::{NAME_ROOM, Name, NameText, UserCode};

@@ -2,14 +2,14 @@
 ghost use Rattle.std.specs.Prelude.{◌≡◌, ◌<◌, ◌≤◌, [], ◌∷◌, ◌++◌, ◌-◌, length, IfOk, IsTrue, map, take, remove};
 ghost use Rattle.std.specs.List.{list_all};
 ghost use Rattle.word36.specs.declared.sizes.TheConstants.{LOCKS_A_CALL, REQUESTS};
-ghost use Rattle.lock_queue.specs.Dequeues.{without_keys_of};
+ghost use Rattle.lock_queue.specs.Dequeues.{with_wants, without_keys_of};
 ghost use Rattle.lock_queue.specs.Enqueues.{request_of};
 ghost use Rattle.lock_queue.specs.Jobs.{told_of};
 ghost use Rattle.lock_queue.specs.WellFormed.{is_in_range};
 
 use crate::dequeues::remove_keys_of;
 use crate::jobs::tell;
-use crate::{EnqueueKind, Request, RequestId, Want, Wants};
+use crate::{Asking, Request, Want, Wants};
 use std::alloc::{AllocError, Global};
 use std::marker::Model;
 use word36::REQUESTS;
@@ -48,22 +48,26 @@ fn write_wants(place: &mut Wants, wants: &Wants)
 }
 
 /// Writes a request over another.
-pub fn write_request(
-    place: &mut Request,
-    job: u8,
-    id: RequestId,
-    kind: EnqueueKind,
-    told: bool,
-    wants: &Wants,
-)
-    ensures value { place.new ≡ request_of job id kind told wants.now }
+pub fn write_request(place: &mut Request, job: u8, asking: &Asking, told: bool, wants: &Wants)
+    ensures value { place.new ≡ request_of job asking.now told wants.now }
     ensures few { length wants.now.items ≤ LOCKS_A_CALL }
     ensures range { IsTrue (list_all is_in_range wants.now.items) }
 {
     place.job = job;
-    place.id = id;
-    place.kind = kind;
+    place.id = asking.id;
+    place.kind = asking.kind;
     place.told = told;
+    write_wants(&mut place.wants, wants);
+}
+
+/// Writes a request over another, like a third but with these wants.
+pub fn write_like(place: &mut Request, r: &Request, wants: &Wants)
+    ensures { place.new ≡ with_wants r.now wants.now.items }
+{
+    place.job = r.job;
+    place.id = r.id;
+    place.kind = r.kind;
+    place.told = r.told;
     write_wants(&mut place.wants, wants);
 }
 
@@ -95,13 +99,22 @@ impl Row {
     }
 
     /// Appends a request of these wants.
-    pub fn push(&mut self, job: u8, id: RequestId, kind: EnqueueKind, told: bool, wants: &Wants)
+    pub fn push(&mut self, job: u8, asking: &Asking, told: bool, wants: &Wants)
         requires { length self.old < REQUESTS }
-        ensures value { self.new ≡ self.old ++ request_of job id kind told wants.now ∷ [] }
+        ensures value { self.new ≡ self.old ++ request_of job asking.now told wants.now ∷ [] }
         ensures few { length wants.now.items ≤ LOCKS_A_CALL }
         ensures range { IsTrue (list_all is_in_range wants.now.items) }
     {
-        write_request(&mut self.places[self.count], job, id, kind, told, wants);
+        write_request(&mut self.places[self.count], job, asking, told, wants);
+        self.count += 1;
+    }
+
+    /// Appends a request like another, but with these wants.
+    pub fn push_like(&mut self, r: &Request, wants: &Wants)
+        requires { length self.old < REQUESTS }
+        ensures { self.new ≡ self.old ++ with_wants r.now wants.now.items ∷ [] }
+    {
+        write_like(&mut self.places[self.count], r, wants);
         self.count += 1;
     }
 

@@ -18,7 +18,7 @@ use crate::enqueues::refusal_of_enqueue;
 use crate::jobs::remove_blocked;
 use crate::queue::are_fitting;
 use crate::row::Row;
-use crate::{EnqueueKind, LockCall, LockReply, Refusal, Request, RequestId, Wants};
+use crate::{Asking, EnqueueKind, LockCall, LockReply, Refusal, Request, RequestId, Wants};
 use std::alloc::{AllocError, Global};
 use std::mem;
 
@@ -51,54 +51,47 @@ impl Rows {
 
     /// Takes in a request that is not refused.
     #[tactic(auto, using(crate::proofs::Granted::arrival_granted, crate::proofs::Granted::arrival_waiting))]
-    fn arrive(&mut self, job: u8, kind: EnqueueKind, id: RequestId, wants: &Wants) -> LockReply
+    fn arrive(&mut self, job: u8, asking: &Asking, wants: &Wants) -> LockReply
         requires room { length self.old.present < REQUESTS }
         requires job { (1 ≤ job) × (job ≤ JOBS) }
         requires some { IsTrue (nat_le 1 (length wants.now.items)) }
         requires unshared { IsTrue (list_all shares_no_pool wants.now.items) }
         requires passed { first_refusal (enqueue_fault self.old.present job) [] wants.now.items ≡ None }
         ensures requests { self.new.present ≡
-            (arrival self.old.present job kind id wants.now).requests }
-        ensures reply { result ≡ (arrival self.old.present job kind id wants.now).reply }
+            (arrival self.old.present job asking.now wants.now).requests }
+        ensures reply { result ≡ (arrival self.old.present job asking.now wants.now).reply }
         ensures well { IsTrue (are_well_formed self.old.present) → IsTrue (are_well_formed self.new.present) }
     {
         if are_fitting(self.present.as_slice(), wants.as_slice()) {
-            let told = matches!(kind, EnqueueKind::Interrupt);
-            self.present.push(job, id, kind, told, wants);
+            let told = matches!(asking.kind, EnqueueKind::Interrupt);
+            self.present.push(job, asking, told, wants);
             return LockReply::Granted;
         }
-        match kind {
+        match asking.kind {
             EnqueueKind::Blocking => {
-                self.present.push(job, id, kind, false, wants);
+                self.present.push(job, asking, false, wants);
                 LockReply::Queued
             }
             EnqueueKind::AtOnce => LockReply::Refused(Refusal::NotGranted),
             EnqueueKind::Interrupt => {
-                self.present.push(job, id, kind, false, wants);
+                self.present.push(job, asking, false, wants);
                 LockReply::Refused(Refusal::NotGranted)
             }
         }
     }
 
-    fn enqueue(
-        &mut self,
-        job: u8,
-        kind: EnqueueKind,
-        id: RequestId,
-        wants: &Wants,
-        armed: bool,
-    ) -> LockReply
+    fn enqueue(&mut self, job: u8, asking: &Asking, wants: &Wants) -> LockReply
         requires job { (1 ≤ job) × (job ≤ JOBS) }
         requires some { IsTrue (nat_le 1 (length wants.now.items)) }
         requires unshared { IsTrue (list_all shares_no_pool wants.now.items) }
         ensures requests { self.new.present ≡
-            (enqueue self.old.present job kind id wants.now armed).requests }
-        ensures reply { result ≡ (enqueue self.old.present job kind id wants.now armed).reply }
+            (enqueue REQUESTS self.old.present job asking.now wants.now).requests }
+        ensures reply { result ≡ (enqueue REQUESTS self.old.present job asking.now wants.now).reply }
         ensures well { IsTrue (are_well_formed self.old.present) → IsTrue (are_well_formed self.new.present) }
     {
-        match refusal_of_enqueue(self.present.as_slice(), job, kind, wants.as_slice(), armed) {
+        match refusal_of_enqueue(self.present.as_slice(), job, asking, wants.as_slice()) {
             Some(refusal) => LockReply::Refused(refusal),
-            None => self.arrive(job, kind, id, wants),
+            None => self.arrive(job, asking, wants),
         }
     }
 
@@ -163,12 +156,7 @@ impl Rows {
         ensures well { IsTrue (are_well_formed self.old.present) → IsTrue (are_well_formed self.new.present) }
     {
         match call {
-            LockCall::Enqueue {
-                kind,
-                id,
-                wants,
-                armed,
-            } => self.enqueue(job, *kind, *id, wants, *armed),
+            LockCall::Enqueue { asking, wants } => self.enqueue(job, asking, wants),
             LockCall::Modify(changes) => self.modify(job, changes),
             LockCall::DequeueNamed(named) => self.dequeue_named(job, named),
             LockCall::DequeueAll => self.dequeue_all(job),

@@ -1,10 +1,10 @@
 //! What a job is told of a key, over the list of requests.
-ghost use Rattle.std.specs.Prelude.{◌≡◌, ◌+◌, ◌*◌, ◌^◌, ◌<◌, ◌≤◌, length, filter, sum_by};
+ghost use Rattle.std.specs.Prelude.{◌≡◌, ◌+◌, ◌^◌, ◌<◌, ◌≤◌, length, filter, sum_by};
 ghost use Rattle.std.specs.List.{list_any};
 ghost use Rattle.word36.specs.declared.sizes.TheConstants.{LOCKS_A_CALL, REQUESTS};
 ghost use Rattle.lock_queue.specs.Keys.{same_key};
 ghost use Rattle.lock_queue.specs.Queue.{amount_of, wants_at};
-ghost use Rattle.lock_queue.specs.StatusSteps.{with_owner, with_waiter};
+ghost use Rattle.lock_queue.specs.StatusSteps.{most_taken, with_owner, with_waiter};
 ghost use Rattle.lock_queue.specs.StatusWords.{first_level, is_exclusive, status_of};
 
 use crate::queue::{is_granted, is_pooled, names_key};
@@ -14,7 +14,7 @@ use crate::{Key, Level, Request, Status, Want};
 fn amount_at(wants: &[Want], key: &Key) -> u32
     requires { length wants.now ≤ LOCKS_A_CALL }
     ensures value { result ≡ sum_by amount_of (filter (λ w. same_key w.key key.now) wants.now) }
-    ensures below { result ≤ LOCKS_A_CALL * 2 ^ 18 }
+    ensures below { result ≤ most_taken }
 {
     let mut amount = 0;
     for w in wants {
@@ -71,9 +71,9 @@ fn level_at(requests: &[Request], key: &Key) -> Option<Level>
 /// One more owner, in front of the others.
 pub fn with_owner(rest: Status, r: &Request, key: &Key, job: u8) -> Status
     requires count { rest.owner_count < 2 ^ 15 }
-    requires amount { rest.amount < 2 ^ 31 }
+    requires amount { rest.amount + most_taken < 2 ^ 32 }
     ensures value { result ≡ with_owner key.now job r.now rest }
-    ensures amount { result.amount ≤ rest.amount + LOCKS_A_CALL * 2 ^ 18 }
+    ensures amount { result.amount ≤ rest.amount + most_taken }
 {
     let wants = r.wants.as_slice();
     Status {

@@ -7,6 +7,6 @@ pub use crate::jobs::{is_blocked, some_in_the_way};
 pub use crate::queue::{
     all_agree_in, do_agree, is_fitting, is_granted, is_pooled, names_key, room_beside,
 };
-pub use crate::row::write_request;
+pub use crate::row::{write_like, write_request};
 pub use crate::standing::{level_in, with_owner, with_waiter};
 pub use crate::waking::{grant_of, is_told_of};

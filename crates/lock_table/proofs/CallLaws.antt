@@ -1,6 +1,5 @@
 -- What each call leaves, in the lists that the code makes.
-use Rattle.std.proofs.Common.{◌≡◌, ◌∙◌, sym, ap, subst, refl, ℕ, suc, Bool, true, false, not, inl, inr, ◌==◌, ◌&&◌, ◌||◌, cond, if◌then◌else◌, List, [], ◌∷◌, length, filter, map, Option, Some, None, arith, bit_or}
-use Rattle.std.specs.Int.{bit_at}
+use Rattle.std.proofs.Common.{◌≡◌, ◌∙◌, sym, ap, subst, refl, ℕ, suc, Bool, true, false, not, inl, inr, ◌==◌, ◌&&◌, ◌||◌, cond, if◌then◌else◌, List, [], ◌∷◌, length, filter, map, Option, Some, None, arith}
 use Rattle.std.specs.List.{list_any}
 use Rattle.std.proofs.lemmas.Bool.{or_parts}
 use Rattle.std.proofs.lemmas.Bool.Decides.{nat_tests}
@@ -16,7 +15,7 @@ use Rattle.lock_queue.specs.Calls.{outcome_of}
 use Rattle.lock_queue.specs.Changes.{modify_fault, changed_want, changed, with_changes, some_lost, some_lost_behind}
 use Rattle.lock_queue.specs.Dequeues.{has_wants, with_wants, without_keys, without_keys_of, without_named, is_of_job, has_id}
 use Rattle.lock_queue.specs.Grants.{staying_if, left_of, woken}
-use Rattle.lock_queue.specs.Jobs.{released, withdrawn, is_not_blocked, is_blocking}
+use Rattle.lock_queue.specs.Jobs.{released, withdrawn, is_not_blocked_where, is_one, is_blocking}
 use Rattle.lock_queue.specs.Keys.{same_key}
 use Rattle.lock_queue.specs.Outcomes.{Outcome, outcome, unless_refused, refuse_if, or_else, first_refusal}
 use Rattle.lock_queue.specs.Queue.{names}
@@ -27,11 +26,12 @@ use Rattle.lock_table.specs.declared.departures.Leaving.TheVariants.{All, OfId, 
 use Rattle.lock_table.specs.Departures.{leaves, stays, signature_where, loses, with_fewer, keeps_wants, with_change, call_of, leaving_of}
 use Rattle.lock_table.specs.Filings.{Filing, requests_in, AreRight}
 use Rattle.lock_table.specs.Renewals.{raised, AreOutdated}
-use Rattle.lock_table.specs.Signatures.{group_of, meets, signature_of}
+use Rattle.lock_table.specs.declared.signature.Signature.{Signature}
+use Rattle.lock_table.specs.Signatures.{joined, meets, signature_of}
 use Rattle.lock_table.proofs.ChangeLaws.{change-key, at-changed, all-unchanged}
 use Rattle.lock_table.proofs.DepartureLaws.{lost_in, after, put, at_key, Changes, outdated, outdated-changed, lost-changed, Keeps, raised-all}
 use Rattle.lock_table.proofs.RightLaws.{chosen-right}
-use Rattle.lock_table.proofs.SignatureLaws.{unmet-right, unsigned, signed, names-none, no-bit-left, no-bit-or}
+use Rattle.lock_table.proofs.SignatureLaws.{mark_at, unmet-right, unsigned, signed, names-none, no-bit-left, no-bit-or}
 
 -- ---- the requests that stay
 
@@ -64,7 +64,7 @@ leaving-released fs job = filter-requests (λ r. not (r.job == job)) fs
 pub leaving-withdrawn : (fs : List Filing) (job : ℕ) → AreRight [] fs
     → requests_in (filter (stays job Blocked) fs) ≡ withdrawn (requests_in fs) job
 leaving-withdrawn fs job h =
-    sym (chosen-right (is_not_blocked job) (stays job Blocked)
+    sym (chosen-right (is_not_blocked_where (is_one job)) (stays job Blocked)
     (λ e f g. ap (λ b. not ((f.request.job == job && is_blocking f.request.kind) && not b)) (sym g)) [] fs h)
 
 pub dequeue-done : (fs : List Filing) (job : ℕ) (id : Option ℕ) → list_any (leaves job (leaving_of id)) fs ≡ true
@@ -98,7 +98,7 @@ kind-if true r s e = e
 kind-if false r s e = refl
 
 left-kind : (job : ℕ) (call : LockCall) (r s : Request) → left_of job call r ≡ Some s → s.kind ≡ r.kind
-left-kind job (Enqueue kind id wants armed) r s e = let same : r ≡ s = cc in ap (λ (q : Request). q.kind) (sym same)
+left-kind job (Enqueue asking wants) r s e = let same : r ≡ s = cc in ap (λ (q : Request). q.kind) (sym same)
 left-kind job (Modify changes) r s e =
     let same : changed job changes.items r ≡ s = cc in
     ap (λ (q : Request). q.kind) (sym same) ∙ kind-if (r.job == job) r _ refl
@@ -120,23 +120,23 @@ dequeue-woken fs job (Some id) h =
 
 -- ---- what leaves is in the signature
 
-signature-has : (test : Filing → Bool) (fs : List Filing) (f : Filing) (k : ℕ) → Has fs f → test f ≡ true
-    → bit_at (signature_where test fs) k ≡ 0 → bit_at (signature_of f.request.wants.items) k ≡ 0
+signature-has : (test : Filing → Bool) (fs : List Filing) (f : Filing) (k : Key) → Has fs f → test f ≡ true
+    → mark_at (signature_where test fs) k ≡ 0 → mark_at (signature_of f.request.wants.items) k ≡ 0
 signature-has test [] f k h t z = absurd h
 signature-has test (x ∷ fs) f k (inl same) t z = go (test x) (ap test same ∙ t) z
   where
     go : (b : Bool) → b ≡ true
-        → bit_at (cond b (bit_or (signature_where test fs) (signature_of x.request.wants.items)) (signature_where test fs)) k ≡ 0
-        → bit_at (signature_of f.request.wants.items) k ≡ 0
+        → mark_at (cond b (joined (signature_where test fs) (signature_of x.request.wants.items)) (signature_where test fs)) k ≡ 0
+        → mark_at (signature_of f.request.wants.items) k ≡ 0
     go true e zero =
-        ap (λ (g : Filing). bit_at (signature_of g.request.wants.items) k) (sym same)
+        ap (λ (g : Filing). mark_at (signature_of g.request.wants.items) k) (sym same)
         ∙ no-bit-or (signature_where test fs) (signature_of x.request.wants.items) k zero
     go false e zero = absurd (cc)
 signature-has test (x ∷ fs) f k (inr later) t z = signature-has test fs f k later t (go (test x) z)
   where
     go : (b : Bool)
-        → bit_at (cond b (bit_or (signature_where test fs) (signature_of x.request.wants.items)) (signature_where test fs)) k ≡ 0
-        → bit_at (signature_where test fs) k ≡ 0
+        → mark_at (cond b (joined (signature_where test fs) (signature_of x.request.wants.items)) (signature_where test fs)) k ≡ 0
+        → mark_at (signature_where test fs) k ≡ 0
     go true zero = no-bit-left (signature_where test fs) (signature_of x.request.wants.items) k zero
     go false zero = zero
 
@@ -146,7 +146,7 @@ gone-changes test fs f h = go (test f) refl
   where
     go : (b : Bool) → test f ≡ b → Changes (signature_where test fs) f (staying_if (not b) f.request)
     go true t = record {
-      kept = λ k z. sym (names-none f.request.wants.items k (unsigned f.request.wants.items k (signature-has test fs f (group_of k) h t z)));
+      kept = λ k z. sym (names-none f.request.wants.items k (unsigned f.request.wants.items k (signature-has test fs f k h t z)));
       own = λ s is u. absurd (cc);
     }
     go false t = record {
@@ -230,15 +230,15 @@ at-staying q k = go q.wants.items
     go (w ∷ ws) = ap (λ b. at_key k (staying_if b (with_wants q (w ∷ ws)))) (sym (not-empty (length ws)))
 
 -- a request with wants has a first
-some-want : (bits : ℕ) (ws all : List Want) → not (length ws == 0) ≡ true → Sub ws all
-    → meets (signature_of ws) bits ≡ false → ((k : ℕ) → bit_at bits k ≡ 0 → bit_at (signature_of all) k ≡ 0) → false ≡ true
+some-want : (bits : Signature) (ws all : List Want) → not (length ws == 0) ≡ true → Sub ws all
+    → meets (signature_of ws) bits ≡ false → ((k : Key) → mark_at bits k ≡ 0 → mark_at (signature_of all) k ≡ 0) → false ≡ true
 some-want bits [] all some sub u zero = some
 some-want bits (w ∷ ws) all some sub u zero =
-    let none = zero (group_of w.key) (unmet-right (signature_of (w ∷ ws)) bits (group_of w.key) u (signed (w ∷ ws) w (inl refl))) in
+    let none = zero w.key (unmet-right (signature_of (w ∷ ws)) bits w.key u (signed (w ∷ ws) w (inl refl))) in
     absurd (omega (arith, none, signed all w (Sub-Has w sub (inl refl))))
 
 module _ (fs : List Filing) (job : ℕ) (named : List Want) where
-  abbrev bits : ℕ
+  abbrev bits : Signature
   bits = signature_where (loses job named) fs
 
   abbrev left-named : Request → Option Request
@@ -287,7 +287,7 @@ module _ (fs : List Filing) (job : ℕ) (named : List Want) where
       }
       go true t = record {
         kept = λ k z.
-            let none = unsigned r.wants.items k (signature-has (loses job named) fs f (group_of k) h t z) in
+            let none = unsigned r.wants.items k (signature-has (loses job named) fs f k h t z) in
             at-staying q k ∙ names-none q.wants.items k (lost-none (r.job == job) r k none) ∙ sym (names-none r.wants.items k none);
         own = λ s is u.
             let at = own-of (has_wants q) s is in
@@ -333,10 +333,10 @@ module _ (job : ℕ) (cs : List Want) where
         ap (λ (q : Request). meets (signature_of q.wants.items) (signature_of cs)) same ∙ u in
         ap (λ (q : Request). q.wants.items) (sym same)
         ∙ all-unchanged cs f.request.wants.items (λ w k.
-        let bit : bit_at (signature_of (map (changed_want cs) f.request.wants.items)) (group_of w.key) ≡ 1 =
-        ap (λ key. bit_at (signature_of (map (changed_want cs) f.request.wants.items)) (group_of key)) (sym (change-key cs w))
+        let bit : mark_at (signature_of (map (changed_want cs) f.request.wants.items)) w.key ≡ 1 =
+        ap (mark_at (signature_of (map (changed_want cs) f.request.wants.items))) (sym (change-key cs w))
         ∙ signed (map (changed_want cs) f.request.wants.items) (changed_want cs w) (Has-map (changed_want cs) f.request.wants.items w k) in
-        unsigned cs w.key (unmet-right (signature_of (map (changed_want cs) f.request.wants.items)) (signature_of cs) (group_of w.key) off bit));
+        unsigned cs w.key (unmet-right (signature_of (map (changed_want cs) f.request.wants.items)) (signature_of cs) w.key off bit));
   }
   changes-of false f = record {
     kept = λ k z. refl;

@@ -15,10 +15,10 @@ use Rattle.lock_queue.proofs.Lists.{Has}
 use Rattle.lock_table.specs.Changing.{as_changed_at, key_wants}
 use Rattle.lock_table.specs.Departures.{with_change}
 use Rattle.lock_table.specs.Filings.{Filing, filing, requests_in}
-use Rattle.lock_table.specs.Signatures.{group_of, bit_of, signature_of, meets}
+use Rattle.lock_table.specs.Signatures.{joined, bits_of, signature_of, meets}
 use Rattle.lock_table.specs.Walks.{from_met}
 use Rattle.lock_table.specs.Waiters.{waiter_bit, with_waiters}
-use Rattle.lock_table.proofs.Fitting.{same_key-eq, same_key-swap}
+use Rattle.lock_queue.proofs.Fitting.{same_key-eq, same_key-swap}
 use Rattle.lock_table.proofs.SignatureLaws.{unsigned, signed, unmet-right, unmet_names, names-none, unmet_wants}
 
 pub change-key : (cs : List Want) (w : Want) → (changed_want cs w).key ≡ w.key
@@ -73,8 +73,8 @@ changed-names cs (w ∷ ws) k =
 pub changed_signature : (cs ws : List Want) → signature_of (map (changed_want cs) ws) ≡ signature_of ws
 changed_signature cs [] = refl
 changed_signature cs (w ∷ ws) =
-    ap (λ key. bit_or (signature_of (map (changed_want cs) ws)) (bit_of key)) (change-key cs w)
-    ∙ ap (λ n. bit_or n (bit_of w.key)) (changed_signature cs ws)
+    ap (λ key. joined (signature_of (map (changed_want cs) ws)) (bits_of key)) (change-key cs w)
+    ∙ ap (λ s. joined s (bits_of w.key)) (changed_signature cs ws)
 
 pub waiters_changed : (bits job : ℕ) (cs : List Want) (fs : List Filing)
     → with_waiters bits (map (with_change job cs) fs) ≡ with_waiters bits fs
@@ -95,7 +95,7 @@ unmet-change job cs f off =
   where
     same : map (changed_want cs) f.request.wants.items ≡ f.request.wants.items
     same = all-unchanged cs f.request.wants.items (λ w k.
-        unsigned cs w.key (unmet-right (signature_of f.request.wants.items) (signature_of cs) (group_of w.key) off (signed f.request.wants.items w k)))
+        unsigned cs w.key (unmet-right (signature_of f.request.wants.items) (signature_of cs) w.key off (signed f.request.wants.items w k)))
 
     go : (b : Bool) → cond b (with_wants f.request (map (changed_want cs) f.request.wants.items)) f.request ≡ f.request
     go true = ap (λ l. with_wants f.request l) same
@@ -122,7 +122,7 @@ wants-changed job c f = go (f.request.job == job)
     go true = refl
     go false = refl
 
-pub unmet-changed : (job : ℕ) (c : Want) (f : Filing) → meets (signature_of f.request.wants.items) (bit_of c.key) ≡ false
+pub unmet-changed : (job : ℕ) (c : Want) (f : Filing) → meets (signature_of f.request.wants.items) (bits_of c.key) ≡ false
     → key_wants c.key (with_change job (c ∷ []) f) ≡ []
 unmet-changed job c f off = names-none (with_change job (c ∷ []) f).request.wants.items c.key (go (f.request.job == job))
   where
@@ -136,9 +136,9 @@ unmet-changed job c f off = names-none (with_change job (c ∷ []) f).request.wa
 -- ---- the job's wants of a key, in a walk that passes over requests without one
 
 pub met_own : (job : ℕ) (k : Key) (fs : List Filing)
-    → wants_at (requests_of (requests_in (from_met (bit_of k) fs)) job) k ≡ wants_at (requests_of (requests_in fs) job) k
+    → wants_at (requests_of (requests_in (from_met (bits_of k) fs)) job) k ≡ wants_at (requests_of (requests_in fs) job) k
 met_own job k [] = refl
-met_own job k (f ∷ fs) = go (meets (signature_of f.request.wants.items) (bit_of k)) refl (met_own job k fs)
+met_own job k (f ∷ fs) = go (meets (signature_of f.request.wants.items) (bits_of k)) refl (met_own job k fs)
   where
     others : List Request
     others = requests_of (requests_in fs) job
@@ -149,9 +149,9 @@ met_own job k (f ∷ fs) = go (meets (signature_of f.request.wants.items) (bit_o
         sym (filter-append (λ w. same_key w.key k) f.request.wants.items (all_wants others) ∙ ap (λ l. l ++ wants_at others k) e)
     mine false e = refl
 
-    go : (b : Bool) → meets (signature_of f.request.wants.items) (bit_of k) ≡ b
-        → wants_at (requests_of (requests_in (from_met (bit_of k) fs)) job) k ≡ wants_at others k
-        → wants_at (requests_of (requests_in (cond b (f ∷ fs) (from_met (bit_of k) fs))) job) k ≡ wants_at (requests_of (requests_in (f ∷ fs)) job) k
+    go : (b : Bool) → meets (signature_of f.request.wants.items) (bits_of k) ≡ b
+        → wants_at (requests_of (requests_in (from_met (bits_of k) fs)) job) k ≡ wants_at others k
+        → wants_at (requests_of (requests_in (cond b (f ∷ fs) (from_met (bits_of k) fs))) job) k ≡ wants_at (requests_of (requests_in (f ∷ fs)) job) k
     go true e t = refl
     go false e t = t ∙ mine (f.request.job == job) (unmet_wants f.request.wants.items k e)
 

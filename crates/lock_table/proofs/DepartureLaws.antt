@@ -1,6 +1,5 @@
 -- What is left of requests when some leave or change: grants that were right are outdated only where what left is touched.
-use Rattle.std.proofs.Common.{◌≡◌, ◌∙◌, sym, ap, subst, ℕ, Bool, true, false, not, inl, inr, ◌&&◌, ◌||◌, cond, List, [], ◌∷◌, ◌++◌, append-nil, filter, filter_map, map, Option, Some, None, refl}
-use Rattle.std.specs.Int.{bit_at}
+use Rattle.std.proofs.Common.{◌≡◌, ◌∙◌, sym, ap, subst, Bool, true, false, not, inl, inr, ◌&&◌, ◌||◌, cond, List, [], ◌∷◌, ◌++◌, append-nil, filter, filter_map, map, Option, Some, None, refl}
 use Rattle.std.specs.List.{list_all, cons_option}
 use Rattle.std.proofs.lemmas.Bool.{and_right, or_parts}
 use Rattle.lock_queue.specs.declared.key.Key.{Key}
@@ -14,17 +13,18 @@ use Rattle.lock_queue.proofs.GrantLaws.{left-gone, left-stays}
 use Rattle.lock_queue.proofs.Lists.{Has, Sub, Sub-append, Sub-none, Sub-refl, flat_map-append}
 use Rattle.lock_table.specs.Filings.{Filing, filing, requests_in, AreRight}
 use Rattle.lock_table.specs.Renewals.{raised, AreOutdated}
-use Rattle.lock_table.specs.Signatures.{group_of, meets, signature_of}
-use Rattle.lock_table.proofs.Fitting.{wants_at-append, granted_behind-fewer, granted-same-at}
-use Rattle.lock_table.proofs.SignatureLaws.{unmet-right, signed}
+use Rattle.lock_table.specs.declared.signature.Signature.{Signature}
+use Rattle.lock_table.specs.Signatures.{meets, signature_of}
+use Rattle.lock_queue.proofs.Fitting.{wants_at-append, granted_behind-fewer, granted-same-at}
+use Rattle.lock_table.proofs.SignatureLaws.{mark_at, unmet-right, signed}
 
 -- whether a request has a grant that does not hold, and touches one of the groups
-abbrev pub lost_at : ℕ → List Request → Filing → Bool
+abbrev pub lost_at : Signature → List Request → Filing → Bool
 lost_at bits earlier f =
     f.granted && (meets (signature_of f.request.wants.items) bits && not (granted_behind earlier f.request))
 
 -- the same of one of these
-abbrev pub lost_in : ℕ → List Request → List Filing → Bool
+abbrev pub lost_in : Signature → List Request → List Filing → Bool
 lost_in bits earlier [] = false
 lost_in bits earlier (f ∷ later) = lost_at bits earlier f || lost_in bits (earlier ++ f.request ∷ []) later
 
@@ -47,15 +47,15 @@ wants_at-one r k = ap (filter (λ w. same_key w.key k)) (append-nil r.wants.item
 all_wants-more : (e : List Request) (r : Request) → all_wants (e ++ r ∷ []) ≡ all_wants e ++ all_wants (r ∷ [])
 all_wants-more e r = flat_map-append (λ (q : Request). q.wants.items) e (r ∷ [])
 
-module _ (bits : ℕ) where
+module _ (bits : Signature) where
   -- only what touches the groups changes
   pub record Changes (f : Filing) (o : Option Request) : Type 0 where
-    pub kept : (k : Key) → bit_at bits (group_of k) ≡ 0 → at_key k o ≡ at_key k (Some f.request)
+    pub kept : (k : Key) → mark_at bits k ≡ 0 → at_key k o ≡ at_key k (Some f.request)
     pub own : (s : Request) → o ≡ Some s → meets (signature_of s.wants.items) bits ≡ false → s.wants.items ≡ f.request.wants.items
 
   -- earlier requests that have the same wants of untouched keys
   abbrev pub Alike : List Request → List Request → Type 0
-  Alike d e = (k : Key) → bit_at bits (group_of k) ≡ 0 → wants_at d k ≡ wants_at e k
+  Alike d e = (k : Key) → mark_at bits k ≡ 0 → wants_at d k ≡ wants_at e k
 
   alike-gone : (d e : List Request) (f : Filing) → Changes f None → Alike d e → Alike d (e ++ f.request ∷ [])
   alike-gone d e f c same k z =
@@ -74,7 +74,7 @@ module _ (bits : ℕ) where
       → f.granted ≡ granted_behind e f.request → meets (signature_of s.wants.items) bits ≡ false
       → granted_behind d s ≡ f.granted
   untouched d e f s c same right u =
-      granted-same-at d e s (λ w h. same w.key (unmet-right (signature_of s.wants.items) bits (group_of w.key) u (signed s.wants.items w h)))
+      granted-same-at d e s (λ w h. same w.key (unmet-right (signature_of s.wants.items) bits w.key u (signed s.wants.items w h)))
       ∙ ap (list_all (fits e)) (c.own s refl u) ∙ sym right
 
   module _ (left : Filing → Option Request) where

@@ -1,6 +1,5 @@
 -- One step of the walk from the end that takes wants out of requests, and requests out of the list.
-use Rattle.std.proofs.Common.{◌≡◌, ◌∙◌, sym, ap, subst, ℕ, zero, suc, ◌+◌, ◌<◌, ◌≤◌, ◌==◌, Bool, true, false, ◌&&◌, cond, if◌then◌else◌, List, [], ◌∷◌, ◌++◌, length, get_or, take, drop, filter, map, add-one, refl, arith, bit_or}
-use Rattle.std.specs.Int.Bits.{or_zero_r}
+use Rattle.std.proofs.Common.{◌≡◌, ◌∙◌, sym, ap, subst, ℕ, zero, suc, ◌+◌, ◌<◌, ◌≤◌, ◌==◌, Bool, true, false, ◌&&◌, cond, if◌then◌else◌, List, [], ◌∷◌, ◌++◌, length, get_or, take, drop, filter, map, add-one, refl, arith}
 use Rattle.std.specs.List.{list_any}
 use Rattle.std.proofs.lemmas.Bool.{and_parts}
 use Rattle.lock_queue.specs.declared.want.Want.{Want}
@@ -8,7 +7,8 @@ use Rattle.lock_queue.specs.Dequeues.{without_keys}
 use Rattle.lock_queue.specs.Queue.{names}
 use Rattle.lock_table.specs.Departures.{loses, lost_bits, fewer, with_fewer, signature_where}
 use Rattle.lock_table.specs.Filings.{Filing, filing}
-use Rattle.lock_table.specs.Signatures.{signature_of}
+use Rattle.lock_table.specs.Signatures.{no_bits, joined, signature_of}
+use Rattle.lock_table.proofs.SignatureLaws.{joined-none}
 use Rattle.lock_table.proofs.CallLaws.{none-lost}
 
 module _ (keeps : Filing → Bool) (g : Filing → Filing) where
@@ -53,20 +53,20 @@ losing job named f h =
 
 bits-suc : (job : ℕ) (named : List Want) (fs : List Filing) (i : ℕ) (d : Filing) → i < length fs
     → signature_where (loses job named) (drop i fs)
-    ≡ bit_or (signature_where (loses job named) (drop (suc i) fs)) (lost_bits job named (get_or fs i d))
+    ≡ joined (signature_where (loses job named) (drop (suc i) fs)) (lost_bits job named (get_or fs i d))
 bits-suc job named [] i d lt = absurd (omega arith)
 bits-suc job named (f ∷ fs) zero d lt = go (loses job named f)
   where
     go : (b : Bool)
-        → cond b (bit_or (signature_where (loses job named) fs) (signature_of f.request.wants.items)) (signature_where (loses job named) fs)
-        ≡ bit_or (signature_where (loses job named) fs) (if b then signature_of f.request.wants.items else 0)
+        → cond b (joined (signature_where (loses job named) fs) (signature_of f.request.wants.items)) (signature_where (loses job named) fs)
+        ≡ joined (signature_where (loses job named) fs) (if b then signature_of f.request.wants.items else no_bits)
     go true = refl
-    go false = sym (or_zero_r (signature_where (loses job named) fs))
+    go false = sym (joined-none (signature_where (loses job named) fs))
 bits-suc job named (f ∷ fs) (suc i) d lt = bits-suc job named fs i d (omega arith)
 
 pub bits-from : (job : ℕ) (named : List Want) (fs : List Filing) (i : ℕ) (d : Filing) → i < length fs
     → signature_where (loses job named) (drop i fs)
-    ≡ bit_or (signature_where (loses job named) (drop (i + 1) fs)) (lost_bits job named (get_or fs i d))
+    ≡ joined (signature_where (loses job named) (drop (i + 1) fs)) (lost_bits job named (get_or fs i d))
 bits-from job named fs i d lt = rw (add-one i) (bits-suc job named fs i d lt)
 
 -- what stands at a place of a list whose front is another's

@@ -18,20 +18,20 @@ use Rattle.lock_table.specs.declared.changes.Hold.TheVariants.{Free, Shared, Exc
 use Rattle.lock_table.specs.Changing.{fits_held, held_with, held_by, is_shut_out, key_wants, loses_key, costs_grant}
 use Rattle.lock_table.specs.Departures.{with_change}
 use Rattle.lock_table.specs.Filings.{Filing, requests_in, AreRight}
-use Rattle.lock_table.specs.Signatures.{bit_of, meets, signature_of}
+use Rattle.lock_table.specs.Signatures.{bits_of, meets, signature_of}
 use Rattle.lock_table.specs.Walks.{from_met}
 use Rattle.lock_table.proofs.CallLaws.{change-requests, change-lost}
 use Rattle.lock_table.proofs.ChangeLaws.{change-key, unchanged, at-changed, unmet-changed}
 use Rattle.lock_table.proofs.DepartureLaws.{wants_at-one, lost_in}
-use Rattle.lock_table.proofs.Fitting.{same_key-eq, same_key-swap, wants_at-append}
+use Rattle.lock_queue.proofs.Fitting.{same_key-eq, same_key-swap, wants_at-append}
 
 -- ---- the walk passes over requests without a want of the key
 
 pub met_loses : (job : ℕ) (c : Want) (hold : Hold) (fs : List Filing)
-    → loses_key c.key hold (map (with_change job (c ∷ [])) (from_met (bit_of c.key) fs))
+    → loses_key c.key hold (map (with_change job (c ∷ [])) (from_met (bits_of c.key) fs))
     ≡ loses_key c.key hold (map (with_change job (c ∷ [])) fs)
 met_loses job c hold [] = refl
-met_loses job c hold (f ∷ fs) = go (meets (signature_of f.request.wants.items) (bit_of c.key)) refl (met_loses job c hold fs)
+met_loses job c hold (f ∷ fs) = go (meets (signature_of f.request.wants.items) (bits_of c.key)) refl (met_loses job c hold fs)
   where
     g : Filing
     g = with_change job (c ∷ []) f
@@ -43,9 +43,9 @@ met_loses job c hold (f ∷ fs) = go (meets (signature_of f.request.wants.items)
     none true = refl
     none false = refl
 
-    go : (b : Bool) → meets (signature_of f.request.wants.items) (bit_of c.key) ≡ b
-        → loses_key c.key hold (map (with_change job (c ∷ [])) (from_met (bit_of c.key) fs)) ≡ loses_key c.key hold rest
-        → loses_key c.key hold (map (with_change job (c ∷ [])) (cond b (f ∷ fs) (from_met (bit_of c.key) fs)))
+    go : (b : Bool) → meets (signature_of f.request.wants.items) (bits_of c.key) ≡ b
+        → loses_key c.key hold (map (with_change job (c ∷ [])) (from_met (bits_of c.key) fs)) ≡ loses_key c.key hold rest
+        → loses_key c.key hold (map (with_change job (c ∷ [])) (cond b (f ∷ fs) (from_met (bits_of c.key) fs)))
         ≡ ((g.granted && list_any (is_shut_out hold) (key_wants c.key g)) || loses_key c.key (held_by hold (key_wants c.key g)) rest)
     go true e t = refl
     go false e t =

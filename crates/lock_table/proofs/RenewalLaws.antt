@@ -11,9 +11,10 @@ use Rattle.lock_queue.specs.Grants.{is_told_of, grant_of}
 use Rattle.lock_queue.specs.Queue.{all_wants, wants_at, is_pooled, agree, fits_beside, fits, granted_behind}
 use Rattle.lock_table.specs.Filings.{Filing, requests_in, AreRight}
 use Rattle.lock_table.specs.Renewals.{rises, with_grant, renewed, risen, raised, shuts, AreOutdated}
+use Rattle.lock_table.specs.declared.signature.Signature.{Signature}
 use Rattle.lock_table.specs.Signatures.{meets, signature_of}
 
-pub renewed-requests : (bits : ℕ) (e : List Request) (fs : List Filing) → requests_in (renewed bits e fs) ≡ requests_in fs
+pub renewed-requests : (bits : Signature) (e : List Request) (fs : List Filing) → requests_in (renewed bits e fs) ≡ requests_in fs
 renewed-requests bits e [] = refl
 renewed-requests bits e (f ∷ fs) = go (rises bits e f) (renewed-requests bits (e ++ f.request ∷ []) fs)
   where
@@ -31,7 +32,7 @@ now-right false true true stays rests = refl
 now-right false true false stays rests = refl
 now-right false false b stays rests = sym (rests refl refl)
 
-pub right-renewed : (bits : ℕ) (e : List Request) (fs : List Filing) → AreOutdated bits e fs → AreRight e (renewed bits e fs)
+pub right-renewed : (bits : Signature) (e : List Request) (fs : List Filing) → AreOutdated bits e fs → AreRight e (renewed bits e fs)
 right-renewed bits e [] h = record {}
 right-renewed bits e (f ∷ fs) h =
     go (rises bits e f)
@@ -54,7 +55,7 @@ same-test false true false false rests = refl
 same-test false false b true rests = sym (rests refl refl)
 same-test false false b false rests = refl
 
-pub risen-raised : (bits : ℕ) (e : List Request) (fs : List Filing) → AreOutdated bits e fs → risen bits e fs ≡ raised e fs
+pub risen-raised : (bits : Signature) (e : List Request) (fs : List Filing) → AreOutdated bits e fs → risen bits e fs ≡ raised e fs
 risen-raised bits e [] h = refl
 risen-raised bits e (f ∷ fs) h =
     ap (λ b. cond b (grant_of f.request ∷ risen bits (e ++ f.request ∷ []) fs) (risen bits (e ++ f.request ∷ []) fs))

@@ -12,7 +12,7 @@ use Rattle.lock_queue.specs.Queue.{all_wants, wants_at, names, granted, is_grant
 use Rattle.lock_queue.specs.StatusWords.{first_level, standing, level_of, status_of}
 use Rattle.lock_queue.proofs.StatusLaws.{first_of}
 use Rattle.lock_table.specs.Filings.{Filing, requests_in, AreRight, same_flag, are_right}
-use Rattle.lock_table.proofs.Fitting.{wants_at-append, granted-same}
+use Rattle.lock_queue.proofs.Fitting.{wants_at-append, granted-same}
 use Rattle.lock_table.specs.Findings.{blocks, pends, pending_in, with_told, told_in, waits_in, owns, awaits, status_in}
 
 -- ---- the test

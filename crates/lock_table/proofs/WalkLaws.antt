@@ -1,21 +1,26 @@
 -- What a walk passes over has no want of the key.
-use Rattle.std.proofs.Common.{◌≡◌, ◌∙◌, sym, ap, ℕ, ◌==◌, ◌≤◌, Bool, true, false, not, ◌&&◌, ◌||◌, ◌+◌, cond, sum_by, List, [], ◌∷◌, ◌++◌, length, get_or, drop, filter, refl, arith, bit_or}
+use Rattle.std.proofs.Common.{◌≡◌, ◌∙◌, sym, ap, ℕ, ◌==◌, ◌≤◌, ◌%◌, ◌^◌, Bool, true, false, not, ◌&&◌, ◌||◌, ◌+◌, cond, if◌then◌else◌, sum_by, List, [], ◌∷◌, ◌++◌, length, get_or, drop, filter, refl, arith, bit_and, bit_or}
 use Rattle.std.proofs.lemmas.List.Elements.{filter-append}
-use Rattle.std.specs.List.{list_all}
+use Rattle.std.specs.Int.{bit_at}
+use Rattle.std.specs.List.{list_all, list_any}
+use Rattle.std.proofs.lemmas.Bool.{eqb-true}
+use Rattle.std.proofs.lemmas.Nat.Bits.{bit_at_and, bit_at-pow_same, bit_at-zero}
 use Rattle.std.proofs.lemmas.List.Folds.{list_any-append, list_all-append}
 use Rattle.std.proofs.lemmas.List.Sums.{sum_by-append}
 use Rattle.std.proofs.lemmas.Nat.{le_or_l, le_or_r}
 use Rattle.lock_queue.specs.declared.key.Key.{Key}
 use Rattle.lock_queue.specs.declared.want.Want.{Want}
+use Rattle.lock_queue.specs.Jobs.{is_blocking}
 use Rattle.lock_queue.specs.Keys.{same_key}
 use Rattle.lock_queue.specs.Queue.{all_wants, wants_at, wants_of, names, amount_of}
+use Rattle.lock_table.specs.declared.signature.Signature.{Signature}
+use Rattle.lock_table.specs.declared.departures.Leaving.{Leaving}
+use Rattle.lock_table.specs.declared.departures.Leaving.TheVariants.{All, OfId, Blocked}
+use Rattle.lock_table.specs.Departures.{leaves}
 use Rattle.lock_table.specs.Filings.{Filing, requests_in}
-use Rattle.lock_table.specs.Signatures.{bit_of, signature_of, meets}
-use Rattle.lock_table.specs.Walks.{touched, from_met}
+use Rattle.lock_table.specs.Signatures.{bits_of, signature_of, meets}
+use Rattle.lock_table.specs.Walks.{touched, from_touched, from_met, owned, from_own}
 use Rattle.lock_table.proofs.SignatureLaws.{unmet_names, unmet_wants}
-
-met-skip : (bits : ℕ) (f : Filing) (fs : List Filing) → touched bits f ≡ 0 → from_met bits (f ∷ fs) ≡ from_met bits fs
-met-skip bits f fs e = ap (λ n. cond (not (n == 0)) (f ∷ fs) (from_met bits fs)) e
 
 or-left : (a b : ℕ) → bit_or a b ≡ 0 → a ≡ 0
 or-left a b h = omega (arith, le_or_l a b, h)
@@ -23,33 +28,103 @@ or-left a b h = omega (arith, le_or_l a b, h)
 or-right : (a b : ℕ) → bit_or a b ≡ 0 → b ≡ 0
 or-right a b h = omega (arith, le_or_r a b, h)
 
-met-four : (bits : ℕ) (a b c d : Filing) (fs : List Filing)
-    → bit_or (bit_or (touched bits a) (touched bits b)) (bit_or (touched bits c) (touched bits d)) ≡ 0
-    → from_met bits (a ∷ b ∷ c ∷ d ∷ fs) ≡ from_met bits fs
-met-four bits a b c d fs h =
-    let front = or-left (bit_or (touched bits a) (touched bits b)) (bit_or (touched bits c) (touched bits d)) h in
-    let back = or-right (bit_or (touched bits a) (touched bits b)) (bit_or (touched bits c) (touched bits d)) h in
-    met-skip bits a (b ∷ c ∷ d ∷ fs) (or-left (touched bits a) (touched bits b) front)
-    ∙ met-skip bits b (c ∷ d ∷ fs) (or-right (touched bits a) (touched bits b) front)
-    ∙ met-skip bits c (d ∷ fs) (or-left (touched bits c) (touched bits d) back)
-    ∙ met-skip bits d fs (or-right (touched bits c) (touched bits d) back)
+-- a walk to the first request of which a number is not 0
+module _ (mark : Filing → ℕ) where
+  abbrev pub from_marked : List Filing → List Filing
+  from_marked [] = []
+  from_marked (f ∷ later) = if not (mark f == 0) then f ∷ later else from_marked later
 
-pub met_wants : (k : Key) (fs : List Filing) → wants_at (requests_in (from_met (bit_of k) fs)) k ≡ wants_at (requests_in fs) k
-met_wants k [] = refl
-met_wants k (f ∷ fs) = go (meets (signature_of f.request.wants.items) (bit_of k)) refl (met_wants k fs)
+  marked-skip : (f : Filing) (fs : List Filing) → mark f ≡ 0 → from_marked (f ∷ fs) ≡ from_marked fs
+  marked-skip f fs e = ap (λ n. cond (not (n == 0)) (f ∷ fs) (from_marked fs)) e
+
+  marked-four : (a b c d : Filing) (fs : List Filing)
+      → bit_or (bit_or (mark a) (mark b)) (bit_or (mark c) (mark d)) ≡ 0
+      → from_marked (a ∷ b ∷ c ∷ d ∷ fs) ≡ from_marked fs
+  marked-four a b c d fs h =
+      let front = or-left (bit_or (mark a) (mark b)) (bit_or (mark c) (mark d)) h in
+      let back = or-right (bit_or (mark a) (mark b)) (bit_or (mark c) (mark d)) h in
+      marked-skip a (b ∷ c ∷ d ∷ fs) (or-left (mark a) (mark b) front)
+      ∙ marked-skip b (c ∷ d ∷ fs) (or-right (mark a) (mark b) front)
+      ∙ marked-skip c (d ∷ fs) (or-left (mark c) (mark d) back)
+      ∙ marked-skip d fs (or-right (mark c) (mark d) back)
+
+  -- the same of a list's first four
+  marked-from : (xs : List Filing) (a b c d : Filing) → 4 ≤ length xs
+      → a ≡ get_or xs 0 a → b ≡ get_or xs 1 b → c ≡ get_or xs 2 c → d ≡ get_or xs 3 d
+      → bit_or (bit_or (mark a) (mark b)) (bit_or (mark c) (mark d)) ≡ 0
+      → from_marked (drop 4 xs) ≡ from_marked xs
+  marked-from [] a b c d le ia ib ic id h = absurd (omega arith)
+  marked-from (w ∷ []) a b c d le ia ib ic id h = absurd (omega arith)
+  marked-from (w ∷ x ∷ []) a b c d le ia ib ic id h = absurd (omega arith)
+  marked-from (w ∷ x ∷ y ∷ []) a b c d le ia ib ic id h = absurd (omega arith)
+  marked-from (w ∷ x ∷ y ∷ z ∷ fs) a b c d le ia ib ic id h =
+      let same : bit_or (bit_or (mark w) (mark x)) (bit_or (mark y) (mark z)) ≡ 0 = cc in
+      sym (marked-four w x y z fs same)
+
+  -- and of its first eight
+  pub marked-eight : (xs : List Filing) (a b c d e f g h : Filing) → 8 ≤ length xs
+      → a ≡ get_or xs 0 a → b ≡ get_or xs 1 b → c ≡ get_or xs 2 c → d ≡ get_or xs 3 d
+      → e ≡ get_or xs 4 e → f ≡ get_or xs 5 f → g ≡ get_or xs 6 g → h ≡ get_or xs 7 h
+      → bit_or (bit_or (mark a) (mark b)) (bit_or (mark c) (mark d)) ≡ 0
+      → bit_or (bit_or (mark e) (mark f)) (bit_or (mark g) (mark h)) ≡ 0
+      → from_marked (drop 8 xs) ≡ from_marked xs
+  marked-eight [] a b c d e f g h le ia ib ic id ie iff ig ih front back = absurd (omega arith)
+  marked-eight (p ∷ []) a b c d e f g h le ia ib ic id ie iff ig ih front back = absurd (omega arith)
+  marked-eight (p ∷ q ∷ []) a b c d e f g h le ia ib ic id ie iff ig ih front back = absurd (omega arith)
+  marked-eight (p ∷ q ∷ r ∷ []) a b c d e f g h le ia ib ic id ie iff ig ih front back = absurd (omega arith)
+  marked-eight (p ∷ q ∷ r ∷ s ∷ xs) a b c d e f g h le ia ib ic id ie iff ig ih front back =
+      marked-from xs e f g h (omega arith) ie iff ig ih back
+      ∙ marked-from (p ∷ q ∷ r ∷ s ∷ xs) a b c d (omega arith) ia ib ic id front
+
+touched-marked : (groups : ℕ) (fs : List Filing) → from_touched groups fs ≡ from_marked (touched groups) fs
+touched-marked groups [] = refl
+touched-marked groups (f ∷ fs) = ap (λ l. cond (not (touched groups f == 0)) (f ∷ fs) l) (touched-marked groups fs)
+
+pub touched-eight : (groups : ℕ) (xs : List Filing) (a b c d e f g h : Filing) → 8 ≤ length xs
+    → a ≡ get_or xs 0 a → b ≡ get_or xs 1 b → c ≡ get_or xs 2 c → d ≡ get_or xs 3 d
+    → e ≡ get_or xs 4 e → f ≡ get_or xs 5 f → g ≡ get_or xs 6 g → h ≡ get_or xs 7 h
+    → bit_or (bit_or (touched groups a) (touched groups b)) (bit_or (touched groups c) (touched groups d)) ≡ 0
+    → bit_or (bit_or (touched groups e) (touched groups f)) (bit_or (touched groups g) (touched groups h)) ≡ 0
+    → from_touched groups (drop 8 xs) ≡ from_touched groups xs
+touched-eight groups xs a b c d e f g h le ia ib ic id ie iff ig ih front back =
+    touched-marked groups (drop 8 xs) ∙ marked-eight (touched groups) xs a b c d e f g h le ia ib ic id ie iff ig ih front back ∙ sym (touched-marked groups xs)
+
+-- a request that meets a signature touches one of its groups
+pub touched_met : (bits : Signature) (fs : List Filing) → from_met bits (from_touched bits.groups fs) ≡ from_met bits fs
+touched_met bits [] = refl
+touched_met bits (f ∷ fs) = go (touched bits.groups f == 0) refl (touched_met bits fs)
   where
-    go : (b : Bool) → meets (signature_of f.request.wants.items) (bit_of k) ≡ b
-        → wants_at (requests_in (from_met (bit_of k) fs)) k ≡ wants_at (requests_in fs) k
-        → wants_at (requests_in (cond b (f ∷ fs) (from_met (bit_of k) fs))) k ≡ wants_at (requests_in (f ∷ fs)) k
+    go : (b : Bool) → (touched bits.groups f == 0) ≡ b → from_met bits (from_touched bits.groups fs) ≡ from_met bits fs
+        → from_met bits (cond (not b) (f ∷ fs) (from_touched bits.groups fs)) ≡ from_met bits (f ∷ fs)
+    go true e t =
+        t ∙ sym (ap (λ b. cond (not b && not (bit_and (signature_of f.request.wants.items).classes bits.classes == 0)) (f ∷ fs) (from_met bits fs)) e)
+    go false e t = refl
+
+-- one step of a walk over those that touch a group
+pub met-next : (bits : Signature) (xs : List Filing) (f : Filing) → 1 ≤ length xs → f ≡ get_or xs 0 f
+    → meets (signature_of f.request.wants.items) bits ≡ false
+    → from_met bits (from_touched bits.groups (drop 1 xs)) ≡ from_met bits xs
+met-next bits [] f some is off = absurd (omega arith)
+met-next bits (x ∷ xs) f some is off =
+    touched_met bits xs
+    ∙ sym (ap (λ b. cond b (x ∷ xs) (from_met bits xs)) (ap (λ (g : Filing). meets (signature_of g.request.wants.items) bits) (sym is) ∙ off))
+
+pub met_wants : (k : Key) (fs : List Filing) → wants_at (requests_in (from_met (bits_of k) fs)) k ≡ wants_at (requests_in fs) k
+met_wants k [] = refl
+met_wants k (f ∷ fs) = go (meets (signature_of f.request.wants.items) (bits_of k)) refl (met_wants k fs)
+  where
+    go : (b : Bool) → meets (signature_of f.request.wants.items) (bits_of k) ≡ b
+        → wants_at (requests_in (from_met (bits_of k) fs)) k ≡ wants_at (requests_in fs) k
+        → wants_at (requests_in (cond b (f ∷ fs) (from_met (bits_of k) fs))) k ≡ wants_at (requests_in (f ∷ fs)) k
     go true e t = refl
     go false e t =
         t ∙ sym (filter-append (λ w. same_key w.key k) f.request.wants.items (all_wants (requests_in fs))
         ∙ ap (λ l. l ++ wants_at (requests_in fs) k) (unmet_wants f.request.wants.items k e))
 
 pub met_names : (job : ℕ) (k : Key) (fs : List Filing)
-    → names (wants_of (requests_in (from_met (bit_of k) fs)) job) k ≡ names (wants_of (requests_in fs) job) k
+    → names (wants_of (requests_in (from_met (bits_of k) fs)) job) k ≡ names (wants_of (requests_in fs) job) k
 met_names job k [] = refl
-met_names job k (f ∷ fs) = go (meets (signature_of f.request.wants.items) (bit_of k)) refl (met_names job k fs)
+met_names job k (f ∷ fs) = go (meets (signature_of f.request.wants.items) (bits_of k)) refl (met_names job k fs)
   where
     rest : Bool
     rest = names (wants_of (requests_in fs) job) k
@@ -61,43 +136,84 @@ met_names job k (f ∷ fs) = go (meets (signature_of f.request.wants.items) (bit
         ∙ ap (λ b. b || rest) e)
     mine false e = refl
 
-    go : (b : Bool) → meets (signature_of f.request.wants.items) (bit_of k) ≡ b
-        → names (wants_of (requests_in (from_met (bit_of k) fs)) job) k ≡ names (wants_of (requests_in fs) job) k
-        → names (wants_of (requests_in (cond b (f ∷ fs) (from_met (bit_of k) fs))) job) k ≡ names (wants_of (requests_in (f ∷ fs)) job) k
+    go : (b : Bool) → meets (signature_of f.request.wants.items) (bits_of k) ≡ b
+        → names (wants_of (requests_in (from_met (bits_of k) fs)) job) k ≡ names (wants_of (requests_in fs) job) k
+        → names (wants_of (requests_in (cond b (f ∷ fs) (from_met (bits_of k) fs))) job) k ≡ names (wants_of (requests_in (f ∷ fs)) job) k
     go true e t = refl
     go false e t = t ∙ mine (f.request.job == job) (unmet_names f.request.wants.items k e)
-
--- the same of a list's first four
-met-from : (bits : ℕ) (xs : List Filing) (a b c d : Filing) → 4 ≤ length xs
-    → a ≡ get_or xs 0 a → b ≡ get_or xs 1 b → c ≡ get_or xs 2 c → d ≡ get_or xs 3 d
-    → bit_or (bit_or (touched bits a) (touched bits b)) (bit_or (touched bits c) (touched bits d)) ≡ 0
-    → from_met bits (drop 4 xs) ≡ from_met bits xs
-met-from bits [] a b c d le ia ib ic id h = absurd (omega arith)
-met-from bits (w ∷ []) a b c d le ia ib ic id h = absurd (omega arith)
-met-from bits (w ∷ x ∷ []) a b c d le ia ib ic id h = absurd (omega arith)
-met-from bits (w ∷ x ∷ y ∷ []) a b c d le ia ib ic id h = absurd (omega arith)
-met-from bits (w ∷ x ∷ y ∷ z ∷ fs) a b c d le ia ib ic id h =
-    let same : bit_or (bit_or (touched bits w) (touched bits x)) (bit_or (touched bits y) (touched bits z)) ≡ 0 = cc in
-    sym (met-four bits w x y z fs same)
-
--- and of its first eight
-pub met-eight : (bits : ℕ) (xs : List Filing) (a b c d e f g h : Filing) → 8 ≤ length xs
-    → a ≡ get_or xs 0 a → b ≡ get_or xs 1 b → c ≡ get_or xs 2 c → d ≡ get_or xs 3 d
-    → e ≡ get_or xs 4 e → f ≡ get_or xs 5 f → g ≡ get_or xs 6 g → h ≡ get_or xs 7 h
-    → bit_or (bit_or (touched bits a) (touched bits b)) (bit_or (touched bits c) (touched bits d)) ≡ 0
-    → bit_or (bit_or (touched bits e) (touched bits f)) (bit_or (touched bits g) (touched bits h)) ≡ 0
-    → from_met bits (drop 8 xs) ≡ from_met bits xs
-met-eight bits [] a b c d e f g h le ia ib ic id ie iff ig ih front back = absurd (omega arith)
-met-eight bits (p ∷ []) a b c d e f g h le ia ib ic id ie iff ig ih front back = absurd (omega arith)
-met-eight bits (p ∷ q ∷ []) a b c d e f g h le ia ib ic id ie iff ig ih front back = absurd (omega arith)
-met-eight bits (p ∷ q ∷ r ∷ []) a b c d e f g h le ia ib ic id ie iff ig ih front back = absurd (omega arith)
-met-eight bits (p ∷ q ∷ r ∷ s ∷ xs) a b c d e f g h le ia ib ic id ie iff ig ih front back =
-    met-from bits xs e f g h (omega arith) ie iff ig ih back
-    ∙ met-from bits (p ∷ q ∷ r ∷ s ∷ xs) a b c d (omega arith) ia ib ic id front
 
 pub or-assoc : (a b c : Bool) → ((a || b) || c) ≡ (a || (b || c))
 or-assoc true b c = refl
 or-assoc false b c = refl
+
+pub and-assoc : (a b c : Bool) → ((a && b) && c) ≡ (a && (b && c))
+and-assoc true b c = refl
+and-assoc false b c = refl
+
+-- ---- walks over a job's requests
+
+own-bit : (job : ℕ) (f : Filing) → owned (2 ^ (job % 32)) f ≡ 0 → (f.request.job == job) ≡ false
+own-bit job f none = go (f.request.job == job) refl
+  where
+    go : (b : Bool) → (f.request.job == job) ≡ b → b ≡ false
+    go false e = refl
+    go true e =
+        let same : f.request.job ≡ job = eqb-true f.request.job job e in
+        let both : bit_at (bit_and (2 ^ (job % 32)) (2 ^ (job % 32))) (job % 32) ≡ 0 =
+        ap (λ n. bit_at (bit_and (2 ^ (n % 32)) (2 ^ (job % 32))) (job % 32)) (sym same) ∙ ap (λ n. bit_at n (job % 32)) none ∙ bit_at-zero (job % 32) in
+        absurd (omega (arith, both, bit_at_and (2 ^ (job % 32)) (2 ^ (job % 32)) (job % 32), bit_at-pow_same (job % 32)))
+
+own-marked : (job : ℕ) (fs : List Filing) → from_own job (from_marked (owned (2 ^ (job % 32))) fs) ≡ from_own job fs
+own-marked job [] = refl
+own-marked job (f ∷ fs) = go (owned (2 ^ (job % 32)) f == 0) refl (own-marked job fs)
+  where
+    go : (b : Bool) → (owned (2 ^ (job % 32)) f == 0) ≡ b → from_own job (from_marked (owned (2 ^ (job % 32))) fs) ≡ from_own job fs
+        → from_own job (cond (not b) (f ∷ fs) (from_marked (owned (2 ^ (job % 32))) fs)) ≡ from_own job (f ∷ fs)
+    go true e t = t ∙ sym (ap (λ b. cond b (f ∷ fs) (from_own job fs)) (own-bit job f (eqb-true (owned (2 ^ (job % 32)) f) 0 e)))
+    go false e t = refl
+
+pub own-eight : (job : ℕ) (xs : List Filing) (a b c d e f g h : Filing) → 8 ≤ length xs
+    → a ≡ get_or xs 0 a → b ≡ get_or xs 1 b → c ≡ get_or xs 2 c → d ≡ get_or xs 3 d
+    → e ≡ get_or xs 4 e → f ≡ get_or xs 5 f → g ≡ get_or xs 6 g → h ≡ get_or xs 7 h
+    → bit_or (bit_or (owned (2 ^ (job % 32)) a) (owned (2 ^ (job % 32)) b)) (bit_or (owned (2 ^ (job % 32)) c) (owned (2 ^ (job % 32)) d)) ≡ 0
+    → bit_or (bit_or (owned (2 ^ (job % 32)) e) (owned (2 ^ (job % 32)) f)) (bit_or (owned (2 ^ (job % 32)) g) (owned (2 ^ (job % 32)) h)) ≡ 0
+    → from_own job (drop 8 xs) ≡ from_own job xs
+own-eight job xs a b c d e f g h le ia ib ic id ie iff ig ih front back =
+    sym (own-marked job (drop 8 xs))
+    ∙ ap (from_own job) (marked-eight (owned (2 ^ (job % 32))) xs a b c d e f g h le ia ib ic id ie iff ig ih front back)
+    ∙ own-marked job xs
+
+-- what a walk over a job's requests passes over is not the job's
+pub own_wants : (job : ℕ) (fs : List Filing) → wants_of (requests_in (from_own job fs)) job ≡ wants_of (requests_in fs) job
+own_wants job [] = refl
+own_wants job (f ∷ fs) = go (f.request.job == job) refl (own_wants job fs)
+  where
+    go : (b : Bool) → (f.request.job == job) ≡ b
+        → wants_of (requests_in (from_own job fs)) job ≡ wants_of (requests_in fs) job
+        → wants_of (requests_in (cond b (f ∷ fs) (from_own job fs))) job ≡ wants_of (requests_in (f ∷ fs)) job
+    go true e t = refl
+    go false e t = t ∙ sym (ap (λ b. all_wants (cond b (f.request ∷ filter (λ r. r.job == job) (requests_in fs)) (filter (λ r. r.job == job) (requests_in fs)))) e)
+
+pub own_leaves : (job : ℕ) (leaving : Leaving) (fs : List Filing)
+    → list_any (leaves job leaving) (from_own job fs) ≡ list_any (leaves job leaving) fs
+own_leaves job leaving [] = refl
+own_leaves job leaving (f ∷ fs) = go (f.request.job == job) refl (own_leaves job leaving fs)
+  where
+    not-own : (l : Leaving) → (f.request.job == job) ≡ false → leaves job l f ≡ false
+    not-own All e = e
+    not-own (OfId id) e = ap (λ b. b && f.request.id == id) e
+    not-own Blocked e = ap (λ b. (b && is_blocking f.request.kind) && not f.granted) e
+
+    go : (b : Bool) → (f.request.job == job) ≡ b
+        → list_any (leaves job leaving) (from_own job fs) ≡ list_any (leaves job leaving) fs
+        → list_any (leaves job leaving) (cond b (f ∷ fs) (from_own job fs)) ≡ list_any (leaves job leaving) (f ∷ fs)
+    go true e t = refl
+    go false e t = t ∙ sym (ap (λ b. b || list_any (leaves job leaving) fs) (not-own leaving e))
+
+pub first-any : (test : Filing → Bool) (xs : List Filing) (f : Filing) → 1 ≤ length xs → f ≡ get_or xs 0 f
+    → list_any test xs ≡ (test f || list_any test (drop 1 xs))
+first-any test [] f some is = absurd (omega arith)
+first-any test (x ∷ xs) f some is = ap (λ g. test g || list_any test xs) (sym is)
 
 -- ---- one step of a walk: the first request, and those from the next on that is looked at
 
@@ -138,8 +254,8 @@ first-sum k xs f some is =
     ap (sum_by amount_of) (first-wants k xs f some is)
     ∙ sum_by-append amount_of (filter (λ w. same_key w.key k) f.request.wants.items) (wants_at (requests_in (drop 1 xs)) k)
 
-module _ (k : Key) (bits : ℕ) (xs ys : List Filing) (f : Filing)
-    (is-bit : bits ≡ bit_of k) (some : 1 ≤ length xs) (is-first : f ≡ get_or xs 0 f) (are : ys ≡ from_met bits (drop 1 xs)) where
+module _ (k : Key) (bits : Signature) (xs ys : List Filing) (f : Filing)
+    (is-bit : bits ≡ bits_of k) (some : 1 ≤ length xs) (is-first : f ≡ get_or xs 0 f) (are : ys ≡ from_met bits (drop 1 xs)) where
   abbrev mine : List Want
   mine = filter (λ w. same_key w.key k) f.request.wants.items
 

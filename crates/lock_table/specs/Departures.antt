@@ -1,5 +1,5 @@
 -- Which requests leave, and the signature of what leaves.
-use Rattle.std.specs.Prelude.{ℕ, Bool, not, ◌==◌, ◌&&◌, if◌then◌else◌, List, [], ◌∷◌, Option, Some, None, bit_or}
+use Rattle.std.specs.Prelude.{ℕ, Bool, not, ◌==◌, ◌&&◌, if◌then◌else◌, List, [], ◌∷◌, Option, Some, None}
 use Rattle.std.specs.List.{list_any}
 use Rattle.lock_queue.specs.declared.call.LockCall.{LockCall}
 use Rattle.lock_queue.specs.declared.call.LockCall.TheVariants.{DequeueAll, DequeueId}
@@ -11,7 +11,8 @@ use Rattle.lock_queue.specs.Queue.{names}
 use Rattle.lock_table.specs.declared.departures.Leaving.{Leaving}
 use Rattle.lock_table.specs.declared.departures.Leaving.TheVariants.{All, OfId, Blocked}
 use Rattle.lock_table.specs.Filings.{Filing, filing}
-use Rattle.lock_table.specs.Signatures.{signature_of}
+use Rattle.lock_table.specs.declared.signature.Signature.{Signature}
+use Rattle.lock_table.specs.Signatures.{no_bits, joined, signature_of}
 
 abbrev pub leaves : ℕ → Leaving → Filing → Bool
 leaves job All f = f.request.job == job
@@ -22,20 +23,20 @@ abbrev pub stays : ℕ → Leaving → Filing → Bool
 stays job leaving f = not (leaves job leaving f)
 
 -- the signature of all requests for which a test holds
-abbrev pub signature_where : (Filing → Bool) → List Filing → ℕ
-signature_where test [] = 0
+abbrev pub signature_where : (Filing → Bool) → List Filing → Signature
+signature_where test [] = no_bits
 signature_where test (f ∷ later) =
     if test f
-    then bit_or (signature_where test later) (signature_of f.request.wants.items)
+    then joined (signature_where test later) (signature_of f.request.wants.items)
     else signature_where test later
 
 -- whether a request of the job has a want of one of the keys
 abbrev pub loses : ℕ → List Want → Filing → Bool
 loses job named f = f.request.job == job && list_any (λ w. names named w.key) f.request.wants.items
 
--- the groups that it touched then
-abbrev pub lost_bits : ℕ → List Want → Filing → ℕ
-lost_bits job named f = if loses job named f then signature_of f.request.wants.items else 0
+-- its signature then
+abbrev pub lost_bits : ℕ → List Want → Filing → Signature
+lost_bits job named f = if loses job named f then signature_of f.request.wants.items else no_bits
 
 -- a request without its wants of the named keys
 abbrev pub fewer : List Want → Filing → Filing

@@ -7,3 +7,4 @@ pub mod Waiters
 pub mod Walks
 pub mod Changing
 pub mod Levels
+pub mod Arrivals

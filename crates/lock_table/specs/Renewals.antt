@@ -1,23 +1,24 @@
 -- How grants are renewed when requests have left or changed.
-use Rattle.std.specs.Prelude.{◌≡◌, ⊤, ℕ, Bool, true, false, not, ◌&&◌, if◌then◌else◌, List, [], ◌∷◌, ◌++◌}
+use Rattle.std.specs.Prelude.{◌≡◌, ⊤, Bool, true, false, not, ◌&&◌, if◌then◌else◌, List, [], ◌∷◌, ◌++◌}
 use Rattle.lock_queue.specs.declared.grant.Grant.{Grant}
 use Rattle.lock_queue.specs.declared.request.Request.{Request}
 use Rattle.lock_queue.specs.declared.want.Want.{Want}
 use Rattle.lock_queue.specs.Keys.{same_key}
 use Rattle.lock_queue.specs.Grants.{is_told_of, grant_of}
 use Rattle.lock_queue.specs.Queue.{is_pooled, agree, granted_behind}
+use Rattle.lock_table.specs.declared.signature.Signature.{Signature}
 use Rattle.lock_table.specs.Filings.{Filing, filing}
 use Rattle.lock_table.specs.Signatures.{meets, signature_of}
 
--- a request that was not granted, touches one of the groups and is granted now
-abbrev pub rises : ℕ → List Request → Filing → Bool
+-- a request that was not granted, meets some bits and is granted now
+abbrev pub rises : Signature → List Request → Filing → Bool
 rises bits earlier f =
     not f.granted && (meets (signature_of f.request.wants.items) bits && granted_behind earlier f.request)
 
 abbrev pub with_grant : Filing → Filing
 with_grant f = filing f.request true
 
-abbrev pub renewed : ℕ → List Request → List Filing → List Filing
+abbrev pub renewed : Signature → List Request → List Filing → List Filing
 renewed bits earlier [] = []
 renewed bits earlier (f ∷ later) =
     if rises bits earlier f
@@ -25,19 +26,19 @@ renewed bits earlier (f ∷ later) =
     else f ∷ renewed bits (earlier ++ f.request ∷ []) later
 
 -- the grants of those that rise, where their jobs are told
-abbrev pub risen : ℕ → List Request → List Filing → List Grant
+abbrev pub risen : Signature → List Request → List Filing → List Grant
 risen bits earlier [] = []
 risen bits earlier (f ∷ later) =
     if rises bits earlier f && is_told_of f.request.kind
     then grant_of f.request ∷ risen bits (earlier ++ f.request ∷ []) later
     else risen bits (earlier ++ f.request ∷ []) later
 
--- a grant that is beside a request holds, and one that is not does not where its groups are untouched
-pub record Outdated (bits : ℕ) (earlier : List Request) (f : Filing) : Type 0 where
+-- a grant that is beside a request holds, and one that is not does not where it does not meet the bits
+pub record Outdated (bits : Signature) (earlier : List Request) (f : Filing) : Type 0 where
   pub stays : f.granted ≡ true → granted_behind earlier f.request ≡ true
   pub rests : f.granted ≡ false → meets (signature_of f.request.wants.items) bits ≡ false → granted_behind earlier f.request ≡ false
 
-abbrev pub AreOutdated : ℕ → List Request → List Filing → Type 0
+abbrev pub AreOutdated : Signature → List Request → List Filing → Type 0
 AreOutdated bits earlier [] = ⊤
 AreOutdated bits earlier (f ∷ later) = Outdated bits earlier f × AreOutdated bits (earlier ++ f.request ∷ []) later
 

@@ -3,6 +3,10 @@ use Rattle.std.specs.Prelude.{ℕ, ◌%◌, ◌^◌, not, ◌&&◌, if◌then◌
 use Rattle.lock_queue.specs.Jobs.{is_blocking}
 use Rattle.lock_table.specs.Filings.{Filing}
 
+-- the bit of a request's job
+abbrev pub job_bit : Filing → ℕ
+job_bit f = 2 ^ (f.request.job % 32)
+
 -- the bit of the job that waits by a request, or 0 where none does
 abbrev pub waiter_bit : Filing → ℕ
 waiter_bit f = if not f.granted && is_blocking f.request.kind then 2 ^ (f.request.job % 32) else 0

@@ -7,6 +7,7 @@ ghost use Rattle.lock_queue.specs.Calls.{outcome_of};
 ghost use Rattle.lock_queue.specs.Enqueues.{arrival, enqueue, enqueue_fault};
 ghost use Rattle.lock_queue.specs.Grants.{woken_by};
 ghost use Rattle.lock_queue.specs.Outcomes.{first_refusal};
+ghost use Rattle.lock_queue.specs.Queue.{fits};
 ghost use Rattle.lock_queue.specs.WellFormed.{are_well_formed, names_locks, shares_no_pool, shares_no_pools};
 ghost use Rattle.lock_table.specs.Filings.{requests_in, AreRight};
 ghost use Rattle.lock_table.specs.Departures.{call_of, leaving_of};
@@ -14,68 +15,67 @@ ghost use Rattle.lock_table.specs.Departures.{call_of, leaving_of};
 use crate::changes::{is_some_lost, refusal_of_modify};
 use crate::departures::{Leaving, depart, depart_named};
 use crate::dequeues::{does_some_leave, refusal_of_dequeue};
-use crate::enqueues::refusal_of_enqueue;
-use crate::fits::are_fitting;
+use crate::enqueues::judge_enqueue;
 use crate::shelf::Shelf;
 use crate::signature::signature_of;
-use lock_queue::{EnqueueKind, LockCall, LockReply, Refusal, RequestId, Wants, Woken};
+use lock_queue::{Asking, EnqueueKind, LockCall, LockReply, Refusal, RequestId, Wants, Woken};
 
-/// Takes in a request that is not refused.
+/// Takes in a request that is not refused, which is granted where its wants fit.
 #[tactic(auto, using(lock_queue::proofs::Granted::arrival_granted, lock_queue::proofs::Granted::arrival_waiting))]
-fn arrive(shelf: &mut Shelf, job: u8, kind: EnqueueKind, id: RequestId, wants: &Wants) -> LockReply
+fn arrive(
+    shelf: &mut Shelf,
+    job: u8,
+    asking: &Asking,
+    wants: &Wants,
+    are_fitting: bool,
+) -> LockReply
     requires room { length shelf.old < REQUESTS }
     requires job { (1 ≤ job) × (job ≤ JOBS) }
     requires some { IsTrue (nat_le 1 (length wants.now.items)) }
     requires unshared { IsTrue (list_all shares_no_pool wants.now.items) }
     requires passed { first_refusal (enqueue_fault (requests_in shelf.old) job) [] wants.now.items ≡ None }
     requires right { AreRight [] shelf.old }
+    requires fitting { are_fitting ≡ list_all (fits (requests_in shelf.old)) wants.now.items }
     ensures requests { requests_in shelf.new ≡
-        (arrival (requests_in shelf.old) job kind id wants.now).requests }
-    ensures reply { result ≡ (arrival (requests_in shelf.old) job kind id wants.now).reply }
+        (arrival (requests_in shelf.old) job asking.now wants.now).requests }
+    ensures reply { result ≡ (arrival (requests_in shelf.old) job asking.now wants.now).reply }
     ensures right { AreRight [] shelf.new }
     ensures few { length (requests_in shelf.old) ≤ REQUESTS → length (requests_in shelf.new) ≤ REQUESTS }
     ensures well { IsTrue (are_well_formed (requests_in shelf.old)) → IsTrue (are_well_formed (requests_in shelf.new)) }
 {
-    if are_fitting(shelf.as_slice(), wants.as_slice()) {
-        let told = matches!(kind, EnqueueKind::Interrupt);
-        shelf.push(job, id, kind, told, wants, true);
+    if are_fitting {
+        let told = matches!(asking.kind, EnqueueKind::Interrupt);
+        shelf.push(job, asking, told, wants, true);
         return LockReply::Granted;
     }
-    match kind {
+    match asking.kind {
         EnqueueKind::Blocking => {
-            shelf.push(job, id, kind, false, wants, false);
+            shelf.push(job, asking, false, wants, false);
             LockReply::Queued
         }
         EnqueueKind::AtOnce => LockReply::Refused(Refusal::NotGranted),
         EnqueueKind::Interrupt => {
-            shelf.push(job, id, kind, false, wants, false);
+            shelf.push(job, asking, false, wants, false);
             LockReply::Refused(Refusal::NotGranted)
         }
     }
 }
 
-fn enqueue(
-    shelf: &mut Shelf,
-    job: u8,
-    kind: EnqueueKind,
-    id: RequestId,
-    wants: &Wants,
-    armed: bool,
-) -> LockReply
+fn enqueue(shelf: &mut Shelf, job: u8, asking: &Asking, wants: &Wants) -> LockReply
     requires job { (1 ≤ job) × (job ≤ JOBS) }
     requires some { IsTrue (nat_le 1 (length wants.now.items)) }
     requires unshared { IsTrue (list_all shares_no_pool wants.now.items) }
     requires right { AreRight [] shelf.old }
     ensures requests { requests_in shelf.new ≡
-        (enqueue (requests_in shelf.old) job kind id wants.now armed).requests }
-    ensures reply { result ≡ (enqueue (requests_in shelf.old) job kind id wants.now armed).reply }
+        (enqueue REQUESTS (requests_in shelf.old) job asking.now wants.now).requests }
+    ensures reply { result ≡ (enqueue REQUESTS (requests_in shelf.old) job asking.now wants.now).reply }
     ensures right { AreRight [] shelf.new }
     ensures few { length (requests_in shelf.old) ≤ REQUESTS → length (requests_in shelf.new) ≤ REQUESTS }
     ensures well { IsTrue (are_well_formed (requests_in shelf.old)) → IsTrue (are_well_formed (requests_in shelf.new)) }
 {
-    match refusal_of_enqueue(shelf.as_slice(), job, kind, wants.as_slice(), armed) {
-        Some(refusal) => LockReply::Refused(refusal),
-        None => arrive(shelf, job, kind, id, wants),
+    match judge_enqueue(shelf.as_slice(), job, asking, wants.as_slice()) {
+        Err(refusal) => LockReply::Refused(refusal),
+        Ok(are_fitting) => arrive(shelf, job, asking, wants, are_fitting),
     }
 }
 
@@ -162,14 +162,9 @@ pub fn make_call(shelf: &mut Shelf, job: u8, call: &LockCall, woken: &mut Woken)
     ensures well { IsTrue (are_well_formed (requests_in shelf.old)) → IsTrue (are_well_formed (requests_in shelf.new)) }
 {
     match call {
-        LockCall::Enqueue {
-            kind,
-            id,
-            wants,
-            armed,
-        } => {
+        LockCall::Enqueue { asking, wants } => {
             woken.clear();
-            enqueue(shelf, job, *kind, *id, wants, *armed)
+            enqueue(shelf, job, asking, wants)
         }
         LockCall::Modify(changes) => modify(shelf, job, changes, woken),
         LockCall::DequeueNamed(named) => dequeue_named(shelf, job, named, woken),

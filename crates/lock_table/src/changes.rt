@@ -13,7 +13,7 @@ ghost use Rattle.lock_table.specs.Waiters.{waiters_in};
 
 use crate::filed::Filed;
 use crate::fits::job_has_key;
-use crate::signature::{bit_of, signature_of};
+use crate::signature::{Signature, bits_of, signature_of};
 use crate::walks::{from_met, next_met};
 use lock_queue::steps::{is_pooled, is_pooled_in, names_key};
 use lock_queue::{Key, Refusal, Want};
@@ -31,13 +31,13 @@ fn has_pooled(filed: &[Filed], job: u8, key: &Key) -> bool
     ensures { result ≡
         list_any is_pooled (wants_at (requests_of (requests_in filed.now) job) key.now) }
 {
-    let bit = bit_of(key);
-    let mut rest = from_met(filed, bit);
+    let bits = bits_of(key);
+    let mut rest = from_met(filed, bits);
     while let [f, ..] = rest {
         if has_own_pooled(f, job, key) {
             return true;
         }
-        rest = next_met(rest, bit);
+        rest = next_met(rest, bits);
     }
     false
 }
@@ -142,15 +142,15 @@ fn held_unless_lost(hold: Hold, granted: bool, wants: &[Want], mine: bool, c: &W
 fn does_cost_grant(filed: &[Filed], job: u8, c: &Want) -> bool
     ensures { result ≡ costs_grant job filed.now c.now }
 {
-    let bit = bit_of(&c.key);
+    let bits = bits_of(&c.key);
     let mut hold = Hold::Free;
-    let mut rest = from_met(filed, bit);
+    let mut rest = from_met(filed, bits);
     while let [f, ..] = rest {
         match held_unless_lost(hold, f.is_granted(), f.wants(), f.job() == job, c) {
             Some(held) => hold = held,
             None => return true,
         }
-        rest = next_met(rest, bit);
+        rest = next_met(rest, bits);
     }
     false
 }
@@ -163,7 +163,7 @@ pub fn is_some_lost(filed: &[Filed], job: u8, changes: &[Want]) -> bool
 }
 
 /// Makes the changes in a request, where it is the job's and has a want of one of their groups.
-fn change_where_met(f: &mut Filed, job: u8, changes: &[Want], bits: u64)
+fn change_where_met(f: &mut Filed, job: u8, changes: &[Want], bits: Signature)
     requires { bits ≡ signature_of changes.now }
     ensures { f.new ≡ with_change job changes.now f.old }
 {

@@ -9,6 +9,7 @@ ghost use Rattle.lock_table.specs.Renewals.{raised};
 
 use crate::filed::Filed;
 use crate::shelf::Shelf;
+use crate::signature::Signature;
 use lock_queue::steps::names_key;
 use lock_queue::{EnqueueKind, RequestId, Want, Woken};
 
@@ -43,15 +44,15 @@ pub fn does_leave(f: &Filed, job: u8, leaving: &Leaving) -> bool
 }
 
 /// Takes out the requests that leave, and answers the groups that they touched.
-fn remove_leaving(shelf: &mut Shelf, job: u8, leaving: &Leaving) -> u64
+fn remove_leaving(shelf: &mut Shelf, job: u8, leaving: &Leaving) -> Signature
     ensures value { shelf.new ≡ filter (stays job leaving.now) shelf.old }
     ensures bits { result ≡ signature_where (leaves job leaving.now) shelf.old }
 {
-    let mut bits = 0;
+    let mut bits = Signature::none();
     for i in (0..shelf.as_slice().len()).rev() {
         let f = &shelf.as_slice()[i];
         if does_leave(f, job, leaving) {
-            bits |= f.signature();
+            bits = bits.joined(f.signature());
             shelf.remove(i);
         }
     }
@@ -97,7 +98,7 @@ fn remove_bare(shelf: &mut Shelf, i: usize)
 /// Takes the named wants out of the request at a place, and the request where none is left; answers
 /// the groups that it touched, where it loses wants. Kept apart, so that the walk itself stays short.
 #[inline(never)]
-fn give_up_of_job_at(shelf: &mut Shelf, i: usize, job: u8, named: &[Want]) -> u64
+fn give_up_of_job_at(shelf: &mut Shelf, i: usize, job: u8, named: &[Want]) -> Signature
     requires { i < length shelf.old }
     ensures value { (d : Filing) → shelf.new ≡
         take i shelf.old ++ filter keeps_wants (with_fewer job named.now (get_or shelf.old i d) ∷ []) ++ drop (i + 1) shelf.old }
@@ -106,7 +107,7 @@ fn give_up_of_job_at(shelf: &mut Shelf, i: usize, job: u8, named: &[Want]) -> u6
     let f = &shelf.as_slice()[i];
     if !does_lose(f, job, named) {
         remove_bare(shelf, i);
-        return 0;
+        return Signature::none();
     }
     let bits = f.signature();
     shelf.remove_keys_at(i, named);
@@ -114,8 +115,9 @@ fn give_up_of_job_at(shelf: &mut Shelf, i: usize, job: u8, named: &[Want]) -> u6
     bits
 }
 
-/// The same. Most requests are of other jobs and have wants: those stay as they are.
-fn give_up_at(shelf: &mut Shelf, i: usize, job: u8, named: &[Want]) -> u64
+/// Takes the named wants out of the request at a place, and the request where none is left, and answers
+/// the groups of what lost wants. Most requests are of other jobs and have wants: those stay as they are.
+fn give_up_at(shelf: &mut Shelf, i: usize, job: u8, named: &[Want]) -> Signature
     requires { i < length shelf.old }
     ensures value { (d : Filing) → shelf.new ≡
         take i shelf.old ++ filter keeps_wants (with_fewer job named.now (get_or shelf.old i d) ∷ []) ++ drop (i + 1) shelf.old }
@@ -123,7 +125,7 @@ fn give_up_at(shelf: &mut Shelf, i: usize, job: u8, named: &[Want]) -> u64
 {
     let f = &shelf.as_slice()[i];
     if f.job() != job && !f.is_bare() {
-        0
+        Signature::none()
     } else {
         give_up_of_job_at(shelf, i, job, named)
     }
@@ -131,13 +133,13 @@ fn give_up_at(shelf: &mut Shelf, i: usize, job: u8, named: &[Want]) -> u64
 
 /// Takes the named wants out of the job's requests, and the requests that are left without wants;
 /// answers the groups of all that lost wants.
-fn give_up(shelf: &mut Shelf, job: u8, named: &[Want]) -> u64
+fn give_up(shelf: &mut Shelf, job: u8, named: &[Want]) -> Signature
     ensures value { shelf.new ≡ filter keeps_wants (map (with_fewer job named.now) shelf.old) }
     ensures bits { result ≡ signature_where (loses job named.now) shelf.old }
 {
-    let mut bits = 0;
+    let mut bits = Signature::none();
     for i in (0..shelf.as_slice().len()).rev() {
-        bits |= give_up_at(shelf, i, job, named);
+        bits = bits.joined(give_up_at(shelf, i, job, named));
     }
     bits
 }

@@ -9,6 +9,7 @@ ghost use Rattle.lock_table.specs.Filings.{requests_in};
 use crate::departures::{Leaving, does_leave};
 use crate::filed::Filed;
 use crate::fits::job_has_key;
+use crate::walks::from_own;
 use lock_queue::steps::names_key;
 use lock_queue::{Refusal, Want};
 
@@ -41,5 +42,12 @@ pub fn refusal_of_dequeue(filed: &[Filed], job: u8, named: &[Want]) -> Option<Re
 pub fn does_some_leave(filed: &[Filed], job: u8, leaving: &Leaving) -> bool
     ensures { result ≡ list_any (leaves job leaving.now) filed.now }
 {
-    filed.iter().any(|f| does_leave(f, job, leaving))
+    let mut rest = from_own(filed, job);
+    while let [f, later @ ..] = rest {
+        if does_leave(f, job, leaving) {
+            return true;
+        }
+        rest = from_own(later, job);
+    }
+    false
 }

@@ -1,18 +1,21 @@
-//! Why a request that arrives is refused.
-ghost use Rattle.std.specs.Prelude.{◌≡◌, ◌≤◌, ◌+◌, ◌^◌, max, ◌==◌, ◌&&◌, ◌||◌, not, if◌then◌else◌, []};
+//! Why a request that arrives is refused, and whether it fits.
+ghost use Rattle.std.specs.Prelude.{◌≡◌, ◌≤◌, ◌+◌, ◌^◌, max, ◌==◌, ◌&&◌, ◌||◌, not, if◌then◌else◌, [], filter};
 ghost use Rattle.std.specs.List.{list_all};
+ghost use Rattle.word36.specs.declared.sizes.TheConstants.{REQUESTS};
 ghost use Rattle.lock_queue.specs.Enqueues.{enqueue_fault, some_too_low, enqueue_refusal};
 ghost use Rattle.lock_queue.specs.Outcomes.{first_refusal};
-ghost use Rattle.lock_queue.specs.Queue.{names, wants_of};
+ghost use Rattle.lock_queue.specs.Keys.{same_key};
+ghost use Rattle.lock_queue.specs.Queue.{names, wants_at, wants_of, agree, fits};
+ghost use Rattle.lock_table.specs.Arrivals.{judged};
 ghost use Rattle.lock_table.specs.Filings.{requests_in};
 ghost use Rattle.lock_table.specs.Levels.{above_all, some_below};
 
 use crate::filed::Filed;
-use crate::fits::job_names;
-use crate::signature::bit_of;
-use crate::walks::{from_met, next_met};
+use crate::fits::{all_agree_in, is_fitting_where, job_names};
+use crate::signature::bits_of;
+use crate::walks::{from_met, from_own, next_met};
 use lock_queue::steps::{are_alike_in, names_key};
-use lock_queue::{EnqueueKind, Key, Level, Refusal, Want};
+use lock_queue::{Asking, EnqueueKind, Key, Level, Refusal, Want};
 use word36::REQUESTS;
 
 /// Whether the job names the key in a request, or did so before.
@@ -23,49 +26,68 @@ fn is_named_so_far(before: bool, f: &Filed, job: u8, key: &Key) -> bool
     before || job_names(f, job, key)
 }
 
-/// Why a want is refused beside the present ones: one of its key differs from it, or is the job's.
-fn fault_beside(filed: &[Filed], job: u8, w: &Want) -> Option<Refusal>
-    ensures { result ≡ enqueue_fault (requests_in filed.now) job [] w.now }
+/// Whether the request's wants of a want's key agree with it, and those before did.
+fn do_agree_so_far(before: bool, f: &Filed, w: &Want) -> bool
+    ensures { result ≡ (before && list_all (λ v. agree v w.now)
+        (filter (λ v. same_key v.key w.now.key) f.now.request.wants.items)) }
 {
-    let bit = bit_of(&w.key);
+    before && all_agree_in(f.wants(), w)
+}
+
+/// Why a want is refused beside the present ones: one of its key differs from it, or is the job's; else
+/// whether all of its key agree with it.
+fn judge_beside(filed: &[Filed], job: u8, w: &Want) -> Result<bool, Refusal>
+    ensures { result ≡ judged (enqueue_fault (requests_in filed.now) job [] w.now)
+        (list_all (λ v. agree v w.now) (wants_at (requests_in filed.now) w.now.key)) }
+{
+    let bits = bits_of(&w.key);
     let mut is_named = false;
-    let mut rest = from_met(filed, bit);
+    let mut do_agree = true;
+    let mut rest = from_met(filed, bits);
     while let [f, ..] = rest {
         if !are_alike_in(f.wants(), w) {
-            return Some(Refusal::Differs);
+            return Err(Refusal::Differs);
         }
         is_named = is_named_so_far(is_named, f, job, &w.key);
-        rest = next_met(rest, bit);
+        do_agree = do_agree_so_far(do_agree, f, w);
+        rest = next_met(rest, bits);
     }
     if is_named {
-        Some(Refusal::NamedAlready)
+        Err(Refusal::NamedAlready)
     } else {
-        None
+        Ok(do_agree)
     }
 }
 
-/// Why a want is refused that comes after the call's earlier ones.
-fn fault_of(filed: &[Filed], job: u8, earlier: &[Want], w: &Want) -> Option<Refusal>
-    ensures { result ≡ enqueue_fault (requests_in filed.now) job earlier.now w.now }
+/// Why a want is refused that comes after the call's earlier ones; else whether it fits behind the
+/// present requests.
+fn judge_want(filed: &[Filed], job: u8, earlier: &[Want], w: &Want) -> Result<bool, Refusal>
+    ensures { result ≡ judged (enqueue_fault (requests_in filed.now) job earlier.now w.now)
+        (fits (requests_in filed.now) w.now) }
 {
-    let fault = fault_beside(filed, job, w);
-    if fault.is_none() && names_key(earlier, &w.key) {
-        Some(Refusal::NamedAlready)
-    } else {
-        fault
+    match judge_beside(filed, job, w) {
+        Err(refusal) => Err(refusal),
+        Ok(do_agree) => if names_key(earlier, &w.key) {
+            Err(Refusal::NamedAlready)
+        } else {
+            Ok(is_fitting_where(filed, w, do_agree))
+        },
     }
 }
 
-fn first_fault(filed: &[Filed], job: u8, wants: &[Want]) -> Option<Refusal>
-    ensures { result ≡ first_refusal (enqueue_fault (requests_in filed.now) job) [] wants.now }
+/// Why a want is refused, for the first that is; else whether all fit behind the present requests.
+fn judge_wants(filed: &[Filed], job: u8, wants: &[Want]) -> Result<bool, Refusal>
+    ensures { result ≡ judged (first_refusal (enqueue_fault (requests_in filed.now) job) [] wants.now)
+        (list_all (fits (requests_in filed.now)) wants.now) }
 {
+    let mut are_fitting = true;
     for (i, w) in wants.iter().enumerate() {
-        let fault = fault_of(filed, job, &wants[..i], w);
-        if fault.is_some() {
-            return fault;
+        match judge_want(filed, job, &wants[..i], w) {
+            Err(refusal) => return Err(refusal),
+            Ok(is_fitting) => are_fitting = are_fitting && is_fitting,
         }
     }
-    None
+    Ok(are_fitting)
 }
 
 /// The first level that is above a level.
@@ -109,14 +131,15 @@ fn level_above_own(f: &Filed, job: u8, floor: u16) -> u16
 }
 
 /// The first level that is above those of all present wants of the job; 0 where it has none.
-#[tactic(auto, using(crate::proofs::LevelLaws::level_next))]
 fn level_above_job(filed: &[Filed], job: u8) -> u16
     ensures value { result ≡ above_all 0 (wants_of (requests_in filed.now) job) }
     ensures most { result ≤ 2 ^ 9 }
 {
     let mut above = 0;
-    for f in filed {
+    let mut rest = from_own(filed, job);
+    while let [f, later @ ..] = rest {
         above = level_above_own(f, job, above);
+        rest = from_own(later, job);
     }
     above
 }
@@ -157,26 +180,27 @@ fn are_out_of_order(filed: &[Filed], job: u8, wants: &[Want]) -> bool
 }
 
 /// Why a request is not taken in, if it is not: first lock by lock, then by its levels, then for want
-/// of a vector, then for want of room.
-pub fn refusal_of_enqueue(
+/// of a vector, then for want of room; else whether its wants fit behind the present requests. Each
+/// want's key is walked for once.
+pub fn judge_enqueue(
     filed: &[Filed],
     job: u8,
-    kind: EnqueueKind,
+    asking: &Asking,
     wants: &[Want],
-    armed: bool,
-) -> Option<Refusal>
-    ensures { result ≡ enqueue_refusal (requests_in filed.now) job kind wants.now armed }
+) -> Result<bool, Refusal>
+    ensures { result ≡ judged (enqueue_refusal REQUESTS (requests_in filed.now) job asking.now wants.now)
+        (list_all (fits (requests_in filed.now)) wants.now) }
 {
-    let fault = first_fault(filed, job, wants);
-    if fault.is_some() {
-        fault
-    } else if are_out_of_order(filed, job, wants) {
-        Some(Refusal::LevelOrder)
-    } else if matches!(kind, EnqueueKind::Interrupt) && !armed {
-        Some(Refusal::NoVector)
-    } else if filed.len() >= REQUESTS {
-        Some(Refusal::QueueFull)
-    } else {
-        None
+    match judge_wants(filed, job, wants) {
+        Err(refusal) => Err(refusal),
+        Ok(are_fitting) => if are_out_of_order(filed, job, wants) {
+            Err(Refusal::LevelOrder)
+        } else if matches!(asking.kind, EnqueueKind::Interrupt) && !asking.armed {
+            Err(Refusal::NoVector)
+        } else if filed.len() >= REQUESTS {
+            Err(Refusal::QueueFull)
+        } else {
+            Ok(are_fitting)
+        },
     }
 }

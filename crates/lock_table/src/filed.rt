@@ -11,13 +11,13 @@ ghost use Rattle.lock_table.specs.Findings.{with_told};
 ghost use Rattle.lock_table.specs.Renewals.{with_grant};
 ghost use Rattle.lock_table.specs.Signatures.{meets, signature_of};
 ghost use Rattle.lock_table.specs.Waiters.{waiter_bit};
-ghost use Rattle.lock_table.specs.Walks.{touched};
+ghost use Rattle.lock_table.specs.Walks.{owned, touched};
 
 use crate::sharing::change_wants;
-use crate::signature::signature_of;
-use crate::waiters::waiter_bit;
+use crate::signature::{Signature, signature_of};
+use crate::waiters::{bit_of_job, is_blocking};
 use lock_queue::steps::{remove_keys, write_request};
-use lock_queue::{EnqueueKind, Request, RequestId, Want, Wants};
+use lock_queue::{Asking, Request, Want, Wants};
 use std::alloc::{AllocError, Global};
 use std::marker::Model;
 
@@ -26,24 +26,27 @@ use std::marker::Model;
 #[derive(Drop)]
 pub struct Filed {
     request: Box<Request>,
-    signature: u64,
-    waiter: u32,
+    signature: Signature,
+    own_bit: u32,
     job: u8,
+    blocking: bool,
     granted: bool,
 }
 
 impl Model for Filed {
     ghost use Rattle.std.specs.Prelude.{◌≡◌};
+    ghost use Rattle.lock_queue.specs.Jobs.{is_blocking};
     ghost use Rattle.lock_table.specs.Filings.{Filing, filing};
     ghost use Rattle.lock_table.specs.Signatures.{signature_of};
-    ghost use Rattle.lock_table.specs.Waiters.{waiter_bit};
+    ghost use Rattle.lock_table.specs.Waiters.{job_bit};
 
     ghost Value = { Filing };
 
     ghost view = { λ f. filing f.request.value f.granted };
 
     ghost invariant = { λ f. (f.signature ≡ signature_of f.request.value.wants.items)
-        × (f.waiter ≡ waiter_bit (filing f.request.value f.granted)) × (f.job ≡ f.request.value.job) };
+        × (f.own_bit ≡ job_bit (filing f.request.value f.granted)) × (f.job ≡ f.request.value.job)
+        × (f.blocking ≡ is_blocking f.request.value.kind) };
 }
 
 impl Filed {
@@ -51,9 +54,10 @@ impl Filed {
     pub fn new(alloc: Global) -> Result<Self, AllocError> {
         Ok(Filed {
             request: Box::new(alloc, Request::default())?,
-            signature: 0,
-            waiter: 0,
+            signature: Signature::none(),
+            own_bit: 1,
             job: 0,
+            blocking: false,
             granted: false,
         })
     }
@@ -76,7 +80,18 @@ impl Filed {
     pub fn waiter_bit(&self) -> u32
         ensures { result ≡ waiter_bit self.now }
     {
-        self.waiter
+        if !self.granted && self.blocking {
+            self.own_bit
+        } else {
+            0
+        }
+    }
+
+    /// Those of some jobs' bits that are its job's.
+    pub fn owned(&self, bits: u32) -> u32
+        ensures { result ≡ owned bits self.now }
+    {
+        self.own_bit & bits
     }
 
     /// Its wants.
@@ -93,25 +108,25 @@ impl Filed {
         self.granted
     }
 
-    /// The bits of its wants' keys.
-    pub fn signature(&self) -> u64
+    /// The signature of its wants.
+    pub fn signature(&self) -> Signature
         ensures { result ≡ signature_of self.now.request.wants.items }
     {
         self.signature
     }
 
     /// Those of these groups that its wants touch.
-    pub fn touched(&self, bits: u64) -> u64
-        ensures { result ≡ touched bits self.now }
+    pub fn touched(&self, groups: u64) -> u64
+        ensures { result ≡ touched groups self.now }
     {
-        self.signature & bits
+        self.signature.groups & groups
     }
 
-    /// Whether its wants touch one of these groups.
-    pub fn meets(&self, bits: u64) -> bool
+    /// Whether its wants touch one of these groups and one of these classes.
+    pub fn meets(&self, bits: Signature) -> bool
         ensures { result ≡ meets (signature_of self.now.request.wants.items) bits }
     {
-        self.signature & bits != 0
+        self.signature.meets(bits)
     }
 
     /// Whether it has no wants.
@@ -119,7 +134,7 @@ impl Filed {
     pub fn is_bare(&self) -> bool
         ensures { result ≡ not (has_wants self.now.request) }
     {
-        self.signature == 0
+        self.signature.groups == 0
     }
 
     /// Grants it.
@@ -127,7 +142,6 @@ impl Filed {
         ensures { self.new ≡ with_grant self.old }
     {
         self.granted = true;
-        self.waiter = 0;
     }
 
     /// Marks it as told.
@@ -138,23 +152,16 @@ impl Filed {
     }
 
     /// Writes another request over it.
-    pub fn write(
-        &mut self,
-        job: u8,
-        id: RequestId,
-        kind: EnqueueKind,
-        told: bool,
-        wants: &Wants,
-        granted: bool,
-    )
-        ensures value { self.new ≡ filing (request_of job id kind told wants.now) granted }
+    pub fn write(&mut self, job: u8, asking: &Asking, told: bool, wants: &Wants, granted: bool)
+        ensures value { self.new ≡ filing (request_of job asking.now told wants.now) granted }
         ensures few { length wants.now.items ≤ LOCKS_A_CALL }
         ensures range { IsTrue (list_all is_in_range wants.now.items) }
     {
-        write_request(&mut self.request, job, id, kind, told, wants);
+        write_request(&mut self.request, job, asking, told, wants);
         self.signature = signature_of(wants.as_slice());
-        self.waiter = waiter_bit(job, kind, granted);
+        self.own_bit = bit_of_job(job);
         self.job = job;
+        self.blocking = is_blocking(asking.kind);
         self.granted = granted;
     }
 

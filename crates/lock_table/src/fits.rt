@@ -4,21 +4,21 @@ ghost use Rattle.std.specs.List.{list_all};
 ghost use Rattle.lock_queue.specs.Keys.{same_key};
 ghost use Rattle.lock_queue.specs.Queue.{names, wants_at, wants_of, agree, amount_of, fits};
 ghost use Rattle.lock_table.specs.Filings.{requests_in};
-ghost use Rattle.lock_table.specs.Signatures.{bit_of};
+ghost use Rattle.lock_table.specs.Signatures.{bits_of};
 
 use crate::filed::Filed;
-use crate::signature::bit_of;
+use crate::signature::{Signature, bits_of};
 use crate::walks::{from_met, next_met};
 use lock_queue::steps::{do_agree, names_key, room_beside};
 use lock_queue::{Key, Pool, Want};
 
 /// Whether a request has a want of the key.
 #[tactic(auto, using(crate::proofs::SignatureLaws::unmet_names))]
-pub fn has_key(f: &Filed, key: &Key, bit: u64) -> bool
-    requires { bit ≡ bit_of key.now }
+pub fn has_key(f: &Filed, key: &Key, bits: Signature) -> bool
+    requires { bits ≡ bits_of key.now }
     ensures { result ≡ names f.now.request.wants.items key.now }
 {
-    f.meets(bit) && names_key(f.wants(), key)
+    f.meets(bits) && names_key(f.wants(), key)
 }
 
 /// Whether a request is the job's and has a want of the key.
@@ -32,19 +32,19 @@ pub fn job_names(f: &Filed, job: u8, key: &Key) -> bool
 pub fn job_has_key(filed: &[Filed], job: u8, key: &Key) -> bool
     ensures { result ≡ names (wants_of (requests_in filed.now) job) key.now }
 {
-    let bit = bit_of(key);
-    let mut rest = from_met(filed, bit);
+    let bits = bits_of(key);
+    let mut rest = from_met(filed, bits);
     while let [f, ..] = rest {
         if job_names(f, job, key) {
             return true;
         }
-        rest = next_met(rest, bit);
+        rest = next_met(rest, bits);
     }
     false
 }
 
 /// Whether each of these wants that is of a want's key agrees with it. Keys are compared last.
-fn all_agree_in(wants: &[Want], w: &Want) -> bool
+pub fn all_agree_in(wants: &[Want], w: &Want) -> bool
     ensures { result ≡ list_all (λ v. agree v w.now)
         (filter (λ v. same_key v.key w.now.key) wants.now) }
 {
@@ -59,13 +59,13 @@ fn all_agree_in(wants: &[Want], w: &Want) -> bool
 fn do_all_agree(earlier: &[Filed], w: &Want) -> bool
     ensures { result ≡ list_all (λ v. agree v w.now) (wants_at (requests_in earlier.now) w.now.key) }
 {
-    let bit = bit_of(&w.key);
-    let mut rest = from_met(earlier, bit);
+    let bits = bits_of(&w.key);
+    let mut rest = from_met(earlier, bits);
     while let [f, ..] = rest {
         if !all_agree_in(f.wants(), w) {
             return false;
         }
-        rest = next_met(rest, bit);
+        rest = next_met(rest, bits);
     }
     true
 }
@@ -83,15 +83,15 @@ fn is_room(earlier: &[Filed], key: &Key, pool: Pool) -> bool
     ensures { result ≡
         nat_le (sum_by amount_of (wants_at (requests_in earlier.now) key.now) + pool.amount) pool.size }
 {
-    let bit = bit_of(key);
+    let bits = bits_of(key);
     let mut left = pool.size() - pool.amount();
-    let mut rest = from_met(earlier, bit);
+    let mut rest = from_met(earlier, bits);
     while let [f, ..] = rest {
         match room_behind(f, key, left) {
             Some(room) => left = room,
             None => return false,
         }
-        rest = next_met(rest, bit);
+        rest = next_met(rest, bits);
     }
     true
 }
@@ -102,6 +102,18 @@ pub fn is_fitting(earlier: &[Filed], w: &Want) -> bool
 {
     match w.pool {
         None => do_all_agree(earlier, w),
+        Some(pool) => is_room(earlier, &w.key, pool),
+    }
+}
+
+/// Whether a want fits behind the earlier requests, where it is known whether their wants of its key
+/// agree with it.
+pub fn is_fitting_where(earlier: &[Filed], w: &Want, do_agree: bool) -> bool
+    requires { do_agree ≡ list_all (λ v. agree v w.now) (wants_at (requests_in earlier.now) w.now.key) }
+    ensures { result ≡ fits (requests_in earlier.now) w.now }
+{
+    match w.pool {
+        None => do_agree,
         Some(pool) => is_room(earlier, &w.key, pool),
     }
 }

@@ -6,12 +6,12 @@ ghost use Rattle.lock_queue.specs.Keys.{same_key};
 ghost use Rattle.lock_queue.specs.Queue.{wants_at, requests_of};
 ghost use Rattle.lock_table.specs.Filings.{requests_in};
 ghost use Rattle.lock_table.specs.Findings.{blocks, pends, pending_in, told_in, waits_in};
-ghost use Rattle.lock_table.specs.Signatures.{bit_of};
+ghost use Rattle.lock_table.specs.Signatures.{bits_of};
 ghost use Rattle.lock_table.specs.Waiters.{waiters_in};
 
 use crate::filed::Filed;
 use crate::fits::is_fitting;
-use crate::signature::bit_of;
+use crate::signature::{Signature, bits_of};
 use lock_queue::steps::some_in_the_way;
 use lock_queue::{EnqueueKind, RequestId, Want};
 
@@ -65,21 +65,21 @@ pub fn tell(filed: &mut [Filed], job: u8)
 
 /// Whether a want of the request stands in the way of a later one.
 #[tactic(auto, using(crate::proofs::SignatureLaws::unmet_wants))]
-fn is_in_the_way(f: &Filed, w: &Want, bit: u64) -> bool
-    requires { bit ≡ bit_of w.now.key }
+fn is_in_the_way(f: &Filed, w: &Want, bits: Signature) -> bool
+    requires { bits ≡ bits_of w.now.key }
     ensures { result ≡ list_any (λ v. is_in_the_way v w.now)
         (filter (λ v. same_key v.key w.now.key) f.now.request.wants.items) }
 {
-    f.meets(bit) && some_in_the_way(f.wants(), w)
+    f.meets(bits) && some_in_the_way(f.wants(), w)
 }
 
 fn job_is_in_the_way(earlier: &[Filed], w: &Want, job: u8) -> bool
     ensures { result ≡ list_any (λ v. is_in_the_way v w.now)
         (wants_at (requests_of (requests_in earlier.now) job) w.now.key) }
 {
-    let bit = bit_of(&w.key);
+    let bits = bits_of(&w.key);
     for f in earlier {
-        if f.job() == job && is_in_the_way(f, w, bit) {
+        if f.job() == job && is_in_the_way(f, w, bits) {
             return true;
         }
     }

@@ -1,5 +1,5 @@
 //! Grants that are made when requests have left or changed, and the jobs that wait then.
-ghost use Rattle.std.specs.Prelude.{◌≡◌, ◌≤◌, [], false, length, IsTrue};
+ghost use Rattle.std.specs.Prelude.{◌≡◌, ◌≤◌, ◌<◌, ◌+◌, ◌++◌, [], false, length, take, drop, IsTrue};
 ghost use Rattle.word36.specs.declared.sizes.TheConstants.{REQUESTS};
 ghost use Rattle.lock_queue.specs.Queue.{granted_behind};
 ghost use Rattle.lock_table.specs.Filings.{requests_in};
@@ -8,6 +8,7 @@ ghost use Rattle.lock_table.specs.Waiters.{waiters_in};
 
 use crate::filed::Filed;
 use crate::fits::are_fitting;
+use crate::signature::Signature;
 use lock_queue::Woken;
 use lock_queue::steps::{do_agree, grant_of, is_pooled, is_told_of};
 
@@ -29,9 +30,9 @@ fn does_keep(earlier: &[Filed], place: usize, f: &Filed) -> bool
     place < earlier.len() && does_shut(&earlier[place], f)
 }
 
-/// Whether a request is not granted yet, touches one of the groups and is granted now. Most that wait
+/// Whether a request is not granted yet, meets the bits and is granted now. Most that wait
 /// do so for the key of the last that was looked at, so they are held beside that one first.
-fn does_rise(earlier: &[Filed], f: &Filed, bits: u64, last: &mut usize) -> bool
+fn does_rise(earlier: &[Filed], f: &Filed, bits: Signature, last: &mut usize) -> bool
     ensures { result ≡ rises bits (requests_in earlier.now) f.now }
 {
     if f.is_granted() || !f.meets(bits) || does_keep(earlier, *last, f) {
@@ -43,7 +44,7 @@ fn does_rise(earlier: &[Filed], f: &Filed, bits: u64, last: &mut usize) -> bool
 
 /// Grants what rises, fills in the grants of those whose jobs are told, and answers the bits of the
 /// jobs that wait then.
-pub fn renew(filed: &mut [Filed], bits: u64, woken: &mut Woken) -> u32
+pub fn renew(filed: &mut [Filed], bits: Signature, woken: &mut Woken) -> u32
     requires { length filed.old ≤ REQUESTS }
     ensures value { filed.new ≡ renewed bits [] filed.old }
     ensures woken { woken.new.items ≡ risen bits [] filed.old }

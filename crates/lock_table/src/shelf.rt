@@ -9,12 +9,14 @@ ghost use Rattle.lock_table.specs.Departures.{fewer, with_change};
 ghost use Rattle.lock_table.specs.Filings.{Filing, filing, requests_in, AreRight};
 ghost use Rattle.lock_table.specs.Findings.{blocks, told_in};
 ghost use Rattle.lock_table.specs.Renewals.{renewed, risen};
+ghost use Rattle.lock_table.specs.Waiters.{waiter_bit, waiters_in};
 
 use crate::changes::change_of_job;
 use crate::filed::Filed;
 use crate::jobs::{does_some_block, tell};
 use crate::renewal::renew;
-use lock_queue::{EnqueueKind, RequestId, Want, Wants, Woken};
+use crate::signature::Signature;
+use lock_queue::{Asking, Want, Wants, Woken};
 use std::alloc::{AllocError, Global};
 use std::marker::Model;
 use word36::{JOBS, REQUESTS};
@@ -91,50 +93,34 @@ impl Shelf {
     }
 
     #[tactic(auto, using(crate::proofs::WaiterLaws::waiters_push))]
-    fn append(
-        &mut self,
-        job: u8,
-        id: RequestId,
-        kind: EnqueueKind,
-        told: bool,
-        wants: &Wants,
-        granted: bool,
-    )
+    fn append(&mut self, job: u8, asking: &Asking, told: bool, wants: &Wants, granted: bool)
         requires { length self.old < REQUESTS }
         ensures value { self.new ≡
-            self.old ++ filing (request_of job id kind told wants.now) granted ∷ [] }
+            self.old ++ filing (request_of job asking.now told wants.now) granted ∷ [] }
         ensures few { length wants.now.items ≤ LOCKS_A_CALL }
         ensures range { IsTrue (list_all is_in_range wants.now.items) }
     {
         let mut filed = self.spare.swap_remove(self.spare.len() - 1);
-        filed.write(job, id, kind, told, wants, granted);
+        filed.write(job, asking, told, wants, granted);
         self.waiters |= filed.waiter_bit();
         let _ = self.present.push(filed);
     }
 
     /// Appends a request of these wants.
-    pub fn push(
-        &mut self,
-        job: u8,
-        id: RequestId,
-        kind: EnqueueKind,
-        told: bool,
-        wants: &Wants,
-        granted: bool,
-    )
+    pub fn push(&mut self, job: u8, asking: &Asking, told: bool, wants: &Wants, granted: bool)
         requires { length self.old < REQUESTS }
         ensures value { self.new ≡
-            self.old ++ filing (request_of job id kind told wants.now) granted ∷ [] }
+            self.old ++ filing (request_of job asking.now told wants.now) granted ∷ [] }
         ensures requests { requests_in self.new ≡
-            requests_in self.old ++ request_of job id kind told wants.now ∷ [] }
+            requests_in self.old ++ request_of job asking.now told wants.now ∷ [] }
         ensures right { AreRight [] self.old
-            → granted ≡ granted_behind (requests_in self.old) (request_of job id kind told wants.now)
+            → granted ≡ granted_behind (requests_in self.old) (request_of job asking.now told wants.now)
             → AreRight [] self.new }
         ensures length { length self.new ≤ REQUESTS }
         ensures few { length wants.now.items ≤ LOCKS_A_CALL }
         ensures range { IsTrue (list_all is_in_range wants.now.items) }
     {
-        self.append(job, id, kind, told, wants, granted);
+        self.append(job, asking, told, wants, granted);
     }
 
     /// Takes out the request at a place; those behind it move up.
@@ -157,9 +143,9 @@ impl Shelf {
         self.waiters_known = true;
     }
 
-    /// Grants what is granted now among what was not and touches these groups, and fills in these
+    /// Grants what is granted now among what was not and meets these bits, and fills in these
     /// grants, where their jobs are told.
-    pub fn renew(&mut self, bits: u64, woken: &mut Woken)
+    pub fn renew(&mut self, bits: Signature, woken: &mut Woken)
         ensures value { self.new ≡ renewed bits [] self.old }
         ensures few { length self.new ≤ REQUESTS }
         ensures woken { woken.new.items ≡ risen bits [] self.old }

@@ -6,21 +6,21 @@ ghost use Rattle.lock_queue.specs.Queue.{wants_at};
 ghost use Rattle.lock_queue.specs.StatusWords.{first_level};
 ghost use Rattle.lock_table.specs.Filings.{requests_in};
 ghost use Rattle.lock_table.specs.Findings.{status_in};
-ghost use Rattle.lock_table.specs.Signatures.{bit_of};
+ghost use Rattle.lock_table.specs.Signatures.{bits_of};
 
 use crate::filed::Filed;
 use crate::fits::has_key;
-use crate::signature::bit_of;
+use crate::signature::{Signature, bits_of};
 use lock_queue::steps::{level_in, with_owner, with_waiter};
 use lock_queue::{Key, Level, Status};
 
 /// The level of the request's first want of the key.
 #[tactic(auto, using(crate::proofs::SignatureLaws::unmet_wants))]
-fn level_of(f: &Filed, key: &Key, bit: u64) -> Option<Level>
-    requires { bit ≡ bit_of key.now }
+fn level_of(f: &Filed, key: &Key, bits: Signature) -> Option<Level>
+    requires { bits ≡ bits_of key.now }
     ensures { result ≡ first_level (filter (λ w. same_key w.key key.now) f.now.request.wants.items) }
 {
-    if f.meets(bit) {
+    if f.meets(bits) {
         level_in(f.wants(), key)
     } else {
         None
@@ -31,9 +31,9 @@ fn level_of(f: &Filed, key: &Key, bit: u64) -> Option<Level>
 fn level_at(filed: &[Filed], key: &Key) -> Option<Level>
     ensures { result ≡ first_level (wants_at (requests_in filed.now) key.now) }
 {
-    let bit = bit_of(key);
+    let bits = bits_of(key);
     for f in filed {
-        if let Some(level) = level_of(f, key, bit) {
+        if let Some(level) = level_of(f, key, bits) {
             return Some(level);
         }
     }
@@ -47,7 +47,7 @@ pub fn status_in(filed: &[Filed], key: &Key, job: u8) -> Status
     requires { length filed.now ≤ REQUESTS }
     ensures { result ≡ status_in filed.now key.now job }
 {
-    let bit = bit_of(key);
+    let bits = bits_of(key);
     let mut status = Status {
         owns: false,
         waits: false,
@@ -60,7 +60,7 @@ pub fn status_in(filed: &[Filed], key: &Key, job: u8) -> Status
     };
     for i in (0..filed.len()).rev() {
         let f = &filed[i];
-        if has_key(f, key, bit) {
+        if has_key(f, key, bits) {
             status = if f.is_granted() {
                 with_owner(status, f.request(), key, job)
             } else {

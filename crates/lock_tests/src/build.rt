@@ -4,7 +4,7 @@ ghost use Rattle.std.specs.List.{list_all};
 ghost use Rattle.lock_queue.specs.WellFormed.{names_locks, shares_no_pool, shares_no_pools};
 
 use lock_queue::{
-    EnqueueKind, Key, Level, LockCall, Name, Pool, RequestId, Scope, UserCode, Want, Wants,
+    Asking, EnqueueKind, Key, Level, LockCall, Name, Pool, RequestId, Scope, UserCode, Want, Wants,
 };
 
 /// A lock that is asked for: a user code of all jobs, and its level.
@@ -129,16 +129,20 @@ pub fn lock_call(call: Call) -> LockCall
 {
     match call {
         Call::Asks(kind, id, locks) => LockCall::Enqueue {
-            kind,
-            id: RequestId::new(u32::from(id)),
+            asking: Asking {
+                kind,
+                id: RequestId::new(u32::from(id)),
+                armed: true,
+            },
             wants: wants(locks),
-            armed: true,
         },
         Call::AsksUnarmed(id, locks) => LockCall::Enqueue {
-            kind: EnqueueKind::Interrupt,
-            id: RequestId::new(u32::from(id)),
+            asking: Asking {
+                kind: EnqueueKind::Interrupt,
+                id: RequestId::new(u32::from(id)),
+                armed: false,
+            },
             wants: wants(locks),
-            armed: false,
         },
         Call::Changes(locks) => LockCall::Modify(wants(locks)),
         Call::GivesUp(locks) => LockCall::DequeueNamed(wants(locks)),

@@ -11,7 +11,8 @@ use crate::walk::{empty_table, walk};
 use lock_queue::EnqueueKind::{AtOnce, Blocking, Interrupt};
 use lock_queue::LockReply::{Done, Granted, Queued};
 use lock_queue::{
-    EnqueueKind, Key, LockCall, LockReply, LockTable, Name, NameText, Refusal, RequestId, Scope,
+    Asking, EnqueueKind, Key, LockCall, LockReply, LockTable, Name, NameText, Refusal, RequestId,
+    Scope,
 };
 
 #[test]
@@ -76,10 +77,12 @@ fn names_are_told_apart_by_scope(rt: HostRuntime) {
             name: Name::Text(name),
         };
         let call = LockCall::Enqueue {
-            kind: EnqueueKind::AtOnce,
-            id: RequestId::new(1),
+            asking: Asking {
+                kind: EnqueueKind::AtOnce,
+                id: RequestId::new(1),
+                armed: true,
+            },
             wants: one(tape),
-            armed: true,
         };
         assert_eq!(rt; table.call(job, &call), LockReply::Granted);
     }

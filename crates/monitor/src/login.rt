@@ -5,9 +5,9 @@ ghost use Rattle.core_store.specs.Cores.{IsJob, core_of, with_core, taken};
 ghost use Rattle.uuo_calls.specs.StatusRow.{Places};
 ghost use Rattle.machine.specs.Images.{top_from, image_top, loaded, placed, fresh_regs, image_places};
 
-use core_store::{CoreStore, CoreWindow, NoCore};
+use core_store::{CoreStore, NoCore};
 use job_sched::NO_FLAGS;
-use ka_cpu::{JobMemory, Regs, store};
+use ka_cpu::{CoreWords, JobMemory, Regs, store};
 use machine::HIGHEST_PLACE;
 use word36::{Address, BLOCK_WORDS, Image, Word};
 
@@ -80,7 +80,7 @@ fn fill<C: CoreStore>(n: u8, regs: &mut Regs, cores: &mut C, words: &[(u32, Word
     ensures core { C.meaning cores.new ≡ with_core (C.meaning cores.old) n (placed (record { regs = regs.old; core = core_of (C.meaning cores.old) n }) words.now blocks).core }
 {
     let lent = cores.window(n);
-    let mut window = CoreWindow { words: lent };
+    let mut window = CoreWords { words: lent };
     place(regs, &mut window, words, blocks);
 }
 

@@ -8,11 +8,11 @@ ghost use Rattle.uuo_calls.specs.Around.{stopped};
 ghost use Rattle.machine.specs.Stretches.{Stretch, stretch_by, stretch_of};
 ghost use Rattle.machine.specs.Turns.{Turn, delivered, interrupted_at};
 
-use core_store::{CoreStore, CoreWindow};
+use core_store::CoreStore;
 use job_sched::{Job, NO_FLAGS, Stop};
 use ka_cpu::{
-    Accumulator, JobMemory, Outcome, Regs, StopReason, are_legal_kept, pc_word, run_steps, store,
-    word_kept,
+    Accumulator, CoreWords, JobMemory, Outcome, Regs, StopReason, are_legal_kept, pc_word,
+    run_steps, store, word_kept,
 };
 use lock_queue::{LockTable, RequestId};
 use machine::VECTOR_WORDS;
@@ -85,7 +85,7 @@ fn deliver<L: LockTable, C: CoreStore>(
     ensures turn { record { job = job.new; cores = C.meaning cores.new; requests = L.requests locks.new; call = None } ≡ delivered number job.old (C.meaning cores.old) (L.requests locks.old) vector id }
 {
     let words = cores.window(number);
-    let mut window = CoreWindow { words };
+    let mut window = CoreWords { words };
     if interrupt(job, &mut window, vector.number(), id.number()) {
         locks.told(number);
     }

@@ -5,9 +5,9 @@
 //! the jobs (1 to 16) and the quantum.
 #![tactic(auto)]
 
-use core_store::{CoreStore, CoreWindow, PlainCore};
+use core_store::{CoreStore, PlainCore};
 use job_sched::NO_FLAGS;
-use ka_cpu::{Outcome, Regs, step};
+use ka_cpu::{CoreWords, Outcome, Regs, step};
 use lock_queue::PlainTable;
 use monitor::{Answer, Config, Event, System};
 use std::process::ExitCode;
@@ -55,7 +55,7 @@ fn bare(cores: &mut PlainCore, most: u32) -> u32 {
             words[at] = Word::low_bits(*word);
         }
     }
-    let mut window = CoreWindow { words };
+    let mut window = CoreWords { words };
     let mut done = 0u32;
     for _ in 0..most {
         if step(&mut regs, &mut window) == Outcome::Done {

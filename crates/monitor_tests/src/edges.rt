@@ -19,7 +19,7 @@ const LAST_BLOCK: &str =
     " MOVE 1,[1,,777773]\n ENQ. 1,\n JRST .\n JRST .\n LOC 777773\n 1,,5\n 0,,7\n 777777\n 500000,,12\n 0\n\
     LOC 150\n END\n";
 
-/// The same a word further on.
+/// A block of one lock that begins one word later, so that its last word is not in core.
 const PAST_BLOCK: &str =
     " MOVE 1,[1,,777774]\n ENQ. 1,\n JRST .\n JRST .\n LOC 777774\n 1,,5\n 0,,7\n 777777\n 500000,,12\n\
     LOC 150\n END\n";

@@ -141,7 +141,7 @@ for_locks make job use_ (Some locks) right c h =
 
 request-right : (kind : EnqueueKind) (id job : ℕ) (items : List (List ℕ)) → IsRight (request_call kind id job items)
 request-right kind id job items =
-    for_locks (λ wants. Enqueue kind id wants true) job Requested (locks_of items)
+    for_locks (Enqueue (record { kind = kind; id = id; armed = true })) job Requested (locks_of items)
     (λ w k. both (nat_le 1 (length w.items)) (list_all shares_no_pool w.items) k.some (wants-unshared job k.locks w.items k.read))
 
 change-right : (job : ℕ) (items : List (List ℕ)) → IsRight (change_call job items)

@@ -62,7 +62,8 @@ call_for make job use_ items = option_map (λ locks. call_with make (call_wants 
 
 -- ENQ 0 to 2: a request
 abbrev pub request_call : EnqueueKind → ℕ → ℕ → List (List ℕ) → Option (Result LockCall Refusal)
-request_call kind id job items = call_for (λ wants. Enqueue kind id wants true) job Requested items
+request_call kind id job items =
+    call_for (Enqueue (record { kind = kind; id = id; armed = true })) job Requested items
 
 -- ENQ 3: a change; DEQ 0: wants that are given up
 abbrev pub change_call : ℕ → List (List ℕ) → Option (Result LockCall Refusal)

@@ -9,7 +9,7 @@ ghost use Rattle.lock_queue.specs.declared.terms.LockUse.TheVariants.{Named};
 use crate::call_wants::read_wants;
 use crate::options::read_half;
 use crate::parts::Parts;
-use lock_queue::{EnqueueKind, LockCall, LockUse, Refusal, RequestId, Wants};
+use lock_queue::{Asking, EnqueueKind, LockCall, LockUse, Refusal, RequestId, Wants};
 
 /// A call of each kind that names locks, one that names none, and the locks whose status is asked.
 #[derive(Drop)]
@@ -127,10 +127,12 @@ fn replace_by_request(
     let mut wants = Wants::new();
     let answer = read_wants(items, job, LockUse::Requested, &mut wants);
     *call = LockCall::Enqueue {
-        kind,
-        id,
+        asking: Asking {
+            kind,
+            id,
+            armed: true,
+        },
         wants,
-        armed: true,
     };
     answer
 }
@@ -159,6 +161,7 @@ fn replace_by_release(call: &mut LockCall, job: u8, items: Parts<'_>) -> Option<
 
 /// Fills in a request for the locks that the items spell, or says why it is refused; None where an
 /// item is no lock.
+#[inline(always)]
 fn fill_request(
     call: &mut LockCall,
     kind: EnqueueKind,
@@ -169,15 +172,10 @@ fn fill_request(
     ensures { filled result call.new ≡ request_call kind id job items.entry }
 {
     match call {
-        LockCall::Enqueue {
-            kind: call_kind,
-            id: call_id,
-            wants,
-            armed,
-        } => {
-            *call_kind = kind;
-            *call_id = id;
-            *armed = true;
+        LockCall::Enqueue { asking, wants } => {
+            asking.kind = kind;
+            asking.id = id;
+            asking.armed = true;
             read_wants(items, job, LockUse::Requested, wants)
         }
         _ => replace_by_request(call, kind, id, job, items),
@@ -197,6 +195,7 @@ fn fill_change(call: &mut LockCall, job: u8, items: Parts<'_>) -> Option<Result<
 
 /// Fills in that the locks that the items spell are given up, or says why it is refused; None where
 /// an item is no lock.
+#[inline(always)]
 fn fill_release(call: &mut LockCall, job: u8, items: Parts<'_>) -> Option<Result<(), Refusal>>
     ensures { filled result call.new ≡ release_call job items.entry }
 {

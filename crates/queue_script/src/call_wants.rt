@@ -1,5 +1,5 @@
 //! The wants of a call.
-ghost use Rattle.std.specs.Prelude.{◌≡◌, option_map};
+ghost use Rattle.std.specs.Prelude.{◌≡◌, [], option_map};
 ghost use Rattle.queue_script.specs.Borrowed.{filled};
 ghost use Rattle.queue_script.specs.Locks.{locks_of, call_wants};
 
@@ -7,6 +7,18 @@ use crate::locks::read_lock;
 use crate::parts::Parts;
 use lock_queue::{LockUse, Refusal, Wants};
 use word36::LOCKS_A_CALL;
+
+/// Takes out all wants. Mostly there is one, which `pop` takes out in fewer steps.
+#[inline(always)]
+fn clear(wants: &mut Wants)
+    ensures { wants.new.items ≡ [] }
+{
+    if wants.len() == 1 {
+        let _ = wants.pop();
+    } else {
+        wants.clear();
+    }
+}
 
 /// Fills in the wants that the items of a line spell, or says why the call is refused; None where
 /// an item is no lock.
@@ -20,7 +32,7 @@ pub fn read_wants(
 {
     let mut count = 0;
     let mut refusal = None;
-    wants.clear();
+    clear(wants);
     while let Some(item) = items.next() {
         let lock = read_lock(item)?;
         if count < LOCKS_A_CALL {

@@ -35,11 +35,24 @@ pub struct Lock {
     pub options: Options,
 }
 
+/// 1 for each character that a name may have, and 0 for the others.
+static NAME_CHARACTERS: [u8; 256] = [
+    0, 0, 0, 0, 0, 0, 0, 0, 0, 0, 0, 0, 0, 0, 0, 0, 0, 0, 0, 0, 0, 0, 0, 0, 0, 0, 0, 0, 0, 0, 0, 0,
+    0, 0, 0, 0, 0, 0, 0, 0, 0, 0, 0, 0, 0, 1, 1, 0, 1, 1, 1, 1, 1, 1, 1, 1, 1, 1, 0, 0, 0, 0, 0, 0,
+    0, 1, 1, 1, 1, 1, 1, 1, 1, 1, 1, 1, 1, 1, 1, 1, 1, 1, 1, 1, 1, 1, 1, 1, 1, 1, 1, 0, 0, 0, 0, 1,
+    0, 1, 1, 1, 1, 1, 1, 1, 1, 1, 1, 1, 1, 1, 1, 1, 1, 1, 1, 1, 1, 1, 1, 1, 1, 1, 1, 0, 0, 0, 0, 0,
+    0, 0, 0, 0, 0, 0, 0, 0, 0, 0, 0, 0, 0, 0, 0, 0, 0, 0, 0, 0, 0, 0, 0, 0, 0, 0, 0, 0, 0, 0, 0, 0,
+    0, 0, 0, 0, 0, 0, 0, 0, 0, 0, 0, 0, 0, 0, 0, 0, 0, 0, 0, 0, 0, 0, 0, 0, 0, 0, 0, 0, 0, 0, 0, 0,
+    0, 0, 0, 0, 0, 0, 0, 0, 0, 0, 0, 0, 0, 0, 0, 0, 0, 0, 0, 0, 0, 0, 0, 0, 0, 0, 0, 0, 0, 0, 0, 0,
+    0, 0, 0, 0, 0, 0, 0, 0, 0, 0, 0, 0, 0, 0, 0, 0, 0, 0, 0, 0, 0, 0, 0, 0, 0, 0, 0, 0, 0, 0, 0, 0,
+];
+
 /// Whether a name may have this character.
+#[tactic(auto, using(crate::proofs::LockLemmas::name_characters_are))]
 pub fn is_name_character(character: u8) -> bool
     ensures { result ≡ is_name_character character }
 {
-    character.is_ascii_alphanumeric() || character == b'.' || character == b'-' || character == b'_'
+    NAME_CHARACTERS[usize::from(character)] == 1
 }
 
 /// Whether a name may have these characters.
@@ -68,7 +81,8 @@ fn read_text(text: &[u8]) -> Option<LockName>
     if !has_name_characters(text) {
         return None;
     }
-    let text = str::from_utf8(text).unwrap();
+    // What is read is ASCII, and so it is UTF-8.
+    let text = unsafe { str::from_utf8_unchecked(text) };
     match NameText::new(text) {
         Some(name) => Some(LockName::Fitting(Name::Text(name))),
         None => Some(LockName::TooLong),
@@ -96,8 +110,9 @@ pub fn read_lock(item: &[u8]) -> Option<Lock>
     ensures { result ≡ lock_of item.now }
 {
     let mut texts = Parts::of(item, b'/');
-    let name = read_name(texts.next()?)?;
+    let text = texts.next()?;
     let options = read_options(texts)?;
+    let name = read_name(text)?;
     Some(Lock { name, options })
 }
 

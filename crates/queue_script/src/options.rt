@@ -81,6 +81,7 @@ fn read_pool(text: &[u8]) -> Option<PoolOption>
 }
 
 /// The option that a text behind a `/` spells.
+#[inline(always)]
 fn read_option(text: &[u8]) -> Option<LockOption>
     ensures { result ≡ option_of text.now }
 {

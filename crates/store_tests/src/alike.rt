@@ -1,4 +1,4 @@
-//! The same events on two machines, one with each store of core.
+//! Two machines, one with each store of core, stay alike while equal events happen to them.
 
 use crate::rows::{assembled, machine};
 use core_store::{BlockCore, PlainCore};

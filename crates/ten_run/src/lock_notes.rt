@@ -4,9 +4,8 @@ use crate::jobs::Machine;
 use crate::locks::LockText;
 use crate::snapshot::Snapshot;
 use call_block::read_block;
-use core_store::CoreWindow;
 use job_sched::{NO_FLAGS, Wait};
-use ka_cpu::Regs;
+use ka_cpu::{CoreWords, Regs};
 use ka_isa::{Family, classify, decode};
 use lock_queue::{LockTable, LockUse, Want};
 use monitor::JobView;
@@ -135,7 +134,7 @@ fn block_text(
         pc: before.place,
         flags: NO_FLAGS,
     };
-    let memory = CoreWindow {
+    let memory = CoreWords {
         words: words.as_mut_slice(),
     };
     let lock_use = note.service.lock_use(note.asked.left());

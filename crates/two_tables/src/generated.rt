@@ -5,7 +5,7 @@ ghost use Rattle.word36.specs.declared.sizes.TheConstants.{JOBS};
 ghost use Rattle.lock_queue.specs.WellFormed.{names_locks, shares_no_pool, shares_no_pools};
 
 use lock_queue::{
-    EnqueueKind, Key, Level, LockCall, Name, Pool, RequestId, Scope, UserCode, Want, Wants,
+    Asking, EnqueueKind, Key, Level, LockCall, Name, Pool, RequestId, Scope, UserCode, Want, Wants,
 };
 
 /// Numbers in no order.
@@ -38,7 +38,8 @@ impl Numbers {
     }
 }
 
-/// One of eight keys; the last is a job's own.
+/// One of eight keys; the last is a job's own. Their codes lie so far apart that the keys which all share
+/// meet in one place of a hash.
 pub fn key(numbers: &mut Numbers) -> Key {
     let code = numbers.below(8);
     let scope = if code == 7 {
@@ -48,7 +49,7 @@ pub fn key(numbers: &mut Numbers) -> Key {
     };
     Key {
         scope,
-        name: Name::Code(UserCode::new(code as u64 * 64)),
+        name: Name::Code(UserCode::new(code as u64 * 4096)),
     }
 }
 
@@ -119,10 +120,12 @@ pub fn call(numbers: &mut Numbers) -> LockCall
         2 | 3 => LockCall::DequeueNamed(wants(numbers)),
         4 => LockCall::Modify(wants(numbers)),
         _ => LockCall::Enqueue {
-            kind: kind(numbers),
-            id,
+            asking: Asking {
+                kind: kind(numbers),
+                id,
+                armed: numbers.below(8) != 0,
+            },
             wants: wants(numbers),
-            armed: numbers.below(8) != 0,
         },
     }
 }

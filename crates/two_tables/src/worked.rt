@@ -6,7 +6,7 @@ ghost use Rattle.lock_queue.specs.WellFormed.{names_locks, shares_no_pool, share
 
 use crate::alike::{hold_the_same, tell_the_same};
 use lock_queue::{
-    EnqueueKind, Key, Level, LockCall, LockTable, Name, PlainTable, Pool, RequestId, Scope,
+    Asking, EnqueueKind, Key, Level, LockCall, LockTable, Name, PlainTable, Pool, RequestId, Scope,
     UserCode, Want, Wants, Woken,
 };
 use lock_table::IndexedTable;
@@ -186,10 +186,12 @@ fn call_of(act: &Act) -> Option<LockCall>
 {
     match act {
         Act::Ask(kind, number, first, others) => Some(LockCall::Enqueue {
-            kind: *kind,
-            id: id(*number),
+            asking: Asking {
+                kind: *kind,
+                id: id(*number),
+                armed: true,
+            },
             wants: wants(*first, others),
-            armed: true,
         }),
         Act::Change(lock) => Some(LockCall::Modify(wants(*lock, &[]))),
         Act::GiveUp(lock) => Some(LockCall::DequeueNamed(wants(*lock, &[]))),

@@ -10,6 +10,8 @@ use Rattle.word36.specs.declared.sizes.TheConstants.{DATA_WORDS}
 use Rattle.word36.specs.Words.{left_half, right_half}
 use Rattle.core_store.specs.Cores.{Cores, core_of, with_core}
 use Rattle.call_block.specs.declared.block.Block.{Block}
+use Rattle.word36.specs.declared.sizes.TheConstants.{REQUESTS}
+use Rattle.lock_queue.specs.declared.call.Asking.{Asking}
 use Rattle.lock_queue.specs.declared.call.LockCall.{LockCall}
 use Rattle.lock_queue.specs.declared.call.LockCall.TheVariants.{Enqueue, Modify, DequeueNamed, DequeueAll, DequeueId}
 use Rattle.lock_queue.specs.declared.call.LockReply.{LockReply}
@@ -133,25 +135,25 @@ keeps-not_granted requests request Blocking Two two = λ r e. cc
 keeps-not_granted requests request AtOnce Two two = λ r e. inl refl
 keeps-not_granted requests request Interrupt Two two = λ r e. inr (two refl, (cc), (request, refl))
 
-keeps-arrival : (requests : List Request) (n id : ℕ) (kind : EnqueueKind) (wants : ArrayVec Want) (Two : Type 0) → (is_interrupt kind ≡ true → Two) → KeepsRequests requests Two (arrival requests n kind id wants)
-keeps-arrival requests n id kind wants Two two =
-    by_test (KeepsRequests requests Two) (granted (with_arrival requests n kind id false wants) (length requests)) _ _
-    (λ _ r e. cc) (λ _. keeps-not_granted requests (request_of n id kind false wants) kind Two two)
+keeps-arrival : (requests : List Request) (n : ℕ) (asking : Asking) (wants : ArrayVec Want) (Two : Type 0) → (is_interrupt asking.kind ≡ true → Two) → KeepsRequests requests Two (arrival requests n asking wants)
+keeps-arrival requests n asking wants Two two =
+    by_test (KeepsRequests requests Two) (granted (with_arrival requests n asking false wants) (length requests)) _ _
+    (λ _ r e. cc) (λ _. keeps-not_granted requests (request_of n asking false wants) asking.kind Two two)
 
 keeps-where : (requests : List Request) (test : Request → Bool) (Two : Type 0) → KeepsRequests requests Two (dequeue_where requests test)
 keeps-where requests test Two = by_test (KeepsRequests requests Two) (list_any test requests) _ _ (λ _ r e. cc) (λ _ r e. inl refl)
 
 -- whether a call asks for an interrupt
 abbrev pub is_interrupting : LockCall → Bool
-is_interrupting (Enqueue kind id wants armed) = is_interrupt kind
+is_interrupting (Enqueue asking wants) = is_interrupt asking.kind
 is_interrupting (Modify wants) = false
 is_interrupting (DequeueNamed wants) = false
 is_interrupting DequeueAll = false
 is_interrupting (DequeueId id) = false
 
 keeps-call : (requests : List Request) (n : ℕ) (call : LockCall) (Two : Type 0) → (is_interrupting call ≡ true → Two) → KeepsRequests requests Two (outcome_of requests n call)
-keeps-call requests n (Enqueue kind id wants armed) Two two =
-    keeps-unless requests (enqueue_refusal requests n kind wants.items armed) (arrival requests n kind id wants) Two (keeps-arrival requests n id kind wants Two two)
+keeps-call requests n (Enqueue asking wants) Two two =
+    keeps-unless requests (enqueue_refusal REQUESTS requests n asking wants.items) (arrival requests n asking wants) Two (keeps-arrival requests n asking wants Two two)
 keeps-call requests n (Modify wants) Two two = keeps-unless requests _ (outcome (with_changes requests n wants.items) DoneReply) Two (λ r e. cc)
 keeps-call requests n (DequeueNamed wants) Two two = keeps-unless requests _ (outcome (without_named requests n wants.items) DoneReply) Two (λ r e. cc)
 keeps-call requests n DequeueAll Two two = keeps-where requests (is_of_job n) Two

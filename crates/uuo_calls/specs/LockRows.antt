@@ -31,7 +31,7 @@ AreAskable wants = IsTrue (nat_le 1 (length wants.items)) × IsTrue (list_all sh
 
 -- the request that a block asks for
 abbrev pub entering : EnqueueKind → Bool → Result Block Refusal → Result LockCall Refusal
-entering kind armed (Ok block) = Ok (Enqueue kind block.id block.wants armed)
+entering kind armed (Ok block) = Ok (Enqueue (record { kind = kind; id = block.id; armed = armed }) block.wants)
 entering kind armed (Err refusal) = Err refusal
 
 -- the change that a block asks for
@@ -55,7 +55,7 @@ enq_asks regs core n w armed =
 
 -- a call with the locks of a block in the place of its own, if it names locks
 abbrev pub with_block : LockCall → Result Block Refusal → Result LockCall Refusal
-with_block (Enqueue kind id wants armed) block = entering kind armed block
+with_block (Enqueue asking wants) block = entering asking.kind asking.armed block
 with_block (Modify wants) block = changing block
 with_block (DequeueNamed wants) block = naming block
 with_block DequeueAll block = Ok DequeueAll

@@ -8,9 +8,9 @@ ghost use Rattle.uuo_calls.specs.TerminalRows.{first_of, has_input, input_called
 use crate::call::CallOutcome;
 use crate::returns::{skip, stop_at, wait_again};
 use crate::service::Awaited;
-use core_store::{CoreStore, CoreWindow};
+use core_store::CoreStore;
 use job_sched::{Job, Wait};
-use ka_cpu::{JobMemory, StopReason, is_legal_kept, store};
+use ka_cpu::{CoreWords, JobMemory, StopReason, is_legal_kept, store};
 use tty_lines::Lines;
 use word36::{Address, Word};
 
@@ -99,7 +99,7 @@ pub(crate) fn input<C: CoreStore>(
     ensures cores { C.meaning cores.new ≡ with_core (C.meaning cores.old) number (input_called awaited skips e (core_of (C.meaning cores.old) number) job.old lines.old).core }
 {
     let words = cores.window(number);
-    let mut window = CoreWindow { words };
+    let mut window = CoreWords { words };
     read(awaited, skips, job, &mut window, e, lines)
 }
 

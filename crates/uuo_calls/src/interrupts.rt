@@ -5,9 +5,9 @@ ghost use Rattle.core_store.specs.Cores.{IsJob, core_of};
 ghost use Rattle.uuo_calls.specs.InterruptRows.{debrk, dismissed, piini, pisys};
 
 use crate::returns::{refuse, skip, stop_at};
-use core_store::{CoreStore, CoreWindow};
+use core_store::CoreStore;
 use job_sched::{Interrupts, Job};
-use ka_cpu::{Accumulator, StopReason, are_legal_kept, flags_of, word_kept};
+use ka_cpu::{Accumulator, CoreWords, StopReason, are_legal_kept, flags_of, word_kept};
 use word36::{Address, Word};
 
 /// The words of a vector.
@@ -30,7 +30,7 @@ pub(crate) fn piini<C: CoreStore>(number: u8, job: &mut Job, ac: Accumulator, co
 {
     let place = job.regs.ac[ac.index()].right();
     let words = cores.window(number);
-    let mut window = CoreWindow { words };
+    let mut window = CoreWords { words };
     if are_legal_kept(&mut window, place, VECTOR_WORDS) {
         job.interrupts = Interrupts {
             vector: Some(Address::new(place)),
@@ -83,7 +83,7 @@ pub(crate) fn debrk<C: CoreStore>(number: u8, job: &mut Job, cores: &mut C)
     }
     if let Some(vector) = job.interrupts.vector {
         let words = cores.window(number);
-        let mut window = CoreWindow { words };
+        let mut window = CoreWords { words };
         let word = word_kept(&job.regs, &mut window, vector.number() + 1);
         dismiss(job, word);
     }

@@ -12,9 +12,9 @@ ghost use Rattle.uuo_calls.specs.Around.{ac_of};
 use crate::blocks::block_kept;
 use crate::returns::{refuse, skip};
 use crate::room::{CallRoom, be_changing, be_entering, be_naming};
-use core_store::{CoreStore, CoreWindow};
+use core_store::CoreStore;
 use job_sched::{Job, Wait};
-use ka_cpu::{Accumulator, JobMemory, Regs};
+use ka_cpu::{Accumulator, CoreWords, JobMemory, Regs};
 use lock_queue::{EnqueueKind, LockCall, LockReply, LockTable, LockUse, Refusal, RequestId};
 use word36::{Address, Word};
 
@@ -35,8 +35,8 @@ fn fill_call<M: JobMemory>(
     ensures same { memory.new ≡ memory.old }
 {
     match call {
-        LockCall::Enqueue { id, wants, .. } => {
-            *id = block_kept(regs, memory, place, number, lock_use, wants)?;
+        LockCall::Enqueue { asking, wants } => {
+            asking.id = block_kept(regs, memory, place, number, lock_use, wants)?;
         }
         LockCall::Modify(wants) => {
             block_kept(regs, memory, place, number, lock_use, wants)?;
@@ -134,7 +134,7 @@ pub(crate) fn enq<L: LockTable, C: CoreStore>(
     let word = job.regs.ac[ac.index()];
     let armed = job.interrupts.vector.is_some();
     let words = cores.window(number);
-    let mut window = CoreWindow { words };
+    let mut window = CoreWords { words };
     let reply = enqueue(&job.regs, &mut window, number, word, armed, locks, room);
     answer(job, ac, reply);
 }
@@ -202,7 +202,7 @@ pub(crate) fn deq<L: LockTable, C: CoreStore>(
 {
     let word = job.regs.ac[ac.index()];
     let words = cores.window(number);
-    let mut window = CoreWindow { words };
+    let mut window = CoreWords { words };
     let reply = dequeue(&job.regs, &mut window, number, word, locks, room);
     answer(job, ac, reply);
 }

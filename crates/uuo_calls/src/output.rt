@@ -8,9 +8,9 @@ ghost use Rattle.uuo_calls.specs.TerminalRows.{TextIs, character, outchr, outstr
 use crate::call::CallOutcome;
 use crate::returns::{stop_at, wait_again};
 use arrayvec::ArrayVec;
-use core_store::{CoreStore, CoreWindow};
+use core_store::CoreStore;
 use job_sched::{Job, Wait};
-use ka_cpu::{JobMemory, Regs, StopReason, word_kept};
+use ka_cpu::{CoreWords, JobMemory, Regs, StopReason, word_kept};
 use tty_lines::{Char7, Lines};
 use word36::{Address, OUTPUT_RING, Word};
 
@@ -75,7 +75,7 @@ pub(crate) fn outstr<C: CoreStore>(
     ensures cores { C.meaning cores.new ≡ C.meaning cores.old }
 {
     let words = cores.window(number);
-    let mut window = CoreWindow { words };
+    let mut window = CoreWords { words };
     match read_text(&job.regs, &mut window, e) {
         None => {
             stop_at(job, StopReason::IllegalAddress);
@@ -98,7 +98,7 @@ pub(crate) fn outchr<C: CoreStore>(
     ensures cores { C.meaning cores.new ≡ C.meaning cores.old }
 {
     let words = cores.window(number);
-    let mut window = CoreWindow { words };
+    let mut window = CoreWords { words };
     match word_kept(&job.regs, &mut window, e.number()) {
         None => {
             stop_at(job, StopReason::IllegalAddress);

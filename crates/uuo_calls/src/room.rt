@@ -5,7 +5,7 @@ ghost use Rattle.lock_queue.specs.declared.refusal.Refusal.{Refusal as RefusalVi
 ghost use Rattle.call_block.specs.declared.block.Block.{Block};
 ghost use Rattle.uuo_calls.specs.LockRows.{with_block, entering, changing, naming};
 
-use lock_queue::{EnqueueKind, LockCall, RequestId, Wants};
+use lock_queue::{Asking, EnqueueKind, LockCall, RequestId, Wants};
 
 /// Room for the locks that a block names, which all calls use in turn: for 16 locks each, too much to be
 /// made anew in every call. What a call leaves in it means nothing to the next one.
@@ -24,10 +24,12 @@ impl CallRoom {
     pub fn new() -> Self {
         CallRoom {
             entering: LockCall::Enqueue {
-                kind: EnqueueKind::Blocking,
-                id: RequestId::new(0),
+                asking: Asking {
+                    kind: EnqueueKind::Blocking,
+                    id: RequestId::new(0),
+                    armed: false,
+                },
                 wants: Wants::new(),
-                armed: false,
             },
             naming: LockCall::DequeueNamed(Wants::new()),
             told: Wants::new(),
@@ -42,20 +44,18 @@ pub(crate) fn be_entering(call: &mut LockCall, kind: EnqueueKind, armed: bool)
     ensures { (block : Result Block RefusalView) → with_block call.new block ≡ entering kind armed block }
 {
     match call {
-        LockCall::Enqueue {
-            kind: old_kind,
-            armed: was_armed,
-            ..
-        } => {
-            *old_kind = kind;
-            *was_armed = armed;
+        LockCall::Enqueue { asking, .. } => {
+            asking.kind = kind;
+            asking.armed = armed;
         }
         _ => {
             *call = LockCall::Enqueue {
-                kind,
-                id: RequestId::new(0),
+                asking: Asking {
+                    kind,
+                    id: RequestId::new(0),
+                    armed,
+                },
                 wants: Wants::new(),
-                armed,
             };
         }
     }

@@ -12,9 +12,9 @@ ghost use Rattle.uuo_calls.specs.StatusRow.{Places, stored, status_words, enqc_a
 use crate::blocks::block_kept;
 use crate::returns::{refuse, skip};
 use crate::room::CallRoom;
-use core_store::{CoreStore, CoreWindow};
+use core_store::CoreStore;
 use job_sched::Job;
-use ka_cpu::{Accumulator, JobMemory, Regs, are_legal_kept, store};
+use ka_cpu::{Accumulator, CoreWords, JobMemory, Regs, are_legal_kept, store};
 use lock_queue::{Key, LockTable, LockUse, Refusal, Want, Wants};
 use word36::{Address, Word};
 
@@ -121,7 +121,7 @@ pub(crate) fn enqc<L: LockTable, C: CoreStore>(
     let word = job.regs.ac[ac.index()];
     let to = job.regs.ac[ac.next().index()].right();
     let words = cores.window(number);
-    let mut window = CoreWindow { words };
+    let mut window = CoreWords { words };
     let wants = &mut room.told;
     let asks = enqc_asks(&job.regs, &mut window, number, word, to, wants);
     tell(number, job, ac, &mut window, to, asks, wants, locks);

@@ -1,6 +1,7 @@
 -- The status is what is told of the requests from the index on.
-use Rattle.std.proofs.Common.{◌≡◌, ◌+◌, ◌*◌, ◌^◌, ◌≤◌, length, take, drop}
+use Rattle.std.proofs.Common.{◌≡◌, ◌+◌, ◌*◌, ◌≤◌, length, take, drop}
 use Rattle.lock_queue.specs.Queue.{chosen_behind, is_owner, is_waiter}
+use Rattle.lock_queue.specs.StatusSteps.{most_taken}
 use Rattle.lock_queue.specs.StatusWords.{level_of, standing}
 use Rattle.lock_queue.proofs.standing.status_at.Given as goal
 
@@ -15,5 +16,5 @@ invariant-loop-i l =
       there : l.i ≤ length l.requests;
       owners : l.status.owner_count + l.i ≤ length l.requests;
       waiters : l.status.waiter_count + l.i ≤ length l.requests;
-      amount : l.status.amount + l.i * 2 ^ 22 ≤ length l.requests * 2 ^ 22;
+      amount : l.status.amount + l.i * most_taken ≤ length l.requests * most_taken;
     }

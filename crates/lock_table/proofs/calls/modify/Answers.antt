@@ -6,6 +6,7 @@ use Rattle.lock_queue.specs.declared.want.Want.{Want}
 use Rattle.lock_queue.specs.Changes.{modify_fault}
 use Rattle.lock_queue.specs.Grants.{left_of, woken, unless_refused_grants}
 use Rattle.lock_queue.specs.Outcomes.{Outcome, first_refusal}
+use Rattle.lock_table.specs.declared.signature.Signature.{Signature}
 use Rattle.lock_table.specs.Changing.{costs_grant}
 use Rattle.lock_table.specs.Departures.{with_change}
 use Rattle.lock_table.specs.Filings.{Filing, requests_in, AreRight}
@@ -104,7 +105,7 @@ returns-clause-right c =
     let mid = c.change.ensures.value ∙ ap (λ l. map (with_change c.args.job l) fs) c.as_slice-wanted.ensures.value in
     let bits : c.signature_of.result ≡ signature_of cs = c.signature_of.ensures ∙ ap signature_of c.as_slice-wanted.ensures.value in
     let outdated : AreOutdated c.signature_of.result [] c.change.new.self =
-    subst (λ (n : ℕ). AreOutdated n [] c.change.new.self) (sym bits)
+    subst (λ (n : Signature). AreOutdated n [] c.change.new.self) (sym bits)
     (subst (AreOutdated (signature_of cs) []) (sym mid) (change-outdated c.args.job cs fs c.requires kept)) in
     subst (AreRight []) (sym c.renew.ensures.value) (right-renewed c.signature_of.result [] c.change.new.self outdated)
 
@@ -121,7 +122,7 @@ returns-clause-woken c =
     let mid = c.change.ensures.value ∙ ap (λ l. map (with_change c.args.job l) fs) c.as_slice-wanted.ensures.value in
     let bits : c.signature_of.result ≡ signature_of cs = c.signature_of.ensures ∙ ap signature_of c.as_slice-wanted.ensures.value in
     let outdated : AreOutdated c.signature_of.result [] c.change.new.self =
-    subst (λ (n : ℕ). AreOutdated n [] c.change.new.self) (sym bits)
+    subst (λ (n : Signature). AreOutdated n [] c.change.new.self) (sym bits)
     (subst (AreOutdated (signature_of cs) []) (sym mid) (change-outdated c.args.job cs fs c.requires kept)) in
     c.renew.ensures.woken ∙ risen-raised c.signature_of.result [] c.change.new.self outdated
     ∙ ap (raised []) mid ∙ change-woken fs c.args.job c.args.changes.now c.requires

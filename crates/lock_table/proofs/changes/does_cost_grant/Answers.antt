@@ -13,7 +13,7 @@ use Rattle.lock_table.proofs.changes.does_cost_grant.Goals as goal
 pub loop-rest-init : goal.loop-rest-init
 loop-rest-init c =
     ap (λ l. loses_key c.args.c.now.key Free (map (with_change c.args.job (c.args.c.now ∷ [])) l))
-    (c.from_met-rest.ensures.value ∙ ap (λ b. from_met b c.args.filed.now) c.bit_of-bit.ensures)
+    (c.from_met-rest.ensures.value ∙ ap (λ b. from_met b c.args.filed.now) c.bits_of-bits.ensures)
     ∙ met_loses c.args.job c.args.c.now Free c.args.filed.now
 
 pub loop-rest-preserved : goal.loop-rest-preserved
@@ -33,7 +33,7 @@ loop-rest-preserved c =
     let parts = unless-some (f.granted && list_any (is_shut_out hold) wants) (held_by hold wants) c.in-Some.held kept in
     ap (λ h. loses_key d.key h (map (with_change job (d ∷ [])) c.next_met-rest.result.now)) (sym parts.1)
     ∙ ap (λ l. loses_key d.key (held_by hold wants) (map (with_change job (d ∷ [])) l))
-    (c.next_met-rest.ensures.value ∙ ap (λ b. from_met b (drop 1 xs)) c.bit_of-bit.ensures)
+    (c.next_met-rest.ensures.value ∙ ap (λ b. from_met b (drop 1 xs)) c.bits_of-bits.ensures)
     ∙ met_loses job d (held_by hold wants) (drop 1 xs)
     ∙ sym (walk-loses job d hold xs f c.in-len1-up.len_at_least c.f-item.is
     ∙ ap (λ b. b || loses_key d.key (held_by hold wants) (map (with_change job (d ∷ [])) (drop 1 xs))) parts.0)

@@ -1,4 +1,5 @@
-use Rattle.std.proofs.Common.{◌∙◌, sym, ap, subst, ℕ, []}
+use Rattle.std.proofs.Common.{◌∙◌, sym, ap, subst, []}
+use Rattle.lock_table.specs.declared.signature.Signature.{Signature}
 use Rattle.lock_table.specs.Filings.{requests_in, AreRight}
 use Rattle.lock_table.specs.Renewals.{raised, AreOutdated}
 use Rattle.lock_table.proofs.CallLaws.{named-outdated}
@@ -13,14 +14,14 @@ returns-clause-requests c =
 pub returns-clause-right : goal.returns-clause-right
 returns-clause-right c =
     let outdated : AreOutdated c.give_up-bits.result [] c.give_up-bits.new.shelf =
-    subst (λ (n : ℕ). AreOutdated n [] c.give_up-bits.new.shelf) (sym c.give_up-bits.ensures.bits)
+    subst (λ (n : Signature). AreOutdated n [] c.give_up-bits.new.shelf) (sym c.give_up-bits.ensures.bits)
     (subst (AreOutdated _ []) (sym c.give_up-bits.ensures.value) (named-outdated c.args.shelf.now c.args.job (record { items = c.args.named.now }) c.requires)) in
     subst (AreRight []) (sym c.renew.ensures.value) (right-renewed c.give_up-bits.result [] c.give_up-bits.new.shelf outdated)
 
 pub returns-clause-woken : goal.returns-clause-woken
 returns-clause-woken c =
     let outdated : AreOutdated c.give_up-bits.result [] c.give_up-bits.new.shelf =
-    subst (λ (n : ℕ). AreOutdated n [] c.give_up-bits.new.shelf) (sym c.give_up-bits.ensures.bits)
+    subst (λ (n : Signature). AreOutdated n [] c.give_up-bits.new.shelf) (sym c.give_up-bits.ensures.bits)
     (subst (AreOutdated _ []) (sym c.give_up-bits.ensures.value) (named-outdated c.args.shelf.now c.args.job (record { items = c.args.named.now }) c.requires)) in
     c.renew.ensures.woken ∙ risen-raised c.give_up-bits.result [] c.give_up-bits.new.shelf outdated
     ∙ ap (raised []) c.give_up-bits.ensures.value

@@ -10,7 +10,7 @@ pub loop-rest-init : goal.loop-rest-init
 loop-rest-init c =
     let same : sum_by amount_of (wants_at (requests_in c.from_met-rest.result.now) c.args.key.now) ≡ sum_by amount_of (wants_at (requests_in c.args.earlier.now) c.args.key.now) =
     ap (λ l. sum_by amount_of (wants_at (requests_in l) c.args.key.now))
-    (c.from_met-rest.ensures.value ∙ ap (λ b. from_met b c.args.earlier.now) c.bit_of-bit.ensures)
+    (c.from_met-rest.ensures.value ∙ ap (λ b. from_met b c.args.earlier.now) c.bits_of-bits.ensures)
     ∙ ap (sum_by amount_of) (met_wants c.args.key.now c.args.earlier.now) in
     omega (arith, same)
 
@@ -21,5 +21,5 @@ returns-in-None c =
 
 pub loop-rest-preserved : goal.loop-rest-preserved
 loop-rest-preserved c =
-    let step = walk-sum c.args.key.now c.bit_of-bit.result c.loop-rest.rest.now c.next_met-rest.result.now c.f-item.result c.bit_of-bit.ensures c.in-len1-up.len_at_least c.f-item.is c.next_met-rest.ensures.value amount_of in
+    let step = walk-sum c.args.key.now c.bits_of-bits.result c.loop-rest.rest.now c.next_met-rest.result.now c.f-item.result c.bits_of-bits.ensures c.in-len1-up.len_at_least c.f-item.is c.next_met-rest.ensures.value amount_of in
     omega (arith, step, c.in-Some.ensures, c.loop-rest.invariant)

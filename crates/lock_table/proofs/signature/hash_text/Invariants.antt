@@ -6,5 +6,5 @@ abbrev pub invariant-loop-c : goal.invariant-loop-c
 invariant-loop-c l =
     record {
       value : hash_text l.hash (drop l.c-index l.text) ≡ hash_text l.start l.text;
-      below : l.hash < 64;
+      below : l.hash < 4096;
     }

@@ -1,4 +1,5 @@
-use Rattle.std.proofs.Common.{◌≡◌, ◌+◌, ◌*◌, ◌^◌, ◌≤◌, length, drop, filter}
+use Rattle.std.proofs.Common.{◌≡◌, ◌+◌, ◌*◌, ◌≤◌, length, drop, filter}
+use Rattle.lock_queue.specs.StatusSteps.{most_taken}
 use Rattle.lock_queue.specs.StatusWords.{level_of, standing}
 use Rattle.lock_table.specs.Filings.{requests_in}
 use Rattle.lock_table.specs.Findings.{owns, awaits}
@@ -15,5 +16,5 @@ invariant-loop-i l =
       there : l.i ≤ length l.filed;
       owners : l.status.owner_count + l.i ≤ length l.filed;
       waiters : l.status.waiter_count + l.i ≤ length l.filed;
-      amount : l.status.amount + l.i * 2 ^ 22 ≤ length l.filed * 2 ^ 22;
+      amount : l.status.amount + l.i * most_taken ≤ length l.filed * most_taken;
     }

@@ -1,20 +1,18 @@
-use Rattle.std.proofs.Common.{◌≡◌, ◌∙◌, ◌≤◌, length, drop, sym, arith, bit_or}
-use Rattle.std.proofs.lemmas.Grind.{common_steps}
-use Rattle.std.proofs.lemmas.Nat.{le_or_l, le_or_r}
-use Rattle.lock_table.specs.Walks.{from_met}
-use Rattle.lock_table.proofs.WalkLaws.{met-eight}
+use Rattle.std.proofs.Common.{◌≡◌, ◌∙◌, ◌-◌, sym, ap, false, arith, length, drop, length-drop}
+use Rattle.std.proofs.lemmas.List.{take_all}
+use Rattle.lock_table.specs.Signatures.{meets, signature_of}
+use Rattle.lock_table.specs.Walks.{from_touched, from_met}
+use Rattle.lock_table.proofs.WalkLaws.{met-next}
 use Rattle.lock_table.proofs.walks.from_met.Goals as goal
 
 pub loop-rest-preserved : goal.loop-rest-preserved
 loop-rest-preserved c =
-    let rest = c.loop-rest.rest.now in
-    let bits = c.args.bits in
-    let le : 8 ≤ length rest = c.in-len8-up.len_at_least in
-    let both : bit_or c.touched_by_four-front.result c.touched_by_four-back.result ≡ 0 = omega arith in
-    let front : c.touched_by_four-front.result ≡ 0 = omega (arith, both, le_or_l c.touched_by_four-front.result c.touched_by_four-back.result) in
-    let back : c.touched_by_four-back.result ≡ 0 = omega (arith, both, le_or_r c.touched_by_four-front.result c.touched_by_four-back.result) in
-    let skipped : from_met bits (drop 8 rest) ≡ from_met bits rest =
-    met-eight bits rest c.a-item.result c.b-item.result c.c-item.result c.d-item.result c.e-item.result c.f-item.result c.g-item.result c.h-item.result
-    le c.a-item.is c.b-item.is c.c-item.is c.d-item.is c.e-item.is c.f-item.is c.g-item.is c.h-item.is
-    (sym c.touched_by_four-front.ensures ∙ front) (sym c.touched_by_four-back.ensures ∙ back) in
-    grind (arith, common_steps, skipped)
+    let xs = c.loop-rest.rest.now in
+    let off : meets (signature_of c.f-item.result.request.wants.items) c.args.bits ≡ false = sym c.meets.ensures ∙ c.if-meets.false in
+    record {
+      value = ap (from_met c.args.bits) (c.from_touched-rest-in-len1-up.ensures.value
+          ∙ ap (from_touched c.args.bits.groups) (take_all (length xs - 1) (drop 1 xs) (omega (arith, length-drop 1 xs))))
+          ∙ met-next c.args.bits xs c.f-item.result c.in-len1-up.len_at_least c.f-item.is off
+          ∙ c.loop-rest.invariant.value;
+      shorter = omega (arith, c.from_touched-rest-in-len1-up.ensures.shorter, c.loop-rest.invariant.shorter, length-drop 1 c.loop-rest.rest.now);
+    }

@@ -11,13 +11,3 @@ invariant-loop-rest l =
 
 abbrev pub decreases-loop-rest : goal.decreases-loop-rest
 decreases-loop-rest l = length l.rest
-
-abbrev pub invariant-loop-rest-2 : goal.invariant-loop-rest-2
-invariant-loop-rest-2 l =
-    record {
-      value : from_met l.bits l.rest ≡ from_met l.bits l.filed;
-      shorter : length l.rest ≤ length l.filed;
-    }
-
-abbrev pub decreases-loop-rest-2 : goal.decreases-loop-rest-2
-decreases-loop-rest-2 l = length l.rest

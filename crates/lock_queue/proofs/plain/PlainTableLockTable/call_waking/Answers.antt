@@ -12,7 +12,7 @@ returns-in-Enqueue-clause-woken c =
     let present = c.args.self.now.rows.present in
     let q = c.in-Enqueue in
     c.clear.ensures
-    ∙ sym (ap (woken_by present c.args.job) q.is ∙ woken-enqueue present c.args.job q.id q.kind q.wants q.armed)
+    ∙ sym (ap (woken_by present c.args.job) q.is ∙ woken-enqueue present c.args.job q.asking q.wants)
 
 pub invariant_of-self-2 : goal.invariant_of-self-2
 invariant_of-self-2 c = record { well = c.call-reply.ensures.well c.args.self.now.well }
