@@ -1,6 +1,5 @@
 pub mod AscizLemmas
 pub mod BitLemmas
-pub mod LegalLemmas
 pub mod LockLemmas
 pub mod NameLemmas
 pub mod PointerLemmas

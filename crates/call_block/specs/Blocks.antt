@@ -1,9 +1,9 @@
 -- The block of a lock call (ENQ/DEQ of the TOPS-10 Monitor Calls Manual, in this project's profile).
-use Rattle.std.specs.Prelude.{ℕ, suc, zero, ◌+◌, ◌*◌, ◌^◌, ◌==◌, ◌&&◌, ◌||◌, nat_lt, Bool, true, not, if◌then◌else◌, unwrap_or, Result, Ok, Err, List, [], ◌∷◌}
+use Rattle.std.specs.Prelude.{ℕ, suc, zero, ◌+◌, ◌*◌, ◌==◌, ◌&&◌, ◌||◌, nat_lt, not, if◌then◌else◌, unwrap_or, Result, Ok, Err, List, [], ◌∷◌}
 use Rattle.arrayvec.specs.ArrayVec.{ArrayVec}
 use Rattle.word36.specs.declared.sizes.TheConstants.{LOCKS_A_CALL}
 use Rattle.word36.specs.Words.{left_half, right_half}
-use Rattle.ka_cpu.specs.Places.{is_legal, word_at}
+use Rattle.ka_cpu.specs.Places.{are_legal, word_at}
 use Rattle.lock_queue.specs.declared.want.Want.{Want}
 use Rattle.lock_queue.specs.declared.refusal.Refusal.{Refusal}
 use Rattle.lock_queue.specs.declared.refusal.Refusal.TheVariants.{BadBlock, BadCount}
@@ -12,11 +12,6 @@ use Rattle.call_block.specs.declared.block.Block.{Block}
 use Rattle.call_block.specs.declared.want.Lock.{Lock}
 use Rattle.call_block.specs.Locks.{want_of}
 use Rattle.call_block.specs.Steps.{◌>>=◌}
-
--- whether so many words from a place on are legal; behind 777777 octal there is no place
-unfoldable pub are_legal : List ℕ → ℕ → ℕ → Bool
-are_legal core a zero = true
-are_legal core a (suc n) = nat_lt a (2 ^ 18) && is_legal core a && are_legal core (a + 1) n
 
 -- the word at a place; where a place of a block is not legal the block is refused, whatever this says
 abbrev pub word : List ℕ → List ℕ → ℕ → ℕ

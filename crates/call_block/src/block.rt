@@ -4,10 +4,10 @@ ghost use Rattle.std.specs.List.{list_all};
 ghost use Rattle.arrayvec.specs.ArrayVec.{array_vec_len};
 ghost use Rattle.ka_cpu.specs.Places.{is_legal};
 ghost use Rattle.lock_queue.specs.WellFormed.{shares_no_pool};
-ghost use Rattle.call_block.specs.Blocks.{are_legal, word, lock_at, wants_at, block_at, read_as, wants_read_as};
+ghost use Rattle.call_block.specs.Blocks.{word, lock_at, wants_at, block_at, read_as, wants_read_as};
 
 use crate::want::{Lock, want_of};
-use ka_cpu::{JobMemory, Regs, fetch};
+use ka_cpu::{JobMemory, Regs, are_legal, fetch};
 use lock_queue::{LockUse, Refusal, RequestId, Wants};
 use word36::{Address, LOCKS_A_CALL, Word};
 
@@ -17,9 +17,6 @@ const LOCK_WORDS: u32 = 3;
 /// The places below this one are registers.
 const REGISTERS: u32 = 0o20;
 
-/// The place behind the last one.
-const PLACES: u32 = 0o1_000_000;
-
 /// What a lock call asks, as its block says.
 #[derive(Drop)]
 pub struct Block {
@@ -27,19 +24,6 @@ pub struct Block {
     pub id: RequestId,
     /// The locks, in the block's order: 1 to 16.
     pub wants: Wants,
-}
-
-/// Whether so many words from a place on are legal. The legal places are those below a limit, so the
-/// last word decides.
-#[tactic(auto, using(crate::proofs::LegalLemmas::last_word_decides))]
-fn are_legal<M: JobMemory>(memory: &M, place: u32, count: u32) -> bool
-    requires some { 1 ≤ count }
-    requires few { count < 2 ^ 20 }
-    requires fits { place < 2 ^ 18 }
-    ensures { result ≡ are_legal (M.words memory.now) place count }
-{
-    let end = place + count;
-    end <= PLACES && (end <= REGISTERS || end as usize <= memory.size())
 }
 
 /// The word at a legal place.

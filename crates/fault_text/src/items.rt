@@ -1,9 +1,7 @@
 //! The items of a script's line.
 
 use crate::fault::{Fault, Reason};
-
-/// The most characters of a line.
-pub const LINE_LENGTH: usize = 256;
+use script_io::LINE_LENGTH;
 
 /// A part of a line, and the column where it begins.
 #[derive(Clone, Copy, Debug)]

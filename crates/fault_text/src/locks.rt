@@ -1,7 +1,8 @@
 //! Locks as a script spells them.
 
 use crate::fault::Fault;
-use crate::items::{Item, Items, LINE_LENGTH, is_number};
+use crate::items::{Item, Items, is_number};
+use script_io::LINE_LENGTH;
 
 const NAME: &str =
     "a lock's name (letters, digits, \".\", \"-\" and \"_\", or \"#\" and 1 to 11 octal digits)";

@@ -1,8 +1,9 @@
 //! What stands behind the names of commands.
 
 use crate::fault::Fault;
-use crate::items::{Items, LINE_LENGTH, is_number};
+use crate::items::{Items, is_number};
 use crate::locks::check_lock;
+use script_io::LINE_LENGTH;
 
 /// What a command takes in one place.
 #[derive(Clone, Copy, Debug, PartialEq, Eq)]

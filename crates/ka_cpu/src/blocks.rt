@@ -7,9 +7,7 @@ ghost use Rattle.ka_cpu.specs.Blocks.{all_legal, blt_after, moved_words, stored}
 use crate::instruction::{ILLEGAL, Instruction, is_legal_place};
 use crate::memory::store;
 use crate::{JobMemory, Outcome, Regs, fetch};
-
-/// The number of places that an address can name.
-const PLACES: u32 = 0o1_000_000;
+use word36::ADDRESSES;
 
 /// Whether every place of a transfer is legal: the last places decide, and where the places that are
 /// read wrap, all of them are read up to 777777 octal.
@@ -22,7 +20,7 @@ fn are_legal<M: JobMemory>(memory: &M, from: u32, to: u32, count: u32) -> bool
     ensures { result ≡ all_legal count (M.words memory.now) from to }
 {
     let last = from + (count - 1);
-    let top = if last < PLACES { last } else { PLACES - 1 };
+    let top = if last < ADDRESSES { last } else { ADDRESSES - 1 };
     is_legal_place(memory, top) && is_legal_place(memory, to + (count - 1))
 }
 
@@ -48,7 +46,7 @@ fn move_words<M: JobMemory>(regs: &mut Regs, memory: &mut M, from: u32, to: u32,
     ensures place { M.place memory.new ≡ M.place memory.old }
 {
     for i in 0..count {
-        move_word(regs, memory, (from + i) % PLACES, to + i);
+        move_word(regs, memory, (from + i) % ADDRESSES, to + i);
     }
 }
 
@@ -59,7 +57,7 @@ fn are_in_core<M: JobMemory>(memory: &M, place: u32, count: u32) -> bool
     ensures { IsTrue result → (16 ≤ place) × (place + count ≤ 2 ^ 18) × (place + count ≤ length (M.words memory.now)) }
 {
     let end = place + count;
-    place >= 16 && end <= PLACES && end as usize <= memory.size()
+    place >= 16 && end <= ADDRESSES && end as usize <= memory.size()
 }
 
 /// Moves words one after another, in one go where no register is among them and no place wraps.

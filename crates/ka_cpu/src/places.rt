@@ -5,10 +5,7 @@ ghost use Rattle.std.specs.Prelude.{◌≡◌};
 ghost use Rattle.ka_cpu.specs.Places.{word_at, word_below, is_legal, are_legal};
 
 use crate::{JobMemory, Regs, fetch};
-use word36::Word;
-
-/// The number of places that an address can name.
-const PLACES: u32 = 0o1_000_000;
+use word36::{ADDRESSES, Word};
 
 /// The word at a place, if it is legal: registers lie at the places below 20 octal.
 pub fn fetch_kept<M: JobMemory>(regs: &Regs, memory: &mut M, a: u32) -> Option<Word>
@@ -23,7 +20,7 @@ pub fn word_kept<M: JobMemory>(regs: &Regs, memory: &mut M, a: u32) -> Option<Wo
     ensures value { result ≡ word_below regs.now.ac (M.words memory.old) a }
     ensures same { memory.new ≡ memory.old }
 {
-    if a < PLACES {
+    if a < ADDRESSES {
         fetch(regs, memory, a)
     } else {
         None
@@ -38,15 +35,23 @@ pub fn is_legal_kept<M: JobMemory>(memory: &mut M, a: u32) -> bool
     a < 16 || (a as usize) < memory.size()
 }
 
-/// Whether so many words from a place on are legal; behind 777777 octal there is no place.
+/// Whether so many words from a place on are legal; behind 777777 octal there is no place. The legal
+/// places are those below a limit, so the last word decides.
 #[tactic(auto, using(crate::proofs::LegalLemmas::legal_places))]
-pub fn are_legal_kept<M: JobMemory>(memory: &mut M, a: u32, count: u32) -> bool
-    ensures value { result ≡ are_legal (M.words memory.old) a count }
-    ensures same { memory.new ≡ memory.old }
+pub fn are_legal<M: JobMemory>(memory: &M, a: u32, count: u32) -> bool
+    ensures { result ≡ are_legal (M.words memory.now) a count }
 {
     if count == 0 {
         return true;
     }
     let end = a as u64 + count as u64;
-    end <= PLACES as u64 && (end <= 16 || end <= memory.size() as u64)
+    end <= ADDRESSES as u64 && (end <= 16 || end <= memory.size() as u64)
+}
+
+/// Whether so many words from a place on are legal, as `are_legal` says.
+pub fn are_legal_kept<M: JobMemory>(memory: &mut M, a: u32, count: u32) -> bool
+    ensures value { result ≡ are_legal (M.words memory.old) a count }
+    ensures same { memory.new ≡ memory.old }
+{
+    are_legal(memory, a, count)
 }

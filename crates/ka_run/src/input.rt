@@ -3,7 +3,7 @@
 ghost use Rattle.std.specs.Prelude.{◌<◌, ◌^◌, IfSome};
 
 use ka_cpu::{Flags, flags_of};
-use word36::{Address, MOST_BLOCKS, Word};
+use word36::{ADDRESSES, Address, MOST_BLOCKS, Word};
 
 /// One line of the input.
 #[derive(Clone, Copy)]
@@ -42,7 +42,7 @@ fn read_octal(text: &str) -> Option<u64>
 /// An address in octal, below 2 ^ 18.
 fn read_address(text: &str) -> Option<Address> {
     let number = read_octal(text)?;
-    if number < 0o1_000_000 {
+    if number < u64::from(ADDRESSES) {
         Some(Address::new(number as u32))
     } else {
         None

@@ -4,10 +4,7 @@ ghost use Rattle.std.specs.Prelude.{◌≡◌, ◌<◌, ◌^◌, ◌+◌, ◌-�
 ghost use Rattle.word36.specs.Words.{signed_value};
 ghost use Rattle.ka_word.specs.Conditions.{holds};
 
-use word36::Word;
-
-/// 2 ^ 35, the sign bit.
-const SIGN: u64 = 0o400_000_000_000;
+use word36::{SIGN, Word};
 
 /// A number whose order is that of the signed words.
 #[inline(always)]

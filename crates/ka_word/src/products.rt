@@ -4,13 +4,7 @@ ghost use Rattle.std.specs.Prelude.{◌≡◌, ◌<◌, ◌≤◌, ◌/◌, ◌^
 ghost use Rattle.ka_word.specs.Magnitudes.{is_past, low_of, magnitude, product_is_negative, signs_differ, size_of_product, wide};
 ghost use Rattle.ka_word.specs.Products.{high_word, low_word, overflows};
 
-use word36::Word;
-
-/// 2 ^ 36.
-const SIZE: u64 = 0o1_000_000_000_000;
-
-/// 2 ^ 35, the magnitude of the least number.
-const LEAST: u64 = 0o400_000_000_000;
+use word36::{MODULUS, SIGN, Word};
 
 /// How far a signed number is from 0.
 pub fn magnitude_of(word: Word) -> u64
@@ -18,8 +12,8 @@ pub fn magnitude_of(word: Word) -> u64
     ensures most { result ≤ 2 ^ 35 }
 {
     let number = word.number();
-    if number >= LEAST {
-        SIZE - number
+    if number >= SIGN {
+        MODULUS - number
     } else {
         number
     }
@@ -52,7 +46,7 @@ fn split_size(size: u128, negative: bool) -> (Word, Word, bool)
     ensures fits { result.2 ≡ is_past negative size }
 {
     let product = if negative { (1u128 << 71) - size } else { size };
-    let sign = if negative { LEAST } else { 0 };
+    let sign = if negative { SIGN } else { 0 };
     let high = Word::new((product >> 35) as u64);
     let low = Word::new(sign + (product % (1u128 << 35)) as u64);
     let overflows = if negative {

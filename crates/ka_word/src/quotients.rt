@@ -5,13 +5,7 @@ ghost use Rattle.ka_word.specs.Magnitudes.{with_sign};
 ghost use Rattle.ka_word.specs.Quotients.{no_quotient, quotient_of, remainder_of};
 
 use crate::products::{differ, magnitude_of};
-use word36::Word;
-
-/// 2 ^ 36.
-const SIZE: u64 = 0o1_000_000_000_000;
-
-/// 2 ^ 35, the magnitude of the least number.
-const LEAST: u64 = 0o400_000_000_000;
+use word36::{MODULUS, SIGN, Word};
 
 /// The word of a sign and a magnitude.
 fn signed_word(negative: bool, size: u64) -> Word
@@ -19,7 +13,7 @@ fn signed_word(negative: bool, size: u64) -> Word
     ensures { result ≡ with_sign negative size }
 {
     if negative {
-        Word::low_bits(SIZE - size)
+        Word::low_bits(MODULUS - size)
     } else {
         Word::new(size)
     }
@@ -29,7 +23,7 @@ fn signed_word(negative: bool, size: u64) -> Word
 pub fn has_no_quotient(a: Word, b: Word) -> bool
     ensures { result ≡ no_quotient a b }
 {
-    b.number() == 0 || a.number() == LEAST && b.number() == SIZE - 1
+    b.number() == 0 || a.number() == SIGN && b.number() == MODULUS - 1
 }
 
 /// The quotient toward 0, and the remainder, which has the sign of the dividend.

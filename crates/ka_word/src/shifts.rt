@@ -5,10 +5,7 @@ ghost use Rattle.word36.specs.Words.{complement, is_negative};
 ghost use Rattle.ka_word.specs.Shifts.{ash_of, ash_overflows, is_left, lsh_of, lshc_of, places_of, rot_of, rotc_of, shifted_left, turned_left};
 
 use crate::bytes::low_part;
-use word36::Word;
-
-/// 2 ^ 35, the sign bit.
-const SIGN: u64 = 0o400_000_000_000;
+use word36::{ADDRESSES, SIGN, Word};
 
 /// Whether a shift by E is to the left.
 fn shifts_left(e: u32) -> bool
@@ -26,7 +23,7 @@ fn count_places(e: u32) -> u64
     let places = if shifts_left(e) {
         e % 256
     } else {
-        (0o1_000_000 - e) % 256
+        (ADDRESSES - e) % 256
     };
     places as u64
 }

@@ -30,7 +30,7 @@ impl Key {
         self == other
     }
 
-    /// The same key again.
+    /// A copy of the key.
     pub fn copied(&self) -> Key
         ensures { result ≡ self.now }
     {

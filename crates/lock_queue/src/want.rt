@@ -43,7 +43,7 @@ impl Level {
         self.number
     }
 
-    /// The same level again.
+    /// A copy of the level.
     pub fn copied(&self) -> Self
         ensures value { result ≡ self.now }
         ensures below { self.now < 2 ^ 9 }
@@ -73,7 +73,7 @@ pub struct Want {
 pub type Wants = ArrayVec<Want, LOCKS_A_CALL>;
 
 impl Want {
-    /// The same want again.
+    /// A copy of the want.
     pub fn copied(&self) -> Want
         ensures value { result ≡ self.now }
         ensures range { IsTrue (is_in_range self.now) }

@@ -9,10 +9,7 @@ use core_store::{CoreStore, NoCore};
 use job_sched::NO_FLAGS;
 use ka_cpu::{CoreWords, JobMemory, Regs, store};
 use machine::HIGHEST_PLACE;
-use word36::{Address, BLOCK_WORDS, Image, Word};
-
-/// The places that an address can name.
-const PLACES: u32 = 0o1_000_000;
+use word36::{ADDRESSES, Address, BLOCK_WORDS, Image, Word};
 
 /// The last of some places, where they rise from a place on.
 fn top_from(top: u32, words: &[(u32, Word)]) -> Option<u32>
@@ -22,7 +19,7 @@ fn top_from(top: u32, words: &[(u32, Word)]) -> Option<u32>
 {
     let mut last = top;
     for entry in words {
-        if entry.0 <= last || entry.0 >= PLACES {
+        if entry.0 <= last || entry.0 >= ADDRESSES {
             return None;
         }
         last = entry.0;
@@ -37,11 +34,11 @@ pub(crate) fn image_top(image: &Image) -> Option<u32>
     ensures below { IfSome result (λ t. t < 2 ^ 18) }
     ensures start { IfSome result (λ t. image.now.start < 2 ^ 18) }
 {
-    if image.start >= PLACES {
+    if image.start >= ADDRESSES {
         return None;
     }
     let (first, rest) = image.words.split_first()?;
-    if first.0 >= PLACES {
+    if first.0 >= ADDRESSES {
         return None;
     }
     top_from(first.0, rest)

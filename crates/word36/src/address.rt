@@ -4,6 +4,7 @@ ghost use Rattle.std.specs.Prelude.{◌≡◌, ◌+◌, ◌%◌, ◌^◌, ◌<�
 ghost use Rattle.word36.specs.Octal.{octal};
 
 use crate::octal_half;
+use crate::sizes::ADDRESSES;
 use arrayvec::ArrayString;
 use std::fmt;
 use std::marker::Model;
@@ -40,7 +41,7 @@ impl Address {
         ensures variant { IsSome result ↔ (number < 2 ^ 18) }
         ensures value { IfSome result (λ a. a ≡ number) }
     {
-        if number < 0o1_000_000 {
+        if number < ADDRESSES {
             Some(Address { number })
         } else {
             None

@@ -6,6 +6,9 @@ pub const JOBS: u8 = 31;
 /// Terminal lines are numbered from 0 to one less than this.
 pub const LINES: u8 = 16;
 
+/// The places that an address can name: they are numbered from 0 to one less than this, 777777 octal.
+pub const ADDRESSES: u32 = 0o1_000_000;
+
 /// The words of a block of core.
 pub const BLOCK_WORDS: usize = 1024;
 

@@ -28,13 +28,13 @@ impl Model for Word {
 }
 
 /// 2^36, one more than the largest word.
-const SIZE: u64 = 0o1_000_000_000_000;
+pub const MODULUS: u64 = 0o1_000_000_000_000;
 
 /// All 36 bits.
 const MASK: u64 = 0o777_777_777_777;
 
-/// Bit 0.
-const SIGN: u64 = 0o400_000_000_000;
+/// Bit 0 alone, 2^35: also the magnitude of the least number.
+pub const SIGN: u64 = 0o400_000_000_000;
 
 /// Bits 1 to 35.
 const LOW: u64 = 0o377_777_777_777;
@@ -137,7 +137,7 @@ impl Word {
         ensures high { result <ℤ pos 34359738368 }
     {
         if self.number >= SIGN {
-            self.number as i64 - SIZE as i64
+            self.number as i64 - MODULUS as i64
         } else {
             self.number as i64
         }
@@ -152,7 +152,7 @@ impl Word {
             None
         } else if value < 0 {
             Some(Word {
-                number: (value + SIZE as i64) as u64,
+                number: (value + MODULUS as i64) as u64,
             })
         } else {
             Some(Word {
