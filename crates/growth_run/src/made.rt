@@ -2,10 +2,10 @@
 
 use crate::Finding;
 use core_store::PlainCore;
-use lock_queue::PlainTable;
 use mac_asm::{AsmError, assemble};
 use mac_text::{ParseError, parse};
 use monitor::{Config, System};
+use plain_table::PlainTable;
 use std::alloc::Global;
 
 /// A source of twelve lines and fourteen words, with a label, literals and a text.

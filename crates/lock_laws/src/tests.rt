@@ -10,9 +10,10 @@ use crate::{
     run_safely, safety_is_kept, waits_are_by_latest, waits_are_kept, well_formedness_is_kept,
 };
 use lock_queue::{
-    Asking, EnqueueKind, Key, Level, LockCall, LockReply, LockTable, Name, PlainTable, Pool,
-    RequestId, Scope, UserCode, Want, Wants,
+    Asking, EnqueueKind, Key, Level, LockCall, LockReply, LockTable, Name, Pool, RequestId, Scope,
+    UserCode, Want, Wants,
 };
+use plain_table::PlainTable;
 use std::test::Fail;
 
 /// So many of the five tape drives.

@@ -1,4 +1,4 @@
--- Marks that are set before a change and looked at after it find the grants that it makes.
+-- What a call leaves of each request, and that a request which is asked for grants no other.
 use Rattle.std.proofs.Common.{◌≡◌, ◌∙◌, sym, ap, append-nil, ℕ, suc, Bool, true, false, not, ◌&&◌, ◌||◌, ◌==◌, cond, if◌then◌else◌, List, [], ◌∷◌, ◌++◌, length, map, filter, filter_map, Option, Some, None, is_some, refl, arith}
 use Rattle.std.specs.List.{list_any, cons_option}
 use Rattle.std.proofs.lemmas.Bool.{and_left, and_right}
@@ -21,36 +21,11 @@ use Rattle.lock_queue.specs.Changes.{changed, with_changes}
 use Rattle.lock_queue.specs.Dequeues.{has_wants, without_keys, without_keys_of, without_named, is_of_job, has_id}
 use Rattle.lock_queue.specs.Grants.{staying_if, left_of, is_told_of, grant_of, is_woken, woken, unless_refused_grants, woken_by, woken_by_release}
 use Rattle.lock_queue.specs.Enqueues.{arrival, not_granted, enqueue_refusal}
-use Rattle.lock_queue.specs.GrantSteps.{awaits_grant, marked, marks_behind, raised_behind}
 use Rattle.lock_queue.specs.Jobs.{released}
 use Rattle.lock_queue.specs.Outcomes.{Outcome, outcome, unless_refused}
 use Rattle.lock_queue.specs.Queue.{granted_behind, is_granted, chosen_behind, names}
 
--- ---- whether a request stays
-
-not-empty : (n : ℕ) → true ≡ not (suc n == 0)
-not-empty n = grind (arith, nat_tests)
-
-any-filter-at : (b : Bool) (p : Want → Bool) (w : Want) (ws : List Want) → list_any p ws ≡ not (length (filter p ws) == 0)
-    → (b || list_any p ws) ≡ not (length (if b then w ∷ filter p ws else filter p ws) == 0)
-any-filter-at true p w ws h = not-empty (length (filter p ws))
-any-filter-at false p w ws h = h
-
-any-filter : (p : Want → Bool) (ws : List Want) → list_any p ws ≡ not (length (filter p ws) == 0)
-any-filter p [] = refl
-any-filter p (w ∷ ws) = any-filter-at (p w) p w ws (any-filter p ws)
-
-any-all : (ws : List Want) → list_any (λ w. true) ws ≡ not (length ws == 0)
-any-all [] = refl
-any-all (w ∷ ws) = not-empty (length ws)
-
--- a request keeps a want where it has one that is not given up
-pub keeps : (b : Bool) (named : List Want) (r : Request)
-    → list_any (λ w. not (b && names named w.key)) r.wants.items ≡ has_wants (if b then without_keys named r else r)
-keeps true named r = any-filter (λ w. not (names named w.key)) r.wants.items
-keeps false named r = any-all r.wants.items
-
--- ---- marks
+-- ---- one request
 
 -- what is left keeps job and id
 abbrev pub KeepsLabels : (Request → Option Request) → Type 0
@@ -94,51 +69,7 @@ module _ (left : Request → Option Request) where
       → filter_map left (e ++ r ∷ []) ≡ filter_map left e ++ s ∷ []
   left-stays e r s is = left-append e (r ∷ []) ∙ ap (λ o. filter_map left e ++ cons_option o []) is
 
-  -- there is a mark for each request that is left
-  pub marks-length : (e rs : List Request) → length (marks_behind left e rs) ≡ length (filter_map left rs)
-  marks-length e [] = refl
-  marks-length e (r ∷ rs) = go (left r) (marks-length (e ++ r ∷ []) rs)
-    where
-      go : (o : Option Request) → length (marks_behind left (e ++ r ∷ []) rs) ≡ length (filter_map left rs)
-          → length (marked o (awaits_grant e r) (marks_behind left (e ++ r ∷ []) rs)) ≡ length (cons_option o (filter_map left rs))
-      go None h = h
-      go (Some s) h = omega (arith, h)
-
-  -- what the marks raise is what is woken
-  raised-woken : KeepsLabels left → (e rs : List Request)
-      → raised_behind (filter_map left e) (marks_behind left e rs) (filter_map left rs)
-      ≡ map grant_of (chosen_behind (is_woken left) e rs)
-  raised-woken keep e [] = refl
-  raised-woken keep e (r ∷ rs) = go (left r) refl (raised-woken keep (e ++ r ∷ []) rs)
-    where
-      marks : List Bool
-      marks = marks_behind left (e ++ r ∷ []) rs
-
-      chosen-later : List Request
-      chosen-later = chosen_behind (is_woken left) (e ++ r ∷ []) rs
-
-      go : (o : Option Request) → left r ≡ o
-          → raised_behind (filter_map left (e ++ r ∷ [])) marks (filter_map left rs) ≡ map grant_of chosen-later
-          → raised_behind (filter_map left e) (marked o (awaits_grant e r) marks) (cons_option o (filter_map left rs))
-          ≡ map grant_of (cond (awaits_grant e r && is_granted (filter_map left e) o) (r ∷ chosen-later) chosen-later)
-      go None is h =
-          ap (λ l. raised_behind l marks (filter_map left rs)) (sym (left-gone e r is)) ∙ h
-          ∙ ap (λ b. map grant_of (cond b (r ∷ chosen-later) chosen-later)) (sym (and_right (awaits_grant e r) false refl))
-      go (Some s) is h =
-          let rest : raised_behind (filter_map left e ++ s ∷ []) marks (filter_map left rs) ≡ map grant_of chosen-later =
-          ap (λ l. raised_behind l marks (filter_map left rs)) (sym (left-stays e r s is)) ∙ h in
-          elim (awaits_grant e r && granted_behind (filter_map left e) s) as (λ b.
-          cond b (grant_of s ∷ raised_behind (filter_map left e ++ s ∷ []) marks (filter_map left rs)) (raised_behind (filter_map left e ++ s ∷ []) marks (filter_map left rs))
-          ≡ map grant_of (cond b (r ∷ chosen-later) chosen-later)) [
-            | true ↦ ap (λ g. g ∷ raised_behind (filter_map left e ++ s ∷ []) marks (filter_map left rs)) (keep r s is) ∙ ap (λ l. grant_of r ∷ l) rest
-            | false ↦ rest
-          ]
-
-  pub raised-all : KeepsLabels left → (requests : List Request)
-      → raised_behind [] (marks_behind left [] requests) (filter_map left requests) ≡ woken left requests
-  raised-all keep requests = raised-woken keep [] requests
-
--- ---- what is left
+-- ---- the list
 
 map-left : (f : Request → Request) (rs : List Request) → map f rs ≡ filter_map (λ r. Some (f r)) rs
 map-left f [] = refl
@@ -227,7 +158,7 @@ none-woken : (e rs : List Request) → chosen_behind (is_woken (λ r. Some r)) e
 none-woken e [] = refl
 none-woken e (r ∷ rs) =
     let here : is_woken (λ r. Some r) e r ≡ false =
-    ap (λ l. awaits_grant e r && granted_behind l r) (all-left e) ∙ never-both (is_told_of r.kind) (granted_behind e r) in
+    ap (λ l. (is_told_of r.kind && not (granted_behind e r)) && granted_behind l r) (all-left e) ∙ never-both (is_told_of r.kind) (granted_behind e r) in
     ap (λ b. cond b (r ∷ chosen_behind (is_woken (λ r. Some r)) (e ++ r ∷ []) rs) (chosen_behind (is_woken (λ r. Some r)) (e ++ r ∷ []) rs)) here
     ∙ none-woken (e ++ r ∷ []) rs
 
@@ -237,34 +168,3 @@ pub woken-enqueue : (requests : List Request) (job : ℕ) (asking : Asking) (wan
 woken-enqueue requests job asking wants =
     let reply : LockReply = (outcome_of requests job (Enqueue asking wants)).reply in
     ap (λ l. unless_refused_grants reply (map grant_of l)) (none-woken [] requests) ∙ grants-none reply
-
--- what the marks raise behind a call that is done, and behind a release
-pub woken-done : (requests after : List Request) (job : ℕ) (call : LockCall) → (outcome_of requests job call).reply ≡ Done
-    → after ≡ (outcome_of requests job call).requests
-    → raised_behind [] (marks_behind (left_of job call) [] requests) after ≡ woken_by requests job call
-woken-done requests after job call done is =
-    ap (raised_behind [] (marks_behind (left_of job call) [] requests)) (is ∙ call-left requests job call done)
-    ∙ raised-all (left_of job call) (left-labels job call) requests
-    ∙ sym (ap (λ reply. unless_refused_grants reply (woken (left_of job call) requests)) done)
-
-pub woken-released : (requests after : List Request) (job : ℕ) → after ≡ released requests job
-    → raised_behind [] (marks_behind (left_of job DequeueAll) [] requests) after ≡ woken_by_release requests job
-woken-released requests after job is =
-    ap (raised_behind [] (marks_behind (left_of job DequeueAll) [] requests)) (is ∙ released-left requests job)
-    ∙ raised-all (left_of job DequeueAll) (left-labels job DequeueAll) requests
-
--- there is a mark for each request after the call
-pub marks-done : (requests after : List Request) (job : ℕ) (call : LockCall) → (outcome_of requests job call).reply ≡ Done
-    → after ≡ (outcome_of requests job call).requests
-    → length (marks_behind (left_of job call) [] requests) ≡ length after
-marks-done requests after job call done is =
-    marks-length (left_of job call) [] requests ∙ sym (ap length (is ∙ call-left requests job call done))
-
-pub marks-released : (requests after : List Request) (job : ℕ) → after ≡ released requests job
-    → length (marks_behind (left_of job DequeueAll) [] requests) ≡ length after
-marks-released requests after job is =
-    marks-length (left_of job DequeueAll) [] requests ∙ sym (ap length (is ∙ released-left requests job))
-
-pub is_some-staying : (b : Bool) (r : Request) → is_some (staying_if b r) ≡ b
-is_some-staying true r = refl
-is_some-staying false r = refl

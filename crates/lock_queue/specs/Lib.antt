@@ -11,7 +11,6 @@ pub mod Dequeues
 pub mod Changes
 pub mod Calls
 pub mod Grants
-pub mod GrantSteps
 pub mod WellFormed
 pub mod Waits
 pub mod StatusWords

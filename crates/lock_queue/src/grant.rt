@@ -1,7 +1,8 @@
-//! Grants that a call makes.
+//! Grants that a call makes, and who is told of them.
 ghost use Rattle.std.specs.Prelude.{◌≡◌};
+ghost use Rattle.lock_queue.specs.Grants.{is_told_of, grant_of};
 
-use crate::RequestId;
+use crate::{EnqueueKind, Request, RequestId};
 use arrayvec::ArrayVec;
 use word36::REQUESTS;
 
@@ -26,5 +27,25 @@ impl Default for Grant {
             job: 0,
             id: RequestId::new(0),
         }
+    }
+}
+
+/// Whether a job is told of grants of this kind.
+pub fn is_told_of(kind: EnqueueKind) -> bool
+    ensures { result ≡ is_told_of kind }
+{
+    match kind {
+        EnqueueKind::Blocking | EnqueueKind::Interrupt => true,
+        EnqueueKind::AtOnce => false,
+    }
+}
+
+/// The grant of a request.
+pub fn grant_of(r: &Request) -> Grant
+    ensures { result ≡ grant_of r.now }
+{
+    Grant {
+        job: r.job,
+        id: r.id,
     }
 }

@@ -1,34 +1,27 @@
 //! The lock queue: keys, wants, requests in order of arrival, and the calls on them.
 #![tactic(auto)]
 
+mod among_wants;
 mod call;
-mod changes;
-mod dequeues;
-mod enqueues;
 mod grant;
-mod jobs;
+mod granting;
 mod key;
 mod name;
-mod plain;
 mod pool;
-mod queue;
 mod refusal;
 mod request;
-mod row;
-mod rows;
+mod rewriting;
 mod standing;
 mod status;
 pub mod steps;
 mod table;
 mod terms;
-mod waking;
 mod want;
 
 pub use call::{Asking, LockCall, LockReply};
 pub use grant::{Grant, Woken};
 pub use key::{Key, Scope};
 pub use name::{NAME_ROOM, Name, NameText, UserCode};
-pub use plain::PlainTable;
 pub use pool::Pool;
 pub use refusal::Refusal;
 pub use request::{EnqueueKind, Request, RequestId};

@@ -1,12 +1,11 @@
-//! What is found in some requests or in the wants of one, or done to them, for any table.
+//! What is found in, or done to, the wants of one request, and whether it is granted behind earlier
+//! requests: for any table.
 
-pub use crate::changes::{changed_wants, is_pooled_in};
-pub use crate::dequeues::remove_keys;
-pub use crate::enqueues::{are_alike_in, reach_level};
-pub use crate::jobs::{is_blocked, some_in_the_way};
-pub use crate::queue::{
-    all_agree_in, do_agree, is_fitting, is_granted, is_pooled, names_key, room_beside,
+pub use crate::among_wants::{
+    all_agree_in, are_alike_in, do_agree, is_pooled, is_pooled_in, level_in, names_key, reach_level,
+    room_beside, some_in_the_way,
 };
-pub use crate::row::{write_like, write_request};
-pub use crate::standing::{level_in, with_owner, with_waiter};
-pub use crate::waking::{grant_of, is_told_of};
+pub use crate::grant::{grant_of, is_told_of};
+pub use crate::granting::{are_fitting, is_blocked, is_fitting, is_granted};
+pub use crate::rewriting::{changed_wants, remove_keys, write_like, write_request};
+pub use crate::standing::{with_owner, with_waiter};

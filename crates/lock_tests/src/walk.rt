@@ -1,7 +1,8 @@
 //! The rows of a test, and how they are walked on a table.
 
 use crate::build::{Call, key, lock_call};
-use lock_queue::{Grant, LockReply, LockTable, PlainTable, Woken};
+use lock_queue::{Grant, LockReply, LockTable, Woken};
+use plain_table::PlainTable;
 use std::alloc::Global;
 use std::process::Abort;
 use word36::JOBS;

@@ -8,8 +8,8 @@
 use core_store::{CoreStore, PlainCore};
 use job_sched::NO_FLAGS;
 use ka_cpu::{CoreWords, Outcome, Regs, step};
-use lock_queue::PlainTable;
 use monitor::{Answer, Config, Event, System};
+use plain_table::PlainTable;
 use std::process::ExitCode;
 use std::{env, io};
 use word36::{Address, Image, Word};

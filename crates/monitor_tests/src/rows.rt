@@ -2,9 +2,10 @@
 
 use core_store::PlainCore;
 use job_sched::{Stop, Wait};
-use lock_queue::{EnqueueKind, LockTable, PlainTable};
+use lock_queue::{EnqueueKind, LockTable};
 use mac_asm::assemble;
 use monitor::{Answer, Config, Event, RefusedEvent, System};
+use plain_table::PlainTable;
 use std::alloc::Global;
 use std::process::Abort;
 use word36::{Image, Word};

@@ -2,8 +2,8 @@
 
 use crate::rows::{assembled, machine};
 use core_store::{BlockCore, PlainCore};
-use lock_queue::PlainTable;
 use monitor::{Answer, Event, System};
+use plain_table::PlainTable;
 use std::alloc::{AllocError, Global};
 use std::process::Abort;
 use std::test::Fail;

@@ -2,8 +2,8 @@
 
 use crate::rows::{assembled, begins, machine, turn};
 use core_store::{BlockCore, CoreStore, PlainCore};
-use lock_queue::PlainTable;
 use monitor::{Answer, Event, System};
+use plain_table::PlainTable;
 use std::alloc::Global;
 use std::process::Abort;
 use word36::Image;

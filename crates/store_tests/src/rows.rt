@@ -2,9 +2,9 @@
 
 use core_store::{BlockCore, CoreStore, PlainCore};
 use job_sched::{Stop, Wait};
-use lock_queue::PlainTable;
 use mac_asm::assemble;
 use monitor::{Answer, Config, Event, RefusedEvent, System};
+use plain_table::PlainTable;
 use std::alloc::Global;
 use std::process::Abort;
 use word36::Image;

@@ -2,8 +2,9 @@
 
 use crate::alike::{hold_the_same, tell_the_same};
 use crate::generated::{Numbers, call, key};
-use lock_queue::{LockTable, PlainTable, Woken};
+use lock_queue::{LockTable, Woken};
 use lock_table::IndexedTable;
+use plain_table::PlainTable;
 use std::test::Fail;
 
 /// Makes a call on both, and says whether they answer and grant the same.

@@ -6,10 +6,11 @@ ghost use Rattle.lock_queue.specs.WellFormed.{names_locks, shares_no_pool, share
 
 use crate::alike::{hold_the_same, tell_the_same};
 use lock_queue::{
-    Asking, EnqueueKind, Key, Level, LockCall, LockTable, Name, PlainTable, Pool, RequestId, Scope,
-    UserCode, Want, Wants, Woken,
+    Asking, EnqueueKind, Key, Level, LockCall, LockTable, Name, Pool, RequestId, Scope, UserCode,
+    Want, Wants, Woken,
 };
 use lock_table::IndexedTable;
+use plain_table::PlainTable;
 use std::test::Fail;
 
 /// On what terms a lock is wanted.

@@ -1,0 +1,9 @@
+use Rattle.std.proofs.Common.{◌≡◌, sym, subst, true}
+use Rattle.lock_queue.specs.WellFormed.{are_well_formed}
+use Rattle.lock_queue.proofs.WellKept.{well-told}
+use Rattle.plain_table.proofs.plain.PlainTableLockTable.told.Goals as goal
+
+pub invariant_of-self : goal.invariant_of-self
+invariant_of-self c = record {
+  well = subst (λ l. are_well_formed l ≡ true) (sym c.tell.ensures) (well-told c.args.self.now.rows.present c.args.job c.args.self.now.well);
+}

@@ -1,0 +1,108 @@
+//! The plain table: one row of requests, and each answer worked out from it.
+ghost use Rattle.std.specs.Prelude.{◌≡◌, IsTrue};
+ghost use Rattle.lock_queue.specs.WellFormed.{are_well_formed};
+
+use crate::jobs::{does_wait_for, is_waiting, pending_of};
+use crate::rows::Rows;
+use crate::standing::status_at;
+use crate::waking::{Marks, fill_woken, mark};
+use lock_queue::steps::is_granted;
+use lock_queue::{Key, LockCall, LockReply, LockTable, Request, RequestId, Status, Woken};
+use std::alloc::{AllocError, Global};
+
+/// A table that keeps its requests in one row, in order of arrival, and works owners and waiters out
+/// from it each time.
+#[derive(Drop)]
+pub struct PlainTable {
+    rows: Rows,
+    marks: Marks,
+    ghost well: { IsTrue (are_well_formed rows.present) },
+}
+
+impl LockTable for PlainTable {
+    ghost requests = { λ t. t.rows.present };
+
+    ghost few = { λ t. t.rows.few };
+
+    ghost well = { λ t. t.well };
+
+    fn new(alloc: Global) -> Result<Self, AllocError> {
+        Ok(PlainTable {
+            rows: Rows::new(alloc)?,
+            marks: Marks::new(),
+        })
+    }
+
+    fn call(&mut self, job: u8, call: &LockCall) -> LockReply {
+        self.rows.call(job, call)
+    }
+
+    fn call_waking(&mut self, job: u8, call: &LockCall, woken: &mut Woken) -> LockReply {
+        woken.clear();
+        if let LockCall::Enqueue { .. } = call {
+            return self.rows.call(job, call);
+        }
+        mark(&mut self.marks, self.rows.as_slice(), job, call);
+        let reply = self.rows.call(job, call);
+        if let LockReply::Done = reply {
+            fill_woken(woken, self.marks.as_slice(), self.rows.as_slice());
+        }
+        reply
+    }
+
+    fn release(&mut self, job: u8) {
+        self.rows.release(job);
+    }
+
+    fn release_waking(&mut self, job: u8, woken: &mut Woken) {
+        mark(
+            &mut self.marks,
+            self.rows.as_slice(),
+            job,
+            &LockCall::DequeueAll,
+        );
+        self.rows.release(job);
+        fill_woken(woken, self.marks.as_slice(), self.rows.as_slice());
+    }
+
+    fn withdraw(&mut self, job: u8) {
+        self.rows.withdraw(job);
+    }
+
+    fn waiting(&self, job: u8) -> bool {
+        is_waiting(self.rows.as_slice(), job)
+    }
+
+    fn pending(&self, job: u8) -> Option<RequestId> {
+        pending_of(self.rows.as_slice(), job)
+    }
+
+    fn told(&mut self, job: u8) {
+        self.rows.tell(job);
+    }
+
+    fn status(&self, key: &Key, job: u8) -> Status {
+        status_at(self.rows.as_slice(), key, job)
+    }
+
+    fn len(&self) -> usize {
+        self.rows.as_slice().len()
+    }
+
+    fn request(&self, i: usize) -> &Request {
+        &self.rows.as_slice()[i]
+    }
+
+    fn granted(&self, i: usize) -> bool {
+        let all = self.rows.as_slice();
+        is_granted(&all[..i], &all[i])
+    }
+
+    fn waits_for(&self, job: u8, other: u8) -> bool {
+        does_wait_for(self.rows.as_slice(), job, other)
+    }
+
+    fn clear(&mut self) {
+        self.rows.clear();
+    }
+}

@@ -1,0 +1,194 @@
+//! The requests in one row, and another row in which a change is made and judged.
+ghost use Rattle.std.specs.Prelude.{◌≡◌, ◌≤◌, ◌<◌, [], length, nat_le, IfOk, IsTrue, None};
+ghost use Rattle.std.specs.List.{list_all};
+ghost use Rattle.word36.specs.declared.sizes.TheConstants.{JOBS, REQUESTS};
+ghost use Rattle.lock_queue.specs.Calls.{outcome_of};
+ghost use Rattle.lock_queue.specs.Changes.{modify};
+ghost use Rattle.lock_queue.specs.Dequeues.{dequeue_named, dequeue_all, dequeue_id};
+ghost use Rattle.lock_queue.specs.Enqueues.{arrival, enqueue, enqueue_fault};
+ghost use Rattle.lock_queue.specs.Jobs.{released, withdrawn, told_of};
+ghost use Rattle.lock_queue.specs.Outcomes.{first_refusal};
+ghost use Rattle.lock_queue.specs.WellFormed.{are_well_formed, names_locks, shares_no_pool, shares_no_pools};
+
+use crate::changes::{is_some_lost, refusal_of_modify, write_changed};
+use crate::dequeues::{
+    has_request, has_request_id, refusal_of_dequeue, remove_id, remove_job, remove_named,
+};
+use crate::enqueues::refusal_of_enqueue;
+use crate::jobs::remove_blocked;
+use crate::row::Row;
+use lock_queue::steps::are_fitting;
+use lock_queue::{Asking, EnqueueKind, LockCall, LockReply, Refusal, Request, RequestId, Wants};
+use std::alloc::{AllocError, Global};
+use std::mem;
+
+/// The requests that are present, in order of arrival, and a second row for changes.
+#[derive(Drop)]
+pub struct Rows {
+    present: Row,
+    changed: Row,
+    ghost few: { length present ≤ REQUESTS },
+}
+
+impl Rows {
+    /// Rows without a request.
+    pub fn new(alloc: Global) -> Result<Self, AllocError>
+        ensures { IfOk result (λ rows. rows.present ≡ []) }
+    {
+        Ok(Rows {
+            present: Row::new(alloc)?,
+            changed: Row::new(alloc)?,
+        })
+    }
+
+    /// The requests.
+    pub fn as_slice(&self) -> &[Request]
+        ensures value { result.now ≡ self.now.present }
+        ensures few { length result.now ≤ REQUESTS }
+    {
+        self.present.as_slice()
+    }
+
+    /// Takes in a request that is not refused.
+    #[tactic(auto, using(lock_queue::proofs::Granted::arrival_granted, lock_queue::proofs::Granted::arrival_waiting))]
+    fn arrive(&mut self, job: u8, asking: &Asking, wants: &Wants) -> LockReply
+        requires room { length self.old.present < REQUESTS }
+        requires job { (1 ≤ job) × (job ≤ JOBS) }
+        requires some { IsTrue (nat_le 1 (length wants.now.items)) }
+        requires unshared { IsTrue (list_all shares_no_pool wants.now.items) }
+        requires passed { first_refusal (enqueue_fault self.old.present job) [] wants.now.items ≡ None }
+        ensures requests { self.new.present ≡
+            (arrival self.old.present job asking.now wants.now).requests }
+        ensures reply { result ≡ (arrival self.old.present job asking.now wants.now).reply }
+        ensures well { IsTrue (are_well_formed self.old.present) → IsTrue (are_well_formed self.new.present) }
+    {
+        if are_fitting(self.present.as_slice(), wants.as_slice()) {
+            let told = matches!(asking.kind, EnqueueKind::Interrupt);
+            self.present.push(job, asking, told, wants);
+            return LockReply::Granted;
+        }
+        match asking.kind {
+            EnqueueKind::Blocking => {
+                self.present.push(job, asking, false, wants);
+                LockReply::Queued
+            }
+            EnqueueKind::AtOnce => LockReply::Refused(Refusal::NotGranted),
+            EnqueueKind::Interrupt => {
+                self.present.push(job, asking, false, wants);
+                LockReply::Refused(Refusal::NotGranted)
+            }
+        }
+    }
+
+    fn enqueue(&mut self, job: u8, asking: &Asking, wants: &Wants) -> LockReply
+        requires job { (1 ≤ job) × (job ≤ JOBS) }
+        requires some { IsTrue (nat_le 1 (length wants.now.items)) }
+        requires unshared { IsTrue (list_all shares_no_pool wants.now.items) }
+        ensures requests { self.new.present ≡
+            (enqueue REQUESTS self.old.present job asking.now wants.now).requests }
+        ensures reply { result ≡ (enqueue REQUESTS self.old.present job asking.now wants.now).reply }
+        ensures well { IsTrue (are_well_formed self.old.present) → IsTrue (are_well_formed self.new.present) }
+    {
+        match refusal_of_enqueue(self.present.as_slice(), job, asking, wants.as_slice()) {
+            Some(refusal) => LockReply::Refused(refusal),
+            None => self.arrive(job, asking, wants),
+        }
+    }
+
+    fn modify(&mut self, job: u8, changes: &Wants) -> LockReply
+        ensures requests { self.new.present ≡
+            (modify self.old.present job changes.now.items).requests }
+        ensures reply { result ≡ (modify self.old.present job changes.now.items).reply }
+    {
+        let changes = changes.as_slice();
+        if let Some(refusal) = refusal_of_modify(self.present.as_slice(), job, changes) {
+            return LockReply::Refused(refusal);
+        }
+        write_changed(&mut self.changed, self.present.as_slice(), job, changes);
+        if is_some_lost(self.present.as_slice(), self.changed.as_slice()) {
+            return LockReply::Refused(Refusal::WouldLose);
+        }
+        mem::swap(&mut self.present, &mut self.changed);
+        LockReply::Done
+    }
+
+    fn dequeue_named(&mut self, job: u8, named: &Wants) -> LockReply
+        ensures requests { self.new.present ≡
+            (dequeue_named self.old.present job named.now.items).requests }
+        ensures reply { result ≡ (dequeue_named self.old.present job named.now.items).reply }
+    {
+        if let Some(refusal) = refusal_of_dequeue(self.present.as_slice(), job, named.as_slice()) {
+            return LockReply::Refused(refusal);
+        }
+        remove_named(&mut self.present, job, named.as_slice());
+        LockReply::Done
+    }
+
+    fn dequeue_all(&mut self, job: u8) -> LockReply
+        ensures requests { self.new.present ≡ (dequeue_all self.old.present job).requests }
+        ensures reply { result ≡ (dequeue_all self.old.present job).reply }
+    {
+        if !has_request(self.present.as_slice(), job) {
+            return LockReply::Refused(Refusal::NotPresent);
+        }
+        remove_job(&mut self.present, job);
+        LockReply::Done
+    }
+
+    fn dequeue_id(&mut self, job: u8, id: RequestId) -> LockReply
+        ensures requests { self.new.present ≡ (dequeue_id self.old.present job id).requests }
+        ensures reply { result ≡ (dequeue_id self.old.present job id).reply }
+    {
+        if !has_request_id(self.present.as_slice(), job, id) {
+            return LockReply::Refused(Refusal::NotPresent);
+        }
+        remove_id(&mut self.present, job, id);
+        LockReply::Done
+    }
+
+    /// Makes a job's call.
+    pub fn call(&mut self, job: u8, call: &LockCall) -> LockReply
+        requires job { (1 ≤ job) × (job ≤ JOBS) }
+        requires named { IsTrue (names_locks call.now) }
+        requires unshared { IsTrue (shares_no_pools call.now) }
+        ensures requests { self.new.present ≡ (outcome_of self.old.present job call.now).requests }
+        ensures reply { result ≡ (outcome_of self.old.present job call.now).reply }
+        ensures well { IsTrue (are_well_formed self.old.present) → IsTrue (are_well_formed self.new.present) }
+    {
+        match call {
+            LockCall::Enqueue { asking, wants } => self.enqueue(job, asking, wants),
+            LockCall::Modify(changes) => self.modify(job, changes),
+            LockCall::DequeueNamed(named) => self.dequeue_named(job, named),
+            LockCall::DequeueAll => self.dequeue_all(job),
+            LockCall::DequeueId(id) => self.dequeue_id(job, *id),
+        }
+    }
+
+    /// Takes out all requests of a job.
+    pub fn release(&mut self, job: u8)
+        ensures { self.new.present ≡ released self.old.present job }
+    {
+        remove_job(&mut self.present, job);
+    }
+
+    /// Takes out the requests by which a job waits.
+    pub fn withdraw(&mut self, job: u8)
+        ensures { self.new.present ≡ withdrawn self.old.present job }
+    {
+        remove_blocked(&mut self.present, job);
+    }
+
+    /// Marks the pending request of a job as told.
+    pub fn tell(&mut self, job: u8)
+        ensures { self.new.present ≡ told_of self.old.present job }
+    {
+        self.present.tell(job);
+    }
+
+    /// Takes out all requests.
+    pub fn clear(&mut self)
+        ensures { self.new.present ≡ [] }
+    {
+        self.present.clear();
+    }
+}

@@ -1,0 +1,72 @@
+//! Which requests a change of the list grants: those that wait are marked before it, and looked at after it.
+ghost use Rattle.std.specs.Prelude.{◌≡◌, ◌≤◌, ◌==◌, ◌&&◌, [], not, length, is_some};
+ghost use Rattle.std.specs.List.{list_any};
+ghost use Rattle.word36.specs.declared.sizes.TheConstants.{REQUESTS};
+ghost use Rattle.lock_queue.specs.Grants.{left_of};
+ghost use Rattle.lock_queue.specs.Queue.{names};
+ghost use Rattle.plain_table.specs.GrantSteps.{awaits_grant, marks_behind, raised_behind};
+
+use arrayvec::ArrayVec;
+use lock_queue::steps::{grant_of, is_granted, is_told_of, names_key};
+use lock_queue::{LockCall, Request, Want, Woken};
+use word36::REQUESTS;
+
+/// For each request that stays, whether its job awaits its grant.
+pub type Marks = ArrayVec<bool, REQUESTS>;
+
+/// Whether a request keeps a want where the job gives up the named keys.
+fn keeps_want(r: &Request, job: u8, named: &[Want]) -> bool
+    ensures { result ≡ list_any (λ w. not (r.now.job == job && names named.now w.key))
+        r.now.wants.items }
+{
+    let is_own = r.job == job;
+    let wants = r.wants.as_slice();
+    wants.iter().any(|w| !(is_own && names_key(named, &w.key)))
+}
+
+/// Whether a request stays where a job's call is made.
+fn does_stay(r: &Request, job: u8, call: &LockCall) -> bool
+    ensures { result ≡ is_some (left_of job call.now r.now) }
+{
+    match call {
+        LockCall::Enqueue { .. } | LockCall::Modify(_) => true,
+        LockCall::DequeueNamed(named) => keeps_want(r, job, named.as_slice()),
+        LockCall::DequeueAll => r.job != job,
+        LockCall::DequeueId(id) => !(r.job == job && r.id == *id),
+    }
+}
+
+fn does_await_grant(earlier: &[Request], r: &Request) -> bool
+    ensures { result ≡ awaits_grant earlier.now r.now }
+{
+    is_told_of(r.kind) && !is_granted(earlier, r)
+}
+
+/// Marks, of the requests that stay where a job's call is made, those whose jobs await their grants.
+pub fn mark(marks: &mut Marks, requests: &[Request], job: u8, call: &LockCall)
+    requires { length requests.now ≤ REQUESTS }
+    ensures { marks.new.items ≡ marks_behind (left_of job call.now) [] requests.now }
+{
+    marks.clear();
+    for (i, r) in requests.iter().enumerate() {
+        if does_stay(r, job, call) {
+            marks.push(does_await_grant(&requests[..i], r));
+        }
+    }
+}
+
+/// Fills in the grants of the marked requests that are granted.
+pub fn fill_woken(woken: &mut Woken, marks: &[bool], requests: &[Request])
+    requires marks { length marks.now ≡ length requests.now }
+    requires few { length requests.now ≤ REQUESTS }
+    ensures { woken.new.items ≡ raised_behind [] marks.now requests.now }
+{
+    woken.clear();
+    for i in 0..requests.len() {
+        let r = &requests[i];
+        let is_marked = marks[i];
+        if is_marked && is_granted(&requests[..i], r) {
+            woken.push(grant_of(r));
+        }
+    }
+}
