@@ -1,8 +1,7 @@
 -- What a call leaves of each request, and that a request which is asked for grants no other.
-use Rattle.std.proofs.Common.{◌≡◌, ◌∙◌, sym, ap, append-nil, ℕ, suc, Bool, true, false, not, ◌&&◌, ◌||◌, ◌==◌, cond, if◌then◌else◌, List, [], ◌∷◌, ◌++◌, length, map, filter, filter_map, Option, Some, None, is_some, refl, arith}
-use Rattle.std.specs.List.{list_any, cons_option}
+use Rattle.std.proofs.Common.{◌≡◌, ◌∙◌, sym, ap, append-nil, ℕ, Bool, true, false, not, ◌&&◌, ◌==◌, cond, if◌then◌else◌, List, [], ◌∷◌, ◌++◌, map, filter, filter_map, Option, Some, None, refl}
+use Rattle.std.specs.List.{cons_option}
 use Rattle.std.proofs.lemmas.Bool.{and_left, and_right}
-use Rattle.std.proofs.lemmas.Bool.Decides.{nat_tests}
 use Rattle.arrayvec.specs.ArrayVec.{ArrayVec}
 use Rattle.word36.specs.declared.sizes.TheConstants.{REQUESTS}
 use Rattle.lock_queue.specs.declared.call.Asking.{Asking}
@@ -19,11 +18,11 @@ use Rattle.lock_queue.specs.declared.want.Want.{Want}
 use Rattle.lock_queue.specs.Calls.{outcome_of}
 use Rattle.lock_queue.specs.Changes.{changed, with_changes}
 use Rattle.lock_queue.specs.Dequeues.{has_wants, without_keys, without_keys_of, without_named, is_of_job, has_id}
-use Rattle.lock_queue.specs.Grants.{staying_if, left_of, is_told_of, grant_of, is_woken, woken, unless_refused_grants, woken_by, woken_by_release}
+use Rattle.lock_queue.specs.Grants.{staying_if, left_of, is_told_of, grant_of, is_woken, unless_refused_grants, woken_by}
 use Rattle.lock_queue.specs.Enqueues.{arrival, not_granted, enqueue_refusal}
 use Rattle.lock_queue.specs.Jobs.{released}
 use Rattle.lock_queue.specs.Outcomes.{Outcome, outcome, unless_refused}
-use Rattle.lock_queue.specs.Queue.{granted_behind, is_granted, chosen_behind, names}
+use Rattle.lock_queue.specs.Queue.{granted_behind, chosen_behind}
 
 -- ---- one request
 

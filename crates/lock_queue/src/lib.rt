@@ -1,4 +1,4 @@
-//! The lock queue: keys, wants, requests in order of arrival, and the calls on them.
+//! The lock queue: keys, wants, requests in order of arrival, the calls on them, and what a lock table does.
 #![tactic(auto)]
 
 mod among_wants;
