@@ -1,11 +1,11 @@
 -- What a name means that is found by its symbol. That no operation's name is that of a form is computed once, over all of them.
 use Rattle.std.proofs.Common.{◌≡◌, ℕ, List, [], ◌∷◌, length, Option, Some, None, Bool, true, false, refl, sym, ap, ◌∙◌}
-use Rattle.std.specs.Prelude.{nat_le, is_none, IfSome, if◌then◌else◌}
+use Rattle.std.specs.Prelude.{is_none, IfSome, if◌then◌else◌}
 use Rattle.std.specs.List.{list_all}
 use Rattle.std.specs.Option.{option_map}
 use Rattle.std.specs.Str.{bytes_eq}
 use Rattle.std.proofs.lemmas.Bool.{and_parts, false≢true, le-leb}
-use Rattle.ka_isa.specs.Keys.{has_code, is_plain}
+use Rattle.ka_isa.specs.Keys.{is_plain}
 use Rattle.ka_isa.specs.Operations.{Name, Operation, operations, code_in, named_of, operation_meaning}
 use Rattle.ka_isa.specs.declared.calls.Named.{Named}
 use Rattle.ka_isa.proofs.MeaningLemmas.{named_of_operation}

@@ -1,5 +1,5 @@
 -- Names (MACRO-10 Assembler Manual): six characters count, in upper case.
-use Rattle.std.specs.Prelude.{ℕ, ◌+◌, ◌-◌, ◌*◌, ◌^◌, ◌%◌, Bool, false, List, [], ◌∷◌, map, take, slice_index, ◌==◌, ◌&&◌, not}
+use Rattle.std.specs.Prelude.{ℕ, Bool, false, List, [], ◌∷◌, map, take, ◌==◌, ◌&&◌, not}
 pub use Rattle.ka_isa.specs.Keys.{code_at, sixbit_of}
 use Rattle.mac_text.specs.Characters.{upper_case, is_digit}
 
