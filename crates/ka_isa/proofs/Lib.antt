@@ -3,3 +3,4 @@ pub mod SearchLemmas
 pub mod MeaningLemmas
 pub mod DistinctLemmas
 pub mod FamilyLemmas
+pub mod KeyLemmas

@@ -1,5 +1,5 @@
 -- A search by key in the table of names finds each operation by its name, and nothing by another text.
-use Rattle.std.proofs.Common.{◌≡◌, ◌≢◌, ℕ, zero, suc, ◌<◌, ◌≤◌, MatchResult, List, [], ◌∷◌, length, map, get_or, Bor, true, false, Option, Some, None, Err, refl, sym, ap, ◌∙◌, inl, inr, nat_cmp, arith}
+use Rattle.std.proofs.Common.{◌≡◌, ◌≢◌, ◌==◌, ℕ, zero, suc, ◌<◌, ◌≤◌, MatchResult, List, [], ◌∷◌, length, map, get_or, Bor, true, false, Option, Some, None, Err, refl, sym, ap, ◌∙◌, inl, inr, nat_cmp, arith}
 use Rattle.std.specs.Str.{bytes_eq}
 use Rattle.std.specs.List.{list_any}
 use Rattle.std.specs.List.Sorted.{IsBinarySearchResult}
@@ -8,8 +8,9 @@ use Rattle.std.proofs.lemmas.Bool.{and_parts, eqb-true, ltb-true, false≢true, 
 use Rattle.std.proofs.lemmas.Slice.Eq.{bytes_eq-Decides}
 use Rattle.std.proofs.lemmas.List.{get_or-map, length-map}
 use Rattle.std.proofs.lemmas.List.Sorted.{searched}
+use Rattle.ka_isa.specs.Keys.{sixbit_of}
 use Rattle.ka_isa.specs.Operations.{Name, Operation, operations, code_in}
-use Rattle.ka_isa.specs.Tables.{is_code, have_codes, key_of, have_keys, are_rising, have_names, are_by_name}
+use Rattle.ka_isa.specs.Tables.{is_code, have_codes, have_keys, are_rising, have_names, are_by_name}
 
 pub same : (xs ys : List ℕ) → bytes_eq xs ys ≡ true → xs ≡ ys
 same xs ys h = (bytes_eq-Decides xs ys).0 h
@@ -19,19 +20,19 @@ differ xs ys h e = both_ways _ h ((bytes_eq-Decides xs ys).1 e)
 
 -- ---- a name that stands in the table
 
-code_at : (os : List Operation) (names : List Name) (codes : List ℕ) (place : ℕ) → have_codes os names codes ≡ true → place < length names → (place < length codes) × (Some (get_or codes place 0) ≡ code_in os (get_or names place []))
-code_at os [] codes place h p = absurd (omega arith)
-code_at os (n ∷ ns) [] place h p = absurd (false≢true h)
-code_at os (n ∷ ns) (c ∷ cs) zero h p =
+pub code_beside : (os : List Operation) (names : List Name) (codes : List ℕ) (place : ℕ) → have_codes os names codes ≡ true → place < length names → (place < length codes) × (Some (get_or codes place 0) ≡ code_in os (get_or names place []))
+code_beside os [] codes place h p = absurd (omega arith)
+code_beside os (n ∷ ns) [] place h p = absurd (false≢true h)
+code_beside os (n ∷ ns) (c ∷ cs) zero h p =
     let parts = and_parts (is_code (code_in os n) c) (have_codes os ns cs) h in
     (omega arith, known (code_in os n) c parts.0)
   where
     known : (o : Option ℕ) (code : ℕ) → is_code o code ≡ true → Some code ≡ o
     known None code h = absurd (false≢true h)
     known (Some k) code h = ap Some (sym (eqb-true k code h))
-code_at os (n ∷ ns) (c ∷ cs) (suc place) h p =
+code_beside os (n ∷ ns) (c ∷ cs) (suc place) h p =
     let parts = and_parts (is_code (code_in os n) c) (have_codes os ns cs) h in
-    let rest = code_at os ns cs place parts.1 (omega arith) in
+    let rest = code_beside os ns cs place parts.1 (omega arith) in
     (omega (arith, rest.0), rest.1)
 
 abbrev names_of : List (Bor (List ℕ)) → List Name
@@ -41,21 +42,21 @@ pub code_found : (table : List (Bor (List ℕ))) (keys codes name : List ℕ) (p
 unfolding are_by_name
 code_found table keys codes name place d h p here =
     let parts = and_parts _ _ h in
-    let right = code_at operations (names_of table) codes place (and_parts _ _ parts.0).0 (omega (arith, length-map table (λ x. x.now))) in
+    let right = code_beside operations (names_of table) codes place (and_parts _ _ parts.0).0 (omega (arith, length-map table (λ x. x.now))) in
     let read = get_or-map (λ x. x.now) table place d [] p ∙ here in
     (right.0, right.1 ∙ ap (code_in operations) read)
 
 -- ---- keys
 
-key_there : (names : List Name) (keys : List ℕ) (k : ℕ) → have_keys names keys ≡ true → k < length names → (k < length keys) × (get_or keys k 0 ≡ key_of (get_or names k []))
+pub key_there : (names : List Name) (keys : List ℕ) (k : ℕ) → have_keys names keys ≡ true → k < length names → (k < length keys) × (get_or keys k 0 ≡ sixbit_of (get_or names k []))
 key_there [] keys k h p = absurd (omega arith)
 key_there (n ∷ ns) [] k h p = absurd (false≢true h)
-key_there (n ∷ ns) (x ∷ xs) zero h p = (omega arith, sym (eqb-true (key_of n) x (and_parts _ _ h).0))
+key_there (n ∷ ns) (x ∷ xs) zero h p = (omega arith, sym (eqb-true (sixbit_of n) x (and_parts _ _ h).0))
 key_there (n ∷ ns) (x ∷ xs) (suc k) h p =
     let rest = key_there ns xs k (and_parts _ _ h).1 (omega arith) in
     (omega (arith, rest.0), rest.1)
 
-as_many : (names : List Name) (keys : List ℕ) → have_keys names keys ≡ true → length names ≡ length keys
+pub as_many : (names : List Name) (keys : List ℕ) → have_keys names keys ≡ true → length names ≡ length keys
 as_many [] [] h = refl
 as_many [] (x ∷ xs) h = absurd (false≢true h)
 as_many (n ∷ ns) [] h = absurd (false≢true h)
@@ -101,10 +102,10 @@ keys_of table keys codes h = and_parts _ _ (and_parts _ _ (and_parts _ _ h).0).1
 pub as_long : (table : List (Bor (List ℕ))) (keys codes : List ℕ) → are_by_name (names_of table) keys codes ≡ true → length table ≡ length keys
 as_long table keys codes h = sym (length-map table (λ x. x.now)) ∙ as_many (names_of table) keys (keys_of table keys codes h).0
 
-key_of_name : (table : List (Bor (List ℕ))) (keys codes : List ℕ) (k : ℕ) (d : Bor (List ℕ)) → are_by_name (names_of table) keys codes ≡ true → k < length table → get_or keys k 0 ≡ key_of (get_or table k d).now
+key_of_name : (table : List (Bor (List ℕ))) (keys codes : List ℕ) (k : ℕ) (d : Bor (List ℕ)) → are_by_name (names_of table) keys codes ≡ true → k < length table → get_or keys k 0 ≡ sixbit_of (get_or table k d).now
 key_of_name table keys codes k d h p =
     (key_there (names_of table) keys k (keys_of table keys codes h).0 (omega (arith, length-map table (λ x. x.now)))).1
-    ∙ ap key_of (get_or-map (λ x. x.now) table k d [] p)
+    ∙ ap sixbit_of (get_or-map (λ x. x.now) table k d [] p)
 
 pub key_found : (table : List (Bor (List ℕ))) (keys codes : List ℕ) (x : ℕ) (r : Result ℕ ℕ) → are_by_name (names_of table) keys codes ≡ true → IsBinarySearchResult (λ y. nat_cmp y x) keys r → MatchResult r (λ i. (i < length keys) × (get_or keys i 0 ≡ x)) (λ i. (i ≤ length keys) × ((k : ℕ) → k < i → get_or keys k 0 < x) × ((k : ℕ) → i ≤ k → k < length keys → x < get_or keys k 0))
 key_found table keys codes x r h s = searched keys x r s (not_falling keys (keys_of table keys codes h).1)
@@ -129,10 +130,10 @@ unfolding are_by_name
 other_name table keys codes name h other = no_code operations (names_of table) name (and_parts _ _ h).1 (none_there table name other)
 
 -- the name beside the key is another
-pub other_beside_key : (table : List (Bor (List ℕ))) (keys codes name : List ℕ) (place : ℕ) (d : Bor (List ℕ)) → are_by_name (names_of table) keys codes ≡ true → place < length keys → get_or keys place 0 ≡ key_of name → (get_or table place d).now ≢ name → None ≡ code_in operations name
+pub other_beside_key : (table : List (Bor (List ℕ))) (keys codes name : List ℕ) (place : ℕ) (d : Bor (List ℕ)) → are_by_name (names_of table) keys codes ≡ true → place < length keys → get_or keys place 0 ≡ sixbit_of name → (get_or table place d).now ≢ name → None ≡ code_in operations name
 other_beside_key table keys codes name place d h p key other = other_name table keys codes name h (λ k e within is.
     let long = as_long table keys codes h in
-    let its_key = key_of_name table keys codes k e h within ∙ ap key_of is in
+    let its_key = key_of_name table keys codes k e h within ∙ ap sixbit_of is in
     let here : k ≡ place = one_place keys k place (keys_of table keys codes h).1 (omega (arith, long)) p (its_key ∙ sym key) in
     other (ap (λ n. (get_or table n d).now) (sym here) ∙ any_default table k d e within ∙ is))
   where
@@ -142,13 +143,21 @@ other_beside_key table keys codes name place d h p key other = other_name table 
     any_default (x ∷ xs) (suc k) d e p = any_default xs k d e (omega arith)
 
 -- the key is that of no name
-pub no_code_found : (table : List (Bor (List ℕ))) (keys codes name : List ℕ) (place : ℕ) → are_by_name (names_of table) keys codes ≡ true → IsBinarySearchResult (λ y. nat_cmp y (key_of name)) keys (Err place) → None ≡ code_in operations name
-no_code_found table keys codes name place h found =
-    let parted = key_found table keys codes (key_of name) (Err place) h found in
-    other_name table keys codes name h (λ k d within is.
-    let long = as_long table keys codes h in
-    let its_key = key_of_name table keys codes k d h within ∙ ap key_of is in
-    elim (cases_lt k place) [
-      | inl lt ↦ (let less = parted.1 k lt in omega (arith, less, its_key))
-      | inr le ↦ (let more = parted.2 k le (omega (arith, long)) in omega (arith, more, its_key))
-    ])
+absent : (names : List Name) (keys : List ℕ) (name : Name) → have_keys names keys ≡ true → ((k : ℕ) → k < length keys → get_or keys k 0 ≢ sixbit_of name) → list_any (bytes_eq name) names ≡ false
+absent [] keys name h other = refl
+absent (n ∷ ns) [] name h other = absurd (false≢true h)
+absent (n ∷ ns) (x ∷ xs) name h other =
+    let parts = and_parts (sixbit_of n == x) (have_keys ns xs) h in
+    let first = false_from_ne_true (bytes_eq name n) (λ e. other 0 (omega arith) (sym (eqb-true (sixbit_of n) x parts.0) ∙ ap sixbit_of (sym (same name n e)))) in
+    rw first (absent ns xs name parts.1 (λ k p. other (suc k) (omega arith)))
+
+pub no_code_found : (names : List Name) (keys codes : List ℕ) (key place : ℕ) (name : Name) → are_by_name names keys codes ≡ true → IsBinarySearchResult (λ y. nat_cmp y key) keys (Err place) → sixbit_of name ≡ key → None ≡ code_in operations name
+unfolding are_by_name
+no_code_found names keys codes key place name h found e =
+    let parts = and_parts _ _ h in
+    let tables = and_parts _ _ (and_parts _ _ parts.0).1 in
+    let parted = searched keys key (Err place) found (not_falling keys tables.1) in
+    no_code operations names name parts.1 (absent names keys name tables.0 (λ k within is. elim (cases_lt k place) [
+      | inl lt ↦ (let less = parted.1 k lt in omega (arith, less, is))
+      | inr le ↦ (let more = parted.2 k le within in omega (arith, more, is))
+    ]))

@@ -1,8 +1,9 @@
 -- Tests that the program's tables hold the operations and calls of `Operations`: each is computed once, over the whole table.
-use Rattle.std.specs.Prelude.{ℕ, ◌+◌, ◌*◌, ◌^◌, nat_lt, slice_index, Bool, true, false, ◌&&◌, ◌==◌, nat_le, List, [], ◌∷◌, length, map, Option, Some, None}
+use Rattle.std.specs.Prelude.{ℕ, ◌+◌, nat_lt, Bool, true, false, ◌&&◌, ◌==◌, nat_le, List, [], ◌∷◌, length, map, Option, Some, None}
 use Rattle.std.specs.List.{list_all, list_any}
 use Rattle.std.specs.Borrow.{Bor}
 use Rattle.std.specs.Str.{bytes_eq}
+use Rattle.ka_isa.specs.Keys.{sixbit_of}
 use Rattle.ka_isa.specs.Operations.{Name, Operation, NamedCall, operations, name_in, code_in}
 use Rattle.ka_isa.specs.declared.calls.Call.{Call}
 
@@ -37,16 +38,12 @@ have_codes os [] (code ∷ codes) = false
 have_codes os (name ∷ names) [] = false
 have_codes os (name ∷ names) (code ∷ codes) = is_code (code_in os name) code && have_codes os names codes
 
--- the first six characters of a name as one number, eight bits each, the first highest
-abbrev pub key_of : Name → ℕ
-key_of name = slice_index name 0 * 2 ^ 40 + slice_index name 1 * 2 ^ 32 + slice_index name 2 * 2 ^ 24 + slice_index name 3 * 2 ^ 16 + slice_index name 4 * 2 ^ 8 + slice_index name 5
-
 -- each name has the key beside it, and there are as many of both
 abbrev pub have_keys : List Name → List ℕ → Bool
 have_keys [] [] = true
 have_keys [] (key ∷ keys) = false
 have_keys (name ∷ names) [] = false
-have_keys (name ∷ names) (key ∷ keys) = key_of name == key && have_keys names keys
+have_keys (name ∷ names) (key ∷ keys) = sixbit_of name == key && have_keys names keys
 
 -- each key is above the one that stands before it
 abbrev pub are_rising : List ℕ → Bool

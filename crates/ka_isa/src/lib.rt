@@ -13,7 +13,7 @@ mod text;
 
 pub use calls::Named;
 pub use mnemonics::mnemonic;
-pub use names::{name_count, name_round_trip, named};
+pub use names::{name_count, name_round_trip, named, operation_of_key};
 pub use text::text_of;
 use word36::Word;
 

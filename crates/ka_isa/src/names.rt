@@ -1,9 +1,10 @@
 //! What a name at the head of a statement means: an operation, or a call by its name.
 
-ghost use Rattle.std.specs.Prelude.{◌≡◌, ◌≢◌, ◌<◌, IsTrue, AllPairs, map, length, slice_index};
+ghost use Rattle.std.specs.Prelude.{◌≡◌, ◌≢◌, ◌<◌, ℕ, List, true, IsTrue, AllPairs, map, length};
 ghost use Rattle.std.specs.Option.{option_map};
 ghost use Rattle.ka_isa.specs.Operations.{named_of, name_of, operations, operation_meaning, meanings, code_in};
-ghost use Rattle.ka_isa.specs.Tables.{key_of, are_by_name};
+ghost use Rattle.ka_isa.specs.Keys.{code_at, sixbit_of, is_plain};
+ghost use Rattle.ka_isa.specs.Tables.{are_by_name};
 
 use crate::calls::{CALLS, Named, call_in, call_meaning};
 use crate::mnemonics::mnemonic;
@@ -42,328 +43,328 @@ static NAMES: [&str; 320] = [
     "TSZE", "TSZN", "TTCALL", "XCT", "XOR", "XORB", "XORI", "XORM",
 ];
 
-/// The key of each name of `NAMES`: its characters as one number of six bytes, the first highest.
+/// The key of each name of `NAMES`: its characters in SIXBIT as one number, the first highest.
 static KEYS: [u64; 320] = [
-    0x414444_000000, // ADD
-    0x414444_420000, // ADDB
-    0x414444_490000, // ADDI
-    0x414444_4d0000, // ADDM
-    0x414e44_000000, // AND
-    0x414e44_420000, // ANDB
-    0x414e44_434100, // ANDCA
-    0x414e44_434142, // ANDCAB
-    0x414e44_434149, // ANDCAI
-    0x414e44_43414d, // ANDCAM
-    0x414e44_434200, // ANDCB
-    0x414e44_434242, // ANDCBB
-    0x414e44_434249, // ANDCBI
-    0x414e44_43424d, // ANDCBM
-    0x414e44_434d00, // ANDCM
-    0x414e44_434d42, // ANDCMB
-    0x414e44_434d49, // ANDCMI
-    0x414e44_434d4d, // ANDCMM
-    0x414e44_490000, // ANDI
-    0x414e44_4d0000, // ANDM
-    0x414f42_4a4e00, // AOBJN
-    0x414f42_4a5000, // AOBJP
-    0x414f4a_000000, // AOJ
-    0x414f4a_410000, // AOJA
-    0x414f4a_450000, // AOJE
-    0x414f4a_470000, // AOJG
-    0x414f4a_474500, // AOJGE
-    0x414f4a_4c0000, // AOJL
-    0x414f4a_4c4500, // AOJLE
-    0x414f4a_4e0000, // AOJN
-    0x414f53_000000, // AOS
-    0x414f53_410000, // AOSA
-    0x414f53_450000, // AOSE
-    0x414f53_470000, // AOSG
-    0x414f53_474500, // AOSGE
-    0x414f53_4c0000, // AOSL
-    0x414f53_4c4500, // AOSLE
-    0x414f53_4e0000, // AOSN
-    0x415348_000000, // ASH
-    0x424c54_000000, // BLT
-    0x434149_000000, // CAI
-    0x434149_410000, // CAIA
-    0x434149_450000, // CAIE
-    0x434149_470000, // CAIG
-    0x434149_474500, // CAIGE
-    0x434149_4c0000, // CAIL
-    0x434149_4c4500, // CAILE
-    0x434149_4e0000, // CAIN
-    0x43414c_4c4900, // CALLI
-    0x43414d_000000, // CAM
-    0x43414d_410000, // CAMA
-    0x43414d_450000, // CAME
-    0x43414d_470000, // CAMG
-    0x43414d_474500, // CAMGE
-    0x43414d_4c0000, // CAML
-    0x43414d_4c4500, // CAMLE
-    0x43414d_4e0000, // CAMN
-    0x445042_000000, // DPB
-    0x455156_000000, // EQV
-    0x455156_420000, // EQVB
-    0x455156_490000, // EQVI
-    0x455156_4d0000, // EQVM
-    0x455843_480000, // EXCH
-    0x484c4c_000000, // HLL
-    0x484c4c_450000, // HLLE
-    0x484c4c_454900, // HLLEI
-    0x484c4c_454d00, // HLLEM
-    0x484c4c_455300, // HLLES
-    0x484c4c_490000, // HLLI
-    0x484c4c_4d0000, // HLLM
-    0x484c4c_4f0000, // HLLO
-    0x484c4c_4f4900, // HLLOI
-    0x484c4c_4f4d00, // HLLOM
-    0x484c4c_4f5300, // HLLOS
-    0x484c4c_530000, // HLLS
-    0x484c4c_5a0000, // HLLZ
-    0x484c4c_5a4900, // HLLZI
-    0x484c4c_5a4d00, // HLLZM
-    0x484c4c_5a5300, // HLLZS
-    0x484c52_000000, // HLR
-    0x484c52_450000, // HLRE
-    0x484c52_454900, // HLREI
-    0x484c52_454d00, // HLREM
-    0x484c52_455300, // HLRES
-    0x484c52_490000, // HLRI
-    0x484c52_4d0000, // HLRM
-    0x484c52_4f0000, // HLRO
-    0x484c52_4f4900, // HLROI
-    0x484c52_4f4d00, // HLROM
-    0x484c52_4f5300, // HLROS
-    0x484c52_530000, // HLRS
-    0x484c52_5a0000, // HLRZ
-    0x484c52_5a4900, // HLRZI
-    0x484c52_5a4d00, // HLRZM
-    0x484c52_5a5300, // HLRZS
-    0x48524c_000000, // HRL
-    0x48524c_450000, // HRLE
-    0x48524c_454900, // HRLEI
-    0x48524c_454d00, // HRLEM
-    0x48524c_455300, // HRLES
-    0x48524c_490000, // HRLI
-    0x48524c_4d0000, // HRLM
-    0x48524c_4f0000, // HRLO
-    0x48524c_4f4900, // HRLOI
-    0x48524c_4f4d00, // HRLOM
-    0x48524c_4f5300, // HRLOS
-    0x48524c_530000, // HRLS
-    0x48524c_5a0000, // HRLZ
-    0x48524c_5a4900, // HRLZI
-    0x48524c_5a4d00, // HRLZM
-    0x48524c_5a5300, // HRLZS
-    0x485252_000000, // HRR
-    0x485252_450000, // HRRE
-    0x485252_454900, // HRREI
-    0x485252_454d00, // HRREM
-    0x485252_455300, // HRRES
-    0x485252_490000, // HRRI
-    0x485252_4d0000, // HRRM
-    0x485252_4f0000, // HRRO
-    0x485252_4f4900, // HRROI
-    0x485252_4f4d00, // HRROM
-    0x485252_4f5300, // HRROS
-    0x485252_530000, // HRRS
-    0x485252_5a0000, // HRRZ
-    0x485252_5a4900, // HRRZI
-    0x485252_5a4d00, // HRRZM
-    0x485252_5a5300, // HRRZS
-    0x494250_000000, // IBP
-    0x494449_560000, // IDIV
-    0x494449_564200, // IDIVB
-    0x494449_564900, // IDIVI
-    0x494449_564d00, // IDIVM
-    0x494450_420000, // IDPB
-    0x494c44_420000, // ILDB
-    0x494d55_4c0000, // IMUL
-    0x494d55_4c4200, // IMULB
-    0x494d55_4c4900, // IMULI
-    0x494d55_4c4d00, // IMULM
-    0x494f52_000000, // IOR
-    0x494f52_420000, // IORB
-    0x494f52_490000, // IORI
-    0x494f52_4d0000, // IORM
-    0x4a4643_4c0000, // JFCL
-    0x4a4646_4f0000, // JFFO
-    0x4a5241_000000, // JRA
-    0x4a5253_540000, // JRST
-    0x4a5341_000000, // JSA
-    0x4a5350_000000, // JSP
-    0x4a5352_000000, // JSR
-    0x4a554d_500000, // JUMP
-    0x4a554d_504100, // JUMPA
-    0x4a554d_504500, // JUMPE
-    0x4a554d_504700, // JUMPG
-    0x4a554d_504745, // JUMPGE
-    0x4a554d_504c00, // JUMPL
-    0x4a554d_504c45, // JUMPLE
-    0x4a554d_504e00, // JUMPN
-    0x4c4442_000000, // LDB
-    0x4c5348_000000, // LSH
-    0x4c5348_430000, // LSHC
-    0x4d4f56_450000, // MOVE
-    0x4d4f56_454900, // MOVEI
-    0x4d4f56_454d00, // MOVEM
-    0x4d4f56_455300, // MOVES
-    0x4d4f56_4d0000, // MOVM
-    0x4d4f56_4d4900, // MOVMI
-    0x4d4f56_4d4d00, // MOVMM
-    0x4d4f56_4d5300, // MOVMS
-    0x4d4f56_4e0000, // MOVN
-    0x4d4f56_4e4900, // MOVNI
-    0x4d4f56_4e4d00, // MOVNM
-    0x4d4f56_4e5300, // MOVNS
-    0x4d4f56_530000, // MOVS
-    0x4d4f56_534900, // MOVSI
-    0x4d4f56_534d00, // MOVSM
-    0x4d4f56_535300, // MOVSS
-    0x4d554c_000000, // MUL
-    0x4d554c_420000, // MULB
-    0x4d554c_490000, // MULI
-    0x4d554c_4d0000, // MULM
-    0x4f5243_410000, // ORCA
-    0x4f5243_414200, // ORCAB
-    0x4f5243_414900, // ORCAI
-    0x4f5243_414d00, // ORCAM
-    0x4f5243_420000, // ORCB
-    0x4f5243_424200, // ORCBB
-    0x4f5243_424900, // ORCBI
-    0x4f5243_424d00, // ORCBM
-    0x4f5243_4d0000, // ORCM
-    0x4f5243_4d4200, // ORCMB
-    0x4f5243_4d4900, // ORCMI
-    0x4f5243_4d4d00, // ORCMM
-    0x504f50_000000, // POP
-    0x504f50_4a0000, // POPJ
-    0x505553_480000, // PUSH
-    0x505553_484a00, // PUSHJ
-    0x524f54_000000, // ROT
-    0x524f54_430000, // ROTC
-    0x534554_410000, // SETA
-    0x534554_414200, // SETAB
-    0x534554_414900, // SETAI
-    0x534554_414d00, // SETAM
-    0x534554_434100, // SETCA
-    0x534554_434142, // SETCAB
-    0x534554_434149, // SETCAI
-    0x534554_43414d, // SETCAM
-    0x534554_434d00, // SETCM
-    0x534554_434d42, // SETCMB
-    0x534554_434d49, // SETCMI
-    0x534554_434d4d, // SETCMM
-    0x534554_4d0000, // SETM
-    0x534554_4d4200, // SETMB
-    0x534554_4d4900, // SETMI
-    0x534554_4d4d00, // SETMM
-    0x534554_4f0000, // SETO
-    0x534554_4f4200, // SETOB
-    0x534554_4f4900, // SETOI
-    0x534554_4f4d00, // SETOM
-    0x534554_5a0000, // SETZ
-    0x534554_5a4200, // SETZB
-    0x534554_5a4900, // SETZI
-    0x534554_5a4d00, // SETZM
-    0x534b49_500000, // SKIP
-    0x534b49_504100, // SKIPA
-    0x534b49_504500, // SKIPE
-    0x534b49_504700, // SKIPG
-    0x534b49_504745, // SKIPGE
-    0x534b49_504c00, // SKIPL
-    0x534b49_504c45, // SKIPLE
-    0x534b49_504e00, // SKIPN
-    0x534f4a_000000, // SOJ
-    0x534f4a_410000, // SOJA
-    0x534f4a_450000, // SOJE
-    0x534f4a_470000, // SOJG
-    0x534f4a_474500, // SOJGE
-    0x534f4a_4c0000, // SOJL
-    0x534f4a_4c4500, // SOJLE
-    0x534f4a_4e0000, // SOJN
-    0x534f53_000000, // SOS
-    0x534f53_410000, // SOSA
-    0x534f53_450000, // SOSE
-    0x534f53_470000, // SOSG
-    0x534f53_474500, // SOSGE
-    0x534f53_4c0000, // SOSL
-    0x534f53_4c4500, // SOSLE
-    0x534f53_4e0000, // SOSN
-    0x535542_000000, // SUB
-    0x535542_420000, // SUBB
-    0x535542_490000, // SUBI
-    0x535542_4d0000, // SUBM
-    0x544443_000000, // TDC
-    0x544443_410000, // TDCA
-    0x544443_450000, // TDCE
-    0x544443_4e0000, // TDCN
-    0x54444e_000000, // TDN
-    0x54444e_410000, // TDNA
-    0x54444e_450000, // TDNE
-    0x54444e_4e0000, // TDNN
-    0x54444f_000000, // TDO
-    0x54444f_410000, // TDOA
-    0x54444f_450000, // TDOE
-    0x54444f_4e0000, // TDON
-    0x54445a_000000, // TDZ
-    0x54445a_410000, // TDZA
-    0x54445a_450000, // TDZE
-    0x54445a_4e0000, // TDZN
-    0x544c43_000000, // TLC
-    0x544c43_410000, // TLCA
-    0x544c43_450000, // TLCE
-    0x544c43_4e0000, // TLCN
-    0x544c4e_000000, // TLN
-    0x544c4e_410000, // TLNA
-    0x544c4e_450000, // TLNE
-    0x544c4e_4e0000, // TLNN
-    0x544c4f_000000, // TLO
-    0x544c4f_410000, // TLOA
-    0x544c4f_450000, // TLOE
-    0x544c4f_4e0000, // TLON
-    0x544c5a_000000, // TLZ
-    0x544c5a_410000, // TLZA
-    0x544c5a_450000, // TLZE
-    0x544c5a_4e0000, // TLZN
-    0x545243_000000, // TRC
-    0x545243_410000, // TRCA
-    0x545243_450000, // TRCE
-    0x545243_4e0000, // TRCN
-    0x54524e_000000, // TRN
-    0x54524e_410000, // TRNA
-    0x54524e_450000, // TRNE
-    0x54524e_4e0000, // TRNN
-    0x54524f_000000, // TRO
-    0x54524f_410000, // TROA
-    0x54524f_450000, // TROE
-    0x54524f_4e0000, // TRON
-    0x54525a_000000, // TRZ
-    0x54525a_410000, // TRZA
-    0x54525a_450000, // TRZE
-    0x54525a_4e0000, // TRZN
-    0x545343_000000, // TSC
-    0x545343_410000, // TSCA
-    0x545343_450000, // TSCE
-    0x545343_4e0000, // TSCN
-    0x54534e_000000, // TSN
-    0x54534e_410000, // TSNA
-    0x54534e_450000, // TSNE
-    0x54534e_4e0000, // TSNN
-    0x54534f_000000, // TSO
-    0x54534f_410000, // TSOA
-    0x54534f_450000, // TSOE
-    0x54534f_4e0000, // TSON
-    0x54535a_000000, // TSZ
-    0x54535a_410000, // TSZA
-    0x54535a_450000, // TSZE
-    0x54535a_4e0000, // TSZN
-    0x545443_414c4c, // TTCALL
-    0x584354_000000, // XCT
-    0x584f52_000000, // XOR
-    0x584f52_420000, // XORB
-    0x584f52_490000, // XORI
-    0x584f52_4d0000, // XORM
+    0o414_444_000_000, // ADD
+    0o414_444_420_000, // ADDB
+    0o414_444_510_000, // ADDI
+    0o414_444_550_000, // ADDM
+    0o415_644_000_000, // AND
+    0o415_644_420_000, // ANDB
+    0o415_644_434_100, // ANDCA
+    0o415_644_434_142, // ANDCAB
+    0o415_644_434_151, // ANDCAI
+    0o415_644_434_155, // ANDCAM
+    0o415_644_434_200, // ANDCB
+    0o415_644_434_242, // ANDCBB
+    0o415_644_434_251, // ANDCBI
+    0o415_644_434_255, // ANDCBM
+    0o415_644_435_500, // ANDCM
+    0o415_644_435_542, // ANDCMB
+    0o415_644_435_551, // ANDCMI
+    0o415_644_435_555, // ANDCMM
+    0o415_644_510_000, // ANDI
+    0o415_644_550_000, // ANDM
+    0o415_742_525_600, // AOBJN
+    0o415_742_526_000, // AOBJP
+    0o415_752_000_000, // AOJ
+    0o415_752_410_000, // AOJA
+    0o415_752_450_000, // AOJE
+    0o415_752_470_000, // AOJG
+    0o415_752_474_500, // AOJGE
+    0o415_752_540_000, // AOJL
+    0o415_752_544_500, // AOJLE
+    0o415_752_560_000, // AOJN
+    0o415_763_000_000, // AOS
+    0o415_763_410_000, // AOSA
+    0o415_763_450_000, // AOSE
+    0o415_763_470_000, // AOSG
+    0o415_763_474_500, // AOSGE
+    0o415_763_540_000, // AOSL
+    0o415_763_544_500, // AOSLE
+    0o415_763_560_000, // AOSN
+    0o416_350_000_000, // ASH
+    0o425_464_000_000, // BLT
+    0o434_151_000_000, // CAI
+    0o434_151_410_000, // CAIA
+    0o434_151_450_000, // CAIE
+    0o434_151_470_000, // CAIG
+    0o434_151_474_500, // CAIGE
+    0o434_151_540_000, // CAIL
+    0o434_151_544_500, // CAILE
+    0o434_151_560_000, // CAIN
+    0o434_154_545_100, // CALLI
+    0o434_155_000_000, // CAM
+    0o434_155_410_000, // CAMA
+    0o434_155_450_000, // CAME
+    0o434_155_470_000, // CAMG
+    0o434_155_474_500, // CAMGE
+    0o434_155_540_000, // CAML
+    0o434_155_544_500, // CAMLE
+    0o434_155_560_000, // CAMN
+    0o446_042_000_000, // DPB
+    0o456_166_000_000, // EQV
+    0o456_166_420_000, // EQVB
+    0o456_166_510_000, // EQVI
+    0o456_166_550_000, // EQVM
+    0o457_043_500_000, // EXCH
+    0o505_454_000_000, // HLL
+    0o505_454_450_000, // HLLE
+    0o505_454_455_100, // HLLEI
+    0o505_454_455_500, // HLLEM
+    0o505_454_456_300, // HLLES
+    0o505_454_510_000, // HLLI
+    0o505_454_550_000, // HLLM
+    0o505_454_570_000, // HLLO
+    0o505_454_575_100, // HLLOI
+    0o505_454_575_500, // HLLOM
+    0o505_454_576_300, // HLLOS
+    0o505_454_630_000, // HLLS
+    0o505_454_720_000, // HLLZ
+    0o505_454_725_100, // HLLZI
+    0o505_454_725_500, // HLLZM
+    0o505_454_726_300, // HLLZS
+    0o505_462_000_000, // HLR
+    0o505_462_450_000, // HLRE
+    0o505_462_455_100, // HLREI
+    0o505_462_455_500, // HLREM
+    0o505_462_456_300, // HLRES
+    0o505_462_510_000, // HLRI
+    0o505_462_550_000, // HLRM
+    0o505_462_570_000, // HLRO
+    0o505_462_575_100, // HLROI
+    0o505_462_575_500, // HLROM
+    0o505_462_576_300, // HLROS
+    0o505_462_630_000, // HLRS
+    0o505_462_720_000, // HLRZ
+    0o505_462_725_100, // HLRZI
+    0o505_462_725_500, // HLRZM
+    0o505_462_726_300, // HLRZS
+    0o506_254_000_000, // HRL
+    0o506_254_450_000, // HRLE
+    0o506_254_455_100, // HRLEI
+    0o506_254_455_500, // HRLEM
+    0o506_254_456_300, // HRLES
+    0o506_254_510_000, // HRLI
+    0o506_254_550_000, // HRLM
+    0o506_254_570_000, // HRLO
+    0o506_254_575_100, // HRLOI
+    0o506_254_575_500, // HRLOM
+    0o506_254_576_300, // HRLOS
+    0o506_254_630_000, // HRLS
+    0o506_254_720_000, // HRLZ
+    0o506_254_725_100, // HRLZI
+    0o506_254_725_500, // HRLZM
+    0o506_254_726_300, // HRLZS
+    0o506_262_000_000, // HRR
+    0o506_262_450_000, // HRRE
+    0o506_262_455_100, // HRREI
+    0o506_262_455_500, // HRREM
+    0o506_262_456_300, // HRRES
+    0o506_262_510_000, // HRRI
+    0o506_262_550_000, // HRRM
+    0o506_262_570_000, // HRRO
+    0o506_262_575_100, // HRROI
+    0o506_262_575_500, // HRROM
+    0o506_262_576_300, // HRROS
+    0o506_262_630_000, // HRRS
+    0o506_262_720_000, // HRRZ
+    0o506_262_725_100, // HRRZI
+    0o506_262_725_500, // HRRZM
+    0o506_262_726_300, // HRRZS
+    0o514_260_000_000, // IBP
+    0o514_451_660_000, // IDIV
+    0o514_451_664_200, // IDIVB
+    0o514_451_665_100, // IDIVI
+    0o514_451_665_500, // IDIVM
+    0o514_460_420_000, // IDPB
+    0o515_444_420_000, // ILDB
+    0o515_565_540_000, // IMUL
+    0o515_565_544_200, // IMULB
+    0o515_565_545_100, // IMULI
+    0o515_565_545_500, // IMULM
+    0o515_762_000_000, // IOR
+    0o515_762_420_000, // IORB
+    0o515_762_510_000, // IORI
+    0o515_762_550_000, // IORM
+    0o524_643_540_000, // JFCL
+    0o524_646_570_000, // JFFO
+    0o526_241_000_000, // JRA
+    0o526_263_640_000, // JRST
+    0o526_341_000_000, // JSA
+    0o526_360_000_000, // JSP
+    0o526_362_000_000, // JSR
+    0o526_555_600_000, // JUMP
+    0o526_555_604_100, // JUMPA
+    0o526_555_604_500, // JUMPE
+    0o526_555_604_700, // JUMPG
+    0o526_555_604_745, // JUMPGE
+    0o526_555_605_400, // JUMPL
+    0o526_555_605_445, // JUMPLE
+    0o526_555_605_600, // JUMPN
+    0o544_442_000_000, // LDB
+    0o546_350_000_000, // LSH
+    0o546_350_430_000, // LSHC
+    0o555_766_450_000, // MOVE
+    0o555_766_455_100, // MOVEI
+    0o555_766_455_500, // MOVEM
+    0o555_766_456_300, // MOVES
+    0o555_766_550_000, // MOVM
+    0o555_766_555_100, // MOVMI
+    0o555_766_555_500, // MOVMM
+    0o555_766_556_300, // MOVMS
+    0o555_766_560_000, // MOVN
+    0o555_766_565_100, // MOVNI
+    0o555_766_565_500, // MOVNM
+    0o555_766_566_300, // MOVNS
+    0o555_766_630_000, // MOVS
+    0o555_766_635_100, // MOVSI
+    0o555_766_635_500, // MOVSM
+    0o555_766_636_300, // MOVSS
+    0o556_554_000_000, // MUL
+    0o556_554_420_000, // MULB
+    0o556_554_510_000, // MULI
+    0o556_554_550_000, // MULM
+    0o576_243_410_000, // ORCA
+    0o576_243_414_200, // ORCAB
+    0o576_243_415_100, // ORCAI
+    0o576_243_415_500, // ORCAM
+    0o576_243_420_000, // ORCB
+    0o576_243_424_200, // ORCBB
+    0o576_243_425_100, // ORCBI
+    0o576_243_425_500, // ORCBM
+    0o576_243_550_000, // ORCM
+    0o576_243_554_200, // ORCMB
+    0o576_243_555_100, // ORCMI
+    0o576_243_555_500, // ORCMM
+    0o605_760_000_000, // POP
+    0o605_760_520_000, // POPJ
+    0o606_563_500_000, // PUSH
+    0o606_563_505_200, // PUSHJ
+    0o625_764_000_000, // ROT
+    0o625_764_430_000, // ROTC
+    0o634_564_410_000, // SETA
+    0o634_564_414_200, // SETAB
+    0o634_564_415_100, // SETAI
+    0o634_564_415_500, // SETAM
+    0o634_564_434_100, // SETCA
+    0o634_564_434_142, // SETCAB
+    0o634_564_434_151, // SETCAI
+    0o634_564_434_155, // SETCAM
+    0o634_564_435_500, // SETCM
+    0o634_564_435_542, // SETCMB
+    0o634_564_435_551, // SETCMI
+    0o634_564_435_555, // SETCMM
+    0o634_564_550_000, // SETM
+    0o634_564_554_200, // SETMB
+    0o634_564_555_100, // SETMI
+    0o634_564_555_500, // SETMM
+    0o634_564_570_000, // SETO
+    0o634_564_574_200, // SETOB
+    0o634_564_575_100, // SETOI
+    0o634_564_575_500, // SETOM
+    0o634_564_720_000, // SETZ
+    0o634_564_724_200, // SETZB
+    0o634_564_725_100, // SETZI
+    0o634_564_725_500, // SETZM
+    0o635_351_600_000, // SKIP
+    0o635_351_604_100, // SKIPA
+    0o635_351_604_500, // SKIPE
+    0o635_351_604_700, // SKIPG
+    0o635_351_604_745, // SKIPGE
+    0o635_351_605_400, // SKIPL
+    0o635_351_605_445, // SKIPLE
+    0o635_351_605_600, // SKIPN
+    0o635_752_000_000, // SOJ
+    0o635_752_410_000, // SOJA
+    0o635_752_450_000, // SOJE
+    0o635_752_470_000, // SOJG
+    0o635_752_474_500, // SOJGE
+    0o635_752_540_000, // SOJL
+    0o635_752_544_500, // SOJLE
+    0o635_752_560_000, // SOJN
+    0o635_763_000_000, // SOS
+    0o635_763_410_000, // SOSA
+    0o635_763_450_000, // SOSE
+    0o635_763_470_000, // SOSG
+    0o635_763_474_500, // SOSGE
+    0o635_763_540_000, // SOSL
+    0o635_763_544_500, // SOSLE
+    0o635_763_560_000, // SOSN
+    0o636_542_000_000, // SUB
+    0o636_542_420_000, // SUBB
+    0o636_542_510_000, // SUBI
+    0o636_542_550_000, // SUBM
+    0o644_443_000_000, // TDC
+    0o644_443_410_000, // TDCA
+    0o644_443_450_000, // TDCE
+    0o644_443_560_000, // TDCN
+    0o644_456_000_000, // TDN
+    0o644_456_410_000, // TDNA
+    0o644_456_450_000, // TDNE
+    0o644_456_560_000, // TDNN
+    0o644_457_000_000, // TDO
+    0o644_457_410_000, // TDOA
+    0o644_457_450_000, // TDOE
+    0o644_457_560_000, // TDON
+    0o644_472_000_000, // TDZ
+    0o644_472_410_000, // TDZA
+    0o644_472_450_000, // TDZE
+    0o644_472_560_000, // TDZN
+    0o645_443_000_000, // TLC
+    0o645_443_410_000, // TLCA
+    0o645_443_450_000, // TLCE
+    0o645_443_560_000, // TLCN
+    0o645_456_000_000, // TLN
+    0o645_456_410_000, // TLNA
+    0o645_456_450_000, // TLNE
+    0o645_456_560_000, // TLNN
+    0o645_457_000_000, // TLO
+    0o645_457_410_000, // TLOA
+    0o645_457_450_000, // TLOE
+    0o645_457_560_000, // TLON
+    0o645_472_000_000, // TLZ
+    0o645_472_410_000, // TLZA
+    0o645_472_450_000, // TLZE
+    0o645_472_560_000, // TLZN
+    0o646_243_000_000, // TRC
+    0o646_243_410_000, // TRCA
+    0o646_243_450_000, // TRCE
+    0o646_243_560_000, // TRCN
+    0o646_256_000_000, // TRN
+    0o646_256_410_000, // TRNA
+    0o646_256_450_000, // TRNE
+    0o646_256_560_000, // TRNN
+    0o646_257_000_000, // TRO
+    0o646_257_410_000, // TROA
+    0o646_257_450_000, // TROE
+    0o646_257_560_000, // TRON
+    0o646_272_000_000, // TRZ
+    0o646_272_410_000, // TRZA
+    0o646_272_450_000, // TRZE
+    0o646_272_560_000, // TRZN
+    0o646_343_000_000, // TSC
+    0o646_343_410_000, // TSCA
+    0o646_343_450_000, // TSCE
+    0o646_343_560_000, // TSCN
+    0o646_356_000_000, // TSN
+    0o646_356_410_000, // TSNA
+    0o646_356_450_000, // TSNE
+    0o646_356_560_000, // TSNN
+    0o646_357_000_000, // TSO
+    0o646_357_410_000, // TSOA
+    0o646_357_450_000, // TSOE
+    0o646_357_560_000, // TSON
+    0o646_372_000_000, // TSZ
+    0o646_372_410_000, // TSZA
+    0o646_372_450_000, // TSZE
+    0o646_372_560_000, // TSZN
+    0o646_443_415_454, // TTCALL
+    0o704_364_000_000, // XCT
+    0o705_762_000_000, // XOR
+    0o705_762_420_000, // XORB
+    0o705_762_510_000, // XORI
+    0o705_762_550_000, // XORM
 ];
 
 /// The operation of each name of `NAMES`.
@@ -395,29 +396,29 @@ static CODES: [u16; 320] = [
     0o633, 0o637, 0o51, 0o256, 0o430, 0o433, 0o431, 0o432,
 ];
 
-/// The byte at a place, 0 behind the last.
-fn byte_at(bytes: &[u8], at: usize) -> u64
-    ensures value { result ≡ slice_index bytes.now at }
-    ensures below { result < 256 }
+/// The code in SIXBIT of the character at a place of a name, a blank's behind the last.
+fn code_at(name: &[u8], at: usize) -> u64
+    ensures value { result ≡ code_at name.now at }
+    ensures below { result < 64 }
 {
-    if at < bytes.len() {
-        u64::from(bytes[at])
+    if at < name.len() {
+        u64::from(name[at].saturating_sub(b' ') % 64)
     } else {
         0
     }
 }
 
-/// The first six bytes of a name as one number.
+/// The key of a name.
 fn key(name: &str) -> u64
-    ensures { result ≡ key_of name.now }
+    ensures { result ≡ sixbit_of name.now }
 {
-    let bytes = name.as_bytes();
-    byte_at(bytes, 0) * (1 << 40)
-        + byte_at(bytes, 1) * (1 << 32)
-        + byte_at(bytes, 2) * (1 << 24)
-        + byte_at(bytes, 3) * (1 << 16)
-        + byte_at(bytes, 4) * (1 << 8)
-        + byte_at(bytes, 5)
+    let name = name.as_bytes();
+    code_at(name, 0) * (1 << 30)
+        + code_at(name, 1) * (1 << 24)
+        + code_at(name, 2) * (1 << 18)
+        + code_at(name, 3) * (1 << 12)
+        + code_at(name, 4) * (1 << 6)
+        + code_at(name, 5)
 }
 
 fn operation_in(names: &[&'static str], keys: &[u64], codes: &[u16], name: &str) -> Option<u16>
@@ -436,6 +437,31 @@ fn operation_in(names: &[&'static str], keys: &[u64], codes: &[u16], name: &str)
     }
 }
 
+/// What the name of an operation means: the operation, with an AC and an address.
+#[inline(always)]
+fn operation_meaning(code: u16) -> Named
+    requires { code < 512 }
+    ensures { result ≡ operation_meaning code }
+{
+    Named {
+        word: Word::low_bits(u64::from(code) << 27),
+        ac: true,
+        addr: true,
+    }
+}
+
+/// What a name of at most six characters means that has this key, its characters in SIXBIT, where it is that of an
+/// operation. No character of it is a blank.
+#[inline(always)]
+pub fn operation_of_key(key: u64) -> Option<Named>
+    ensures { (name : List ℕ) → is_plain name ≡ true → sixbit_of name ≡ key → result ≡ option_map operation_meaning (code_in operations name) }
+{
+    match KEYS.binary_search(&key) {
+        Ok(place) => Some(operation_meaning(CODES[place])),
+        Err(_) => None,
+    }
+}
+
 /// What a name means at the head of a statement: the word that it gives alone, and whether an AC and
 /// an address may follow. Every operation takes both; a named CALLI takes an AC, MONRT. nothing, a
 /// named function of TTCALL, HALT and JRSTF an address. None for a name that is none of these: upper
@@ -445,11 +471,7 @@ pub fn named(name: &str) -> Option<Named>
     ensures { result ≡ named_of name.now }
 {
     match operation_in(&NAMES, &KEYS, &CODES, name) {
-        Some(op) => Some(Named {
-            word: Word::low_bits((op as u64) << 27),
-            ac: true,
-            addr: true,
-        }),
+        Some(code) => Some(operation_meaning(code)),
         None => {
             let call = call_in(&CALLS, name)?;
             Some(call_meaning(call))

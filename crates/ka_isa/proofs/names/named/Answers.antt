@@ -1,20 +1,22 @@
-use Rattle.std.proofs.Common.{◌≡◌, ◌∙◌, ◌*◌, ◌^◌, Some, None, ap, sym, refl, rules, arith}
+use Rattle.std.proofs.Common.{◌≡◌, ◌∙◌, Some, None, ap, sym, rules}
 use Rattle.ka_isa.proofs.MeaningLemmas.{named_of_call, named_of_operation, code_below}
 use Rattle.ka_isa.specs.Operations.{operations, calls, call_meaning, call_in, code_in}
 use Rattle.std.specs.Option.{option_map}
-use Rattle.ka_isa.specs.Tables.{are_by_name}
+use Rattle.ka_isa.proofs.KeyLemmas.{tables_agree}
 use Rattle.ka_isa.proofs.names.named.Goals as goal
 
 pub operation_in-requires : goal.operation_in-requires
-unfolding operations are_by_name
-operation_in-requires c = refl
+operation_in-requires c = tables_agree
+
+pub operation_meaning-requires : goal.operation_meaning-requires
+operation_meaning-requires c =
+    let is : Some c.in-Some.code ≡ code_in operations c.args.name.now = search rules in
+    code_below c.args.name.now c.in-Some.code is
 
 pub returns-in-Some : goal.returns-in-Some
 returns-in-Some c =
-    let is : Some c.in-Some.op ≡ code_in operations c.args.name.now = search rules in
-    let below = code_below c.args.name.now c.in-Some.op is in
-    let word : c.low_bits.result ≡ c.in-Some.op * 2 ^ 27 = omega arith in
-    rw (named_of_operation c.args.name.now c.in-Some.op is, word) refl
+    let is : Some c.in-Some.code ≡ code_in operations c.args.name.now = search rules in
+    ap Some c.operation_meaning.ensures ∙ sym (named_of_operation c.args.name.now c.in-Some.code is)
 
 pub returns-in_err-call-in-None : goal.returns-in_err-call-in-None
 unfolding calls

@@ -1,4 +1,4 @@
-use Rattle.std.proofs.Common.{◌∙◌, ◌<◌, length, Ok, sym, arith}
+use Rattle.std.proofs.Common.{◌∙◌, ◌<◌, length, map, Ok, sym, arith}
 use Rattle.ka_isa.proofs.SearchLemmas.{same, differ, as_long, key_found, code_found, other_beside_key, no_code_found}
 use Rattle.ka_isa.proofs.names.operation_in.Goals as goal
 
@@ -22,4 +22,4 @@ returns-else-eq c =
 
 pub returns-in-Err : goal.returns-in-Err
 returns-in-Err c =
-    no_code_found c.args.names.now c.args.keys.now c.args.codes.now c.args.name.now c.in-Err.field-0 c.requires (rw (← c.key.ensures) c.in-Err.ensures.position)
+    no_code_found (map (λ name. name.now) c.args.names.now) c.args.keys.now c.args.codes.now c.key.result c.in-Err.field-0 c.args.name.now c.requires c.in-Err.ensures.position (sym c.key.ensures)
