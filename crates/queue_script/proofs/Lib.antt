@@ -1,4 +1,6 @@
 pub mod NumberLemmas
+pub mod FrontLemmas
+pub mod WordLemmas
 pub mod LockLemmas
 pub mod WantLemmas
 pub mod ShownLemmas

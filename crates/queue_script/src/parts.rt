@@ -1,7 +1,7 @@
 //! The parts of a line or of an item.
-ghost use Rattle.std.specs.Prelude.{◌≡◌, ◌==◌, ◌↔◌, ℕ, List, [], ◌∷◌, IsTrue, MatchOption};
+ghost use Rattle.std.specs.Prelude.{◌≡◌, ◌==◌, ◌<◌, ◌≤◌, ◌^◌, ◌↔◌, ℕ, List, [], ◌∷◌, None, IsTrue, IfSome, MatchOption};
 ghost use Rattle.std.specs.Option.{option_map_or};
-ghost use Rattle.queue_script.specs.Numbers.{parts};
+ghost use Rattle.queue_script.specs.Numbers.{parts, number, front, IsFront};
 
 use std::marker::Model;
 
@@ -39,6 +39,19 @@ impl<'a> Parts<'a> {
         Some(part)
     }
 
+    /// Takes the first of them, where it spells a number in decimal that is at most `most`.
+    #[inline(always)]
+    pub fn next_number(&mut self, most: u64) -> Option<u64>
+        requires { most < 2 ^ 56 }
+        ensures value { MatchOption result (front (number 10 most) self.old ≡ None) (λ n. IsFront (number 10 most) n self.old self.new) }
+        ensures small { IfSome result (λ n. n ≤ most) }
+    {
+        let rest = self.rest?;
+        let (number, others) = split_number(most, rest, self.separator)?;
+        self.rest = others;
+        Some(number)
+    }
+
     /// Whether none is left.
     pub fn is_empty(&self) -> bool
         ensures { IsTrue result ↔ (self.now ≡ []) }
@@ -58,4 +71,39 @@ fn split_part(text: &[u8], separator: u8) -> (&[u8], Option<&[u8]>)
         }
     }
     (text, None)
+}
+
+/// The number in decimal, at most `most`, that the first part of a text spells, and what stands
+/// behind its separator. It is read in one pass.
+#[inline(always)]
+fn split_number(most: u64, text: &[u8], separator: u8) -> Option<(u64, Option<&[u8]>)>
+    requires { most < 2 ^ 56 }
+    ensures value { MatchOption result (front (number 10 most) (parts separator text.now) ≡ None)
+        (λ r. IsFront (number 10 most) r.0 (parts separator text.now) (option_map_or (λ rest. parts separator rest.now) r.1 [])) }
+    ensures small { IfSome result (λ r. r.0 ≤ most) }
+{
+    let mut value = 0;
+    for (i, byte) in text.iter().enumerate() {
+        if *byte == separator {
+            if i == 0 {
+                return None;
+            }
+            return Some((value, Some(&text[i + 1..])));
+        }
+        if *byte < b'0' {
+            return None;
+        }
+        let digit = u64::from(*byte - b'0');
+        if digit >= 10 {
+            return None;
+        }
+        value = 10 * value + digit;
+        if value > most {
+            return None;
+        }
+    }
+    if text.is_empty() {
+        return None;
+    }
+    Some((value, None))
 }
