@@ -98,6 +98,7 @@ fn enqueue_call<'a>(
 }
 
 /// What follows ENQ.
+#[inline(always)]
 fn read_enqueue<'a>(room: &'a mut CallRoom, mut items: Parts<'_>) -> Option<Command<'a>>
     ensures { asked_by_line result ≡ enqueue_of items.entry }
 {
@@ -127,6 +128,7 @@ fn dequeue_call<'a>(
 }
 
 /// What follows DEQ.
+#[inline(always)]
 fn read_dequeue<'a>(room: &'a mut CallRoom, mut items: Parts<'_>) -> Option<Command<'a>>
     ensures { asked_by_line result ≡ dequeue_of items.entry }
 {
@@ -137,6 +139,7 @@ fn read_dequeue<'a>(room: &'a mut CallRoom, mut items: Parts<'_>) -> Option<Comm
 }
 
 /// What follows STAT.
+#[inline(always)]
 fn read_status<'a>(room: &'a mut CallRoom, mut items: Parts<'_>) -> Option<Command<'a>>
     ensures { asked_by_line result ≡ status_of_items items.entry }
 {

@@ -1,6 +1,7 @@
 //! The parts of a line or of an item.
 ghost use Rattle.std.specs.Prelude.{◌≡◌, ◌==◌, ◌<◌, ◌≤◌, ◌^◌, ◌↔◌, ℕ, List, [], ◌∷◌, None, IsTrue, IfSome, MatchOption};
 ghost use Rattle.std.specs.Option.{option_map_or};
+ghost use Rattle.queue_script.specs.Locks.{texts_in};
 ghost use Rattle.queue_script.specs.Numbers.{parts, number, front, IsFront};
 
 use std::marker::Model;
@@ -26,6 +27,29 @@ impl<'a> Parts<'a> {
         Parts {
             rest: Some(text),
             separator,
+        }
+    }
+
+    /// The parts of a text between blanks, where there is one.
+    #[inline(always)]
+    pub fn between_blanks(rest: Option<&'a [u8]>) -> Self
+        ensures { result ≡ texts_in 32 rest.entry }
+    {
+        Parts {
+            rest,
+            separator: b' ',
+        }
+    }
+
+    /// What is left of the text, where blanks part it.
+    #[inline(always)]
+    pub fn left(&self) -> Option<&'a [u8]>
+        ensures { IfSome result (λ text. self.now ≡ parts 32 text.now) }
+    {
+        if self.separator == b' ' {
+            self.rest
+        } else {
+            None
         }
     }
 
@@ -62,7 +86,7 @@ impl<'a> Parts<'a> {
 
 /// The first part of a text, and what stands behind its separator.
 #[tactic(auto, unfolding(crate::specs::Numbers::parts))]
-fn split_part(text: &[u8], separator: u8) -> (&[u8], Option<&[u8]>)
+pub fn split_part(text: &[u8], separator: u8) -> (&[u8], Option<&[u8]>)
     ensures { parts separator text.now ≡ result.0.now ∷ option_map_or (λ rest. parts separator rest.now) result.1 [] }
 {
     for (i, byte) in text.iter().enumerate() {

@@ -1,4 +1,4 @@
-use Rattle.std.proofs.Common.{◌≡◌, ◌<◌, ◌≤◌, arith, length}
+use Rattle.std.proofs.Common.{◌≡◌, ◌<◌, arith, length}
 use Rattle.std.proofs.lemmas.Bool.{ne_eqb}
 use Rattle.std.proofs.lemmas.Bool.Decides.{nat_tests}
 use Rattle.queue_script.proofs.FrontLemmas.{follows-start, follows-digit, not_front-small, not_front-beyond, not_front-large, not_front-nothing, not_front-begins, is_front-at, is_front-all}
