@@ -1,4 +1,7 @@
 pub mod NumberLemmas
+pub mod FrontLemmas
+pub mod WordLemmas
+pub mod ItemLemmas
 pub mod LockLemmas
 pub mod WantLemmas
 pub mod ShownLemmas

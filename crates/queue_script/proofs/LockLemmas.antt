@@ -17,7 +17,7 @@ characters_agree = refl
 pub name_characters_are : (c : ℕ) → c < 256 → (get_or NAME_CHARACTERS c 0 == 1) ≡ is_name_character c
 name_characters_are c h = agree_below_at (λ k. get_or NAME_CHARACTERS k 0 == 1) is_name_character 256 c characters_agree h
 
-and_parts : (a b : Bool) → (a && b) ≡ true → (a ≡ true) × (b ≡ true)
+pub and_parts : (a b : Bool) → (a && b) ≡ true → (a ≡ true) × (b ≡ true)
 and_parts true b h = (refl, h)
 and_parts false b h = cc
 

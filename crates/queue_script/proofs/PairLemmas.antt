@@ -1,5 +1,6 @@
 -- Lemmas on who waits for whom.
-use Rattle.std.proofs.Common.{◌≡◌, ◌<◌, ◌≤◌, ◌+◌, ◌-◌, ◌*◌, ◌/◌, ◌%◌, ◌++◌, ◌&&◌, ◌||◌, ℕ, Bool, true, false, cond, suc, zero, List, [], ◌∷◌, length, slice_index_or, slice_set, arith, refl, sym, ap, ◌∙◌, append_assoc, append-nil, add-one, below_more, get_or-set_other, get_or-set_same, ◌≢◌}
+use Rattle.std.proofs.Common.{◌≡◌, ◌<◌, ◌≤◌, ◌+◌, ◌-◌, ◌*◌, ◌/◌, ◌%◌, ◌++◌, ◌&&◌, ◌||◌, ℕ, Bool, true, false, cond, suc, zero, List, [], ◌∷◌, length, slice_index_or, slice_set, arith, refl, sym, ap, ◌∙◌, append_assoc, append-nil, add-one, below_more, get_or-set_other, get_or-set_same, ◌≢◌, subst, inl, inr}
+use Rattle.std.proofs.lemmas.Bool.{cases_lt}
 use Rattle.std.proofs.Math.Bool.{beq}
 use Rattle.std.specs.Cmp.Lexicographic.{pointwise}
 use Rattle.std.specs.List.{flat_map, list_any}
@@ -24,6 +25,14 @@ rest-end j h = let e : NUMBERS - j ≡ 0 = omega arith in ap (numbers_from j) e
 pub jobs-start : numbers_from 1 (NUMBERS - 1) ≡ jobs
 unfolding jobs
 jobs-start = refl
+
+or-left : (a b : Bool) → (a || b) ≡ false → a ≡ false
+or-left true b h = h
+or-left false b h = refl
+
+or-right : (a b : Bool) → (a || b) ≡ false → b ≡ false
+or-right true b h = cc
+or-right false b h = h
 
 -- a text for each job in turn
 pub texts-start : (f : ℕ → List ℕ) (out : List ℕ) → out ++ flat_map f (numbers_from 1 JOBS) ≡ out ++ flat_map f jobs
@@ -112,6 +121,34 @@ set-known xs i v want within below here =
     below_more (λ j. slice_index_or (slice_set xs i v) j false ≡ want j) i
     (λ j h. let ne : j ≢ i = omega arith in rw get_or-set_other (below j h))
     (rw get_or-set_same here)
+
+-- ---- a job that waits for nobody is in no circle
+
+-- the test fails at each number for which it is known to fail at all
+none-at : (f : ℕ → Bool) (count first j : ℕ) → list_any f (numbers_from first count) ≡ false → first ≤ j → j < first + count → f j ≡ false
+unfolding numbers_from
+none-at f zero first j h least most = absurd (omega arith)
+none-at f (suc count) first j h least most =
+    elim (cases_lt first j) [
+      | inl before ↦ none-at f count (first + 1) j (or-right (f first) _ h) (omega arith) (omega arith)
+      | inr here ↦ let same : first ≡ j = omega arith in subst (λ i. f i ≡ false) same (or-left (f first) _ h)
+    ]
+
+any-less : (f g : ℕ → Bool) (xs : List ℕ) → list_any f xs ≡ false → list_any (λ m. f m && g m) xs ≡ false
+any-less f g [] h = refl
+any-less f g (x ∷ xs) h =
+    ap (λ b. (b && g x) || list_any (λ m. f m && g m) xs) (or-left (f x) (list_any f xs) h) ∙ any-less f g xs (or-right (f x) (list_any f xs) h)
+
+no_walk : (w : ℕ → ℕ → Bool) (steps j : ℕ) → 1 ≤ j → j < NUMBERS → list_any (w j) jobs ≡ false → leads_to w steps j j ≡ false
+unfolding leads_to jobs
+no_walk w zero j least most h = refl
+no_walk w (suc steps) j least most h =
+    ap (λ b. b || list_any (λ m. w j m && leads_to w steps m j) jobs) (none-at (w j) JOBS 1 j h least (omega arith))
+    ∙ any-less (w j) (λ m. leads_to w steps m j) jobs h
+
+pub no_circle : (w : ℕ → ℕ → Bool) (j : ℕ) (out : List ℕ) → 1 ≤ j → j < NUMBERS → list_any (w j) jobs ≡ false → out ≡ out ++ circle_job w j
+no_circle w j out least most h =
+    sym (ap (λ b. out ++ cond b (codes " " ++ decimal j) []) (no_walk w JOBS j least most h) ∙ append-nil out)
 
 pub leads-start : (w : ℕ → ℕ → Bool) (j k : ℕ) → leads_to w 0 j k ≡ false
 unfolding leads_to

@@ -1,5 +1,5 @@
 -- Numbers and parts of a line (this project's profile).
-use Rattle.std.specs.Prelude.{◌==◌, ◌&&◌, ◌+◌, ◌-◌, ◌*◌, ℕ, Bool, List, [], ◌∷◌, length, Option, Some, None, if◌then◌else◌, nat_le, nat_lt}
+use Rattle.std.specs.Prelude.{◌≡◌, ◌==◌, ◌&&◌, ◌+◌, ◌-◌, ◌*◌, ℕ, Bool, List, [], ◌∷◌, length, Option, Some, None, if◌then◌else◌, nat_le, nat_lt}
 use Rattle.std.specs.List.{list_all, slice_split}
 
 -- whether a character is a digit of the base; 48 is `0`
@@ -20,3 +20,12 @@ number base most text =
 -- the parts of a text between the separators; there is one more of them than of these
 unfoldable pub parts : ℕ → List ℕ → List (List ℕ)
 parts separator text = slice_split (λ b. b == separator) text
+
+-- what the first of some texts spells, where there is one
+abbrev pub front : (List ℕ → Option ℕ) → List (List ℕ) → Option ℕ
+front read [] = None
+front read (text ∷ more) = read text
+
+-- the first of some texts spells this number, and these are the others
+abbrev pub IsFront : (List ℕ → Option ℕ) → ℕ → List (List ℕ) → List (List ℕ) → Type 0
+IsFront read n texts others = (text : List ℕ) × (texts ≡ text ∷ others) × (read text ≡ Some n)

@@ -3,7 +3,7 @@ ghost use Rattle.std.specs.Prelude.{◌≡◌, [], option_map};
 ghost use Rattle.queue_script.specs.Borrowed.{filled};
 ghost use Rattle.queue_script.specs.Locks.{locks_of, call_wants};
 
-use crate::locks::read_lock;
+use crate::locks::next_lock;
 use crate::parts::Parts;
 use lock_queue::{LockUse, Refusal, Wants};
 use word36::LOCKS_A_CALL;
@@ -33,8 +33,8 @@ pub fn read_wants(
     let mut count = 0;
     let mut refusal = None;
     clear(wants);
-    while let Some(item) = items.next() {
-        let lock = read_lock(item)?;
+    while let Some(item) = next_lock(&mut items) {
+        let lock = item?;
         if count < LOCKS_A_CALL {
             match lock.into_want(job, lock_use) {
                 Ok(want) => wants.push(want),

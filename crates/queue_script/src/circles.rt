@@ -16,6 +16,19 @@ pub const PAIRS: usize = NUMBERS * NUMBERS;
 /// it of the jobs j and k.
 pub type PairTable = [bool; PAIRS];
 
+/// Whether a job waits for some job.
+pub fn has_pair(pairs: &PairTable, job: usize) -> bool
+    requires { job < NUMBERS }
+    ensures { result ≡ list_any (pair_in pairs.now job) jobs }
+{
+    for other in 1..NUMBERS {
+        if pairs[NUMBERS * job + other] {
+            return true;
+        }
+    }
+    false
+}
+
 /// Whether a job waits for one that is reached.
 fn is_step(pairs: &PairTable, reached: &[bool; NUMBERS], job: usize, other: usize) -> bool
     requires job { job < NUMBERS }

@@ -1,14 +1,15 @@
 //! The commands of a script on the lock queue.
-ghost use Rattle.std.specs.Prelude.{◌≡◌, nat_lt, is_some};
+ghost use Rattle.std.specs.Prelude.{◌≡◌, ◌<◌, ◌^◌, None, nat_lt, is_some, IfSome, MatchOption};
 ghost use Rattle.std.specs.List.{list_all};
 ghost use Rattle.queue_script.specs.Borrowed.{lent_by, asked_by, asked_by_line};
 ghost use Rattle.queue_script.specs.Commands.{job_of, enqueue_call, dequeue_call, unknown_call, enqueue_of, dequeue_of, status_of_items, free_of, bare, command_of_items, is_allowed, is_silent, command_of};
 ghost use Rattle.queue_script.specs.Locks.{locks_of};
+ghost use Rattle.queue_script.specs.Numbers.{front, IsFront, parts};
+ghost use Rattle.queue_script.specs.Options.{half_of};
 
 use crate::call_room::CallRoom;
 use crate::locks::read_lock;
-use crate::numbers::number;
-use crate::options::read_half;
+use crate::options::MOST_HALF;
 use crate::parts::Parts;
 use lock_queue::{EnqueueKind, LockCall, Refusal, RequestId, Wants};
 use script_io::LINE_LENGTH;
@@ -33,12 +34,23 @@ pub enum Command<'a> {
     Quit,
 }
 
-/// A job's number, 1 to 31.
-fn read_job(text: &[u8]) -> Option<u8>
-    ensures { result ≡ job_of text.now }
+/// Takes a job's number, 1 to 31, from the front of the items.
+#[inline(always)]
+fn next_job(items: &mut Parts<'_>) -> Option<u8>
+    ensures { MatchOption result (front job_of items.old ≡ None) (λ job. IsFront job_of job items.old items.new) }
 {
-    let job = number(10, u64::from(JOBS), text)?;
+    let job = items.next_number(u64::from(JOBS))?;
     if job == 0 { None } else { Some(job as u8) }
+}
+
+/// Takes a number of 18 bits from the front of the items.
+#[inline(always)]
+fn next_half(items: &mut Parts<'_>) -> Option<u32>
+    ensures value { MatchOption result (front half_of items.old ≡ None) (λ n. IsFront half_of n items.old items.new) }
+    ensures small { IfSome result (λ n. n < 2 ^ 18) }
+{
+    let number = items.next_number(MOST_HALF)?;
+    Some(number as u32)
 }
 
 /// Whether all items are locks.
@@ -86,12 +98,13 @@ fn enqueue_call<'a>(
 }
 
 /// What follows ENQ.
+#[inline(always)]
 fn read_enqueue<'a>(room: &'a mut CallRoom, mut items: Parts<'_>) -> Option<Command<'a>>
     ensures { asked_by_line result ≡ enqueue_of items.entry }
 {
-    let job = read_job(items.next()?)?;
-    let function = read_half(items.next()?)?;
-    let id = RequestId::new(read_half(items.next()?)?);
+    let job = next_job(&mut items)?;
+    let function = next_half(&mut items)?;
+    let id = RequestId::new(next_half(&mut items)?);
     let call = enqueue_call(room, function, id, job, items)?;
     Some(Command::Call(job, call))
 }
@@ -115,20 +128,22 @@ fn dequeue_call<'a>(
 }
 
 /// What follows DEQ.
+#[inline(always)]
 fn read_dequeue<'a>(room: &'a mut CallRoom, mut items: Parts<'_>) -> Option<Command<'a>>
     ensures { asked_by_line result ≡ dequeue_of items.entry }
 {
-    let job = read_job(items.next()?)?;
-    let function = read_half(items.next()?)?;
+    let job = next_job(&mut items)?;
+    let function = next_half(&mut items)?;
     let call = dequeue_call(room, function, job, items)?;
     Some(Command::Call(job, call))
 }
 
 /// What follows STAT.
+#[inline(always)]
 fn read_status<'a>(room: &'a mut CallRoom, mut items: Parts<'_>) -> Option<Command<'a>>
     ensures { asked_by_line result ≡ status_of_items items.entry }
 {
-    let job = read_job(items.next()?)?;
+    let job = next_job(&mut items)?;
     let keys = room.keys(job, items)?;
     Some(Command::Status(job, keys))
 }
@@ -137,11 +152,11 @@ fn read_status<'a>(room: &'a mut CallRoom, mut items: Parts<'_>) -> Option<Comma
 fn read_free<'a>(mut items: Parts<'_>) -> Option<Command<'a>>
     ensures { asked_by_line result ≡ free_of items.entry }
 {
-    let job = items.next()?;
+    let job = next_job(&mut items)?;
     if !items.is_empty() {
         return None;
     }
-    Some(Command::Free(read_job(job)?))
+    Some(Command::Free(job))
 }
 
 /// A command that stands alone.
@@ -179,6 +194,22 @@ fn read_items<'a>(room: &'a mut CallRoom, mut items: Parts<'_>) -> Option<Comman
     }
 }
 
+/// The command of a line. The names that stand before most commands are told at once.
+fn read_words<'a>(room: &'a mut CallRoom, line: &[u8]) -> Option<Command<'a>>
+    ensures { asked_by_line result ≡ command_of_items (parts 32 line.now) }
+{
+    if let Some(items) = line.strip_prefix(b"ENQ ".as_slice()) {
+        return read_enqueue(room, Parts::of(items, b' '));
+    }
+    if let Some(items) = line.strip_prefix(b"DEQ ".as_slice()) {
+        return read_dequeue(room, Parts::of(items, b' '));
+    }
+    if let Some(items) = line.strip_prefix(b"STAT ".as_slice()) {
+        return read_status(room, Parts::of(items, b' '));
+    }
+    read_items(room, Parts::of(line, b' '))
+}
+
 #[tactic(auto, using(crate::proofs::AsciiLemmas::ascii_tests))]
 fn has_only_ascii(line: &[u8]) -> bool
     ensures { result ≡ list_all (λ b. nat_lt b 128) line.now }
@@ -212,5 +243,5 @@ pub fn read_command<'a>(room: &'a mut CallRoom, line: &[u8]) -> Option<Command<'
     if is_silent(line) {
         return Some(Command::Nothing);
     }
-    read_items(room, Parts::of(line, b' '))
+    read_words(room, line)
 }

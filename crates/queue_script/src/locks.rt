@@ -1,13 +1,13 @@
 //! The locks of a command.
-ghost use Rattle.std.specs.Prelude.{◌≡◌, ◌<◌, ◌≤◌, length, ◌^◌, IfSome};
+ghost use Rattle.std.specs.Prelude.{◌≡◌, ◌<◌, ◌≤◌, true, [], ◌∷◌, length, take, ◌^◌, IfSome, MatchOption};
 ghost use Rattle.std.specs.List.{list_all};
 ghost use Rattle.queue_script.specs.Options.{no_options};
 ghost use Rattle.queue_script.specs.Numbers.{parts};
-ghost use Rattle.queue_script.specs.Locks.{is_name_character, user_code, name_of_characters, name_of, lock_of, want_of, key_of};
+ghost use Rattle.queue_script.specs.Locks.{is_name_character, user_code, text_name, name_of_characters, name_of, lock_of, lock_of_parts, want_of, key_of, texts_in, SplitsLock, IsFirstLock};
 
 use crate::numbers::number;
 use crate::options::{Options, read_options};
-use crate::parts::Parts;
+use crate::parts::{Parts, split_part};
 use lock_queue::{Key, LockUse, Name, NameText, Refusal, Scope, UserCode, Want};
 use std::str;
 
@@ -55,6 +55,45 @@ pub fn is_name_character(character: u8) -> bool
     NAME_CHARACTERS[usize::from(character)] == 1
 }
 
+/// How many characters at the front of a text a name may have.
+#[inline(always)]
+fn name_length(text: &[u8]) -> usize
+    ensures within { result ≤ length text.now }
+    ensures named { list_all is_name_character (take result text.now) ≡ true }
+{
+    for (i, character) in text.iter().enumerate() {
+        if !is_name_character(*character) {
+            return i;
+        }
+    }
+    text.len()
+}
+
+/// The name in characters and the options of the first item of some, and the other items: the name is
+/// gone over once. None where the item begins otherwise.
+#[inline(always)]
+fn split_lock(items: &[u8]) -> Option<(&[u8], Option<&[u8]>, Option<&[u8]>)>
+    ensures { IfSome result (λ r. SplitsLock items.now r.0.now (texts_in 47 r.1) (texts_in 32 r.2)) }
+{
+    let count = name_length(items);
+    if count == 0 {
+        return None;
+    }
+    let name = &items[..count];
+    if count == items.len() {
+        return Some((name, None, None));
+    }
+    let behind = &items[count + 1..];
+    if items[count] == b' ' {
+        return Some((name, None, Some(behind)));
+    }
+    if items[count] != b'/' {
+        return None;
+    }
+    let (options, others) = split_part(behind, b' ');
+    Some((name, Some(options), others))
+}
+
 /// Whether a name may have these characters.
 fn has_name_characters(text: &[u8]) -> bool
     ensures { result ≡ list_all is_name_character text.now }
@@ -73,19 +112,30 @@ fn read_code(digits: &[u8]) -> Option<u64>
     number(8, MOST_CODE, digits)
 }
 
+/// The name of these characters, which may be too long for a lock.
+#[inline(always)]
+fn text_name(text: &[u8]) -> LockName
+    requires named { list_all is_name_character text.now ≡ true }
+    requires some { 0 < length text.now }
+    ensures { result ≡ text_name text.now }
+{
+    // What is read is ASCII, and so it is UTF-8.
+    let text = unsafe { str::from_utf8_unchecked(text) };
+    match NameText::new(text) {
+        Some(name) => LockName::Fitting(Name::Text(name)),
+        None => LockName::TooLong,
+    }
+}
+
 /// The name of these characters, if a name may have them.
 fn read_text(text: &[u8]) -> Option<LockName>
     requires { 0 < length text.now }
     ensures { result ≡ name_of_characters text.now }
 {
-    if !has_name_characters(text) {
-        return None;
-    }
-    // What is read is ASCII, and so it is UTF-8.
-    let text = unsafe { str::from_utf8_unchecked(text) };
-    match NameText::new(text) {
-        Some(name) => Some(LockName::Fitting(Name::Text(name))),
-        None => Some(LockName::TooLong),
+    if has_name_characters(text) {
+        Some(text_name(text))
+    } else {
+        None
     }
 }
 
@@ -104,8 +154,40 @@ fn read_name(text: &[u8]) -> Option<LockName>
     }
 }
 
-/// The lock that an item of a line spells.
+/// The lock of a name in characters and of some options.
 #[inline(always)]
+#[tactic(auto, using(crate::proofs::ItemLemmas::lock_named))]
+fn named_lock(name: &[u8], options: Option<&[u8]>) -> Option<Lock>
+    requires named { list_all is_name_character name.now ≡ true }
+    requires some { 0 < length name.now }
+    ensures { result ≡ lock_of_parts (name.now ∷ texts_in 47 options.entry) }
+{
+    let options = match options {
+        None => Options::none(),
+        Some(texts) => read_options(Parts::of(texts, b'/'))?,
+    };
+    Some(Lock {
+        name: text_name(name),
+        options,
+    })
+}
+
+/// Takes the first of some items, and reads the lock that it spells, if it is one.
+#[inline(always)]
+pub fn next_lock<'a>(items: &mut Parts<'a>) -> Option<Option<Lock>>
+    ensures { MatchOption result (items.old ≡ []) (λ lock. IsFirstLock items.old lock items.new) }
+{
+    if let Some(text) = items.left() {
+        if let Some((name, options, others)) = split_lock(text) {
+            *items = Parts::between_blanks(others);
+            return Some(named_lock(name, options));
+        }
+    }
+    let item = items.next()?;
+    Some(read_lock(item))
+}
+
+/// The lock that an item of a line spells.
 pub fn read_lock(item: &[u8]) -> Option<Lock>
     ensures { result ≡ lock_of item.now }
 {

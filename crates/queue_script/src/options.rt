@@ -12,7 +12,7 @@ use lock_queue::{Level, Terms};
 const MOST_LEVEL: u64 = 0o777;
 
 /// The largest number of 18 bits, as of a pool's size.
-const MOST_HALF: u64 = 0o777_777;
+pub const MOST_HALF: u64 = 0o777_777;
 
 /// The two numbers of a pool's option, which need not make sense.
 #[derive(Clone, Copy, Debug, PartialEq, Eq)]

@@ -1,7 +1,8 @@
 //! The parts of a line or of an item.
-ghost use Rattle.std.specs.Prelude.{◌≡◌, ◌==◌, ◌↔◌, ℕ, List, [], ◌∷◌, IsTrue, MatchOption};
+ghost use Rattle.std.specs.Prelude.{◌≡◌, ◌==◌, ◌<◌, ◌≤◌, ◌^◌, ◌↔◌, ℕ, List, [], ◌∷◌, None, IsTrue, IfSome, MatchOption};
 ghost use Rattle.std.specs.Option.{option_map_or};
-ghost use Rattle.queue_script.specs.Numbers.{parts};
+ghost use Rattle.queue_script.specs.Locks.{texts_in};
+ghost use Rattle.queue_script.specs.Numbers.{parts, number, front, IsFront};
 
 use std::marker::Model;
 
@@ -29,6 +30,29 @@ impl<'a> Parts<'a> {
         }
     }
 
+    /// The parts of a text between blanks, where there is one.
+    #[inline(always)]
+    pub fn between_blanks(rest: Option<&'a [u8]>) -> Self
+        ensures { result ≡ texts_in 32 rest.entry }
+    {
+        Parts {
+            rest,
+            separator: b' ',
+        }
+    }
+
+    /// What is left of the text, where blanks part it.
+    #[inline(always)]
+    pub fn left(&self) -> Option<&'a [u8]>
+        ensures { IfSome result (λ text. self.now ≡ parts 32 text.now) }
+    {
+        if self.separator == b' ' {
+            self.rest
+        } else {
+            None
+        }
+    }
+
     /// Takes the first of them.
     pub fn next(&mut self) -> Option<&'a [u8]>
         ensures { MatchOption result (self.old ≡ []) (λ part. self.old ≡ part.now ∷ self.new) }
@@ -37,6 +61,19 @@ impl<'a> Parts<'a> {
         let (part, others) = split_part(rest, self.separator);
         self.rest = others;
         Some(part)
+    }
+
+    /// Takes the first of them, where it spells a number in decimal that is at most `most`.
+    #[inline(always)]
+    pub fn next_number(&mut self, most: u64) -> Option<u64>
+        requires { most < 2 ^ 56 }
+        ensures value { MatchOption result (front (number 10 most) self.old ≡ None) (λ n. IsFront (number 10 most) n self.old self.new) }
+        ensures small { IfSome result (λ n. n ≤ most) }
+    {
+        let rest = self.rest?;
+        let (number, others) = split_number(most, rest, self.separator)?;
+        self.rest = others;
+        Some(number)
     }
 
     /// Whether none is left.
@@ -49,7 +86,7 @@ impl<'a> Parts<'a> {
 
 /// The first part of a text, and what stands behind its separator.
 #[tactic(auto, unfolding(crate::specs::Numbers::parts))]
-fn split_part(text: &[u8], separator: u8) -> (&[u8], Option<&[u8]>)
+pub fn split_part(text: &[u8], separator: u8) -> (&[u8], Option<&[u8]>)
     ensures { parts separator text.now ≡ result.0.now ∷ option_map_or (λ rest. parts separator rest.now) result.1 [] }
 {
     for (i, byte) in text.iter().enumerate() {
@@ -58,4 +95,39 @@ fn split_part(text: &[u8], separator: u8) -> (&[u8], Option<&[u8]>)
         }
     }
     (text, None)
+}
+
+/// The number in decimal, at most `most`, that the first part of a text spells, and what stands
+/// behind its separator. It is read in one pass.
+#[inline(always)]
+fn split_number(most: u64, text: &[u8], separator: u8) -> Option<(u64, Option<&[u8]>)>
+    requires { most < 2 ^ 56 }
+    ensures value { MatchOption result (front (number 10 most) (parts separator text.now) ≡ None)
+        (λ r. IsFront (number 10 most) r.0 (parts separator text.now) (option_map_or (λ rest. parts separator rest.now) r.1 [])) }
+    ensures small { IfSome result (λ r. r.0 ≤ most) }
+{
+    let mut value = 0;
+    for (i, byte) in text.iter().enumerate() {
+        if *byte == separator {
+            if i == 0 {
+                return None;
+            }
+            return Some((value, Some(&text[i + 1..])));
+        }
+        if *byte < b'0' {
+            return None;
+        }
+        let digit = u64::from(*byte - b'0');
+        if digit >= 10 {
+            return None;
+        }
+        value = 10 * value + digit;
+        if value > most {
+            return None;
+        }
+    }
+    if text.is_empty() {
+        return None;
+    }
+    Some((value, None))
 }

@@ -1,11 +1,11 @@
 //! Who waits for whom.
-ghost use Rattle.std.specs.Prelude.{◌≡◌, ◌++◌, ◌<◌, ◌/◌, ◌%◌, OnOk, ℕ, false, slice_index_or};
+ghost use Rattle.std.specs.Prelude.{◌≡◌, ◌++◌, ◌<◌, ◌≤◌, ◌/◌, ◌%◌, OnOk, ℕ, false, slice_index_or};
 ghost use Rattle.lock_queue.specs.Waits.{jobs};
 ghost use Rattle.queue_script.specs.WaitPairs.{pair_line, waits_text, pairs_text, pair_in, circle_job, circle_jobs, or_none};
 ghost use Rattle.std.specs.List.{flat_map};
 ghost use Rattle.lock_queue.specs.Jobs.{waits_for};
 
-use crate::circles::{NUMBERS, PAIRS, PairTable, leading_to};
+use crate::circles::{NUMBERS, PAIRS, PairTable, has_pair, leading_to};
 use lock_queue::LockTable;
 use script_io::push_decimal;
 use std::alloc::AllocError;
@@ -69,12 +69,15 @@ fn pair_table<L: LockTable>(table: &L) -> PairTable
     pairs
 }
 
-/// Adds a job from which a walk leads back.
+/// Adds a job from which a walk leads back. None does from a job that waits for nobody.
 #[tactic(auto, using(std::proofs::Common::append_assoc))]
 fn push_circle_job(out: &mut Vec<u8>, pairs: &PairTable, job: u8) -> Result<(), AllocError>
-    requires { job < NUMBERS }
+    requires { (1 ≤ job) × (job < NUMBERS) }
     ensures { OnOk result (out.new.items ≡ out.old.items ++ circle_job (pair_in pairs.now) job) }
 {
+    if !has_pair(pairs, usize::from(job)) {
+        return Ok(());
+    }
     let leading = leading_to(pairs, usize::from(job));
     if leading[usize::from(job)] {
         out.push(b' ')?;

@@ -1,4 +1,4 @@
-use Rattle.std.proofs.Common.{◌≡◌, ◌+◌, min, arith, ap, sym}
+use Rattle.std.proofs.Common.{◌≡◌, ◌+◌, min, arith, ap, sym, ◌∙◌}
 use Rattle.queue_script.proofs.WantLemmas.{gathers-want, gathers-refusal, gathers-more}
 use Rattle.queue_script.proofs.call_wants.read_wants.Goals as goal
 use Rattle.queue_script.proofs.call_wants.read_wants.Goals.{then-count-lt-LOCKS_A_CALL+in-Ok, then-count-lt-LOCKS_A_CALL+in-Err, else-count-lt-LOCKS_A_CALL}
@@ -6,8 +6,8 @@ use Rattle.queue_script.proofs.call_wants.read_wants.Goals.{then-count-lt-LOCKS_
 pub loop-item-preserved : goal.loop-item-preserved
 loop-item-preserved c =
     let before = c.loop-item.invariant.gathers in
-    let taken = c.in-Some.ensures in
-    let is = sym c.in_ok-lock.ensures in
+    let taken = c.in-Some.ensures.1 in
+    let is = c.in-Some.ensures.2 ∙ c.in_ok-lock.was in
     let counted : c.min-count.result + 1 ≡ min 16 c.loop-item.count + 1 = ap (λ n. n + 1) c.min-count.ensures in
     elim c.if-count-lt-LOCKS_A_CALL.branch [
       | then-count-lt-LOCKS_A_CALL+in-Ok w ↦
