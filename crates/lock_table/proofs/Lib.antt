@@ -8,5 +8,6 @@ pub mod ArrivalLaws
 pub mod LossLaws
 pub mod LevelLaws
 mod WaiterLaws
+pub mod PlaceLaws
 pub mod WalkLaws
 pub mod GivingUpLaws

@@ -11,11 +11,13 @@ mod fits;
 mod indexed;
 mod jobs;
 mod renewal;
+mod rows;
 mod sharing;
 mod shelf;
 mod signature;
 mod standing;
 mod waiters;
 mod walks;
+mod window;
 
 pub use indexed::IndexedTable;
