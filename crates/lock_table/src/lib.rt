@@ -14,8 +14,8 @@ mod renewal;
 mod sharing;
 mod shelf;
 mod signature;
+mod span;
 mod standing;
 mod waiters;
-mod walks;
 
 pub use indexed::IndexedTable;
