@@ -10,3 +10,4 @@ pub mod Levels
 pub mod Arrivals
 pub mod Rows
 pub mod Windows
+pub mod Places

@@ -14,7 +14,7 @@ ghost use Rattle.lock_table.specs.Waiters.{waiters_in};
 use crate::filed::Filed;
 use crate::fits::job_has_key;
 use crate::signature::{Signature, bits_of, signature_of};
-use crate::walks::{from_met, next_met};
+use crate::span::Span;
 use lock_queue::steps::{is_pooled, is_pooled_in, names_key};
 use lock_queue::{Key, Refusal, Want};
 
@@ -27,22 +27,22 @@ fn has_own_pooled(f: &Filed, job: u8, key: &Key) -> bool
 }
 
 /// Whether a want of the job of this key is of a pool.
-fn has_pooled(filed: &[Filed], job: u8, key: &Key) -> bool
+fn has_pooled(filed: &Span<'_>, job: u8, key: &Key) -> bool
     ensures { result ≡
         list_any is_pooled (wants_at (requests_of (requests_in filed.now) job) key.now) }
 {
     let bits = bits_of(key);
-    let mut rest = from_met(filed, bits);
-    while let [f, ..] = rest {
+    let mut rest = filed.from_met(bits);
+    while let Some(f) = rest.first() {
         if has_own_pooled(f, job, key) {
             return true;
         }
-        rest = next_met(rest, bits);
+        rest = rest.next_met(bits);
     }
     false
 }
 
-fn fault_of(filed: &[Filed], job: u8, earlier: &[Want], c: &Want) -> Option<Refusal>
+fn fault_of(filed: &Span<'_>, job: u8, earlier: &[Want], c: &Want) -> Option<Refusal>
     ensures { result ≡ modify_fault (requests_in filed.now) job earlier.now c.now }
 {
     if names_key(earlier, &c.key) {
@@ -57,7 +57,7 @@ fn fault_of(filed: &[Filed], job: u8, earlier: &[Want], c: &Want) -> Option<Refu
 }
 
 /// Why wants are not changed, lock by lock, whatever would become of the grants.
-pub fn refusal_of_modify(filed: &[Filed], job: u8, changes: &[Want]) -> Option<Refusal>
+pub fn refusal_of_modify(filed: &Span<'_>, job: u8, changes: &[Want]) -> Option<Refusal>
     ensures { result ≡ first_refusal (modify_fault (requests_in filed.now) job) [] changes.now }
 {
     for (i, c) in changes.iter().enumerate() {
@@ -139,24 +139,24 @@ fn held_unless_lost(hold: Hold, granted: bool, wants: &[Want], mine: bool, c: &W
 }
 
 /// Whether a change of the job's wants of one key costs a grant, whosever it is.
-fn does_cost_grant(filed: &[Filed], job: u8, c: &Want) -> bool
+fn does_cost_grant(filed: &Span<'_>, job: u8, c: &Want) -> bool
     ensures { result ≡ costs_grant job filed.now c.now }
 {
     let bits = bits_of(&c.key);
     let mut hold = Hold::Free;
-    let mut rest = from_met(filed, bits);
-    while let [f, ..] = rest {
+    let mut rest = filed.from_met(bits);
+    while let Some(f) = rest.first() {
         match held_unless_lost(hold, f.is_granted(), f.wants(), f.job() == job, c) {
             Some(held) => hold = held,
             None => return true,
         }
-        rest = next_met(rest, bits);
+        rest = rest.next_met(bits);
     }
     false
 }
 
 /// Whether one of the changes costs a grant. Nothing is changed for it.
-pub fn is_some_lost(filed: &[Filed], job: u8, changes: &[Want]) -> bool
+pub fn is_some_lost(filed: &Span<'_>, job: u8, changes: &[Want]) -> bool
     ensures { result ≡ list_any (costs_grant job filed.now) changes.now }
 {
     changes.iter().any(|c| does_cost_grant(filed, job, c))

@@ -1,17 +1,17 @@
 //! What concerns the requests of one job, with the grants at hand.
-ghost use Rattle.std.specs.Prelude.{◌≡◌, [], filter};
+ghost use Rattle.std.specs.Prelude.{◌≡◌, ◌==◌, ◌&&◌, [], filter};
 ghost use Rattle.std.specs.List.{list_any};
 ghost use Rattle.lock_queue.specs.Jobs.{is_in_the_way, is_kept_by};
 ghost use Rattle.lock_queue.specs.Keys.{same_key};
 ghost use Rattle.lock_queue.specs.Queue.{wants_at, requests_of};
 ghost use Rattle.lock_table.specs.Filings.{requests_in};
 ghost use Rattle.lock_table.specs.Findings.{blocks, pends, pending_in, told_in, waits_in};
-ghost use Rattle.lock_table.specs.Signatures.{bits_of};
 ghost use Rattle.lock_table.specs.Waiters.{waiters_in};
 
 use crate::filed::Filed;
 use crate::fits::is_fitting;
-use crate::signature::{Signature, bits_of};
+use crate::signature::bits_of;
+use crate::span::Span;
 use lock_queue::steps::some_in_the_way;
 use lock_queue::{EnqueueKind, RequestId, Want};
 
@@ -63,37 +63,38 @@ pub fn tell(filed: &mut [Filed], job: u8)
     }
 }
 
-/// Whether a want of the request stands in the way of a later one.
-#[tactic(auto, using(crate::proofs::SignatureLaws::unmet_wants))]
-fn is_in_the_way(f: &Filed, w: &Want, bits: Signature) -> bool
-    requires { bits ≡ bits_of w.now.key }
-    ensures { result ≡ list_any (λ v. is_in_the_way v w.now)
-        (filter (λ v. same_key v.key w.now.key) f.now.request.wants.items) }
+/// Whether a request is the job's, and a want of it stands in the way of a later one.
+fn job_stands_in_the_way(f: &Filed, job: u8, w: &Want) -> bool
+    ensures { result ≡ (f.now.request.job == job && list_any (λ v. is_in_the_way v w.now)
+        (filter (λ v. same_key v.key w.now.key) f.now.request.wants.items)) }
 {
-    f.meets(bits) && some_in_the_way(f.wants(), w)
+    f.job() == job && some_in_the_way(f.wants(), w)
 }
 
-fn job_is_in_the_way(earlier: &[Filed], w: &Want, job: u8) -> bool
+/// Whether a want of the job stands in the way of a later one.
+fn job_is_in_the_way(earlier: &Span<'_>, w: &Want, job: u8) -> bool
     ensures { result ≡ list_any (λ v. is_in_the_way v w.now)
         (wants_at (requests_of (requests_in earlier.now) job) w.now.key) }
 {
     let bits = bits_of(&w.key);
-    for f in earlier {
-        if f.job() == job && is_in_the_way(f, w, bits) {
+    let mut rest = earlier.from_met(bits);
+    while let Some(f) = rest.first() {
+        if job_stands_in_the_way(f, job, w) {
             return true;
         }
+        rest = rest.next_met(bits);
     }
     false
 }
 
 /// Whether a want does not fit, and an earlier want of the job stands in its way.
-fn is_kept_by(earlier: &[Filed], w: &Want, job: u8) -> bool
+fn is_kept_by(earlier: &Span<'_>, w: &Want, job: u8) -> bool
     ensures { result ≡ is_kept_by job (requests_in earlier.now) w.now }
 {
     !is_fitting(earlier, w) && job_is_in_the_way(earlier, w, job)
 }
 
-fn is_some_kept(earlier: &[Filed], wants: &[Want], job: u8) -> bool
+fn is_some_kept(earlier: &Span<'_>, wants: &[Want], job: u8) -> bool
     ensures { result ≡ list_any (is_kept_by job (requests_in earlier.now)) wants.now }
 {
     wants.iter().any(|w| is_kept_by(earlier, w, job))
@@ -104,7 +105,7 @@ pub fn does_wait_for(filed: &[Filed], job: u8, other: u8) -> bool
     ensures { result ≡ waits_in job other [] filed.now }
 {
     for (i, f) in filed.iter().enumerate() {
-        if does_block(f, job) && is_some_kept(&filed[..i], f.wants(), other) {
+        if does_block(f, job) && is_some_kept(&Span::of(&filed[..i]), f.wants(), other) {
             return true;
         }
     }

@@ -15,9 +15,9 @@ mod rows;
 mod sharing;
 mod shelf;
 mod signature;
+mod span;
 mod standing;
 mod waiters;
-mod walks;
 mod window;
 
 pub use indexed::IndexedTable;

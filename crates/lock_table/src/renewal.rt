@@ -9,6 +9,7 @@ ghost use Rattle.lock_table.specs.Waiters.{waiters_in};
 use crate::filed::Filed;
 use crate::fits::are_fitting;
 use crate::signature::Signature;
+use crate::span::Span;
 use lock_queue::Woken;
 use lock_queue::steps::{do_agree, grant_of, is_pooled, is_told_of};
 
@@ -39,7 +40,7 @@ fn does_rise(earlier: &[Filed], f: &Filed, bits: Signature, last: &mut usize) ->
         return false;
     }
     *last = earlier.len();
-    are_fitting(earlier, f.wants())
+    are_fitting(&Span::of(earlier), f.wants())
 }
 
 /// Grants what rises, fills in the grants of those whose jobs are told, and answers the bits of the

@@ -16,6 +16,7 @@ use crate::filed::Filed;
 use crate::jobs::{does_some_block, tell};
 use crate::renewal::renew;
 use crate::signature::Signature;
+use crate::span::Span;
 use lock_queue::{Asking, Want, Wants, Woken};
 use std::alloc::{AllocError, Global};
 use std::marker::Model;
@@ -90,6 +91,21 @@ impl Shelf {
         ensures few { length result.now ≤ REQUESTS }
     {
         self.present.as_slice()
+    }
+
+    /// The same, to be walked over.
+    pub fn all(&self) -> Span<'_>
+        ensures value { result ≡ self.now }
+        ensures few { length result ≤ REQUESTS }
+    {
+        Span::of(self.present.as_slice())
+    }
+
+    /// How many there are.
+    pub fn len(&self) -> usize
+        ensures { result ≡ length self.now }
+    {
+        self.present.len()
     }
 
     #[tactic(auto, using(crate::proofs::WaiterLaws::waiters_push))]

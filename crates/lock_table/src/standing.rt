@@ -10,17 +10,17 @@ ghost use Rattle.lock_table.specs.Signatures.{bits_of};
 
 use crate::filed::Filed;
 use crate::fits::has_key;
-use crate::signature::{Signature, bits_of};
+use crate::signature::{KeyBits, bits_of};
 use lock_queue::steps::{level_in, with_owner, with_waiter};
 use lock_queue::{Key, Level, Status};
 
 /// The level of the request's first want of the key.
 #[tactic(auto, using(crate::proofs::SignatureLaws::unmet_wants))]
-fn level_of(f: &Filed, key: &Key, bits: Signature) -> Option<Level>
+fn level_of(f: &Filed, key: &Key, bits: KeyBits) -> Option<Level>
     requires { bits ≡ bits_of key.now }
     ensures { result ≡ first_level (filter (λ w. same_key w.key key.now) f.now.request.wants.items) }
 {
-    if f.meets(bits) {
+    if f.meets_key(bits) {
         level_in(f.wants(), key)
     } else {
         None

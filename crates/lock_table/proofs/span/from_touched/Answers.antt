@@ -3,7 +3,7 @@ use Rattle.std.proofs.lemmas.Grind.{common_steps}
 use Rattle.std.proofs.lemmas.Nat.{le_or_l, le_or_r}
 use Rattle.lock_table.specs.Walks.{from_touched}
 use Rattle.lock_table.proofs.WalkLaws.{touched-eight}
-use Rattle.lock_table.proofs.walks.from_touched.Goals as goal
+use Rattle.lock_table.proofs.span.from_touched.Goals as goal
 
 pub loop-rest-preserved : goal.loop-rest-preserved
 loop-rest-preserved c =

@@ -4,7 +4,7 @@ use Rattle.std.proofs.lemmas.Nat.{le_or_l, le_or_r}
 use Rattle.lock_table.specs.Filings.{Filing}
 use Rattle.lock_table.specs.Walks.{owned, from_own}
 use Rattle.lock_table.proofs.WalkLaws.{own-eight}
-use Rattle.lock_table.proofs.walks.from_near.Goals as goal
+use Rattle.lock_table.proofs.span.from_near.Goals as goal
 
 abbrev four : ℕ → Filing → Filing → Filing → Filing → ℕ
 four bits a b c d = bit_or (bit_or (owned bits a) (owned bits b)) (bit_or (owned bits c) (owned bits d))

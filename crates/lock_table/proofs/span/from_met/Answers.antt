@@ -3,7 +3,7 @@ use Rattle.std.proofs.lemmas.List.{take_all}
 use Rattle.lock_table.specs.Signatures.{meets, signature_of}
 use Rattle.lock_table.specs.Walks.{from_touched, from_met}
 use Rattle.lock_table.proofs.WalkLaws.{met-next}
-use Rattle.lock_table.proofs.walks.from_met.Goals as goal
+use Rattle.lock_table.proofs.span.from_met.Goals as goal
 
 pub loop-rest-preserved : goal.loop-rest-preserved
 loop-rest-preserved c =

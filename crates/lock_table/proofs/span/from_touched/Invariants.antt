@@ -1,6 +1,6 @@
 use Rattle.std.proofs.Common.{◌≡◌, ◌≤◌, length}
 use Rattle.lock_table.specs.Walks.{from_touched}
-use Rattle.lock_table.proofs.walks.from_touched.Given as goal
+use Rattle.lock_table.proofs.span.from_touched.Given as goal
 
 abbrev pub invariant-loop-rest : goal.invariant-loop-rest
 invariant-loop-rest l =

@@ -1,10 +1,77 @@
-//! Walks that look only into requests that touch a key's group, or into those of a job.
-ghost use Rattle.std.specs.Prelude.{◌≡◌, ◌<◌, ◌≤◌, ◌^◌, ◌%◌, drop, length, bit_or, IsTrue};
+//! Requests that stand one behind another, and walks that look only at those of a key or of a job.
+ghost use Rattle.std.specs.Prelude.{◌≡◌, [], ◌∷◌, ◌<◌, ◌≤◌, ◌^◌, ◌%◌, drop, length, bit_or, IsTrue, IfSome, MatchOption};
 ghost use Rattle.lock_table.specs.Walks.{touched, from_touched, from_met, owned, from_own};
 
 use crate::filed::Filed;
-use crate::signature::Signature;
+use crate::signature::{KeyBits, Signature};
 use crate::waiters::bit_of_job;
+use std::marker::Model;
+
+/// Requests that stand one behind another, in order of arrival.
+#[derive(Drop)]
+pub struct Span<'a> {
+    requests: &'a [Filed],
+}
+
+impl<'a> Model for Span<'a> {
+    ghost use Rattle.std.specs.Prelude.{List};
+    ghost use Rattle.lock_table.specs.Filings.{Filing};
+
+    ghost Value = { List Filing };
+
+    ghost view = { λ s. s.requests.now };
+}
+
+impl<'a> Span<'a> {
+    /// These requests.
+    pub fn of(requests: &'a [Filed]) -> Self
+        ensures { result ≡ requests.now }
+    {
+        Span { requests }
+    }
+
+    /// The first of them.
+    pub fn first(&self) -> Option<&'a Filed>
+        ensures value { MatchOption result (self.now ≡ []) (λ f. self.now ≡ f.now ∷ drop 1 self.now) }
+        ensures some { IfSome result (λ f. 1 ≤ length self.now) }
+    {
+        self.requests.first()
+    }
+
+    /// Those from the first on that touches the group and the class of a key.
+    pub fn from_met(&self, bits: KeyBits) -> Span<'a>
+        ensures value { result ≡ from_met bits self.now }
+        ensures shorter { length result ≤ length self.now }
+    {
+        Span::of(from_met(self.requests, bits.signature()))
+    }
+
+    /// Those behind the first, from the first on that touches the group and the class of a key.
+    pub fn next_met(&self, bits: KeyBits) -> Span<'a>
+        requires { 1 ≤ length self.now }
+        ensures value { result ≡ from_met bits (drop 1 self.now) }
+        ensures shorter { length result < length self.now }
+    {
+        Span::of(next_met(self.requests, bits.signature()))
+    }
+
+    /// Those from the first on that is the job's.
+    pub fn from_own(&self, job: u8) -> Span<'a>
+        ensures value { result ≡ from_own job self.now }
+        ensures shorter { length result ≤ length self.now }
+    {
+        Span::of(from_own(self.requests, job))
+    }
+
+    /// Those behind the first, from the first on that is the job's.
+    pub fn next_own(&self, job: u8) -> Span<'a>
+        requires { 1 ≤ length self.now }
+        ensures value { result ≡ from_own job (drop 1 self.now) }
+        ensures shorter { length result < length self.now }
+    {
+        Span::of(from_own(&self.requests[1..], job))
+    }
+}
 
 /// The groups that four requests touch.
 #[inline(always)]
@@ -40,7 +107,7 @@ fn from_touched(filed: &[Filed], groups: u64) -> &[Filed]
 
 /// The requests from the first on that touches one of the groups and one of the classes.
 #[tactic(auto, using(crate::proofs::WalkLaws::touched_met))]
-pub fn from_met(filed: &[Filed], bits: Signature) -> &[Filed]
+fn from_met(filed: &[Filed], bits: Signature) -> &[Filed]
     ensures value { result.now ≡ from_met bits filed.now }
     ensures shorter { length result.now ≤ length filed.now }
 {
@@ -57,7 +124,7 @@ pub fn from_met(filed: &[Filed], bits: Signature) -> &[Filed]
 /// The requests behind the first, from the first on that touches one of the groups and one of the
 /// classes. Where many do they stand side by side, so the next is looked at alone.
 #[inline(always)]
-pub fn next_met(filed: &[Filed], bits: Signature) -> &[Filed]
+fn next_met(filed: &[Filed], bits: Signature) -> &[Filed]
     requires { 1 ≤ length filed.now }
     ensures value { result.now ≡ from_met bits (drop 1 filed.now) }
     ensures shorter { length result.now < length filed.now }
@@ -108,7 +175,7 @@ fn from_near(filed: &[Filed], job: u8) -> &[Filed]
 }
 
 /// The requests from the first on that is the job's.
-pub fn from_own(filed: &[Filed], job: u8) -> &[Filed]
+fn from_own(filed: &[Filed], job: u8) -> &[Filed]
     ensures value { result.now ≡ from_own job filed.now }
     ensures shorter { length result.now ≤ length filed.now }
 {
