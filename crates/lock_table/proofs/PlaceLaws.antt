@@ -1,12 +1,15 @@
 -- Requests at places: what stands between two places, and what changes where one place is written.
-use Rattle.std.proofs.Common.{◌≡◌, ◌∙◌, sym, ap, subst, ℕ, zero, suc, ◌+◌, ◌<◌, ◌≤◌, ◌≢◌, Bool, true, false, not, ◌&&◌, ◌||◌, List, [], ◌∷◌, ◌++◌, append-nil, length, get_or, set, filter, Option, Some, None, is_some, is_none, refl, length-append, length-set, arith, add-one}
+use Rattle.std.proofs.Common.{◌≡◌, ◌∙◌, sym, ap, subst, ℕ, zero, suc, ◌+◌, ◌<◌, ◌≤◌, ◌≢◌, ◌==◌, ◌^◌, bit_and, Bool, true, false, not, ◌&&◌, ◌||◌, List, [], ◌∷◌, ◌++◌, append-nil, length, get_or, set, filter, Option, Some, None, is_some, is_none, refl, length-append, length-set, arith, add-one}
 use Rattle.std.specs.List.{list_all, list_any, cons_option}
 use Rattle.std.proofs.lemmas.List.{get_or-set_same, get_or-set_other}
 use Rattle.lock_queue.specs.declared.request.Request.{Request}
 use Rattle.lock_queue.proofs.Lists.{Has, Has-right}
 use Rattle.std.proofs.lemmas.List.Folds.{list_all-append}
 use Rattle.lock_table.specs.Filings.{Filing, requests_in}
-use Rattle.lock_table.specs.Windows.{at_place, between, present, revised, is_standing}
+use Rattle.lock_table.specs.Windows.{at_place, between, present, revised, is_standing, is_unmet}
+use Rattle.lock_table.specs.declared.signature.Signature.{Signature}
+use Rattle.lock_table.specs.Signatures.{signature_of}
+use Rattle.lock_table.specs.Walks.{touched}
 use Rattle.std.proofs.Common.{inl, inr}
 
 pub requests-append : (xs ys : List Filing) → requests_in (xs ++ ys) ≡ requests_in xs ++ requests_in ys
@@ -225,3 +228,19 @@ place-has a b p f os le lt is =
     (subst (λ l. Has l f.request) (sym (requests-append (between a p os) (between p b os)))
     (Has-right (requests_in (between a p os)) (requests_in (between p b os)) f.request
     (subst (λ l. Has (requests_in l) f.request) (sym (between-here p b f os lt is)) (inl refl))))
+
+pub passed-empty : (test : Filing → Bool) (a b : ℕ) (os : List (Option Filing))
+    → ((p : ℕ) → a ≤ p → p < b → at_place os p ≡ None) → list_all test (between a b os) ≡ true
+passed-empty test a b os each = ap (list_all test) (none-between a b os each)
+
+pub unmet-touched : (bits : Signature) (f : Filing) (g : ℕ) → bits.groups ≡ 2 ^ g → touched (2 ^ g) f ≡ 0 → is_unmet bits f ≡ true
+unmet-touched bits f g is none =
+    ap (λ n. not (not (n == 0) && not (bit_and (signature_of f.request.wants.items).classes bits.classes == 0)))
+    (ap (bit_and (signature_of f.request.wants.items).groups) is ∙ none)
+
+pub granted-waiting : (f : Filing) → not f.granted ≡ false → f.granted ≡ true
+granted-waiting f h = go f.granted h
+  where
+    go : (b : Bool) → not b ≡ false → b ≡ true
+    go true h = refl
+    go false h = absurd (cc)

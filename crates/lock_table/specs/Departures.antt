@@ -1,11 +1,11 @@
 -- Which requests leave, and the signature of what leaves.
-use Rattle.std.specs.Prelude.{ℕ, Bool, not, ◌==◌, ◌&&◌, if◌then◌else◌, List, [], ◌∷◌, Option, Some, None}
+use Rattle.std.specs.Prelude.{ℕ, Bool, not, ◌==◌, ◌&&◌, if◌then◌else◌, List, [], ◌∷◌, Option, Some, None, map}
 use Rattle.std.specs.List.{list_any}
 use Rattle.lock_queue.specs.declared.call.LockCall.{LockCall}
 use Rattle.lock_queue.specs.declared.call.LockCall.TheVariants.{DequeueAll, DequeueId}
 use Rattle.lock_queue.specs.declared.want.Want.{Want}
-use Rattle.lock_queue.specs.Changes.{changed}
-use Rattle.lock_queue.specs.Dequeues.{has_wants, without_keys, without_keys_of, has_id}
+use Rattle.lock_queue.specs.Changes.{changed, changed_want}
+use Rattle.lock_queue.specs.Dequeues.{has_wants, with_wants, without_keys, without_keys_of, has_id}
 use Rattle.lock_queue.specs.Jobs.{is_blocking}
 use Rattle.lock_queue.specs.Queue.{names}
 use Rattle.lock_table.specs.declared.departures.Leaving.{Leaving}
@@ -51,6 +51,10 @@ keeps_wants f = has_wants f.request
 
 abbrev pub with_change : ℕ → List Want → Filing → Filing
 with_change job changes f = filing (changed job changes f.request) f.granted
+
+-- the same of any request
+abbrev pub with_changes : List Want → Filing → Filing
+with_changes changes f = filing (with_wants f.request (map (changed_want changes) f.request.wants.items)) f.granted
 
 -- the call by which all requests leave, or all of an id
 abbrev pub call_of : Option ℕ → LockCall

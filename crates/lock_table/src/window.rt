@@ -1,15 +1,19 @@
 //! Requests at places, in order of arrival, and the rows by which those of a key or of a job are found.
-ghost use Rattle.std.specs.Prelude.{◌≡◌, ◌+◌, ◌<◌, ◌≤◌, ◌==◌, None, Some, [], true, false, not, length, set, MatchOption, IfOk, IsTrue, vec_capacity};
+ghost use Rattle.std.specs.Prelude.{◌≡◌, ℕ, ◌+◌, ◌<◌, ◌≤◌, ◌==◌, None, Some, [], true, false, not, length, set, MatchOption, IfOk, IsTrue, vec_capacity};
 ghost use Rattle.std.specs.List.{list_all};
 ghost use Rattle.word36.specs.declared.sizes.TheConstants.{REQUESTS};
+ghost use Rattle.lock_table.specs.Departures.{fewer, with_changes};
 ghost use Rattle.lock_table.specs.Filings.{Filing};
 ghost use Rattle.lock_table.specs.Findings.{with_told};
 ghost use Rattle.lock_table.specs.Renewals.{with_grant};
 ghost use Rattle.lock_table.specs.Rows.{Covers};
-ghost use Rattle.lock_table.specs.Windows.{at_place, between, present, revised, IsBetween, is_own, is_other, is_standing};
+ghost use Rattle.lock_table.specs.Windows.{at_place, between, present, revised, IsBetween, is_met, is_other, is_own, is_standing, is_unmet, is_waiting};
 
 use crate::filed::Filed;
 use crate::rows::Rows;
+use crate::signature::KeyBits;
+use lock_queue::Want;
+use std::alloc::{AllocError, Global};
 use std::marker::Model;
 use word36::REQUESTS;
 
@@ -39,11 +43,25 @@ impl Model for Window {
     ghost view = { λ w. w.slots.items };
 
     ghost invariant = { λ w. IsKept w.slots.items w.rows w.first w.end
+        × (512 ≤ vec_capacity w.slots)
         × (length (present w.slots.items) + length w.spare.items ≡ REQUESTS)
         × (REQUESTS ≤ vec_capacity w.spare) };
 }
 
 impl Window {
+    /// An empty one.
+    pub fn new(alloc: Global) -> Result<Self, AllocError>
+        ensures { IfOk result (λ w. present w ≡ []) }
+    {
+        Ok(Window {
+            slots: empty_slots(alloc)?,
+            spare: spares(alloc)?,
+            rows: Rows::new(alloc)?,
+            first: 0,
+            end: 0,
+        })
+    }
+
     /// How many requests there are.
     pub fn len(&self) -> usize
         ensures value { result ≡ length (present self.now) }
@@ -77,7 +95,7 @@ impl Window {
         ensures passed { list_all (is_other job) (between from result self.now) ≡ true }
         ensures there { result < end → IsTrue (is_own job (at_place self.now result)) }
     {
-        let mut at = from;
+        let mut at = start_of(from, self.first, end);
         while let Some(place) = self.rows.next_of_job(at, job) {
             if place >= end {
                 break;
@@ -89,6 +107,203 @@ impl Window {
         }
         end
     }
+
+    /// The first place from one on where a request touches a key's group and class, before another; or that one.
+    pub fn next_met(&self, from: usize, end: usize, bits: KeyBits) -> usize
+        requires { (from ≤ end) × (end ≤ PLACES) }
+        ensures range { IsBetween from end result }
+        ensures passed { list_all (is_unmet bits) (between from result self.now) ≡ true }
+        ensures there { result < end → IsTrue (is_met bits (at_place self.now result)) }
+    {
+        let mut at = start_of(from, self.first, end);
+        while let Some(place) = self.rows.next_of_group(at, bits.group()) {
+            if place >= end {
+                break;
+            }
+            if is_met(slot_at(self.slots.as_slice(), place), bits) {
+                return place;
+            }
+            at = place + 1;
+        }
+        end
+    }
+
+    /// The first place from one on where a request is not granted, before another; or that one.
+    pub fn next_waiting(&self, from: usize, end: usize) -> usize
+        requires { (from ≤ end) × (end ≤ PLACES) }
+        ensures range { IsBetween from end result }
+        ensures passed { list_all (λ f. f.granted) (between from result self.now) ≡ true }
+        ensures there { result < end → IsTrue (is_waiting (at_place self.now result)) }
+    {
+        let mut at = start_of(from, self.first, end);
+        while let Some(place) = self.rows.next_waiting(at) {
+            if place >= end {
+                break;
+            }
+            if is_waiting(slot_at(self.slots.as_slice(), place)) {
+                return place;
+            }
+            at = place + 1;
+        }
+        end
+    }
+}
+
+impl Window {
+    /// Takes out the request at a place, if one stands there.
+    pub fn remove(&mut self, place: usize)
+        requires { place < PLACES }
+        ensures { self.new ≡ set self.old place None }
+    {
+        if let Some(filed) = self.slots[place].take() {
+            self.rows.remove(place, filed.signature().groups, filed.job());
+            let _ = self.spare.push(filed);
+            (self.first, self.end) = trimmed(self.slots.as_slice(), self.first, self.end);
+        }
+    }
+
+    /// Grants the request at a place, if one stands there.
+    pub fn grant(&mut self, place: usize)
+        requires { place < PLACES }
+        ensures { self.new ≡ set self.old place (revised with_grant (at_place self.old place)) }
+    {
+        grant_in(&mut self.slots[place]);
+        self.rows.stop_waiting(place);
+    }
+
+    /// Marks the request at a place as told, if one stands there.
+    pub fn tell(&mut self, place: usize)
+        requires { place < PLACES }
+        ensures { self.new ≡ set self.old place (revised with_told (at_place self.old place)) }
+    {
+        tell_in(&mut self.slots[place]);
+    }
+
+    /// Makes the wants of the request at a place shared or exclusive, each as the change of its key says,
+    /// if there is one.
+    pub fn change(&mut self, place: usize, changes: &[Want])
+        requires { place < PLACES }
+        ensures { self.new ≡ set self.old place (revised (with_changes changes.now) (at_place self.old place)) }
+    {
+        change_in(&mut self.slots[place], changes);
+    }
+
+    /// Takes the wants of the named keys out of the request at a place, if one stands there.
+    pub fn remove_keys(&mut self, place: usize, named: &[Want])
+        requires { place < PLACES }
+        ensures { self.new ≡ set self.old place (revised (fewer named.now) (at_place self.old place)) }
+    {
+        if let Some(filed) = &mut self.slots[place] {
+            self.rows.remove(place, filed.signature().groups, filed.job());
+            filed.remove_keys(named);
+            self.rows.add(place, filed.signature().groups, filed.job(), !filed.is_granted());
+        }
+    }
+}
+
+fn empty_slots(alloc: Global) -> Result<Vec<Option<Filed>>, AllocError>
+    ensures long { IfOk result (λ v. length v.items ≡ PLACES) }
+    ensures empty { IfOk result (λ v. present v.items ≡ []) }
+    ensures room { IfOk result (λ v. PLACES ≤ vec_capacity v) }
+{
+    let mut slots = Vec::with_capacity(alloc, PLACES)?;
+    fill(&mut slots);
+    Ok(slots)
+}
+
+/// Appends empty places until there are 512.
+fn fill(slots: &mut Vec<Option<Filed>>)
+    requires { (length slots.old.items ≤ PLACES) × (PLACES ≤ vec_capacity slots.old) }
+    ensures long { length slots.new.items ≡ PLACES }
+    ensures same { present slots.new.items ≡ present slots.old.items }
+    ensures front { (p : ℕ) → p < length slots.old.items → at_place slots.new.items p ≡ at_place slots.old.items p }
+    ensures behind { (p : ℕ) → length slots.old.items ≤ p → at_place slots.new.items p ≡ None }
+    ensures room { PLACES ≤ vec_capacity slots.new }
+{
+    while slots.len() < PLACES {
+        let _ = slots.push(None);
+    }
+}
+
+fn spares(alloc: Global) -> Result<Vec<Filed>, AllocError>
+    ensures long { IfOk result (λ v. length v.items ≡ REQUESTS) }
+    ensures room { IfOk result (λ v. REQUESTS ≤ vec_capacity v) }
+{
+    let mut spare = Vec::with_capacity(alloc, REQUESTS)?;
+    for _ in 0..REQUESTS {
+        spare.push(Filed::new(alloc)?)?;
+    }
+    Ok(spare)
+}
+
+fn grant_in(slot: &mut Option<Filed>)
+    ensures { slot.new ≡ revised with_grant slot.old }
+{
+    if let Some(filed) = slot {
+        filed.grant();
+    }
+}
+
+fn tell_in(slot: &mut Option<Filed>)
+    ensures { slot.new ≡ revised with_told slot.old }
+{
+    if let Some(filed) = slot {
+        filed.tell();
+    }
+}
+
+fn change_in(slot: &mut Option<Filed>, changes: &[Want])
+    ensures { slot.new ≡ revised (with_changes changes.now) slot.old }
+{
+    if let Some(filed) = slot {
+        filed.change(changes);
+    }
+}
+
+/// Where the first request stands and behind which place none does, where it was known that none stands
+/// before `first` and from `end` on.
+fn trimmed(slots: &[Option<Filed>], first: usize, end: usize) -> (usize, usize)
+    requires order { first ≤ end }
+    requires most { end ≤ length slots.now }
+    requires before { (p : ℕ) → p < first → at_place slots.now p ≡ None }
+    requires behind { (p : ℕ) → end ≤ p → at_place slots.now p ≡ None }
+    ensures order { result.0 ≤ result.1 }
+    ensures most { result.1 ≤ end }
+    ensures before { (p : ℕ) → p < result.0 → at_place slots.now p ≡ None }
+    ensures behind { (p : ℕ) → result.1 ≤ p → at_place slots.now p ≡ None }
+{
+    let front = first_standing(slots, first, end);
+    if front == end {
+        (0, 0)
+    } else {
+        (front, end_behind(slots, front, end))
+    }
+}
+
+/// The first place from one on where a request stands, before another; or that one.
+fn first_standing(slots: &[Option<Filed>], from: usize, end: usize) -> usize
+    requires { (from ≤ end) × (end ≤ length slots.now) }
+    ensures range { IsBetween from end result }
+    ensures passed { (p : ℕ) → from ≤ p → p < result → at_place slots.now p ≡ None }
+{
+    let mut at = from;
+    while at < end && is_empty(slots, at) {
+        at += 1;
+    }
+    at
+}
+
+/// The place behind the last request that stands from one place on and before another.
+fn end_behind(slots: &[Option<Filed>], from: usize, end: usize) -> usize
+    requires { (from ≤ end) × (end ≤ length slots.now) }
+    ensures range { IsBetween from end result }
+    ensures passed { (p : ℕ) → result ≤ p → p < end → at_place slots.now p ≡ None }
+{
+    let mut at = end;
+    while from < at && is_empty(slots, at - 1) {
+        at -= 1;
+    }
+    at
 }
 
 /// The first place from one on where a request stands, before another; or that one.
@@ -132,5 +347,40 @@ fn is_own(slot: &Option<Filed>, job: u8) -> bool
     match slot {
         Some(f) => f.job() == job,
         None => false,
+    }
+}
+
+/// Whether a request stands there that touches a key's group and class.
+fn is_met(slot: &Option<Filed>, bits: KeyBits) -> bool
+    ensures { result ≡ is_met bits slot.now }
+{
+    match slot {
+        Some(f) => f.meets_key(bits),
+        None => false,
+    }
+}
+
+/// Whether a request stands there that is not granted.
+fn is_waiting(slot: &Option<Filed>) -> bool
+    ensures { result ≡ is_waiting slot.now }
+{
+    match slot {
+        Some(f) => !f.is_granted(),
+        None => false,
+    }
+}
+
+/// Where a walk from one place to another may begin, since no request stands before the first.
+fn start_of(from: usize, first: usize, end: usize) -> usize
+    requires { from ≤ end }
+    ensures range { IsBetween from end result }
+    ensures passed { (p : ℕ) → from ≤ p → p < result → p < first }
+{
+    if from >= first {
+        from
+    } else if first < end {
+        first
+    } else {
+        end
     }
 }
