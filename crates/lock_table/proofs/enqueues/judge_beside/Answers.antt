@@ -27,10 +27,10 @@ loop-f-preserved c =
     let w = c.args.w.now in
     let xs = c.loop-f.rest in
     let ys = c.next_met-rest.result in
-    let f = c.f-item.result in
-    let all = walk-all w.key c.bits_of-bits.result xs ys f c.bits_of-bits.ensures c.in-len1-up.len_at_least c.f-item.is c.next_met-rest.ensures.value (λ v. are_alike v w) in
-    let agreeing = walk-all w.key c.bits_of-bits.result xs ys f c.bits_of-bits.ensures c.in-len1-up.len_at_least c.f-item.is c.next_met-rest.ensures.value (λ v. agree v w) in
-    let named = walk-names w.key c.bits_of-bits.result xs ys f c.bits_of-bits.ensures c.in-len1-up.len_at_least c.f-item.is c.next_met-rest.ensures.value c.args.job in
+    let f = c.in-Some.f.now in
+    let all = walk-all w.key c.bits_of-bits.result xs ys f c.bits_of-bits.ensures c.in-Some.ensures.value c.next_met-rest.ensures.value (λ v. are_alike v w) in
+    let agreeing = walk-all w.key c.bits_of-bits.result xs ys f c.bits_of-bits.ensures c.in-Some.ensures.value c.next_met-rest.ensures.value (λ v. agree v w) in
+    let named = walk-names w.key c.bits_of-bits.result xs ys f c.bits_of-bits.ensures c.in-Some.ensures.value c.next_met-rest.ensures.value c.args.job in
     let mine : list_all (λ v. are_alike v w) (filter (λ v. same_key v.key w.key) f.request.wants.items) ≡ true =
     grind (arith, c.are_alike_in.ensures, c.wants.ensures, c.if-not-are_alike_in.false) in record {
       alike = sym (all ∙ ap (λ b. b && list_all (λ v. are_alike v w) (wants_at (requests_in ys) w.key)) mine) ∙ c.loop-f.invariant.alike;
@@ -45,10 +45,10 @@ loop-f-preserved c =
 pub returns-then-not-are_alike_in : goal.returns-then-not-are_alike_in
 returns-then-not-are_alike_in c =
     let w = c.args.w.now in
-    let f = c.f-item.result in
+    let f = c.in-Some.f.now in
     let xs = c.loop-f.rest in
     let rs = requests_in c.args.filed.now in
-    let all = first-all (λ v. are_alike v w) w.key xs f c.in-len1-up.len_at_least c.f-item.is in
+    let all = first-all (λ v. are_alike v w) w.key xs f c.in-Some.ensures.value in
     let mine : list_all (λ v. are_alike v w) (filter (λ v. same_key v.key w.key) f.request.wants.items) ≡ false =
     grind (arith, c.are_alike_in.ensures, c.wants.ensures, c.if-not-are_alike_in.true) in
     let off : list_all (λ v. are_alike v w) (wants_at rs w.key) ≡ false =

@@ -15,8 +15,8 @@ loop-f-init c =
 
 pub loop-f-preserved : goal.loop-f-preserved
 loop-f-preserved c =
-    let step = walk-all c.args.w.now.key c.bits_of-bits.result c.loop-f.rest c.next_met-rest.result c.f-item.result c.bits_of-bits.ensures c.in-len1-up.len_at_least c.f-item.is c.next_met-rest.ensures.value (λ v. agree v c.args.w.now) in
-    let mine : list_all (λ v. agree v c.args.w.now) (filter (λ v. same_key v.key c.args.w.now.key) c.f-item.result.request.wants.items) ≡ true =
+    let step = walk-all c.args.w.now.key c.bits_of-bits.result c.loop-f.rest c.next_met-rest.result c.in-Some.f.now c.bits_of-bits.ensures c.in-Some.ensures.value c.next_met-rest.ensures.value (λ v. agree v c.args.w.now) in
+    let mine : list_all (λ v. agree v c.args.w.now) (filter (λ v. same_key v.key c.args.w.now.key) c.in-Some.f.now.request.wants.items) ≡ true =
     grind (arith, c.all_agree_in.ensures, c.wants.ensures, c.if-not-all_agree_in.false) in
     sym (step ∙ ap (λ b. b && list_all (λ v. agree v c.args.w.now) (wants_at (requests_in c.next_met-rest.result) c.args.w.now.key)) mine)
     ∙ c.loop-f.invariant

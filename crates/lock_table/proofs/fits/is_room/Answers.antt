@@ -16,10 +16,10 @@ loop-f-init c =
 
 pub returns-in-None : goal.returns-in-None
 returns-in-None c =
-    let step = first-sum c.args.key.now c.loop-f.rest c.f-item.result c.in-len1-up.len_at_least c.f-item.is in
+    let step = first-sum c.args.key.now c.loop-f.rest c.in-Some.f.now c.in-Some.ensures.value in
     grind (arith, nat_tests, step, c.in-None.ensures, c.loop-f.invariant)
 
 pub loop-f-preserved : goal.loop-f-preserved
 loop-f-preserved c =
-    let step = walk-sum c.args.key.now c.bits_of-bits.result c.loop-f.rest c.next_met-rest.result c.f-item.result c.bits_of-bits.ensures c.in-len1-up.len_at_least c.f-item.is c.next_met-rest.ensures.value amount_of in
+    let step = walk-sum c.args.key.now c.bits_of-bits.result c.loop-f.rest c.next_met-rest.result c.in-Some.f.now c.bits_of-bits.ensures c.in-Some.ensures.value c.next_met-rest.ensures.value amount_of in
     omega (arith, step, c.in-Some.ensures, c.loop-f.invariant)

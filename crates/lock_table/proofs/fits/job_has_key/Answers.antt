@@ -13,6 +13,6 @@ loop-f-init c =
 
 pub loop-f-preserved : goal.loop-f-preserved
 loop-f-preserved c =
-    let step = walk-names c.args.key.now c.bits_of-bits.result c.loop-f.rest c.next_met-rest.result c.f-item.result c.bits_of-bits.ensures c.in-len1-up.len_at_least c.f-item.is c.next_met-rest.ensures.value c.args.job in
-    let off : (c.f-item.result.request.job == c.args.job && names c.f-item.result.request.wants.items c.args.key.now) ≡ false = sym c.job_names.ensures ∙ c.if-job_names.false in
+    let step = walk-names c.args.key.now c.bits_of-bits.result c.loop-f.rest c.next_met-rest.result c.in-Some.f.now c.bits_of-bits.ensures c.in-Some.ensures.value c.next_met-rest.ensures.value c.args.job in
+    let off : (c.in-Some.f.now.request.job == c.args.job && names c.in-Some.f.now.request.wants.items c.args.key.now) ≡ false = sym c.job_names.ensures ∙ c.if-job_names.false in
     sym (step ∙ ap (λ b. b || names (wants_of (requests_in c.next_met-rest.result) c.args.job) c.args.key.now) off) ∙ c.loop-f.invariant
