@@ -9,4 +9,5 @@ pub mod LossLaws
 pub mod LevelLaws
 mod WaiterLaws
 pub mod WalkLaws
+pub mod SetLaws
 pub mod GivingUpLaws
