@@ -10,4 +10,5 @@ pub mod LevelLaws
 mod WaiterLaws
 pub mod WalkLaws
 pub mod SetLaws
+pub mod RowLaws
 pub mod GivingUpLaws

@@ -1,8 +1,8 @@
 -- A walk over the set bits of a number that writes a set for each.
 use Rattle.std.proofs.Common.{◌≡◌, ◌∙◌, sym, ap, ℕ, ◌+◌, ◌-◌, ◌*◌, ◌/◌, ◌%◌, ◌^◌, ◌<◌, ◌≤◌, ◌==◌, Bool, true, false, not, ◌&&◌, ◌||◌, inl, inr, List, [], ◌∷◌, length, get_or, refl, arith, bit_and, w64}
-use Rattle.std.proofs.Math.ListN.{set}
-use Rattle.std.proofs.lemmas.Bool.{cases_eq, eq-eqb}
-use Rattle.std.proofs.lemmas.List.{get_or-set_other, get_or_past}
+use Rattle.std.proofs.Math.ListN.{set, replicate, length-replicate}
+use Rattle.std.proofs.lemmas.Bool.{cases_eq, cases_lt, eq-eqb}
+use Rattle.std.proofs.lemmas.List.{get_or-set_other, get_or_past, get_or-replicate}
 use Rattle.std.proofs.lemmas.Grind.{get_or-set_at}
 use Rattle.std.proofs.lemmas.Nat.{and_le_l}
 use Rattle.std.proofs.lemmas.Nat.Bits.{bit_at-lt, bit_at-zero, bit_at_and, bit_at-trailing_zeros, bit_at_clear_same, bit_at_clear_other}
@@ -106,3 +106,13 @@ none p = ap (λ w. bit_at w (p % 64) == 1) (get_or_past [] (p / 64) 0 (omega ari
 -- past the last set there is no place
 pub none-past : (sets : List PlaceSet) (i p : ℕ) → length sets ≤ i → has (row sets i) p ≡ false
 none-past sets i p past = ap (λ s. has s p) (get_or_past sets i (record { words = [] }) past) ∙ none p
+
+-- copies of a set of no places have none
+pub none-in-copies : (sets : List PlaceSet) (copy : PlaceSet) (n : ℕ) → ((p : ℕ) → has copy p ≡ false) → sets ≡ replicate n copy
+    → (i p : ℕ) → has (row sets i) p ≡ false
+none-in-copies sets copy n empty are i p =
+    elim (cases_lt i n) [
+      | inl within ↦
+          ap (λ l. has (row l i) p) are ∙ ap (λ s. has s p) (get_or-replicate n i copy (record { words = [] }) within) ∙ empty p
+      | inr past ↦ none-past sets i p (rw (ap length are, length-replicate n copy) past)
+    ]

@@ -19,9 +19,7 @@ impl PlaceSet {
     pub fn empty() -> Self
         ensures { (p : ℕ) → has result p ≡ false }
     {
-        PlaceSet {
-            words: [0; WORDS],
-        }
+        PlaceSet { words: [0; WORDS] }
     }
 
     /// Takes all places out.
