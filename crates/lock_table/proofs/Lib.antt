@@ -10,4 +10,6 @@ pub mod LevelLaws
 mod WaiterLaws
 pub mod PlaceLaws
 pub mod WalkLaws
+pub mod SetLaws
+pub mod RowLaws
 pub mod GivingUpLaws

@@ -1,4 +1,6 @@
 pub mod Signatures
+pub mod Sets
+pub mod Rows
 pub mod Filings
 pub mod Renewals
 pub mod Departures

@@ -8,6 +8,7 @@ mod dequeues;
 mod enqueues;
 mod filed;
 mod fits;
+mod group_sets;
 mod indexed;
 mod jobs;
 mod renewal;
