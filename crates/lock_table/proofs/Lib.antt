@@ -9,6 +9,7 @@ pub mod LossLaws
 pub mod LevelLaws
 mod WaiterLaws
 pub mod PlaceLaws
+pub mod KeptLaws
 pub mod WalkLaws
 pub mod SetLaws
 pub mod RowLaws

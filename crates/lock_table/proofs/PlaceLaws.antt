@@ -199,6 +199,11 @@ length-revised i change os lt =
     ∙ revised-long (at_place os i) change (between 0 i os) (between (i + 1) (length os) os)
     ∙ ap length (sym (present-at i os lt))
 
+pub length-replaced : (i : ℕ) (f g : Filing) (os : List (Option Filing)) → i < length os → at_place os i ≡ Some f
+    → length (present (set os i (Some g))) ≡ length (present os)
+length-replaced i f g os lt is =
+    ap (λ o. length (present (set os i o))) (sym (ap (revised (λ x. g)) is)) ∙ length-revised i (λ x. g) os lt
+
 -- ---- what a walk has passed
 
 pub passed-on : (test : Filing → Bool) (a b e : ℕ) (os : List (Option Filing)) → a ≤ b → b ≤ e
@@ -244,3 +249,46 @@ granted-waiting f h = go f.granted h
     go : (b : Bool) → not b ≡ false → b ≡ true
     go true h = refl
     go false h = absurd (cc)
+
+-- ---- one more empty place
+
+pub present-more : (os : List (Option Filing)) → present (os ++ None ∷ []) ≡ present os
+present-more [] = refl
+present-more (o ∷ os) = ap (cons_option o) (present-more os)
+
+pub place-more : (os : List (Option Filing)) (p : ℕ) → at_place (os ++ None ∷ []) p ≡ at_place os p
+place-more [] zero = refl
+place-more [] (suc p) = refl
+place-more (o ∷ os) zero = refl
+place-more (o ∷ os) (suc p) = place-more os p
+
+-- ---- those that are present moved up
+
+pub present-packed : (os : List (Option Filing)) → present (filter is_some os) ≡ present os
+present-packed [] = refl
+present-packed (None ∷ os) = present-packed os
+present-packed (Some f ∷ os) = ap (λ l. f ∷ l) (present-packed os)
+
+pub length-packed : (os : List (Option Filing)) → length (filter is_some os) ≡ length (present os)
+length-packed [] = refl
+length-packed (None ∷ os) = length-packed os
+length-packed (Some f ∷ os) = ap suc (length-packed os)
+
+pub place-past : (os : List (Option Filing)) (p : ℕ) → length os ≤ p → at_place os p ≡ None
+place-past [] p le = refl
+place-past (o ∷ os) zero le = absurd (omega arith)
+place-past (o ∷ os) (suc p) le = place-past os p (omega arith)
+
+-- one more at a place behind which there is none
+pub present-put : (i : ℕ) (f : Filing) (os : List (Option Filing)) → i < length os → ((p : ℕ) → i ≤ p → at_place os p ≡ None)
+    → present (set os i (Some f)) ≡ present os ++ f ∷ []
+present-put i f os lt none =
+    present-set i (Some f) os lt
+    ∙ ap (λ l. between 0 i os ++ f ∷ l) (none-between (i + 1) (length os) os (λ p le few. none p (omega arith)))
+    ∙ ap (λ l. l ++ f ∷ [])
+    (sym (sym (between-all (length os) os (omega arith)) ∙ between-split 0 i (length os) os (omega arith) (omega arith)
+    ∙ ap (λ l. between 0 i os ++ l) (none-between i (length os) os (λ p le few. none p le)) ∙ append-nil (between 0 i os)))
+
+-- all up to behind a place that is emptied
+pub emptied-on : (i : ℕ) (os : List (Option Filing)) → i < length os → between 0 i os ≡ [] → between 0 (i + 1) (set os i None) ≡ []
+emptied-on i os lt h = between-set 0 i None os (omega arith) lt ∙ ap (λ l. l ++ []) h

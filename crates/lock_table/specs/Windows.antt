@@ -1,6 +1,7 @@
 -- Requests at places, in order of arrival: a place is empty where its request has left.
 use Rattle.std.specs.Prelude.{◌≡◌, Bool, true, false, not, ◌==◌, ℕ, zero, suc, ◌<◌, ◌≤◌, List, [], ◌∷◌, length, get_or, Option, Some, None}
 use Rattle.std.specs.List.{cons_option}
+use Rattle.place_sets.specs.declared.place_set.TheConstants.{PLACES}
 use Rattle.lock_table.specs.declared.rows.Rows.{Rows}
 use Rattle.lock_table.specs.Filings.{Filing}
 use Rattle.lock_table.specs.Rows.{Covers}
@@ -30,12 +31,12 @@ revised change (Some f) = Some (change f)
 
 -- what a window keeps: its rows have the place of each request, and there is none before one place and from another on
 pub record IsKept (slots : List (Option Filing)) (rows : Rows) (first : ℕ) (end : ℕ) : Type 0 where
-  pub long : length slots ≡ 512
+  pub long : length slots ≡ PLACES
   pub covered : (p : ℕ) (f : Filing) → at_place slots p ≡ Some f → Covers rows p f
   pub before : (p : ℕ) → p < first → at_place slots p ≡ None
   pub behind : (p : ℕ) → end ≤ p → at_place slots p ≡ None
   pub order : first ≤ end
-  pub most : end ≤ 512
+  pub most : end ≤ PLACES
 
 -- a place from one on, up to another
 pub record IsBetween (from : ℕ) (end : ℕ) (place : ℕ) : Type 0 where

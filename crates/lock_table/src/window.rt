@@ -1,24 +1,25 @@
 //! Requests at places, in order of arrival, and the rows by which those of a key or of a job are found.
-ghost use Rattle.std.specs.Prelude.{◌≡◌, ℕ, ◌+◌, ◌<◌, ◌≤◌, ◌==◌, None, Some, [], true, false, not, length, set, MatchOption, IfOk, IsTrue, vec_capacity};
+ghost use Rattle.std.specs.Prelude.{◌≡◌, ℕ, filter, is_some, ◌+◌, ◌<◌, ◌≤◌, ◌==◌, None, Some, [], ◌∷◌, ◌++◌, true, false, not, length, set, MatchOption, IfOk, IsTrue, vec_capacity};
 ghost use Rattle.std.specs.List.{list_all};
-ghost use Rattle.word36.specs.declared.sizes.TheConstants.{REQUESTS};
+ghost use Rattle.place_sets.specs.declared.place_set.TheConstants.{PLACES};
+ghost use Rattle.word36.specs.declared.sizes.TheConstants.{LOCKS_A_CALL, REQUESTS};
+ghost use Rattle.lock_queue.specs.Enqueues.{request_of};
+ghost use Rattle.lock_queue.specs.WellFormed.{is_in_range};
 ghost use Rattle.lock_table.specs.Departures.{fewer, with_changes};
-ghost use Rattle.lock_table.specs.Filings.{Filing};
+ghost use Rattle.lock_table.specs.Filings.{Filing, filing};
 ghost use Rattle.lock_table.specs.Findings.{with_told};
 ghost use Rattle.lock_table.specs.Renewals.{with_grant};
 ghost use Rattle.lock_table.specs.Rows.{Covers};
-ghost use Rattle.lock_table.specs.Windows.{at_place, between, present, revised, IsBetween, is_met, is_other, is_own, is_standing, is_unmet, is_waiting};
+ghost use Rattle.lock_table.specs.Windows.{at_place, between, present, revised, IsBetween, IsKept, is_met, is_other, is_own, is_standing, is_unmet, is_waiting};
 
 use crate::filed::Filed;
 use crate::rows::Rows;
 use crate::signature::KeyBits;
-use lock_queue::Want;
+use lock_queue::{Asking, Want, Wants};
+use place_sets::PLACES;
 use std::alloc::{AllocError, Global};
 use std::marker::Model;
 use word36::REQUESTS;
-
-/// The places.
-const PLACES: usize = 512;
 
 /// Requests at places, and unused ones.
 #[derive(Drop)]
@@ -34,6 +35,7 @@ pub struct Window {
 
 impl Model for Window {
     ghost use Rattle.std.specs.Prelude.{◌≡◌, ◌≤◌, ◌+◌, List, Option, length, vec_capacity};
+    ghost use Rattle.place_sets.specs.declared.place_set.TheConstants.{PLACES};
     ghost use Rattle.word36.specs.declared.sizes.TheConstants.{REQUESTS};
     ghost use Rattle.lock_table.specs.Filings.{Filing};
     ghost use Rattle.lock_table.specs.Windows.{present, IsKept};
@@ -43,7 +45,7 @@ impl Model for Window {
     ghost view = { λ w. w.slots.items };
 
     ghost invariant = { λ w. IsKept w.slots.items w.rows w.first w.end
-        × (512 ≤ vec_capacity w.slots)
+        × (PLACES ≤ vec_capacity w.slots)
         × (length (present w.slots.items) + length w.spare.items ≡ REQUESTS)
         × (REQUESTS ≤ vec_capacity w.spare) };
 }
@@ -150,6 +152,33 @@ impl Window {
 }
 
 impl Window {
+    /// Appends a request of these wants. Where the last place is used, those that are present move up.
+    pub fn push(&mut self, job: u8, asking: &Asking, told: bool, wants: &Wants, granted: bool)
+        requires { length (present self.old) < REQUESTS }
+        ensures value { present self.new ≡
+            present self.old ++ filing (request_of job asking.now told wants.now) granted ∷ [] }
+        ensures few { length wants.now.items ≤ LOCKS_A_CALL }
+        ensures range { IsTrue (list_all is_in_range wants.now.items) }
+    {
+        let (first, end) = make_room(&mut self.slots, &mut self.rows, self.first, self.end);
+        let mut filed = self.spare.swap_remove(self.spare.len() - 1);
+        filed.write(job, asking, told, wants, granted);
+        self.rows.add(end, filed.signature().groups, job, !granted);
+        self.slots[end] = Some(filed);
+        self.first = first;
+        self.end = end + 1;
+    }
+
+    /// Takes out all.
+    pub fn clear(&mut self)
+        ensures { present self.new ≡ [] }
+    {
+        let _ = &self.slots;
+        for place in 0..PLACES {
+            self.remove(place);
+        }
+    }
+
     /// Takes out the request at a place, if one stands there.
     pub fn remove(&mut self, place: usize)
         requires { place < PLACES }
@@ -157,7 +186,7 @@ impl Window {
     {
         if let Some(filed) = self.slots[place].take() {
             self.rows.remove(place, filed.signature().groups, filed.job());
-            let _ = self.spare.push(filed);
+            store(&mut self.spare, filed);
             (self.first, self.end) = trimmed(self.slots.as_slice(), self.first, self.end);
         }
     }
@@ -211,17 +240,34 @@ fn empty_slots(alloc: Global) -> Result<Vec<Option<Filed>>, AllocError>
     Ok(slots)
 }
 
+/// Puts a request away.
+fn store(spare: &mut Vec<Filed>, filed: Filed)
+    requires { length spare.old.items < vec_capacity spare.old }
+    ensures items { spare.new.items ≡ spare.old.items ++ filed ∷ [] }
+    ensures room { vec_capacity spare.old ≤ vec_capacity spare.new }
+{
+    let _ = spare.push(filed);
+}
+
+/// Appends an empty place.
+fn add_empty(slots: &mut Vec<Option<Filed>>)
+    requires { length slots.old.items < vec_capacity slots.old }
+    ensures items { slots.new.items ≡ slots.old.items ++ None ∷ [] }
+    ensures room { vec_capacity slots.old ≤ vec_capacity slots.new }
+{
+    let _ = slots.push(None);
+}
+
 /// Appends empty places until there are 512.
 fn fill(slots: &mut Vec<Option<Filed>>)
     requires { (length slots.old.items ≤ PLACES) × (PLACES ≤ vec_capacity slots.old) }
     ensures long { length slots.new.items ≡ PLACES }
     ensures same { present slots.new.items ≡ present slots.old.items }
-    ensures front { (p : ℕ) → p < length slots.old.items → at_place slots.new.items p ≡ at_place slots.old.items p }
-    ensures behind { (p : ℕ) → length slots.old.items ≤ p → at_place slots.new.items p ≡ None }
+    ensures places { (p : ℕ) → at_place slots.new.items p ≡ at_place slots.old.items p }
     ensures room { PLACES ≤ vec_capacity slots.new }
 {
     while slots.len() < PLACES {
-        let _ = slots.push(None);
+        add_empty(slots);
     }
 }
 
@@ -234,6 +280,71 @@ fn spares(alloc: Global) -> Result<Vec<Filed>, AllocError>
         spare.push(Filed::new(alloc)?)?;
     }
     Ok(spare)
+}
+
+/// Where the first request stands and where the next may be put: where the last place is used, those
+/// that are present move up.
+fn make_room(slots: &mut Vec<Option<Filed>>, rows: &mut Rows, first: usize, end: usize) -> (usize, usize)
+    requires kept { IsKept slots.old.items rows.old first end }
+    requires few { length (present slots.old.items) < PLACES }
+    requires room { PLACES ≤ vec_capacity slots.old }
+    ensures kept { IsKept slots.new.items rows.new result.0 result.1 }
+    ensures few { result.1 < PLACES }
+    ensures same { present slots.new.items ≡ present slots.old.items }
+    ensures room { PLACES ≤ vec_capacity slots.new }
+{
+    if end < PLACES {
+        (first, end)
+    } else {
+        (0, move_up(slots, rows))
+    }
+}
+
+/// Moves those that are present up, and answers the place behind the last.
+fn move_up(slots: &mut Vec<Option<Filed>>, rows: &mut Rows) -> usize
+    requires long { length slots.old.items ≡ PLACES }
+    requires few { length (present slots.old.items) < PLACES }
+    requires room { PLACES ≤ vec_capacity slots.old }
+    ensures kept { IsKept slots.new.items rows.new 0 result }
+    ensures few { result < PLACES }
+    ensures same { present slots.new.items ≡ present slots.old.items }
+    ensures room { PLACES ≤ vec_capacity slots.new }
+{
+    pack(slots);
+    let end = slots.len();
+    fill(slots);
+    rows.clear();
+    cover(slots.as_slice(), rows);
+    end
+}
+
+/// Takes the empty places out.
+fn pack(slots: &mut Vec<Option<Filed>>)
+    ensures items { slots.new.items ≡ filter is_some slots.old.items }
+    ensures room { vec_capacity slots.new ≡ vec_capacity slots.old }
+{
+    slots.retain(|slot| slot.is_some());
+}
+
+/// Puts the place of each request into the rows.
+fn cover(slots: &[Option<Filed>], rows: &mut Rows)
+    requires { length slots.now ≤ PLACES }
+    ensures { (p : ℕ) (f : Filing) → at_place slots.now p ≡ Some f → Covers rows.new p f }
+{
+    for place in 0..slots.len() {
+        cover_place(rows, place, slot_at(slots, place));
+    }
+}
+
+/// Puts the place of the request that stands there, if one does, into the rows.
+fn cover_place(rows: &mut Rows, place: usize, slot: &Option<Filed>)
+    requires { place < PLACES }
+    ensures kept { (p : ℕ) (f : Filing) → Covers rows.old p f → Covers rows.new p f }
+    ensures here { (f : Filing) → slot.now ≡ Some f → Covers rows.new place f }
+{
+    if let Some(filed) = slot {
+        rows.add(place, filed.signature().groups, filed.job(), !filed.is_granted());
+    }
 }
 
 fn grant_in(slot: &mut Option<Filed>)

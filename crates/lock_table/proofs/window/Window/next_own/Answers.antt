@@ -1,7 +1,7 @@
 use Rattle.std.proofs.Common.{◌≡◌, ◌∙◌, ◌==◌, ◌<◌, ℕ, sym, ap, not, true, false, Some, arith}
 use Rattle.std.specs.List.{list_all}
 use Rattle.lock_table.specs.Filings.{Filing}
-use Rattle.lock_table.specs.Rows.{stop}
+use Rattle.place_sets.specs.declared.place_set.TheConstants.{PLACES}
 use Rattle.lock_table.specs.Windows.{at_place, between, is_other, is_own, is_unmet, is_met, is_waiting}
 use Rattle.lock_table.proofs.PlaceLaws.{passed-on, passed-one, passed-empty, unmet-touched, granted-waiting}
 use Rattle.lock_table.proofs.window.Window.next_own.Goals as goal
@@ -43,7 +43,7 @@ returns-in_default-clause-passed c =
     ap (λ os. list_all (is_other c.args.job) (between c.args.from c.args.end os)) (sym c.self.view_is)
     ∙ passed-on (is_other c.args.job) c.args.from c.loop-place.at c.args.end c.self.inside.slots.items c.loop-place.invariant.least c.loop-place.invariant.most
     c.loop-place.invariant.passed
-    (λ p f le lt is. let below : p < 512 = omega (arith, lt, c.requires) in ap not (c.in_default.ensures.passed p f le below (c.self.invariant.0.covered p f is)))
+    (λ p f le lt is. let below : p < PLACES = omega (arith, lt, c.requires) in ap not (c.in_default.ensures.passed p f le below (c.self.invariant.0.covered p f is)))
 
 pub returns-then-is_own-clause-passed : goal.returns-then-is_own-clause-passed
 returns-then-is_own-clause-passed c =
