@@ -14,3 +14,4 @@ pub mod WalkLaws
 pub mod SetLaws
 pub mod RowLaws
 pub mod GivingUpLaws
+pub mod StandingLaws

@@ -221,7 +221,7 @@ first-any test (x ∷ xs) f are = ap (λ g. test g || list_any test xs) (same-fi
 
 -- ---- one step of a walk: the first request, and those from the next on that is looked at
 
-first-wants : (k : Key) (xs : List Filing) (f : Filing) → xs ≡ f ∷ drop 1 xs
+pub first-wants : (k : Key) (xs : List Filing) (f : Filing) → xs ≡ f ∷ drop 1 xs
     → wants_at (requests_in xs) k ≡ filter (λ w. same_key w.key k) f.request.wants.items ++ wants_at (requests_in (drop 1 xs)) k
 first-wants k [] f are = absurd (cc)
 first-wants k (x ∷ xs) f are =

@@ -13,3 +13,4 @@ pub mod Arrivals
 pub mod Rows
 pub mod Windows
 pub mod Places
+pub mod Standings

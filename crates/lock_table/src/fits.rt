@@ -4,22 +4,12 @@ ghost use Rattle.std.specs.List.{list_all};
 ghost use Rattle.lock_queue.specs.Keys.{same_key};
 ghost use Rattle.lock_queue.specs.Queue.{names, wants_at, wants_of, agree, amount_of, fits};
 ghost use Rattle.lock_table.specs.Filings.{requests_in};
-ghost use Rattle.lock_table.specs.Signatures.{bits_of};
 
 use crate::filed::Filed;
-use crate::signature::{KeyBits, bits_of};
+use crate::signature::bits_of;
 use crate::span::Span;
 use lock_queue::steps::{do_agree, names_key, room_beside};
 use lock_queue::{Key, Pool, Want};
-
-/// Whether a request has a want of the key.
-#[tactic(auto, using(crate::proofs::SignatureLaws::unmet_names))]
-pub fn has_key(f: &Filed, key: &Key, bits: KeyBits) -> bool
-    requires { bits ≡ bits_of key.now }
-    ensures { result ≡ names f.now.request.wants.items key.now }
-{
-    f.meets_key(bits) && names_key(f.wants(), key)
-}
 
 /// Whether a request is the job's and has a want of the key.
 pub fn job_names(f: &Filed, job: u8, key: &Key) -> bool

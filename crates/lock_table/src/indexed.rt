@@ -70,7 +70,7 @@ impl LockTable for IndexedTable {
     }
 
     fn status(&self, key: &Key, job: u8) -> Status {
-        status_in(self.present.as_slice(), key, job)
+        status_in(&self.present.all(), key, job)
     }
 
     fn len(&self) -> usize {
