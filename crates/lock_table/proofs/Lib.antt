@@ -10,6 +10,7 @@ pub mod LevelLaws
 mod WaiterLaws
 pub mod PlaceLaws
 pub mod KeptLaws
+pub mod WindowLaws
 pub mod WalkLaws
 pub mod SetLaws
 pub mod RowLaws

@@ -22,21 +22,21 @@ leaves job Blocked f = (f.request.job == job && is_blocking f.request.kind) && n
 abbrev pub stays : ℕ → Leaving → Filing → Bool
 stays job leaving f = not (leaves job leaving f)
 
--- the signature of all requests for which a test holds
+-- the signature of a request for which a test holds
+abbrev pub signature_if : (Filing → Bool) → Filing → Signature
+signature_if test f = if test f then signature_of f.request.wants.items else no_bits
+
+-- some bits, and those of all requests for which it holds
+abbrev pub signature_from : Signature → (Filing → Bool) → List Filing → Signature
+signature_from bits test [] = bits
+signature_from bits test (f ∷ later) = signature_from (joined bits (signature_if test f)) test later
+
 abbrev pub signature_where : (Filing → Bool) → List Filing → Signature
-signature_where test [] = no_bits
-signature_where test (f ∷ later) =
-    if test f
-    then joined (signature_where test later) (signature_of f.request.wants.items)
-    else signature_where test later
+signature_where test filings = signature_from no_bits test filings
 
 -- whether a request of the job has a want of one of the keys
 abbrev pub loses : ℕ → List Want → Filing → Bool
 loses job named f = f.request.job == job && list_any (λ w. names named w.key) f.request.wants.items
-
--- its signature then
-abbrev pub lost_bits : ℕ → List Want → Filing → Signature
-lost_bits job named f = if loses job named f then signature_of f.request.wants.items else no_bits
 
 -- a request without its wants of the named keys
 abbrev pub fewer : List Want → Filing → Filing
@@ -48,6 +48,18 @@ with_fewer job named f = filing (without_keys_of job named f.request) f.granted
 
 abbrev pub keeps_wants : Filing → Bool
 keeps_wants f = has_wants f.request
+
+-- a request, where it has wants
+abbrev pub kept_if : Filing → Option Filing
+kept_if f = if keeps_wants f then Some f else None
+
+-- what is left of a request when the job gives up the named keys
+abbrev pub kept_of : ℕ → List Want → Filing → Option Filing
+kept_of job named f = kept_if (with_fewer job named f)
+
+-- what is left of a request when some leave
+abbrev pub staying_of : ℕ → Leaving → Filing → Option Filing
+staying_of job leaving f = if stays job leaving f then Some f else None
 
 abbrev pub with_change : ℕ → List Want → Filing → Filing
 with_change job changes f = filing (changed job changes f.request) f.granted

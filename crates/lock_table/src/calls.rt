@@ -103,7 +103,8 @@ fn modify(shelf: &mut Shelf, job: u8, changes: &Wants, woken: &mut Woken) -> Loc
 }
 
 fn dequeue_named(shelf: &mut Shelf, job: u8, named: &Wants, woken: &mut Woken) -> LockReply
-    requires { AreRight [] shelf.old }
+    requires right { AreRight [] shelf.old }
+    requires well { IsTrue (are_well_formed (requests_in shelf.old)) }
     ensures requests { requests_in shelf.new ≡
         (outcome_of (requests_in shelf.old) job (DequeueNamed named.now)).requests }
     ensures reply { result ≡ (outcome_of (requests_in shelf.old) job (DequeueNamed named.now)).reply }
@@ -153,6 +154,7 @@ pub fn make_call(shelf: &mut Shelf, job: u8, call: &LockCall, woken: &mut Woken)
     requires named { IsTrue (names_locks call.now) }
     requires unshared { IsTrue (shares_no_pools call.now) }
     requires right { AreRight [] shelf.old }
+    requires well { IsTrue (are_well_formed (requests_in shelf.old)) }
     ensures requests { requests_in shelf.new ≡
         (outcome_of (requests_in shelf.old) job call.now).requests }
     ensures reply { result ≡ (outcome_of (requests_in shelf.old) job call.now).reply }

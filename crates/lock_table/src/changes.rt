@@ -1,5 +1,5 @@
 //! Wants that are made shared or exclusive.
-ghost use Rattle.std.specs.Prelude.{◌≡◌, ◌==◌, ◌&&◌, [], filter, if◌then◌else◌, map, not};
+ghost use Rattle.std.specs.Prelude.{◌≡◌, ◌==◌, ◌&&◌, [], filter, if◌then◌else◌, map, not, ◌<◌, set};
 ghost use Rattle.std.specs.List.{list_any};
 ghost use Rattle.lock_queue.specs.Changes.{modify_fault};
 ghost use Rattle.lock_queue.specs.Keys.{same_key};
@@ -9,13 +9,15 @@ ghost use Rattle.lock_table.specs.Changing.{fits_held, held_with, held_unless_lo
 ghost use Rattle.lock_table.specs.Departures.{with_change};
 ghost use Rattle.lock_table.specs.Filings.{requests_in};
 ghost use Rattle.lock_table.specs.Signatures.{signature_of};
-ghost use Rattle.lock_table.specs.Waiters.{waiters_in};
+ghost use Rattle.lock_table.specs.Windows.{at_place, is_met_own, present, revised};
 
 use crate::filed::Filed;
 use crate::fits::job_has_key;
 use crate::signature::{Signature, bits_of, signature_of};
 use crate::span::Span;
+use crate::window::Window;
 use lock_queue::steps::{is_pooled, is_pooled_in, names_key};
+use place_sets::PLACES;
 use lock_queue::{Key, Refusal, Want};
 
 /// Whether a request is the job's and has a want of the key that is of a pool.
@@ -162,23 +164,37 @@ pub fn is_some_lost(filed: &Span<'_>, job: u8, changes: &[Want]) -> bool
     changes.iter().any(|c| does_cost_grant(filed, job, c))
 }
 
-/// Makes the changes in a request, where it is the job's and has a want of one of their groups.
-fn change_where_met(f: &mut Filed, job: u8, changes: &[Want], bits: Signature)
-    requires { bits ≡ signature_of changes.now }
-    ensures { f.new ≡ with_change job changes.now f.old }
+/// Makes the changes in the request at a place, where it is the job's and touches one of their keys'
+/// groups.
+fn change_at(window: &mut Window, place: usize, job: u8, changes: &[Want], bits: Signature)
+    requires place { place < PLACES }
+    requires bits { bits ≡ signature_of changes.now }
+    ensures { window.new ≡ set window.old place (revised (with_change job changes.now) (at_place window.old place)) }
 {
-    if f.meets(bits) && f.job() == job {
-        f.change(changes);
+    if is_met_at(window, place, job, bits) {
+        window.change(place, changes);
+    }
+}
+
+/// Whether a request of the job stands at a place that meets some bits.
+fn is_met_at(window: &Window, place: usize, job: u8, bits: Signature) -> bool
+    requires { place < PLACES }
+    ensures { result ≡ is_met_own bits job (at_place window.now place) }
+{
+    match window.get(place) {
+        Some(f) => f.meets(bits) && f.job() == job,
+        None => false,
     }
 }
 
 /// Makes the changes in the job's requests. Grants stay as they are noted.
-pub fn change_of_job(filed: &mut [Filed], job: u8, changes: &[Want])
-    ensures value { filed.new ≡ map (with_change job changes.now) filed.old }
-    ensures waiters { waiters_in filed.new ≡ waiters_in filed.old }
+pub fn change_of_job(window: &mut Window, job: u8, changes: &[Want])
+    ensures { present window.new ≡ map (with_change job changes.now) (present window.old) }
 {
     let bits = signature_of(changes);
-    for f in filed.iter_mut() {
-        change_where_met(f, job, changes, bits);
+    let mut at = window.next_own(0, PLACES, job);
+    while at < PLACES {
+        change_at(window, at, job, changes, bits);
+        at = window.next_own(at + 1, PLACES, job);
     }
 }

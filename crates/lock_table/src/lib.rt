@@ -11,6 +11,7 @@ mod fits;
 mod group_sets;
 mod indexed;
 mod jobs;
+mod removals;
 mod renewal;
 mod rows;
 mod sharing;

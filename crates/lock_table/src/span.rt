@@ -1,33 +1,44 @@
 //! Requests that stand one behind another, and walks that look only at those of a key or of a job.
-ghost use Rattle.std.specs.Prelude.{◌≡◌, [], ◌∷◌, ◌<◌, ◌≤◌, ◌^◌, ◌%◌, drop, length, bit_or, IsTrue, IfSome, MatchOption};
-ghost use Rattle.lock_table.specs.Walks.{touched, from_touched, from_met, owned, from_own};
+ghost use Rattle.std.specs.Prelude.{◌≡◌, [], ◌∷◌, ◌+◌, ◌<◌, ◌≤◌, drop, length, IfSome, MatchOption};
+ghost use Rattle.place_sets.specs.declared.place_set.TheConstants.{PLACES};
+ghost use Rattle.lock_table.specs.Walks.{from_met, from_own};
+ghost use Rattle.lock_table.specs.Windows.{between};
 
 use crate::filed::Filed;
-use crate::signature::{KeyBits, Signature};
-use crate::waiters::bit_of_job;
+use crate::signature::KeyBits;
+use crate::window::Window;
 use std::marker::Model;
 
-/// Requests that stand one behind another, in order of arrival.
+/// Requests that stand one behind another, in order of arrival: those at some places of a window.
 #[derive(Drop)]
 pub struct Span<'a> {
-    requests: &'a [Filed],
+    window: &'a Window,
+    /// None of them stands before this place.
+    at: usize,
+    /// And none at this one or behind it.
+    end: usize,
 }
 
 impl<'a> Model for Span<'a> {
-    ghost use Rattle.std.specs.Prelude.{List};
+    ghost use Rattle.std.specs.Prelude.{◌≤◌, List};
+    ghost use Rattle.place_sets.specs.declared.place_set.TheConstants.{PLACES};
     ghost use Rattle.lock_table.specs.Filings.{Filing};
+    ghost use Rattle.lock_table.specs.Windows.{between};
 
     ghost Value = { List Filing };
 
-    ghost view = { λ s. s.requests.now };
+    ghost view = { λ s. between s.at s.end s.window.now };
+
+    ghost invariant = { λ s. (s.at ≤ s.end) × (s.end ≤ PLACES) };
 }
 
 impl<'a> Span<'a> {
-    /// These requests.
-    pub fn of(requests: &'a [Filed]) -> Self
-        ensures { result ≡ requests.now }
+    /// Those at the places from one on, up to another.
+    pub fn of(window: &'a Window, at: usize, end: usize) -> Self
+        requires { (at ≤ end) × (end ≤ PLACES) }
+        ensures { result ≡ between at end window.now }
     {
-        Span { requests }
+        Span { window, at, end }
     }
 
     /// The first of them.
@@ -35,7 +46,7 @@ impl<'a> Span<'a> {
         ensures value { MatchOption result (self.now ≡ []) (λ f. self.now ≡ f.now ∷ drop 1 self.now) }
         ensures some { IfSome result (λ f. 1 ≤ length self.now) }
     {
-        self.requests.first()
+        first_between(self.window, self.at, self.end)
     }
 
     /// Those from the first on that touches the group and the class of a key.
@@ -43,7 +54,8 @@ impl<'a> Span<'a> {
         ensures value { result ≡ from_met bits self.now }
         ensures shorter { length result ≤ length self.now }
     {
-        Span::of(from_met(self.requests, bits.signature()))
+        let at = self.window.next_met(self.at, self.end, bits);
+        Span::of(self.window, at, self.end)
     }
 
     /// Those behind the first, from the first on that touches the group and the class of a key.
@@ -52,7 +64,7 @@ impl<'a> Span<'a> {
         ensures value { result ≡ from_met bits (drop 1 self.now) }
         ensures shorter { length result < length self.now }
     {
-        Span::of(next_met(self.requests, bits.signature()))
+        self.behind_first().from_met(bits)
     }
 
     /// Those from the first on that is the job's.
@@ -60,7 +72,8 @@ impl<'a> Span<'a> {
         ensures value { result ≡ from_own job self.now }
         ensures shorter { length result ≤ length self.now }
     {
-        Span::of(from_own(self.requests, job))
+        let at = self.window.next_own(self.at, self.end, job);
+        Span::of(self.window, at, self.end)
     }
 
     /// Those behind the first, from the first on that is the job's.
@@ -69,122 +82,31 @@ impl<'a> Span<'a> {
         ensures value { result ≡ from_own job (drop 1 self.now) }
         ensures shorter { length result < length self.now }
     {
-        Span::of(from_own(&self.requests[1..], job))
+        self.behind_first().from_own(job)
+    }
+
+    /// Those behind the first.
+    fn behind_first(&self) -> Span<'a>
+        requires { 1 ≤ length self.now }
+        ensures value { result ≡ drop 1 self.now }
+        ensures shorter { length result + 1 ≡ length self.now }
+    {
+        let place = self.window.next_present(self.at, self.end);
+        Span::of(self.window, place + 1, self.end)
     }
 }
 
-/// The groups that four requests touch.
-#[inline(always)]
-fn touched_by_four(a: &Filed, b: &Filed, c: &Filed, d: &Filed, groups: u64) -> u64
-    ensures { result ≡ bit_or (bit_or (touched groups a.now) (touched groups b.now))
-        (bit_or (touched groups c.now) (touched groups d.now)) }
+/// The first request that stands at the places from one on, up to another.
+fn first_between(window: &Window, at: usize, end: usize) -> Option<&Filed>
+    requires { (at ≤ end) × (end ≤ PLACES) }
+    ensures value { MatchOption result (between at end window.now ≡ [])
+        (λ f. between at end window.now ≡ f.now ∷ drop 1 (between at end window.now)) }
+    ensures some { IfSome result (λ f. 1 ≤ length (between at end window.now)) }
 {
-    (a.touched(groups) | b.touched(groups)) | (c.touched(groups) | d.touched(groups))
-}
-
-/// The requests from the first on that touches one of the groups. Eight at a time are passed over.
-fn from_touched(filed: &[Filed], groups: u64) -> &[Filed]
-    ensures value { result.now ≡ from_touched groups filed.now }
-    ensures shorter { length result.now ≤ length filed.now }
-{
-    let mut rest = filed;
-    while let [a, b, c, d, e, f, g, h, later @ ..] = rest {
-        let front = touched_by_four(a, b, c, d, groups);
-        let back = touched_by_four(e, f, g, h, groups);
-        if front | back != 0 {
-            break;
-        }
-        rest = later;
-    }
-    while let [f, later @ ..] = rest {
-        if f.touched(groups) != 0 {
-            break;
-        }
-        rest = later;
-    }
-    rest
-}
-
-/// The requests from the first on that touches one of the groups and one of the classes.
-#[tactic(auto, using(crate::proofs::WalkLaws::touched_met))]
-fn from_met(filed: &[Filed], bits: Signature) -> &[Filed]
-    ensures value { result.now ≡ from_met bits filed.now }
-    ensures shorter { length result.now ≤ length filed.now }
-{
-    let mut rest = from_touched(filed, bits.groups);
-    while let [f, later @ ..] = rest {
-        if f.meets(bits) {
-            break;
-        }
-        rest = from_touched(later, bits.groups);
-    }
-    rest
-}
-
-/// The requests behind the first, from the first on that touches one of the groups and one of the
-/// classes. Where many do they stand side by side, so the next is looked at alone.
-#[inline(always)]
-fn next_met(filed: &[Filed], bits: Signature) -> &[Filed]
-    requires { 1 ≤ length filed.now }
-    ensures value { result.now ≡ from_met bits (drop 1 filed.now) }
-    ensures shorter { length result.now < length filed.now }
-{
-    let later = &filed[1..];
-    if does_first_meet(later, bits) {
-        later
+    let place = window.next_present(at, end);
+    if place < end {
+        Some(window.standing(place))
     } else {
-        from_met(later, bits)
+        None
     }
-}
-
-/// Whether the first request touches one of the groups and one of the classes.
-fn does_first_meet(filed: &[Filed], bits: Signature) -> bool
-    ensures { IsTrue result → from_met bits filed.now ≡ filed.now }
-{
-    match filed {
-        [f, ..] => f.meets(bits),
-        [] => false,
-    }
-}
-
-/// The bits of four requests' jobs that are among some.
-#[inline(always)]
-fn owned_by_four(a: &Filed, b: &Filed, c: &Filed, d: &Filed, bits: u32) -> u32
-    ensures { result ≡ bit_or (bit_or (owned bits a.now) (owned bits b.now))
-        (bit_or (owned bits c.now) (owned bits d.now)) }
-{
-    (a.owned(bits) | b.owned(bits)) | (c.owned(bits) | d.owned(bits))
-}
-
-/// The requests from a place on before which none is the job's: eight at a time are passed over.
-fn from_near(filed: &[Filed], job: u8) -> &[Filed]
-    ensures value { from_own job result.now ≡ from_own job filed.now }
-    ensures shorter { length result.now ≤ length filed.now }
-{
-    let bits = bit_of_job(job);
-    let mut rest = filed;
-    while let [a, b, c, d, e, f, g, h, later @ ..] = rest {
-        let front = owned_by_four(a, b, c, d, bits);
-        let back = owned_by_four(e, f, g, h, bits);
-        if front | back != 0 {
-            break;
-        }
-        rest = later;
-    }
-    rest
-}
-
-/// The requests from the first on that is the job's.
-fn from_own(filed: &[Filed], job: u8) -> &[Filed]
-    ensures value { result.now ≡ from_own job filed.now }
-    ensures shorter { length result.now ≤ length filed.now }
-{
-    let mut rest = from_near(filed, job);
-    while let [f, later @ ..] = rest {
-        if f.job() == job {
-            break;
-        }
-        rest = later;
-    }
-    rest
 }

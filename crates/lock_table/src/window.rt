@@ -1,5 +1,5 @@
 //! Requests at places, in order of arrival, and the rows by which those of a key or of a job are found.
-ghost use Rattle.std.specs.Prelude.{◌≡◌, ℕ, filter, is_some, ◌+◌, ◌<◌, ◌≤◌, ◌==◌, None, Some, [], ◌∷◌, ◌++◌, true, false, not, length, set, MatchOption, IfOk, IsTrue, vec_capacity};
+ghost use Rattle.std.specs.Prelude.{◌≡◌, ℕ, filter, is_some, ◌+◌, ◌<◌, ◌≤◌, ◌==◌, None, Some, [], ◌∷◌, ◌++◌, true, false, not, length, get_or, set, MatchOption, IfOk, IsTrue, vec_capacity};
 ghost use Rattle.std.specs.List.{list_all};
 ghost use Rattle.place_sets.specs.declared.place_set.TheConstants.{PLACES};
 ghost use Rattle.word36.specs.declared.sizes.TheConstants.{LOCKS_A_CALL, REQUESTS};
@@ -15,6 +15,7 @@ ghost use Rattle.lock_table.specs.Windows.{at_place, between, present, revised, 
 use crate::filed::Filed;
 use crate::rows::Rows;
 use crate::signature::KeyBits;
+use crate::span::Span;
 use lock_queue::{Asking, Want, Wants};
 use place_sets::PLACES;
 use std::alloc::{AllocError, Global};
@@ -72,6 +73,38 @@ impl Window {
         REQUESTS - self.spare.len()
     }
 
+    /// All of them, to be walked over.
+    pub fn all(&self) -> Span<'_>
+        ensures value { result ≡ present self.now }
+        ensures few { length result ≤ REQUESTS }
+    {
+        let _ = &self.slots;
+        Span::of(self, 0, PLACES)
+    }
+
+    /// The request that came as the one of this number, from 0 on.
+    pub fn nth(&self, i: usize) -> &Filed
+        requires { i < length (present self.now) }
+        ensures { (d : Filing) → result.now ≡ get_or (present self.now) i d }
+    {
+        let mut left = i;
+        let mut at = self.next_present(0, PLACES);
+        while left > 0 {
+            at = self.next_present(at + 1, PLACES);
+            left -= 1;
+        }
+        self.standing(at)
+    }
+
+    /// The request that stands at a place.
+    pub fn standing(&self, place: usize) -> &Filed
+        requires place { place < PLACES }
+        requires there { IsTrue (is_standing (at_place self.now place)) }
+        ensures { at_place self.now place ≡ Some result.now }
+    {
+        self.get(place).unwrap()
+    }
+
     /// The request at a place, if one stands there.
     pub fn get(&self, place: usize) -> Option<&Filed>
         requires { place < PLACES }
@@ -93,6 +126,7 @@ impl Window {
     /// The first place from one on where a request of the job stands, before another; or that one.
     pub fn next_own(&self, from: usize, end: usize, job: u8) -> usize
         requires { (from ≤ end) × (end ≤ PLACES) }
+        ensures long { length self.now ≡ PLACES }
         ensures range { IsBetween from end result }
         ensures passed { list_all (is_other job) (between from result self.now) ≡ true }
         ensures there { result < end → IsTrue (is_own job (at_place self.now result)) }
@@ -113,6 +147,7 @@ impl Window {
     /// The first place from one on where a request touches a key's group and class, before another; or that one.
     pub fn next_met(&self, from: usize, end: usize, bits: KeyBits) -> usize
         requires { (from ≤ end) × (end ≤ PLACES) }
+        ensures long { length self.now ≡ PLACES }
         ensures range { IsBetween from end result }
         ensures passed { list_all (is_unmet bits) (between from result self.now) ≡ true }
         ensures there { result < end → IsTrue (is_met bits (at_place self.now result)) }
@@ -133,6 +168,7 @@ impl Window {
     /// The first place from one on where a request is not granted, before another; or that one.
     pub fn next_waiting(&self, from: usize, end: usize) -> usize
         requires { (from ≤ end) × (end ≤ PLACES) }
+        ensures long { length self.now ≡ PLACES }
         ensures range { IsBetween from end result }
         ensures passed { list_all (λ f. f.granted) (between from result self.now) ≡ true }
         ensures there { result < end → IsTrue (is_waiting (at_place self.now result)) }
