@@ -1,7 +1,9 @@
 -- What walks over the places of a window come to.
-use Rattle.std.proofs.Common.{◌≡◌, ◌∙◌, sym, ap, subst, ℕ, zero, suc, ◌+◌, ◌<◌, ◌≤◌, ◌==◌, Bool, true, false, not, cond, if◌then◌else◌, ◌&&◌, ◌||◌, List, [], ◌∷◌, ◌++◌, append-nil, append_assoc, length, get_or, drop, set, filter, filter_map, map, Option, Some, None, refl, arith, length-append, length-set, bit_or}
+use Rattle.std.proofs.Common.{◌≡◌, ◌∙◌, sym, ap, subst, ℕ, zero, suc, ◌+◌, ◌<◌, ◌≤◌, ◌==◌, Bool, true, false, not, cond, if◌then◌else◌, ◌&&◌, ◌||◌, List, [], ◌∷◌, ◌++◌, append-nil, append_assoc, length, get_or, drop, set, filter, filter_map, map, Option, Some, None, refl, arith, length-append, length-set, bit_or, nat_le}
 use Rattle.std.specs.List.{list_all, list_any, cons_option}
-use Rattle.std.proofs.lemmas.List.{set-get_or}
+use Rattle.std.proofs.lemmas.List.{set-get_or, get_or-set_same}
+use Rattle.word36.specs.declared.sizes.TheConstants.{LOCKS_A_CALL}
+use Rattle.lock_queue.specs.WellFormed.{is_job, is_well_formed, are_right_wants, are_well_formed}
 use Rattle.std.proofs.lemmas.List.Elements.{filter_map-append}
 use Rattle.std.proofs.lemmas.List.Folds.{list_all-append, list_any-append}
 use Rattle.std.proofs.lemmas.Bool.{and_parts, cases_lt}
@@ -12,20 +14,21 @@ use Rattle.lock_queue.specs.declared.request.Request.{Request}
 use Rattle.lock_queue.specs.declared.want.Want.{Want}
 use Rattle.lock_queue.specs.Dequeues.{has_wants}
 use Rattle.lock_queue.specs.Grants.{is_told_of, grant_of}
-use Rattle.lock_queue.specs.Jobs.{is_blocking, is_kept_by}
+use Rattle.lock_queue.specs.Jobs.{first_id, is_blocking, is_interrupt, is_kept_by}
 use Rattle.lock_queue.specs.Queue.{granted_behind, names}
 use Rattle.lock_table.specs.declared.departures.Leaving.{Leaving}
 use Rattle.lock_table.specs.declared.departures.Leaving.TheVariants.{All, OfId, Blocked}
 use Rattle.lock_table.specs.declared.signature.Signature.{Signature}
-use Rattle.lock_table.specs.Departures.{stays, leaves, loses, keeps_wants, kept_if, kept_of, staying_of, with_fewer, with_change, fewer, signature_if, signature_from, signature_where}
-use Rattle.lock_table.specs.Filings.{Filing, requests_in}
-use Rattle.lock_table.specs.Findings.{blocks, pends, told_in, with_told, waits_in}
+use Rattle.lock_table.specs.Departures.{stays, leaves, loses, keeps_wants, kept_if, kept_of, staying_of, with_fewer, with_change, with_changes, fewer, signature_if, signature_from, signature_where}
+use Rattle.lock_table.specs.Filings.{Filing, filing, requests_in}
+use Rattle.lock_table.specs.Findings.{blocks, pends, pending_in, told_in, with_told, waits_in}
 use Rattle.lock_table.specs.Renewals.{rises, renewed, risen, shuts, with_grant}
-use Rattle.lock_table.specs.Signatures.{no_bits, joined, signature_of}
+use Rattle.lock_table.specs.Signatures.{meets, no_bits, joined, signature_of}
 use Rattle.lock_table.specs.Waiters.{waiter_bit, with_waiters, waiters_in}
 use Rattle.lock_table.specs.Walks.{from_met, from_own}
-use Rattle.lock_table.specs.Windows.{at_place, between, present, is_other, is_own, is_met, is_unmet, is_standing, pends_at, waits_at, revised, stepped, walked, signature_at, holds_at, renewed_at, risen_at, waiter_bit_at}
-use Rattle.lock_table.proofs.PlaceLaws.{requests-append, between-split, between-all, between-none, between-step, between-here, between-behind_set, between-before_set, between-set, place-has}
+use Rattle.lock_table.specs.Windows.{at_place, between, present, is_other, is_own, is_met, is_met_own, is_unmet, is_standing, pends_at, waits_at, revised, stepped, walked, signature_at, holds_at, renewed_at, risen_at, waiter_bit_at}
+use Rattle.lock_table.proofs.PlaceLaws.{requests-append, between-split, between-all, between-none, between-step, between-here, between-behind_set, between-before_set, between-set, place-has, present-set}
+use Rattle.lock_table.proofs.ChangeLaws.{other-change, unmet-change}
 use Rattle.lock_table.proofs.GivingUpLaws.{losing, unlosing}
 use Rattle.lock_table.proofs.SignatureLaws.{joined-none}
 
@@ -259,3 +262,240 @@ filter-map change (f ∷ fs) = ap (λ l. change f ∷ l) (filter-map change fs)
 pub revised-stepped : (change : Filing → Filing) (o : Option Filing) → revised change o ≡ stepped (λ f. Some (change f)) o
 revised-stepped change None = refl
 revised-stepped change (Some f) = refl
+
+-- ---- one step of such a walk, up to the next place
+
+pub walked-next : (left : Filing → Option Filing) (test : Filing → Bool) (at n : ℕ) (os new : List (Option Filing))
+    → ((f : Filing) → test f ≡ true → left f ≡ Some f) → length os ≡ PLACES → at < PLACES
+    → new ≡ set os at (stepped left (at_place os at)) → at + 1 ≤ n → n ≤ PLACES
+    → list_all test (between (at + 1) n new) ≡ true → walked left n new ≡ walked left at os
+walked-next left test at n os new each long lt is le most h =
+    walked-skip left test (at + 1) n new le most each h ∙ ap (walked left (at + 1)) is ∙ walked-step left at os (omega (arith, long, lt)) lt
+
+pub signature-next : (bits : Signature) (test other : Filing → Bool) (at n : ℕ) (o : Option Filing) (os new : List (Option Filing))
+    → ((f : Filing) → other f ≡ true → test f ≡ false) → at < PLACES → new ≡ set os at o → at + 1 ≤ n → n ≤ PLACES
+    → list_all other (between (at + 1) n new) ≡ true
+    → signature_from (joined bits (signature_at test (at_place os at))) test (between n PLACES new) ≡ signature_from bits test (between at PLACES os)
+signature-next bits test other at n o os new each lt is le most h =
+    signature-skip (joined bits (signature_at test (at_place os at))) test other (at + 1) n new le most each h
+    ∙ ap (λ l. signature_from (joined bits (signature_at test (at_place os at))) test (between (at + 1) PLACES l)) is
+    ∙ signature-step bits test at o os lt
+
+all-behind : (test : Filing → Bool) (o : Option Filing) (fs : List Filing) → list_all test (cons_option o fs) ≡ true → list_all test fs ≡ true
+all-behind test None fs h = h
+all-behind test (Some f) fs h = (and_parts (test f) (list_all test fs) h).1
+
+all-later : (test : Filing → Bool) (at : ℕ) (o : Option Filing) (os new : List (Option Filing)) → at < PLACES → new ≡ set os at o
+    → list_all test (between at PLACES os) ≡ true → list_all test (between (at + 1) PLACES new) ≡ true
+all-later test at o os new lt is h =
+    ap (λ l. list_all test (between (at + 1) PLACES l)) is ∙ ap (list_all test) (between-behind_set (at + 1) PLACES at o os (omega arith))
+    ∙ all-behind test (at_place os at) (between (at + 1) PLACES os) (ap (list_all test) (sym (between-step at PLACES os lt)) ∙ h)
+
+pub split-all : (test : Filing → Bool) (a n : ℕ) (os : List (Option Filing)) → a ≤ n → n ≤ PLACES
+    → list_all test (between a PLACES os) ≡ true → (list_all test (between a n os) ≡ true) × (list_all test (between n PLACES os) ≡ true)
+split-all test a n os le most h =
+    and_parts _ _ (sym (ap (list_all test) (between-split a n PLACES os le most) ∙ list_all-append test (between a n os) (between n PLACES os)) ∙ h)
+
+pub all-next : (test : Filing → Bool) (at n : ℕ) (o : Option Filing) (os new : List (Option Filing)) → at < PLACES → new ≡ set os at o
+    → at + 1 ≤ n → n ≤ PLACES → list_all test (between at PLACES os) ≡ true
+    → (list_all test (between (at + 1) n new) ≡ true) × (list_all test (between n PLACES new) ≡ true)
+all-next test at n o os new lt is le most h = split-all test (at + 1) n new le most (all-later test at o os new lt is h)
+
+pub all-here : (test : Filing → Bool) (at : ℕ) (f : Filing) (os : List (Option Filing)) → at < PLACES → at_place os at ≡ Some f
+    → list_all test (between at PLACES os) ≡ true → test f ≡ true
+all-here test at f os lt is h =
+    (and_parts (test f) (list_all test (between (at + 1) PLACES os)) (ap (list_all test) (sym (between-here at PLACES f os lt is)) ∙ h)).0
+
+pub all-both : (a b : Filing → Bool) (fs : List Filing) → list_all a fs ≡ true → list_all b fs ≡ true
+    → list_all (λ f. a f && b f) fs ≡ true
+all-both a b [] h k = refl
+all-both a b (f ∷ fs) h k =
+    let p = and_parts (a f) (list_all a fs) h in
+    let q = and_parts (b f) (list_all b fs) k in
+    ap (λ v. (v && b f) && list_all (λ f. a f && b f) fs) p.0 ∙ ap (λ v. v && list_all (λ f. a f && b f) fs) q.0 ∙ all-both a b fs p.1 q.1
+
+pub other-kept : (job : ℕ) (named : List Want) (f : Filing) → (is_other job f && keeps_wants f) ≡ true → kept_of job named f ≡ Some f
+other-kept job named f h =
+    let p = and_parts (is_other job f) (keeps_wants f) h in unlosing-kept job named f (other-loses job named f p.0) p.1
+
+stays-here : (job : ℕ) (named : List Want) (o : Option Filing) → ((f : Filing) → o ≡ Some f → keeps_wants f ≡ true)
+    → holds_at (loses job named) o ≡ false → stepped (kept_of job named) o ≡ o
+stays-here job named None k h = refl
+stays-here job named (Some f) k h = unlosing-kept job named f h (k f refl)
+
+pub unlosing-at : (job : ℕ) (named : List Want) (i : ℕ) (os : List (Option Filing)) → ((f : Filing) → at_place os i ≡ Some f → keeps_wants f ≡ true)
+    → holds_at (loses job named) (at_place os i) ≡ false → os ≡ set os i (stepped (kept_of job named) (at_place os i))
+unlosing-at job named i os k h = sym (ap (set os i) (stays-here job named (at_place os i) k h) ∙ set-get_or os i None)
+
+fewer-here : (job : ℕ) (named : List Want) (o : Option Filing) → holds_at (loses job named) o ≡ true
+    → stepped kept_if (revised (fewer named) o) ≡ stepped (kept_of job named) o
+fewer-here job named None h = absurd (cc)
+fewer-here job named (Some f) h = ap kept_if (sym (losing job named f h))
+
+set-twice : (os : List (Option Filing)) (i : ℕ) (a b : Option Filing) → set (set os i a) i b ≡ set os i b
+set-twice [] i a b = refl
+set-twice (o ∷ os) zero a b = refl
+set-twice (o ∷ os) (suc i) a b = ap (λ l. o ∷ l) (set-twice os i a b)
+
+pub losing-at : (job : ℕ) (named : List Want) (i : ℕ) (os fewer-os new : List (Option Filing)) → length fewer-os ≡ PLACES → i < PLACES
+    → holds_at (loses job named) (at_place os i) ≡ true
+    → fewer-os ≡ set os i (revised (fewer named) (at_place os i)) → new ≡ set fewer-os i (stepped kept_if (at_place fewer-os i))
+    → new ≡ set os i (stepped (kept_of job named) (at_place os i))
+losing-at job named i os fewer-os new long lt h is bare =
+    bare ∙ ap (λ l. set l i (stepped kept_if (at_place fewer-os i))) is
+    ∙ set-twice os i (revised (fewer named) (at_place os i)) (stepped kept_if (at_place fewer-os i))
+    ∙ ap (λ x. set os i (stepped kept_if x))
+    (ap (λ l. at_place l i) is
+    ∙ get_or-set_same os i (revised (fewer named) (at_place os i)) None
+    (omega (arith, lt, long, ap length is, length-set os i (revised (fewer named) (at_place os i)))))
+    ∙ ap (set os i) (fewer-here job named (at_place os i) h)
+
+pub well-kept : (fs : List Filing) → are_well_formed (requests_in fs) ≡ true → list_all keeps_wants fs ≡ true
+well-kept [] h = refl
+well-kept (f ∷ fs) h =
+    let p = and_parts (is_well_formed f.request) (are_well_formed (requests_in fs)) h in
+    ap (λ v. v && list_all keeps_wants fs) (has f.request p.0) ∙ well-kept fs p.1
+  where
+    has : (r : Request) → is_well_formed r ≡ true → has_wants r ≡ true
+    has r h =
+        let front = and_parts (is_job r.job && (has_wants r && nat_le (length r.wants.items) LOCKS_A_CALL)) (are_right_wants r.wants.items) h in
+        let job = and_parts (is_job r.job) (has_wants r && nat_le (length r.wants.items) LOCKS_A_CALL) front.0 in
+        (and_parts (has_wants r) (nat_le (length r.wants.items) LOCKS_A_CALL) job.1).0
+
+-- ---- changes
+
+pub other-changed : (job : ℕ) (changes : List Want) (f : Filing) → is_other job f ≡ true → Some (with_change job changes f) ≡ Some f
+other-changed job changes f h = ap Some (other-change job changes f (not-true (f.request.job == job) h))
+
+pub changed-at : (job : ℕ) (changes : List Want) (o : Option Filing) → is_met_own (signature_of changes) job o ≡ true
+    → revised (with_changes changes) o ≡ revised (with_change job changes) o
+changed-at job changes None h = refl
+changed-at job changes (Some f) h =
+    ap Some (sym (ap (λ b. filing (cond b (with_changes changes f).request f.request) f.granted)
+    (and_parts (meets (signature_of f.request.wants.items) (signature_of changes)) (f.request.job == job) h).1))
+
+pub unchanged-at : (job : ℕ) (changes : List Want) (o : Option Filing) → is_met_own (signature_of changes) job o ≡ false
+    → revised (with_change job changes) o ≡ o
+unchanged-at job changes None h = refl
+unchanged-at job changes (Some f) h = ap Some (go (meets (signature_of f.request.wants.items) (signature_of changes)) refl h)
+  where
+    go : (b : Bool) → meets (signature_of f.request.wants.items) (signature_of changes) ≡ b → (b && f.request.job == job) ≡ false
+        → with_change job changes f ≡ f
+    go true e h = other-change job changes f h
+    go false e h = unmet-change job changes f e
+
+-- ---- the first that pends
+
+pub told-skip : (job : ℕ) (a q : ℕ) (os : List (Option Filing)) → a ≤ q → q ≤ PLACES → list_all (is_other job) (between a q os) ≡ true
+    → between 0 q os ++ told_in job (between q PLACES os) ≡ between 0 a os ++ told_in job (between a PLACES os)
+told-skip job a q os aq qe h =
+    sym (ap (λ l. between 0 a os ++ told_in job l) (between-split a q PLACES os aq qe)
+    ∙ ap (λ l. between 0 a os ++ l) (go (between a q os) h)
+    ∙ sym (append_assoc (between 0 a os) (between a q os) (told_in job (between q PLACES os)))
+    ∙ ap (λ l. l ++ told_in job (between q PLACES os)) (sym (between-split 0 a q os (omega arith) aq)))
+  where
+    go : (gs : List Filing) → list_all (is_other job) gs ≡ true → told_in job (gs ++ between q PLACES os) ≡ gs ++ told_in job (between q PLACES os)
+    go [] h = refl
+    go (g ∷ gs) h =
+        let p = and_parts (is_other job g) (list_all (is_other job) gs) h in
+        ap (λ b. cond (((b && is_interrupt g.request.kind) && not g.request.told) && g.granted) (with_told g ∷ (gs ++ between q PLACES os)) (g ∷ told_in job (gs ++ between q PLACES os)))
+        (not-true (g.request.job == job) p.0)
+        ∙ ap (λ l. g ∷ l) (go gs p.1)
+
+told-cons : (job : ℕ) (o : Option Filing) (fs : List Filing) → pends_at job o ≡ false → told_in job (cons_option o fs) ≡ cons_option o (told_in job fs)
+told-cons job None fs h = refl
+told-cons job (Some f) fs h = ap (λ b. cond b (with_told f ∷ fs) (f ∷ told_in job fs)) h
+
+told-first : (job : ℕ) (o : Option Filing) (fs : List Filing) → pends_at job o ≡ true → told_in job (cons_option o fs) ≡ cons_option (revised with_told o) fs
+told-first job None fs h = absurd (cc)
+told-first job (Some f) fs h = ap (λ b. cond b (with_told f ∷ fs) (f ∷ told_in job fs)) h
+
+pub told-step : (job q : ℕ) (os : List (Option Filing)) → q < PLACES → pends_at job (at_place os q) ≡ false
+    → between 0 (q + 1) os ++ told_in job (between (q + 1) PLACES os) ≡ between 0 q os ++ told_in job (between q PLACES os)
+told-step job q os lt h =
+    ap (λ l. l ++ told_in job (between (q + 1) PLACES os)) (earlier-on q os)
+    ∙ cons-more (at_place os q) (between 0 q os) (told_in job (between (q + 1) PLACES os))
+    ∙ ap (λ l. between 0 q os ++ l)
+    (sym (ap (told_in job) (between-step q PLACES os lt) ∙ told-cons job (at_place os q) (between (q + 1) PLACES os) h))
+
+pub told-here : (job q : ℕ) (os new : List (Option Filing)) → length os ≡ PLACES → q < PLACES → pends_at job (at_place os q) ≡ true
+    → new ≡ set os q (revised with_told (at_place os q)) → present new ≡ between 0 q os ++ told_in job (between q PLACES os)
+told-here job q os new long lt h is =
+    ap present is ∙ present-set q (revised with_told (at_place os q)) os (omega (arith, long, lt))
+    ∙ ap (λ n. between 0 q os ++ cons_option (revised with_told (at_place os q)) (between (q + 1) n os)) long
+    ∙ ap (λ l. between 0 q os ++ l)
+    (sym (ap (told_in job) (between-step q PLACES os lt) ∙ told-first job (at_place os q) (between (q + 1) PLACES os) h))
+
+pub told-end : (job n : ℕ) (os : List (Option Filing)) → length os ≡ PLACES → n ≡ PLACES
+    → between 0 n os ++ told_in job (between n PLACES os) ≡ present os
+told-end job n os long end =
+    ap (λ m. between 0 m os ++ told_in job (between m PLACES os)) end
+    ∙ ap (λ l. between 0 PLACES os ++ told_in job l) (between-none PLACES os)
+    ∙ append-nil (between 0 PLACES os) ∙ between-all PLACES os (omega (arith, long))
+
+-- ---- whether one job waits for another
+
+pub waits-skip : (job other a q : ℕ) (os : List (Option Filing)) → a ≤ q → q ≤ PLACES → list_all (is_other job) (between a q os) ≡ true
+    → waits_in job other (requests_in (between 0 q os)) (between q PLACES os) ≡ waits_in job other (requests_in (between 0 a os)) (between a PLACES os)
+waits-skip job other a q os aq qe h =
+    ap (λ l. waits_in job other l (between q PLACES os))
+    (ap requests_in (between-split 0 a q os (omega arith) aq) ∙ requests-append (between 0 a os) (between a q os))
+    ∙ sym (ap (waits_in job other (requests_in (between 0 a os))) (between-split a q PLACES os aq qe) ∙ go (requests_in (between 0 a os)) (between a q os) h)
+  where
+    go : (e : List Request) (gs : List Filing) → list_all (is_other job) gs ≡ true
+        → waits_in job other e (gs ++ between q PLACES os) ≡ waits_in job other (e ++ requests_in gs) (between q PLACES os)
+    go e [] h = ap (λ l. waits_in job other l (between q PLACES os)) (sym (append-nil e))
+    go e (g ∷ gs) h =
+        let p = and_parts (is_other job g) (list_all (is_other job) gs) h in
+        ap (λ b. (((b && is_blocking g.request.kind) && not g.granted) && list_any (is_kept_by other e) g.request.wants.items) || waits_in job other (e ++ g.request ∷ []) (gs ++ between q PLACES os))
+        (not-true (g.request.job == job) p.0)
+        ∙ go (e ++ g.request ∷ []) gs p.1
+        ∙ ap (λ l. waits_in job other l (between q PLACES os)) (append_assoc e (g.request ∷ []) (requests_in gs))
+
+waits-cons : (job other : ℕ) (e : List Request) (o : Option Filing) (fs : List Filing)
+    → waits_in job other e (cons_option o fs) ≡ (waits_at job other e o || waits_in job other (e ++ requests_in (cons_option o [])) fs)
+waits-cons job other e None fs = ap (λ l. waits_in job other l fs) (sym (append-nil e))
+waits-cons job other e (Some f) fs = refl
+
+earlier-requests : (q : ℕ) (os : List (Option Filing)) → requests_in (between 0 (q + 1) os) ≡ requests_in (between 0 q os) ++ requests_in (cons_option (at_place os q) [])
+earlier-requests q os = ap requests_in (earlier-on q os) ∙ requests-append (between 0 q os) (cons_option (at_place os q) [])
+
+pub waits-step : (job other q : ℕ) (os : List (Option Filing)) → q < PLACES
+    → waits_in job other (requests_in (between 0 q os)) (between q PLACES os)
+    ≡ (waits_at job other (requests_in (between 0 q os)) (at_place os q)
+    || waits_in job other (requests_in (between 0 (q + 1) os)) (between (q + 1) PLACES os))
+waits-step job other q os lt =
+    ap (waits_in job other (requests_in (between 0 q os))) (between-step q PLACES os lt)
+    ∙ waits-cons job other (requests_in (between 0 q os)) (at_place os q) (between (q + 1) PLACES os)
+    ∙ ap (λ l. waits_at job other (requests_in (between 0 q os)) (at_place os q) || waits_in job other l (between (q + 1) PLACES os)) (sym (earlier-requests q os))
+
+pub waits-end : (job other n : ℕ) (e : List Request) (os : List (Option Filing)) → n ≡ PLACES → waits_in job other e (between n PLACES os) ≡ false
+waits-end job other n e os end =
+    ap (λ m. waits_in job other e (between m PLACES os)) end ∙ ap (waits_in job other e) (between-none PLACES os)
+
+pub any-own : (job : ℕ) (test : Filing → Bool) (fs : List Filing) → ((f : Filing) → (f.request.job == job) ≡ false → test f ≡ false)
+    → list_any test (from_own job fs) ≡ list_any test fs
+any-own job test [] each = refl
+any-own job test (f ∷ fs) each = go (f.request.job == job) refl (any-own job test fs each)
+  where
+    go : (b : Bool) → (f.request.job == job) ≡ b → list_any test (from_own job fs) ≡ list_any test fs
+        → list_any test (cond b (f ∷ fs) (from_own job fs)) ≡ list_any test (f ∷ fs)
+    go true e t = refl
+    go false e t = t ∙ sym (ap (λ b. b || list_any test fs) (each f e))
+
+pub filter-own : (job : ℕ) (fs : List Filing) → pending_in (from_own job fs) job ≡ pending_in fs job
+filter-own job [] = refl
+filter-own job (f ∷ fs) = go (f.request.job == job) refl (filter-own job fs)
+  where
+    go : (b : Bool) → (f.request.job == job) ≡ b → pending_in (from_own job fs) job ≡ pending_in fs job
+        → pending_in (cond b (f ∷ fs) (from_own job fs)) job ≡ pending_in (f ∷ fs) job
+    go true e t = refl
+    go false e t =
+        t ∙ sym (ap (λ b. first_id (requests_in (cond (((b && is_interrupt f.request.kind) && not f.request.told) && f.granted) (f ∷ filter (pends job) fs) (filter (pends job) fs)))) e)
+
+pub blocks-own : (job : ℕ) (f : Filing) → (f.request.job == job) ≡ false → blocks job f ≡ false
+blocks-own job f e = ap (λ b. (b && is_blocking f.request.kind) && not f.granted) e
+
+pub first-pending : (job : ℕ) (xs : List Filing) (f : Filing) → xs ≡ f ∷ drop 1 xs
+    → pending_in xs job ≡ first_id (requests_in (cond (pends job f) (f ∷ filter (pends job) (drop 1 xs)) (filter (pends job) (drop 1 xs))))
+first-pending job xs f are = ap (λ l. pending_in l job) are

@@ -256,7 +256,8 @@ impl Window {
     /// Takes the wants of the named keys out of the request at a place, if one stands there.
     pub fn remove_keys(&mut self, place: usize, named: &[Want])
         requires { place < PLACES }
-        ensures { self.new ≡ set self.old place (revised (fewer named.now) (at_place self.old place)) }
+        ensures value { self.new ≡ set self.old place (revised (fewer named.now) (at_place self.old place)) }
+        ensures long { length self.new ≡ PLACES }
     {
         if let Some(filed) = &mut self.slots[place] {
             self.rows.remove(place, filed.signature().groups, filed.job());
