@@ -1,5 +1,7 @@
 -- What walks over the places of a window come to.
-use Rattle.std.proofs.Common.{◌≡◌, ◌∙◌, sym, ap, subst, ℕ, zero, suc, ◌+◌, ◌<◌, ◌≤◌, ◌==◌, Bool, true, false, not, cond, if◌then◌else◌, ◌&&◌, ◌||◌, List, [], ◌∷◌, ◌++◌, append-nil, append_assoc, length, get_or, drop, set, filter, filter_map, map, Option, Some, None, refl, arith, length-append, length-set, bit_or, nat_le}
+use Rattle.std.proofs.Common.{◌≡◌, ◌∙◌, sym, ap, subst, ℕ, zero, suc, ◌+◌, ◌<◌, ◌≤◌, ◌==◌, Bool, true, false, not, cond, if◌then◌else◌, ◌&&◌, ◌||◌, List, [], ◌∷◌, ◌++◌, append-nil, append_assoc, length, get_or, drop, set, filter, filter_map, map, Option, Some, None, refl, arith, length-append, length-set, bit_or, nat_le, ◌^◌, ◌%◌}
+use Rattle.std.specs.Int.Bits.{or_zero_r}
+use Rattle.lock_table.proofs.RenewalLaws.{kept_behind}
 use Rattle.std.specs.List.{list_all, list_any, cons_option}
 use Rattle.std.proofs.lemmas.List.{set-get_or, get_or-set_same}
 use Rattle.word36.specs.declared.sizes.TheConstants.{LOCKS_A_CALL}
@@ -26,7 +28,7 @@ use Rattle.lock_table.specs.Renewals.{rises, renewed, risen, shuts, with_grant}
 use Rattle.lock_table.specs.Signatures.{meets, no_bits, joined, signature_of}
 use Rattle.lock_table.specs.Waiters.{waiter_bit, with_waiters, waiters_in}
 use Rattle.lock_table.specs.Walks.{from_met, from_own}
-use Rattle.lock_table.specs.Windows.{at_place, between, present, is_other, is_own, is_met, is_met_own, is_unmet, is_standing, pends_at, waits_at, revised, stepped, walked, signature_at, holds_at, renewed_at, risen_at, waiter_bit_at}
+use Rattle.lock_table.specs.Windows.{at_place, between, present, is_other, is_own, is_met, is_met_own, is_waiting, is_unmet, is_standing, pends_at, waits_at, revised, stepped, walked, signature_at, holds_at, renewed_at, risen_at, waiter_bit_at}
 use Rattle.lock_table.proofs.PlaceLaws.{requests-append, between-split, between-all, between-none, between-step, between-here, between-behind_set, between-before_set, between-set, place-has, present-set}
 use Rattle.lock_table.proofs.ChangeLaws.{other-change, unmet-change}
 use Rattle.lock_table.proofs.GivingUpLaws.{losing, unlosing}
@@ -499,3 +501,230 @@ blocks-own job f e = ap (λ b. (b && is_blocking f.request.kind) && not f.grante
 pub first-pending : (job : ℕ) (xs : List Filing) (f : Filing) → xs ≡ f ∷ drop 1 xs
     → pending_in xs job ≡ first_id (requests_in (cond (pends job f) (f ∷ filter (pends job) (drop 1 xs)) (filter (pends job) (drop 1 xs))))
 first-pending job xs f are = ap (λ l. pending_in l job) are
+
+-- ---- who waits
+
+waiters-append : (w : ℕ) (xs ys : List Filing) → with_waiters w (xs ++ ys) ≡ with_waiters (with_waiters w xs) ys
+waiters-append w [] ys = refl
+waiters-append w (x ∷ xs) ys = waiters-append (bit_or w (waiter_bit x)) xs ys
+
+waiters-granted : (w : ℕ) (gs : List Filing) → list_all (λ f. f.granted) gs ≡ true → with_waiters w gs ≡ w
+waiters-granted w [] h = refl
+waiters-granted w (g ∷ gs) h =
+    let p = and_parts g.granted (list_all (λ f. f.granted) gs) h in
+    ap (λ b. with_waiters (bit_or w (cond (not b && is_blocking g.request.kind) (2 ^ (g.request.job % 32)) 0)) gs) p.0
+    ∙ ap (λ v. with_waiters v gs) (or_zero_r w) ∙ waiters-granted w gs p.1
+
+waiters-on : (w : ℕ) (xs gs : List Filing) → list_all (λ f. f.granted) gs ≡ true → with_waiters w (xs ++ gs) ≡ with_waiters w xs
+waiters-on w xs gs h = waiters-append w xs gs ∙ waiters-granted (with_waiters w xs) gs h
+
+waiters-one : (w : ℕ) (xs : List Filing) (o : Option Filing) → with_waiters w (xs ++ cons_option o []) ≡ bit_or (with_waiters w xs) (waiter_bit_at o)
+waiters-one w xs None = ap (with_waiters w) (append-nil xs) ∙ sym (or_zero_r (with_waiters w xs))
+waiters-one w xs (Some f) = waiters-append w xs (f ∷ [])
+
+pub waiters-init : (n : ℕ) (os : List (Option Filing)) → list_all (λ f. f.granted) (between 0 n os) ≡ true → 0 ≡ with_waiters 0 (between 0 n os)
+waiters-init n os h = sym (waiters-granted 0 (between 0 n os) h)
+
+pub waiters-end : (n : ℕ) (os : List (Option Filing)) → length os ≡ PLACES → n ≡ PLACES → with_waiters 0 (between 0 n os) ≡ waiters_in (present os)
+waiters-end n os long end = ap (λ m. with_waiters 0 (between 0 m os)) end ∙ ap (with_waiters 0) (between-all PLACES os (omega (arith, long)))
+
+-- ---- grants that are renewed
+
+module _ (bits : Signature) where
+  renewed-on : (e : List Request) (gs fs : List Filing) → list_all (λ f. f.granted) gs ≡ true
+      → renewed bits e (gs ++ fs) ≡ gs ++ renewed bits (e ++ requests_in gs) fs
+  renewed-on e [] fs h = ap (λ l. renewed bits l fs) (sym (append-nil e))
+  renewed-on e (g ∷ gs) fs h =
+      let p = and_parts g.granted (list_all (λ f. f.granted) gs) h in
+      ap (λ b. cond (not b && (meets (signature_of g.request.wants.items) bits && granted_behind e g.request)) (with_grant g ∷ renewed bits (e ++ g.request ∷ []) (gs ++ fs)) (g ∷ renewed bits (e ++ g.request ∷ []) (gs ++ fs))) p.0
+      ∙ ap (λ l. g ∷ l) (renewed-on (e ++ g.request ∷ []) gs fs p.1 ∙ ap (λ l. gs ++ renewed bits l fs) (append_assoc e (g.request ∷ []) (requests_in gs)))
+
+  risen-on : (e : List Request) (gs fs : List Filing) → list_all (λ f. f.granted) gs ≡ true
+      → risen bits e (gs ++ fs) ≡ risen bits (e ++ requests_in gs) fs
+  risen-on e [] fs h = ap (λ l. risen bits l fs) (sym (append-nil e))
+  risen-on e (g ∷ gs) fs h =
+      let p = and_parts g.granted (list_all (λ f. f.granted) gs) h in
+      ap (λ b. cond ((not b && (meets (signature_of g.request.wants.items) bits && granted_behind e g.request)) && is_told_of g.request.kind) (grant_of g.request ∷ risen bits (e ++ g.request ∷ []) (gs ++ fs)) (risen bits (e ++ g.request ∷ []) (gs ++ fs))) p.0
+      ∙ risen-on (e ++ g.request ∷ []) gs fs p.1 ∙ ap (λ l. risen bits l fs) (append_assoc e (g.request ∷ []) (requests_in gs))
+
+  -- the requests when the renewal from a place on is done, and the grants that it makes
+  abbrev pub renewing : ℕ → List (Option Filing) → List Filing
+  renewing n os = between 0 n os ++ renewed bits (requests_in (between 0 n os)) (between n PLACES os)
+
+  abbrev pub rising : ℕ → List (Option Filing) → List Grant
+  rising n os = risen bits (requests_in (between 0 n os)) (between n PLACES os)
+
+  earlier-split : (a q : ℕ) (os : List (Option Filing)) → a ≤ q → requests_in (between 0 q os) ≡ requests_in (between 0 a os) ++ requests_in (between a q os)
+  earlier-split a q os aq = ap requests_in (between-split 0 a q os (omega arith) aq) ∙ requests-append (between 0 a os) (between a q os)
+
+  renewing-skip : (a q : ℕ) (os : List (Option Filing)) → a ≤ q → q ≤ PLACES → list_all (λ f. f.granted) (between a q os) ≡ true
+      → renewing q os ≡ renewing a os
+  renewing-skip a q os aq qe h =
+      sym (ap (λ l. between 0 a os ++ renewed bits (requests_in (between 0 a os)) l) (between-split a q PLACES os aq qe)
+      ∙ ap (λ l. between 0 a os ++ l) (renewed-on (requests_in (between 0 a os)) (between a q os) (between q PLACES os) h)
+      ∙ sym (append_assoc (between 0 a os) (between a q os) (renewed bits (requests_in (between 0 a os) ++ requests_in (between a q os)) (between q PLACES os)))
+      ∙ ap (λ l. (between 0 a os ++ between a q os) ++ renewed bits l (between q PLACES os)) (sym (earlier-split a q os aq))
+      ∙ ap (λ l. l ++ renewed bits (requests_in (between 0 q os)) (between q PLACES os)) (sym (between-split 0 a q os (omega arith) aq)))
+
+  rising-skip : (a q : ℕ) (os : List (Option Filing)) → a ≤ q → q ≤ PLACES → list_all (λ f. f.granted) (between a q os) ≡ true
+      → rising q os ≡ rising a os
+  rising-skip a q os aq qe h =
+      sym (ap (risen bits (requests_in (between 0 a os))) (between-split a q PLACES os aq qe)
+      ∙ risen-on (requests_in (between 0 a os)) (between a q os) (between q PLACES os) h
+      ∙ ap (λ l. risen bits l (between q PLACES os)) (sym (earlier-split a q os aq)))
+
+  renewed-same : (e : List Request) (o : Option Filing) → requests_in (cons_option (renewed_at bits e o) []) ≡ requests_in (cons_option o [])
+  renewed-same e None = refl
+  renewed-same e (Some f) = go (rises bits e f)
+    where
+      go : (b : Bool) → (cond b (with_grant f) f).request ∷ [] ≡ f.request ∷ []
+      go true = refl
+      go false = refl
+
+  renewed-cons : (e : List Request) (o : Option Filing) (fs : List Filing)
+      → renewed bits e (cons_option o fs) ≡ cons_option (renewed_at bits e o) (renewed bits (e ++ requests_in (cons_option o [])) fs)
+  renewed-cons e None fs = ap (λ l. renewed bits l fs) (sym (append-nil e))
+  renewed-cons e (Some f) fs = go (rises bits e f)
+    where
+      go : (b : Bool) → cond b (with_grant f ∷ renewed bits (e ++ f.request ∷ []) fs) (f ∷ renewed bits (e ++ f.request ∷ []) fs)
+          ≡ cond b (with_grant f) f ∷ renewed bits (e ++ f.request ∷ []) fs
+      go true = refl
+      go false = refl
+
+  risen-cons : (e : List Request) (o : Option Filing) (fs : List Filing)
+      → risen bits e (cons_option o fs) ≡ risen_at bits e o ++ risen bits (e ++ requests_in (cons_option o [])) fs
+  risen-cons e None fs = ap (λ l. risen bits l fs) (sym (append-nil e))
+  risen-cons e (Some f) fs = go (rises bits e f && is_told_of f.request.kind)
+    where
+      go : (b : Bool) → cond b (grant_of f.request ∷ risen bits (e ++ f.request ∷ []) fs) (risen bits (e ++ f.request ∷ []) fs)
+          ≡ cond b (grant_of f.request ∷ []) [] ++ risen bits (e ++ f.request ∷ []) fs
+      go true = refl
+      go false = refl
+
+  abbrev earlier_at : ℕ → List (Option Filing) → List Request
+  earlier_at q os = requests_in (between 0 q os)
+
+  -- what stands before the place behind, once this one is renewed
+  before-step : (q : ℕ) (os new : List (Option Filing)) → q < length os → new ≡ set os q (renewed_at bits (earlier_at q os) (at_place os q))
+      → between 0 (q + 1) new ≡ between 0 q os ++ cons_option (renewed_at bits (earlier_at q os) (at_place os q)) []
+  before-step q os new lt is = ap (between 0 (q + 1)) is ∙ between-set 0 q (renewed_at bits (earlier_at q os) (at_place os q)) os (omega arith) lt
+
+  earlier-step : (q : ℕ) (os new : List (Option Filing)) → q < length os → new ≡ set os q (renewed_at bits (earlier_at q os) (at_place os q))
+      → earlier_at (q + 1) new ≡ earlier_at q os ++ requests_in (cons_option (at_place os q) [])
+  earlier-step q os new lt is =
+      ap requests_in (before-step q os new lt is)
+      ∙ requests-append (between 0 q os) (cons_option (renewed_at bits (earlier_at q os) (at_place os q)) [])
+      ∙ ap (λ l. earlier_at q os ++ l) (renewed-same (earlier_at q os) (at_place os q))
+
+  behind-step : (q : ℕ) (os new : List (Option Filing)) → new ≡ set os q (renewed_at bits (earlier_at q os) (at_place os q))
+      → between (q + 1) PLACES new ≡ between (q + 1) PLACES os
+  behind-step q os new is = ap (between (q + 1) PLACES) is ∙ between-behind_set (q + 1) PLACES q (renewed_at bits (earlier_at q os) (at_place os q)) os (omega arith)
+
+  pub renewing-next : (q n : ℕ) (os new : List (Option Filing)) → length os ≡ PLACES → q < PLACES
+      → new ≡ set os q (renewed_at bits (earlier_at q os) (at_place os q)) → q + 1 ≤ n → n ≤ PLACES
+      → list_all (λ f. f.granted) (between (q + 1) n new) ≡ true → renewing n new ≡ renewing q os
+  renewing-next q n os new long lt is le most h =
+      renewing-skip (q + 1) n new le most h
+      ∙ ap (λ l. l ++ renewed bits (earlier_at (q + 1) new) (between (q + 1) PLACES new)) (before-step q os new (omega (arith, long, lt)) is)
+      ∙ cons-more (renewed_at bits (earlier_at q os) (at_place os q)) (between 0 q os) (renewed bits (earlier_at (q + 1) new) (between (q + 1) PLACES new))
+      ∙ ap (λ l. between 0 q os ++ cons_option (renewed_at bits (earlier_at q os) (at_place os q)) (renewed bits l (between (q + 1) PLACES new))) (earlier-step q os new (omega (arith, long, lt)) is)
+      ∙ ap (λ l. between 0 q os ++ cons_option (renewed_at bits (earlier_at q os) (at_place os q)) (renewed bits (earlier_at q os ++ requests_in (cons_option (at_place os q) [])) l)) (behind-step q os new is)
+      ∙ ap (λ l. between 0 q os ++ l)
+      (sym (ap (renewed bits (earlier_at q os)) (between-step q PLACES os lt) ∙ renewed-cons (earlier_at q os) (at_place os q) (between (q + 1) PLACES os)))
+
+  pub rising-next : (q n : ℕ) (os new : List (Option Filing)) → length os ≡ PLACES → q < PLACES
+      → new ≡ set os q (renewed_at bits (earlier_at q os) (at_place os q)) → q + 1 ≤ n → n ≤ PLACES
+      → list_all (λ f. f.granted) (between (q + 1) n new) ≡ true
+      → risen_at bits (earlier_at q os) (at_place os q) ++ rising n new ≡ rising q os
+  rising-next q n os new long lt is le most h =
+      ap (λ l. risen_at bits (earlier_at q os) (at_place os q) ++ l)
+      (rising-skip (q + 1) n new le most h
+      ∙ ap (λ l. risen bits l (between (q + 1) PLACES new)) (earlier-step q os new (omega (arith, long, lt)) is)
+      ∙ ap (risen bits (earlier_at q os ++ requests_in (cons_option (at_place os q) []))) (behind-step q os new is))
+      ∙ sym (ap (risen bits (earlier_at q os)) (between-step q PLACES os lt) ∙ risen-cons (earlier_at q os) (at_place os q) (between (q + 1) PLACES os))
+
+  pub renewing-init : (n : ℕ) (os : List (Option Filing)) → length os ≡ PLACES → n ≤ PLACES → list_all (λ f. f.granted) (between 0 n os) ≡ true
+      → renewing n os ≡ renewed bits [] (present os)
+  renewing-init n os long most h =
+      renewing-skip 0 n os (omega arith) most h
+      ∙ ap (λ l. l ++ renewed bits (requests_in l) (between 0 PLACES os)) (between-none 0 os)
+      ∙ ap (renewed bits []) (between-all PLACES os (omega (arith, long)))
+
+  pub rising-init : (n : ℕ) (os : List (Option Filing)) → length os ≡ PLACES → n ≤ PLACES → list_all (λ f. f.granted) (between 0 n os) ≡ true
+      → rising n os ≡ risen bits [] (present os)
+  rising-init n os long most h =
+      rising-skip 0 n os (omega arith) most h
+      ∙ ap (λ l. risen bits (requests_in l) (between 0 PLACES os)) (between-none 0 os)
+      ∙ ap (risen bits []) (between-all PLACES os (omega (arith, long)))
+
+  pub renewing-end : (n : ℕ) (os : List (Option Filing)) → length os ≡ PLACES → n ≡ PLACES → renewing n os ≡ present os
+  renewing-end n os long end =
+      ap (λ m. renewing m os) end
+      ∙ ap (λ l. between 0 PLACES os ++ renewed bits (requests_in (between 0 PLACES os)) l) (between-none PLACES os)
+      ∙ append-nil (between 0 PLACES os) ∙ between-all PLACES os (omega (arith, long))
+
+  pub rising-end : (n : ℕ) (os : List (Option Filing)) → n ≡ PLACES → rising n os ≡ []
+  rising-end n os end =
+      ap (λ m. rising m os) end ∙ ap (risen bits (requests_in (between 0 PLACES os))) (between-none PLACES os)
+
+  pub waiters-next : (w q n : ℕ) (os new : List (Option Filing)) → length os ≡ PLACES → q < PLACES
+      → new ≡ set os q (renewed_at bits (earlier_at q os) (at_place os q)) → q + 1 ≤ n
+      → list_all (λ f. f.granted) (between (q + 1) n new) ≡ true
+      → w ≡ with_waiters 0 (between 0 q os)
+      → bit_or w (waiter_bit_at (renewed_at bits (earlier_at q os) (at_place os q))) ≡ with_waiters 0 (between 0 n new)
+  waiters-next w q n os new long lt is le h was =
+      ap (λ v. bit_or v (waiter_bit_at (renewed_at bits (earlier_at q os) (at_place os q)))) was
+      ∙ sym (ap (with_waiters 0) (between-split 0 (q + 1) n new (omega arith) le)
+      ∙ waiters-on 0 (between 0 (q + 1) new) (between (q + 1) n new) h
+      ∙ ap (with_waiters 0) (before-step q os new (omega (arith, long, lt)) is)
+      ∙ waiters-one 0 (between 0 q os) (renewed_at bits (earlier_at q os) (at_place os q)))
+
+-- the renewal takes no request away
+renewed-length : (bits : Signature) (e : List Request) (fs : List Filing) → length (renewed bits e fs) ≡ length fs
+renewed-length bits e [] = refl
+renewed-length bits e (f ∷ fs) = go (rises bits e f) (renewed-length bits (e ++ f.request ∷ []) fs)
+  where
+    go : (b : Bool) → length (renewed bits (e ++ f.request ∷ []) fs) ≡ length fs
+        → length (cond b (with_grant f ∷ renewed bits (e ++ f.request ∷ []) fs) (f ∷ renewed bits (e ++ f.request ∷ []) fs)) ≡ suc (length fs)
+    go true t = ap suc t
+    go false t = ap suc t
+
+-- where one stands, fewer than all are before it
+pub fewer-before : (bits : Signature) (q : ℕ) (os : List (Option Filing)) (fs : List Filing) → q < PLACES → is_waiting (at_place os q) ≡ true
+    → renewing bits q os ≡ renewed bits [] fs → length (between 0 q os) < length fs
+fewer-before bits q os fs lt h same =
+    omega (arith, ap length same, renewed-length bits [] fs,
+    length-append (between 0 q os) (renewed bits (requests_in (between 0 q os)) (between q PLACES os)),
+    renewed-length bits (requests_in (between 0 q os)) (between q PLACES os),
+    standing-long q PLACES os lt (standing (at_place os q) h))
+  where
+    standing : (o : Option Filing) → is_waiting o ≡ true → is_standing o ≡ true
+    standing None h = absurd (cc)
+    standing (Some f) h = refl
+
+pub risen-few : (bits : Signature) (e : List Request) (o : Option Filing) → is_waiting o ≡ true → length (risen_at bits e o) ≤ 1
+risen-few bits e None h = absurd (cc)
+risen-few bits e (Some f) h = go (rises bits e f && is_told_of f.request.kind)
+  where
+    go : (b : Bool) → length (cond b (grant_of f.request ∷ []) []) ≤ 1
+    go true = omega arith
+    go false = omega arith
+
+pub one-more : (bits : Signature) (q n : ℕ) (os new : List (Option Filing)) → length os ≡ PLACES → q < PLACES
+    → new ≡ set os q (renewed_at bits (requests_in (between 0 q os)) (at_place os q)) → q + 1 ≤ n → is_waiting (at_place os q) ≡ true
+    → length (between 0 q os) + 1 ≤ length (between 0 n new)
+one-more bits q n os new long lt is le h =
+    omega (arith, ap length (between-split 0 (q + 1) n new (omega arith) le), length-append (between 0 (q + 1) new) (between (q + 1) n new),
+    ap length (ap (between 0 (q + 1)) is ∙ between-set 0 q (renewed_at bits (requests_in (between 0 q os)) (at_place os q)) os (omega arith) (omega (arith, long, lt))),
+    length-append (between 0 q os) (cons_option (renewed_at bits (requests_in (between 0 q os)) (at_place os q)) []),
+    one-there (requests_in (between 0 q os)) (at_place os q) h)
+  where
+    one-there : (e : List Request) (o : Option Filing) → is_waiting o ≡ true → length (cons_option (renewed_at bits e o) []) ≡ 1
+    one-there e None h = absurd (cc)
+    one-there e (Some f) h = refl
+
+pub kept_waiting_at : (place last : ℕ) (g f : Filing) (os : List (Option Filing)) → last < place → at_place os last ≡ Some g
+    → shuts g.request.wants.items f.request.wants.items ≡ true
+    → granted_behind (requests_in (between 0 place os)) f.request ≡ false
+kept_waiting_at place last g f os lt is h =
+    kept_behind (requests_in (between 0 place os)) g f (place-has 0 place last g os (omega arith) lt is) h

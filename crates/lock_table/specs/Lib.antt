@@ -10,7 +10,6 @@ pub mod Walks
 pub mod Changing
 pub mod Levels
 pub mod Arrivals
-pub mod Rows
 pub mod Windows
 pub mod Places
 pub mod Standings

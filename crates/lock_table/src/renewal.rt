@@ -27,7 +27,6 @@ fn does_shut(g: &Filed, f: &Filed) -> bool
 }
 
 /// Whether the request at an earlier place is seen to keep a later one from its grant.
-#[tactic(auto, using(crate::proofs::WindowLaws::kept_waiting_at))]
 fn does_keep(window: &Window, last: usize, place: usize, f: &Filed) -> bool
     requires { place ≤ PLACES }
     ensures { IsTrue result → granted_behind (requests_in (between 0 place window.now)) f.now.request ≡ false }
@@ -83,11 +82,11 @@ fn renew_at(window: &mut Window, place: usize, bits: Signature, last: &mut usize
 /// Grants what rises, fills in the grants of those whose jobs are told, and answers the bits of the
 /// jobs that wait then.
 pub fn renew(window: &mut Window, bits: Signature, woken: &mut Woken) -> u32
-    requires { length (present window.old) ≤ REQUESTS }
     ensures value { present window.new ≡ renewed bits [] (present window.old) }
     ensures woken { woken.new.items ≡ risen bits [] (present window.old) }
     ensures waiters { result ≡ waiters_in (present window.new) }
 {
+    let _ = window.len();
     woken.clear();
     let mut waiters = 0;
     let mut last = PLACES;

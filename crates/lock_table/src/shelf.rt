@@ -1,8 +1,9 @@
 //! The requests that are present, in order of arrival, and which jobs wait.
-ghost use Rattle.std.specs.Prelude.{◌≡◌, ◌+◌, ◌<◌, ◌≤◌, [], ◌∷◌, ◌++◌, filter, length, get_or, map, IfOk, IsTrue};
+ghost use Rattle.std.specs.Prelude.{◌≡◌, ◌+◌, ◌%◌, ◌^◌, ◌&&◌, not, if◌then◌else◌, ◌<◌, ◌≤◌, [], ◌∷◌, ◌++◌, filter, length, get_or, map, IfOk, IsTrue};
 ghost use Rattle.std.specs.List.{list_all, list_any};
 ghost use Rattle.word36.specs.declared.sizes.TheConstants.{LOCKS_A_CALL, REQUESTS};
 ghost use Rattle.lock_queue.specs.Enqueues.{request_of};
+ghost use Rattle.lock_queue.specs.Jobs.{is_blocking};
 ghost use Rattle.lock_queue.specs.Queue.{granted_behind};
 ghost use Rattle.lock_queue.specs.WellFormed.{are_well_formed, is_in_range};
 ghost use Rattle.lock_table.specs.Departures.{keeps_wants, leaves, loses, signature_where, stays, with_change, with_fewer};
@@ -52,7 +53,7 @@ impl Model for Shelf {
 
 /// The bit of the job that waits by a request of these kinds, or 0 where none does.
 fn waiter_bit(job: u8, asking: &Asking, granted: bool) -> u32
-    ensures { (told : Bool) (wants : Wants) → result ≡ waiter_bit (filing (request_of job asking.now told wants) granted) }
+    ensures { result ≡ (if not granted && is_blocking asking.now.kind then 2 ^ (job % 32) else 0) }
 {
     if !granted && is_blocking(asking.kind) {
         bit_of_job(job)
@@ -164,6 +165,7 @@ impl Shelf {
     {
         self.waiters = renew(&mut self.window, bits, woken);
         self.waiters_known = true;
+        let _ = self.window.len();
     }
 
     /// Whether a job waits by one of the requests.
@@ -193,6 +195,7 @@ impl Shelf {
         ensures few { length self.new ≤ REQUESTS }
     {
         tell(&mut self.window, job);
+        let _ = self.window.len();
     }
 
     /// Makes the job's wants shared or exclusive, each as the change of its key says, if there is one.
@@ -203,5 +206,6 @@ impl Shelf {
         ensures few { length self.new ≤ REQUESTS }
     {
         change_of_job(&mut self.window, job, changes);
+        let _ = self.window.len();
     }
 }

@@ -88,7 +88,7 @@ impl Window {
         ensures { (d : Filing) → result.now ≡ get_or (present self.now) i d }
     {
         let mut left = i;
-        let mut at = self.next_present(0, PLACES);
+        let mut at = self.next_present(self.first, PLACES);
         while left > 0 {
             at = self.next_present(at + 1, PLACES);
             left -= 1;

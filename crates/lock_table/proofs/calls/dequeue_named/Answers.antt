@@ -33,5 +33,5 @@ returns-clause-woken c =
     ∙ sym c.refusal_of_dequeue.ensures ∙ c.in_default.is in
     c.depart_named.ensures.woken
     ∙ ap (λ l. raised [] (filter keeps_wants (map (with_fewer c.args.job l) fs))) c.as_slice-2.ensures.value
-    ∙ named-woken fs c.args.job c.args.named.now c.requires
+    ∙ named-woken fs c.args.job c.args.named.now c.requires.right
     ∙ sym (ap (λ o. unless_refused_grants (unless_refused rs o (outcome (without_named rs c.args.job c.args.named.now.items) Done)).reply (woken (left_of c.args.job (DequeueNamed c.args.named.now)) rs)) passed)

@@ -1,4 +1,4 @@
-use Rattle.std.proofs.Common.{◌≡◌, is_some}
+use Rattle.std.proofs.Common.{◌≡◌, is_some, rules}
 use Rattle.std.proofs.lemmas.Fn.{filter_same}
 use Rattle.lock_table.proofs.window.pack.Goals as goal
 
