@@ -1,4 +1,6 @@
 pub mod Signatures
+pub mod Sets
+pub mod Rows
 pub mod Filings
 pub mod Renewals
 pub mod Departures
@@ -8,3 +10,6 @@ pub mod Walks
 pub mod Changing
 pub mod Levels
 pub mod Arrivals
+pub mod Windows
+pub mod Places
+pub mod Standings

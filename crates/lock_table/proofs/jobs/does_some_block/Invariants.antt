@@ -1,0 +1,10 @@
+use Rattle.std.proofs.Common.{◌≡◌, length}
+use Rattle.std.specs.List.{list_any}
+use Rattle.lock_table.specs.Findings.{blocks}
+use Rattle.lock_table.proofs.jobs.does_some_block.Given as goal
+
+abbrev pub invariant-loop-f : goal.invariant-loop-f
+invariant-loop-f l = list_any (blocks l.job) l.rest ≡ list_any (blocks l.job) l.filed
+
+abbrev pub decreases-loop-f : goal.decreases-loop-f
+decreases-loop-f l = length l.rest

@@ -1,0 +1,14 @@
+use Rattle.std.proofs.Common.{◌≡◌, ◌≤◌, ◌<◌, ◌-◌, ℕ, None}
+use Rattle.lock_table.specs.Windows.{at_place}
+use Rattle.lock_table.proofs.window.first_standing.Given as goal
+
+abbrev pub invariant-loop-at : goal.invariant-loop-at
+invariant-loop-at l =
+    record {
+      passed : (p : ℕ) → l.from ≤ p → p < l.at → at_place l.slots p ≡ None;
+      least : l.from ≤ l.at;
+      most : l.at ≤ l.end;
+    }
+
+abbrev pub decreases-loop-at : goal.decreases-loop-at
+decreases-loop-at l = l.end - l.at
