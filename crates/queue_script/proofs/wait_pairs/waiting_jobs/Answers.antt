@@ -1,8 +1,7 @@
-use Rattle.std.proofs.Common.{◌≡◌, ◌<◌, ◌∙◌, ℕ, ap, length, arith}
+use Rattle.std.proofs.Common.{◌<◌, ◌∙◌, length, arith}
 use Rattle.std.proofs.Math.ListN.{length-set}
 use Rattle.lock_queue.specs.Jobs.{is_waiting_job}
 use Rattle.queue_script.proofs.PairLemmas.{set-known}
-use Rattle.queue_script.specs.declared.circles.TheConstants.{NUMBERS}
 use Rattle.queue_script.proofs.wait_pairs.waiting_jobs.Goals as goal
 
 pub loop-job-preserved : goal.loop-job-preserved
