@@ -2,7 +2,7 @@
 use Rattle.std.proofs.Common.{◌≡◌, ◌<◌, ◌≤◌, ◌+◌, ◌-◌, ◌*◌, ◌==◌, ◌&&◌, ℕ, List, [], ◌∷◌, Option, None, Some, length, get_or, drop, arith, sym, ap, ◌∙◌, subst, true, false, Bool, refl, nat_le, nat_lt, cond, take, eq-eqb, inl, inr}
 use Rattle.std.proofs.lemmas.List.{drop_more, take_rest, drop_all}
 use Rattle.std.proofs.lemmas.List.Splits.{slice_split-cons_yes, slice_split-cons_no}
-use Rattle.std.proofs.lemmas.Bool.{cases_lt}
+use Rattle.std.proofs.lemmas.Bool.{cases_lt, ne_eqb}
 use Rattle.std.proofs.lemmas.Bool.Decides.{nat_tests}
 use Rattle.std.specs.List.{list_all, slice_split, onto_first}
 use Rattle.queue_script.proofs.NumberLemmas.{value_onto-grows}
@@ -181,3 +181,15 @@ is_front-all most separator text i v f end some =
     is_front most separator v text [] some (f.begins (omega arith))
     (sym f.number ∙ ap (λ l. onto_front most v (parts separator l)) nothing ∙ ap (λ b. cond b (Some v) None) (test-small v most f.small))
     (sym f.behind ∙ ap (λ l. others (parts separator l)) nothing)
+
+-- ---- a number of one digit
+
+pub is_front-digit : (most separator n : ℕ) (text : List ℕ) (read : Option ℕ) → 2 ≤ length text → get_or text 1 0 ≡ separator → (get_or text 0 0 ≡ separator → ⊥)
+    → read ≡ number 10 most (get_or text 0 0 ∷ []) → read ≡ Some n → IsFront (number 10 most) n (parts separator text) (parts separator (take (length text - 2) (drop 2 text)))
+is_front-digit most separator n text read long behind differs is some =
+    let first = at-other separator text 0 (omega arith) (ne_eqb _ _ differs) in
+    let second = at-separator separator text 1 (omega arith) (eq-eqb _ _ behind) in (
+      get_or text 0 0 ∷ [],
+      first ∙ ap (onto_first (get_or text 0 0)) second ∙ ap (λ l. (get_or text 0 0 ∷ []) ∷ parts separator l) (sym (take_rest text 2)),
+      sym is ∙ some,
+    )

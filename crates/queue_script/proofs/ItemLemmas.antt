@@ -57,12 +57,15 @@ splits-end items n some end named =
 pub splits-blank : (items : List ℕ) (n : ℕ) → (n ≡ 0 → ⊥) → n < length items → get_or items n 0 ≡ 32 → list_all is_name_character (take n items) ≡ true
     → SplitsLock items (take n items) [] (parts 32 (take (length items - (n + 1)) (drop (n + 1) items)))
 unfolding parts
-splits-blank items n some within here named =
-    (take n items,
-     ap (slice_split (λ b. b == 32)) (at items n within)
-     ∙ slice_split_at (λ b. b == 32) (take n items) (get_or items n 0) (drop (n + 1) items) (without 32 (take n items) name-no_blank named) (eq-eqb _ _ here)
-     ∙ ap (λ l. take n items ∷ parts 32 l) (sym (take_rest items (n + 1))),
-     alone-slash (take n items) named, named, some-taken n items some (omega arith))
+splits-blank items n some within here named = (
+  take n items,
+  ap (slice_split (λ b. b == 32)) (at items n within)
+      ∙ slice_split_at (λ b. b == 32) (take n items) (get_or items n 0) (drop (n + 1) items) (without 32 (take n items) name-no_blank named) (eq-eqb _ _ here)
+      ∙ ap (λ l. take n items ∷ parts 32 l) (sym (take_rest items (n + 1))),
+  alone-slash (take n items) named,
+  named,
+  some-taken n items some (omega arith),
+)
 
 behind-slash : (rest first : List ℕ) (more : List (List ℕ)) (c : ℕ) → c ≡ 47 → parts 32 rest ≡ first ∷ more → parts 32 (c ∷ rest) ≡ (c ∷ first) ∷ more
 behind-slash rest first more c is e = in_front 32 (c ∷ []) rest first more (All-cons (λ b. (b == 32) ≡ false) c [] (grind (arith, nat_tests)) (All-nil (λ b. (b == 32) ≡ false))) e
@@ -72,13 +75,15 @@ pub splits-slash : (items options : List ℕ) (others : List (List ℕ)) (n : �
     → SplitsLock items (take n items) (parts 47 options) others
 unfolding parts
 splits-slash items options others n some within here named split =
-    let rest : parts 32 (drop (n + 1) items) ≡ options ∷ others = ap (parts 32) (sym (take_rest items (n + 1))) ∙ split in
-    (take n items ++ get_or items n 0 ∷ options,
-     ap (parts 32) (at items n within)
-     ∙ in_front 32 (take n items) (get_or items n 0 ∷ drop (n + 1) items) (get_or items n 0 ∷ options) others (without 32 (take n items) name-no_blank named)
-       (behind-slash (drop (n + 1) items) options others (get_or items n 0) here rest),
-     slice_split_at (λ b. b == 47) (take n items) (get_or items n 0) options (without 47 (take n items) name-no_slash named) (eq-eqb _ _ here),
-     named, some-taken n items some (omega arith))
+    let rest : parts 32 (drop (n + 1) items) ≡ options ∷ others = ap (parts 32) (sym (take_rest items (n + 1))) ∙ split in (
+      take n items ++ get_or items n 0 ∷ options,
+      ap (parts 32) (at items n within)
+          ∙ in_front 32 (take n items) (get_or items n 0 ∷ drop (n + 1) items) (get_or items n 0 ∷ options) others (without 32 (take n items) name-no_blank named)
+          (behind-slash (drop (n + 1) items) options others (get_or items n 0) here rest),
+      slice_split_at (λ b. b == 47) (take n items) (get_or items n 0) options (without 47 (take n items) name-no_slash named) (eq-eqb _ _ here),
+      named,
+      some-taken n items some (omega arith),
+    )
 
 -- ---- the lock of a name in characters
 

@@ -11,7 +11,7 @@ use Rattle.lock_queue.specs.Waits.{numbers_from, jobs, leads_to}
 use Rattle.lock_queue.specs.declared.request.Request.{Request}
 use Rattle.queue_script.specs.declared.circles.TheConstants.{NUMBERS, PAIRS}
 use Rattle.word36.specs.declared.sizes.TheConstants.{JOBS}
-use Rattle.queue_script.specs.WaitPairs.{pair_in, circle_job, circle_jobs}
+use Rattle.queue_script.specs.WaitPairs.{pair_in, pair_line, circle_job, circle_jobs}
 
 -- what is left of the jobs at a job
 rest-at : (j : ℕ) → j < NUMBERS → numbers_from j (NUMBERS - j) ≡ j ∷ numbers_from (j + 1) (NUMBERS - (j + 1))
@@ -112,6 +112,14 @@ blocked-nowhere j k e (r ∷ rs) h =
 
 pub no_waits : (rs : List Request) (j k : ℕ) → is_waiting_job rs j ≡ false → waits_for rs j k ≡ false
 no_waits rs j k h = blocked-nowhere j k [] rs h
+
+nobody-lines : (rs : List Request) (j : ℕ) (others : List ℕ) → is_waiting_job rs j ≡ false → flat_map (pair_line rs j) others ≡ []
+nobody-lines rs j [] h = refl
+nobody-lines rs j (k ∷ ks) h =
+    ap (λ b. cond b (decimal j ++ codes " FOR " ++ decimal k ++ codes "\n") [] ++ flat_map (pair_line rs j) ks) (no_waits rs j k h) ∙ nobody-lines rs j ks h
+
+pub no_lines : (rs : List Request) (j : ℕ) (out : List ℕ) → is_waiting_job rs j ≡ false → out ≡ out ++ flat_map (pair_line rs j) jobs
+no_lines rs j out h = sym (ap (λ l. out ++ l) (nobody-lines rs j jobs h) ∙ append-nil out)
 
 -- ---- tables
 

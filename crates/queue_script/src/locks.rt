@@ -188,6 +188,7 @@ pub fn next_lock<'a>(items: &mut Parts<'a>) -> Option<Option<Lock>>
 }
 
 /// The lock that an item of a line spells.
+#[inline(always)]
 pub fn read_lock(item: &[u8]) -> Option<Lock>
     ensures { result ≡ lock_of item.now }
 {

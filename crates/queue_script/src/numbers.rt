@@ -5,7 +5,7 @@ ghost use Rattle.queue_script.specs.Numbers.{number};
 /// The number that one character spells: what `number` says of a text of one, in fewer steps.
 #[inline(always)]
 #[tactic(auto, unfolding(crate::specs::Numbers::number))]
-fn digit_number(base: u64, most: u64, character: u8) -> Option<u64>
+pub fn digit_number(base: u64, most: u64, character: u8) -> Option<u64>
     ensures value { result ≡ number base most (character ∷ []) }
     ensures small { IfSome result (λ n. n ≤ most) }
 {

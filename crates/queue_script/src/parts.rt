@@ -4,6 +4,7 @@ ghost use Rattle.std.specs.Option.{option_map_or};
 ghost use Rattle.queue_script.specs.Locks.{texts_in};
 ghost use Rattle.queue_script.specs.Numbers.{parts, number, front, IsFront};
 
+use crate::numbers::digit_number;
 use std::marker::Model;
 
 /// The parts of a text, between separators, that are still to be read.
@@ -97,6 +98,26 @@ pub fn split_part(text: &[u8], separator: u8) -> (&[u8], Option<&[u8]>)
     (text, None)
 }
 
+/// The number of one digit that the first part of a text spells, and what stands behind its
+/// separator. None where the part is longer or the last.
+#[inline(always)]
+fn split_digit(most: u64, text: &[u8], separator: u8) -> Option<(u64, Option<&[u8]>)>
+    ensures value { IfSome result (λ r. IsFront (number 10 most) r.0 (parts separator text.now) (texts_in separator r.1)) }
+    ensures small { IfSome result (λ r. r.0 ≤ most) }
+{
+    if text.len() < 2 {
+        return None;
+    }
+    if text[1] != separator {
+        return None;
+    }
+    if text[0] == separator {
+        return None;
+    }
+    let number = digit_number(10, most, text[0])?;
+    Some((number, Some(&text[2..])))
+}
+
 /// The number in decimal, at most `most`, that the first part of a text spells, and what stands
 /// behind its separator. It is read in one pass.
 #[inline(always)]
@@ -106,6 +127,10 @@ fn split_number(most: u64, text: &[u8], separator: u8) -> Option<(u64, Option<&[
         (λ r. IsFront (number 10 most) r.0 (parts separator text.now) (option_map_or (λ rest. parts separator rest.now) r.1 [])) }
     ensures small { IfSome result (λ r. r.0 ≤ most) }
 {
+    match split_digit(most, text, separator) {
+        Some(digit) => return Some(digit),
+        None => {}
+    }
     let mut value = 0;
     for (i, byte) in text.iter().enumerate() {
         if *byte == separator {

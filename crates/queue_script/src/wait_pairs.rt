@@ -3,21 +3,13 @@ ghost use Rattle.std.specs.Prelude.{◌≡◌, ◌++◌, ◌<◌, ◌≤◌, ◌
 ghost use Rattle.lock_queue.specs.Waits.{jobs};
 ghost use Rattle.queue_script.specs.WaitPairs.{pair_line, waits_text, pairs_text, pair_in, circle_job, circle_jobs, or_none};
 ghost use Rattle.std.specs.List.{flat_map};
-ghost use Rattle.lock_queue.specs.Jobs.{waits_for};
+ghost use Rattle.lock_queue.specs.Jobs.{is_waiting_job, waits_for};
 
 use crate::circles::{NUMBERS, PAIRS, PairTable, has_pair, leading_to};
 use lock_queue::LockTable;
 use script_io::push_decimal;
 use std::alloc::AllocError;
 use word36::JOBS;
-
-/// Whether a job waits for another. Of a job that waits for nobody the requests are not looked at.
-#[tactic(auto, using(crate::proofs::PairLemmas::no_waits))]
-fn does_wait<L: LockTable>(table: &L, job: u8, other: u8) -> bool
-    ensures { result ≡ waits_for (L.requests table.now) job other }
-{
-    table.waiting(job) && table.waits_for(job, other)
-}
 
 /// Adds `j FOR k`, where the job j waits for the job k.
 #[tactic(auto, using(std::proofs::Common::append_assoc))]
@@ -29,7 +21,7 @@ fn push_pair<L: LockTable>(
 ) -> Result<(), AllocError>
     ensures { OnOk result (out.new.items ≡ out.old.items ++ pair_line (L.requests table.now) job other) }
 {
-    if does_wait(table, job, other) {
+    if table.waits_for(job, other) {
         push_decimal(out, job)?;
         out.extend_from_slice(b" FOR ")?;
         push_decimal(out, other)?;
@@ -38,10 +30,13 @@ fn push_pair<L: LockTable>(
     Ok(())
 }
 
-/// Adds the lines of the jobs that a job waits for.
+/// Adds the lines of the jobs that a job waits for. Of a job that does not wait nothing is asked.
 fn push_pairs_of<L: LockTable>(out: &mut Vec<u8>, table: &L, job: u8) -> Result<(), AllocError>
     ensures { OnOk result (out.new.items ≡ out.old.items ++ flat_map (pair_line (L.requests table.now) job) jobs) }
 {
+    if !table.waiting(job) {
+        return Ok(());
+    }
     for other in 1..JOBS + 1 {
         push_pair(out, table, job, other)?;
     }
@@ -58,13 +53,37 @@ fn push_pairs<L: LockTable>(out: &mut Vec<u8>, table: &L) -> Result<(), AllocErr
     Ok(())
 }
 
+/// Which jobs wait, by their numbers from 0 on.
+fn waiting_jobs<L: LockTable>(table: &L) -> [bool; NUMBERS]
+    ensures { (j : ℕ) → j < NUMBERS → slice_index_or result j false ≡ is_waiting_job (L.requests table.now) j }
+{
+    let mut waiting = [false; NUMBERS];
+    for job in 0..NUMBERS {
+        waiting[job] = table.waiting(job as u8);
+    }
+    waiting
+}
+
+/// Whether a job waits for another, where it is known which jobs wait.
+#[inline(always)]
+#[tactic(auto, using(crate::proofs::PairLemmas::no_waits))]
+fn does_wait<L: LockTable>(table: &L, waiting: &[bool; NUMBERS], job: usize, other: usize) -> bool
+    requires job { job < NUMBERS }
+    requires other { other < NUMBERS }
+    requires waiting { (j : ℕ) → j < NUMBERS → slice_index_or waiting.now j false ≡ is_waiting_job (L.requests table.now) j }
+    ensures { result ≡ waits_for (L.requests table.now) job other }
+{
+    waiting[job] && table.waits_for(job as u8, other as u8)
+}
+
 /// The table of who waits for whom.
 fn pair_table<L: LockTable>(table: &L) -> PairTable
     ensures { (i : ℕ) → i < PAIRS → slice_index_or result i false ≡ waits_for (L.requests table.now) (i / NUMBERS) (i % NUMBERS) }
 {
+    let waiting = waiting_jobs(table);
     let mut pairs = [false; PAIRS];
     for i in 0..PAIRS {
-        pairs[i] = does_wait(table, (i / NUMBERS) as u8, (i % NUMBERS) as u8);
+        pairs[i] = does_wait(table, &waiting, i / NUMBERS, i % NUMBERS);
     }
     pairs
 }

@@ -1,10 +1,14 @@
-use Rattle.std.proofs.Common.{◌++◌, ◌<◌, ◌≤◌, arith}
+use Rattle.std.proofs.Common.{◌++◌, ◌<◌, ◌≤◌, sym, arith}
 use Rattle.std.specs.List.{flat_map}
 use Rattle.lock_queue.specs.Waits.{jobs}
 use Rattle.queue_script.specs.WaitPairs.{pair_line}
-use Rattle.queue_script.proofs.PairLemmas.{texts-start, texts-step, texts-end}
+use Rattle.queue_script.proofs.PairLemmas.{texts-start, texts-step, texts-end, no_lines}
 use Rattle.queue_script.specs.declared.circles.TheConstants.{NUMBERS}
 use Rattle.queue_script.proofs.wait_pairs.push_pairs_of.Goals as goal
+
+pub returns-then-not-waiting : goal.returns-then-not-waiting
+returns-then-not-waiting g c =
+    no_lines (g.L.LockTable.requests c.args.table.now) c.args.job c.args.out.now.items (sym c.if-not-waiting.ensures)
 
 pub loop-other-init : goal.loop-other-init
 loop-other-init g c = texts-start (pair_line (g.L.LockTable.requests c.args.table.now) c.args.job) c.args.out.now.items
