@@ -3,8 +3,6 @@
 
 mod laws;
 mod runs;
-#[cfg(test)]
-mod tests;
 
 pub use laws::{
     askers_are_told_alike, calls_are_safe, calls_leave_the_rest, circles_are_told,

@@ -6,6 +6,8 @@ mod build;
 #[cfg(test)]
 mod grants;
 #[cfg(test)]
+mod laws;
+#[cfg(test)]
 mod limits;
 #[cfg(test)]
 mod refusals;

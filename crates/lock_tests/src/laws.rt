@@ -4,7 +4,7 @@ ghost use Rattle.std.specs.Prelude.{length, nat_le, IsTrue};
 ghost use Rattle.std.specs.List.{list_all};
 ghost use Rattle.lock_queue.specs.WellFormed.{names_locks, shares_no_pool, shares_no_pools};
 
-use crate::{
+use lock_laws::{
     askers_are_told_alike, calls_are_safe, calls_leave_the_rest, circles_are_told,
     jobs_keep_their_locks, no_requests_are_safe, owners_are_kept, plain_jobs_make_no_circle,
     run_safely, safety_is_kept, waits_are_by_latest, waits_are_kept, well_formedness_is_kept,
