@@ -132,6 +132,9 @@ impl Window {
         ensures there { result < end → IsTrue (is_own job (at_place self.now result)) }
     {
         let mut at = start_of(from, self.first, end);
+        if at < end && is_own(slot_at(self.slots.as_slice(), at), job) {
+            return at;
+        }
         while let Some(place) = self.rows.next_of_job(at, job) {
             if place >= end {
                 break;
@@ -153,6 +156,9 @@ impl Window {
         ensures there { result < end → IsTrue (is_met bits (at_place self.now result)) }
     {
         let mut at = start_of(from, self.first, end);
+        if at < end && is_met(slot_at(self.slots.as_slice(), at), bits) {
+            return at;
+        }
         while let Some(place) = self.rows.next_of_group(at, bits.group()) {
             if place >= end {
                 break;
@@ -174,6 +180,9 @@ impl Window {
         ensures there { result < end → IsTrue (is_waiting (at_place self.now result)) }
     {
         let mut at = start_of(from, self.first, end);
+        if at < end && is_waiting(slot_at(self.slots.as_slice(), at)) {
+            return at;
+        }
         while let Some(place) = self.rows.next_waiting(at) {
             if place >= end {
                 break;

@@ -20,7 +20,7 @@ loop-place-preserved c =
     let os = c.self.inside.slots.items in
     let q = c.in-Some.place in
     let off : is_own c.args.job (at_place os q) ≡ false =
-    ap (is_own c.args.job) (sym (c.slot_at.ensures ∙ ap (λ l. at_place l q) c.as_slice.ensures.value)) ∙ sym c.is_own.ensures ∙ c.if-is_own.false in
+    ap (is_own c.args.job) (sym (c.slot_at-in-Some.ensures ∙ ap (λ l. at_place l q) c.as_slice-in-Some.ensures.value)) ∙ sym c.is_own-in-Some.ensures ∙ c.if-is_own-2.false in
     record {
       passed =
           passed-one (is_other c.args.job) c.args.from q os (omega (arith, c.in-Some.ensures.range, c.loop-place.invariant.least))
@@ -45,9 +45,15 @@ returns-in_default-clause-passed c =
     c.loop-place.invariant.passed
     (λ p f le lt is. let below : p < PLACES = omega (arith, lt, c.requires) in ap not (c.in_default.ensures.passed p f le below (c.self.invariant.0.covered p f is)))
 
-pub returns-then-is_own-clause-passed : goal.returns-then-is_own-clause-passed
-returns-then-is_own-clause-passed c =
+pub returns-then-is_own-2-clause-passed : goal.returns-then-is_own-2-clause-passed
+returns-then-is_own-2-clause-passed c =
     ap (λ os. list_all (is_other c.args.job) (between c.args.from c.in-Some.place os)) (sym c.self.view_is)
     ∙ passed-on (is_other c.args.job) c.args.from c.loop-place.at c.in-Some.place c.self.inside.slots.items c.loop-place.invariant.least (omega (arith, c.in-Some.ensures.range))
     c.loop-place.invariant.passed
     (λ p f le lt is. ap not (c.in-Some.ensures.passed p f le lt (c.self.invariant.0.covered p f is)))
+
+pub returns-then-is_own-clause-passed : goal.returns-then-is_own-clause-passed
+returns-then-is_own-clause-passed c =
+    ap (λ os. list_all (is_other c.args.job) (between c.args.from c.start_of-at.result os)) (sym c.self.view_is)
+    ∙ passed-empty (is_other c.args.job) c.args.from c.start_of-at.result c.self.inside.slots.items
+    (λ p le lt. c.self.invariant.0.before p (c.start_of-at.ensures.passed p le lt))
