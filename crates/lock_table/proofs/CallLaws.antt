@@ -23,11 +23,11 @@ use Rattle.lock_queue.proofs.GrantLaws.{left-labels}
 use Rattle.lock_queue.proofs.Lists.{Has, Has-map, Sub, Sub-refl, Sub-filter, Sub-Has}
 use Rattle.lock_table.specs.declared.departures.Leaving.{Leaving}
 use Rattle.lock_table.specs.declared.departures.Leaving.TheVariants.{All, OfId, Blocked}
-use Rattle.lock_table.specs.Departures.{leaves, stays, signature_if, signature_from, signature_where, loses, with_fewer, keeps_wants, with_change, call_of, leaving_of}
+use Rattle.lock_table.specs.Departures.{leaves, stays, signature_where, loses, with_fewer, keeps_wants, with_change, call_of, leaving_of}
 use Rattle.lock_table.specs.Filings.{Filing, requests_in, AreRight}
 use Rattle.lock_table.specs.Renewals.{raised, AreOutdated}
 use Rattle.lock_table.specs.declared.signature.Signature.{Signature}
-use Rattle.lock_table.specs.Signatures.{no_bits, joined, meets, signature_of}
+use Rattle.lock_table.specs.Signatures.{joined, meets, signature_of}
 use Rattle.lock_table.proofs.ChangeLaws.{change-key, at-changed, all-unchanged}
 use Rattle.lock_table.proofs.DepartureLaws.{lost_in, after, put, at_key, Changes, outdated, outdated-changed, lost-changed, Keeps, raised-all}
 use Rattle.lock_table.proofs.RightLaws.{chosen-right}
@@ -120,24 +120,25 @@ dequeue-woken fs job (Some id) h =
 
 -- ---- what leaves is in the signature
 
-signature-keeps : (bits : Signature) (test : Filing → Bool) (fs : List Filing) (k : Key)
-    → mark_at (signature_from bits test fs) k ≡ 0 → mark_at bits k ≡ 0
-signature-keeps bits test [] k z = z
-signature-keeps bits test (x ∷ fs) k z =
-    no-bit-left bits (signature_if test x) k (signature-keeps (joined bits (signature_if test x)) test fs k z)
-
-signature-holds : (bits : Signature) (test : Filing → Bool) (fs : List Filing) (f : Filing) (k : Key) → Has fs f → test f ≡ true
-    → mark_at (signature_from bits test fs) k ≡ 0 → mark_at (signature_of f.request.wants.items) k ≡ 0
-signature-holds bits test [] f k h t z = absurd h
-signature-holds bits test (x ∷ fs) f k (inl same) t z =
-    ap (λ b. mark_at (cond b (signature_of f.request.wants.items) no_bits) k) (sym t)
-    ∙ ap (λ (g : Filing). mark_at (signature_if test g) k) (sym same)
-    ∙ no-bit-or bits (signature_if test x) k (signature-keeps (joined bits (signature_if test x)) test fs k z)
-signature-holds bits test (x ∷ fs) f k (inr later) t z = signature-holds (joined bits (signature_if test x)) test fs f k later t z
-
 signature-has : (test : Filing → Bool) (fs : List Filing) (f : Filing) (k : Key) → Has fs f → test f ≡ true
     → mark_at (signature_where test fs) k ≡ 0 → mark_at (signature_of f.request.wants.items) k ≡ 0
-signature-has test fs f k h t z = signature-holds no_bits test fs f k h t z
+signature-has test [] f k h t z = absurd h
+signature-has test (x ∷ fs) f k (inl same) t z = go (test x) (ap test same ∙ t) z
+  where
+    go : (b : Bool) → b ≡ true
+        → mark_at (cond b (joined (signature_where test fs) (signature_of x.request.wants.items)) (signature_where test fs)) k ≡ 0
+        → mark_at (signature_of f.request.wants.items) k ≡ 0
+    go true e zero =
+        ap (λ (g : Filing). mark_at (signature_of g.request.wants.items) k) (sym same)
+        ∙ no-bit-or (signature_where test fs) (signature_of x.request.wants.items) k zero
+    go false e zero = absurd (cc)
+signature-has test (x ∷ fs) f k (inr later) t z = signature-has test fs f k later t (go (test x) z)
+  where
+    go : (b : Bool)
+        → mark_at (cond b (joined (signature_where test fs) (signature_of x.request.wants.items)) (signature_where test fs)) k ≡ 0
+        → mark_at (signature_where test fs) k ≡ 0
+    go true zero = no-bit-left (signature_where test fs) (signature_of x.request.wants.items) k zero
+    go false zero = zero
 
 gone-changes : (test : Filing → Bool) (fs : List Filing) (f : Filing) → Has fs f
     → Changes (signature_where test fs) f (staying_if (not (test f)) f.request)

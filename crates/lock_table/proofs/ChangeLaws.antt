@@ -1,5 +1,5 @@
 -- What a change leaves as it was, and how the wants of its key are walked over.
-use Rattle.std.proofs.Common.{◌≡◌, ◌∙◌, sym, ap, ℕ, ◌==◌, Bool, true, false, ◌&&◌, ◌||◌, cond, inr, inl, List, [], ◌∷◌, ◌++◌, filter, map, drop, refl, bit_or}
+use Rattle.std.proofs.Common.{◌≡◌, ◌∙◌, ◌≤◌, sym, ap, ℕ, ◌==◌, Bool, true, false, ◌&&◌, ◌||◌, cond, inr, inl, List, [], ◌∷◌, ◌++◌, filter, map, length, get_or, drop, refl, arith, bit_or}
 use Rattle.std.specs.List.{list_any}
 use Rattle.std.proofs.lemmas.List.Elements.{filter-append}
 use Rattle.std.proofs.lemmas.List.Folds.{list_any-append}
@@ -20,7 +20,6 @@ use Rattle.lock_table.specs.Walks.{from_met}
 use Rattle.lock_table.specs.Waiters.{waiter_bit, with_waiters}
 use Rattle.lock_queue.proofs.Fitting.{same_key-eq, same_key-swap}
 use Rattle.lock_table.proofs.SignatureLaws.{unsigned, signed, unmet-right, unmet_names, names-none, unmet_wants}
-use Rattle.lock_table.proofs.WalkLaws.{same-first}
 
 pub change-key : (cs : List Want) (w : Want) → (changed_want cs w).key ≡ w.key
 change-key [] w = refl
@@ -156,15 +155,15 @@ met_own job k (f ∷ fs) = go (meets (signature_of f.request.wants.items) (bits_
     go true e t = refl
     go false e t = t ∙ mine (f.request.job == job) (unmet_wants f.request.wants.items k e)
 
-pub first-own : (p : Want → Bool) (job : ℕ) (k : Key) (xs : List Filing) (f : Filing) → xs ≡ f ∷ drop 1 xs
+pub first-own : (p : Want → Bool) (job : ℕ) (k : Key) (xs : List Filing) (f : Filing) → 1 ≤ length xs → f ≡ get_or xs 0 f
     → list_any p (wants_at (requests_of (requests_in xs) job) k)
     ≡ ((f.request.job == job && list_any p (filter (λ w. same_key w.key k) f.request.wants.items))
     || list_any p (wants_at (requests_of (requests_in (drop 1 xs)) job) k))
-first-own p job k [] f are = absurd (cc)
-first-own p job k (x ∷ xs) f are =
+first-own p job k [] f some is = absurd (omega arith)
+first-own p job k (x ∷ xs) f some is =
     go (x.request.job == job)
     ∙ ap (λ (g : Filing). (g.request.job == job && list_any p (filter (λ w. same_key w.key k) g.request.wants.items))
-    || list_any p (wants_at (requests_of (requests_in xs) job) k)) (same-first x f xs are)
+    || list_any p (wants_at (requests_of (requests_in xs) job) k)) (sym is)
   where
     others : List Request
     others = requests_of (requests_in xs) job

@@ -5,7 +5,7 @@ use Rattle.std.proofs.lemmas.Bool.{and_parts}
 use Rattle.lock_queue.specs.declared.want.Want.{Want}
 use Rattle.lock_queue.specs.Dequeues.{without_keys}
 use Rattle.lock_queue.specs.Queue.{names}
-use Rattle.lock_table.specs.Departures.{loses, fewer, with_fewer}
+use Rattle.lock_table.specs.Departures.{loses, lost_bits, fewer, with_fewer, signature_where}
 use Rattle.lock_table.specs.Filings.{Filing, filing}
 use Rattle.lock_table.specs.Signatures.{no_bits, joined, signature_of}
 use Rattle.lock_table.proofs.SignatureLaws.{joined-none}
@@ -50,3 +50,53 @@ pub losing : (job : ℕ) (named : List Want) (f : Filing) → loses job named f 
 losing job named f h =
     ap (λ b. filing (cond b (without_keys named f.request) f.request) f.granted)
     (and_parts (f.request.job == job) (list_any (λ w. names named w.key) f.request.wants.items) h).0
+
+bits-suc : (job : ℕ) (named : List Want) (fs : List Filing) (i : ℕ) (d : Filing) → i < length fs
+    → signature_where (loses job named) (drop i fs)
+    ≡ joined (signature_where (loses job named) (drop (suc i) fs)) (lost_bits job named (get_or fs i d))
+bits-suc job named [] i d lt = absurd (omega arith)
+bits-suc job named (f ∷ fs) zero d lt = go (loses job named f)
+  where
+    go : (b : Bool)
+        → cond b (joined (signature_where (loses job named) fs) (signature_of f.request.wants.items)) (signature_where (loses job named) fs)
+        ≡ joined (signature_where (loses job named) fs) (if b then signature_of f.request.wants.items else no_bits)
+    go true = refl
+    go false = sym (joined-none (signature_where (loses job named) fs))
+bits-suc job named (f ∷ fs) (suc i) d lt = bits-suc job named fs i d (omega arith)
+
+pub bits-from : (job : ℕ) (named : List Want) (fs : List Filing) (i : ℕ) (d : Filing) → i < length fs
+    → signature_where (loses job named) (drop i fs)
+    ≡ joined (signature_where (loses job named) (drop (i + 1) fs)) (lost_bits job named (get_or fs i d))
+bits-from job named fs i d lt = rw (add-one i) (bits-suc job named fs i d lt)
+
+-- what stands at a place of a list whose front is another's
+pub front-at : (old rest : List Filing) (i : ℕ) (d : Filing) → i < length old → get_or (take (i + 1) old ++ rest) i d ≡ get_or old i d
+front-at [] rest i d lt = absurd (omega arith)
+front-at (x ∷ old) rest zero d lt = refl
+front-at (x ∷ old) rest (suc i) d lt = rw (add-one (suc i)) (ap (λ m. get_or (take m old ++ rest) i d) (sym (add-one i)) ∙ front-at old rest i d (omega arith))
+
+pub same-at : (xs : List Filing) (i : ℕ) (d e : Filing) → i < length xs → get_or xs i d ≡ get_or xs i e
+same-at [] i d e lt = absurd (omega arith)
+same-at (x ∷ xs) zero d e lt = refl
+same-at (x ∷ xs) (suc i) d e lt = same-at xs i d e (omega arith)
+
+put-suc : (keeps : Filing → Bool) (xs rest : List Filing) (i : ℕ) (y d : Filing) → i < length xs
+    → take i (take i xs ++ y ∷ rest) ++ filter keeps (get_or (take i xs ++ y ∷ rest) i d ∷ []) ++ drop (suc i) (take i xs ++ y ∷ rest)
+    ≡ take i xs ++ filter keeps (y ∷ []) ++ rest
+put-suc keeps [] rest i y d lt = absurd (omega arith)
+put-suc keeps (x ∷ xs) rest zero y d lt = refl
+put-suc keeps (x ∷ xs) rest (suc i) y d lt = ap (λ l. x ∷ l) (put-suc keeps xs rest i y d (omega arith))
+
+-- a request that is written at a place, and kept or not
+pub kept-put : (keeps : Filing → Bool) (xs now : List Filing) (i : ℕ) (y d : Filing) → i < length xs
+    → now ≡ take i xs ++ y ∷ drop (i + 1) xs
+    → take i now ++ filter keeps (get_or now i d ∷ []) ++ drop (i + 1) now ≡ take i xs ++ filter keeps (y ∷ []) ++ drop (i + 1) xs
+kept-put keeps xs now i y d lt are =
+    ap (λ l. take i l ++ filter keeps (get_or l i d ∷ []) ++ drop (i + 1) l) are
+    ∙ subst (λ m. take i (take i xs ++ y ∷ drop (i + 1) xs) ++ filter keeps (get_or (take i xs ++ y ∷ drop (i + 1) xs) i d ∷ []) ++ drop m (take i xs ++ y ∷ drop (i + 1) xs)
+    ≡ take i xs ++ filter keeps (y ∷ []) ++ drop (i + 1) xs) (sym (add-one i)) (put-suc keeps xs (drop (i + 1) xs) i y d lt)
+
+pub front-long : (xs rest : List Filing) (i : ℕ) → i ≤ length xs → i ≤ length (take i xs ++ rest)
+front-long xs rest zero le = omega arith
+front-long [] rest (suc i) le = absurd (omega arith)
+front-long (x ∷ xs) rest (suc i) le = let more = front-long xs rest i (omega arith) in omega (arith, more)

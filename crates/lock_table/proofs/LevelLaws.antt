@@ -1,5 +1,5 @@
 -- Levels that are gone over once judge as those that are gone over for each want.
-use Rattle.std.proofs.Common.{◌≡◌, ◌∙◌, sym, ap, ℕ, ◌+◌, ◌==◌, max, Bool, true, false, not, ◌&&◌, ◌||◌, cond, if◌then◌else◌, List, [], ◌∷◌, ◌++◌, drop, filter, refl, arith, nat_le, nat_lt}
+use Rattle.std.proofs.Common.{◌≡◌, ◌∙◌, sym, ap, ℕ, zero, suc, ◌+◌, ◌<◌, ◌==◌, max, Bool, true, false, not, ◌&&◌, ◌||◌, cond, if◌then◌else◌, List, [], ◌∷◌, ◌++◌, length, get_or, drop, filter, add-one, refl, arith, nat_le, nat_lt}
 use Rattle.std.specs.List.{list_all, list_any}
 use Rattle.std.proofs.lemmas.Bool.{and_parts}
 use Rattle.std.proofs.lemmas.Bool.Decides.{nat_tests}
@@ -8,7 +8,6 @@ use Rattle.lock_queue.specs.Enqueues.{is_too_low, some_too_low}
 use Rattle.lock_queue.specs.Queue.{all_wants, wants_of}
 use Rattle.lock_table.specs.Filings.{Filing, requests_in}
 use Rattle.lock_table.specs.Levels.{above_all, some_below}
-use Rattle.lock_table.proofs.WalkLaws.{same-first}
 
 -- a level below the floor, or not above that of one of the wants
 reached : (n m : ℕ) (ws : List Want) → nat_lt n (above_all m ws) ≡ (nat_lt n m || list_any (λ v. nat_le n v.level) ws)
@@ -41,16 +40,17 @@ bypassing_order before (w ∷ ws) h =
     ∙ bypassing_order (before ++ w ∷ []) ws p.1
 
 -- one step of a walk over a job's requests
-pub level-first : (job m : ℕ) (xs : List Filing) (f : Filing) → xs ≡ f ∷ drop 1 xs
-    → above_all m (wants_of (requests_in xs) job)
-    ≡ above_all (if f.request.job == job then above_all m f.request.wants.items else m) (wants_of (requests_in (drop 1 xs)) job)
-level-first job m [] f are = absurd (cc)
-level-first job m (x ∷ xs) f are =
+pub level_next : (job m : ℕ) (fs : List Filing) (i : ℕ) (f : Filing) → i < length fs → f ≡ get_or fs i f
+    → above_all m (wants_of (requests_in (drop i fs)) job)
+    ≡ above_all (if f.request.job == job then above_all m f.request.wants.items else m) (wants_of (requests_in (drop (i + 1) fs)) job)
+level_next job m [] i f lt is = absurd (omega arith)
+level_next job m (x ∷ fs) zero f lt is =
     go (x.request.job == job)
-    ∙ ap (λ (g : Filing). above_all (if g.request.job == job then above_all m g.request.wants.items else m) (wants_of (requests_in xs) job)) (same-first x f xs are)
+    ∙ ap (λ (g : Filing). above_all (if g.request.job == job then above_all m g.request.wants.items else m) (wants_of (requests_in fs) job)) (sym is)
   where
     go : (b : Bool)
-        → above_all m (all_wants (cond b (x.request ∷ filter (λ r. r.job == job) (requests_in xs)) (filter (λ r. r.job == job) (requests_in xs))))
-        ≡ above_all (cond b (above_all m x.request.wants.items) m) (wants_of (requests_in xs) job)
-    go true = above-append m x.request.wants.items (wants_of (requests_in xs) job)
+        → above_all m (all_wants (cond b (x.request ∷ filter (λ r. r.job == job) (requests_in fs)) (filter (λ r. r.job == job) (requests_in fs))))
+        ≡ above_all (cond b (above_all m x.request.wants.items) m) (wants_of (requests_in fs) job)
+    go true = above-append m x.request.wants.items (wants_of (requests_in fs) job)
     go false = refl
+level_next job m (x ∷ fs) (suc i) f lt is = rw (add-one (suc i)) (level_next job m fs i f (omega arith) is ∙ rw (add-one i) refl)

@@ -8,11 +8,5 @@ pub mod ArrivalLaws
 pub mod LossLaws
 pub mod LevelLaws
 mod WaiterLaws
-pub mod PlaceLaws
-pub mod KeptLaws
-pub mod WindowLaws
 pub mod WalkLaws
-pub mod SetLaws
-pub mod RowLaws
 pub mod GivingUpLaws
-pub mod StandingLaws

@@ -1,5 +1,5 @@
 -- A change costs a grant where, for one of the changed keys, a granted request is shut out by the wants before it.
-use Rattle.std.proofs.Common.{◌≡◌, ◌∙◌, sym, ap, ℕ, ◌+◌, ◌==◌, Bool, true, false, not, inl, inr, ◌&&◌, ◌||◌, cond, List, [], ◌∷◌, ◌++◌, append_assoc, filter, map, drop, Option, Some, None, is_some, sum_by, nat_le, refl}
+use Rattle.std.proofs.Common.{◌≡◌, ◌∙◌, sym, ap, ℕ, ◌+◌, ◌==◌, ◌≤◌, Bool, true, false, not, inl, inr, ◌&&◌, ◌||◌, cond, List, [], ◌∷◌, ◌++◌, append_assoc, filter, map, length, get_or, drop, Option, Some, None, is_some, sum_by, nat_le, refl, arith}
 use Rattle.std.specs.List.{list_all, list_any}
 use Rattle.std.proofs.lemmas.Bool.{or_parts}
 use Rattle.lock_queue.specs.declared.key.Key.{Key}
@@ -24,7 +24,6 @@ use Rattle.lock_table.proofs.CallLaws.{change-requests, change-lost}
 use Rattle.lock_table.proofs.ChangeLaws.{change-key, unchanged, at-changed, unmet-changed}
 use Rattle.lock_table.proofs.DepartureLaws.{wants_at-one, lost_in}
 use Rattle.lock_queue.proofs.Fitting.{same_key-eq, same_key-swap, wants_at-append}
-use Rattle.lock_table.proofs.WalkLaws.{same-first}
 
 -- ---- the walk passes over requests without a want of the key
 
@@ -55,14 +54,14 @@ met_loses job c hold (f ∷ fs) = go (meets (signature_of f.request.wants.items)
 
 -- one step of it
 pub walk-loses : (job : ℕ) (c : Want) (hold : Hold) (xs : List Filing) (f : Filing)
-    → xs ≡ f ∷ drop 1 xs
+    → 1 ≤ length xs → f ≡ get_or xs 0 f
     → loses_key c.key hold (map (with_change job (c ∷ [])) xs)
     ≡ ((f.granted && list_any (is_shut_out hold) (key_wants c.key (with_change job (c ∷ []) f)))
     || loses_key c.key (held_by hold (key_wants c.key (with_change job (c ∷ []) f))) (map (with_change job (c ∷ [])) (drop 1 xs)))
-walk-loses job c hold [] f are = absurd (cc)
-walk-loses job c hold (x ∷ xs) f are =
+walk-loses job c hold [] f some is = absurd (omega arith)
+walk-loses job c hold (x ∷ xs) f some is =
     ap (λ (g : Filing). (g.granted && list_any (is_shut_out hold) (key_wants c.key (with_change job (c ∷ []) g)))
-    || loses_key c.key (held_by hold (key_wants c.key (with_change job (c ∷ []) g))) (map (with_change job (c ∷ [])) xs)) (same-first x f xs are)
+    || loses_key c.key (held_by hold (key_wants c.key (with_change job (c ∷ []) g))) (map (with_change job (c ∷ [])) xs)) (sym is)
 
 -- what the answer for one request says
 pub unless-some : (b : Bool) (h g : Hold) → cond b None (Some h) ≡ Some g → (b ≡ false) × (h ≡ g)

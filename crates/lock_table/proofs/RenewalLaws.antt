@@ -99,7 +99,13 @@ shut-all e [] ws has h = absurd (cc)
 shut-all e (v ∷ vs) [] has h = absurd (cc)
 shut-all e (v ∷ vs) (w ∷ ws) has h = ap (λ b. b && list_all (fits e) ws) (shut-first e v w (has v (inl refl)) h)
 
-pub kept_behind : (e : List Request) (g f : Filing) → Has e g.request
-    → shuts g.request.wants.items f.request.wants.items ≡ true → granted_behind e f.request ≡ false
-kept_behind e g f there h =
-    shut-all e g.request.wants.items f.request.wants.items (λ v k. wants-Has e g.request v there k) h
+place-Has : (fs : List Filing) (i : ℕ) (g : Filing) → i < length fs → g ≡ get_or fs i g → Has (requests_in fs) g.request
+place-Has [] i g lt is = absurd (omega arith)
+place-Has (f ∷ fs) zero g lt is = inl (ap (λ (x : Filing). x.request) (sym is))
+place-Has (f ∷ fs) (suc i) g lt is = inr (place-Has fs i g (omega arith) is)
+
+pub kept_waiting : (fs : List Filing) (i : ℕ) (g f : Filing) → i < length fs → g ≡ get_or fs i g
+    → shuts g.request.wants.items f.request.wants.items ≡ true → granted_behind (requests_in fs) f.request ≡ false
+kept_waiting fs i g f lt is h =
+    shut-all (requests_in fs) g.request.wants.items f.request.wants.items
+    (λ v k. wants-Has (requests_in fs) g.request v (place-Has fs i g lt is) k) h

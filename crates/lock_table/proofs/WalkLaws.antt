@@ -210,31 +210,27 @@ own_leaves job leaving (f ∷ fs) = go (f.request.job == job) refl (own_leaves j
     go true e t = refl
     go false e t = t ∙ sym (ap (λ b. b || list_any (leaves job leaving) fs) (not-own leaving e))
 
--- the first of two equal lists
-pub same-first : (x f : Filing) (xs : List Filing) → x ∷ xs ≡ f ∷ xs → x ≡ f
-same-first x f xs are = cc
-
-pub first-any : (test : Filing → Bool) (xs : List Filing) (f : Filing) → xs ≡ f ∷ drop 1 xs
+pub first-any : (test : Filing → Bool) (xs : List Filing) (f : Filing) → 1 ≤ length xs → f ≡ get_or xs 0 f
     → list_any test xs ≡ (test f || list_any test (drop 1 xs))
-first-any test [] f are = absurd (cc)
-first-any test (x ∷ xs) f are = ap (λ g. test g || list_any test xs) (same-first x f xs are)
+first-any test [] f some is = absurd (omega arith)
+first-any test (x ∷ xs) f some is = ap (λ g. test g || list_any test xs) (sym is)
 
 -- ---- one step of a walk: the first request, and those from the next on that is looked at
 
-pub first-wants : (k : Key) (xs : List Filing) (f : Filing) → xs ≡ f ∷ drop 1 xs
+first-wants : (k : Key) (xs : List Filing) (f : Filing) → 1 ≤ length xs → f ≡ get_or xs 0 f
     → wants_at (requests_in xs) k ≡ filter (λ w. same_key w.key k) f.request.wants.items ++ wants_at (requests_in (drop 1 xs)) k
-first-wants k [] f are = absurd (cc)
-first-wants k (x ∷ xs) f are =
+first-wants k [] f some is = absurd (omega arith)
+first-wants k (x ∷ xs) f some is =
     filter-append (λ w. same_key w.key k) x.request.wants.items (all_wants (requests_in xs))
-    ∙ ap (λ (g : Filing). filter (λ w. same_key w.key k) g.request.wants.items ++ wants_at (requests_in xs) k) (same-first x f xs are)
+    ∙ ap (λ (g : Filing). filter (λ w. same_key w.key k) g.request.wants.items ++ wants_at (requests_in xs) k) (sym is)
 
-first-names : (job : ℕ) (k : Key) (xs : List Filing) (f : Filing) → xs ≡ f ∷ drop 1 xs
+first-names : (job : ℕ) (k : Key) (xs : List Filing) (f : Filing) → 1 ≤ length xs → f ≡ get_or xs 0 f
     → names (wants_of (requests_in xs) job) k
     ≡ ((f.request.job == job && names f.request.wants.items k) || names (wants_of (requests_in (drop 1 xs)) job) k)
-first-names job k [] f are = absurd (cc)
-first-names job k (x ∷ xs) f are =
+first-names job k [] f some is = absurd (omega arith)
+first-names job k (x ∷ xs) f some is =
     go (x.request.job == job)
-    ∙ ap (λ (g : Filing). (g.request.job == job && names g.request.wants.items k) || names (wants_of (requests_in xs) job) k) (same-first x f xs are)
+    ∙ ap (λ (g : Filing). (g.request.job == job && names g.request.wants.items k) || names (wants_of (requests_in xs) job) k) (sym is)
   where
     go : (b : Bool)
         → names (all_wants (cond b (x.request ∷ filter (λ r. r.job == job) (requests_in xs)) (filter (λ r. r.job == job) (requests_in xs)))) k
@@ -243,29 +239,29 @@ first-names job k (x ∷ xs) f are =
     go false = refl
 
 -- what holds of a request's wants of the key and of those behind it
-pub first-all : (p : Want → Bool) (k : Key) (xs : List Filing) (f : Filing) → xs ≡ f ∷ drop 1 xs
+pub first-all : (p : Want → Bool) (k : Key) (xs : List Filing) (f : Filing) → 1 ≤ length xs → f ≡ get_or xs 0 f
     → list_all p (wants_at (requests_in xs) k)
     ≡ (list_all p (filter (λ w. same_key w.key k) f.request.wants.items) && list_all p (wants_at (requests_in (drop 1 xs)) k))
-first-all p k xs f are =
-    ap (list_all p) (first-wants k xs f are)
+first-all p k xs f some is =
+    ap (list_all p) (first-wants k xs f some is)
     ∙ list_all-append p (filter (λ w. same_key w.key k) f.request.wants.items) (wants_at (requests_in (drop 1 xs)) k)
 
 -- what a request's amounts of the key and those behind it add up to
-pub first-sum : (k : Key) (xs : List Filing) (f : Filing) → xs ≡ f ∷ drop 1 xs
+pub first-sum : (k : Key) (xs : List Filing) (f : Filing) → 1 ≤ length xs → f ≡ get_or xs 0 f
     → sum_by amount_of (wants_at (requests_in xs) k)
     ≡ sum_by amount_of (filter (λ w. same_key w.key k) f.request.wants.items) + sum_by amount_of (wants_at (requests_in (drop 1 xs)) k)
-first-sum k xs f are =
-    ap (sum_by amount_of) (first-wants k xs f are)
+first-sum k xs f some is =
+    ap (sum_by amount_of) (first-wants k xs f some is)
     ∙ sum_by-append amount_of (filter (λ w. same_key w.key k) f.request.wants.items) (wants_at (requests_in (drop 1 xs)) k)
 
 module _ (k : Key) (bits : Signature) (xs ys : List Filing) (f : Filing)
-    (is-bit : bits ≡ bits_of k) (is-first : xs ≡ f ∷ drop 1 xs) (are : ys ≡ from_met bits (drop 1 xs)) where
+    (is-bit : bits ≡ bits_of k) (some : 1 ≤ length xs) (is-first : f ≡ get_or xs 0 f) (are : ys ≡ from_met bits (drop 1 xs)) where
   abbrev mine : List Want
   mine = filter (λ w. same_key w.key k) f.request.wants.items
 
   walk-wants : wants_at (requests_in xs) k ≡ mine ++ wants_at (requests_in ys) k
   walk-wants =
-      first-wants k xs f is-first
+      first-wants k xs f some is-first
       ∙ ap (λ l. mine ++ l) (sym (ap (λ l. wants_at (requests_in l) k) (are ∙ ap (λ b. from_met b (drop 1 xs)) is-bit) ∙ met_wants k (drop 1 xs)))
 
   -- what holds of all wants of the key
@@ -280,6 +276,6 @@ module _ (k : Key) (bits : Signature) (xs ys : List Filing) (f : Filing)
   pub walk-names : (job : ℕ) → names (wants_of (requests_in xs) job) k
       ≡ ((f.request.job == job && names f.request.wants.items k) || names (wants_of (requests_in ys) job) k)
   walk-names job =
-      first-names job k xs f is-first
+      first-names job k xs f some is-first
       ∙ ap (λ b. (f.request.job == job && names f.request.wants.items k) || b)
       (sym (ap (λ l. names (wants_of (requests_in l) job) k) (are ∙ ap (λ b. from_met b (drop 1 xs)) is-bit) ∙ met_names job k (drop 1 xs)))

@@ -1,6 +1,4 @@
 pub mod Signatures
-pub mod Sets
-pub mod Rows
 pub mod Filings
 pub mod Renewals
 pub mod Departures
@@ -10,6 +8,3 @@ pub mod Walks
 pub mod Changing
 pub mod Levels
 pub mod Arrivals
-pub mod Windows
-pub mod Places
-pub mod Standings

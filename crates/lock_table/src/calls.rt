@@ -73,7 +73,7 @@ fn enqueue(shelf: &mut Shelf, job: u8, asking: &Asking, wants: &Wants) -> LockRe
     ensures few { length (requests_in shelf.old) ≤ REQUESTS → length (requests_in shelf.new) ≤ REQUESTS }
     ensures well { IsTrue (are_well_formed (requests_in shelf.old)) → IsTrue (are_well_formed (requests_in shelf.new)) }
 {
-    match judge_enqueue(&shelf.all(), shelf.len(), job, asking, wants.as_slice()) {
+    match judge_enqueue(shelf.as_slice(), job, asking, wants.as_slice()) {
         Err(refusal) => LockReply::Refused(refusal),
         Ok(are_fitting) => arrive(shelf, job, asking, wants, are_fitting),
     }
@@ -91,10 +91,10 @@ fn modify(shelf: &mut Shelf, job: u8, changes: &Wants, woken: &mut Woken) -> Loc
 {
     woken.clear();
     let wanted = changes.as_slice();
-    if let Some(refusal) = refusal_of_modify(&shelf.all(), job, wanted) {
+    if let Some(refusal) = refusal_of_modify(shelf.as_slice(), job, wanted) {
         return LockReply::Refused(refusal);
     }
-    if is_some_lost(&shelf.all(), job, wanted) {
+    if is_some_lost(shelf.as_slice(), job, wanted) {
         return LockReply::Refused(Refusal::WouldLose);
     }
     shelf.change(job, wanted);
@@ -103,8 +103,7 @@ fn modify(shelf: &mut Shelf, job: u8, changes: &Wants, woken: &mut Woken) -> Loc
 }
 
 fn dequeue_named(shelf: &mut Shelf, job: u8, named: &Wants, woken: &mut Woken) -> LockReply
-    requires right { AreRight [] shelf.old }
-    requires well { IsTrue (are_well_formed (requests_in shelf.old)) }
+    requires { AreRight [] shelf.old }
     ensures requests { requests_in shelf.new ≡
         (outcome_of (requests_in shelf.old) job (DequeueNamed named.now)).requests }
     ensures reply { result ≡ (outcome_of (requests_in shelf.old) job (DequeueNamed named.now)).reply }
@@ -112,7 +111,7 @@ fn dequeue_named(shelf: &mut Shelf, job: u8, named: &Wants, woken: &mut Woken) -
     ensures few { length (requests_in shelf.old) ≤ REQUESTS → length (requests_in shelf.new) ≤ REQUESTS }
     ensures woken { woken.new.items ≡ woken_by (requests_in shelf.old) job (DequeueNamed named.now) }
 {
-    if let Some(refusal) = refusal_of_dequeue(&shelf.all(), job, named.as_slice()) {
+    if let Some(refusal) = refusal_of_dequeue(shelf.as_slice(), job, named.as_slice()) {
         woken.clear();
         return LockReply::Refused(refusal);
     }
@@ -140,7 +139,7 @@ fn dequeue(shelf: &mut Shelf, job: u8, id: Option<RequestId>, woken: &mut Woken)
     ensures woken { woken.new.items ≡ woken_by (requests_in shelf.old) job (call_of id) }
 {
     let leaving = leaving_of(id);
-    if !does_some_leave(&shelf.all(), job, &leaving) {
+    if !does_some_leave(shelf.as_slice(), job, &leaving) {
         woken.clear();
         return LockReply::Refused(Refusal::NotPresent);
     }
@@ -154,7 +153,6 @@ pub fn make_call(shelf: &mut Shelf, job: u8, call: &LockCall, woken: &mut Woken)
     requires named { IsTrue (names_locks call.now) }
     requires unshared { IsTrue (shares_no_pools call.now) }
     requires right { AreRight [] shelf.old }
-    requires well { IsTrue (are_well_formed (requests_in shelf.old)) }
     ensures requests { requests_in shelf.new ≡
         (outcome_of (requests_in shelf.old) job call.now).requests }
     ensures reply { result ≡ (outcome_of (requests_in shelf.old) job call.now).reply }

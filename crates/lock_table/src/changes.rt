@@ -1,5 +1,5 @@
 //! Wants that are made shared or exclusive.
-ghost use Rattle.std.specs.Prelude.{◌≡◌, ◌==◌, ◌&&◌, [], filter, if◌then◌else◌, map, not, ◌<◌, set};
+ghost use Rattle.std.specs.Prelude.{◌≡◌, ◌==◌, ◌&&◌, [], filter, if◌then◌else◌, map, not};
 ghost use Rattle.std.specs.List.{list_any};
 ghost use Rattle.lock_queue.specs.Changes.{modify_fault};
 ghost use Rattle.lock_queue.specs.Keys.{same_key};
@@ -9,15 +9,13 @@ ghost use Rattle.lock_table.specs.Changing.{fits_held, held_with, held_unless_lo
 ghost use Rattle.lock_table.specs.Departures.{with_change};
 ghost use Rattle.lock_table.specs.Filings.{requests_in};
 ghost use Rattle.lock_table.specs.Signatures.{signature_of};
-ghost use Rattle.lock_table.specs.Windows.{at_place, is_met_own, present, revised};
+ghost use Rattle.lock_table.specs.Waiters.{waiters_in};
 
 use crate::filed::Filed;
 use crate::fits::job_has_key;
 use crate::signature::{Signature, bits_of, signature_of};
-use crate::span::Span;
-use crate::window::Window;
+use crate::walks::{from_met, next_met};
 use lock_queue::steps::{is_pooled, is_pooled_in, names_key};
-use place_sets::PLACES;
 use lock_queue::{Key, Refusal, Want};
 
 /// Whether a request is the job's and has a want of the key that is of a pool.
@@ -29,22 +27,22 @@ fn has_own_pooled(f: &Filed, job: u8, key: &Key) -> bool
 }
 
 /// Whether a want of the job of this key is of a pool.
-fn has_pooled(filed: &Span<'_>, job: u8, key: &Key) -> bool
+fn has_pooled(filed: &[Filed], job: u8, key: &Key) -> bool
     ensures { result ≡
         list_any is_pooled (wants_at (requests_of (requests_in filed.now) job) key.now) }
 {
     let bits = bits_of(key);
-    let mut rest = filed.from_met(bits);
-    while let Some(f) = rest.first() {
+    let mut rest = from_met(filed, bits);
+    while let [f, ..] = rest {
         if has_own_pooled(f, job, key) {
             return true;
         }
-        rest = rest.next_met(bits);
+        rest = next_met(rest, bits);
     }
     false
 }
 
-fn fault_of(filed: &Span<'_>, job: u8, earlier: &[Want], c: &Want) -> Option<Refusal>
+fn fault_of(filed: &[Filed], job: u8, earlier: &[Want], c: &Want) -> Option<Refusal>
     ensures { result ≡ modify_fault (requests_in filed.now) job earlier.now c.now }
 {
     if names_key(earlier, &c.key) {
@@ -59,7 +57,7 @@ fn fault_of(filed: &Span<'_>, job: u8, earlier: &[Want], c: &Want) -> Option<Ref
 }
 
 /// Why wants are not changed, lock by lock, whatever would become of the grants.
-pub fn refusal_of_modify(filed: &Span<'_>, job: u8, changes: &[Want]) -> Option<Refusal>
+pub fn refusal_of_modify(filed: &[Filed], job: u8, changes: &[Want]) -> Option<Refusal>
     ensures { result ≡ first_refusal (modify_fault (requests_in filed.now) job) [] changes.now }
 {
     for (i, c) in changes.iter().enumerate() {
@@ -141,60 +139,46 @@ fn held_unless_lost(hold: Hold, granted: bool, wants: &[Want], mine: bool, c: &W
 }
 
 /// Whether a change of the job's wants of one key costs a grant, whosever it is.
-fn does_cost_grant(filed: &Span<'_>, job: u8, c: &Want) -> bool
+fn does_cost_grant(filed: &[Filed], job: u8, c: &Want) -> bool
     ensures { result ≡ costs_grant job filed.now c.now }
 {
     let bits = bits_of(&c.key);
     let mut hold = Hold::Free;
-    let mut rest = filed.from_met(bits);
-    while let Some(f) = rest.first() {
+    let mut rest = from_met(filed, bits);
+    while let [f, ..] = rest {
         match held_unless_lost(hold, f.is_granted(), f.wants(), f.job() == job, c) {
             Some(held) => hold = held,
             None => return true,
         }
-        rest = rest.next_met(bits);
+        rest = next_met(rest, bits);
     }
     false
 }
 
 /// Whether one of the changes costs a grant. Nothing is changed for it.
-pub fn is_some_lost(filed: &Span<'_>, job: u8, changes: &[Want]) -> bool
+pub fn is_some_lost(filed: &[Filed], job: u8, changes: &[Want]) -> bool
     ensures { result ≡ list_any (costs_grant job filed.now) changes.now }
 {
     changes.iter().any(|c| does_cost_grant(filed, job, c))
 }
 
-/// Makes the changes in the request at a place, where it is the job's and touches one of their keys'
-/// groups.
-fn change_at(window: &mut Window, place: usize, job: u8, changes: &[Want], bits: Signature)
-    requires place { place < PLACES }
-    requires bits { bits ≡ signature_of changes.now }
-    ensures { window.new ≡ set window.old place (revised (with_change job changes.now) (at_place window.old place)) }
+/// Makes the changes in a request, where it is the job's and has a want of one of their groups.
+fn change_where_met(f: &mut Filed, job: u8, changes: &[Want], bits: Signature)
+    requires { bits ≡ signature_of changes.now }
+    ensures { f.new ≡ with_change job changes.now f.old }
 {
-    if is_met_at(window, place, job, bits) {
-        window.change(place, changes);
-    }
-}
-
-/// Whether a request of the job stands at a place that meets some bits.
-fn is_met_at(window: &Window, place: usize, job: u8, bits: Signature) -> bool
-    requires { place < PLACES }
-    ensures { result ≡ is_met_own bits job (at_place window.now place) }
-{
-    match window.get(place) {
-        Some(f) => f.meets(bits) && f.job() == job,
-        None => false,
+    if f.meets(bits) && f.job() == job {
+        f.change(changes);
     }
 }
 
 /// Makes the changes in the job's requests. Grants stay as they are noted.
-pub fn change_of_job(window: &mut Window, job: u8, changes: &[Want])
-    ensures { present window.new ≡ map (with_change job changes.now) (present window.old) }
+pub fn change_of_job(filed: &mut [Filed], job: u8, changes: &[Want])
+    ensures value { filed.new ≡ map (with_change job changes.now) filed.old }
+    ensures waiters { waiters_in filed.new ≡ waiters_in filed.old }
 {
     let bits = signature_of(changes);
-    let mut at = window.next_own(0, PLACES, job);
-    while at < PLACES {
-        change_at(window, at, job, changes, bits);
-        at = window.next_own(at + 1, PLACES, job);
+    for f in filed.iter_mut() {
+        change_where_met(f, job, changes, bits);
     }
 }

@@ -7,12 +7,13 @@ ghost use Rattle.lock_table.specs.Departures.{leaves};
 ghost use Rattle.lock_table.specs.Filings.{requests_in};
 
 use crate::departures::{Leaving, does_leave};
+use crate::filed::Filed;
 use crate::fits::job_has_key;
-use crate::span::Span;
+use crate::walks::from_own;
 use lock_queue::steps::names_key;
 use lock_queue::{Refusal, Want};
 
-fn fault_of(filed: &Span<'_>, job: u8, earlier: &[Want], w: &Want) -> Option<Refusal>
+fn fault_of(filed: &[Filed], job: u8, earlier: &[Want], w: &Want) -> Option<Refusal>
     ensures { result ≡ dequeue_fault (requests_in filed.now) job earlier.now w.now }
 {
     if names_key(earlier, &w.key) {
@@ -25,7 +26,7 @@ fn fault_of(filed: &Span<'_>, job: u8, earlier: &[Want], w: &Want) -> Option<Ref
 }
 
 /// Why the named wants are not given up, if they are not.
-pub fn refusal_of_dequeue(filed: &Span<'_>, job: u8, named: &[Want]) -> Option<Refusal>
+pub fn refusal_of_dequeue(filed: &[Filed], job: u8, named: &[Want]) -> Option<Refusal>
     ensures { result ≡ first_refusal (dequeue_fault (requests_in filed.now) job) [] named.now }
 {
     for (i, w) in named.iter().enumerate() {
@@ -38,15 +39,15 @@ pub fn refusal_of_dequeue(filed: &Span<'_>, job: u8, named: &[Want]) -> Option<R
 }
 
 /// Whether a request leaves.
-pub fn does_some_leave(filed: &Span<'_>, job: u8, leaving: &Leaving) -> bool
+pub fn does_some_leave(filed: &[Filed], job: u8, leaving: &Leaving) -> bool
     ensures { result ≡ list_any (leaves job leaving.now) filed.now }
 {
-    let mut rest = filed.from_own(job);
-    while let Some(f) = rest.first() {
+    let mut rest = from_own(filed, job);
+    while let [f, later @ ..] = rest {
         if does_leave(f, job, leaving) {
             return true;
         }
-        rest = rest.next_own(job);
+        rest = from_own(later, job);
     }
     false
 }

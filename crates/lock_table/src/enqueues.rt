@@ -1,5 +1,5 @@
 //! Why a request that arrives is refused, and whether it fits.
-ghost use Rattle.std.specs.Prelude.{◌≡◌, ◌≤◌, ◌+◌, ◌^◌, max, ◌==◌, ◌&&◌, ◌||◌, not, if◌then◌else◌, [], filter, length};
+ghost use Rattle.std.specs.Prelude.{◌≡◌, ◌≤◌, ◌+◌, ◌^◌, max, ◌==◌, ◌&&◌, ◌||◌, not, if◌then◌else◌, [], filter};
 ghost use Rattle.std.specs.List.{list_all};
 ghost use Rattle.word36.specs.declared.sizes.TheConstants.{REQUESTS};
 ghost use Rattle.lock_queue.specs.Enqueues.{enqueue_fault, some_too_low, enqueue_refusal};
@@ -13,7 +13,7 @@ ghost use Rattle.lock_table.specs.Levels.{above_all, some_below};
 use crate::filed::Filed;
 use crate::fits::{all_agree_in, is_fitting_where, job_names};
 use crate::signature::bits_of;
-use crate::span::Span;
+use crate::walks::{from_met, from_own, next_met};
 use lock_queue::steps::{are_alike_in, names_key};
 use lock_queue::{Asking, EnqueueKind, Key, Level, Refusal, Want};
 use word36::REQUESTS;
@@ -36,21 +36,21 @@ fn do_agree_so_far(before: bool, f: &Filed, w: &Want) -> bool
 
 /// Why a want is refused beside the present ones: one of its key differs from it, or is the job's; else
 /// whether all of its key agree with it.
-fn judge_beside(filed: &Span<'_>, job: u8, w: &Want) -> Result<bool, Refusal>
+fn judge_beside(filed: &[Filed], job: u8, w: &Want) -> Result<bool, Refusal>
     ensures { result ≡ judged (enqueue_fault (requests_in filed.now) job [] w.now)
         (list_all (λ v. agree v w.now) (wants_at (requests_in filed.now) w.now.key)) }
 {
     let bits = bits_of(&w.key);
     let mut is_named = false;
     let mut do_agree = true;
-    let mut rest = filed.from_met(bits);
-    while let Some(f) = rest.first() {
+    let mut rest = from_met(filed, bits);
+    while let [f, ..] = rest {
         if !are_alike_in(f.wants(), w) {
             return Err(Refusal::Differs);
         }
         is_named = is_named_so_far(is_named, f, job, &w.key);
         do_agree = do_agree_so_far(do_agree, f, w);
-        rest = rest.next_met(bits);
+        rest = next_met(rest, bits);
     }
     if is_named {
         Err(Refusal::NamedAlready)
@@ -61,7 +61,7 @@ fn judge_beside(filed: &Span<'_>, job: u8, w: &Want) -> Result<bool, Refusal>
 
 /// Why a want is refused that comes after the call's earlier ones; else whether it fits behind the
 /// present requests.
-fn judge_want(filed: &Span<'_>, job: u8, earlier: &[Want], w: &Want) -> Result<bool, Refusal>
+fn judge_want(filed: &[Filed], job: u8, earlier: &[Want], w: &Want) -> Result<bool, Refusal>
     ensures { result ≡ judged (enqueue_fault (requests_in filed.now) job earlier.now w.now)
         (fits (requests_in filed.now) w.now) }
 {
@@ -76,7 +76,7 @@ fn judge_want(filed: &Span<'_>, job: u8, earlier: &[Want], w: &Want) -> Result<b
 }
 
 /// Why a want is refused, for the first that is; else whether all fit behind the present requests.
-fn judge_wants(filed: &Span<'_>, job: u8, wants: &[Want]) -> Result<bool, Refusal>
+fn judge_wants(filed: &[Filed], job: u8, wants: &[Want]) -> Result<bool, Refusal>
     ensures { result ≡ judged (first_refusal (enqueue_fault (requests_in filed.now) job) [] wants.now)
         (list_all (fits (requests_in filed.now)) wants.now) }
 {
@@ -131,15 +131,15 @@ fn level_above_own(f: &Filed, job: u8, floor: u16) -> u16
 }
 
 /// The first level that is above those of all present wants of the job; 0 where it has none.
-fn level_above_job(filed: &Span<'_>, job: u8) -> u16
+fn level_above_job(filed: &[Filed], job: u8) -> u16
     ensures value { result ≡ above_all 0 (wants_of (requests_in filed.now) job) }
     ensures most { result ≤ 2 ^ 9 }
 {
     let mut above = 0;
-    let mut rest = filed.from_own(job);
-    while let Some(f) = rest.first() {
+    let mut rest = from_own(filed, job);
+    while let [f, later @ ..] = rest {
         above = level_above_own(f, job, above);
-        rest = rest.next_own(job);
+        rest = from_own(later, job);
     }
     above
 }
@@ -170,7 +170,7 @@ fn do_all_bypass(wants: &[Want]) -> bool
 /// Whether a want without bypass has a level that is not above those of the call's wants before it
 /// and of all present wants of the job. The job's requests are looked for once, if at all.
 #[tactic(auto, using(crate::proofs::LevelLaws::below_order, crate::proofs::LevelLaws::bypassing_order))]
-fn are_out_of_order(filed: &Span<'_>, job: u8, wants: &[Want]) -> bool
+fn are_out_of_order(filed: &[Filed], job: u8, wants: &[Want]) -> bool
     ensures { result ≡ some_too_low (wants_of (requests_in filed.now) job) wants.now }
 {
     if do_all_bypass(wants) {
@@ -183,13 +183,11 @@ fn are_out_of_order(filed: &Span<'_>, job: u8, wants: &[Want]) -> bool
 /// of a vector, then for want of room; else whether its wants fit behind the present requests. Each
 /// want's key is walked for once.
 pub fn judge_enqueue(
-    filed: &Span<'_>,
-    count: usize,
+    filed: &[Filed],
     job: u8,
     asking: &Asking,
     wants: &[Want],
 ) -> Result<bool, Refusal>
-    requires { count ≡ length filed.now }
     ensures { result ≡ judged (enqueue_refusal REQUESTS (requests_in filed.now) job asking.now wants.now)
         (list_all (fits (requests_in filed.now)) wants.now) }
 {
@@ -199,7 +197,7 @@ pub fn judge_enqueue(
             Err(Refusal::LevelOrder)
         } else if matches!(asking.kind, EnqueueKind::Interrupt) && !asking.armed {
             Err(Refusal::NoVector)
-        } else if count >= REQUESTS {
+        } else if filed.len() >= REQUESTS {
             Err(Refusal::QueueFull)
         } else {
             Ok(are_fitting)

@@ -14,7 +14,7 @@ ghost use Rattle.lock_table.specs.Waiters.{waiter_bit};
 ghost use Rattle.lock_table.specs.Walks.{owned, touched};
 
 use crate::sharing::change_wants;
-use crate::signature::{KeyBits, Signature, signature_of};
+use crate::signature::{Signature, signature_of};
 use crate::waiters::{bit_of_job, is_blocking};
 use lock_queue::steps::{remove_keys, write_request};
 use lock_queue::{Asking, Request, Want, Wants};
@@ -127,13 +127,6 @@ impl Filed {
         ensures { result ≡ meets (signature_of self.now.request.wants.items) bits }
     {
         self.signature.meets(bits)
-    }
-
-    /// Whether its wants touch the group and the class of a key.
-    pub fn meets_key(&self, bits: KeyBits) -> bool
-        ensures { result ≡ meets (signature_of self.now.request.wants.items) bits }
-    {
-        bits.are_in(self.signature)
     }
 
     /// Whether it has no wants.

@@ -4,12 +4,22 @@ ghost use Rattle.std.specs.List.{list_all};
 ghost use Rattle.lock_queue.specs.Keys.{same_key};
 ghost use Rattle.lock_queue.specs.Queue.{names, wants_at, wants_of, agree, amount_of, fits};
 ghost use Rattle.lock_table.specs.Filings.{requests_in};
+ghost use Rattle.lock_table.specs.Signatures.{bits_of};
 
 use crate::filed::Filed;
-use crate::signature::bits_of;
-use crate::span::Span;
+use crate::signature::{Signature, bits_of};
+use crate::walks::{from_met, next_met};
 use lock_queue::steps::{do_agree, names_key, room_beside};
 use lock_queue::{Key, Pool, Want};
+
+/// Whether a request has a want of the key.
+#[tactic(auto, using(crate::proofs::SignatureLaws::unmet_names))]
+pub fn has_key(f: &Filed, key: &Key, bits: Signature) -> bool
+    requires { bits ≡ bits_of key.now }
+    ensures { result ≡ names f.now.request.wants.items key.now }
+{
+    f.meets(bits) && names_key(f.wants(), key)
+}
 
 /// Whether a request is the job's and has a want of the key.
 pub fn job_names(f: &Filed, job: u8, key: &Key) -> bool
@@ -19,16 +29,16 @@ pub fn job_names(f: &Filed, job: u8, key: &Key) -> bool
 }
 
 /// Whether the job has a want of the key.
-pub fn job_has_key(filed: &Span<'_>, job: u8, key: &Key) -> bool
+pub fn job_has_key(filed: &[Filed], job: u8, key: &Key) -> bool
     ensures { result ≡ names (wants_of (requests_in filed.now) job) key.now }
 {
     let bits = bits_of(key);
-    let mut rest = filed.from_met(bits);
-    while let Some(f) = rest.first() {
+    let mut rest = from_met(filed, bits);
+    while let [f, ..] = rest {
         if job_names(f, job, key) {
             return true;
         }
-        rest = rest.next_met(bits);
+        rest = next_met(rest, bits);
     }
     false
 }
@@ -46,16 +56,16 @@ pub fn all_agree_in(wants: &[Want], w: &Want) -> bool
     true
 }
 
-fn do_all_agree(earlier: &Span<'_>, w: &Want) -> bool
+fn do_all_agree(earlier: &[Filed], w: &Want) -> bool
     ensures { result ≡ list_all (λ v. agree v w.now) (wants_at (requests_in earlier.now) w.now.key) }
 {
     let bits = bits_of(&w.key);
-    let mut rest = earlier.from_met(bits);
-    while let Some(f) = rest.first() {
+    let mut rest = from_met(earlier, bits);
+    while let [f, ..] = rest {
         if !all_agree_in(f.wants(), w) {
             return false;
         }
-        rest = rest.next_met(bits);
+        rest = next_met(rest, bits);
     }
     true
 }
@@ -69,25 +79,25 @@ fn room_behind(f: &Filed, key: &Key, room: u32) -> Option<u32>
 }
 
 /// Whether the earlier amounts of a key and this one add up to at most the pool's size.
-fn is_room(earlier: &Span<'_>, key: &Key, pool: Pool) -> bool
+fn is_room(earlier: &[Filed], key: &Key, pool: Pool) -> bool
     ensures { result ≡
         nat_le (sum_by amount_of (wants_at (requests_in earlier.now) key.now) + pool.amount) pool.size }
 {
     let bits = bits_of(key);
     let mut left = pool.size() - pool.amount();
-    let mut rest = earlier.from_met(bits);
-    while let Some(f) = rest.first() {
+    let mut rest = from_met(earlier, bits);
+    while let [f, ..] = rest {
         match room_behind(f, key, left) {
             Some(room) => left = room,
             None => return false,
         }
-        rest = rest.next_met(bits);
+        rest = next_met(rest, bits);
     }
     true
 }
 
 /// Whether a want fits behind the earlier requests.
-pub fn is_fitting(earlier: &Span<'_>, w: &Want) -> bool
+pub fn is_fitting(earlier: &[Filed], w: &Want) -> bool
     ensures { result ≡ fits (requests_in earlier.now) w.now }
 {
     match w.pool {
@@ -98,7 +108,7 @@ pub fn is_fitting(earlier: &Span<'_>, w: &Want) -> bool
 
 /// Whether a want fits behind the earlier requests, where it is known whether their wants of its key
 /// agree with it.
-pub fn is_fitting_where(earlier: &Span<'_>, w: &Want, do_agree: bool) -> bool
+pub fn is_fitting_where(earlier: &[Filed], w: &Want, do_agree: bool) -> bool
     requires { do_agree ≡ list_all (λ v. agree v w.now) (wants_at (requests_in earlier.now) w.now.key) }
     ensures { result ≡ fits (requests_in earlier.now) w.now }
 {
@@ -109,7 +119,7 @@ pub fn is_fitting_where(earlier: &Span<'_>, w: &Want, do_agree: bool) -> bool
 }
 
 /// Whether all of these wants fit behind the earlier requests.
-pub fn are_fitting(earlier: &Span<'_>, wants: &[Want]) -> bool
+pub fn are_fitting(earlier: &[Filed], wants: &[Want]) -> bool
     ensures { result ≡ list_all (fits (requests_in earlier.now)) wants.now }
 {
     wants.iter().all(|w| is_fitting(earlier, w))

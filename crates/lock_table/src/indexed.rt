@@ -6,7 +6,7 @@ ghost use Rattle.lock_table.specs.Filings.{requests_in, are_right};
 
 use crate::calls::make_call;
 use crate::departures::{Leaving, depart};
-use crate::jobs::pending_in;
+use crate::jobs::{does_wait_for, pending_in};
 use crate::shelf::Shelf;
 use crate::standing::status_in;
 use lock_queue::{Key, LockCall, LockReply, LockTable, Request, RequestId, Status, Woken};
@@ -62,7 +62,7 @@ impl LockTable for IndexedTable {
     }
 
     fn pending(&self, job: u8) -> Option<RequestId> {
-        pending_in(&self.present.all(), job)
+        pending_in(self.present.as_slice(), job)
     }
 
     fn told(&mut self, job: u8) {
@@ -70,23 +70,23 @@ impl LockTable for IndexedTable {
     }
 
     fn status(&self, key: &Key, job: u8) -> Status {
-        status_in(&self.present.all(), key, job)
+        status_in(self.present.as_slice(), key, job)
     }
 
     fn len(&self) -> usize {
-        self.present.len()
+        self.present.as_slice().len()
     }
 
     fn request(&self, i: usize) -> &Request {
-        self.present.nth(i).request()
+        self.present.as_slice()[i].request()
     }
 
     fn granted(&self, i: usize) -> bool {
-        self.present.nth(i).is_granted()
+        self.present.as_slice()[i].is_granted()
     }
 
     fn waits_for(&self, job: u8, other: u8) -> bool {
-        self.present.waits_for(job, other)
+        does_wait_for(self.present.as_slice(), job, other)
     }
 
     fn clear(&mut self) {

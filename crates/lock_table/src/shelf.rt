@@ -1,37 +1,32 @@
-//! The requests that are present, in order of arrival, and which jobs wait.
-ghost use Rattle.std.specs.Prelude.{◌≡◌, ◌+◌, ◌%◌, ◌^◌, ◌&&◌, not, if◌then◌else◌, ◌<◌, ◌≤◌, [], ◌∷◌, ◌++◌, filter, length, get_or, map, IfOk, IsTrue};
+//! The requests that are present, in order of arrival, and the room for others.
+ghost use Rattle.std.specs.Prelude.{◌≡◌, ◌+◌, ◌<◌, ◌≤◌, [], ◌∷◌, ◌++◌, length, get_or, map, take, drop, remove, IfOk, IsTrue, vec_capacity};
 ghost use Rattle.std.specs.List.{list_all, list_any};
 ghost use Rattle.word36.specs.declared.sizes.TheConstants.{LOCKS_A_CALL, REQUESTS};
 ghost use Rattle.lock_queue.specs.Enqueues.{request_of};
-ghost use Rattle.lock_queue.specs.Jobs.{is_blocking};
 ghost use Rattle.lock_queue.specs.Queue.{granted_behind};
 ghost use Rattle.lock_queue.specs.WellFormed.{are_well_formed, is_in_range};
-ghost use Rattle.lock_table.specs.Departures.{keeps_wants, leaves, loses, signature_where, stays, with_change, with_fewer};
+ghost use Rattle.lock_table.specs.Departures.{fewer, with_change};
 ghost use Rattle.lock_table.specs.Filings.{Filing, filing, requests_in, AreRight};
-ghost use Rattle.lock_table.specs.Findings.{blocks, told_in, waits_in};
+ghost use Rattle.lock_table.specs.Findings.{blocks, told_in};
 ghost use Rattle.lock_table.specs.Renewals.{renewed, risen};
-ghost use Rattle.lock_table.specs.Waiters.{waiters_in};
-ghost use Rattle.lock_table.specs.Windows.{present};
+ghost use Rattle.lock_table.specs.Waiters.{waiter_bit, waiters_in};
 
 use crate::changes::change_of_job;
-use crate::departures::Leaving;
 use crate::filed::Filed;
-use crate::jobs::{does_some_block, does_wait_for, tell};
-use crate::removals::{give_up, remove_leaving};
+use crate::jobs::{does_some_block, tell};
 use crate::renewal::renew;
 use crate::signature::Signature;
-use crate::span::Span;
-use crate::waiters::{bit_of_job, is_blocking};
-use crate::window::Window;
 use lock_queue::{Asking, Want, Wants, Woken};
 use std::alloc::{AllocError, Global};
 use std::marker::Model;
-use word36::JOBS;
+use word36::{JOBS, REQUESTS};
 
-/// Requests in order of arrival. Beside them is kept which jobs wait, so that it need not be looked for.
+/// Requests in order of arrival, and the unused ones; there are 256 in all, made at the start. Beside
+/// them is kept which jobs wait, so that it need not be looked for.
 #[derive(Drop)]
 pub struct Shelf {
-    window: Window,
+    present: Vec<Filed>,
+    spare: Vec<Filed>,
     /// The bits of the jobs that wait, where they are known.
     waiters: u32,
     /// Whether they are known: not from a removal until grants are renewed.
@@ -39,26 +34,40 @@ pub struct Shelf {
 }
 
 impl Model for Shelf {
-    ghost use Rattle.std.specs.Prelude.{◌≡◌, List, true};
+    ghost use Rattle.std.specs.Prelude.{◌≡◌, ◌≤◌, ◌+◌, List, true, length, vec_capacity};
+    ghost use Rattle.word36.specs.declared.sizes.TheConstants.{REQUESTS};
     ghost use Rattle.lock_table.specs.Filings.{Filing};
     ghost use Rattle.lock_table.specs.Waiters.{waiters_in};
-    ghost use Rattle.lock_table.specs.Windows.{present};
 
     ghost Value = { List Filing };
 
-    ghost view = { λ s. present s.window };
+    ghost view = { λ s. s.present.items };
 
-    ghost invariant = { λ s. s.waiters_known ≡ true → s.waiters ≡ waiters_in (present s.window) };
+    ghost invariant = { λ s. (length s.present.items + length s.spare.items ≡ REQUESTS)
+        × (REQUESTS ≤ vec_capacity s.present) × (REQUESTS ≤ vec_capacity s.spare)
+        × (s.waiters_known ≡ true → s.waiters ≡ waiters_in s.present.items) };
 }
 
-/// The bit of the job that waits by a request of these kinds, or 0 where none does.
-fn waiter_bit(job: u8, asking: &Asking, granted: bool) -> u32
-    ensures { result ≡ (if not granted && is_blocking asking.now.kind then 2 ^ (job % 32) else 0) }
+fn spares(alloc: Global) -> Result<Vec<Filed>, AllocError>
+    ensures long { IfOk result (λ v. length v.items ≡ REQUESTS) }
+    ensures room { IfOk result (λ v. REQUESTS ≤ vec_capacity v) }
 {
-    if !granted && is_blocking(asking.kind) {
-        bit_of_job(job)
-    } else {
-        0
+    let mut spare = Vec::with_capacity(alloc, REQUESTS)?;
+    for _ in 0..REQUESTS {
+        spare.push(Filed::new(alloc)?)?;
+    }
+    Ok(spare)
+}
+
+fn move_all(from: &mut Vec<Filed>, to: &mut Vec<Filed>)
+    requires { length from.old.items + length to.old.items ≤ vec_capacity to.old }
+    ensures items { from.new.items ≡ [] }
+    ensures long { length to.new.items ≡ length to.old.items + length from.old.items }
+    ensures room { vec_capacity from.new ≡ vec_capacity from.old }
+    ensures more { vec_capacity to.old ≤ vec_capacity to.new }
+{
+    while let Some(filed) = from.pop() {
+        let _ = to.push(filed);
     }
 }
 
@@ -68,34 +77,19 @@ impl Shelf {
         ensures { IfOk result (λ s. s ≡ []) }
     {
         Ok(Shelf {
-            window: Window::new(alloc)?,
+            present: Vec::with_capacity(alloc, REQUESTS)?,
+            spare: spares(alloc)?,
             waiters: 0,
             waiters_known: true,
         })
     }
 
-    /// The requests, to be walked over.
-    pub fn all(&self) -> Span<'_>
-        ensures value { result ≡ self.now }
-        ensures few { length result ≤ REQUESTS }
+    /// The requests.
+    pub fn as_slice(&self) -> &[Filed]
+        ensures value { result.now ≡ self.now }
+        ensures few { length result.now ≤ REQUESTS }
     {
-        self.window.all()
-    }
-
-    /// How many there are.
-    pub fn len(&self) -> usize
-        ensures value { result ≡ length self.now }
-        ensures few { result ≤ REQUESTS }
-    {
-        self.window.len()
-    }
-
-    /// The request that came as the one of this number, from 0 on.
-    pub fn nth(&self, i: usize) -> &Filed
-        requires { i < length self.now }
-        ensures { (d : Filing) → result.now ≡ get_or self.now i d }
-    {
-        self.window.nth(i)
+        self.present.as_slice()
     }
 
     #[tactic(auto, using(crate::proofs::WaiterLaws::waiters_push))]
@@ -106,8 +100,10 @@ impl Shelf {
         ensures few { length wants.now.items ≤ LOCKS_A_CALL }
         ensures range { IsTrue (list_all is_in_range wants.now.items) }
     {
-        self.window.push(job, asking, told, wants, granted);
-        self.waiters |= waiter_bit(job, asking, granted);
+        let mut filed = self.spare.swap_remove(self.spare.len() - 1);
+        filed.write(job, asking, told, wants, granted);
+        self.waiters |= filed.waiter_bit();
+        let _ = self.present.push(filed);
     }
 
     /// Appends a request of these wants.
@@ -127,31 +123,22 @@ impl Shelf {
         self.append(job, asking, told, wants, granted);
     }
 
-    /// Takes out the requests of a job that leave, and answers the groups that they touched.
-    pub fn remove_leaving(&mut self, job: u8, leaving: &Leaving) -> Signature
-        ensures value { self.new ≡ filter (stays job leaving.now) self.old }
-        ensures bits { result ≡ signature_where (leaves job leaving.now) self.old }
+    /// Takes out the request at a place; those behind it move up.
+    pub fn remove(&mut self, i: usize)
+        requires { i < length self.old }
+        ensures value { self.new ≡ remove self.old i }
+        ensures few { length self.new ≤ REQUESTS }
     {
+        let filed = self.present.remove(i);
+        let _ = self.spare.push(filed);
         self.waiters_known = false;
-        remove_leaving(&mut self.window, job, leaving)
-    }
-
-    /// Takes the named wants out of the job's requests, and the requests that are left without wants;
-    /// answers the groups of all that lost wants.
-    pub fn give_up(&mut self, job: u8, named: &[Want]) -> Signature
-        requires { IsTrue (list_all keeps_wants self.old) }
-        ensures value { self.new ≡ filter keeps_wants (map (with_fewer job named.now) self.old) }
-        ensures bits { result ≡ signature_where (loses job named.now) self.old }
-    {
-        self.waiters_known = false;
-        give_up(&mut self.window, job, named)
     }
 
     /// Takes out all.
     pub fn clear(&mut self)
         ensures { self.new ≡ [] }
     {
-        self.window.clear();
+        move_all(&mut self.present, &mut self.spare);
         self.waiters = 0;
         self.waiters_known = true;
     }
@@ -163,9 +150,8 @@ impl Shelf {
         ensures few { length self.new ≤ REQUESTS }
         ensures woken { woken.new.items ≡ risen bits [] self.old }
     {
-        self.waiters = renew(&mut self.window, bits, woken);
+        self.waiters = renew(self.present.as_mut_slice(), bits, woken);
         self.waiters_known = true;
-        let _ = self.window.len();
     }
 
     /// Whether a job waits by one of the requests.
@@ -177,35 +163,35 @@ impl Shelf {
         if self.waiters_known && job <= JOBS {
             self.waiters >> job & 1 == 1
         } else {
-            does_some_block(&self.all(), job)
+            does_some_block(self.as_slice(), job)
         }
     }
 
-    /// Whether the first job waits for the second.
-    pub fn waits_for(&self, job: u8, other: u8) -> bool
-        ensures { result ≡ waits_in job other [] self.now }
-    {
-        does_wait_for(&self.window, job, other)
-    }
-
-    /// Marks the pending request of a job as told. Whoever waits still does.
-    #[tactic(auto, using(crate::proofs::WaiterLaws::waiters_told))]
+    /// Marks the pending request of a job as told.
     pub fn tell(&mut self, job: u8)
         ensures value { self.new ≡ told_in job self.old }
         ensures few { length self.new ≤ REQUESTS }
     {
-        tell(&mut self.window, job);
-        let _ = self.window.len();
+        tell(self.present.as_mut_slice(), job);
+    }
+
+    /// Takes the wants of the named keys out of the request at a place.
+    #[tactic(auto, using(lock_queue::proofs::ListSteps::set_split))]
+    pub fn remove_keys_at(&mut self, i: usize, named: &[Want])
+        requires { i < length self.old }
+        ensures { (d : Filing) → self.new ≡
+            take i self.old ++ fewer named.now (get_or self.old i d) ∷ drop (i + 1) self.old }
+    {
+        self.waiters_known = false;
+        self.present[i].remove_keys(named);
     }
 
     /// Makes the job's wants shared or exclusive, each as the change of its key says, if there is one.
     /// Grants stay as they are noted.
-    #[tactic(auto, using(crate::proofs::ChangeLaws::waiters_changed))]
     pub fn change(&mut self, job: u8, changes: &[Want])
         ensures value { self.new ≡ map (with_change job changes.now) self.old }
         ensures few { length self.new ≤ REQUESTS }
     {
-        change_of_job(&mut self.window, job, changes);
-        let _ = self.window.len();
+        change_of_job(self.present.as_mut_slice(), job, changes);
     }
 }

@@ -1,10 +1,9 @@
 //! The signature of some wants: a bit for each of 64 groups of keys that they touch, and for each of 64
 //! classes, which part keys in another way.
-ghost use Rattle.std.specs.Prelude.{◌≡◌, ◌<◌, ◌^◌};
+ghost use Rattle.std.specs.Prelude.{◌≡◌, ◌<◌};
 ghost use Rattle.lock_table.specs.Signatures.{hash_text, hash_of, bits_of, joined, meets, no_bits, signature_of};
 
 use lock_queue::{Key, Name, Scope, Want};
-use std::marker::Model;
 
 /// The bits of groups and of classes that some keys touch.
 #[derive(Clone, Copy, Debug, PartialEq, Eq)]
@@ -44,58 +43,6 @@ impl Signature {
     }
 }
 
-/// The group and the class of one key.
-#[derive(Clone, Copy)]
-pub struct KeyBits {
-    group: u8,
-    class: u8,
-}
-
-impl Model for KeyBits {
-    ghost use Rattle.std.specs.Prelude.{◌<◌, ◌^◌};
-    ghost use Rattle.std.specs.Int.{trailing_zeros, w64};
-    ghost use Rattle.lock_table.specs.declared.signature.Signature.{Signature};
-    ghost use Rattle.lock_table.specs.Signatures.{signature};
-    ghost use Rattle.lock_table.specs.Places.{zeros_of};
-
-    ghost Value = { Signature };
-
-    ghost view = { λ k. signature (2 ^ k.group) (2 ^ k.class) };
-
-    ghost inverse = { λ s. record { group = trailing_zeros w64 s.groups; class = trailing_zeros w64 s.classes } };
-
-    ghost invariant = { λ k. (k.group < 64) × (k.class < 64) };
-
-    ghost inverse_ok = { λ k h i. record { group = zeros_of k.group h.0 i; class = zeros_of k.class h.1 i } };
-}
-
-impl KeyBits {
-    /// The number of its group.
-    pub fn group(self) -> u8
-        ensures below { result < 64 }
-        ensures value { self.groups ≡ 2 ^ result }
-    {
-        self.group
-    }
-
-    /// Its two bits.
-    pub fn signature(self) -> Signature
-        ensures { result ≡ self }
-    {
-        Signature {
-            groups: 1 << self.group,
-            classes: 1 << self.class,
-        }
-    }
-
-    /// Whether a signature has both.
-    pub fn are_in(self, signature: Signature) -> bool
-        ensures { result ≡ meets signature self }
-    {
-        signature.groups & 1 << self.group != 0 && signature.classes & 1 << self.class != 0
-    }
-}
-
 fn hash_text(text: &[u8], start: u64) -> u64
     requires { start < 4096 }
     ensures value { result ≡ hash_text start text.now }
@@ -124,13 +71,13 @@ fn hash_of(key: &Key) -> u64
 }
 
 /// The bits of a key's group and class.
-pub fn bits_of(key: &Key) -> KeyBits
+pub fn bits_of(key: &Key) -> Signature
     ensures { result ≡ bits_of key.now }
 {
     let hash = hash_of(key);
-    KeyBits {
-        group: (hash % 64) as u8,
-        class: (hash / 64) as u8,
+    Signature {
+        groups: 1 << (hash % 64),
+        classes: 1 << (hash / 64),
     }
 }
 
@@ -140,7 +87,7 @@ pub fn signature_of(wants: &[Want]) -> Signature
 {
     let mut signature = Signature::none();
     for i in (0..wants.len()).rev() {
-        signature = signature.joined(bits_of(&wants[i].key).signature());
+        signature = signature.joined(bits_of(&wants[i].key));
     }
     signature
 }

@@ -15,11 +15,11 @@ returns-clause-requests c =
     let fs = c.args.shelf.now in
     let rs = requests_in fs in
     let passed : first_refusal (dequeue_fault rs c.args.job) [] c.args.named.now.items ≡ None =
-    ap (first_refusal (dequeue_fault rs c.args.job) []) (sym c.as_slice.ensures.value)
-    ∙ ap (λ l. first_refusal (dequeue_fault (requests_in l) c.args.job) [] c.as_slice.result.now) (sym c.all.ensures.value)
+    ap (first_refusal (dequeue_fault rs c.args.job) []) (sym c.as_slice-2.ensures.value)
+    ∙ ap (λ l. first_refusal (dequeue_fault (requests_in l) c.args.job) [] c.as_slice-2.result.now) (sym c.as_slice.ensures.value)
     ∙ sym c.refusal_of_dequeue.ensures ∙ c.in_default.is in
     c.depart_named.ensures.requests
-    ∙ ap (λ l. requests_in (filter keeps_wants (map (with_fewer c.args.job l) fs))) c.as_slice-2.ensures.value
+    ∙ ap (λ l. requests_in (filter keeps_wants (map (with_fewer c.args.job l) fs))) c.as_slice-3.ensures.value
     ∙ named-requests fs c.args.job c.args.named.now.items
     ∙ sym (ap (λ o. (unless_refused rs o (outcome (without_named rs c.args.job c.args.named.now.items) Done)).requests) passed)
 
@@ -28,10 +28,10 @@ returns-clause-woken c =
     let fs = c.args.shelf.now in
     let rs = requests_in fs in
     let passed : first_refusal (dequeue_fault rs c.args.job) [] c.args.named.now.items ≡ None =
-    ap (first_refusal (dequeue_fault rs c.args.job) []) (sym c.as_slice.ensures.value)
-    ∙ ap (λ l. first_refusal (dequeue_fault (requests_in l) c.args.job) [] c.as_slice.result.now) (sym c.all.ensures.value)
+    ap (first_refusal (dequeue_fault rs c.args.job) []) (sym c.as_slice-2.ensures.value)
+    ∙ ap (λ l. first_refusal (dequeue_fault (requests_in l) c.args.job) [] c.as_slice-2.result.now) (sym c.as_slice.ensures.value)
     ∙ sym c.refusal_of_dequeue.ensures ∙ c.in_default.is in
     c.depart_named.ensures.woken
-    ∙ ap (λ l. raised [] (filter keeps_wants (map (with_fewer c.args.job l) fs))) c.as_slice-2.ensures.value
-    ∙ named-woken fs c.args.job c.args.named.now c.requires.right
+    ∙ ap (λ l. raised [] (filter keeps_wants (map (with_fewer c.args.job l) fs))) c.as_slice-3.ensures.value
+    ∙ named-woken fs c.args.job c.args.named.now c.requires
     ∙ sym (ap (λ o. unless_refused_grants (unless_refused rs o (outcome (without_named rs c.args.job c.args.named.now.items) Done)).reply (woken (left_of c.args.job (DequeueNamed c.args.named.now)) rs)) passed)

@@ -26,14 +26,14 @@ pub returns-in-Err-clause-requests : goal.returns-in-Err-clause-requests
 returns-in-Err-clause-requests c =
     let fs = c.args.shelf.now in
     let a = c.args in
-    let none = refused-of fs c.all.result a.job a.asking.now a.wants.now.items c.as_slice.result.now c.judge_enqueue.result c.in-Err.refusal
-    c.all.ensures.value c.as_slice.ensures.value c.judge_enqueue.ensures c.in-Err.is in
+    let none = refused-of fs c.as_slice.result.now a.job a.asking.now a.wants.now.items c.as_slice-2.result.now c.judge_enqueue.result c.in-Err.refusal
+    c.as_slice.ensures.value c.as_slice-2.ensures.value c.judge_enqueue.ensures c.in-Err.is in
     sym (ap (λ o. (unless_refused (requests_in fs) o (arrival (requests_in fs) a.job a.asking.now a.wants.now)).requests) none)
 
 pub returns-in-Err-clause-reply : goal.returns-in-Err-clause-reply
 returns-in-Err-clause-reply c =
     let fs = c.args.shelf.now in
     let a = c.args in
-    let none = refused-of fs c.all.result a.job a.asking.now a.wants.now.items c.as_slice.result.now c.judge_enqueue.result c.in-Err.refusal
-    c.all.ensures.value c.as_slice.ensures.value c.judge_enqueue.ensures c.in-Err.is in
+    let none = refused-of fs c.as_slice.result.now a.job a.asking.now a.wants.now.items c.as_slice-2.result.now c.judge_enqueue.result c.in-Err.refusal
+    c.as_slice.ensures.value c.as_slice-2.ensures.value c.judge_enqueue.ensures c.in-Err.is in
     sym (ap (λ o. (unless_refused (requests_in fs) o (arrival (requests_in fs) a.job a.asking.now a.wants.now)).reply) none)

@@ -37,10 +37,10 @@ pub returns-then-is_some_lost-clause-requests : goal.returns-then-is_some_lost-c
 returns-then-is_some_lost-clause-requests c =
     let fs = c.args.shelf.now in
     let cs = c.args.changes.now.items in
-    let passed = passed-of fs c.all.result c.args.job cs c.as_slice-wanted.result.now c.refusal_of_modify.result
-    c.all.ensures.value c.as_slice-wanted.ensures.value c.refusal_of_modify.ensures c.in_default.is in
-    let lost = lost-of fs c.all-2.result c.args.job cs c.as_slice-wanted.result.now c.is_some_lost.result
-    c.all-2.ensures.value c.as_slice-wanted.ensures.value c.is_some_lost.ensures c.requires passed in
+    let passed = passed-of fs c.as_slice.result.now c.args.job cs c.as_slice-wanted.result.now c.refusal_of_modify.result
+    c.as_slice.ensures.value c.as_slice-wanted.ensures.value c.refusal_of_modify.ensures c.in_default.is in
+    let lost = lost-of fs c.as_slice-2.result.now c.args.job cs c.as_slice-wanted.result.now c.is_some_lost.result
+    c.as_slice-2.ensures.value c.as_slice-wanted.ensures.value c.is_some_lost.ensures c.requires passed in
     let out = modify-lost fs c.args.job c.args.changes.now c.requires passed (lost ∙ c.if-is_some_lost.true) in
     sym (ap (λ (o : Outcome). o.requests) out)
 
@@ -48,10 +48,10 @@ pub returns-then-is_some_lost-clause-reply : goal.returns-then-is_some_lost-clau
 returns-then-is_some_lost-clause-reply c =
     let fs = c.args.shelf.now in
     let cs = c.args.changes.now.items in
-    let passed = passed-of fs c.all.result c.args.job cs c.as_slice-wanted.result.now c.refusal_of_modify.result
-    c.all.ensures.value c.as_slice-wanted.ensures.value c.refusal_of_modify.ensures c.in_default.is in
-    let lost = lost-of fs c.all-2.result c.args.job cs c.as_slice-wanted.result.now c.is_some_lost.result
-    c.all-2.ensures.value c.as_slice-wanted.ensures.value c.is_some_lost.ensures c.requires passed in
+    let passed = passed-of fs c.as_slice.result.now c.args.job cs c.as_slice-wanted.result.now c.refusal_of_modify.result
+    c.as_slice.ensures.value c.as_slice-wanted.ensures.value c.refusal_of_modify.ensures c.in_default.is in
+    let lost = lost-of fs c.as_slice-2.result.now c.args.job cs c.as_slice-wanted.result.now c.is_some_lost.result
+    c.as_slice-2.ensures.value c.as_slice-wanted.ensures.value c.is_some_lost.ensures c.requires passed in
     let out = modify-lost fs c.args.job c.args.changes.now c.requires passed (lost ∙ c.if-is_some_lost.true) in
     sym (ap (λ (o : Outcome). o.reply) out)
 
@@ -59,10 +59,10 @@ pub returns-then-is_some_lost-clause-woken : goal.returns-then-is_some_lost-clau
 returns-then-is_some_lost-clause-woken c =
     let fs = c.args.shelf.now in
     let cs = c.args.changes.now.items in
-    let passed = passed-of fs c.all.result c.args.job cs c.as_slice-wanted.result.now c.refusal_of_modify.result
-    c.all.ensures.value c.as_slice-wanted.ensures.value c.refusal_of_modify.ensures c.in_default.is in
-    let lost = lost-of fs c.all-2.result c.args.job cs c.as_slice-wanted.result.now c.is_some_lost.result
-    c.all-2.ensures.value c.as_slice-wanted.ensures.value c.is_some_lost.ensures c.requires passed in
+    let passed = passed-of fs c.as_slice.result.now c.args.job cs c.as_slice-wanted.result.now c.refusal_of_modify.result
+    c.as_slice.ensures.value c.as_slice-wanted.ensures.value c.refusal_of_modify.ensures c.in_default.is in
+    let lost = lost-of fs c.as_slice-2.result.now c.args.job cs c.as_slice-wanted.result.now c.is_some_lost.result
+    c.as_slice-2.ensures.value c.as_slice-wanted.ensures.value c.is_some_lost.ensures c.requires passed in
     let out = modify-lost fs c.args.job c.args.changes.now c.requires passed (lost ∙ c.if-is_some_lost.true) in
     c.clear.ensures
     ∙ sym (ap (λ (o : Outcome). unless_refused_grants o.reply (woken (left_of c.args.job (Modify c.args.changes.now)) (requests_in fs))) out)
@@ -71,10 +71,10 @@ pub returns-clause-requests : goal.returns-clause-requests
 returns-clause-requests c =
     let fs = c.args.shelf.now in
     let cs = c.args.changes.now.items in
-    let passed = passed-of fs c.all.result c.args.job cs c.as_slice-wanted.result.now c.refusal_of_modify.result
-    c.all.ensures.value c.as_slice-wanted.ensures.value c.refusal_of_modify.ensures c.in_default.is in
-    let lost = lost-of fs c.all-2.result c.args.job cs c.as_slice-wanted.result.now c.is_some_lost.result
-    c.all-2.ensures.value c.as_slice-wanted.ensures.value c.is_some_lost.ensures c.requires passed in
+    let passed = passed-of fs c.as_slice.result.now c.args.job cs c.as_slice-wanted.result.now c.refusal_of_modify.result
+    c.as_slice.ensures.value c.as_slice-wanted.ensures.value c.refusal_of_modify.ensures c.in_default.is in
+    let lost = lost-of fs c.as_slice-2.result.now c.args.job cs c.as_slice-wanted.result.now c.is_some_lost.result
+    c.as_slice-2.ensures.value c.as_slice-wanted.ensures.value c.is_some_lost.ensures c.requires passed in
     let kept = lost ∙ c.if-is_some_lost.false in
     let out = modify-done fs c.args.job c.args.changes.now c.requires passed kept in
     let mid = c.change.ensures.value ∙ ap (λ l. map (with_change c.args.job l) fs) c.as_slice-wanted.ensures.value in
@@ -85,10 +85,10 @@ pub returns-clause-reply : goal.returns-clause-reply
 returns-clause-reply c =
     let fs = c.args.shelf.now in
     let cs = c.args.changes.now.items in
-    let passed = passed-of fs c.all.result c.args.job cs c.as_slice-wanted.result.now c.refusal_of_modify.result
-    c.all.ensures.value c.as_slice-wanted.ensures.value c.refusal_of_modify.ensures c.in_default.is in
-    let lost = lost-of fs c.all-2.result c.args.job cs c.as_slice-wanted.result.now c.is_some_lost.result
-    c.all-2.ensures.value c.as_slice-wanted.ensures.value c.is_some_lost.ensures c.requires passed in
+    let passed = passed-of fs c.as_slice.result.now c.args.job cs c.as_slice-wanted.result.now c.refusal_of_modify.result
+    c.as_slice.ensures.value c.as_slice-wanted.ensures.value c.refusal_of_modify.ensures c.in_default.is in
+    let lost = lost-of fs c.as_slice-2.result.now c.args.job cs c.as_slice-wanted.result.now c.is_some_lost.result
+    c.as_slice-2.ensures.value c.as_slice-wanted.ensures.value c.is_some_lost.ensures c.requires passed in
     let kept = lost ∙ c.if-is_some_lost.false in
     let out = modify-done fs c.args.job c.args.changes.now c.requires passed kept in
     sym (ap (λ (o : Outcome). o.reply) out)
@@ -97,10 +97,10 @@ pub returns-clause-right : goal.returns-clause-right
 returns-clause-right c =
     let fs = c.args.shelf.now in
     let cs = c.args.changes.now.items in
-    let passed = passed-of fs c.all.result c.args.job cs c.as_slice-wanted.result.now c.refusal_of_modify.result
-    c.all.ensures.value c.as_slice-wanted.ensures.value c.refusal_of_modify.ensures c.in_default.is in
-    let lost = lost-of fs c.all-2.result c.args.job cs c.as_slice-wanted.result.now c.is_some_lost.result
-    c.all-2.ensures.value c.as_slice-wanted.ensures.value c.is_some_lost.ensures c.requires passed in
+    let passed = passed-of fs c.as_slice.result.now c.args.job cs c.as_slice-wanted.result.now c.refusal_of_modify.result
+    c.as_slice.ensures.value c.as_slice-wanted.ensures.value c.refusal_of_modify.ensures c.in_default.is in
+    let lost = lost-of fs c.as_slice-2.result.now c.args.job cs c.as_slice-wanted.result.now c.is_some_lost.result
+    c.as_slice-2.ensures.value c.as_slice-wanted.ensures.value c.is_some_lost.ensures c.requires passed in
     let kept = lost ∙ c.if-is_some_lost.false in
     let mid = c.change.ensures.value ∙ ap (λ l. map (with_change c.args.job l) fs) c.as_slice-wanted.ensures.value in
     let bits : c.signature_of.result ≡ signature_of cs = c.signature_of.ensures ∙ ap signature_of c.as_slice-wanted.ensures.value in
@@ -113,10 +113,10 @@ pub returns-clause-woken : goal.returns-clause-woken
 returns-clause-woken c =
     let fs = c.args.shelf.now in
     let cs = c.args.changes.now.items in
-    let passed = passed-of fs c.all.result c.args.job cs c.as_slice-wanted.result.now c.refusal_of_modify.result
-    c.all.ensures.value c.as_slice-wanted.ensures.value c.refusal_of_modify.ensures c.in_default.is in
-    let lost = lost-of fs c.all-2.result c.args.job cs c.as_slice-wanted.result.now c.is_some_lost.result
-    c.all-2.ensures.value c.as_slice-wanted.ensures.value c.is_some_lost.ensures c.requires passed in
+    let passed = passed-of fs c.as_slice.result.now c.args.job cs c.as_slice-wanted.result.now c.refusal_of_modify.result
+    c.as_slice.ensures.value c.as_slice-wanted.ensures.value c.refusal_of_modify.ensures c.in_default.is in
+    let lost = lost-of fs c.as_slice-2.result.now c.args.job cs c.as_slice-wanted.result.now c.is_some_lost.result
+    c.as_slice-2.ensures.value c.as_slice-wanted.ensures.value c.is_some_lost.ensures c.requires passed in
     let kept = lost ∙ c.if-is_some_lost.false in
     let out = modify-done fs c.args.job c.args.changes.now c.requires passed kept in
     let mid = c.change.ensures.value ∙ ap (λ l. map (with_change c.args.job l) fs) c.as_slice-wanted.ensures.value in

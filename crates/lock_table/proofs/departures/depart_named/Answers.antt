@@ -3,29 +3,25 @@ use Rattle.lock_table.specs.declared.signature.Signature.{Signature}
 use Rattle.lock_table.specs.Filings.{requests_in, AreRight}
 use Rattle.lock_table.specs.Renewals.{raised, AreOutdated}
 use Rattle.lock_table.proofs.CallLaws.{named-outdated}
-use Rattle.lock_table.proofs.WindowLaws.{well-kept}
 use Rattle.lock_table.proofs.RenewalLaws.{renewed-requests, right-renewed, risen-raised}
 use Rattle.lock_table.proofs.departures.depart_named.Goals as goal
 
-pub give_up-bits-requires : goal.give_up-bits-requires
-give_up-bits-requires c = well-kept c.args.shelf.now c.requires.well
-
 pub returns-clause-requests : goal.returns-clause-requests
 returns-clause-requests c =
-    ap requests_in c.renew.ensures.value ∙ renewed-requests c.give_up-bits.result [] c.give_up-bits.new.self
+    ap requests_in c.renew.ensures.value ∙ renewed-requests c.give_up-bits.result [] c.give_up-bits.new.shelf
     ∙ ap requests_in c.give_up-bits.ensures.value
 
 pub returns-clause-right : goal.returns-clause-right
 returns-clause-right c =
-    let outdated : AreOutdated c.give_up-bits.result [] c.give_up-bits.new.self =
-    subst (λ (n : Signature). AreOutdated n [] c.give_up-bits.new.self) (sym c.give_up-bits.ensures.bits)
-    (subst (AreOutdated _ []) (sym c.give_up-bits.ensures.value) (named-outdated c.args.shelf.now c.args.job (record { items = c.args.named.now }) c.requires.right)) in
-    subst (AreRight []) (sym c.renew.ensures.value) (right-renewed c.give_up-bits.result [] c.give_up-bits.new.self outdated)
+    let outdated : AreOutdated c.give_up-bits.result [] c.give_up-bits.new.shelf =
+    subst (λ (n : Signature). AreOutdated n [] c.give_up-bits.new.shelf) (sym c.give_up-bits.ensures.bits)
+    (subst (AreOutdated _ []) (sym c.give_up-bits.ensures.value) (named-outdated c.args.shelf.now c.args.job (record { items = c.args.named.now }) c.requires)) in
+    subst (AreRight []) (sym c.renew.ensures.value) (right-renewed c.give_up-bits.result [] c.give_up-bits.new.shelf outdated)
 
 pub returns-clause-woken : goal.returns-clause-woken
 returns-clause-woken c =
-    let outdated : AreOutdated c.give_up-bits.result [] c.give_up-bits.new.self =
-    subst (λ (n : Signature). AreOutdated n [] c.give_up-bits.new.self) (sym c.give_up-bits.ensures.bits)
-    (subst (AreOutdated _ []) (sym c.give_up-bits.ensures.value) (named-outdated c.args.shelf.now c.args.job (record { items = c.args.named.now }) c.requires.right)) in
-    c.renew.ensures.woken ∙ risen-raised c.give_up-bits.result [] c.give_up-bits.new.self outdated
+    let outdated : AreOutdated c.give_up-bits.result [] c.give_up-bits.new.shelf =
+    subst (λ (n : Signature). AreOutdated n [] c.give_up-bits.new.shelf) (sym c.give_up-bits.ensures.bits)
+    (subst (AreOutdated _ []) (sym c.give_up-bits.ensures.value) (named-outdated c.args.shelf.now c.args.job (record { items = c.args.named.now }) c.requires)) in
+    c.renew.ensures.woken ∙ risen-raised c.give_up-bits.result [] c.give_up-bits.new.shelf outdated
     ∙ ap (raised []) c.give_up-bits.ensures.value

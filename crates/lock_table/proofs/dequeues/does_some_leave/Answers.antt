@@ -1,29 +1,31 @@
-use Rattle.std.proofs.Common.{◌∙◌, ◌||◌, sym, ap, drop}
+use Rattle.std.proofs.Common.{◌∙◌, ◌||◌, ◌-◌, sym, ap, length, drop, arith, length-drop}
+use Rattle.std.proofs.lemmas.List.{take_all}
 use Rattle.std.specs.List.{list_any}
 use Rattle.lock_table.specs.Departures.{leaves}
+use Rattle.lock_table.specs.Walks.{from_own}
 use Rattle.lock_table.proofs.WalkLaws.{own_leaves, first-any}
 use Rattle.lock_table.proofs.dequeues.does_some_leave.Goals as goal
 
-pub loop-f-init : goal.loop-f-init
-loop-f-init c =
+pub loop-rest-init : goal.loop-rest-init
+loop-rest-init c =
     ap (list_any (leaves c.args.job c.args.leaving.now)) c.from_own-rest.ensures.value
     ∙ own_leaves c.args.job c.args.leaving.now c.args.filed.now
 
 pub returns-then-does_leave : goal.returns-then-does_leave
 returns-then-does_leave c =
     let test = leaves c.args.job c.args.leaving.now in
-    let xs = c.loop-f.rest in
-    sym (sym c.loop-f.invariant
-    ∙ first-any test xs c.in-Some.f.now c.in-Some.ensures.value
+    let xs = c.loop-rest.rest.now in
+    sym (sym c.loop-rest.invariant
+    ∙ first-any test xs c.f-item.result c.in-len1-up.len_at_least c.f-item.is
     ∙ ap (λ b. b || list_any test (drop 1 xs)) (sym c.does_leave.ensures ∙ c.if-does_leave.true))
 
-pub loop-f-preserved : goal.loop-f-preserved
-loop-f-preserved c =
+pub loop-rest-preserved : goal.loop-rest-preserved
+loop-rest-preserved c =
     let test = leaves c.args.job c.args.leaving.now in
-    let xs = c.loop-f.rest in
+    let xs = c.loop-rest.rest.now in
     ap (list_any test)
-    c.next_own-rest.ensures.value
+    (c.from_own-rest-in-len1-up.ensures.value ∙ ap (from_own c.args.job) (take_all (length xs - 1) (drop 1 xs) (omega (arith, length-drop 1 xs))))
     ∙ own_leaves c.args.job c.args.leaving.now (drop 1 xs)
-    ∙ sym (first-any test xs c.in-Some.f.now c.in-Some.ensures.value
+    ∙ sym (first-any test xs c.f-item.result c.in-len1-up.len_at_least c.f-item.is
     ∙ ap (λ b. b || list_any test (drop 1 xs)) (sym c.does_leave.ensures ∙ c.if-does_leave.false))
-    ∙ c.loop-f.invariant
+    ∙ c.loop-rest.invariant

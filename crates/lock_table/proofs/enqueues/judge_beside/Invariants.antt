@@ -5,8 +5,8 @@ use Rattle.lock_queue.specs.Queue.{agree, names, wants_at, wants_of}
 use Rattle.lock_table.specs.Filings.{requests_in}
 use Rattle.lock_table.proofs.enqueues.judge_beside.Given as goal
 
-abbrev pub invariant-loop-f : goal.invariant-loop-f
-invariant-loop-f l =
+abbrev pub invariant-loop-rest : goal.invariant-loop-rest
+invariant-loop-rest l =
     record {
       alike : list_all (λ v. are_alike v l.w) (wants_at (requests_in l.rest) l.w.key)
           ≡ list_all (λ v. are_alike v l.w) (wants_at (requests_in l.filed) l.w.key);
@@ -15,5 +15,5 @@ invariant-loop-f l =
       named : (l.is_named || names (wants_of (requests_in l.rest) l.job) l.w.key) ≡ names (wants_of (requests_in l.filed) l.job) l.w.key;
     }
 
-abbrev pub decreases-loop-f : goal.decreases-loop-f
-decreases-loop-f l = length l.rest
+abbrev pub decreases-loop-rest : goal.decreases-loop-rest
+decreases-loop-rest l = length l.rest

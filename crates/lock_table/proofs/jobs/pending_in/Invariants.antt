@@ -1,9 +1,7 @@
-use Rattle.std.proofs.Common.{◌≡◌, length}
+use Rattle.std.proofs.Common.{◌≡◌, drop}
 use Rattle.lock_table.specs.Findings.{pending_in}
 use Rattle.lock_table.proofs.jobs.pending_in.Given as goal
 
 abbrev pub invariant-loop-f : goal.invariant-loop-f
-invariant-loop-f l = pending_in l.rest l.job ≡ pending_in l.filed l.job
-
-abbrev pub decreases-loop-f : goal.decreases-loop-f
-decreases-loop-f l = length l.rest
+invariant-loop-f l =
+    pending_in (drop l.f-index l.filed) l.job ≡ pending_in l.filed l.job

@@ -1,22 +1,20 @@
-use Rattle.std.proofs.Common.{◌≡◌, ◌≤◌, ◌<◌, ◌++◌, ◌-◌, [], length, true}
-use Rattle.place_sets.specs.declared.place_set.TheConstants.{PLACES}
+use Rattle.std.proofs.Common.{◌≡◌, ◌≤◌, ◌++◌, [], length, take, drop}
+use Rattle.lock_table.specs.Filings.{requests_in}
 use Rattle.lock_table.specs.Renewals.{renewed, risen}
-use Rattle.lock_table.specs.Waiters.{with_waiters}
-use Rattle.lock_table.specs.Windows.{at_place, between, is_waiting, present}
-use Rattle.lock_table.proofs.WindowLaws.{renewing, rising}
+use Rattle.lock_table.specs.Waiters.{with_waiters, waiters_in}
 use Rattle.lock_table.proofs.renewal.renew.Given as goal
 
-abbrev pub invariant-loop-at : goal.invariant-loop-at
-invariant-loop-at l =
+abbrev pub invariant-loop-i : goal.invariant-loop-i
+invariant-loop-i l =
     record {
-      value : renewing l.bits l.at l.window ≡ renewed l.bits [] (present l.initial.window);
-      grants : l.woken.items ++ rising l.bits l.at l.window ≡ risen l.bits [] (present l.initial.window);
-      waiters : l.waiters ≡ with_waiters 0 (between 0 l.at l.window);
-      few : length l.woken.items ≤ length (between 0 l.at l.window);
-      there : l.at < PLACES → is_waiting (at_place l.window l.at) ≡ true;
-      long : length l.window ≡ PLACES;
-      most : l.at ≤ PLACES;
+      value :
+          take l.i l.filed ++ renewed l.bits (requests_in (take l.i l.filed)) (drop l.i l.filed)
+          ≡ renewed l.bits [] l.initial.filed;
+      grants :
+          l.woken.items ++ risen l.bits (requests_in (take l.i l.filed)) (drop l.i l.filed)
+          ≡ risen l.bits [] l.initial.filed;
+      waiters :
+          with_waiters l.waiters (renewed l.bits (requests_in (take l.i l.filed)) (drop l.i l.filed))
+          ≡ waiters_in (renewed l.bits [] l.initial.filed);
+      few : length l.woken.items ≤ l.i;
     }
-
-abbrev pub decreases-loop-at : goal.decreases-loop-at
-decreases-loop-at l = PLACES - l.at

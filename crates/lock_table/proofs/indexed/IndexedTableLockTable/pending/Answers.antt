@@ -6,5 +6,5 @@ use Rattle.lock_table.proofs.indexed.IndexedTableLockTable.pending.Goals as goal
 pub returns : goal.returns
 returns c =
     let present = c.args.self.now.present in
-    c.pending_in.ensures ∙ ap (λ l. pending_in l c.args.job) c.all.ensures.value
+    c.pending_in.ensures ∙ ap (λ l. pending_in l c.args.job) c.as_slice.ensures.value
     ∙ sym (pending-right present c.args.job (right-from [] present c.args.self.now.right))
