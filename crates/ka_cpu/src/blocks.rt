@@ -20,7 +20,11 @@ fn are_legal<M: JobMemory>(memory: &M, from: u32, to: u32, count: u32) -> bool
     ensures { result ≡ all_legal count (M.words memory.now) from to }
 {
     let last = from + (count - 1);
-    let top = if last < ADDRESSES { last } else { ADDRESSES - 1 };
+    let top = if last < ADDRESSES {
+        last
+    } else {
+        ADDRESSES - 1
+    };
     is_legal_place(memory, top) && is_legal_place(memory, to + (count - 1))
 }
 
