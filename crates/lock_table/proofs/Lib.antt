@@ -10,3 +10,4 @@ pub mod LevelLaws
 mod WaiterLaws
 pub mod WalkLaws
 pub mod GivingUpLaws
+pub mod LackLaws

@@ -8,3 +8,4 @@ pub mod Walks
 pub mod Changing
 pub mod Levels
 pub mod Arrivals
+pub mod Tallies

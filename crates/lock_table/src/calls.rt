@@ -73,7 +73,7 @@ fn enqueue(shelf: &mut Shelf, job: u8, asking: &Asking, wants: &Wants) -> LockRe
     ensures few { length (requests_in shelf.old) ≤ REQUESTS → length (requests_in shelf.new) ≤ REQUESTS }
     ensures well { IsTrue (are_well_formed (requests_in shelf.old)) → IsTrue (are_well_formed (requests_in shelf.new)) }
 {
-    match judge_enqueue(shelf.as_slice(), job, asking, wants.as_slice()) {
+    match judge_enqueue(shelf, job, asking, wants.as_slice()) {
         Err(refusal) => LockReply::Refused(refusal),
         Ok(are_fitting) => arrive(shelf, job, asking, wants, are_fitting),
     }

@@ -1,6 +1,7 @@
 //! A lock table for many requests: each request has a signature of its keys and its grant beside it.
 #![tactic(auto)]
 
+mod awaiting;
 mod calls;
 mod changes;
 mod departures;

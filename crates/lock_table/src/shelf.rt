@@ -1,5 +1,5 @@
 //! The requests that are present, in order of arrival, and the room for others.
-ghost use Rattle.std.specs.Prelude.{◌≡◌, ◌+◌, ◌<◌, ◌≤◌, [], ◌∷◌, ◌++◌, length, get_or, map, take, drop, remove, IfOk, IsTrue, vec_capacity};
+ghost use Rattle.std.specs.Prelude.{◌≡◌, ◌==◌, ◌+◌, ◌<◌, ◌≤◌, [], ◌∷◌, ◌++◌, length, get_or, map, take, drop, remove, IfOk, IsTrue, vec_capacity};
 ghost use Rattle.std.specs.List.{list_all, list_any};
 ghost use Rattle.word36.specs.declared.sizes.TheConstants.{LOCKS_A_CALL, REQUESTS};
 ghost use Rattle.lock_queue.specs.Enqueues.{request_of};
@@ -9,14 +9,17 @@ ghost use Rattle.lock_table.specs.Departures.{fewer, with_change};
 ghost use Rattle.lock_table.specs.Filings.{Filing, filing, requests_in, AreRight};
 ghost use Rattle.lock_table.specs.Findings.{blocks, told_in};
 ghost use Rattle.lock_table.specs.Renewals.{renewed, risen};
+ghost use Rattle.lock_table.specs.Signatures.{hash_of};
+ghost use Rattle.lock_table.specs.Tallies.{hash_count, awaited_bits};
 ghost use Rattle.lock_table.specs.Waiters.{waiter_bit, waiters_in};
 
+use crate::awaiting::{awaited_in, is_lacking};
 use crate::changes::change_of_job;
 use crate::filed::Filed;
 use crate::jobs::{does_some_block, tell};
 use crate::renewal::renew;
 use crate::signature::Signature;
-use lock_queue::{Asking, Want, Wants, Woken};
+use lock_queue::{Asking, Key, Want, Wants, Woken};
 use std::alloc::{AllocError, Global};
 use std::marker::Model;
 use word36::{JOBS, REQUESTS};
@@ -193,5 +196,20 @@ impl Shelf {
         ensures few { length self.new ≤ REQUESTS }
     {
         change_of_job(self.present.as_mut_slice(), job, changes);
+    }
+
+    /// Whether no request has a want whose key has the hash of this one.
+    pub fn lacks(&self, key: &Key) -> bool
+        ensures { result ≡ (hash_count (hash_of key.now) self.now == 0) }
+    {
+        is_lacking(self.as_slice(), key)
+    }
+
+    /// The signature of those of some wants that are awaited: whose key has the hash of one that a
+    /// request wants that is not granted.
+    pub fn awaited(&self, wants: &[Want]) -> Signature
+        ensures { result ≡ awaited_bits self.now wants.now }
+    {
+        awaited_in(self.as_slice(), wants)
     }
 }

@@ -56,7 +56,7 @@ fn hash_text(text: &[u8], start: u64) -> u64
 }
 
 /// A number below 4,096, made of a key's scope and name.
-fn hash_of(key: &Key) -> u64
+pub fn hash_of(key: &Key) -> u64
     ensures value { result ≡ hash_of key.now }
     ensures below { result < 4096 }
 {
