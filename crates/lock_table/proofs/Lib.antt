@@ -11,3 +11,5 @@ mod WaiterLaws
 pub mod WalkLaws
 pub mod GivingUpLaws
 pub mod LackLaws
+pub mod AwaitedLaws
+pub mod FrontLaws
