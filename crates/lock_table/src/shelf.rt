@@ -194,13 +194,12 @@ impl Shelf {
     }
 
     /// Takes the wants of the named keys out of the request at a place.
-    #[tactic(auto, using(lock_queue::proofs::ListSteps::set_split))]
+    #[tactic(auto, using(lock_queue::proofs::ListSteps::set_split, crate::proofs::WaiterLaws::waiters_fewer))]
     pub fn remove_keys_at(&mut self, i: usize, named: &[Want])
         requires { i < length self.old }
         ensures { (d : Filing) → self.new ≡
             take i self.old ++ fewer named.now (get_or self.old i d) ∷ drop (i + 1) self.old }
     {
-        self.waiters_known = false;
         self.present[i].remove_keys(named);
     }
 
