@@ -13,3 +13,4 @@ pub mod GivingUpLaws
 pub mod LackLaws
 pub mod AwaitedLaws
 pub mod FrontLaws
+pub mod LeavingLaws
