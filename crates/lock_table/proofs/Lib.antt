@@ -10,3 +10,5 @@ pub mod LevelLaws
 mod WaiterLaws
 pub mod WalkLaws
 pub mod GivingUpLaws
+pub mod TallyLaws
+pub mod TalliedLaws

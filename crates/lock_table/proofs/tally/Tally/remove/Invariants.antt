@@ -1,0 +1,13 @@
+use Rattle.std.proofs.Common.{◌≡◌, ℕ, ◌+◌, drop, slice_index}
+use Rattle.lock_table.specs.Counts.{unless_granted}
+use Rattle.lock_table.specs.Tallies.{want_count}
+use Rattle.lock_table.proofs.tally.Tally.remove.Given as goal
+
+abbrev pub invariant-loop-w : goal.invariant-loop-w
+invariant-loop-w l =
+    record {
+      all : (h : ℕ) → want_count h l.wants + slice_index l.self.all.items h
+          ≡ want_count h (drop l.w-index l.wants) + slice_index l.initial.self.all.items h;
+      waiting : (h : ℕ) → unless_granted l.granted (want_count h l.wants) + slice_index l.self.waiting.items h
+          ≡ unless_granted l.granted (want_count h (drop l.w-index l.wants)) + slice_index l.initial.self.waiting.items h;
+    }
