@@ -1,19 +1,20 @@
 -- A tally stays that of the requests where they come, leave, lose wants, are granted, told or changed.
-use Rattle.std.proofs.Common.{◌≡◌, ◌∙◌, sym, ap, ℕ, zero, suc, ◌+◌, ◌*◌, ◌<◌, ◌≤◌, ◌==◌, Bool, true, false, ◌&&◌, cond, if◌then◌else◌, List, [], ◌∷◌, ◌++◌, map, length, get_or, set, take, drop, slice_index, refl, arith, nat_le}
+use Rattle.std.proofs.Common.{◌≡◌, ◌∙◌, sym, ap, subst, ℕ, zero, suc, ◌+◌, ◌*◌, ◌<◌, ◌≤◌, ◌==◌, Bool, true, false, not, ◌&&◌, cond, if◌then◌else◌, List, [], ◌∷◌, ◌++◌, filter, map, length, get_or, set, take, drop, slice_index, refl, arith, nat_le}
 use Rattle.std.specs.List.{list_all, remove}
-use Rattle.std.proofs.lemmas.Bool.{and_parts, leb-true}
+use Rattle.std.proofs.lemmas.Bool.{and_parts, le-leb, leb-true}
 use Rattle.word36.specs.declared.sizes.TheConstants.{LOCKS_A_CALL, REQUESTS}
 use Rattle.lock_queue.specs.declared.request.Request.{Request}
 use Rattle.lock_queue.specs.declared.want.Want.{Want}
 use Rattle.lock_queue.specs.Changes.{changed_want}
 use Rattle.lock_queue.specs.Dequeues.{with_wants}
-use Rattle.lock_table.specs.Counts.{unless_granted, is_short, AreTallied}
-use Rattle.lock_table.specs.Departures.{with_change}
+use Rattle.lock_queue.specs.Queue.{names}
+use Rattle.lock_table.specs.Counts.{unless_granted, is_short, counted_bits, AreTallied}
+use Rattle.lock_table.specs.Departures.{fewer, with_change}
 use Rattle.lock_table.specs.Filings.{Filing, filing}
 use Rattle.lock_table.specs.Findings.{pends, with_told, told_in}
 use Rattle.lock_table.specs.Renewals.{with_grant}
-use Rattle.lock_table.specs.Signatures.{hash_of}
-use Rattle.lock_table.specs.Tallies.{want_count, hash_count, waiting_count}
+use Rattle.lock_table.specs.Signatures.{hash_of, signature_of}
+use Rattle.lock_table.specs.Tallies.{want_count, hash_count, waiting_count, is_awaited, awaited_bits}
 use Rattle.lock_table.proofs.ChangeLaws.{change-key}
 
 -- the wants of one request of a hash, and those of them that wait
@@ -83,9 +84,9 @@ pub tallied_push : (a b a' b' : List ℕ) (fs : List Filing) (f : Filing) → Ar
     → ((h : ℕ) → slice_index b' h ≡ own_waiting h f + slice_index b h)
     → AreTallied a' b' (fs ++ f ∷ [])
 tallied_push a b a' b' fs f t short all waiting = record {
-    present = λ h. omega (arith, all h, t.present h, hash-push h fs f);
-    blocked = λ h. omega (arith, waiting h, t.blocked h, waiting-push h fs f);
-    short = short-push fs f t.short short;
+  present = λ h. omega (arith, all h, t.present h, hash-push h fs f);
+  blocked = λ h. omega (arith, waiting h, t.blocked h, waiting-push h fs f);
+  short = short-push fs f t.short short;
 }
 
 -- ---- another in the place of one
@@ -143,9 +144,9 @@ pub tallied_remove : (a b a' b' : List ℕ) (fs : List Filing) (i : ℕ) (d : Fi
     → ((h : ℕ) → own_waiting h (get_or fs i d) + slice_index b' h ≡ slice_index b h)
     → AreTallied a' b' (remove fs i)
 tallied_remove a b a' b' fs i d lt t all waiting = record {
-    present = λ h. omega (arith, all h, t.present h, hash-remove h fs i d lt);
-    blocked = λ h. omega (arith, waiting h, t.blocked h, waiting-remove h fs i d lt);
-    short = short-remove fs i t.short;
+  present = λ h. omega (arith, all h, t.present h, hash-remove h fs i d lt);
+  blocked = λ h. omega (arith, waiting h, t.blocked h, waiting-remove h fs i d lt);
+  short = short-remove fs i t.short;
 }
 
 -- the wants of a present request are counted
@@ -168,9 +169,9 @@ pub tallied_put : (a b a' b' a'' b'' : List ℕ) (fs : List Filing) (i : ℕ) (d
     → ((h : ℕ) → slice_index b'' h ≡ own_waiting h g + slice_index b' h)
     → AreTallied a'' b'' (set fs i g)
 tallied_put a b a' b' a'' b'' fs i d g lt t short off off-waiting on on-waiting = record {
-    present = λ h. omega (arith, off h, on h, t.present h, hash-put h fs i d g lt);
-    blocked = λ h. omega (arith, off-waiting h, on-waiting h, t.blocked h, waiting-put h fs i d g lt);
-    short = short-put fs i g t.short short;
+  present = λ h. omega (arith, off h, on h, t.present h, hash-put h fs i d g lt);
+  blocked = λ h. omega (arith, off-waiting h, on-waiting h, t.blocked h, waiting-put h fs i d g lt);
+  short = short-put fs i g t.short short;
 }
 
 -- ---- a grant
@@ -180,12 +181,12 @@ pub tallied_grant : (a b b' : List ℕ) (fs : List Filing) (i : ℕ) (d : Filing
     → ((h : ℕ) → own h (get_or fs i d) + slice_index b' h ≡ slice_index b h)
     → AreTallied a b' (set fs i (with_grant (get_or fs i d)))
 tallied_grant a b b' fs i d lt t waits waiting = record {
-    present = λ h. omega (arith, t.present h, hash-put h fs i d (with_grant (get_or fs i d)) lt);
-    blocked = λ h.
-        let same : own_waiting h (get_or fs i d) ≡ own h (get_or fs i d) =
-        ap (λ g. unless_granted g (own h (get_or fs i d))) waits in
-        omega (arith, waiting h, t.blocked h, same, waiting-put h fs i d (with_grant (get_or fs i d)) lt);
-    short = short-put fs i (with_grant (get_or fs i d)) t.short (short_at fs i d lt t.short);
+  present = λ h. omega (arith, t.present h, hash-put h fs i d (with_grant (get_or fs i d)) lt);
+  blocked = λ h.
+      let same : own_waiting h (get_or fs i d) ≡ own h (get_or fs i d) =
+      ap (λ g. unless_granted g (own h (get_or fs i d))) waits in
+      omega (arith, waiting h, t.blocked h, same, waiting-put h fs i d (with_grant (get_or fs i d)) lt);
+  short = short-put fs i (with_grant (get_or fs i d)) t.short (short_at fs i d lt t.short);
 }
 
 -- ---- what tells and changes leave
@@ -219,9 +220,9 @@ short-told job (f ∷ fs) = go (pends job f) (short-told job fs)
 
 pub tallied_told : (a b : List ℕ) (job : ℕ) (fs : List Filing) → AreTallied a b fs → AreTallied a b (told_in job fs)
 tallied_told a b job fs t = record {
-    present = λ h. t.present h ∙ sym (hash-told h job fs);
-    blocked = λ h. t.blocked h ∙ sym (waiting-told h job fs);
-    short = short-told job fs ∙ t.short;
+  present = λ h. t.present h ∙ sym (hash-told h job fs);
+  blocked = λ h. t.blocked h ∙ sym (waiting-told h job fs);
+  short = short-told job fs ∙ t.short;
 }
 
 count-changed : (h : ℕ) (cs ws : List Want) → want_count h (map (changed_want cs) ws) ≡ want_count h ws
@@ -269,10 +270,134 @@ short-changed job cs (f ∷ fs) =
 pub tallied_change : (a b : List ℕ) (job : ℕ) (cs : List Want) (fs : List Filing) → AreTallied a b fs
     → AreTallied a b (map (with_change job cs) fs)
 tallied_change a b job cs fs t = record {
-    present = λ h. t.present h ∙ sym (hash-changed h job cs fs);
-    blocked = λ h. t.blocked h ∙ sym (waiting-changed h job cs fs);
-    short = short-changed job cs fs ∙ t.short;
+  present = λ h. t.present h ∙ sym (hash-changed h job cs fs);
+  blocked = λ h. t.blocked h ∙ sym (waiting-changed h job cs fs);
+  short = short-changed job cs fs ∙ t.short;
 }
 
 pub tallied_none : (a b : List ℕ) → ((h : ℕ) → (slice_index a h ≡ 0) × (slice_index b h ≡ 0)) → AreTallied a b []
 tallied_none a b none = record { present = λ h. (none h).0; blocked = λ h. (none h).1; short = refl }
+
+-- ---- in the shelf's words
+
+pub tallied_append : (a b a' b' : List ℕ) (fs xs : List Filing) (f : Filing) (ws : List Want) (g : Bool)
+    → AreTallied a b fs → length ws ≤ LOCKS_A_CALL → f.request.wants.items ≡ ws → f.granted ≡ g → xs ≡ fs ++ f ∷ []
+    → ((h : ℕ) → slice_index a' h ≡ want_count h ws + slice_index a h)
+    → ((h : ℕ) → slice_index b' h ≡ unless_granted g (want_count h ws) + slice_index b h)
+    → AreTallied a' b' xs
+tallied_append a b a' b' fs xs f ws g t few same granted is all waiting =
+    subst (AreTallied a' b') (sym is)
+    (tallied_push a b a' b' fs f t
+    (le-leb (length f.request.wants.items) LOCKS_A_CALL (rw same few))
+    (λ h. rw same (all h))
+    (λ h. rw granted (rw same (waiting h))))
+
+pub tallied_gone : (a b a' b' : List ℕ) (fs xs : List Filing) (i : ℕ) (f : Filing) (ws : List Want) (g : Bool)
+    → i < length fs → AreTallied a b fs → f ≡ get_or fs i f → ws ≡ f.request.wants.items → g ≡ f.granted → xs ≡ remove fs i
+    → ((h : ℕ) → want_count h ws + slice_index a' h ≡ slice_index a h)
+    → ((h : ℕ) → unless_granted g (want_count h ws) + slice_index b' h ≡ slice_index b h)
+    → AreTallied a' b' xs
+tallied_gone a b a' b' fs xs i f ws g lt t there same granted is all waiting =
+    subst (AreTallied a' b') (sym is)
+    (tallied_remove a b a' b' fs i f lt t
+    (λ h. rw (sym there) (rw (sym same) (all h)))
+    (λ h. rw (sym there) (rw (sym granted) (rw (sym same) (waiting h)))))
+
+pub there_gone : (a b : List ℕ) (fs : List Filing) (i : ℕ) (f : Filing) (ws : List Want) (h : ℕ)
+    → i < length fs → AreTallied a b fs → f ≡ get_or fs i f → ws ≡ f.request.wants.items
+    → want_count h ws ≤ slice_index a h
+there_gone a b fs i f ws h lt t there same =
+    let n : want_count h ws ≡ own h (get_or fs i f) = ap (want_count h) same ∙ ap (own h) there in
+    omega (arith, n, there_all a b fs i f h lt t)
+
+pub there_gone_waiting : (a b : List ℕ) (fs : List Filing) (i : ℕ) (f : Filing) (ws : List Want) (g : Bool) (h : ℕ)
+    → i < length fs → AreTallied a b fs → f ≡ get_or fs i f → ws ≡ f.request.wants.items → g ≡ f.granted
+    → unless_granted g (want_count h ws) ≤ slice_index b h
+there_gone_waiting a b fs i f ws g h lt t there same granted =
+    let n : unless_granted g (want_count h ws) ≡ own_waiting h (get_or fs i f) =
+    ap (λ k. unless_granted k (want_count h ws)) granted
+    ∙ ap (λ l. unless_granted f.granted (want_count h l)) same
+    ∙ ap (own_waiting h) there in
+    omega (arith, n, there_waiting a b fs i f h lt t)
+
+pub tallied_raised : (a b b' : List ℕ) (fs xs : List Filing) (i : ℕ) (f : Filing) (ws : List Want)
+    → i < length fs → AreTallied a b fs → f ≡ get_or fs i f → ws ≡ f.request.wants.items → f.granted ≡ false
+    → xs ≡ set fs i (with_grant f)
+    → ((h : ℕ) → want_count h ws + slice_index b' h ≡ slice_index b h)
+    → AreTallied a b' xs
+tallied_raised a b b' fs xs i f ws lt t there same waits is waiting =
+    subst (AreTallied a b') (sym is)
+    (subst (λ (x : Filing). AreTallied a b' (set fs i (with_grant x))) (sym there)
+    (tallied_grant a b b' fs i f lt t
+    (ap (λ (x : Filing). x.granted) (sym there) ∙ waits)
+    (λ h. rw (sym there) (rw (sym same) (waiting h)))))
+
+pub there_raised : (a b : List ℕ) (fs : List Filing) (i : ℕ) (f : Filing) (ws : List Want) (h : ℕ)
+    → i < length fs → AreTallied a b fs → f ≡ get_or fs i f → ws ≡ f.request.wants.items → f.granted ≡ false
+    → want_count h ws ≤ slice_index b h
+there_raised a b fs i f ws h lt t there same waits =
+    let n : want_count h ws ≡ own_waiting h (get_or fs i f) =
+    ap (want_count h) same ∙ ap (λ g. unless_granted g (own h f)) (sym waits) ∙ ap (own_waiting h) there in
+    omega (arith, n, there_waiting a b fs i f h lt t)
+
+filter-most : (named ws : List Want) → length (filter (λ w. not (names named w.key)) ws) ≤ length ws
+filter-most named [] = omega arith
+filter-most named (w ∷ ws) = go (not (names named w.key)) (filter-most named ws)
+  where
+    go : (b : Bool) → length (filter (λ v. not (names named v.key)) ws) ≤ length ws
+        → length (cond b (w ∷ filter (λ v. not (names named v.key)) ws) (filter (λ v. not (names named v.key)) ws)) ≤ length (w ∷ ws)
+    go true t = omega (arith, t)
+    go false t = omega (arith, t)
+
+-- what is left of a present request is short
+pub short_left : (fs : List Filing) (i : ℕ) (f g : Filing) (named : List Want) → i < length fs → list_all is_short fs ≡ true
+    → f ≡ get_or fs i f → g ≡ fewer named f → length g.request.wants.items ≤ LOCKS_A_CALL
+short_left fs i f g named lt all there is =
+    let one : is_short f ≡ true = ap is_short there ∙ short_at fs i f lt all in
+    let few : length f.request.wants.items ≤ LOCKS_A_CALL = leb-true (length f.request.wants.items) LOCKS_A_CALL one in
+    let left : length g.request.wants.items ≡ length (filter (λ w. not (names named w.key)) f.request.wants.items) =
+    ap (λ (x : Filing). length x.request.wants.items) is in
+    omega (arith, few, left, filter-most named f.request.wants.items)
+
+pub room_left_all : (a a' : List ℕ) (b : List ℕ) (fs : List Filing) (ws vs : List Want) (h : ℕ) → AreTallied a b fs → length fs ≤ REQUESTS
+    → length vs ≤ LOCKS_A_CALL → want_count h ws + slice_index a' h ≡ slice_index a h → want_count h vs + slice_index a' h ≤ 65535
+room_left_all a a' b fs ws vs h t few short off = omega (arith, off, room_all a b fs vs h t few short)
+
+pub room_left_waiting : (a b b' : List ℕ) (fs : List Filing) (n : ℕ) (vs : List Want) (h : ℕ) → AreTallied a b fs → length fs ≤ REQUESTS
+    → length vs ≤ LOCKS_A_CALL → n + slice_index b' h ≡ slice_index b h → want_count h vs + slice_index b' h ≤ 65535
+room_left_waiting a b b' fs n vs h t few short off = omega (arith, off, room_waiting a b fs vs h t few short)
+
+pub tallied_fewer : (a b a' b' a'' b'' : List ℕ) (fs : List Filing) (i : ℕ) (f g : Filing) (ws vs : List Want) (m n : Bool)
+    → i < length fs → AreTallied a b fs → f ≡ get_or fs i f
+    → ws ≡ f.request.wants.items → m ≡ f.granted → vs ≡ g.request.wants.items → n ≡ g.granted
+    → length g.request.wants.items ≤ LOCKS_A_CALL
+    → ((h : ℕ) → want_count h ws + slice_index a' h ≡ slice_index a h)
+    → ((h : ℕ) → unless_granted m (want_count h ws) + slice_index b' h ≡ slice_index b h)
+    → ((h : ℕ) → slice_index a'' h ≡ want_count h vs + slice_index a' h)
+    → ((h : ℕ) → slice_index b'' h ≡ unless_granted n (want_count h vs) + slice_index b' h)
+    → AreTallied a'' b'' (set fs i g)
+tallied_fewer a b a' b' a'' b'' fs i f g ws vs m n lt t there same granted same' granted' few off off-waiting on on-waiting =
+    tallied_put a b a' b' a'' b'' fs i f g lt t
+    (le-leb (length g.request.wants.items) LOCKS_A_CALL few)
+    (λ h. rw (sym there) (rw (sym same) (off h)))
+    (λ h. rw (sym there) (rw (sym granted) (rw (sym same) (off-waiting h))))
+    (λ h. rw (sym same') (on h))
+    (λ h. rw (sym granted') (rw (sym same') (on-waiting h)))
+
+-- ---- the test of one hash
+
+pub lacks_tallied : (a b : List ℕ) (fs : List Filing) (h : ℕ) → AreTallied a b fs → (slice_index a h == 0) ≡ (hash_count h fs == 0)
+lacks_tallied a b fs h t = ap (λ n. n == 0) (t.present h)
+
+pub awaited_tallied : (a b : List ℕ) (fs : List Filing) (ws : List Want) → AreTallied a b fs → counted_bits b ws ≡ awaited_bits fs ws
+awaited_tallied a b fs ws t = ap signature_of (go ws)
+  where
+    one : (w : Want) (rest rest' : List Want) → rest ≡ rest'
+        → cond (not (slice_index b (hash_of w.key) == 0)) (w ∷ rest) rest ≡ cond (is_awaited fs w) (w ∷ rest') rest'
+    one w rest rest' same =
+        ap (λ n. cond (not (n == 0)) (w ∷ rest) rest) (t.blocked (hash_of w.key))
+        ∙ ap (λ l. cond (is_awaited fs w) (w ∷ l) l) same
+
+    go : (vs : List Want) → filter (λ w. not (slice_index b (hash_of w.key) == 0)) vs ≡ filter (is_awaited fs) vs
+    go [] = refl
+    go (w ∷ vs) = one w (filter (λ v. not (slice_index b (hash_of v.key) == 0)) vs) (filter (is_awaited fs) vs) (go vs)

@@ -1,5 +1,5 @@
 //! The requests that are present, in order of arrival, and the room for others.
-ghost use Rattle.std.specs.Prelude.{◌≡◌, ◌+◌, ◌<◌, ◌≤◌, [], ◌∷◌, ◌++◌, length, get_or, map, take, drop, remove, IfOk, IsTrue, vec_capacity};
+ghost use Rattle.std.specs.Prelude.{◌≡◌, ◌==◌, ◌+◌, ◌<◌, ◌≤◌, [], ◌∷◌, ◌++◌, length, get_or, map, take, drop, remove, IfOk, IsTrue, vec_capacity};
 ghost use Rattle.std.specs.List.{list_all, list_any};
 ghost use Rattle.word36.specs.declared.sizes.TheConstants.{LOCKS_A_CALL, REQUESTS};
 ghost use Rattle.lock_queue.specs.Enqueues.{request_of};
@@ -9,6 +9,8 @@ ghost use Rattle.lock_table.specs.Departures.{fewer, with_change};
 ghost use Rattle.lock_table.specs.Filings.{Filing, filing, requests_in, AreRight};
 ghost use Rattle.lock_table.specs.Findings.{blocks, told_in};
 ghost use Rattle.lock_table.specs.Renewals.{renewed, risen};
+ghost use Rattle.lock_table.specs.Signatures.{hash_of};
+ghost use Rattle.lock_table.specs.Tallies.{hash_count, awaited_bits};
 ghost use Rattle.lock_table.specs.Waiters.{waiter_bit, waiters_in};
 
 use crate::changes::change_of_job;
@@ -16,17 +18,20 @@ use crate::filed::Filed;
 use crate::jobs::{does_some_block, tell};
 use crate::renewal::renew;
 use crate::signature::Signature;
-use lock_queue::{Asking, Want, Wants, Woken};
+use crate::tally::Tally;
+use lock_queue::{Asking, Key, Want, Wants, Woken};
 use std::alloc::{AllocError, Global};
 use std::marker::Model;
 use word36::{JOBS, REQUESTS};
 
 /// Requests in order of arrival, and the unused ones; there are 256 in all, made at the start. Beside
-/// them is kept which jobs wait, so that it need not be looked for.
+/// them is kept which jobs wait, and how many wants have a key of each hash, so that neither need be
+/// looked for.
 #[derive(Drop)]
 pub struct Shelf {
     present: Vec<Filed>,
     spare: Vec<Filed>,
+    tally: Tally,
     /// The bits of the jobs that wait, where they are known.
     waiters: u32,
     /// Whether they are known: not from a removal until grants are renewed.
@@ -36,6 +41,7 @@ pub struct Shelf {
 impl Model for Shelf {
     ghost use Rattle.std.specs.Prelude.{◌≡◌, ◌≤◌, ◌+◌, List, true, length, vec_capacity};
     ghost use Rattle.word36.specs.declared.sizes.TheConstants.{REQUESTS};
+    ghost use Rattle.lock_table.specs.Counts.{AreTallied};
     ghost use Rattle.lock_table.specs.Filings.{Filing};
     ghost use Rattle.lock_table.specs.Waiters.{waiters_in};
 
@@ -45,7 +51,8 @@ impl Model for Shelf {
 
     ghost invariant = { λ s. (length s.present.items + length s.spare.items ≡ REQUESTS)
         × (REQUESTS ≤ vec_capacity s.present) × (REQUESTS ≤ vec_capacity s.spare)
-        × (s.waiters_known ≡ true → s.waiters ≡ waiters_in s.present.items) };
+        × (s.waiters_known ≡ true → s.waiters ≡ waiters_in s.present.items)
+        × AreTallied s.tally.all.items s.tally.waiting.items s.present.items };
 }
 
 fn spares(alloc: Global) -> Result<Vec<Filed>, AllocError>
@@ -79,6 +86,7 @@ impl Shelf {
         Ok(Shelf {
             present: Vec::with_capacity(alloc, REQUESTS)?,
             spare: spares(alloc)?,
+            tally: Tally::new(alloc)?,
             waiters: 0,
             waiters_known: true,
         })
@@ -101,7 +109,8 @@ impl Shelf {
         ensures range { IsTrue (list_all is_in_range wants.now.items) }
     {
         let mut filed = self.spare.swap_remove(self.spare.len() - 1);
-        filed.write(job, asking, told, wants, granted);
+        let signature = self.tally.add(wants.as_slice(), granted);
+        filed.write(job, asking, told, wants, granted, signature);
         self.waiters |= filed.waiter_bit();
         let _ = self.present.push(filed);
     }
@@ -130,6 +139,7 @@ impl Shelf {
         ensures few { length self.new ≤ REQUESTS }
     {
         let filed = self.present.remove(i);
+        self.tally.remove(filed.wants(), filed.is_granted());
         let _ = self.spare.push(filed);
         self.waiters_known = false;
     }
@@ -139,6 +149,7 @@ impl Shelf {
         ensures { self.new ≡ [] }
     {
         move_all(&mut self.present, &mut self.spare);
+        self.tally.clear();
         self.waiters = 0;
         self.waiters_known = true;
     }
@@ -150,7 +161,7 @@ impl Shelf {
         ensures few { length self.new ≤ REQUESTS }
         ensures woken { woken.new.items ≡ risen bits [] self.old }
     {
-        self.waiters = renew(self.present.as_mut_slice(), bits, woken);
+        self.waiters = renew(self.present.as_mut_slice(), &mut self.tally, bits, woken);
         self.waiters_known = true;
     }
 
@@ -183,7 +194,10 @@ impl Shelf {
             take i self.old ++ fewer named.now (get_or self.old i d) ∷ drop (i + 1) self.old }
     {
         self.waiters_known = false;
-        self.present[i].remove_keys(named);
+        let filed = &mut self.present[i];
+        self.tally.remove(filed.wants(), filed.is_granted());
+        filed.remove_keys(named);
+        let _ = self.tally.add(filed.wants(), filed.is_granted());
     }
 
     /// Makes the job's wants shared or exclusive, each as the change of its key says, if there is one.
@@ -193,5 +207,19 @@ impl Shelf {
         ensures few { length self.new ≤ REQUESTS }
     {
         change_of_job(self.present.as_mut_slice(), job, changes);
+    }
+
+    /// Whether no request has a want whose key has the hash of this one; then none is of this key.
+    pub fn lacks(&self, key: &Key) -> bool
+        ensures { result ≡ (hash_count (hash_of key.now) self.now == 0) }
+    {
+        self.tally.lacks(key)
+    }
+
+    /// The signature of those of some wants for whose hash a request waits.
+    pub fn awaited(&self, wants: &[Want]) -> Signature
+        ensures { result ≡ awaited_bits self.now wants.now }
+    {
+        self.tally.awaited(wants)
     }
 }

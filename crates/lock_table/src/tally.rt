@@ -119,7 +119,6 @@ impl Tally {
     }
 
     /// Whether no want has a key of the hash of this one.
-    #[tactic(auto, using(crate::proofs::TalliedLaws::tallied_none))]
     pub fn lacks(&self, key: &Key) -> bool
         ensures { result ≡ (slice_index self.now.all.items (hash_of key.now) == 0) }
     {

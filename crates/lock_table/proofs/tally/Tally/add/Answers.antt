@@ -21,7 +21,7 @@ count_up-requires-then-not-granted-clause-room c =
     (slice_index c.deref_mut-then-not-granted.result.now h) (slice_index c.args.self.now.waiting.items h)
     (omega (arith, c.loop-i-test.true)) c.loop-i.invariant.there c.hash_of-hash.ensures.value
     (ap (λ xs. slice_index xs h) c.deref_mut-then-not-granted.ensures.value
-        ∙ c.loop-i.invariant.waiting h
-        ∙ ap (λ b. unless_granted b (want_count h (drop c.loop-i.i c.args.wants.now)) + slice_index c.args.self.now.waiting.items h)
-            c.if-not-granted.true)
+    ∙ c.loop-i.invariant.waiting h
+    ∙ ap (λ b. unless_granted b (want_count h (drop c.loop-i.i c.args.wants.now)) + slice_index c.args.self.now.waiting.items h)
+    c.if-not-granted.true)
     (c.requires.waiting_room h)

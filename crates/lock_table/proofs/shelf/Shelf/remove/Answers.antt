@@ -1,0 +1,28 @@
+use Rattle.std.proofs.Common.{rules, arith}
+use Rattle.lock_table.proofs.TalliedLaws.{there_gone, there_gone_waiting, tallied_gone}
+use Rattle.lock_table.proofs.shelf.Shelf.remove.Goals as goal
+
+pub remove-requires-clause-there : goal.remove-requires-clause-there
+remove-requires-clause-there c = λ h.
+    let s = c.self.inside in
+    there_gone s.tally.all.items s.tally.waiting.items s.present.items c.args.i c.remove-filed.result c.wants.result.now h
+    (search rules) c.self.invariant.4 c.remove-filed.ensures.value c.wants.ensures
+
+pub remove-requires-clause-waiting_there : goal.remove-requires-clause-waiting_there
+remove-requires-clause-waiting_there c = λ h.
+    let s = c.self.inside in
+    there_gone_waiting s.tally.all.items s.tally.waiting.items s.present.items c.args.i c.remove-filed.result c.wants.result.now c.is_granted.result h
+    (search rules) c.self.invariant.4 c.remove-filed.ensures.value c.wants.ensures c.is_granted.ensures
+
+pub invariant_of-self : goal.invariant_of-self
+invariant_of-self c =
+    let s = c.self.inside in (
+      grind arith,
+      grind arith,
+      grind arith,
+      search rules,
+      tallied_gone s.tally.all.items s.tally.waiting.items c.remove.new.self.all.items c.remove.new.self.waiting.items
+          s.present.items c.remove-filed.new.self.items c.args.i c.remove-filed.result c.wants.result.now c.is_granted.result
+          (search rules) c.self.invariant.4 c.remove-filed.ensures.value c.wants.ensures c.is_granted.ensures c.remove-filed.ensures.items
+          c.remove.ensures.all c.remove.ensures.waiting,
+    )
