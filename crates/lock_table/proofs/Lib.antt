@@ -12,3 +12,6 @@ pub mod WalkLaws
 pub mod GivingUpLaws
 pub mod TallyLaws
 pub mod TalliedLaws
+pub mod LackLaws
+pub mod AwaitedLaws
+pub mod FrontLaws

@@ -1,6 +1,7 @@
 -- A job's bit tells whether it waits.
-use Rattle.std.proofs.Common.{◌≡◌, ◌∙◌, ap, ℕ, ◌==◌, ◌<◌, ◌%◌, ◌/◌, ◌^◌, Bool, true, false, not, ◌&&◌, ◌||◌, cond, if◌then◌else◌, List, [], ◌∷◌, ◌++◌, refl, arith, max, bit_and, bit_or, nat_le, length}
+use Rattle.std.proofs.Common.{◌≡◌, ◌∙◌, sym, ap, ℕ, zero, suc, ◌==◌, ◌<◌, ◌%◌, ◌/◌, ◌^◌, Bool, true, false, not, ◌&&◌, ◌||◌, cond, if◌then◌else◌, List, [], ◌∷◌, ◌++◌, refl, arith, max, bit_and, bit_or, nat_le, length, get_or, take, drop, remove}
 use Rattle.std.specs.Int.{bit_at}
+use Rattle.std.specs.Int.Bits.{or_zero_r}
 use Rattle.std.specs.List.{list_any}
 use Rattle.std.proofs.lemmas.Bool.{and_parts, eqb-true, eq-eqb, leb-true}
 use Rattle.std.proofs.lemmas.Nat.Bits.{bit_at_or, bit_at-pow_same, bit_at-pow_other, bit_at-zero, shr_and_one}
@@ -87,3 +88,15 @@ waiters_told bits job (f ∷ fs) = go (pends job f) (waiters_told (bit_or bits (
         → with_waiters bits (cond b (with_told f ∷ fs) (f ∷ told_in job fs)) ≡ with_waiters bits (f ∷ fs)
     go true t = refl
     go false t = t
+
+-- a request by which no job waits may be left out
+pub waiters_left : (bits : ℕ) (fs : List Filing) (i : ℕ) (f : Filing) → i < length fs → f ≡ get_or fs i f → waiter_bit f ≡ 0
+    → with_waiters bits (take i fs ++ drop (suc i) fs) ≡ with_waiters bits fs
+waiters_left bits [] i f lt is none = absurd (omega arith)
+waiters_left bits (x ∷ fs) zero f lt is none =
+    ap (λ n. with_waiters n fs) (sym (ap (bit_or bits) (ap waiter_bit (sym is) ∙ none) ∙ or_zero_r bits))
+waiters_left bits (x ∷ fs) (suc i) f lt is none = waiters_left (bit_or bits (waiter_bit x)) fs i f (omega arith) is none
+
+pub waiters_removed : (fs : List Filing) (i : ℕ) (f : Filing) → i < length fs → f ≡ get_or fs i f → waiter_bit f ≡ 0
+    → waiters_in (remove fs i) ≡ waiters_in fs
+waiters_removed fs i f lt is none = waiters_left 0 fs i f lt is none

@@ -3,7 +3,7 @@ ghost use Rattle.std.specs.Prelude.{◌≡◌, ◌≤◌, ◌<◌, ◌+◌, [], 
 ghost use Rattle.std.specs.List.{list_any};
 ghost use Rattle.word36.specs.declared.sizes.TheConstants.{REQUESTS};
 ghost use Rattle.lock_queue.specs.Queue.{names};
-ghost use Rattle.lock_table.specs.Departures.{leaves, stays, signature_where, loses, lost_bits, with_fewer, keeps_wants};
+ghost use Rattle.lock_table.specs.Departures.{leaves, stays, signature_where, Covers, loses, loses_waiting, lost_bits, with_fewer, keeps_wants};
 ghost use Rattle.lock_table.specs.Filings.{Filing, requests_in, AreRight};
 ghost use Rattle.lock_table.specs.Renewals.{raised};
 
@@ -43,16 +43,17 @@ pub fn does_leave(f: &Filed, job: u8, leaving: &Leaving) -> bool
     f.job() == job && is_chosen(f, leaving)
 }
 
-/// Takes out the requests that leave, and answers the groups that they touched.
+/// Takes out the requests that leave, and answers the groups and classes of those of their keys that
+/// are awaited.
 fn remove_leaving(shelf: &mut Shelf, job: u8, leaving: &Leaving) -> Signature
     ensures value { shelf.new ≡ filter (stays job leaving.now) shelf.old }
-    ensures bits { result ≡ signature_where (leaves job leaving.now) shelf.old }
+    ensures bits { Covers result (leaves job leaving.now) shelf.old (filter (stays job leaving.now) shelf.old) }
 {
     let mut bits = Signature::none();
     for i in (0..shelf.as_slice().len()).rev() {
         let f = &shelf.as_slice()[i];
         if does_leave(f, job, leaving) {
-            bits = bits.joined(f.signature());
+            bits = bits.joined(shelf.awaited(f.wants()));
             shelf.remove(i);
         }
     }
@@ -96,7 +97,8 @@ fn remove_bare(shelf: &mut Shelf, i: usize)
 }
 
 /// Takes the named wants out of the request at a place, and the request where none is left; answers
-/// the groups that it touched, where it loses wants. Kept apart, so that the walk itself stays short.
+/// the groups that it touched, where it loses wants and is not granted. Kept apart, so that the walk itself
+/// stays short.
 #[inline(never)]
 fn give_up_of_job_at(shelf: &mut Shelf, i: usize, job: u8, named: &[Want]) -> Signature
     requires { i < length shelf.old }
@@ -109,14 +111,18 @@ fn give_up_of_job_at(shelf: &mut Shelf, i: usize, job: u8, named: &[Want]) -> Si
         remove_bare(shelf, i);
         return Signature::none();
     }
-    let bits = f.signature();
+    let bits = if f.is_granted() {
+        Signature::none()
+    } else {
+        f.signature()
+    };
     shelf.remove_keys_at(i, named);
     remove_bare(shelf, i);
     bits
 }
 
 /// Takes the named wants out of the request at a place, and the request where none is left, and answers
-/// the groups of what lost wants. Most requests are of other jobs and have wants: those stay as they are.
+/// the groups of what lost wants and is not granted. Most requests are of other jobs and have wants: those stay as they are.
 fn give_up_at(shelf: &mut Shelf, i: usize, job: u8, named: &[Want]) -> Signature
     requires { i < length shelf.old }
     ensures value { (d : Filing) → shelf.new ≡
@@ -132,10 +138,10 @@ fn give_up_at(shelf: &mut Shelf, i: usize, job: u8, named: &[Want]) -> Signature
 }
 
 /// Takes the named wants out of the job's requests, and the requests that are left without wants;
-/// answers the groups of all that lost wants.
+/// answers the groups of all that lost wants and are not granted, and so may be granted now.
 fn give_up(shelf: &mut Shelf, job: u8, named: &[Want]) -> Signature
     ensures value { shelf.new ≡ filter keeps_wants (map (with_fewer job named.now) shelf.old) }
-    ensures bits { result ≡ signature_where (loses job named.now) shelf.old }
+    ensures bits { result ≡ signature_where (loses_waiting job named.now) shelf.old }
 {
     let mut bits = Signature::none();
     for i in (0..shelf.as_slice().len()).rev() {
@@ -145,7 +151,8 @@ fn give_up(shelf: &mut Shelf, job: u8, named: &[Want]) -> Signature
 }
 
 /// Takes the named wants out of the job's requests, and the requests that are left without wants, and
-/// fills in the grants that this makes.
+/// fills in the grants that this makes: of requests that wait for one of these keys, and of those that
+/// lost wants.
 pub fn depart_named(shelf: &mut Shelf, job: u8, named: &[Want], woken: &mut Woken)
     requires { AreRight [] shelf.old }
     ensures requests { requests_in shelf.new ≡
@@ -155,6 +162,7 @@ pub fn depart_named(shelf: &mut Shelf, job: u8, named: &[Want], woken: &mut Woke
     ensures woken { woken.new.items ≡
         raised [] (filter keeps_wants (map (with_fewer job named.now) shelf.old)) }
 {
-    let bits = give_up(shelf, job, named);
+    let awaited = shelf.awaited(named);
+    let bits = awaited.joined(give_up(shelf, job, named));
     shelf.renew(bits, woken);
 }

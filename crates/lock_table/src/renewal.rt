@@ -14,6 +14,14 @@ use crate::tally::Tally;
 use lock_queue::Woken;
 use lock_queue::steps::{do_agree, grant_of, is_pooled, is_told_of};
 
+/// Takes all grants out, one by one: mostly there are none or one, and the room for all others need not
+/// be written.
+pub fn forget(woken: &mut Woken)
+    ensures { woken.new.items ≡ [] }
+{
+    while woken.pop().is_some() {}
+}
+
 /// Whether the first want of a request does not fit behind the first of an earlier one.
 fn does_shut(g: &Filed, f: &Filed) -> bool
     ensures { result ≡ shuts g.now.request.wants.items f.now.request.wants.items }
@@ -66,7 +74,7 @@ pub fn renew(filed: &mut [Filed], tally: &mut Tally, bits: Signature, woken: &mu
     ensures waiters { result ≡ waiters_in filed.new }
     ensures tallied { AreTallied tally.new.all.items tally.new.waiting.items filed.new }
 {
-    woken.clear();
+    forget(woken);
     let mut waiters = 0;
     let mut last = 0;
     for i in 0..filed.len() {

@@ -1,5 +1,5 @@
 //! The requests that are present, in order of arrival, and the room for others.
-ghost use Rattle.std.specs.Prelude.{◌≡◌, ◌==◌, ◌+◌, ◌<◌, ◌≤◌, [], ◌∷◌, ◌++◌, length, get_or, map, take, drop, remove, IfOk, IsTrue, vec_capacity};
+ghost use Rattle.std.specs.Prelude.{◌≡◌, true, ◌==◌, ◌+◌, ◌<◌, ◌≤◌, [], ◌∷◌, ◌++◌, length, get_or, map, take, drop, remove, IfOk, IsTrue, vec_capacity};
 ghost use Rattle.std.specs.List.{list_all, list_any};
 ghost use Rattle.word36.specs.declared.sizes.TheConstants.{LOCKS_A_CALL, REQUESTS};
 ghost use Rattle.lock_queue.specs.Enqueues.{request_of};
@@ -16,7 +16,7 @@ ghost use Rattle.lock_table.specs.Waiters.{waiter_bit, waiters_in};
 use crate::changes::change_of_job;
 use crate::filed::Filed;
 use crate::jobs::{does_some_block, tell};
-use crate::renewal::renew;
+use crate::renewal::{forget, renew};
 use crate::signature::Signature;
 use crate::tally::Tally;
 use lock_queue::{Asking, Key, Want, Wants, Woken};
@@ -34,7 +34,7 @@ pub struct Shelf {
     tally: Tally,
     /// The bits of the jobs that wait, where they are known.
     waiters: u32,
-    /// Whether they are known: not from a removal until grants are renewed.
+    /// Whether they are known: not from where one that waits is removed until grants are renewed.
     waiters_known: bool,
 }
 
@@ -76,6 +76,13 @@ fn move_all(from: &mut Vec<Filed>, to: &mut Vec<Filed>)
     while let Some(filed) = from.pop() {
         let _ = to.push(filed);
     }
+}
+
+/// Whether the jobs that wait are known without a request, where they may have been with it.
+fn are_known_without(known: bool, filed: &Filed) -> bool
+    ensures { IsTrue result → (known ≡ true) × (waiter_bit filed.now ≡ 0) }
+{
+    known && filed.waiter_bit() == 0
 }
 
 impl Shelf {
@@ -132,7 +139,8 @@ impl Shelf {
         self.append(job, asking, told, wants, granted);
     }
 
-    /// Takes out the request at a place; those behind it move up.
+    /// Takes out the request at a place; those behind it move up. Where its job does not wait by it, the
+    /// jobs that wait stay known.
     pub fn remove(&mut self, i: usize)
         requires { i < length self.old }
         ensures value { self.new ≡ remove self.old i }
@@ -140,8 +148,8 @@ impl Shelf {
     {
         let filed = self.present.remove(i);
         self.tally.remove(filed.wants(), filed.is_granted());
+        self.waiters_known = are_known_without(self.waiters_known, &filed);
         let _ = self.spare.push(filed);
-        self.waiters_known = false;
     }
 
     /// Takes out all.
@@ -155,12 +163,18 @@ impl Shelf {
     }
 
     /// Grants what is granted now among what was not and meets these bits, and fills in these
-    /// grants, where their jobs are told.
+    /// grants, where their jobs are told. No bits are met by none, so then no request is looked at, but
+    /// to find the jobs that wait.
+    #[tactic(auto, using(crate::proofs::RenewalLaws::renewed_none, crate::proofs::RenewalLaws::risen_none))]
     pub fn renew(&mut self, bits: Signature, woken: &mut Woken)
         ensures value { self.new ≡ renewed bits [] self.old }
         ensures few { length self.new ≤ REQUESTS }
         ensures woken { woken.new.items ≡ risen bits [] self.old }
     {
+        if self.waiters_known && bits.is_none() {
+            forget(woken);
+            return;
+        }
         self.waiters = renew(self.present.as_mut_slice(), &mut self.tally, bits, woken);
         self.waiters_known = true;
     }
@@ -216,7 +230,8 @@ impl Shelf {
         self.tally.lacks(key)
     }
 
-    /// The signature of those of some wants for whose hash a request waits.
+    /// The signature of those of some wants that are awaited: a request that is not granted wants a key
+    /// of the same hash.
     pub fn awaited(&self, wants: &[Want]) -> Signature
         ensures { result ≡ awaited_bits self.now wants.now }
     {

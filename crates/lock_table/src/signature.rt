@@ -1,6 +1,6 @@
 //! The signature of some wants: a bit for each of 64 groups of keys that they touch, and for each of 64
 //! classes, which part keys in another way.
-ghost use Rattle.std.specs.Prelude.{◌≡◌, ◌<◌, ◌^◌, ◌%◌, ◌/◌};
+ghost use Rattle.std.specs.Prelude.{◌≡◌, ◌==◌, ◌<◌, ◌^◌, ◌%◌, ◌/◌};
 ghost use Rattle.lock_table.specs.Signatures.{hash_text, hash_of, bits_of, joined, meets, no_bits, signature, signature_of};
 
 use lock_queue::{Key, Name, Scope, Want};
@@ -23,6 +23,13 @@ impl Signature {
             groups: 0,
             classes: 0,
         }
+    }
+
+    /// Whether it is the one of no keys.
+    pub fn is_none(self) -> bool
+        ensures { result ≡ (self.groups == 0) }
+    {
+        self.groups == 0
     }
 
     /// The bits of both.

@@ -1,4 +1,6 @@
-use Rattle.std.proofs.Common.{rules, arith}
+use Rattle.std.proofs.Common.{◌∙◌, sym, ap, rules, arith}
+use Rattle.lock_table.specs.Waiters.{waiters_in}
+use Rattle.lock_table.proofs.WaiterLaws.{waiters_removed}
 use Rattle.lock_table.proofs.TalliedLaws.{there_gone, there_gone_waiting, tallied_gone}
 use Rattle.lock_table.proofs.shelf.Shelf.remove.Goals as goal
 
@@ -20,7 +22,11 @@ invariant_of-self c =
       grind arith,
       grind arith,
       grind arith,
-      search rules,
+      (λ known.
+          let was = c.are_known_without-self-inside.ensures known in
+          c.self.invariant.3 was.0
+          ∙ sym (waiters_removed s.present.items c.args.i c.remove-filed.result (search rules) c.remove-filed.ensures.value was.1)
+          ∙ ap waiters_in (sym c.remove-filed.ensures.items)),
       tallied_gone s.tally.all.items s.tally.waiting.items c.remove.new.self.all.items c.remove.new.self.waiting.items
           s.present.items c.remove-filed.new.self.items c.args.i c.remove-filed.result c.wants.result.now c.is_granted.result
           (search rules) c.self.invariant.4 c.remove-filed.ensures.value c.wants.ensures c.is_granted.ensures c.remove-filed.ensures.items
