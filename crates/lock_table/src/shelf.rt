@@ -207,7 +207,6 @@ impl Shelf {
         ensures { (d : Filing) → self.new ≡
             take i self.old ++ fewer named.now (get_or self.old i d) ∷ drop (i + 1) self.old }
     {
-        self.waiters_known = false;
         let filed = &mut self.present[i];
         self.tally.remove(filed.wants(), filed.is_granted());
         filed.remove_keys(named);

@@ -1,4 +1,5 @@
-use Rattle.std.proofs.Common.{rules, refl, arith}
+use Rattle.std.proofs.Common.{◌∙◌, sym, arith, rules}
+use Rattle.lock_table.proofs.WaiterLaws.{waiters_fewer}
 use Rattle.lock_table.proofs.TalliedLaws.{there_gone, there_gone_waiting, short_left, room_left_all, room_left_waiting, tallied_fewer}
 use Rattle.lock_table.specs.Counts.{unless_granted}
 use Rattle.lock_table.specs.Tallies.{want_count}
@@ -41,7 +42,9 @@ invariant_of-self c =
       search rules,
       search rules,
       search rules,
-      search rules,
+      (λ known. c.self.invariant.3 known
+          ∙ sym (waiters_fewer s.present.items c.args.i c.remove_keys.new.self c.index_mut-filed.result.now c.args.named.now
+          c.remove_keys.ensures (search rules) c.index_mut-filed.ensures.value)),
       tallied_fewer s.tally.all.items s.tally.waiting.items c.remove.new.self.all.items c.remove.new.self.waiting.items
           c.add.new.self.all.items c.add.new.self.waiting.items s.present.items c.args.i c.index_mut-filed.result.now c.remove_keys.new.self
           c.wants.result.now c.wants-2.result.now c.is_granted.result c.is_granted-2.result
