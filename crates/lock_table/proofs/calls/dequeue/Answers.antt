@@ -33,7 +33,7 @@ returns-then-not-does_some_leave-clause-woken c =
     let none : list_any (leaves c.args.job (leaving_of c.args.id)) fs ≡ false =
     sym (c.does_some_leave.ensures ∙ ap (list_any (leaves c.args.job c.leaving_of-leaving.result)) c.as_slice.ensures.value
     ∙ ap (λ l. list_any (leaves c.args.job l) fs) c.leaving_of-leaving.ensures) ∙ off in
-    c.clear.ensures
+    c.forget.ensures
     ∙ sym (ap (λ (o : Outcome). unless_refused_grants o.reply (woken (left_of c.args.job (call_of c.args.id)) (requests_in fs))) (dequeue-none fs c.args.job c.args.id none))
 
 pub returns-clause-requests : goal.returns-clause-requests
