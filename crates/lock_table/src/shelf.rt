@@ -9,7 +9,6 @@ ghost use Rattle.lock_table.specs.Departures.{fewer, with_change};
 ghost use Rattle.lock_table.specs.Filings.{Filing, filing, requests_in, AreRight};
 ghost use Rattle.lock_table.specs.Findings.{blocks, told_in};
 ghost use Rattle.lock_table.specs.Renewals.{renewed, risen};
-ghost use Rattle.lock_table.specs.Signatures.{hash_of};
 ghost use Rattle.lock_table.specs.Tallies.{hash_count, awaited_bits};
 ghost use Rattle.lock_table.specs.Waiters.{waiter_bit, waiters_in};
 
@@ -19,7 +18,7 @@ use crate::jobs::{does_some_block, tell};
 use crate::renewal::{forget, renew};
 use crate::signature::Signature;
 use crate::tally::Tally;
-use lock_queue::{Asking, Key, Want, Wants, Woken};
+use lock_queue::{Asking, Want, Wants, Woken};
 use std::alloc::{AllocError, Global};
 use std::marker::Model;
 use word36::{JOBS, REQUESTS};
@@ -222,11 +221,12 @@ impl Shelf {
         change_of_job(self.present.as_mut_slice(), job, changes);
     }
 
-    /// Whether no request has a want whose key has the hash of this one; then none is of this key.
-    pub fn lacks(&self, key: &Key) -> bool
-        ensures { result ≡ (hash_count (hash_of key.now) self.now == 0) }
+    /// Whether no request has a want whose key has this hash.
+    pub fn lacks(&self, hash: u64) -> bool
+        requires { hash < 4096 }
+        ensures { result ≡ (hash_count hash self.now == 0) }
     {
-        self.tally.lacks(key)
+        self.tally.lacks(hash)
     }
 
     /// The signature of those of some wants that are awaited: a request that is not granted wants a key

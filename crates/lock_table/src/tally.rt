@@ -1,11 +1,11 @@
 //! How many wants of the present requests, and of those that wait, have a key of each hash.
 ghost use Rattle.std.specs.Prelude.{◌≡◌, ℕ, ◌+◌, ◌<◌, ◌≤◌, ◌==◌, if◌then◌else◌, length, slice_index, IfOk};
 ghost use Rattle.lock_table.specs.Counts.{unless_granted, counted_bits};
-ghost use Rattle.lock_table.specs.Signatures.{hash_of, signature_of};
+ghost use Rattle.lock_table.specs.Signatures.{signature_of};
 ghost use Rattle.lock_table.specs.Tallies.{want_count};
 
 use crate::signature::{Signature, bits_at, hash_of};
-use lock_queue::{Key, Want};
+use lock_queue::Want;
 use std::alloc::{AllocError, Global};
 
 /// How many hashes there are.
@@ -118,11 +118,12 @@ impl Tally {
         }
     }
 
-    /// Whether no want has a key of the hash of this one.
-    pub fn lacks(&self, key: &Key) -> bool
-        ensures { result ≡ (slice_index self.now.all.items (hash_of key.now) == 0) }
+    /// Whether no want has a key of this hash.
+    pub fn lacks(&self, hash: u64) -> bool
+        requires { hash < 4096 }
+        ensures { result ≡ (slice_index self.now.all.items hash == 0) }
     {
-        self.all[hash_of(key) as usize] == 0
+        self.all[hash as usize] == 0
     }
 
     /// The signature of those of some wants whose key has the hash of a want that waits.
