@@ -53,8 +53,7 @@ fn remove_leaving(shelf: &mut Shelf, job: u8, leaving: &Leaving) -> Signature
     for i in (0..shelf.as_slice().len()).rev() {
         let f = &shelf.as_slice()[i];
         if does_leave(f, job, leaving) {
-            bits = bits.joined(shelf.awaited(f.wants()));
-            shelf.remove(i);
+            bits = bits.joined(shelf.remove(i));
         }
     }
     bits
@@ -92,7 +91,7 @@ fn remove_bare(shelf: &mut Shelf, i: usize)
         take i shelf.old ++ filter keeps_wants (get_or shelf.old i d ∷ []) ++ drop (i + 1) shelf.old }
 {
     if shelf.as_slice()[i].is_bare() {
-        shelf.remove(i);
+        let _ = shelf.remove(i);
     }
 }
 

@@ -139,16 +139,19 @@ impl Shelf {
     }
 
     /// Takes out the request at a place; those behind it move up. Where its job does not wait by it, the
-    /// jobs that wait stay known.
-    pub fn remove(&mut self, i: usize)
+    /// jobs that wait stay known. Answers the signature of those of its wants that were awaited.
+    pub fn remove(&mut self, i: usize) -> Signature
         requires { i < length self.old }
         ensures value { self.new ≡ remove self.old i }
         ensures few { length self.new ≤ REQUESTS }
+        ensures bits { (d : Filing) → result ≡
+            awaited_bits self.old (get_or self.old i d).request.wants.items }
     {
         let filed = self.present.remove(i);
-        self.tally.remove(filed.wants(), filed.is_granted());
+        let bits = self.tally.remove(filed.wants(), filed.is_granted());
         self.waiters_known = are_known_without(self.waiters_known, &filed);
         let _ = self.spare.push(filed);
+        bits
     }
 
     /// Takes out all.
@@ -207,7 +210,7 @@ impl Shelf {
             take i self.old ++ fewer named.now (get_or self.old i d) ∷ drop (i + 1) self.old }
     {
         let filed = &mut self.present[i];
-        self.tally.remove(filed.wants(), filed.is_granted());
+        let _ = self.tally.remove(filed.wants(), filed.is_granted());
         filed.remove_keys(named);
         let _ = self.tally.add(filed.wants(), filed.is_granted());
     }

@@ -1,7 +1,7 @@
 //! How many wants of the present requests, and of those that wait, have a key of each hash.
-ghost use Rattle.std.specs.Prelude.{◌≡◌, ℕ, ◌+◌, ◌<◌, ◌≤◌, ◌==◌, if◌then◌else◌, length, slice_index, IfOk};
+ghost use Rattle.std.specs.Prelude.{◌≡◌, ℕ, ◌+◌, ◌<◌, ◌≤◌, ◌==◌, ◌^◌, ◌%◌, ◌/◌, if◌then◌else◌, length, slice_index, IfOk};
 ghost use Rattle.lock_table.specs.Counts.{unless_granted, counted_bits};
-ghost use Rattle.lock_table.specs.Signatures.{signature_of};
+ghost use Rattle.lock_table.specs.Signatures.{no_bits, signature, signature_of};
 ghost use Rattle.lock_table.specs.Tallies.{want_count};
 
 use crate::signature::{Signature, bits_at, hash_of};
@@ -75,8 +75,22 @@ impl Tally {
         signature
     }
 
-    /// Takes the wants of a request that leaves out of the counts.
-    pub fn remove(&mut self, wants: &[Want], granted: bool)
+    /// The bits of a hash, where a want that waits has it.
+    fn bits_awaited(&self, hash: u64) -> Signature
+        requires { hash < 4096 }
+        ensures { result ≡ (if slice_index self.now.waiting.items hash == 0 then no_bits
+            else signature (2 ^ (hash % 64)) (2 ^ (hash / 64))) }
+    {
+        if self.waiting[hash as usize] == 0 {
+            Signature::none()
+        } else {
+            bits_at(hash)
+        }
+    }
+
+    /// Takes the wants of a request that leaves out of the counts, and answers the signature of those
+    /// of them whose key had the hash of a want that waits, be it of the same request.
+    pub fn remove(&mut self, wants: &[Want], granted: bool) -> Signature
         requires there { (h : ℕ) → want_count h wants.now ≤ slice_index self.old.all.items h }
         requires waiting_there { (h : ℕ) →
             unless_granted granted (want_count h wants.now) ≤ slice_index self.old.waiting.items h }
@@ -85,14 +99,18 @@ impl Tally {
         ensures waiting { (h : ℕ) →
             unless_granted granted (want_count h wants.now) + slice_index self.new.waiting.items h ≡
             slice_index self.old.waiting.items h }
+        ensures bits { result ≡ counted_bits self.old.waiting.items wants.now }
     {
-        for w in wants {
-            let hash = hash_of(&w.key);
+        let mut bits = Signature::none();
+        for i in (0..wants.len()).rev() {
+            let hash = hash_of(&wants[i].key);
+            bits = bits.joined(self.bits_awaited(hash));
             count_down(&mut self.all, hash);
             if !granted {
                 count_down(&mut self.waiting, hash);
             }
         }
+        bits
     }
 
     /// Counts the wants of a request that is granted no more among those that wait.
