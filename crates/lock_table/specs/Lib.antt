@@ -9,3 +9,4 @@ pub mod Changing
 pub mod Levels
 pub mod Arrivals
 pub mod Tallies
+pub mod Counts

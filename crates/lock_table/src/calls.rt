@@ -16,6 +16,7 @@ use crate::changes::{is_some_lost, refusal_of_modify};
 use crate::departures::{Leaving, depart, depart_named};
 use crate::dequeues::refusal_of_dequeue;
 use crate::enqueues::judge_enqueue;
+use crate::renewal::forget;
 use crate::shelf::Shelf;
 use crate::signature::signature_of;
 use lock_queue::{Asking, EnqueueKind, LockCall, LockReply, Refusal, RequestId, Wants, Woken};
@@ -89,7 +90,7 @@ fn modify(shelf: &mut Shelf, job: u8, changes: &Wants, woken: &mut Woken) -> Loc
     ensures few { length (requests_in shelf.old) ≤ REQUESTS → length (requests_in shelf.new) ≤ REQUESTS }
     ensures woken { woken.new.items ≡ woken_by (requests_in shelf.old) job (Modify changes.now) }
 {
-    woken.clear();
+    forget(woken);
     let wanted = changes.as_slice();
     if let Some(refusal) = refusal_of_modify(shelf.as_slice(), job, wanted) {
         return LockReply::Refused(refusal);
@@ -112,7 +113,7 @@ fn dequeue_named(shelf: &mut Shelf, job: u8, named: &Wants, woken: &mut Woken) -
     ensures woken { woken.new.items ≡ woken_by (requests_in shelf.old) job (DequeueNamed named.now) }
 {
     if let Some(refusal) = refusal_of_dequeue(shelf.as_slice(), job, named.as_slice()) {
-        woken.clear();
+        forget(woken);
         return LockReply::Refused(refusal);
     }
     depart_named(shelf, job, named.as_slice(), woken);
@@ -162,7 +163,7 @@ pub fn make_call(shelf: &mut Shelf, job: u8, call: &LockCall, woken: &mut Woken)
 {
     match call {
         LockCall::Enqueue { asking, wants } => {
-            woken.clear();
+            forget(woken);
             enqueue(shelf, job, asking, wants)
         }
         LockCall::Modify(changes) => modify(shelf, job, changes, woken),

@@ -8,6 +8,7 @@ ghost use Rattle.lock_table.specs.Filings.{Filing, requests_in, AreRight};
 ghost use Rattle.lock_table.specs.Renewals.{raised};
 
 use crate::filed::Filed;
+use crate::renewal::forget;
 use crate::shelf::Shelf;
 use crate::signature::Signature;
 use crate::walks::from_own;
@@ -72,8 +73,7 @@ fn remove_leaving(shelf: &mut Shelf, first: usize, job: u8, leaving: &Leaving) -
     for i in (first..shelf.as_slice().len()).rev() {
         let f = &shelf.as_slice()[i];
         if does_leave(f, job, leaving) {
-            bits = bits.joined(shelf.awaited(f.wants()));
-            shelf.remove(i);
+            bits = bits.joined(shelf.remove(i));
         }
     }
     bits
@@ -91,7 +91,7 @@ pub fn depart(shelf: &mut Shelf, job: u8, leaving: &Leaving, woken: &mut Woken) 
 {
     match first_leaving(shelf.as_slice(), job, leaving) {
         None => {
-            woken.clear();
+            forget(woken);
             false
         }
         Some(first) => {
@@ -122,7 +122,7 @@ fn remove_bare(shelf: &mut Shelf, i: usize)
         take i shelf.old ++ filter keeps_wants (get_or shelf.old i d ∷ []) ++ drop (i + 1) shelf.old }
 {
     if shelf.as_slice()[i].is_bare() {
-        shelf.remove(i);
+        let _ = shelf.remove(i);
     }
 }
 

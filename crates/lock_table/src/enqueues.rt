@@ -10,11 +10,12 @@ ghost use Rattle.lock_queue.specs.Queue.{names, wants_at, wants_of, agree, fits}
 ghost use Rattle.lock_table.specs.Arrivals.{judged};
 ghost use Rattle.lock_table.specs.Filings.{requests_in};
 ghost use Rattle.lock_table.specs.Levels.{above_all, some_below};
+ghost use Rattle.lock_table.specs.Signatures.{bits_of};
 
 use crate::filed::Filed;
 use crate::fits::{all_agree_in, is_fitting_where, job_names};
 use crate::shelf::Shelf;
-use crate::signature::bits_of;
+use crate::signature::{Signature, bits_at, hash_of};
 use crate::walks::{from_met, from_own, next_met};
 use lock_queue::steps::{are_alike_in, names_key};
 use lock_queue::{Asking, EnqueueKind, Key, Level, Refusal, Want};
@@ -38,11 +39,11 @@ fn do_agree_so_far(before: bool, f: &Filed, w: &Want) -> bool
 
 /// Why a want is refused beside the present ones: one of its key differs from it, or is the job's; else
 /// whether all of its key agree with it.
-fn judge_beside(filed: &[Filed], job: u8, w: &Want) -> Result<bool, Refusal>
+fn judge_beside(filed: &[Filed], job: u8, w: &Want, bits: Signature) -> Result<bool, Refusal>
+    requires { bits ≡ bits_of w.now.key }
     ensures { result ≡ judged (enqueue_fault (requests_in filed.now) job [] w.now)
         (list_all (λ v. agree v w.now) (wants_at (requests_in filed.now) w.now.key)) }
 {
-    let bits = bits_of(&w.key);
     let mut is_named = false;
     let mut do_agree = true;
     let mut rest = from_met(filed, bits);
@@ -63,11 +64,18 @@ fn judge_beside(filed: &[Filed], job: u8, w: &Want) -> Result<bool, Refusal>
 
 /// Why a want is refused that comes after the call's earlier ones; else whether it fits behind the
 /// present requests.
-fn judge_want(filed: &[Filed], job: u8, earlier: &[Want], w: &Want) -> Result<bool, Refusal>
+fn judge_want(
+    filed: &[Filed],
+    job: u8,
+    earlier: &[Want],
+    w: &Want,
+    bits: Signature,
+) -> Result<bool, Refusal>
+    requires { bits ≡ bits_of w.now.key }
     ensures { result ≡ judged (enqueue_fault (requests_in filed.now) job earlier.now w.now)
         (fits (requests_in filed.now) w.now) }
 {
-    match judge_beside(filed, job, w) {
+    match judge_beside(filed, job, w, bits) {
         Err(refusal) => Err(refusal),
         Ok(do_agree) => if names_key(earlier, &w.key) {
             Err(Refusal::NamedAlready)
@@ -105,10 +113,11 @@ fn judge_where_wanted(shelf: &Shelf, job: u8, earlier: &[Want], w: &Want) -> Res
     ensures { result ≡ judged (enqueue_fault (requests_in shelf.now) job earlier.now w.now)
         (fits (requests_in shelf.now) w.now) }
 {
-    if shelf.lacks(&w.key) {
+    let hash = hash_of(&w.key);
+    if shelf.lacks(hash) {
         judge_alone(earlier, w)
     } else {
-        judge_want(shelf.as_slice(), job, earlier, w)
+        judge_want(shelf.as_slice(), job, earlier, w, bits_at(hash))
     }
 }
 

@@ -1,7 +1,6 @@
 //! A lock table for many requests: each request has a signature of its keys and its grant beside it.
 #![tactic(auto)]
 
-mod awaiting;
 mod calls;
 mod changes;
 mod departures;
@@ -16,6 +15,7 @@ mod sharing;
 mod shelf;
 mod signature;
 mod standing;
+mod tally;
 mod waiters;
 mod walks;
 

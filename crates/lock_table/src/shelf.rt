@@ -9,27 +9,28 @@ ghost use Rattle.lock_table.specs.Departures.{fewer, with_change};
 ghost use Rattle.lock_table.specs.Filings.{Filing, filing, requests_in, AreRight};
 ghost use Rattle.lock_table.specs.Findings.{blocks, told_in};
 ghost use Rattle.lock_table.specs.Renewals.{renewed, risen};
-ghost use Rattle.lock_table.specs.Signatures.{hash_of};
 ghost use Rattle.lock_table.specs.Tallies.{hash_count, awaited_bits};
 ghost use Rattle.lock_table.specs.Waiters.{waiter_bit, waiters_in};
 
-use crate::awaiting::{awaited_in, is_lacking};
 use crate::changes::change_of_job;
 use crate::filed::Filed;
 use crate::jobs::{does_some_block, tell};
-use crate::renewal::renew;
+use crate::renewal::{forget, renew};
 use crate::signature::Signature;
-use lock_queue::{Asking, Key, Want, Wants, Woken};
+use crate::tally::Tally;
+use lock_queue::{Asking, Want, Wants, Woken};
 use std::alloc::{AllocError, Global};
 use std::marker::Model;
 use word36::{JOBS, REQUESTS};
 
 /// Requests in order of arrival, and the unused ones; there are 256 in all, made at the start. Beside
-/// them is kept which jobs wait, so that it need not be looked for.
+/// them is kept which jobs wait, and how many wants have a key of each hash, so that neither need be
+/// looked for.
 #[derive(Drop)]
 pub struct Shelf {
     present: Vec<Filed>,
     spare: Vec<Filed>,
+    tally: Tally,
     /// The bits of the jobs that wait, where they are known.
     waiters: u32,
     /// Whether they are known: not from where one that waits is removed until grants are renewed.
@@ -39,6 +40,7 @@ pub struct Shelf {
 impl Model for Shelf {
     ghost use Rattle.std.specs.Prelude.{◌≡◌, ◌≤◌, ◌+◌, List, true, length, vec_capacity};
     ghost use Rattle.word36.specs.declared.sizes.TheConstants.{REQUESTS};
+    ghost use Rattle.lock_table.specs.Counts.{AreTallied};
     ghost use Rattle.lock_table.specs.Filings.{Filing};
     ghost use Rattle.lock_table.specs.Waiters.{waiters_in};
 
@@ -48,7 +50,8 @@ impl Model for Shelf {
 
     ghost invariant = { λ s. (length s.present.items + length s.spare.items ≡ REQUESTS)
         × (REQUESTS ≤ vec_capacity s.present) × (REQUESTS ≤ vec_capacity s.spare)
-        × (s.waiters_known ≡ true → s.waiters ≡ waiters_in s.present.items) };
+        × (s.waiters_known ≡ true → s.waiters ≡ waiters_in s.present.items)
+        × AreTallied s.tally.all.items s.tally.waiting.items s.present.items };
 }
 
 fn spares(alloc: Global) -> Result<Vec<Filed>, AllocError>
@@ -89,6 +92,7 @@ impl Shelf {
         Ok(Shelf {
             present: Vec::with_capacity(alloc, REQUESTS)?,
             spare: spares(alloc)?,
+            tally: Tally::new(alloc)?,
             waiters: 0,
             waiters_known: true,
         })
@@ -111,7 +115,8 @@ impl Shelf {
         ensures range { IsTrue (list_all is_in_range wants.now.items) }
     {
         let mut filed = self.spare.swap_remove(self.spare.len() - 1);
-        filed.write(job, asking, told, wants, granted);
+        let signature = self.tally.add(wants.as_slice(), granted);
+        filed.write(job, asking, told, wants, granted, signature);
         self.waiters |= filed.waiter_bit();
         let _ = self.present.push(filed);
     }
@@ -134,16 +139,19 @@ impl Shelf {
     }
 
     /// Takes out the request at a place; those behind it move up. Where its job does not wait by it, the
-    /// jobs that wait stay known.
-    #[tactic(auto, using(crate::proofs::WaiterLaws::waiters_removed))]
-    pub fn remove(&mut self, i: usize)
+    /// jobs that wait stay known. Answers the signature of those of its wants that were awaited.
+    pub fn remove(&mut self, i: usize) -> Signature
         requires { i < length self.old }
         ensures value { self.new ≡ remove self.old i }
         ensures few { length self.new ≤ REQUESTS }
+        ensures bits { (d : Filing) → result ≡
+            awaited_bits self.old (get_or self.old i d).request.wants.items }
     {
         let filed = self.present.remove(i);
+        let bits = self.tally.remove(filed.wants(), filed.is_granted());
         self.waiters_known = are_known_without(self.waiters_known, &filed);
         let _ = self.spare.push(filed);
+        bits
     }
 
     /// Takes out all.
@@ -151,6 +159,7 @@ impl Shelf {
         ensures { self.new ≡ [] }
     {
         move_all(&mut self.present, &mut self.spare);
+        self.tally.clear();
         self.waiters = 0;
         self.waiters_known = true;
     }
@@ -165,10 +174,10 @@ impl Shelf {
         ensures woken { woken.new.items ≡ risen bits [] self.old }
     {
         if self.waiters_known && bits.is_none() {
-            woken.clear();
+            forget(woken);
             return;
         }
-        self.waiters = renew(self.present.as_mut_slice(), bits, woken);
+        self.waiters = renew(self.present.as_mut_slice(), &mut self.tally, bits, woken);
         self.waiters_known = true;
     }
 
@@ -194,13 +203,16 @@ impl Shelf {
     }
 
     /// Takes the wants of the named keys out of the request at a place.
-    #[tactic(auto, using(lock_queue::proofs::ListSteps::set_split, crate::proofs::WaiterLaws::waiters_fewer))]
+    #[tactic(auto, using(lock_queue::proofs::ListSteps::set_split))]
     pub fn remove_keys_at(&mut self, i: usize, named: &[Want])
         requires { i < length self.old }
         ensures { (d : Filing) → self.new ≡
             take i self.old ++ fewer named.now (get_or self.old i d) ∷ drop (i + 1) self.old }
     {
-        self.present[i].remove_keys(named);
+        let filed = &mut self.present[i];
+        let _ = self.tally.remove(filed.wants(), filed.is_granted());
+        filed.remove_keys(named);
+        let _ = self.tally.add(filed.wants(), filed.is_granted());
     }
 
     /// Makes the job's wants shared or exclusive, each as the change of its key says, if there is one.
@@ -212,18 +224,19 @@ impl Shelf {
         change_of_job(self.present.as_mut_slice(), job, changes);
     }
 
-    /// Whether no request has a want whose key has the hash of this one.
-    pub fn lacks(&self, key: &Key) -> bool
-        ensures { result ≡ (hash_count (hash_of key.now) self.now == 0) }
+    /// Whether no request has a want whose key has this hash.
+    pub fn lacks(&self, hash: u64) -> bool
+        requires { hash < 4096 }
+        ensures { result ≡ (hash_count hash self.now == 0) }
     {
-        is_lacking(self.as_slice(), key)
+        self.tally.lacks(hash)
     }
 
-    /// The signature of those of some wants that are awaited: whose key has the hash of one that a
-    /// request wants that is not granted.
+    /// The signature of those of some wants that are awaited: a request that is not granted wants a key
+    /// of the same hash.
     pub fn awaited(&self, wants: &[Want]) -> Signature
         ensures { result ≡ awaited_bits self.now wants.now }
     {
-        awaited_in(self.as_slice(), wants)
+        self.tally.awaited(wants)
     }
 }

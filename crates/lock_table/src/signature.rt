@@ -1,7 +1,7 @@
 //! The signature of some wants: a bit for each of 64 groups of keys that they touch, and for each of 64
 //! classes, which part keys in another way.
-ghost use Rattle.std.specs.Prelude.{◌≡◌, ◌==◌, ◌<◌};
-ghost use Rattle.lock_table.specs.Signatures.{hash_text, hash_of, bits_of, joined, meets, no_bits, signature_of};
+ghost use Rattle.std.specs.Prelude.{◌≡◌, ◌==◌, ◌<◌, ◌^◌, ◌%◌, ◌/◌};
+ghost use Rattle.lock_table.specs.Signatures.{hash_text, hash_of, bits_of, joined, meets, no_bits, signature, signature_of};
 
 use lock_queue::{Key, Name, Scope, Want};
 
@@ -77,15 +77,22 @@ pub fn hash_of(key: &Key) -> u64
     }
 }
 
-/// The bits of a key's group and class.
-pub fn bits_of(key: &Key) -> Signature
-    ensures { result ≡ bits_of key.now }
+/// The bits of the group and the class of keys of a hash.
+pub fn bits_at(hash: u64) -> Signature
+    requires { hash < 4096 }
+    ensures { result ≡ signature (2 ^ (hash % 64)) (2 ^ (hash / 64)) }
 {
-    let hash = hash_of(key);
     Signature {
         groups: 1 << (hash % 64),
         classes: 1 << (hash / 64),
     }
+}
+
+/// The bits of a key's group and class.
+pub fn bits_of(key: &Key) -> Signature
+    ensures { result ≡ bits_of key.now }
+{
+    bits_at(hash_of(key))
 }
 
 /// The bits of all keys of some wants.

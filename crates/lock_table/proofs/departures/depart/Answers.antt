@@ -29,7 +29,7 @@ returns-in-None-clause-woken c =
     let test = leaves c.args.job c.args.leaving.now in
     let none : list_any test c.args.shelf.now ≡ false =
     ap (list_any test) (sym c.as_slice.ensures.value) ∙ sym c.first_leaving.ensures.found ∙ ap is_some c.in-None.is in
-    c.clear.ensures ∙ sym (ap (raised []) (all-stay test c.args.shelf.now none) ∙ none-raised [] c.args.shelf.now c.requires)
+    c.forget.ensures ∙ sym (ap (raised []) (all-stay test c.args.shelf.now none) ∙ none-raised [] c.args.shelf.now c.requires)
 
 pub returns-in-Some-clause-requests : goal.returns-in-Some-clause-requests
 returns-in-Some-clause-requests c =

@@ -1,6 +1,7 @@
-use Rattle.std.proofs.Common.{◌≡◌, ◌∙◌, ◌-◌, ◌++◌, ap, subst, get_or, length, filter, take, drop, rules, arith}
+use Rattle.std.proofs.Common.{◌≡◌, ◌∙◌, ◌-◌, ◌++◌, sym, ap, subst, get_or, filter, take, drop, rules, arith}
 use Rattle.std.proofs.lemmas.Grind.{common_steps}
 use Rattle.lock_table.specs.Departures.{leaves, stays, Covers}
+use Rattle.lock_table.specs.Filings.{Filing}
 use Rattle.lock_table.specs.Signatures.{joined}
 use Rattle.lock_table.specs.Tallies.{awaited_bits}
 use Rattle.lock_table.proofs.AwaitedLaws.{covers-from}
@@ -16,7 +17,8 @@ loop-i-preserved-then-does_leave c =
           c.joined-bits.result (omega (arith, c.loop-i.invariant.there)) (omega arith) c.loop-i.invariant.items
           (c.index-as_slice-i.is ∙ ap (λ l. get_or l i f) c.as_slice.ensures.value)
           c.loop-i.invariant.bits
-          (c.joined-bits.ensures ∙ ap (joined c.loop-i.bits) (c.awaited.ensures ∙ ap (awaited_bits c.loop-i.shelf) c.wants.ensures));
+          (c.joined-bits.ensures ∙ ap (joined c.loop-i.bits) (c.remove.ensures.bits f ∙ ap (λ (g : Filing). awaited_bits c.loop-i.shelf g.request.wants.items)
+          (sym (c.index-as_slice-i.is ∙ ap (λ l. get_or l i f) c.as_slice.ensures.value))));
       from = omega (arith);
       there = search rules;
       front = grind (arith, common_steps);
