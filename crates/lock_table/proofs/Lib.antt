@@ -15,3 +15,4 @@ pub mod TalliedLaws
 pub mod LackLaws
 pub mod AwaitedLaws
 pub mod FrontLaws
+pub mod LeavingLaws

@@ -14,7 +14,7 @@ ghost use Rattle.lock_table.specs.Departures.{call_of, leaving_of};
 
 use crate::changes::{is_some_lost, refusal_of_modify};
 use crate::departures::{Leaving, depart, depart_named};
-use crate::dequeues::{does_some_leave, refusal_of_dequeue};
+use crate::dequeues::refusal_of_dequeue;
 use crate::enqueues::judge_enqueue;
 use crate::renewal::forget;
 use crate::shelf::Shelf;
@@ -140,12 +140,11 @@ fn dequeue(shelf: &mut Shelf, job: u8, id: Option<RequestId>, woken: &mut Woken)
     ensures woken { woken.new.items ≡ woken_by (requests_in shelf.old) job (call_of id) }
 {
     let leaving = leaving_of(id);
-    if !does_some_leave(shelf.as_slice(), job, &leaving) {
-        forget(woken);
-        return LockReply::Refused(Refusal::NotPresent);
+    if depart(shelf, job, &leaving, woken) {
+        LockReply::Done
+    } else {
+        LockReply::Refused(Refusal::NotPresent)
     }
-    depart(shelf, job, &leaving, woken);
-    LockReply::Done
 }
 
 /// Makes a job's call, and fills in the grants that it makes.

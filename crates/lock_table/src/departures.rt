@@ -1,5 +1,5 @@
 //! Requests that leave, or lose wants.
-ghost use Rattle.std.specs.Prelude.{◌≡◌, ◌≤◌, ◌<◌, ◌+◌, [], ◌∷◌, ◌++◌, map, filter, length, get_or, take, drop};
+ghost use Rattle.std.specs.Prelude.{ℕ, ◌≡◌, ◌≤◌, ◌<◌, ◌+◌, [], ◌∷◌, ◌++◌, map, filter, length, get_or, take, drop, false, Some, is_some};
 ghost use Rattle.std.specs.List.{list_any};
 ghost use Rattle.word36.specs.declared.sizes.TheConstants.{REQUESTS};
 ghost use Rattle.lock_queue.specs.Queue.{names};
@@ -8,8 +8,10 @@ ghost use Rattle.lock_table.specs.Filings.{Filing, requests_in, AreRight};
 ghost use Rattle.lock_table.specs.Renewals.{raised};
 
 use crate::filed::Filed;
+use crate::renewal::forget;
 use crate::shelf::Shelf;
 use crate::signature::Signature;
+use crate::walks::from_own;
 use lock_queue::steps::names_key;
 use lock_queue::{EnqueueKind, RequestId, Want, Woken};
 
@@ -37,20 +39,38 @@ fn is_chosen(f: &Filed, leaving: &Leaving) -> bool
 }
 
 /// Whether a request leaves.
-pub fn does_leave(f: &Filed, job: u8, leaving: &Leaving) -> bool
+fn does_leave(f: &Filed, job: u8, leaving: &Leaving) -> bool
     ensures { result ≡ leaves job leaving.now f.now }
 {
     f.job() == job && is_chosen(f, leaving)
 }
 
-/// Takes out the requests that leave, and answers the groups and classes of those of their keys that
-/// are awaited.
-fn remove_leaving(shelf: &mut Shelf, job: u8, leaving: &Leaving) -> Signature
+/// The place of the first request that leaves.
+fn first_leaving(filed: &[Filed], job: u8, leaving: &Leaving) -> Option<usize>
+    ensures found { is_some result ≡ list_any (leaves job leaving.now) filed.now }
+    ensures place { (i : ℕ) → result ≡ Some i → (i ≤ length filed.now)
+        × (list_any (leaves job leaving.now) (take i filed.now) ≡ false) }
+{
+    let mut rest = from_own(filed, job);
+    while let [f, later @ ..] = rest {
+        if does_leave(f, job, leaving) {
+            return Some(filed.len() - rest.len());
+        }
+        rest = from_own(later, job);
+    }
+    None
+}
+
+/// Takes out the requests that leave, of which none stands before a place, and answers the groups and
+/// classes of those of their keys that are awaited.
+fn remove_leaving(shelf: &mut Shelf, first: usize, job: u8, leaving: &Leaving) -> Signature
+    requires place { first ≤ length shelf.old }
+    requires none { list_any (leaves job leaving.now) (take first shelf.old) ≡ false }
     ensures value { shelf.new ≡ filter (stays job leaving.now) shelf.old }
     ensures bits { Covers result (leaves job leaving.now) shelf.old (filter (stays job leaving.now) shelf.old) }
 {
     let mut bits = Signature::none();
-    for i in (0..shelf.as_slice().len()).rev() {
+    for i in (first..shelf.as_slice().len()).rev() {
         let f = &shelf.as_slice()[i];
         if does_leave(f, job, leaving) {
             bits = bits.joined(shelf.remove(i));
@@ -59,16 +79,27 @@ fn remove_leaving(shelf: &mut Shelf, job: u8, leaving: &Leaving) -> Signature
     bits
 }
 
-/// Takes out the requests that leave, and fills in the grants that this makes.
-pub fn depart(shelf: &mut Shelf, job: u8, leaving: &Leaving, woken: &mut Woken)
+/// Takes out the requests that leave, and fills in the grants that this makes; answers whether there
+/// are any.
+pub fn depart(shelf: &mut Shelf, job: u8, leaving: &Leaving, woken: &mut Woken) -> bool
     requires { AreRight [] shelf.old }
+    ensures found { result ≡ list_any (leaves job leaving.now) shelf.old }
     ensures requests { requests_in shelf.new ≡ requests_in (filter (stays job leaving.now) shelf.old) }
     ensures right { AreRight [] shelf.new }
     ensures few { length (requests_in shelf.new) ≤ REQUESTS }
     ensures woken { woken.new.items ≡ raised [] (filter (stays job leaving.now) shelf.old) }
 {
-    let bits = remove_leaving(shelf, job, leaving);
-    shelf.renew(bits, woken);
+    match first_leaving(shelf.as_slice(), job, leaving) {
+        None => {
+            forget(woken);
+            false
+        }
+        Some(first) => {
+            let bits = remove_leaving(shelf, first, job, leaving);
+            shelf.renew(bits, woken);
+            true
+        }
+    }
 }
 
 fn is_some_named(wants: &[Want], named: &[Want]) -> bool

@@ -7,6 +7,7 @@ invariant-loop-i l =
     record {
       items : l.shelf ≡ take l.i l.initial.shelf ++ filter (stays l.job l.leaving) (drop l.i l.initial.shelf);
       bits : Covers l.bits (leaves l.job l.leaving) (drop l.i l.initial.shelf) (filter (stays l.job l.leaving) l.initial.shelf);
+      from : l.first ≤ l.i;
       there : l.i ≤ length l.initial.shelf;
       front : l.i ≤ length l.shelf;
     }
