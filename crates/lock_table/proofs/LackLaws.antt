@@ -1,12 +1,10 @@
 -- A key whose hash no request's want has is nobody's, so a want of it is judged alone.
-use Rattle.std.proofs.Common.{◌≡◌, ◌∙◌, sym, ap, subst, ℕ, zero, suc, ◌+◌, ◌==◌, Bool, true, false, not, ◌&&◌, ◌||◌, cond, if◌then◌else◌, List, [], ◌∷◌, ◌++◌, filter, Option, refl, arith}
-use Rattle.std.specs.List.{list_all, list_any}
+use Rattle.std.proofs.Common.{◌≡◌, ◌∙◌, ap, ℕ, ◌+◌, ◌==◌, Bool, true, false, not, ◌||◌, cond, if◌then◌else◌, List, [], ◌∷◌, ◌++◌, refl, arith}
+use Rattle.std.specs.List.{list_all}
 use Rattle.std.proofs.lemmas.Bool.{eqb-true, eq-eqb, or_parts}
 use Rattle.std.proofs.lemmas.List.Elements.{filter-append}
 use Rattle.lock_queue.specs.declared.key.Key.{Key}
-use Rattle.lock_queue.specs.declared.refusal.Refusal.{Refusal}
 use Rattle.lock_queue.specs.declared.refusal.Refusal.TheVariants.{Differs, NamedAlready}
-use Rattle.lock_queue.specs.declared.request.Request.{Request}
 use Rattle.lock_queue.specs.declared.want.Want.{Want}
 use Rattle.lock_queue.specs.Enqueues.{are_alike, enqueue_fault}
 use Rattle.lock_queue.specs.Keys.{same_key}

@@ -1,5 +1,5 @@
 -- What a tally keeps: for each hash the count of all wants and of those that wait (this project's profile).
-use Rattle.std.specs.Prelude.{◌≡◌, ℕ, ◌==◌, Bool, true, not, if◌then◌else◌, List, [], filter, length, nat_le, slice_index}
+use Rattle.std.specs.Prelude.{◌≡◌, ℕ, ◌==◌, Bool, true, not, if◌then◌else◌, List, filter, length, nat_le, slice_index}
 use Rattle.std.specs.List.{list_all}
 use Rattle.word36.specs.declared.sizes.TheConstants.{LOCKS_A_CALL}
 use Rattle.lock_queue.specs.declared.want.Want.{Want}

@@ -1,4 +1,4 @@
-use Rattle.std.proofs.Common.{◌≡◌, ◌∙◌, sym, ap, true, false, not, [], filter}
+use Rattle.std.proofs.Common.{◌≡◌, ◌∙◌, sym, ap, true, false, [], filter}
 use Rattle.std.specs.List.{list_any}
 use Rattle.lock_queue.specs.Grants.{left_of, woken, unless_refused_grants}
 use Rattle.lock_queue.specs.Outcomes.{Outcome}

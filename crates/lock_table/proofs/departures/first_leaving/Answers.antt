@@ -1,4 +1,4 @@
-use Rattle.std.proofs.Common.{◌≡◌, ◌∙◌, ◌-◌, sym, ap, subst, length, drop, arith, length-drop}
+use Rattle.std.proofs.Common.{◌∙◌, ◌-◌, sym, ap, subst, length, drop, arith, length-drop}
 use Rattle.std.proofs.lemmas.List.{take_all}
 use Rattle.lock_table.specs.Departures.{leaves}
 use Rattle.lock_table.specs.Walks.{from_own}

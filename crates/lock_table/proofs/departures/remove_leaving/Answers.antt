@@ -1,4 +1,4 @@
-use Rattle.std.proofs.Common.{◌≡◌, ◌∙◌, ◌-◌, ◌++◌, sym, ap, subst, get_or, length, filter, take, drop, rules, arith}
+use Rattle.std.proofs.Common.{◌≡◌, ◌∙◌, ◌-◌, ◌++◌, sym, ap, subst, get_or, filter, take, drop, rules, arith}
 use Rattle.std.proofs.lemmas.Grind.{common_steps}
 use Rattle.lock_table.specs.Departures.{leaves, stays, Covers}
 use Rattle.lock_table.specs.Filings.{Filing}

@@ -1,4 +1,4 @@
-use Rattle.std.proofs.Common.{◌≡◌, ◌∙◌, sym, ap, subst, set}
+use Rattle.std.proofs.Common.{◌∙◌, sym, ap, subst, set}
 use Rattle.std.proofs.lemmas.List.{get_or_default}
 use Rattle.lock_table.specs.Counts.{AreTallied}
 use Rattle.lock_table.specs.Filings.{Filing}

@@ -1,4 +1,4 @@
-use Rattle.std.proofs.Common.{◌≡◌, ◌∙◌, ap, ◌+◌, ◌-◌, drop, slice_index, arith}
+use Rattle.std.proofs.Common.{◌∙◌, ap, ◌+◌, ◌-◌, drop, slice_index, arith}
 use Rattle.lock_table.specs.Counts.{unless_granted}
 use Rattle.lock_table.specs.Tallies.{want_count}
 use Rattle.lock_table.proofs.TallyLaws.{room_left}

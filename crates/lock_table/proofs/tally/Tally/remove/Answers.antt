@@ -1,4 +1,4 @@
-use Rattle.std.proofs.Common.{◌≡◌, ◌∙◌, ◌+◌, ◌-◌, ◌≤◌, sym, ap, subst, drop, slice_index, arith, rules}
+use Rattle.std.proofs.Common.{◌∙◌, ◌+◌, ◌-◌, ◌≤◌, sym, ap, subst, drop, slice_index, arith, rules}
 use Rattle.std.proofs.lemmas.Grind.{common_steps}
 use Rattle.lock_table.specs.Counts.{unless_granted}
 use Rattle.lock_queue.specs.declared.want.Want.{Want}
