@@ -7,13 +7,13 @@ use Rattle.lock_queue.specs.declared.want.Want.{Want}
 use Rattle.lock_queue.specs.Changes.{changed_want}
 use Rattle.lock_queue.specs.Dequeues.{with_wants}
 use Rattle.lock_queue.specs.Queue.{names}
-use Rattle.lock_table.specs.Counts.{unless_granted, is_short, counted_bits, AreTallied}
+use Rattle.lock_table.specs.Counts.{unless_granted, is_short, AreTallied}
 use Rattle.lock_table.specs.Departures.{fewer, with_change}
 use Rattle.lock_table.specs.Filings.{Filing, filing}
 use Rattle.lock_table.specs.Findings.{pends, with_told, told_in}
 use Rattle.lock_table.specs.Renewals.{with_grant}
-use Rattle.lock_table.specs.Signatures.{hash_of, signature_of}
-use Rattle.lock_table.specs.Tallies.{want_count, hash_count, waiting_count, is_awaited, awaited_bits}
+use Rattle.lock_table.specs.Signatures.{hash_of}
+use Rattle.lock_table.specs.Tallies.{want_count, hash_count, waiting_count}
 use Rattle.lock_table.proofs.ChangeLaws.{change-key}
 
 -- the wants of one request of a hash, and those of them that wait
@@ -274,9 +274,6 @@ tallied_change a b job cs fs t = record {
   short = short-changed job cs fs ∙ t.short;
 }
 
-pub tallied_none : (a b : List ℕ) → ((h : ℕ) → (slice_index a h ≡ 0) × (slice_index b h ≡ 0)) → AreTallied a b []
-tallied_none a b none = record { present = λ h. (none h).0; blocked = λ h. (none h).1; short = refl }
-
 -- ---- in the shelf's words
 
 pub tallied_append : (a b a' b' : List ℕ) (fs xs : List Filing) (f : Filing) (ws : List Want) (g : Bool)
@@ -382,21 +379,3 @@ tallied_fewer a b a' b' a'' b'' fs i f g ws vs m n lt t there same granted same'
     (λ h. rw (sym there) (rw (sym granted) (rw (sym same) (off-waiting h))))
     (λ h. rw (sym same') (on h))
     (λ h. rw (sym granted') (rw (sym same') (on-waiting h)))
-
--- ---- the test of one hash
-
-pub lacks_tallied : (a b : List ℕ) (fs : List Filing) (h : ℕ) → AreTallied a b fs → (slice_index a h == 0) ≡ (hash_count h fs == 0)
-lacks_tallied a b fs h t = ap (λ n. n == 0) (t.present h)
-
-pub awaited_tallied : (a b : List ℕ) (fs : List Filing) (ws : List Want) → AreTallied a b fs → counted_bits b ws ≡ awaited_bits fs ws
-awaited_tallied a b fs ws t = ap signature_of (go ws)
-  where
-    one : (w : Want) (rest rest' : List Want) → rest ≡ rest'
-        → cond (not (slice_index b (hash_of w.key) == 0)) (w ∷ rest) rest ≡ cond (is_awaited fs w) (w ∷ rest') rest'
-    one w rest rest' same =
-        ap (λ n. cond (not (n == 0)) (w ∷ rest) rest) (t.blocked (hash_of w.key))
-        ∙ ap (λ l. cond (is_awaited fs w) (w ∷ l) l) same
-
-    go : (vs : List Want) → filter (λ w. not (slice_index b (hash_of w.key) == 0)) vs ≡ filter (is_awaited fs) vs
-    go [] = refl
-    go (w ∷ vs) = one w (filter (λ v. not (slice_index b (hash_of v.key) == 0)) vs) (filter (is_awaited fs) vs) (go vs)

@@ -52,7 +52,9 @@ fn does_rise(earlier: &[Filed], f: &Filed, bits: Signature, last: &mut usize) ->
     are_fitting(earlier, f.wants())
 }
 
-/// Grants the request at a place, which waited until now.
+/// Grants the request at a place, which waited until now. Kept apart, so that the walk itself stays
+/// short.
+#[inline(never)]
 fn grant_at(filed: &mut [Filed], i: usize, tally: &mut Tally)
     requires there { i < length filed.old }
     requires waits { (d : Filing) → (get_or filed.old i d).granted ≡ false }

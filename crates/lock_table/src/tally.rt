@@ -53,6 +53,7 @@ impl Tally {
     }
 
     /// Counts the wants of a request that comes, and answers their signature.
+    #[inline(always)]
     pub fn add(&mut self, wants: &[Want], granted: bool) -> Signature
         requires room { (h : ℕ) → want_count h wants.now + slice_index self.old.all.items h ≤ 65535 }
         requires waiting_room { (h : ℕ) →
@@ -90,6 +91,7 @@ impl Tally {
 
     /// Takes the wants of a request that leaves out of the counts, and answers the signature of those
     /// of them whose key had the hash of a want that waits, be it of the same request.
+    #[inline(always)]
     pub fn remove(&mut self, wants: &[Want], granted: bool) -> Signature
         requires there { (h : ℕ) → want_count h wants.now ≤ slice_index self.old.all.items h }
         requires waiting_there { (h : ℕ) →
