@@ -8,3 +8,5 @@ pub mod Walks
 pub mod Changing
 pub mod Levels
 pub mod Arrivals
+pub mod Tallies
+pub mod Counts

@@ -46,15 +46,15 @@ impl LockTable for IndexedTable {
     }
 
     fn release(&mut self, job: u8) {
-        depart(&mut self.present, job, &Leaving::All, &mut self.unheard);
+        let _ = depart(&mut self.present, job, &Leaving::All, &mut self.unheard);
     }
 
     fn release_waking(&mut self, job: u8, woken: &mut Woken) {
-        depart(&mut self.present, job, &Leaving::All, woken);
+        let _ = depart(&mut self.present, job, &Leaving::All, woken);
     }
 
     fn withdraw(&mut self, job: u8) {
-        depart(&mut self.present, job, &Leaving::Blocked, &mut self.unheard);
+        let _ = depart(&mut self.present, job, &Leaving::Blocked, &mut self.unheard);
     }
 
     fn waiting(&self, job: u8) -> bool {

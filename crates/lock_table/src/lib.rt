@@ -15,6 +15,7 @@ mod sharing;
 mod shelf;
 mod signature;
 mod standing;
+mod tally;
 mod waiters;
 mod walks;
 
