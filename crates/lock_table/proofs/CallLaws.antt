@@ -19,22 +19,19 @@ use Rattle.lock_queue.specs.Jobs.{released, withdrawn, is_not_blocked_where, is_
 use Rattle.lock_queue.specs.Keys.{same_key}
 use Rattle.lock_queue.specs.Outcomes.{Outcome, outcome, unless_refused, refuse_if, or_else, first_refusal}
 use Rattle.lock_queue.specs.Queue.{names}
-use Rattle.lock_queue.proofs.Fitting.{same_key-eq}
 use Rattle.lock_queue.proofs.GrantLaws.{left-labels}
-use Rattle.lock_queue.proofs.Lists.{Has, Has-map, Has-filter, Sub, Sub-refl, Sub-filter, Sub-Has}
+use Rattle.lock_queue.proofs.Lists.{Has, Has-map, Sub, Sub-refl, Sub-filter, Sub-Has}
 use Rattle.lock_table.specs.declared.departures.Leaving.{Leaving}
 use Rattle.lock_table.specs.declared.departures.Leaving.TheVariants.{All, OfId, Blocked}
-use Rattle.lock_table.specs.Departures.{leaves, stays, signature_where, Covers, loses, loses_waiting, with_fewer, keeps_wants, with_change, call_of, leaving_of}
+use Rattle.lock_table.specs.Departures.{leaves, stays, signature_where, loses, with_fewer, keeps_wants, with_change, call_of, leaving_of}
 use Rattle.lock_table.specs.Filings.{Filing, requests_in, AreRight}
 use Rattle.lock_table.specs.Renewals.{raised, AreOutdated}
 use Rattle.lock_table.specs.declared.signature.Signature.{Signature}
-use Rattle.lock_table.specs.Signatures.{hash_of, joined, meets, signature_of, mark_at}
-use Rattle.lock_table.specs.Tallies.{waiting_count, awaited_bits}
-use Rattle.lock_table.proofs.AwaitedLaws.{awaited-has, awaited-marks, marks-left, some-named}
+use Rattle.lock_table.specs.Signatures.{joined, meets, signature_of}
 use Rattle.lock_table.proofs.ChangeLaws.{change-key, at-changed, all-unchanged}
-use Rattle.lock_table.proofs.DepartureLaws.{lost_in, after, put, at_key, Stays, Rests, Changes, outdated, outdated-changed, lost-changed, Keeps, raised-all}
+use Rattle.lock_table.proofs.DepartureLaws.{lost_in, after, put, at_key, Changes, outdated, outdated-changed, lost-changed, Keeps, raised-all}
 use Rattle.lock_table.proofs.RightLaws.{chosen-right}
-use Rattle.lock_table.proofs.SignatureLaws.{unmet-right, unsigned, signed, names-none, no-bit-left, no-bit-or}
+use Rattle.lock_table.proofs.SignatureLaws.{mark_at, unmet-right, unsigned, signed, names-none, no-bit-left, no-bit-or}
 
 -- ---- the requests that stay
 
@@ -143,55 +140,30 @@ signature-has test (x ∷ fs) f k (inr later) t z = signature-has test fs f k la
     go true zero = no-bit-left (signature_where test fs) (signature_of x.request.wants.items) k zero
     go false zero = zero
 
--- the keys that those have that stay and are not granted, and of which the bits were not gathered
-abbrev StillIn : Signature → List Filing → Key → Type 0
-StillIn bits fs k = ((waiting_count (hash_of k) fs == 0) ≡ false) × (mark_at bits k ≡ 0)
-
-module _ (bits : Signature) (test : Filing → Bool) (fs : List Filing) (covers : Covers bits test fs (filter (λ f. not (test f)) fs)) where
-  abbrev staying : List Filing
-  staying = filter (λ f. not (test f)) fs
-
-  gone-stays : (f : Filing) → Has fs f → Stays (StillIn bits staying) f (staying_if (not (test f)) f.request)
-  gone-stays f h k z = go (test f) refl
-    where
-      unnamed : (b : Bool) → names f.request.wants.items k ≡ b → test f ≡ true → b ≡ false
-      unnamed false n t = refl
-      unnamed true n t = let one = covers k (some-named test fs f k h t n) z.0 in absurd (omega (arith, one, z.1))
-
-      go : (b : Bool) → test f ≡ b → at_key k (staying_if (not b) f.request) ≡ at_key k (Some f.request)
-      go true t =
-          sym (names-none f.request.wants.items k (unnamed (names f.request.wants.items k) refl t))
-      go false t = refl
-
-  staying-of : (b : Bool) (r s : Request) → staying_if b r ≡ Some s → (b ≡ true) × (r ≡ s)
-  staying-of true r s e = (refl, cc)
-  staying-of false r s e = absurd (cc)
-
-  gone-rests : (f : Filing) (s : Request) → Has fs f → staying_if (not (test f)) f.request ≡ Some s → f.granted ≡ false
-      → meets (signature_of s.wants.items) bits ≡ false → Rests (StillIn bits staying) f s
-  gone-rests f s h is g u =
-      let at = staying-of (not (test f)) f.request s is in
-      let own : s.wants.items ≡ f.request.wants.items = ap (λ (q : Request). q.wants.items) (sym at.1) in record {
-        own = own;
-        still = λ w k. (
-          awaited-has staying f w (Has-filter (λ f. not (test f)) fs f at.0 h) g (subst (λ l. Has l w) own k),
-          unmet-right (signature_of s.wants.items) bits w.key u (signed s.wants.items w k),
-        );
-      }
+gone-changes : (test : Filing → Bool) (fs : List Filing) (f : Filing) → Has fs f
+    → Changes (signature_where test fs) f (staying_if (not (test f)) f.request)
+gone-changes test fs f h = go (test f) refl
+  where
+    go : (b : Bool) → test f ≡ b → Changes (signature_where test fs) f (staying_if (not b) f.request)
+    go true t = record {
+      kept = λ k z. sym (names-none f.request.wants.items k (unsigned f.request.wants.items k (signature-has test fs f k h t z)));
+      own = λ s is u. absurd (cc);
+    }
+    go false t = record {
+      kept = λ k z. refl;
+      own = λ s is u. let same : f.request ≡ s = cc in ap (λ (q : Request). q.wants.items) (sym same);
+    }
 
 fewer-if : (b : Bool) (r s : Request) → staying_if b r ≡ Some s → Sub s.wants.items r.wants.items
 fewer-if true r s e = let same : r ≡ s = cc in subst (λ (q : Request). Sub q.wants.items r.wants.items) same (Sub-refl r.wants.items)
 fewer-if false r s e = absurd (cc)
 
-pub leaving-outdated : (bits : Signature) (fs : List Filing) (job : ℕ) (leaving : Leaving)
-    → Covers bits (leaves job leaving) fs (filter (stays job leaving) fs) → AreRight [] fs
-    → AreOutdated bits [] (filter (stays job leaving) fs)
-leaving-outdated bits fs job leaving covers h =
-    subst (AreOutdated bits []) (sym (filter-after (stays job leaving) fs))
-    (outdated (StillIn bits (filter (stays job leaving) fs)) bits (λ f. staying_if (stays job leaving f) f.request) [] [] fs
-    (λ f k. gone-stays bits (leaves job leaving) fs covers f k)
-    (λ f s k is. gone-rests bits (leaves job leaving) fs covers f s k is)
-    (λ f s k is. fewer-if (stays job leaving f) f.request s is)
+pub leaving-outdated : (fs : List Filing) (job : ℕ) (leaving : Leaving) → AreRight [] fs
+    → AreOutdated (signature_where (leaves job leaving) fs) [] (filter (stays job leaving) fs)
+leaving-outdated fs job leaving h =
+    subst (AreOutdated (signature_where (leaves job leaving) fs) []) (sym (filter-after (stays job leaving) fs))
+    (outdated (signature_where (leaves job leaving) fs) (λ f. staying_if (stays job leaving f) f.request) [] [] fs
+    (λ f k. gone-changes (leaves job leaving) fs f k) (λ f s k is. fewer-if (stays job leaving f) f.request s is)
     (Sub-refl []) (λ k z. refl) h)
 
 -- ---- wants that are given up
@@ -237,6 +209,15 @@ none-lost named (w ∷ ws) h =
     ap (λ b. cond (not b) (w ∷ filter (λ w. not (names named w.key)) ws) (filter (λ w. not (names named w.key)) ws)) p.0
     ∙ ap (λ l. w ∷ l) (none-lost named ws p.1)
 
+names-fewer : (p : Want → Bool) (ws : List Want) (k : Key) → names ws k ≡ false → names (filter p ws) k ≡ false
+names-fewer p [] k h = refl
+names-fewer p (w ∷ ws) k h =
+    let q = or_parts (same_key w.key k) (names ws k) h in go (p w) (names-fewer p ws k q.1) q.0
+  where
+    go : (b : Bool) → names (filter p ws) k ≡ false → same_key w.key k ≡ false → names (cond b (w ∷ filter p ws) (filter p ws)) k ≡ false
+    go true t e = ap (λ b. b || names (filter p ws) k) e ∙ t
+    go false t e = t
+
 not-empty : (n : ℕ) → true ≡ not (suc n == 0)
 not-empty n = grind (arith, nat_tests)
 
@@ -258,10 +239,7 @@ some-want bits (w ∷ ws) all some sub u zero =
 
 module _ (fs : List Filing) (job : ℕ) (named : List Want) where
   abbrev bits : Signature
-  bits = joined (awaited_bits fs named) (signature_where (loses_waiting job named) fs)
-
-  abbrev Still : Key → Type 0
-  Still = StillIn bits fs
+  bits = signature_where (loses job named) fs
 
   abbrev left-named : Request → Option Request
   left-named r = staying_if (has_wants (without_keys_of job named r)) (without_keys_of job named r)
@@ -285,47 +263,12 @@ module _ (fs : List Filing) (job : ℕ) (named : List Want) where
   unlost true r h = none-lost named r.wants.items h
   unlost false r h = refl
 
-  -- a key that is not named keeps its wants
-  kept-key : (ws : List Want) (k : Key) → names named k ≡ false
-      → filter (λ w. same_key w.key k) (filter (λ w. not (names named w.key)) ws) ≡ filter (λ w. same_key w.key k) ws
-  kept-key [] k none = refl
-  kept-key (w ∷ ws) k none = go (names named w.key) refl (same_key w.key k) refl (kept-key ws k none)
-    where
-      rest : List Want
-      rest = filter (λ w. not (names named w.key)) ws
+  lost-none : (b : Bool) (r : Request) (k : Key) → names r.wants.items k ≡ false → names (cond b (without_keys named r) r).wants.items k ≡ false
+  lost-none true r k h = names-fewer (λ w. not (names named w.key)) r.wants.items k h
+  lost-none false r k h = h
 
-      go : (b : Bool) → names named w.key ≡ b → (c : Bool) → same_key w.key k ≡ c
-          → filter (λ w. same_key w.key k) rest ≡ filter (λ w. same_key w.key k) ws
-          → filter (λ w. same_key w.key k) (cond (not b) (w ∷ rest) rest) ≡ cond c (w ∷ filter (λ w. same_key w.key k) ws) (filter (λ w. same_key w.key k) ws)
-      go true n true e t =
-          let named-too : names named k ≡ true = ap (names named) (sym (same_key-eq w.key k e)) ∙ n in absurd (cc)
-      go true n false e t = t
-      go false n c e t =
-          ap (λ b. cond b (w ∷ filter (λ w. same_key w.key k) rest) (filter (λ w. same_key w.key k) rest)) e
-          ∙ ap (λ l. cond c (w ∷ l) l) t
-
-  kept-of : (b : Bool) (r : Request) (k : Key) → names named k ≡ false
-      → filter (λ w. same_key w.key k) (cond b (without_keys named r) r).wants.items ≡ filter (λ w. same_key w.key k) r.wants.items
-  kept-of true r k none = kept-key r.wants.items k none
-  kept-of false r k none = refl
-
-  named-stays : (f : Filing) → Stays Still f (left-named f.request)
-  named-stays f k z =
-      at-staying (without_keys_of job named f.request) k ∙ kept-of (f.request.job == job) f.request k (unnamed (names named k) refl)
-    where
-      unnamed : (b : Bool) → names named k ≡ b → b ≡ false
-      unnamed false n = refl
-      unnamed true n =
-          let one = marks-left (awaited_bits fs named) (signature_where (loses_waiting job named) fs) k (awaited-marks fs named k n z.0) in
-          absurd (omega (arith, one, z.1))
-
-  own-of : (b : Bool) (r s : Request) → staying_if b r ≡ Some s → (b ≡ true) × (r ≡ s)
-  own-of true r s e = (refl, cc)
-  own-of false r s e = absurd (cc)
-
-  named-rests : (f : Filing) (s : Request) → Has fs f → left-named f.request ≡ Some s → f.granted ≡ false
-      → meets (signature_of s.wants.items) bits ≡ false → Rests Still f s
-  named-rests f s h is g u = go (loses job named f) refl
+  named-changes : (f : Filing) → Has fs f → Changes bits f (left-named f.request)
+  named-changes f h = go (loses job named f) refl
     where
       r : Request
       r = f.request
@@ -333,38 +276,33 @@ module _ (fs : List Filing) (job : ℕ) (named : List Want) where
       q : Request
       q = without_keys_of job named r
 
-      at : (has_wants q ≡ true) × (q ≡ s)
-      at = own-of (has_wants q) q s is
+      own-of : (b : Bool) (s : Request) → staying_if b q ≡ Some s → (b ≡ true) × (q ≡ s)
+      own-of true s e = (refl, cc)
+      own-of false s e = absurd (cc)
 
-      off : meets (signature_of q.wants.items) bits ≡ false
-      off = ap (λ (x : Request). meets (signature_of x.wants.items) bits) at.1 ∙ u
-
-      go : (b : Bool) → loses job named f ≡ b → Rests Still f s
-      go false t =
-          let own : s.wants.items ≡ r.wants.items = ap (λ (x : Request). x.wants.items) (sym at.1) ∙ unlost (r.job == job) r t in record {
-            own = own;
-            still = λ w k. (
-              awaited-has fs f w h g (subst (λ l. Has l w) own k),
-              unmet-right (signature_of s.wants.items) bits w.key u (signed s.wants.items w k),
-            );
-          }
-      go true t =
-          let waits : loses_waiting job named f ≡ true = ap (λ b. b && not f.granted) t ∙ ap not g in
-          let bad : false ≡ true = some-want bits q.wants.items r.wants.items at.0 (fewer-of (r.job == job) r) off
-          (λ k z. signature-has (loses_waiting job named) fs f k h waits
-          (no-bit-or (awaited_bits fs named) (signature_where (loses_waiting job named) fs) k z)) in
-          absurd (cc)
+      go : (b : Bool) → loses job named f ≡ b → Changes bits f (left-named r)
+      go false t = record {
+        kept = λ k z. at-staying q k ∙ ap (filter (λ w. same_key w.key k)) (unlost (r.job == job) r t);
+        own = λ s is u. ap (λ (x : Request). x.wants.items) (sym (own-of (has_wants q) s is).1) ∙ unlost (r.job == job) r t;
+      }
+      go true t = record {
+        kept = λ k z.
+            let none = unsigned r.wants.items k (signature-has (loses job named) fs f k h t z) in
+            at-staying q k ∙ names-none q.wants.items k (lost-none (r.job == job) r k none) ∙ sym (names-none r.wants.items k none);
+        own = λ s is u.
+            let at = own-of (has_wants q) s is in
+            let bad : false ≡ true = some-want bits q.wants.items r.wants.items at.0 (fewer-of (r.job == job) r)
+            (ap (λ (x : Request). meets (signature_of x.wants.items) bits) at.1 ∙ u)
+            (λ k z. signature-has (loses job named) fs f k h t z) in
+            absurd (cc);
+      }
 
 pub named-outdated : (fs : List Filing) (job : ℕ) (named : ArrayVec Want) → AreRight [] fs
-    → AreOutdated (joined (awaited_bits fs named.items) (signature_where (loses_waiting job named.items) fs)) []
-    (filter keeps_wants (map (with_fewer job named.items) fs))
+    → AreOutdated (signature_where (loses job named.items) fs) [] (filter keeps_wants (map (with_fewer job named.items) fs))
 named-outdated fs job named h =
-    subst (AreOutdated (joined (awaited_bits fs named.items) (signature_where (loses_waiting job named.items) fs)) []) (sym (named-after fs job named))
-    (outdated (StillIn (joined (awaited_bits fs named.items) (signature_where (loses_waiting job named.items) fs)) fs)
-    (joined (awaited_bits fs named.items) (signature_where (loses_waiting job named.items) fs))
-    (λ f. left_of job (DequeueNamed named) f.request) [] [] fs
-    (λ f k. named-stays fs job named.items f) (λ f s k is. named-rests fs job named.items f s k is)
-    (λ f s k is. fewer-named fs job named.items f.request s is)
+    subst (AreOutdated (signature_where (loses job named.items) fs) []) (sym (named-after fs job named))
+    (outdated (signature_where (loses job named.items) fs) (λ f. left_of job (DequeueNamed named) f.request) [] [] fs
+    (λ f k. named-changes fs job named.items f k) (λ f s k is. fewer-named fs job named.items f.request s is)
     (Sub-refl []) (λ k z. refl) h)
 
 -- ---- wants that are changed
@@ -386,19 +324,23 @@ change-woken fs job changes h =
 
 module _ (job : ℕ) (cs : List Want) where
   changes-of : (b : Bool) (f : Filing)
-      → Changes (signature_of cs) f (cond b (with_wants f.request (map (changed_want cs) f.request.wants.items)) f.request)
+      → Changes (signature_of cs) f (Some (cond b (with_wants f.request (map (changed_want cs) f.request.wants.items)) f.request))
   changes-of true f = record {
     kept = λ k z. at-changed cs f.request.wants.items k (unsigned cs k z);
-    own = λ u.
-        all-unchanged cs f.request.wants.items (λ w k.
+    own = λ s is u.
+        let same : with_wants f.request (map (changed_want cs) f.request.wants.items) ≡ s = cc in
+        let off : meets (signature_of (map (changed_want cs) f.request.wants.items)) (signature_of cs) ≡ false =
+        ap (λ (q : Request). meets (signature_of q.wants.items) (signature_of cs)) same ∙ u in
+        ap (λ (q : Request). q.wants.items) (sym same)
+        ∙ all-unchanged cs f.request.wants.items (λ w k.
         let bit : mark_at (signature_of (map (changed_want cs) f.request.wants.items)) w.key ≡ 1 =
         ap (mark_at (signature_of (map (changed_want cs) f.request.wants.items))) (sym (change-key cs w))
         ∙ signed (map (changed_want cs) f.request.wants.items) (changed_want cs w) (Has-map (changed_want cs) f.request.wants.items w k) in
-        unsigned cs w.key (unmet-right (signature_of (map (changed_want cs) f.request.wants.items)) (signature_of cs) w.key u bit));
+        unsigned cs w.key (unmet-right (signature_of (map (changed_want cs) f.request.wants.items)) (signature_of cs) w.key off bit));
   }
   changes-of false f = record {
     kept = λ k z. refl;
-    own = λ u. refl;
+    own = λ s is u. let same : f.request ≡ s = cc in ap (λ (q : Request). q.wants.items) (sym same);
   }
 
   pub change-lost : (fs : List Filing) → AreRight [] fs

@@ -5,7 +5,7 @@ use Rattle.std.proofs.lemmas.Bool.{and_parts}
 use Rattle.lock_queue.specs.declared.want.Want.{Want}
 use Rattle.lock_queue.specs.Dequeues.{without_keys}
 use Rattle.lock_queue.specs.Queue.{names}
-use Rattle.lock_table.specs.Departures.{loses, loses_waiting, lost_bits, fewer, with_fewer, signature_where}
+use Rattle.lock_table.specs.Departures.{loses, lost_bits, fewer, with_fewer, signature_where}
 use Rattle.lock_table.specs.Filings.{Filing, filing}
 use Rattle.lock_table.specs.Signatures.{no_bits, joined, signature_of}
 use Rattle.lock_table.proofs.SignatureLaws.{joined-none}
@@ -52,22 +52,28 @@ losing job named f h =
     (and_parts (f.request.job == job) (list_any (λ w. names named w.key) f.request.wants.items) h).0
 
 bits-suc : (job : ℕ) (named : List Want) (fs : List Filing) (i : ℕ) (d : Filing) → i < length fs
-    → signature_where (loses_waiting job named) (drop i fs)
-    ≡ joined (signature_where (loses_waiting job named) (drop (suc i) fs)) (lost_bits job named (get_or fs i d))
+    → signature_where (loses job named) (drop i fs)
+    ≡ joined (signature_where (loses job named) (drop (suc i) fs)) (lost_bits job named (get_or fs i d))
 bits-suc job named [] i d lt = absurd (omega arith)
-bits-suc job named (f ∷ fs) zero d lt = go (loses_waiting job named f)
+bits-suc job named (f ∷ fs) zero d lt = go (loses job named f)
   where
     go : (b : Bool)
-        → cond b (joined (signature_where (loses_waiting job named) fs) (signature_of f.request.wants.items)) (signature_where (loses_waiting job named) fs)
-        ≡ joined (signature_where (loses_waiting job named) fs) (if b then signature_of f.request.wants.items else no_bits)
+        → cond b (joined (signature_where (loses job named) fs) (signature_of f.request.wants.items)) (signature_where (loses job named) fs)
+        ≡ joined (signature_where (loses job named) fs) (if b then signature_of f.request.wants.items else no_bits)
     go true = refl
-    go false = sym (joined-none (signature_where (loses_waiting job named) fs))
+    go false = sym (joined-none (signature_where (loses job named) fs))
 bits-suc job named (f ∷ fs) (suc i) d lt = bits-suc job named fs i d (omega arith)
 
 pub bits-from : (job : ℕ) (named : List Want) (fs : List Filing) (i : ℕ) (d : Filing) → i < length fs
-    → signature_where (loses_waiting job named) (drop i fs)
-    ≡ joined (signature_where (loses_waiting job named) (drop (i + 1) fs)) (lost_bits job named (get_or fs i d))
+    → signature_where (loses job named) (drop i fs)
+    ≡ joined (signature_where (loses job named) (drop (i + 1) fs)) (lost_bits job named (get_or fs i d))
 bits-from job named fs i d lt = rw (add-one i) (bits-suc job named fs i d lt)
+
+-- what stands at a place of a list whose front is another's
+pub front-at : (old rest : List Filing) (i : ℕ) (d : Filing) → i < length old → get_or (take (i + 1) old ++ rest) i d ≡ get_or old i d
+front-at [] rest i d lt = absurd (omega arith)
+front-at (x ∷ old) rest zero d lt = refl
+front-at (x ∷ old) rest (suc i) d lt = rw (add-one (suc i)) (ap (λ m. get_or (take m old ++ rest) i d) (sym (add-one i)) ∙ front-at old rest i d (omega arith))
 
 pub same-at : (xs : List Filing) (i : ℕ) (d e : Filing) → i < length xs → get_or xs i d ≡ get_or xs i e
 same-at [] i d e lt = absurd (omega arith)

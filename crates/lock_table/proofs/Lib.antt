@@ -10,9 +10,3 @@ pub mod LevelLaws
 mod WaiterLaws
 pub mod WalkLaws
 pub mod GivingUpLaws
-pub mod TallyLaws
-pub mod TalliedLaws
-pub mod LackLaws
-pub mod AwaitedLaws
-pub mod FrontLaws
-pub mod LeavingLaws

@@ -12,8 +12,12 @@ use Rattle.lock_queue.specs.Keys.{same_key}
 use Rattle.lock_queue.specs.Queue.{names}
 use Rattle.lock_queue.proofs.Lists.{Has}
 use Rattle.lock_table.specs.declared.signature.Signature.{Signature}
-use Rattle.lock_table.specs.Signatures.{group_of, class_of, signature, no_bits, joined, bits_of, signature_of, meets, mark_at}
+use Rattle.lock_table.specs.Signatures.{group_of, class_of, signature, no_bits, joined, bits_of, signature_of, meets}
 use Rattle.lock_queue.proofs.Fitting.{same_key-eq}
+
+-- 1 where a signature has the bits of a key's group and class, and 0 where it lacks one
+abbrev pub mark_at : Signature → Key → ℕ
+mark_at s k = min (bit_at s.groups (group_of k)) (bit_at s.classes (class_of k))
 
 not-false : (b : Bool) → not b ≡ false → b ≡ true
 not-false true h = refl

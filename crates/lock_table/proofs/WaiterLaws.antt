@@ -1,17 +1,14 @@
 -- A job's bit tells whether it waits.
-use Rattle.std.proofs.Common.{◌≡◌, ◌∙◌, sym, ap, ℕ, zero, suc, ◌==◌, ◌<◌, ◌%◌, ◌/◌, ◌^◌, Bool, true, false, not, ◌&&◌, ◌||◌, cond, if◌then◌else◌, List, [], ◌∷◌, ◌++◌, refl, arith, max, bit_and, bit_or, nat_le, length, get_or, take, drop, remove, slice_set}
+use Rattle.std.proofs.Common.{◌≡◌, ◌∙◌, ap, ℕ, ◌==◌, ◌<◌, ◌%◌, ◌/◌, ◌^◌, Bool, true, false, not, ◌&&◌, ◌||◌, cond, if◌then◌else◌, List, [], ◌∷◌, ◌++◌, refl, arith, max, bit_and, bit_or, nat_le, length}
 use Rattle.std.specs.Int.{bit_at}
-use Rattle.std.specs.Int.Bits.{or_zero_r}
 use Rattle.std.specs.List.{list_any}
 use Rattle.std.proofs.lemmas.Bool.{and_parts, eqb-true, eq-eqb, leb-true}
 use Rattle.std.proofs.lemmas.Nat.Bits.{bit_at_or, bit_at-pow_same, bit_at-pow_other, bit_at-zero, shr_and_one}
 use Rattle.word36.specs.declared.sizes.TheConstants.{JOBS, LOCKS_A_CALL}
-use Rattle.lock_queue.specs.declared.want.Want.{Want}
-use Rattle.lock_queue.specs.Dequeues.{has_wants, without_keys}
+use Rattle.lock_queue.specs.Dequeues.{has_wants}
 use Rattle.lock_queue.specs.Jobs.{is_blocking}
 use Rattle.lock_queue.specs.WellFormed.{is_job, is_well_formed, are_right_wants, are_well_formed}
-use Rattle.lock_table.specs.Departures.{fewer}
-use Rattle.lock_table.specs.Filings.{Filing, filing, requests_in}
+use Rattle.lock_table.specs.Filings.{Filing, requests_in}
 use Rattle.lock_table.specs.Findings.{blocks, pends, with_told, told_in}
 use Rattle.lock_table.specs.Waiters.{waiter_bit, with_waiters, waiters_in}
 
@@ -90,26 +87,3 @@ waiters_told bits job (f ∷ fs) = go (pends job f) (waiters_told (bit_or bits (
         → with_waiters bits (cond b (with_told f ∷ fs) (f ∷ told_in job fs)) ≡ with_waiters bits (f ∷ fs)
     go true t = refl
     go false t = t
-
--- a request by which no job waits may be left out
-pub waiters_left : (bits : ℕ) (fs : List Filing) (i : ℕ) (f : Filing) → i < length fs → f ≡ get_or fs i f → waiter_bit f ≡ 0
-    → with_waiters bits (take i fs ++ drop (suc i) fs) ≡ with_waiters bits fs
-waiters_left bits [] i f lt is none = absurd (omega arith)
-waiters_left bits (x ∷ fs) zero f lt is none =
-    ap (λ n. with_waiters n fs) (sym (ap (bit_or bits) (ap waiter_bit (sym is) ∙ none) ∙ or_zero_r bits))
-waiters_left bits (x ∷ fs) (suc i) f lt is none = waiters_left (bit_or bits (waiter_bit x)) fs i f (omega arith) is none
-
-pub waiters_removed : (fs : List Filing) (i : ℕ) (f : Filing) → i < length fs → f ≡ get_or fs i f → waiter_bit f ≡ 0
-    → waiters_in (remove fs i) ≡ waiters_in fs
-waiters_removed fs i f lt is none = waiters_left 0 fs i f lt is none
-
--- nor does it matter which wants a request has
-waiters-fewer-at : (bits : ℕ) (fs : List Filing) (i : ℕ) (named : List Want) (f : Filing) → i < length fs → f ≡ get_or fs i f
-    → with_waiters bits (slice_set fs i (fewer named f)) ≡ with_waiters bits fs
-waiters-fewer-at bits [] i named f lt is = absurd (omega arith)
-waiters-fewer-at bits (x ∷ fs) zero named f lt is = ap (λ (g : Filing). with_waiters (bit_or bits (waiter_bit g)) fs) is
-waiters-fewer-at bits (x ∷ fs) (suc i) named f lt is = waiters-fewer-at (bit_or bits (waiter_bit x)) fs i named f (omega arith) is
-
-pub waiters_fewer : (fs : List Filing) (i : ℕ) (g f : Filing) (named : List Want) → g ≡ filing (without_keys named f.request) f.granted
-    → i < length fs → f ≡ get_or fs i f → waiters_in (slice_set fs i g) ≡ waiters_in fs
-waiters_fewer fs i g f named same lt is = ap (λ (x : Filing). waiters_in (slice_set fs i x)) same ∙ waiters-fewer-at 0 fs i named f lt is

@@ -8,5 +8,3 @@ pub mod Walks
 pub mod Changing
 pub mod Levels
 pub mod Arrivals
-pub mod Tallies
-pub mod Counts

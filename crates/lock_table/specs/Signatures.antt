@@ -1,7 +1,6 @@
 -- The groups and classes of keys, and the signature of some wants: a bit for each group and each class that they touch
 -- (this project's profile).
-use Rattle.std.specs.Prelude.{ℕ, ◌+◌, ◌*◌, ◌/◌, ◌%◌, ◌^◌, ◌==◌, not, Bool, ◌&&◌, List, [], ◌∷◌, min, bit_and, bit_or}
-use Rattle.std.specs.Int.{bit_at}
+use Rattle.std.specs.Prelude.{ℕ, ◌+◌, ◌*◌, ◌/◌, ◌%◌, ◌^◌, ◌==◌, not, Bool, ◌&&◌, List, [], ◌∷◌, bit_and, bit_or}
 use Rattle.lock_queue.specs.declared.key.Key.{Key}
 use Rattle.lock_queue.specs.declared.key.Scope.{Scope}
 use Rattle.lock_queue.specs.declared.key.Scope.TheVariants.{All, Job}
@@ -55,7 +54,3 @@ signature_of (w ∷ ws) = joined (signature_of ws) (bits_of w.key)
 -- whether two signatures have a group and a class in common
 abbrev pub meets : Signature → Signature → Bool
 meets a b = not (bit_and a.groups b.groups == 0) && not (bit_and a.classes b.classes == 0)
-
--- 1 where a signature has the bits of a key's group and class, and 0 where it lacks one
-abbrev pub mark_at : Signature → Key → ℕ
-mark_at s k = min (bit_at s.groups (group_of k)) (bit_at s.classes (class_of k))

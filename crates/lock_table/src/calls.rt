@@ -14,9 +14,8 @@ ghost use Rattle.lock_table.specs.Departures.{call_of, leaving_of};
 
 use crate::changes::{is_some_lost, refusal_of_modify};
 use crate::departures::{Leaving, depart, depart_named};
-use crate::dequeues::refusal_of_dequeue;
+use crate::dequeues::{does_some_leave, refusal_of_dequeue};
 use crate::enqueues::judge_enqueue;
-use crate::renewal::forget;
 use crate::shelf::Shelf;
 use crate::signature::signature_of;
 use lock_queue::{Asking, EnqueueKind, LockCall, LockReply, Refusal, RequestId, Wants, Woken};
@@ -74,7 +73,7 @@ fn enqueue(shelf: &mut Shelf, job: u8, asking: &Asking, wants: &Wants) -> LockRe
     ensures few { length (requests_in shelf.old) ≤ REQUESTS → length (requests_in shelf.new) ≤ REQUESTS }
     ensures well { IsTrue (are_well_formed (requests_in shelf.old)) → IsTrue (are_well_formed (requests_in shelf.new)) }
 {
-    match judge_enqueue(shelf, job, asking, wants.as_slice()) {
+    match judge_enqueue(shelf.as_slice(), job, asking, wants.as_slice()) {
         Err(refusal) => LockReply::Refused(refusal),
         Ok(are_fitting) => arrive(shelf, job, asking, wants, are_fitting),
     }
@@ -90,7 +89,7 @@ fn modify(shelf: &mut Shelf, job: u8, changes: &Wants, woken: &mut Woken) -> Loc
     ensures few { length (requests_in shelf.old) ≤ REQUESTS → length (requests_in shelf.new) ≤ REQUESTS }
     ensures woken { woken.new.items ≡ woken_by (requests_in shelf.old) job (Modify changes.now) }
 {
-    forget(woken);
+    woken.clear();
     let wanted = changes.as_slice();
     if let Some(refusal) = refusal_of_modify(shelf.as_slice(), job, wanted) {
         return LockReply::Refused(refusal);
@@ -113,7 +112,7 @@ fn dequeue_named(shelf: &mut Shelf, job: u8, named: &Wants, woken: &mut Woken) -
     ensures woken { woken.new.items ≡ woken_by (requests_in shelf.old) job (DequeueNamed named.now) }
 {
     if let Some(refusal) = refusal_of_dequeue(shelf.as_slice(), job, named.as_slice()) {
-        forget(woken);
+        woken.clear();
         return LockReply::Refused(refusal);
     }
     depart_named(shelf, job, named.as_slice(), woken);
@@ -140,11 +139,12 @@ fn dequeue(shelf: &mut Shelf, job: u8, id: Option<RequestId>, woken: &mut Woken)
     ensures woken { woken.new.items ≡ woken_by (requests_in shelf.old) job (call_of id) }
 {
     let leaving = leaving_of(id);
-    if depart(shelf, job, &leaving, woken) {
-        LockReply::Done
-    } else {
-        LockReply::Refused(Refusal::NotPresent)
+    if !does_some_leave(shelf.as_slice(), job, &leaving) {
+        woken.clear();
+        return LockReply::Refused(Refusal::NotPresent);
     }
+    depart(shelf, job, &leaving, woken);
+    LockReply::Done
 }
 
 /// Makes a job's call, and fills in the grants that it makes.
@@ -163,7 +163,7 @@ pub fn make_call(shelf: &mut Shelf, job: u8, call: &LockCall, woken: &mut Woken)
 {
     match call {
         LockCall::Enqueue { asking, wants } => {
-            forget(woken);
+            woken.clear();
             enqueue(shelf, job, asking, wants)
         }
         LockCall::Modify(changes) => modify(shelf, job, changes, woken),

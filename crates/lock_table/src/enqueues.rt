@@ -2,20 +2,17 @@
 ghost use Rattle.std.specs.Prelude.{◌≡◌, ◌≤◌, ◌+◌, ◌^◌, max, ◌==◌, ◌&&◌, ◌||◌, not, if◌then◌else◌, [], filter};
 ghost use Rattle.std.specs.List.{list_all};
 ghost use Rattle.word36.specs.declared.sizes.TheConstants.{REQUESTS};
-ghost use Rattle.lock_queue.specs.declared.refusal.Refusal.TheVariants.{NamedAlready};
 ghost use Rattle.lock_queue.specs.Enqueues.{enqueue_fault, some_too_low, enqueue_refusal};
-ghost use Rattle.lock_queue.specs.Outcomes.{first_refusal, refuse_if};
+ghost use Rattle.lock_queue.specs.Outcomes.{first_refusal};
 ghost use Rattle.lock_queue.specs.Keys.{same_key};
 ghost use Rattle.lock_queue.specs.Queue.{names, wants_at, wants_of, agree, fits};
 ghost use Rattle.lock_table.specs.Arrivals.{judged};
 ghost use Rattle.lock_table.specs.Filings.{requests_in};
 ghost use Rattle.lock_table.specs.Levels.{above_all, some_below};
-ghost use Rattle.lock_table.specs.Signatures.{bits_of};
 
 use crate::filed::Filed;
 use crate::fits::{all_agree_in, is_fitting_where, job_names};
-use crate::shelf::Shelf;
-use crate::signature::{Signature, bits_at, hash_of};
+use crate::signature::bits_of;
 use crate::walks::{from_met, from_own, next_met};
 use lock_queue::steps::{are_alike_in, names_key};
 use lock_queue::{Asking, EnqueueKind, Key, Level, Refusal, Want};
@@ -39,11 +36,11 @@ fn do_agree_so_far(before: bool, f: &Filed, w: &Want) -> bool
 
 /// Why a want is refused beside the present ones: one of its key differs from it, or is the job's; else
 /// whether all of its key agree with it.
-fn judge_beside(filed: &[Filed], job: u8, w: &Want, bits: Signature) -> Result<bool, Refusal>
-    requires { bits ≡ bits_of w.now.key }
+fn judge_beside(filed: &[Filed], job: u8, w: &Want) -> Result<bool, Refusal>
     ensures { result ≡ judged (enqueue_fault (requests_in filed.now) job [] w.now)
         (list_all (λ v. agree v w.now) (wants_at (requests_in filed.now) w.now.key)) }
 {
+    let bits = bits_of(&w.key);
     let mut is_named = false;
     let mut do_agree = true;
     let mut rest = from_met(filed, bits);
@@ -64,18 +61,11 @@ fn judge_beside(filed: &[Filed], job: u8, w: &Want, bits: Signature) -> Result<b
 
 /// Why a want is refused that comes after the call's earlier ones; else whether it fits behind the
 /// present requests.
-fn judge_want(
-    filed: &[Filed],
-    job: u8,
-    earlier: &[Want],
-    w: &Want,
-    bits: Signature,
-) -> Result<bool, Refusal>
-    requires { bits ≡ bits_of w.now.key }
+fn judge_want(filed: &[Filed], job: u8, earlier: &[Want], w: &Want) -> Result<bool, Refusal>
     ensures { result ≡ judged (enqueue_fault (requests_in filed.now) job earlier.now w.now)
         (fits (requests_in filed.now) w.now) }
 {
-    match judge_beside(filed, job, w, bits) {
+    match judge_beside(filed, job, w) {
         Err(refusal) => Err(refusal),
         Ok(do_agree) => if names_key(earlier, &w.key) {
             Err(Refusal::NamedAlready)
@@ -85,50 +75,14 @@ fn judge_want(
     }
 }
 
-/// Whether a want fits where no request has its key.
-fn is_fitting_alone(w: &Want) -> bool
-    ensures { result ≡ fits [] w.now }
-{
-    match w.pool {
-        None => true,
-        Some(pool) => pool.amount() <= pool.size(),
-    }
-}
-
-/// Why a want is refused that comes after the call's earlier ones, and whose key no request has; else
-/// whether it fits.
-fn judge_alone(earlier: &[Want], w: &Want) -> Result<bool, Refusal>
-    ensures { result ≡ judged (refuse_if (names earlier.now w.now.key) NamedAlready) (fits [] w.now) }
-{
-    if names_key(earlier, &w.key) {
-        Err(Refusal::NamedAlready)
-    } else {
-        Ok(is_fitting_alone(w))
-    }
-}
-
-/// The same of each want. The present requests are walked over only where one may have its key.
-#[tactic(auto, using(crate::proofs::LackLaws::judged_lacking))]
-fn judge_where_wanted(shelf: &Shelf, job: u8, earlier: &[Want], w: &Want) -> Result<bool, Refusal>
-    ensures { result ≡ judged (enqueue_fault (requests_in shelf.now) job earlier.now w.now)
-        (fits (requests_in shelf.now) w.now) }
-{
-    let hash = hash_of(&w.key);
-    if shelf.lacks(hash) {
-        judge_alone(earlier, w)
-    } else {
-        judge_want(shelf.as_slice(), job, earlier, w, bits_at(hash))
-    }
-}
-
 /// Why a want is refused, for the first that is; else whether all fit behind the present requests.
-fn judge_wants(shelf: &Shelf, job: u8, wants: &[Want]) -> Result<bool, Refusal>
-    ensures { result ≡ judged (first_refusal (enqueue_fault (requests_in shelf.now) job) [] wants.now)
-        (list_all (fits (requests_in shelf.now)) wants.now) }
+fn judge_wants(filed: &[Filed], job: u8, wants: &[Want]) -> Result<bool, Refusal>
+    ensures { result ≡ judged (first_refusal (enqueue_fault (requests_in filed.now) job) [] wants.now)
+        (list_all (fits (requests_in filed.now)) wants.now) }
 {
     let mut are_fitting = true;
     for (i, w) in wants.iter().enumerate() {
-        match judge_where_wanted(shelf, job, &wants[..i], w) {
+        match judge_want(filed, job, &wants[..i], w) {
             Err(refusal) => return Err(refusal),
             Ok(is_fitting) => are_fitting = are_fitting && is_fitting,
         }
@@ -229,21 +183,21 @@ fn are_out_of_order(filed: &[Filed], job: u8, wants: &[Want]) -> bool
 /// of a vector, then for want of room; else whether its wants fit behind the present requests. Each
 /// want's key is walked for once.
 pub fn judge_enqueue(
-    shelf: &Shelf,
+    filed: &[Filed],
     job: u8,
     asking: &Asking,
     wants: &[Want],
 ) -> Result<bool, Refusal>
-    ensures { result ≡ judged (enqueue_refusal REQUESTS (requests_in shelf.now) job asking.now wants.now)
-        (list_all (fits (requests_in shelf.now)) wants.now) }
+    ensures { result ≡ judged (enqueue_refusal REQUESTS (requests_in filed.now) job asking.now wants.now)
+        (list_all (fits (requests_in filed.now)) wants.now) }
 {
-    match judge_wants(shelf, job, wants) {
+    match judge_wants(filed, job, wants) {
         Err(refusal) => Err(refusal),
-        Ok(are_fitting) => if are_out_of_order(shelf.as_slice(), job, wants) {
+        Ok(are_fitting) => if are_out_of_order(filed, job, wants) {
             Err(Refusal::LevelOrder)
         } else if matches!(asking.kind, EnqueueKind::Interrupt) && !asking.armed {
             Err(Refusal::NoVector)
-        } else if shelf.as_slice().len() >= REQUESTS {
+        } else if filed.len() >= REQUESTS {
             Err(Refusal::QueueFull)
         } else {
             Ok(are_fitting)

@@ -151,23 +151,14 @@ impl Filed {
         self.request.told = true;
     }
 
-    /// Writes another request over it, of wants with this signature.
-    pub fn write(
-        &mut self,
-        job: u8,
-        asking: &Asking,
-        told: bool,
-        wants: &Wants,
-        granted: bool,
-        signature: Signature,
-    )
-        requires { signature ≡ signature_of wants.now.items }
+    /// Writes another request over it.
+    pub fn write(&mut self, job: u8, asking: &Asking, told: bool, wants: &Wants, granted: bool)
         ensures value { self.new ≡ filing (request_of job asking.now told wants.now) granted }
         ensures few { length wants.now.items ≤ LOCKS_A_CALL }
         ensures range { IsTrue (list_all is_in_range wants.now.items) }
     {
         write_request(&mut self.request, job, asking, told, wants);
-        self.signature = signature;
+        self.signature = signature_of(wants.as_slice());
         self.own_bit = bit_of_job(job);
         self.job = job;
         self.blocking = is_blocking(asking.kind);

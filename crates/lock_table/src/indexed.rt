@@ -46,15 +46,15 @@ impl LockTable for IndexedTable {
     }
 
     fn release(&mut self, job: u8) {
-        let _ = depart(&mut self.present, job, &Leaving::All, &mut self.unheard);
+        depart(&mut self.present, job, &Leaving::All, &mut self.unheard);
     }
 
     fn release_waking(&mut self, job: u8, woken: &mut Woken) {
-        let _ = depart(&mut self.present, job, &Leaving::All, woken);
+        depart(&mut self.present, job, &Leaving::All, woken);
     }
 
     fn withdraw(&mut self, job: u8) {
-        let _ = depart(&mut self.present, job, &Leaving::Blocked, &mut self.unheard);
+        depart(&mut self.present, job, &Leaving::Blocked, &mut self.unheard);
     }
 
     fn waiting(&self, job: u8) -> bool {

@@ -15,7 +15,6 @@ mod sharing;
 mod shelf;
 mod signature;
 mod standing;
-mod tally;
 mod waiters;
 mod walks;
 

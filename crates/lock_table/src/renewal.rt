@@ -1,26 +1,16 @@
 //! Grants that are made when requests have left or changed, and the jobs that wait then.
-ghost use Rattle.std.specs.Prelude.{◌≡◌, ◌≤◌, ◌<◌, ◌+◌, ◌++◌, [], false, length, get_or, set, take, drop, IsTrue};
+ghost use Rattle.std.specs.Prelude.{◌≡◌, ◌≤◌, ◌<◌, ◌+◌, ◌++◌, [], false, length, take, drop, IsTrue};
 ghost use Rattle.word36.specs.declared.sizes.TheConstants.{REQUESTS};
 ghost use Rattle.lock_queue.specs.Queue.{granted_behind};
-ghost use Rattle.lock_table.specs.Counts.{AreTallied};
-ghost use Rattle.lock_table.specs.Filings.{Filing, requests_in};
-ghost use Rattle.lock_table.specs.Renewals.{renewed, risen, rises, shuts, with_grant};
+ghost use Rattle.lock_table.specs.Filings.{requests_in};
+ghost use Rattle.lock_table.specs.Renewals.{renewed, risen, rises, shuts};
 ghost use Rattle.lock_table.specs.Waiters.{waiters_in};
 
 use crate::filed::Filed;
 use crate::fits::are_fitting;
 use crate::signature::Signature;
-use crate::tally::Tally;
 use lock_queue::Woken;
 use lock_queue::steps::{do_agree, grant_of, is_pooled, is_told_of};
-
-/// Takes all grants out, one by one: mostly there are none or one, and the room for all others need not
-/// be written.
-pub fn forget(woken: &mut Woken)
-    ensures { woken.new.items ≡ [] }
-{
-    while woken.pop().is_some() {}
-}
 
 /// Whether the first want of a request does not fit behind the first of an earlier one.
 fn does_shut(g: &Filed, f: &Filed) -> bool
@@ -52,31 +42,15 @@ fn does_rise(earlier: &[Filed], f: &Filed, bits: Signature, last: &mut usize) ->
     are_fitting(earlier, f.wants())
 }
 
-/// Grants the request at a place, which waited until now. Kept apart, so that the walk itself stays
-/// short.
-#[inline(never)]
-fn grant_at(filed: &mut [Filed], i: usize, tally: &mut Tally)
-    requires there { i < length filed.old }
-    requires waits { (d : Filing) → (get_or filed.old i d).granted ≡ false }
-    requires tallied { AreTallied tally.old.all.items tally.old.waiting.items filed.old }
-    ensures value { (d : Filing) → filed.new ≡ set filed.old i (with_grant (get_or filed.old i d)) }
-    ensures tallied { AreTallied tally.new.all.items tally.new.waiting.items filed.new }
-{
-    tally.grant(filed[i].wants());
-    filed[i].grant();
-}
-
-/// Grants what rises, keeps the tally of what waits, fills in the grants of those whose jobs are told, and answers the bits of the
+/// Grants what rises, fills in the grants of those whose jobs are told, and answers the bits of the
 /// jobs that wait then.
-pub fn renew(filed: &mut [Filed], tally: &mut Tally, bits: Signature, woken: &mut Woken) -> u32
-    requires few { length filed.old ≤ REQUESTS }
-    requires tallied { AreTallied tally.old.all.items tally.old.waiting.items filed.old }
+pub fn renew(filed: &mut [Filed], bits: Signature, woken: &mut Woken) -> u32
+    requires { length filed.old ≤ REQUESTS }
     ensures value { filed.new ≡ renewed bits [] filed.old }
     ensures woken { woken.new.items ≡ risen bits [] filed.old }
     ensures waiters { result ≡ waiters_in filed.new }
-    ensures tallied { AreTallied tally.new.all.items tally.new.waiting.items filed.new }
 {
-    forget(woken);
+    woken.clear();
     let mut waiters = 0;
     let mut last = 0;
     for i in 0..filed.len() {
@@ -86,7 +60,7 @@ pub fn renew(filed: &mut [Filed], tally: &mut Tally, bits: Signature, woken: &mu
             if is_told_of(r.kind) {
                 woken.push(grant_of(r));
             }
-            grant_at(filed, i, tally);
+            filed[i].grant();
         }
         waiters |= filed[i].waiter_bit();
     }

@@ -1,5 +1,5 @@
 //! The requests that are present, in order of arrival, and the room for others.
-ghost use Rattle.std.specs.Prelude.{◌≡◌, true, ◌==◌, ◌+◌, ◌<◌, ◌≤◌, [], ◌∷◌, ◌++◌, length, get_or, map, take, drop, remove, IfOk, IsTrue, vec_capacity};
+ghost use Rattle.std.specs.Prelude.{◌≡◌, ◌+◌, ◌<◌, ◌≤◌, [], ◌∷◌, ◌++◌, length, get_or, map, take, drop, remove, IfOk, IsTrue, vec_capacity};
 ghost use Rattle.std.specs.List.{list_all, list_any};
 ghost use Rattle.word36.specs.declared.sizes.TheConstants.{LOCKS_A_CALL, REQUESTS};
 ghost use Rattle.lock_queue.specs.Enqueues.{request_of};
@@ -9,38 +9,33 @@ ghost use Rattle.lock_table.specs.Departures.{fewer, with_change};
 ghost use Rattle.lock_table.specs.Filings.{Filing, filing, requests_in, AreRight};
 ghost use Rattle.lock_table.specs.Findings.{blocks, told_in};
 ghost use Rattle.lock_table.specs.Renewals.{renewed, risen};
-ghost use Rattle.lock_table.specs.Tallies.{hash_count, awaited_bits};
 ghost use Rattle.lock_table.specs.Waiters.{waiter_bit, waiters_in};
 
 use crate::changes::change_of_job;
 use crate::filed::Filed;
 use crate::jobs::{does_some_block, tell};
-use crate::renewal::{forget, renew};
+use crate::renewal::renew;
 use crate::signature::Signature;
-use crate::tally::Tally;
 use lock_queue::{Asking, Want, Wants, Woken};
 use std::alloc::{AllocError, Global};
 use std::marker::Model;
 use word36::{JOBS, REQUESTS};
 
 /// Requests in order of arrival, and the unused ones; there are 256 in all, made at the start. Beside
-/// them is kept which jobs wait, and how many wants have a key of each hash, so that neither need be
-/// looked for.
+/// them is kept which jobs wait, so that it need not be looked for.
 #[derive(Drop)]
 pub struct Shelf {
     present: Vec<Filed>,
     spare: Vec<Filed>,
-    tally: Tally,
     /// The bits of the jobs that wait, where they are known.
     waiters: u32,
-    /// Whether they are known: not from where one that waits is removed until grants are renewed.
+    /// Whether they are known: not from a removal until grants are renewed.
     waiters_known: bool,
 }
 
 impl Model for Shelf {
     ghost use Rattle.std.specs.Prelude.{◌≡◌, ◌≤◌, ◌+◌, List, true, length, vec_capacity};
     ghost use Rattle.word36.specs.declared.sizes.TheConstants.{REQUESTS};
-    ghost use Rattle.lock_table.specs.Counts.{AreTallied};
     ghost use Rattle.lock_table.specs.Filings.{Filing};
     ghost use Rattle.lock_table.specs.Waiters.{waiters_in};
 
@@ -50,8 +45,7 @@ impl Model for Shelf {
 
     ghost invariant = { λ s. (length s.present.items + length s.spare.items ≡ REQUESTS)
         × (REQUESTS ≤ vec_capacity s.present) × (REQUESTS ≤ vec_capacity s.spare)
-        × (s.waiters_known ≡ true → s.waiters ≡ waiters_in s.present.items)
-        × AreTallied s.tally.all.items s.tally.waiting.items s.present.items };
+        × (s.waiters_known ≡ true → s.waiters ≡ waiters_in s.present.items) };
 }
 
 fn spares(alloc: Global) -> Result<Vec<Filed>, AllocError>
@@ -77,13 +71,6 @@ fn move_all(from: &mut Vec<Filed>, to: &mut Vec<Filed>)
     }
 }
 
-/// Whether the jobs that wait are known without a request, where they may have been with it.
-fn are_known_without(known: bool, filed: &Filed) -> bool
-    ensures { IsTrue result → (known ≡ true) × (waiter_bit filed.now ≡ 0) }
-{
-    known && filed.waiter_bit() == 0
-}
-
 impl Shelf {
     /// An empty shelf.
     pub fn new(alloc: Global) -> Result<Self, AllocError>
@@ -92,7 +79,6 @@ impl Shelf {
         Ok(Shelf {
             present: Vec::with_capacity(alloc, REQUESTS)?,
             spare: spares(alloc)?,
-            tally: Tally::new(alloc)?,
             waiters: 0,
             waiters_known: true,
         })
@@ -115,8 +101,7 @@ impl Shelf {
         ensures range { IsTrue (list_all is_in_range wants.now.items) }
     {
         let mut filed = self.spare.swap_remove(self.spare.len() - 1);
-        let signature = self.tally.add(wants.as_slice(), granted);
-        filed.write(job, asking, told, wants, granted, signature);
+        filed.write(job, asking, told, wants, granted);
         self.waiters |= filed.waiter_bit();
         let _ = self.present.push(filed);
     }
@@ -138,20 +123,15 @@ impl Shelf {
         self.append(job, asking, told, wants, granted);
     }
 
-    /// Takes out the request at a place; those behind it move up. Where its job does not wait by it, the
-    /// jobs that wait stay known. Answers the signature of those of its wants that were awaited.
-    pub fn remove(&mut self, i: usize) -> Signature
+    /// Takes out the request at a place; those behind it move up.
+    pub fn remove(&mut self, i: usize)
         requires { i < length self.old }
         ensures value { self.new ≡ remove self.old i }
         ensures few { length self.new ≤ REQUESTS }
-        ensures bits { (d : Filing) → result ≡
-            awaited_bits self.old (get_or self.old i d).request.wants.items }
     {
         let filed = self.present.remove(i);
-        let bits = self.tally.remove(filed.wants(), filed.is_granted());
-        self.waiters_known = are_known_without(self.waiters_known, &filed);
         let _ = self.spare.push(filed);
-        bits
+        self.waiters_known = false;
     }
 
     /// Takes out all.
@@ -159,25 +139,18 @@ impl Shelf {
         ensures { self.new ≡ [] }
     {
         move_all(&mut self.present, &mut self.spare);
-        self.tally.clear();
         self.waiters = 0;
         self.waiters_known = true;
     }
 
     /// Grants what is granted now among what was not and meets these bits, and fills in these
-    /// grants, where their jobs are told. No bits are met by none, so then no request is looked at, but
-    /// to find the jobs that wait.
-    #[tactic(auto, using(crate::proofs::RenewalLaws::renewed_none, crate::proofs::RenewalLaws::risen_none))]
+    /// grants, where their jobs are told.
     pub fn renew(&mut self, bits: Signature, woken: &mut Woken)
         ensures value { self.new ≡ renewed bits [] self.old }
         ensures few { length self.new ≤ REQUESTS }
         ensures woken { woken.new.items ≡ risen bits [] self.old }
     {
-        if self.waiters_known && bits.is_none() {
-            forget(woken);
-            return;
-        }
-        self.waiters = renew(self.present.as_mut_slice(), &mut self.tally, bits, woken);
+        self.waiters = renew(self.present.as_mut_slice(), bits, woken);
         self.waiters_known = true;
     }
 
@@ -209,10 +182,8 @@ impl Shelf {
         ensures { (d : Filing) → self.new ≡
             take i self.old ++ fewer named.now (get_or self.old i d) ∷ drop (i + 1) self.old }
     {
-        let filed = &mut self.present[i];
-        let _ = self.tally.remove(filed.wants(), filed.is_granted());
-        filed.remove_keys(named);
-        let _ = self.tally.add(filed.wants(), filed.is_granted());
+        self.waiters_known = false;
+        self.present[i].remove_keys(named);
     }
 
     /// Makes the job's wants shared or exclusive, each as the change of its key says, if there is one.
@@ -222,21 +193,5 @@ impl Shelf {
         ensures few { length self.new ≤ REQUESTS }
     {
         change_of_job(self.present.as_mut_slice(), job, changes);
-    }
-
-    /// Whether no request has a want whose key has this hash.
-    pub fn lacks(&self, hash: u64) -> bool
-        requires { hash < 4096 }
-        ensures { result ≡ (hash_count hash self.now == 0) }
-    {
-        self.tally.lacks(hash)
-    }
-
-    /// The signature of those of some wants that are awaited: a request that is not granted wants a key
-    /// of the same hash.
-    pub fn awaited(&self, wants: &[Want]) -> Signature
-        ensures { result ≡ awaited_bits self.now wants.now }
-    {
-        self.tally.awaited(wants)
     }
 }

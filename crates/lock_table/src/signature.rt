@@ -1,7 +1,7 @@
 //! The signature of some wants: a bit for each of 64 groups of keys that they touch, and for each of 64
 //! classes, which part keys in another way.
-ghost use Rattle.std.specs.Prelude.{◌≡◌, ◌==◌, ◌<◌, ◌^◌, ◌%◌, ◌/◌};
-ghost use Rattle.lock_table.specs.Signatures.{hash_text, hash_of, bits_of, joined, meets, no_bits, signature, signature_of};
+ghost use Rattle.std.specs.Prelude.{◌≡◌, ◌<◌};
+ghost use Rattle.lock_table.specs.Signatures.{hash_text, hash_of, bits_of, joined, meets, no_bits, signature_of};
 
 use lock_queue::{Key, Name, Scope, Want};
 
@@ -23,13 +23,6 @@ impl Signature {
             groups: 0,
             classes: 0,
         }
-    }
-
-    /// Whether it is the one of no keys.
-    pub fn is_none(self) -> bool
-        ensures { result ≡ (self.groups == 0) }
-    {
-        self.groups == 0
     }
 
     /// The bits of both.
@@ -63,7 +56,7 @@ fn hash_text(text: &[u8], start: u64) -> u64
 }
 
 /// A number below 4,096, made of a key's scope and name.
-pub fn hash_of(key: &Key) -> u64
+fn hash_of(key: &Key) -> u64
     ensures value { result ≡ hash_of key.now }
     ensures below { result < 4096 }
 {
@@ -77,22 +70,15 @@ pub fn hash_of(key: &Key) -> u64
     }
 }
 
-/// The bits of the group and the class of keys of a hash.
-pub fn bits_at(hash: u64) -> Signature
-    requires { hash < 4096 }
-    ensures { result ≡ signature (2 ^ (hash % 64)) (2 ^ (hash / 64)) }
-{
-    Signature {
-        groups: 1 << (hash % 64),
-        classes: 1 << (hash / 64),
-    }
-}
-
 /// The bits of a key's group and class.
 pub fn bits_of(key: &Key) -> Signature
     ensures { result ≡ bits_of key.now }
 {
-    bits_at(hash_of(key))
+    let hash = hash_of(key);
+    Signature {
+        groups: 1 << (hash % 64),
+        classes: 1 << (hash / 64),
+    }
 }
 
 /// The bits of all keys of some wants.

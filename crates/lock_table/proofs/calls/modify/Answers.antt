@@ -64,7 +64,7 @@ returns-then-is_some_lost-clause-woken c =
     let lost = lost-of fs c.as_slice-2.result.now c.args.job cs c.as_slice-wanted.result.now c.is_some_lost.result
     c.as_slice-2.ensures.value c.as_slice-wanted.ensures.value c.is_some_lost.ensures c.requires passed in
     let out = modify-lost fs c.args.job c.args.changes.now c.requires passed (lost ∙ c.if-is_some_lost.true) in
-    c.forget.ensures
+    c.clear.ensures
     ∙ sym (ap (λ (o : Outcome). unless_refused_grants o.reply (woken (left_of c.args.job (Modify c.args.changes.now)) (requests_in fs))) out)
 
 pub returns-clause-requests : goal.returns-clause-requests

@@ -1,10 +1,9 @@
 use Rattle.std.proofs.Common.{◌≡◌, ◌∙◌, ◌<◌, ◌+◌, ◌-◌, sym, ap, false, ◌++◌, filter, map, length, get_or, take, drop, arith}
 use Rattle.lock_queue.specs.Unused.{unused_request}
-use Rattle.lock_table.specs.Departures.{loses_waiting, lost_bits, keeps_wants, with_fewer, signature_where}
+use Rattle.lock_table.specs.Departures.{loses, lost_bits, keeps_wants, with_fewer, signature_where}
 use Rattle.lock_table.specs.Filings.{Filing, filing}
 use Rattle.lock_table.specs.Signatures.{joined}
-use Rattle.lock_table.proofs.GivingUpLaws.{kept-from, bits-from, front-long}
-use Rattle.lock_table.proofs.FrontLaws.{front-at}
+use Rattle.lock_table.proofs.GivingUpLaws.{kept-from, bits-from, front-at, front-long}
 use Rattle.lock_table.proofs.departures.give_up.Goals as goal
 
 pub loop-i-preserved : goal.loop-i-preserved
@@ -25,7 +24,7 @@ loop-i-preserved c =
     let at = ap (λ l. get_or l i d) are ∙ front-at old (filter keeps_wants (map (with_fewer job named) (drop c.loop-i.i old))) i d lt in record {
       items = items;
       bits = c.joined-bits.ensures ∙ ap (joined c.loop-i.bits) (c.give_up_at.ensures.bits d ∙ ap (lost_bits job named) at)
-          ∙ ap (λ b. joined b (lost_bits job named (get_or old i d))) (c.loop-i.invariant.bits ∙ ap (λ m. signature_where (loses_waiting job named) (drop m old)) (sym more))
+          ∙ ap (λ b. joined b (lost_bits job named (get_or old i d))) (c.loop-i.invariant.bits ∙ ap (λ m. signature_where (loses job named) (drop m old)) (sym more))
           ∙ sym (bits-from job named old i d lt);
       there = omega (arith, lt);
       front = let long = front-long old (filter keeps_wants (map (with_fewer job named) (drop i old))) i (omega (arith, lt)) in

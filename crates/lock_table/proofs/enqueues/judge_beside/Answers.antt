@@ -14,7 +14,7 @@ use Rattle.lock_table.proofs.enqueues.judge_beside.Goals as goal
 pub loop-rest-init : goal.loop-rest-init
 loop-rest-init c =
     let k = c.args.w.now.key in
-    let are = c.from_met-rest.ensures.value ∙ ap (λ b. from_met b c.args.filed.now) c.requires in record {
+    let are = c.from_met-rest.ensures.value ∙ ap (λ b. from_met b c.args.filed.now) c.bits_of-bits.ensures in record {
       alike = ap (λ l. list_all (λ v. are_alike v c.args.w.now) (wants_at (requests_in l) k)) are
           ∙ ap (list_all (λ v. are_alike v c.args.w.now)) (met_wants k c.args.filed.now);
       agreeing = ap (λ l. list_all (λ v. agree v c.args.w.now) (wants_at (requests_in l) k)) are
@@ -28,9 +28,9 @@ loop-rest-preserved c =
     let xs = c.loop-rest.rest.now in
     let ys = c.next_met-rest.result.now in
     let f = c.f-item.result in
-    let all = walk-all w.key c.args.bits xs ys f c.requires c.in-len1-up.len_at_least c.f-item.is c.next_met-rest.ensures.value (λ v. are_alike v w) in
-    let agreeing = walk-all w.key c.args.bits xs ys f c.requires c.in-len1-up.len_at_least c.f-item.is c.next_met-rest.ensures.value (λ v. agree v w) in
-    let named = walk-names w.key c.args.bits xs ys f c.requires c.in-len1-up.len_at_least c.f-item.is c.next_met-rest.ensures.value c.args.job in
+    let all = walk-all w.key c.bits_of-bits.result xs ys f c.bits_of-bits.ensures c.in-len1-up.len_at_least c.f-item.is c.next_met-rest.ensures.value (λ v. are_alike v w) in
+    let agreeing = walk-all w.key c.bits_of-bits.result xs ys f c.bits_of-bits.ensures c.in-len1-up.len_at_least c.f-item.is c.next_met-rest.ensures.value (λ v. agree v w) in
+    let named = walk-names w.key c.bits_of-bits.result xs ys f c.bits_of-bits.ensures c.in-len1-up.len_at_least c.f-item.is c.next_met-rest.ensures.value c.args.job in
     let mine : list_all (λ v. are_alike v w) (filter (λ v. same_key v.key w.key) f.request.wants.items) ≡ true =
     grind (arith, c.are_alike_in.ensures, c.wants.ensures, c.if-not-are_alike_in.false) in record {
       alike = sym (all ∙ ap (λ b. b && list_all (λ v. are_alike v w) (wants_at (requests_in ys) w.key)) mine) ∙ c.loop-rest.invariant.alike;

@@ -12,13 +12,13 @@ use Rattle.lock_table.proofs.enqueues.judge_wants.Goals.{then-are_fitting, else-
 
 pub returns-in-Err : goal.returns-in-Err
 returns-in-Err c =
-    let rs = requests_in c.args.shelf.now in
+    let rs = requests_in c.args.filed.now in
     let job = c.args.job in
     let wants = c.args.wants.now in
     let i = c.loop-i.i in
     let w : Want = c.index-wants-i.result in
     let refused : enqueue_fault rs job (take i wants) w ≡ Some c.in-Err.refusal =
-    judged-err (enqueue_fault rs job (take i wants) w) (fits rs w) c.in-Err.refusal (sym c.judge_where_wanted.ensures ∙ c.in-Err.is) in
+    judged-err (enqueue_fault rs job (take i wants) w) (fits rs w) c.in-Err.refusal (sym c.judge_want.ensures ∙ c.in-Err.is) in
     sym (ap (λ o. judged (or_else o (first_refusal (enqueue_fault rs job) (take (i + 1) wants) (drop (i + 1) wants)))
     ((c.loop-i.are_fitting && fits rs w) && list_all (fits rs) (drop (i + 1) wants))) refused)
     ∙ sym (judged-step (enqueue_fault rs job) (fits rs) wants i w c.loop-i.are_fitting (omega arith) c.index-wants-i.is)
@@ -26,12 +26,12 @@ returns-in-Err c =
 
 pub loop-i-preserved : goal.loop-i-preserved
 loop-i-preserved c =
-    let rs = requests_in c.args.shelf.now in
+    let rs = requests_in c.args.filed.now in
     let job = c.args.job in
     let wants = c.args.wants.now in
     let i = c.loop-i.i in
     let w : Want = c.index-wants-i.result in
-    let parts = judged-ok (enqueue_fault rs job (take i wants) w) (fits rs w) c.in-Ok.is_fitting (sym c.judge_where_wanted.ensures ∙ c.in-Ok.is) in
+    let parts = judged-ok (enqueue_fault rs job (take i wants) w) (fits rs w) c.in-Ok.is_fitting (sym c.judge_want.ensures ∙ c.in-Ok.is) in
     let both : c.if-are_fitting.are_fitting ≡ (c.loop-i.are_fitting && c.in-Ok.is_fitting) =
     elim c.if-are_fitting.branch [
       | then-are_fitting b ↦ grind (arith, b.if-are_fitting.true, b.are_fitting-is)

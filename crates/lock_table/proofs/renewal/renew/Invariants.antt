@@ -1,5 +1,4 @@
 use Rattle.std.proofs.Common.{◌≡◌, ◌≤◌, ◌++◌, [], length, take, drop}
-use Rattle.lock_table.specs.Counts.{AreTallied}
 use Rattle.lock_table.specs.Filings.{requests_in}
 use Rattle.lock_table.specs.Renewals.{renewed, risen}
 use Rattle.lock_table.specs.Waiters.{with_waiters, waiters_in}
@@ -17,6 +16,5 @@ invariant-loop-i l =
       waiters :
           with_waiters l.waiters (renewed l.bits (requests_in (take l.i l.filed)) (drop l.i l.filed))
           ≡ waiters_in (renewed l.bits [] l.initial.filed);
-      tallied : AreTallied l.tally.all.items l.tally.waiting.items l.filed;
       few : length l.woken.items ≤ l.i;
     }
