@@ -1,8 +1,6 @@
 -- The locks of a command, and what a call wants of them (this project's profile).
 use Rattle.std.specs.Prelude.{◌≡◌, ◌<◌, ◌==◌, ◌&&◌, ◌||◌, ℕ, Bool, true, List, [], ◌∷◌, length, Option, Some, None, Result, Ok, Err, if◌then◌else◌, option_and_then, option_map, unwrap_or, nat_le}
-use Rattle.std.specs.Borrow.{Bor}
 use Rattle.std.specs.List.{list_all}
-use Rattle.std.specs.Option.{option_map_or}
 use Rattle.arrayvec.specs.ArrayVec.{ArrayVec}
 use Rattle.word36.specs.declared.sizes.TheConstants.{LOCKS_A_CALL, NAME_LENGTH}
 use Rattle.lock_queue.specs.Uses.{want_on}
@@ -63,10 +61,6 @@ lock_of item = lock_of_parts (parts 47 item)
 abbrev pub locks_of : List (List ℕ) → Option (List Lock)
 locks_of [] = Some []
 locks_of (item ∷ more) = option_and_then (λ lock. option_map (λ locks. lock ∷ locks) (locks_of more)) (lock_of item)
-
--- the parts of a text, where there is one
-abbrev pub texts_in : ℕ → Option (Bor (List ℕ)) → List (List ℕ)
-texts_in separator rest = option_map_or (λ text. parts separator text.now) rest []
 
 -- the first item of some has this name in characters, these options, and these items behind it
 abbrev pub SplitsLock : List ℕ → List ℕ → List (List ℕ) → List (List ℕ) → Type 0

@@ -1,6 +1,8 @@
 -- Numbers and parts of a line (this project's profile).
 use Rattle.std.specs.Prelude.{◌≡◌, ◌==◌, ◌&&◌, ◌+◌, ◌-◌, ◌*◌, ℕ, Bool, List, [], ◌∷◌, length, Option, Some, None, if◌then◌else◌, nat_le, nat_lt}
+use Rattle.std.specs.Borrow.{Bor}
 use Rattle.std.specs.List.{list_all, slice_split}
+use Rattle.std.specs.Option.{option_map_or}
 
 -- whether a character is a digit of the base; 48 is `0`
 abbrev pub is_digit : ℕ → ℕ → Bool
@@ -20,6 +22,10 @@ number base most text =
 -- the parts of a text between the separators; there is one more of them than of these
 unfoldable pub parts : ℕ → List ℕ → List (List ℕ)
 parts separator text = slice_split (λ b. b == separator) text
+
+-- the parts of a text, where there is one
+abbrev pub texts_in : ℕ → Option (Bor (List ℕ)) → List (List ℕ)
+texts_in separator rest = option_map_or (λ text. parts separator text.now) rest []
 
 -- what the first of some texts spells, where there is one
 abbrev pub front : (List ℕ → Option ℕ) → List (List ℕ) → Option ℕ

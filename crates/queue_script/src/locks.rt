@@ -2,8 +2,8 @@
 ghost use Rattle.std.specs.Prelude.{◌≡◌, ◌<◌, ◌≤◌, true, [], ◌∷◌, length, take, ◌^◌, IfSome, MatchOption};
 ghost use Rattle.std.specs.List.{list_all};
 ghost use Rattle.queue_script.specs.Options.{no_options};
-ghost use Rattle.queue_script.specs.Numbers.{parts};
-ghost use Rattle.queue_script.specs.Locks.{is_name_character, user_code, text_name, name_of_characters, name_of, lock_of, lock_of_parts, want_of, key_of, texts_in, SplitsLock, IsFirstLock};
+ghost use Rattle.queue_script.specs.Numbers.{parts, texts_in};
+ghost use Rattle.queue_script.specs.Locks.{is_name_character, user_code, text_name, name_of_characters, name_of, lock_of, lock_of_parts, want_of, key_of, SplitsLock, IsFirstLock};
 
 use crate::numbers::number;
 use crate::options::{Options, read_options};

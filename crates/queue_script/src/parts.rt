@@ -1,8 +1,7 @@
 //! The parts of a line or of an item.
 ghost use Rattle.std.specs.Prelude.{◌≡◌, ◌==◌, ◌<◌, ◌≤◌, ◌^◌, ◌↔◌, ℕ, List, [], ◌∷◌, None, IsTrue, IfSome, MatchOption};
 ghost use Rattle.std.specs.Option.{option_map_or};
-ghost use Rattle.queue_script.specs.Locks.{texts_in};
-ghost use Rattle.queue_script.specs.Numbers.{parts, number, front, IsFront};
+ghost use Rattle.queue_script.specs.Numbers.{parts, texts_in, number, front, IsFront};
 
 use crate::numbers::digit_number;
 use std::marker::Model;
@@ -88,7 +87,7 @@ impl<'a> Parts<'a> {
 /// The first part of a text, and what stands behind its separator.
 #[tactic(auto, unfolding(crate::specs::Numbers::parts))]
 pub fn split_part(text: &[u8], separator: u8) -> (&[u8], Option<&[u8]>)
-    ensures { parts separator text.now ≡ result.0.now ∷ option_map_or (λ rest. parts separator rest.now) result.1 [] }
+    ensures { parts separator text.now ≡ result.0.now ∷ texts_in separator result.1 }
 {
     for (i, byte) in text.iter().enumerate() {
         if *byte == separator {
@@ -124,7 +123,7 @@ fn split_digit(most: u64, text: &[u8], separator: u8) -> Option<(u64, Option<&[u
 fn split_number(most: u64, text: &[u8], separator: u8) -> Option<(u64, Option<&[u8]>)>
     requires { most < 2 ^ 56 }
     ensures value { MatchOption result (front (number 10 most) (parts separator text.now) ≡ None)
-        (λ r. IsFront (number 10 most) r.0 (parts separator text.now) (option_map_or (λ rest. parts separator rest.now) r.1 [])) }
+        (λ r. IsFront (number 10 most) r.0 (parts separator text.now) (texts_in separator r.1)) }
     ensures small { IfSome result (λ r. r.0 ≤ most) }
 {
     match split_digit(most, text, separator) {
