@@ -1,6 +1,5 @@
 //! The parts of a line or of an item.
 ghost use Rattle.std.specs.Prelude.{◌≡◌, ◌==◌, ◌<◌, ◌≤◌, ◌^◌, ◌↔◌, ℕ, List, [], ◌∷◌, None, IsTrue, IfSome, MatchOption};
-ghost use Rattle.std.specs.Option.{option_map_or};
 ghost use Rattle.queue_script.specs.Numbers.{parts, texts_in, number, front, IsFront};
 
 use crate::numbers::digit_number;
@@ -16,7 +15,7 @@ pub struct Parts<'a> {
 impl<'a> Model for Parts<'a> {
     ghost Value = { List (List ℕ) };
 
-    ghost view = { λ s. option_map_or (λ rest. parts s.separator rest.now) s.rest [] };
+    ghost view = { λ s. texts_in s.separator s.rest };
 }
 
 impl<'a> Parts<'a> {
