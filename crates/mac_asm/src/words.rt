@@ -14,6 +14,9 @@ use std::alloc::{AllocError, Global};
 use whole_numbers::Natural;
 use word36::Word;
 
+/// How many values a half of a word has.
+const HALVES: u64 = 1 << 18;
+
 /// The value of an expression modulo a size, where it is at least `-least` and at most `most`.
 #[tactic(auto, unfolding(crate::specs::Words::fitted, mac_layout::specs::Values::value_of, mac_layout::specs::Values::residue_of))]
 #[inline(always)]
@@ -87,7 +90,7 @@ fn half<'a>(
     ensures value { IfOk result (λ r. r ≡ half_of (names_of scope.now) expression.now) }
     ensures below { IfOk result (λ r. IfSome r (λ half. half < 2 ^ 18)) }
 {
-    match fitted(alloc, expression, scope, 0o777_777, 0o777_777, 1 << 18)? {
+    match fitted(alloc, expression, scope, 0o777_777, 0o777_777, HALVES)? {
         None => Ok(None),
         Some(number) => Ok(Some(number as u32)),
     }
@@ -117,7 +120,7 @@ pub fn start<'a>(
     ensures value { IfOk result (λ r. r ≡ start_of (names_of scope.now) expression.now) }
     ensures below { IfOk result (λ r. IfSome r (λ place. place < 2 ^ 18)) }
 {
-    match fitted(alloc, expression, scope, 0, 0o777_777, 1 << 18)? {
+    match fitted(alloc, expression, scope, 0, 0o777_777, HALVES)? {
         None => Ok(None),
         Some(number) => Ok(Some(number as u32)),
     }
@@ -347,11 +350,11 @@ pub fn iowd<'a>(
         return Ok(None);
     };
     let count = count.negated();
-    let Some(left) = count.residue(alloc, 0o777_777, 0o777_777, 1 << 18)? else {
+    let Some(left) = count.residue(alloc, 0o777_777, 0o777_777, HALVES)? else {
         return Ok(None);
     };
     let address = address.less_one(alloc)?;
-    let Some(right) = address.residue(alloc, 0o777_777, 0o777_777, 1 << 18)? else {
+    let Some(right) = address.residue(alloc, 0o777_777, 0o777_777, HALVES)? else {
         return Ok(None);
     };
     Ok(Some(Word::join(left as u32, right as u32)))

@@ -3,9 +3,10 @@
 ghost use Rattle.std.specs.Prelude.{◌≡◌, min};
 
 use whole_numbers::Natural;
+use word36::ADDRESSES;
 
 /// How many places there are: an address has 18 bits.
-pub const PLACES: usize = 1 << 18;
+pub const PLACES: usize = ADDRESSES as usize;
 
 /// The place of the first statement, and the start where END names none.
 pub const FIRST: u32 = 0o140;

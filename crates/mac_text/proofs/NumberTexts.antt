@@ -1,15 +1,15 @@
 -- Numbers as they are printed, and how an expression reads them.
-use Rattle.std.proofs.Common.{◌≡◌, ℕ, zero, suc, ◌+◌, ◌-◌, ◌*◌, ◌/◌, ◌^◌, ◌<◌, ◌≤◌, ◌&&◌, not, List, [], ◌∷◌, ◌++◌, Option, Some, None, Bool, true, false, length, length-append, take, drop, refl, ap, ◌∙◌, inl, inr, arith}
+use Rattle.std.proofs.Common.{◌≡◌, ℕ, zero, suc, ◌+◌, ◌-◌, ◌*◌, ◌/◌, ◌^◌, ◌<◌, ◌≤◌, ◌&&◌, not, List, [], ◌∷◌, ◌++◌, Option, Some, None, Bool, true, false, length, length-append, take, drop, refl, ap, ◌∙◌, arith}
 use Rattle.std.specs.Prelude.{nat_lt}
 use Rattle.std.specs.List.{list_all, prefix_len}
-use Rattle.std.proofs.lemmas.Bool.{and_parts, not-true, ne_eqb, cases_lt}
+use Rattle.std.proofs.lemmas.Bool.{and_parts, not-true, ne_eqb}
 use Rattle.std.proofs.lemmas.Bool.Decides.{nat_tests}
 use Rattle.std.proofs.lemmas.List.Folds.{list_all-append}
 use Rattle.std.proofs.lemmas.List.Sums.{fold-append}
 use Rattle.std.proofs.Math.Seq.{take-append_seam, drop-append_seam}
 use Rattle.std.proofs.Math.Nat.{pow-suc}
 use Rattle.word36.specs.Octal.{octal_within, octal_text, last_digit}
-use Rattle.word36.proofs.OctalLemmas.{octal_within_last, octal_within_more}
+use Rattle.word36.proofs.OctalLemmas.{by_digits, octal_within_last}
 use Rattle.mac_text.specs.Characters.{is_blank, is_digit, is_name_character}
 use Rattle.mac_text.specs.Names.{is_name}
 use Rattle.whole_numbers.specs.Numerals.{digits_value}
@@ -70,11 +70,6 @@ digits_are_name_characters (d ∷ ds) h =
 digits_are_no_name : (d : ℕ) (ds : List ℕ) → is_digit_of 8 d ≡ true → is_name (d ∷ ds) ≡ false
 digits_are_no_name d [] h = rw (digit_is_digit d h) refl
 digits_are_no_name d (e ∷ es) h = rw (digit_is_digit d h) refl
-
--- what holds of the last digit, and of what goes before it with it, holds of the whole
-by_digits : (P : ℕ → List ℕ → Type 0) (k n : ℕ) → (n < 8 → P n (last_digit n ∷ [])) → (8 ≤ n → P n (octal_within k (n / 8) ++ last_digit n ∷ [])) → P n (octal_within (suc k) n)
-by_digits P k n one more =
-    elim (cases_lt n 8) [ inl h ↦ rw (octal_within_last k n h) (one h) | inr h ↦ rw (octal_within_more k n h) (more h) ]
 
 octal_digits : (k n : ℕ) → list_all (is_digit_of 8) (octal_within k n) ≡ true
 unfolding octal_within

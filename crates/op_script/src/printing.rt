@@ -8,11 +8,11 @@ use crate::texts::push_text;
 use job_sched::{Stop, Wait};
 use ka_isa::text_of;
 use machine::{Answer, JobView, RefusedEvent};
-use queue_script::{octal_digits, push_word};
+use queue_script::push_word;
 use script_io::push_decimal;
 use std::alloc::AllocError;
 use tty_lines::Char7;
-use word36::Word;
+use word36::{Word, octal_digits};
 
 /// Adds `?REFUSED code`.
 #[tactic(auto, using(std::proofs::Common::append_assoc))]
@@ -162,7 +162,7 @@ pub fn push_job(out: &mut Vec<u8>, n: u8, job: &JobView) -> Result<(), AllocErro
     out.extend_from_slice(b" BLOCKS ")?;
     push_decimal(out, job.blocks)?;
     out.extend_from_slice(b" PC ")?;
-    out.extend_from_slice(&octal_digits(job.pc.number()))?;
+    out.extend_from_slice(&octal_digits::<6>(u64::from(job.pc.number())))?;
     out.push(b' ')?;
     push_standing(out, job.stop, job.wait)?;
     out.push(b'\n')?;
@@ -177,7 +177,7 @@ pub fn push_place(out: &mut Vec<u8>, place: u32, word: Option<Word>) -> Result<(
     match word {
         None => out.extend_from_slice(b"?ADDRESS\n")?,
         Some(word) => {
-            out.extend_from_slice(&octal_digits(place))?;
+            out.extend_from_slice(&octal_digits::<6>(u64::from(place)))?;
             out.extend_from_slice(b"/ ")?;
             push_word(out, word)?;
             out.push(b' ')?;

@@ -19,7 +19,7 @@ mod wait_pairs;
 pub use asm_sources::serve_asm;
 pub use commands::{is_allowed, is_silent};
 pub use endings::{Ending, ServeError, push_fault, serve_script};
-pub use listings::{octal_digits, push_asm_fault};
+pub use listings::push_asm_fault;
 pub use numbers::number;
 pub use options::read_half;
 pub use parts::Parts;

@@ -1,41 +1,20 @@
 //! The listing of a source: its words by rising place and its start, or what is wrong with it.
 ghost use Rattle.std.specs.Prelude.{◌≡◌, ◌++◌, ◌<◌, ◌^◌, OnOk, ◌∷◌, []};
 ghost use Rattle.std.specs.List.{flat_map, list_all};
-ghost use Rattle.word36.specs.Octal.{last_digit, octal};
 ghost use Rattle.queue_script.specs.Listings.{word_line, image_text, fault_text};
 
 use crate::printing::push_word;
 use mac_asm::AsmCode;
 use script_io::push_decimal;
 use std::alloc::AllocError;
-use word36::{Image, Word};
-
-/// The last octal digit of a number.
-fn last_digit(number: u32) -> u8
-    ensures { result ≡ last_digit number }
-{
-    b'0' + (number % 8) as u8
-}
-
-/// The six last octal digits of a number.
-#[tactic(auto, unfolding(word36::specs::Octal::octal))]
-pub fn octal_digits(number: u32) -> [u8; 6]
-    ensures { result ≡ octal 6 number }
-{
-    let fifth = number / 8;
-    let fourth = fifth / 8;
-    let third = fourth / 8;
-    let second = third / 8;
-    let first = second / 8;
-    [first, second, third, fourth, fifth, number].map(last_digit)
-}
+use word36::{Image, Word, octal_digits};
 
 /// Adds a line of a place and its word.
 #[tactic(auto, using(std::proofs::Common::append_assoc))]
 fn push_word_line(out: &mut Vec<u8>, place: u32, word: Word) -> Result<(), AllocError>
     ensures { OnOk result (out.new.items ≡ out.old.items ++ word_line (place, word)) }
 {
-    out.extend_from_slice(&octal_digits(place))?;
+    out.extend_from_slice(&octal_digits::<6>(u64::from(place)))?;
     out.push(b' ')?;
     push_word(out, word)?;
     out.push(b'\n')?;
@@ -59,7 +38,7 @@ pub fn push_image(out: &mut Vec<u8>, image: &Image) -> Result<(), AllocError>
 {
     push_words(out, image.words.as_slice())?;
     out.extend_from_slice(b"START ")?;
-    out.extend_from_slice(&octal_digits(image.start))?;
+    out.extend_from_slice(&octal_digits::<6>(u64::from(image.start)))?;
     out.push(b'\n')?;
     Ok(())
 }

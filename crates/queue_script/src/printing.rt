@@ -4,14 +4,13 @@ ghost use Rattle.std.specs.List.{flat_map};
 ghost use Rattle.word36.specs.Octal.{word_text};
 ghost use Rattle.queue_script.specs.Printing.{code_line, reply_line, grant_line, status_line, escaped, name_character, name_text, level_text, pool_text, scope_text, want_text, kind_number, wants_text, request_line};
 
-use crate::listings::octal_digits;
 use crate::locks::is_name_character;
 use lock_queue::{
     EnqueueKind, Grant, Level, LockReply, Name, Pool, Refusal, Request, Scope, Status, Want,
 };
 use script_io::push_decimal;
 use std::alloc::AllocError;
-use word36::{Word, octal_text};
+use word36::{Word, octal_digits, octal_text};
 
 /// Adds `CODE n`.
 #[tactic(auto, using(std::proofs::Common::append_assoc))]
@@ -69,9 +68,9 @@ pub fn push_grants(out: &mut Vec<u8>, grants: &[Grant]) -> Result<(), AllocError
 pub fn push_word(out: &mut Vec<u8>, word: Word) -> Result<(), AllocError>
     ensures { OnOk result (out.new.items ≡ out.old.items ++ word_text word) }
 {
-    out.extend_from_slice(&octal_digits(word.left()))?;
+    out.extend_from_slice(&octal_digits::<6>(u64::from(word.left())))?;
     out.extend_from_slice(b",,")?;
-    out.extend_from_slice(&octal_digits(word.right()))?;
+    out.extend_from_slice(&octal_digits::<6>(u64::from(word.right())))?;
     Ok(())
 }
 

@@ -64,7 +64,7 @@ unfolding octal_within
 octal_within_more k n h = rw (le-ltb n 8 h) refl
 
 -- what holds of the last digit, and of what goes before it with it, holds of the whole
-by_digits : (P : ℕ → List ℕ → Type 0) (k n : ℕ) → (n < 8 → P n (last_digit n ∷ [])) → (8 ≤ n → P n (octal_within k (n / 8) ++ last_digit n ∷ [])) → P n (octal_within (suc k) n)
+pub by_digits : (P : ℕ → List ℕ → Type 0) (k n : ℕ) → (n < 8 → P n (last_digit n ∷ [])) → (8 ≤ n → P n (octal_within k (n / 8) ++ last_digit n ∷ [])) → P n (octal_within (suc k) n)
 by_digits P k n one more =
     elim (cases_lt n 8) [ inl h ↦ rw (octal_within_last k n h) (one h) | inr h ↦ rw (octal_within_more k n h) (more h) ]
 

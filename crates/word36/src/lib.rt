@@ -10,7 +10,7 @@ mod word;
 
 pub use address::Address;
 pub use image::Image;
-pub use octal::{octal_half, octal_text};
+pub use octal::{octal_digits, octal_half, octal_text};
 pub use sixbit_text::sixbit;
 pub use sizes::{
     ADDRESSES, BLOCK_WORDS, DATA_WORDS, INPUT_RING, JOBS, LINES, LOCKS_A_CALL, MOST_BLOCKS,

@@ -10,8 +10,9 @@ use std::str;
 /// The digits of the largest `u64`.
 const MOST_DIGITS: usize = 22;
 
-/// The last `N` octal digits of a number as ASCII, the highest first.
-fn last_digits<const N: usize>(number: u64) -> [u8; N]
+/// The last `N` octal digits of a number as ASCII, the highest first: `000140` of 140 octal, where
+/// `N` is 6.
+pub fn octal_digits<const N: usize>(number: u64) -> [u8; N]
     ensures { result ≡ octal N number }
 {
     let mut digits = [b'0'; N];
@@ -42,7 +43,7 @@ pub fn octal_half(half: u32) -> ArrayString<6>
     ensures read_back { digits_value 8 result.bytes ≡ half }
     ensures length { length result.bytes ≡ 6 }
 {
-    ArrayString::from_byte_string(&last_digits(half as u64)).unwrap()
+    ArrayString::from_byte_string(&octal_digits(half as u64)).unwrap()
 }
 
 /// A number in octal without leading zeros: `777`, and `0` for zero.

@@ -1,6 +1,6 @@
 use Rattle.std.proofs.Common.{◌≡◌, ◌++◌, drop, length}
 use Rattle.word36.specs.Octal.{octal}
-use Rattle.word36.proofs.octal.last_digits.Given as goal
+use Rattle.word36.proofs.octal.octal_digits.Given as goal
 
 abbrev pub invariant-loop-place : goal.invariant-loop-place
 invariant-loop-place g l =

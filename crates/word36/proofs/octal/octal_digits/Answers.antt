@@ -2,7 +2,7 @@ use Rattle.std.proofs.Common.{◌∙◌, arith}
 use Rattle.std.proofs.lemmas.Grind.{common_steps}
 use Rattle.word36.proofs.OctalLemmas.{octal_turn}
 use Rattle.word36.specs.Octal.{octal}
-use Rattle.word36.proofs.octal.last_digits.Goals as goal
+use Rattle.word36.proofs.octal.octal_digits.Goals as goal
 
 pub loop-place-init : goal.loop-place-init
 loop-place-init g c = grind (arith, common_steps)
