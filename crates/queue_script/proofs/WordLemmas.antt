@@ -1,32 +1,47 @@
 -- Lemmas on the first words of a line.
-use Rattle.std.proofs.Common.{◌≡◌, ◌∙◌, ◌++◌, ◌∷◌, ℕ, true, List, Option, refl, ap, sym, take, drop, length, take-append-drop}
-use Rattle.std.specs.Prelude.{bytes_eq}
-use Rattle.std.proofs.lemmas.Slice.Eq.{bytes_eq-Decides}
+use Rattle.std.proofs.Common.{◌≡◌, ◌∙◌, ◌-◌, ◌≤◌, [], ◌∷◌, ℕ, List, Option, refl, ap, sym, take, drop, length, slice_index_or, arith}
+use Rattle.std.proofs.lemmas.List.{take_all}
 use Rattle.queue_script.specs.Commands.{Asked, enqueue_of, dequeue_of, status_of_items, command_of_items}
 use Rattle.queue_script.specs.Numbers.{parts}
 
-behind : (word line items : List ℕ) → bytes_eq (take (length word) line) word ≡ true → items ≡ drop (length word) line → line ≡ word ++ items
-behind word line items starts is =
-    sym (take-append-drop (length word) line) ∙ ap (λ l. l ++ drop (length word) line) ((bytes_eq-Decides (take (length word) line) word).0 starts) ∙ ap (λ l. word ++ l) (sym is)
-
--- what is read of the items behind a word is what is read of the line
-pub word-read : (word word' line items : List ℕ) (view : List (List ℕ)) (read : List (List ℕ) → Option Asked) (asked : Option Asked)
-    → ((rest : List ℕ) → read (parts 32 rest) ≡ command_of_items (parts 32 (word ++ rest)))
-    → word' ≡ word → bytes_eq (take (length word') line) word' ≡ true → items ≡ drop (length word') line → view ≡ parts 32 items → asked ≡ read view
-    → asked ≡ command_of_items (parts 32 line)
-word-read word word' line items view read asked same spelled starts is seen answered =
-    answered ∙ ap read seen ∙ same items ∙ ap (λ l. command_of_items (parts 32 (l ++ items))) (sym spelled)
-    ∙ ap (λ l. command_of_items (parts 32 l)) (sym (behind word' line items starts is))
-
 -- the items behind `ENQ `, `DEQ ` and `STAT `
-pub words-enqueue : (items : List ℕ) → enqueue_of (parts 32 items) ≡ command_of_items (parts 32 (69 ∷ 78 ∷ 81 ∷ 32 ∷ items))
+words-enqueue : (items : List ℕ) → enqueue_of (parts 32 items) ≡ command_of_items (parts 32 (69 ∷ 78 ∷ 81 ∷ 32 ∷ items))
 unfolding parts
 words-enqueue items = refl
 
-pub words-dequeue : (items : List ℕ) → dequeue_of (parts 32 items) ≡ command_of_items (parts 32 (68 ∷ 69 ∷ 81 ∷ 32 ∷ items))
+words-dequeue : (items : List ℕ) → dequeue_of (parts 32 items) ≡ command_of_items (parts 32 (68 ∷ 69 ∷ 81 ∷ 32 ∷ items))
 unfolding parts
 words-dequeue items = refl
 
-pub words-status : (items : List ℕ) → status_of_items (parts 32 items) ≡ command_of_items (parts 32 (83 ∷ 84 ∷ 65 ∷ 84 ∷ 32 ∷ items))
+words-status : (items : List ℕ) → status_of_items (parts 32 items) ≡ command_of_items (parts 32 (83 ∷ 84 ∷ 65 ∷ 84 ∷ 32 ∷ items))
 unfolding parts
 words-status items = refl
+
+-- where a line begins so
+pub words_enqueue_at : (line : List ℕ) → 4 ≤ length line → slice_index_or line 0 0 ≡ 69 → slice_index_or line 1 0 ≡ 78 → slice_index_or line 2 0 ≡ 81 → slice_index_or line 3 0 ≡ 32
+    → enqueue_of (parts 32 (take (length line - 4) (drop 4 line))) ≡ command_of_items (parts 32 line)
+words_enqueue_at [] h a b c d = absurd (omega arith)
+words_enqueue_at (v ∷ []) h a b c d = absurd (omega arith)
+words_enqueue_at (v ∷ w ∷ []) h a b c d = absurd (omega arith)
+words_enqueue_at (v ∷ w ∷ x ∷ []) h a b c d = absurd (omega arith)
+words_enqueue_at (v ∷ w ∷ x ∷ y ∷ items) h a b c d =
+    rw (a, b, c, d) (ap (λ l. enqueue_of (parts 32 l)) (take_all (length (v ∷ w ∷ x ∷ y ∷ items) - 4) items (omega arith)) ∙ words-enqueue items)
+
+pub words_dequeue_at : (line : List ℕ) → 4 ≤ length line → slice_index_or line 0 0 ≡ 68 → slice_index_or line 1 0 ≡ 69 → slice_index_or line 2 0 ≡ 81 → slice_index_or line 3 0 ≡ 32
+    → dequeue_of (parts 32 (take (length line - 4) (drop 4 line))) ≡ command_of_items (parts 32 line)
+words_dequeue_at [] h a b c d = absurd (omega arith)
+words_dequeue_at (v ∷ []) h a b c d = absurd (omega arith)
+words_dequeue_at (v ∷ w ∷ []) h a b c d = absurd (omega arith)
+words_dequeue_at (v ∷ w ∷ x ∷ []) h a b c d = absurd (omega arith)
+words_dequeue_at (v ∷ w ∷ x ∷ y ∷ items) h a b c d =
+    rw (a, b, c, d) (ap (λ l. dequeue_of (parts 32 l)) (take_all (length (v ∷ w ∷ x ∷ y ∷ items) - 4) items (omega arith)) ∙ words-dequeue items)
+
+pub words_status_at : (line : List ℕ) → 5 ≤ length line → slice_index_or line 0 0 ≡ 83 → slice_index_or line 1 0 ≡ 84 → slice_index_or line 2 0 ≡ 65 → slice_index_or line 3 0 ≡ 84 → slice_index_or line 4 0 ≡ 32
+    → status_of_items (parts 32 (take (length line - 5) (drop 5 line))) ≡ command_of_items (parts 32 line)
+words_status_at [] h a b c d e = absurd (omega arith)
+words_status_at (v ∷ []) h a b c d e = absurd (omega arith)
+words_status_at (v ∷ w ∷ []) h a b c d e = absurd (omega arith)
+words_status_at (v ∷ w ∷ x ∷ []) h a b c d e = absurd (omega arith)
+words_status_at (v ∷ w ∷ x ∷ y ∷ []) h a b c d e = absurd (omega arith)
+words_status_at (v ∷ w ∷ x ∷ y ∷ z ∷ items) h a b c d e =
+    rw (a, b, c, d, e) (ap (λ l. status_of_items (parts 32 l)) (take_all (length (v ∷ w ∷ x ∷ y ∷ z ∷ items) - 5) items (omega arith)) ∙ words-status items)

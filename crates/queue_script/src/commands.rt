@@ -195,16 +195,17 @@ fn read_items<'a>(room: &'a mut CallRoom, mut items: Parts<'_>) -> Option<Comman
 }
 
 /// The command of a line. The names that stand before most commands are told at once.
+#[tactic(auto, using(crate::proofs::WordLemmas::words_enqueue_at, crate::proofs::WordLemmas::words_dequeue_at, crate::proofs::WordLemmas::words_status_at))]
 fn read_words<'a>(room: &'a mut CallRoom, line: &[u8]) -> Option<Command<'a>>
     ensures { asked_by_line result ≡ command_of_items (parts 32 line.now) }
 {
-    if let Some(items) = line.strip_prefix(b"ENQ ".as_slice()) {
+    if let [b'E', b'N', b'Q', b' ', items @ ..] = line {
         return read_enqueue(room, Parts::of(items, b' '));
     }
-    if let Some(items) = line.strip_prefix(b"DEQ ".as_slice()) {
+    if let [b'D', b'E', b'Q', b' ', items @ ..] = line {
         return read_dequeue(room, Parts::of(items, b' '));
     }
-    if let Some(items) = line.strip_prefix(b"STAT ".as_slice()) {
+    if let [b'S', b'T', b'A', b'T', b' ', items @ ..] = line {
         return read_status(room, Parts::of(items, b' '));
     }
     read_items(room, Parts::of(line, b' '))
