@@ -10,6 +10,7 @@ use crate::copies::requests_in;
 use crate::hard_waits::does_wait_hard_for;
 use lock_queue::{LockTable, Request};
 use queue_script::circles::{NUMBERS, PAIRS, PairTable};
+use queue_script::pair_table;
 use std::alloc::{AllocError, Global};
 
 /// Who waits for whom: for an owner, or for one that only stands in front, and in a circle or not.
@@ -18,17 +19,6 @@ pub struct Graph {
     waits: PairTable,
     hard: PairTable,
     circles: PairTable,
-}
-
-/// The table of who waits for whom.
-fn wait_table<L: LockTable>(table: &L) -> PairTable
-    ensures { Tells result (waits_for (L.requests table.now)) }
-{
-    let mut pairs = [false; PAIRS];
-    for i in 0..PAIRS {
-        pairs[i] = table.waits_for((i / NUMBERS) as u8, (i % NUMBERS) as u8);
-    }
-    pairs
 }
 
 /// The table of who waits for an owner.
@@ -63,7 +53,7 @@ impl Graph {
         ensures circles { IfOk result (λ graph. Tells graph.circles (closes_circle (pair_in graph.waits))) }
     {
         let requests = requests_in(alloc, table)?;
-        let waits = wait_table(table);
+        let waits = pair_table(table);
         let hard = hard_table(requests.as_slice());
         let circles = circle_table(&waits);
         Ok(Graph {

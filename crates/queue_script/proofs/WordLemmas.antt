@@ -1,7 +1,7 @@
 -- Lemmas on the first words of a line.
-use Rattle.std.proofs.Common.{◌≡◌, ◌∙◌, ◌-◌, ◌≤◌, [], ◌∷◌, ℕ, List, Option, refl, ap, sym, take, drop, length, slice_index_or, arith}
+use Rattle.std.proofs.Common.{◌≡◌, ◌∙◌, ◌-◌, ◌≤◌, [], ◌∷◌, ℕ, List, refl, ap, take, drop, length, slice_index_or, arith}
 use Rattle.std.proofs.lemmas.List.{take_all}
-use Rattle.queue_script.specs.Commands.{Asked, enqueue_of, dequeue_of, status_of_items, command_of_items}
+use Rattle.queue_script.specs.Commands.{enqueue_of, dequeue_of, status_of_items, command_of_items}
 use Rattle.queue_script.specs.Numbers.{parts}
 
 -- the items behind `ENQ `, `DEQ ` and `STAT `

@@ -29,4 +29,4 @@ pub use script_io::{
     ByteIn, ByteOut, Failed, HostIn, HostOut, LINE_LENGTH, LineService, LineSession, Session,
     TestIn, TestOut, write_all,
 };
-pub use wait_pairs::push_waits;
+pub use wait_pairs::{pair_table, push_waits};

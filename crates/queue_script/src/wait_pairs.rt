@@ -76,8 +76,8 @@ fn does_wait<L: LockTable>(table: &L, waiting: &[bool; NUMBERS], job: usize, oth
     waiting[job] && table.waits_for(job as u8, other as u8)
 }
 
-/// The table of who waits for whom.
-fn pair_table<L: LockTable>(table: &L) -> PairTable
+/// The table of who waits for whom. Of a job that does not wait nothing is asked.
+pub fn pair_table<L: LockTable>(table: &L) -> PairTable
     ensures { (i : ℕ) → i < PAIRS → slice_index_or result i false ≡ waits_for (L.requests table.now) (i / NUMBERS) (i % NUMBERS) }
 {
     let waiting = waiting_jobs(table);
