@@ -10,7 +10,7 @@ ghost use Rattle.lock_queue.specs.StatusWords.{is_exclusive};
 use crate::among_wants::is_pooled;
 use crate::{Key, Request, Status, Want};
 
-/// How much these wants of the key take of their pools.
+/// How much these wants of the key take of their pools. Keys are compared last.
 fn amount_at(wants: &[Want], key: &Key) -> u32
     requires { length wants.now ≤ LOCKS_A_CALL }
     ensures value { result ≡ sum_by amount_of (filter (λ w. same_key w.key key.now) wants.now) }
@@ -18,8 +18,8 @@ fn amount_at(wants: &[Want], key: &Key) -> u32
 {
     let mut amount = 0;
     for w in wants {
-        if w.key == *key
-            && let Some(pool) = w.pool
+        if let Some(pool) = w.pool
+            && w.key == *key
         {
             amount += pool.amount();
         }
@@ -37,7 +37,7 @@ fn is_exclusive_at(wants: &[Want], key: &Key) -> bool
     ensures { result ≡ list_any is_exclusive (filter (λ w. same_key w.key key.now) wants.now) }
 {
     for w in wants {
-        if w.key == *key && is_exclusive(w) {
+        if is_exclusive(w) && w.key == *key {
             return true;
         }
     }
