@@ -1,5 +1,5 @@
 -- What each call leaves, in the lists that the code makes.
-use Rattle.std.proofs.Common.{◌≡◌, ◌∙◌, sym, ap, subst, refl, ℕ, suc, Bool, true, false, not, inl, inr, ◌==◌, ◌&&◌, ◌||◌, cond, if◌then◌else◌, List, [], ◌∷◌, length, filter, map, Option, Some, None, arith}
+use Rattle.std.proofs.Common.{◌≡◌, ◌∙◌, sym, ap, subst, refl, ℕ, suc, Bool, true, false, not, inl, inr, ◌==◌, ◌&&◌, ◌||◌, cond, if◌then◌else◌, List, [], ◌∷◌, ◌++◌, length, filter, map, Option, Some, None, arith}
 use Rattle.std.specs.List.{list_any}
 use Rattle.std.proofs.lemmas.Bool.{or_parts}
 use Rattle.std.proofs.lemmas.Bool.Decides.{nat_tests}
@@ -19,19 +19,22 @@ use Rattle.lock_queue.specs.Jobs.{released, withdrawn, is_not_blocked_where, is_
 use Rattle.lock_queue.specs.Keys.{same_key}
 use Rattle.lock_queue.specs.Outcomes.{Outcome, outcome, unless_refused, refuse_if, or_else, first_refusal}
 use Rattle.lock_queue.specs.Queue.{names}
+use Rattle.lock_queue.proofs.Fitting.{same_key-eq, names-found}
 use Rattle.lock_queue.proofs.GrantLaws.{left-labels}
-use Rattle.lock_queue.proofs.Lists.{Has, Has-map, Sub, Sub-refl, Sub-filter, Sub-Has}
+use Rattle.lock_queue.proofs.Lists.{Has, Has-map, Has-filter, Sub, Sub-refl, Sub-filter, Sub-Has}
 use Rattle.lock_table.specs.declared.departures.Leaving.{Leaving}
 use Rattle.lock_table.specs.declared.departures.Leaving.TheVariants.{All, OfId, Blocked}
-use Rattle.lock_table.specs.Departures.{leaves, stays, signature_where, loses, with_fewer, keeps_wants, with_change, call_of, leaving_of}
+use Rattle.lock_table.specs.Departures.{leaves, stays, Covers, CoversAll, loses, with_fewer, waits_with_fewer, keeps_wants, with_change, call_of, leaving_of}
 use Rattle.lock_table.specs.Filings.{Filing, requests_in, AreRight}
 use Rattle.lock_table.specs.Renewals.{raised, AreOutdated}
 use Rattle.lock_table.specs.declared.signature.Signature.{Signature}
-use Rattle.lock_table.specs.Signatures.{joined, meets, signature_of}
-use Rattle.lock_table.proofs.ChangeLaws.{change-key, at-changed, all-unchanged}
-use Rattle.lock_table.proofs.DepartureLaws.{lost_in, after, put, at_key, Changes, outdated, outdated-changed, lost-changed, Keeps, raised-all}
+use Rattle.lock_table.specs.Signatures.{hash_of, joined, meets, signature_of, mark_at}
+use Rattle.lock_table.specs.Tallies.{waiting_count, Marks}
+use Rattle.lock_table.proofs.AwaitedLaws.{awaited-has, has-named, marks-left, marks-right, some-named}
+use Rattle.lock_table.proofs.ChangeLaws.{change-key, changed-names, at-changed, all-unchanged}
+use Rattle.lock_table.proofs.DepartureLaws.{lost_in, after, put, at_key, Alike, Stays, alike-stays, Rests, resting, Changes, outdated, outdated-changed, lost-changed, Keeps, raised-all}
 use Rattle.lock_table.proofs.RightLaws.{chosen-right}
-use Rattle.lock_table.proofs.SignatureLaws.{mark_at, unmet-right, unsigned, signed, names-none, no-bit-left, no-bit-or}
+use Rattle.lock_table.proofs.SignatureLaws.{unmet-right, unsigned, signed, names-none}
 
 -- ---- the requests that stay
 
@@ -120,50 +123,55 @@ dequeue-woken fs job (Some id) h =
 
 -- ---- what leaves is in the signature
 
-signature-has : (test : Filing → Bool) (fs : List Filing) (f : Filing) (k : Key) → Has fs f → test f ≡ true
-    → mark_at (signature_where test fs) k ≡ 0 → mark_at (signature_of f.request.wants.items) k ≡ 0
-signature-has test [] f k h t z = absurd h
-signature-has test (x ∷ fs) f k (inl same) t z = go (test x) (ap test same ∙ t) z
-  where
-    go : (b : Bool) → b ≡ true
-        → mark_at (cond b (joined (signature_where test fs) (signature_of x.request.wants.items)) (signature_where test fs)) k ≡ 0
-        → mark_at (signature_of f.request.wants.items) k ≡ 0
-    go true e zero =
-        ap (λ (g : Filing). mark_at (signature_of g.request.wants.items) k) (sym same)
-        ∙ no-bit-or (signature_where test fs) (signature_of x.request.wants.items) k zero
-    go false e zero = absurd (cc)
-signature-has test (x ∷ fs) f k (inr later) t z = signature-has test fs f k later t (go (test x) z)
-  where
-    go : (b : Bool)
-        → mark_at (cond b (joined (signature_where test fs) (signature_of x.request.wants.items)) (signature_where test fs)) k ≡ 0
-        → mark_at (signature_where test fs) k ≡ 0
-    go true zero = no-bit-left (signature_where test fs) (signature_of x.request.wants.items) k zero
-    go false zero = zero
+-- the keys that those have that stay and are not granted, and of which the bits were not gathered
+abbrev StillIn : Signature → List Filing → Key → Type 0
+StillIn bits fs k = ((waiting_count (hash_of k) fs == 0) ≡ false) × (mark_at bits k ≡ 0)
 
-gone-changes : (test : Filing → Bool) (fs : List Filing) (f : Filing) → Has fs f
-    → Changes (signature_where test fs) f (staying_if (not (test f)) f.request)
-gone-changes test fs f h = go (test f) refl
-  where
-    go : (b : Bool) → test f ≡ b → Changes (signature_where test fs) f (staying_if (not b) f.request)
-    go true t = record {
-      kept = λ k z. sym (names-none f.request.wants.items k (unsigned f.request.wants.items k (signature-has test fs f k h t z)));
-      own = λ s is u. absurd (cc);
-    }
-    go false t = record {
-      kept = λ k z. refl;
-      own = λ s is u. let same : f.request ≡ s = cc in ap (λ (q : Request). q.wants.items) (sym same);
-    }
+module _ (bits : Signature) (test : Filing → Bool) (fs : List Filing) (covers : Covers bits test fs (filter (λ f. not (test f)) fs)) where
+  abbrev staying : List Filing
+  staying = filter (λ f. not (test f)) fs
+
+  gone-stays : (f : Filing) → Has fs f → Stays (StillIn bits staying) f (staying_if (not (test f)) f.request)
+  gone-stays f h k z = go (test f) refl
+    where
+      unnamed : (b : Bool) → names f.request.wants.items k ≡ b → test f ≡ true → b ≡ false
+      unnamed false n t = refl
+      unnamed true n t = let one = covers k (some-named test fs f k h t n) z.0 in absurd (omega (arith, one, z.1))
+
+      go : (b : Bool) → test f ≡ b → at_key k (staying_if (not b) f.request) ≡ at_key k (Some f.request)
+      go true t =
+          sym (names-none f.request.wants.items k (unnamed (names f.request.wants.items k) refl t))
+      go false t = refl
+
+  staying-of : (b : Bool) (r s : Request) → staying_if b r ≡ Some s → (b ≡ true) × (r ≡ s)
+  staying-of true r s e = (refl, cc)
+  staying-of false r s e = absurd (cc)
+
+  gone-rests : (f : Filing) (s : Request) → Has fs f → staying_if (not (test f)) f.request ≡ Some s → f.granted ≡ false
+      → meets (signature_of s.wants.items) bits ≡ false → Rests (StillIn bits staying) f s
+  gone-rests f s h is g u =
+      let at = staying-of (not (test f)) f.request s is in
+      let own : s.wants.items ≡ f.request.wants.items = ap (λ (q : Request). q.wants.items) (sym at.1) in record {
+        own = own;
+        still = λ w k. (
+          awaited-has staying f w (Has-filter (λ f. not (test f)) fs f at.0 h) g (subst (λ l. Has l w) own k),
+          unmet-right (signature_of s.wants.items) bits w.key u (signed s.wants.items w k),
+        );
+      }
 
 fewer-if : (b : Bool) (r s : Request) → staying_if b r ≡ Some s → Sub s.wants.items r.wants.items
 fewer-if true r s e = let same : r ≡ s = cc in subst (λ (q : Request). Sub q.wants.items r.wants.items) same (Sub-refl r.wants.items)
 fewer-if false r s e = absurd (cc)
 
-pub leaving-outdated : (fs : List Filing) (job : ℕ) (leaving : Leaving) → AreRight [] fs
-    → AreOutdated (signature_where (leaves job leaving) fs) [] (filter (stays job leaving) fs)
-leaving-outdated fs job leaving h =
-    subst (AreOutdated (signature_where (leaves job leaving) fs) []) (sym (filter-after (stays job leaving) fs))
-    (outdated (signature_where (leaves job leaving) fs) (λ f. staying_if (stays job leaving f) f.request) [] [] fs
-    (λ f k. gone-changes (leaves job leaving) fs f k) (λ f s k is. fewer-if (stays job leaving f) f.request s is)
+pub leaving-outdated : (bits : Signature) (fs : List Filing) (job : ℕ) (leaving : Leaving)
+    → Covers bits (leaves job leaving) fs (filter (stays job leaving) fs) → AreRight [] fs
+    → AreOutdated bits [] (filter (stays job leaving) fs)
+leaving-outdated bits fs job leaving covers h =
+    subst (AreOutdated bits []) (sym (filter-after (stays job leaving) fs))
+    (outdated (StillIn bits (filter (stays job leaving) fs)) bits (λ f. staying_if (stays job leaving f) f.request) [] [] fs
+    (λ f k. gone-stays bits (leaves job leaving) fs covers f k)
+    (λ f s k is. gone-rests bits (leaves job leaving) fs covers f s k is)
+    (λ f s k is. fewer-if (stays job leaving f) f.request s is)
     (Sub-refl []) (λ k z. refl) h)
 
 -- ---- wants that are given up
@@ -209,15 +217,6 @@ none-lost named (w ∷ ws) h =
     ap (λ b. cond (not b) (w ∷ filter (λ w. not (names named w.key)) ws) (filter (λ w. not (names named w.key)) ws)) p.0
     ∙ ap (λ l. w ∷ l) (none-lost named ws p.1)
 
-names-fewer : (p : Want → Bool) (ws : List Want) (k : Key) → names ws k ≡ false → names (filter p ws) k ≡ false
-names-fewer p [] k h = refl
-names-fewer p (w ∷ ws) k h =
-    let q = or_parts (same_key w.key k) (names ws k) h in go (p w) (names-fewer p ws k q.1) q.0
-  where
-    go : (b : Bool) → names (filter p ws) k ≡ false → same_key w.key k ≡ false → names (cond b (w ∷ filter p ws) (filter p ws)) k ≡ false
-    go true t e = ap (λ b. b || names (filter p ws) k) e ∙ t
-    go false t e = t
-
 not-empty : (n : ℕ) → true ≡ not (suc n == 0)
 not-empty n = grind (arith, nat_tests)
 
@@ -231,15 +230,19 @@ at-staying q k = go q.wants.items
 
 -- a request with wants has a first
 some-want : (bits : Signature) (ws all : List Want) → not (length ws == 0) ≡ true → Sub ws all
-    → meets (signature_of ws) bits ≡ false → ((k : Key) → mark_at bits k ≡ 0 → mark_at (signature_of all) k ≡ 0) → false ≡ true
-some-want bits [] all some sub u zero = some
-some-want bits (w ∷ ws) all some sub u zero =
-    let none = zero w.key (unmet-right (signature_of (w ∷ ws)) bits w.key u (signed (w ∷ ws) w (inl refl))) in
-    absurd (omega (arith, none, signed all w (Sub-Has w sub (inl refl))))
+    → meets (signature_of ws) bits ≡ false → ((k : Key) → names all k ≡ true → mark_at bits k ≡ 1) → false ≡ true
+some-want bits [] all some sub u marked = some
+some-want bits (w ∷ ws) all some sub u marked =
+    let none = unmet-right (signature_of (w ∷ ws)) bits w.key u (signed (w ∷ ws) w (inl refl)) in
+    absurd (omega (arith, none, marked w.key (has-named all w (Sub-Has w sub (inl refl)))))
 
-module _ (fs : List Filing) (job : ℕ) (named : List Want) where
+module _ (fs : List Filing) (job : ℕ) (named : List Want) (awaited lost : Signature) (marks : Marks awaited named fs)
+    (covers : CoversAll lost (waits_with_fewer job named) fs) where
   abbrev bits : Signature
-  bits = signature_where (loses job named) fs
+  bits = joined awaited lost
+
+  abbrev Still : Key → Type 0
+  Still = StillIn bits fs
 
   abbrev left-named : Request → Option Request
   left-named r = staying_if (has_wants (without_keys_of job named r)) (without_keys_of job named r)
@@ -263,12 +266,47 @@ module _ (fs : List Filing) (job : ℕ) (named : List Want) where
   unlost true r h = none-lost named r.wants.items h
   unlost false r h = refl
 
-  lost-none : (b : Bool) (r : Request) (k : Key) → names r.wants.items k ≡ false → names (cond b (without_keys named r) r).wants.items k ≡ false
-  lost-none true r k h = names-fewer (λ w. not (names named w.key)) r.wants.items k h
-  lost-none false r k h = h
+  -- a key that is not named keeps its wants
+  kept-key : (ws : List Want) (k : Key) → names named k ≡ false
+      → filter (λ w. same_key w.key k) (filter (λ w. not (names named w.key)) ws) ≡ filter (λ w. same_key w.key k) ws
+  kept-key [] k none = refl
+  kept-key (w ∷ ws) k none = go (names named w.key) refl (same_key w.key k) refl (kept-key ws k none)
+    where
+      rest : List Want
+      rest = filter (λ w. not (names named w.key)) ws
 
-  named-changes : (f : Filing) → Has fs f → Changes bits f (left-named f.request)
-  named-changes f h = go (loses job named f) refl
+      go : (b : Bool) → names named w.key ≡ b → (c : Bool) → same_key w.key k ≡ c
+          → filter (λ w. same_key w.key k) rest ≡ filter (λ w. same_key w.key k) ws
+          → filter (λ w. same_key w.key k) (cond (not b) (w ∷ rest) rest) ≡ cond c (w ∷ filter (λ w. same_key w.key k) ws) (filter (λ w. same_key w.key k) ws)
+      go true n true e t =
+          let named-too : names named k ≡ true = ap (names named) (sym (same_key-eq w.key k e)) ∙ n in absurd (cc)
+      go true n false e t = t
+      go false n c e t =
+          ap (λ b. cond b (w ∷ filter (λ w. same_key w.key k) rest) (filter (λ w. same_key w.key k) rest)) e
+          ∙ ap (λ l. cond c (w ∷ l) l) t
+
+  kept-of : (b : Bool) (r : Request) (k : Key) → names named k ≡ false
+      → filter (λ w. same_key w.key k) (cond b (without_keys named r) r).wants.items ≡ filter (λ w. same_key w.key k) r.wants.items
+  kept-of true r k none = kept-key r.wants.items k none
+  kept-of false r k none = refl
+
+  named-stays : (f : Filing) → Stays Still f (left-named f.request)
+  named-stays f k z =
+      at-staying (without_keys_of job named f.request) k ∙ kept-of (f.request.job == job) f.request k (unnamed (names named k) refl)
+    where
+      unnamed : (b : Bool) → names named k ≡ b → b ≡ false
+      unnamed false n = refl
+      unnamed true n =
+          let one = marks-left awaited lost k (marks k n z.0) in
+          absurd (omega (arith, one, z.1))
+
+  own-of : (b : Bool) (r s : Request) → staying_if b r ≡ Some s → (b ≡ true) × (r ≡ s)
+  own-of true r s e = (refl, cc)
+  own-of false r s e = absurd (cc)
+
+  named-rests : (f : Filing) (s : Request) → Has fs f → left-named f.request ≡ Some s → f.granted ≡ false
+      → meets (signature_of s.wants.items) bits ≡ false → Rests Still f s
+  named-rests f s h is g u = go (loses job named f) refl
     where
       r : Request
       r = f.request
@@ -276,33 +314,38 @@ module _ (fs : List Filing) (job : ℕ) (named : List Want) where
       q : Request
       q = without_keys_of job named r
 
-      own-of : (b : Bool) (s : Request) → staying_if b q ≡ Some s → (b ≡ true) × (q ≡ s)
-      own-of true s e = (refl, cc)
-      own-of false s e = absurd (cc)
+      at : (has_wants q ≡ true) × (q ≡ s)
+      at = own-of (has_wants q) q s is
 
-      go : (b : Bool) → loses job named f ≡ b → Changes bits f (left-named r)
-      go false t = record {
-        kept = λ k z. at-staying q k ∙ ap (filter (λ w. same_key w.key k)) (unlost (r.job == job) r t);
-        own = λ s is u. ap (λ (x : Request). x.wants.items) (sym (own-of (has_wants q) s is).1) ∙ unlost (r.job == job) r t;
-      }
-      go true t = record {
-        kept = λ k z.
-            let none = unsigned r.wants.items k (signature-has (loses job named) fs f k h t z) in
-            at-staying q k ∙ names-none q.wants.items k (lost-none (r.job == job) r k none) ∙ sym (names-none r.wants.items k none);
-        own = λ s is u.
-            let at = own-of (has_wants q) s is in
-            let bad : false ≡ true = some-want bits q.wants.items r.wants.items at.0 (fewer-of (r.job == job) r)
-            (ap (λ (x : Request). meets (signature_of x.wants.items) bits) at.1 ∙ u)
-            (λ k z. signature-has (loses job named) fs f k h t z) in
-            absurd (cc);
-      }
+      off : meets (signature_of q.wants.items) bits ≡ false
+      off = ap (λ (x : Request). meets (signature_of x.wants.items) bits) at.1 ∙ u
 
-pub named-outdated : (fs : List Filing) (job : ℕ) (named : ArrayVec Want) → AreRight [] fs
-    → AreOutdated (signature_where (loses job named.items) fs) [] (filter keeps_wants (map (with_fewer job named.items) fs))
-named-outdated fs job named h =
-    subst (AreOutdated (signature_where (loses job named.items) fs) []) (sym (named-after fs job named))
-    (outdated (signature_where (loses job named.items) fs) (λ f. left_of job (DequeueNamed named) f.request) [] [] fs
-    (λ f k. named-changes fs job named.items f k) (λ f s k is. fewer-named fs job named.items f.request s is)
+      go : (b : Bool) → loses job named f ≡ b → Rests Still f s
+      go false t =
+          let own : s.wants.items ≡ r.wants.items = ap (λ (x : Request). x.wants.items) (sym at.1) ∙ unlost (r.job == job) r t in record {
+            own = own;
+            still = λ w k. (
+              awaited-has fs f w h g (subst (λ l. Has l w) own k),
+              unmet-right (signature_of s.wants.items) bits w.key u (signed s.wants.items w k),
+            );
+          }
+      go true t =
+          let waits : waits_with_fewer job named f ≡ true =
+          ap (λ b. (b && has_wants q) && not f.granted) t ∙ ap (λ b. b && not f.granted) at.0 ∙ ap not g in
+          let bad : false ≡ true = some-want bits q.wants.items r.wants.items at.0 (fewer-of (r.job == job) r) off
+          (λ k n. marks-right awaited lost k (covers k (some-named (waits_with_fewer job named) fs f k h waits n))) in
+          absurd (cc)
+
+pub named-outdated : (fs : List Filing) (job : ℕ) (named : ArrayVec Want) (awaited lost : Signature) → Marks awaited named.items fs
+    → CoversAll lost (waits_with_fewer job named.items) fs → AreRight [] fs
+    → AreOutdated (joined awaited lost) [] (filter keeps_wants (map (with_fewer job named.items) fs))
+named-outdated fs job named awaited lost marks covers h =
+    subst (AreOutdated (joined awaited lost) []) (sym (named-after fs job named))
+    (outdated (StillIn (joined awaited lost) fs) (joined awaited lost)
+    (λ f. left_of job (DequeueNamed named) f.request) [] [] fs
+    (λ f k. named-stays fs job named.items awaited lost marks covers f)
+    (λ f s k is. named-rests fs job named.items awaited lost marks covers f s k is)
+    (λ f s k is. fewer-named fs job named.items awaited lost marks covers f.request s is)
     (Sub-refl []) (λ k z. refl) h)
 
 -- ---- wants that are changed
@@ -324,23 +367,19 @@ change-woken fs job changes h =
 
 module _ (job : ℕ) (cs : List Want) where
   changes-of : (b : Bool) (f : Filing)
-      → Changes (signature_of cs) f (Some (cond b (with_wants f.request (map (changed_want cs) f.request.wants.items)) f.request))
+      → Changes (signature_of cs) f (cond b (with_wants f.request (map (changed_want cs) f.request.wants.items)) f.request)
   changes-of true f = record {
     kept = λ k z. at-changed cs f.request.wants.items k (unsigned cs k z);
-    own = λ s is u.
-        let same : with_wants f.request (map (changed_want cs) f.request.wants.items) ≡ s = cc in
-        let off : meets (signature_of (map (changed_want cs) f.request.wants.items)) (signature_of cs) ≡ false =
-        ap (λ (q : Request). meets (signature_of q.wants.items) (signature_of cs)) same ∙ u in
-        ap (λ (q : Request). q.wants.items) (sym same)
-        ∙ all-unchanged cs f.request.wants.items (λ w k.
+    own = λ u.
+        all-unchanged cs f.request.wants.items (λ w k.
         let bit : mark_at (signature_of (map (changed_want cs) f.request.wants.items)) w.key ≡ 1 =
         ap (mark_at (signature_of (map (changed_want cs) f.request.wants.items))) (sym (change-key cs w))
         ∙ signed (map (changed_want cs) f.request.wants.items) (changed_want cs w) (Has-map (changed_want cs) f.request.wants.items w k) in
-        unsigned cs w.key (unmet-right (signature_of (map (changed_want cs) f.request.wants.items)) (signature_of cs) w.key off bit));
+        unsigned cs w.key (unmet-right (signature_of (map (changed_want cs) f.request.wants.items)) (signature_of cs) w.key u bit));
   }
   changes-of false f = record {
     kept = λ k z. refl;
-    own = λ s is u. let same : f.request ≡ s = cc in ap (λ (q : Request). q.wants.items) (sym same);
+    own = λ u. refl;
   }
 
   pub change-lost : (fs : List Filing) → AreRight [] fs
@@ -353,6 +392,79 @@ module _ (job : ℕ) (cs : List Want) where
       → AreOutdated (signature_of cs) [] (map (with_change job cs) fs)
   change-outdated fs h none =
       outdated-changed (signature_of cs) (changed job cs) [] [] fs (λ f k. changes-of (f.request.job == job) f) (λ k z. refl) h none
+
+-- a request that waits and wants a key that is changed has its bits: so only those that have them are looked at
+module _ (job : ℕ) (cs : List Want) (all : List Filing) (bits : Signature) (marks : Marks bits cs all) where
+  abbrev Unnamed : Key → Type 0
+  Unnamed k = names cs k ≡ false
+
+  as_left : Bool → Request → Request
+  as_left b r = cond b (with_wants r (map (changed_want cs) r.wants.items)) r
+
+  unnamed-stays : (b : Bool) (f : Filing) → Stays Unnamed f (Some (as_left b f.request))
+  unfolding as_left
+  unnamed-stays true f = λ k z. at-changed cs f.request.wants.items k z
+  unnamed-stays false f = λ k z. refl
+
+  same-names : (b : Bool) (r : Request) (k : Key) → names (as_left b r).wants.items k ≡ names r.wants.items k
+  unfolding as_left
+  same-names true r k = changed-names cs r.wants.items k
+  same-names false r k = refl
+
+  unnamed-own : (b : Bool) (f : Filing) → ((w : Want) → Has f.request.wants.items w → names cs w.key ≡ false)
+      → (as_left b f.request).wants.items ≡ f.request.wants.items
+  unfolding as_left
+  unnamed-own true f h = all-unchanged cs f.request.wants.items h
+  unnamed-own false f h = refl
+
+  -- a key of a request that waits, and has not these bits, is not changed
+  unnamed-key : (b : Bool) (f : Filing) (k : Key) → Has all f → f.granted ≡ false
+      → meets (signature_of (as_left b f.request).wants.items) bits ≡ false → names f.request.wants.items k ≡ true → names cs k ≡ false
+  unnamed-key b f k h g u n = go (names cs k) refl
+    where
+      mine : List Want
+      mine = (as_left b f.request).wants.items
+
+      awaited : (waiting_count (hash_of k) all == 0) ≡ false
+      awaited =
+          let at = names-found f.request.wants.items k n in
+          ap (λ (x : Key). waiting_count (hash_of x) all == 0) (sym at.2) ∙ awaited-has all f at.0 h g at.1
+
+      off : mark_at bits k ≡ 0
+      off =
+          let at = names-found mine k (same-names b f.request k ∙ n) in
+          ap (mark_at bits) (sym at.2) ∙ unmet-right (signature_of mine) bits at.0.key u (signed mine at.0 at.1)
+
+      go : (c : Bool) → names cs k ≡ c → c ≡ false
+      go false e = refl
+      go true e = absurd (omega (arith, off, marks k e awaited))
+
+  unnamed-rests : (b : Bool) (f : Filing) → Has all f → f.granted ≡ false
+      → meets (signature_of (as_left b f.request).wants.items) bits ≡ false → Rests Unnamed f (as_left b f.request)
+  unnamed-rests b f h g u = record {
+    own = unnamed-own b f (λ w k. unnamed-key b f w.key h g u (has-named f.request.wants.items w k));
+    still = λ w k.
+        unnamed-key b f w.key h g u (sym (same-names b f.request w.key) ∙ has-named (as_left b f.request).wants.items w k);
+  }
+
+  waiting-outdated : (d e : List Request) (fs : List Filing) → ((f : Filing) → Has fs f → Has all f) → Alike Unnamed d e → AreRight e fs
+      → AreOutdated (signature_of cs) d (map (with_change job cs) fs) → AreOutdated bits d (map (with_change job cs) fs)
+  unfolding as_left
+  waiting-outdated d e [] each same h old = record {}
+  waiting-outdated d e (f ∷ fs) each same h old =
+      let s : Request = changed job cs f.request in (
+        record {
+          stays = old.0.stays;
+          rests = λ g u. resting Unnamed d e f s (unnamed-rests (f.request.job == job) f (each f (inl refl)) g u) same h.0 ∙ g;
+        },
+        waiting-outdated (d ++ s ∷ []) (e ++ f.request ∷ []) fs (λ x k. each x (inr k))
+            (alike-stays Unnamed d e f s (unnamed-stays (f.request.job == job) f) same) h.1 old.1,
+      )
+
+pub change-awaited : (job : ℕ) (cs : List Want) (fs : List Filing) (bits : Signature) → Marks bits cs fs → AreRight [] fs
+    → lost_in (signature_of cs) [] (map (with_change job cs) fs) ≡ false → AreOutdated bits [] (map (with_change job cs) fs)
+change-awaited job cs fs bits marks h none =
+    waiting-outdated job cs fs bits marks [] [] fs (λ f k. k) (λ k z. refl) h (change-outdated job cs fs h none)
 
 -- ---- the outcome of a change
 

@@ -1,9 +1,10 @@
 -- What a change leaves as it was, and how the wants of its key are walked over.
-use Rattle.std.proofs.Common.{◌≡◌, ◌∙◌, ◌≤◌, sym, ap, ℕ, ◌==◌, Bool, true, false, ◌&&◌, ◌||◌, cond, inr, inl, List, [], ◌∷◌, ◌++◌, filter, map, length, get_or, drop, refl, arith, bit_or}
+use Rattle.std.proofs.Common.{◌≡◌, ◌∙◌, ◌≤◌, sym, ap, ℕ, ◌==◌, Bool, true, false, ◌&&◌, ◌||◌, cond, inr, inl, List, [], ◌∷◌, ◌++◌, filter, map, length, get_or, drop, refl, arith}
 use Rattle.std.specs.List.{list_any}
 use Rattle.std.proofs.lemmas.List.Elements.{filter-append}
 use Rattle.std.proofs.lemmas.List.Folds.{list_any-append}
 use Rattle.std.proofs.lemmas.Bool.{or_parts}
+use Rattle.key_tally.specs.Hashes.{hash_of, hashes_of}
 use Rattle.lock_queue.specs.declared.key.Key.{Key}
 use Rattle.lock_queue.specs.declared.request.Request.{Request}
 use Rattle.lock_queue.specs.declared.want.Want.{Want}
@@ -17,7 +18,6 @@ use Rattle.lock_table.specs.Departures.{with_change}
 use Rattle.lock_table.specs.Filings.{Filing, filing, requests_in}
 use Rattle.lock_table.specs.Signatures.{joined, bits_of, signature_of, meets}
 use Rattle.lock_table.specs.Walks.{from_met}
-use Rattle.lock_table.specs.Waiters.{waiter_bit, with_waiters}
 use Rattle.lock_queue.proofs.Fitting.{same_key-eq, same_key-swap}
 use Rattle.lock_table.proofs.SignatureLaws.{unsigned, signed, unmet-right, unmet_names, names-none, unmet_wants}
 
@@ -62,7 +62,7 @@ all-unchanged cs (w ∷ ws) h =
     ap (λ v. v ∷ map (changed_want cs) ws) (unchanged cs w (h w (inl refl)))
     ∙ ap (λ l. w ∷ l) (all-unchanged cs ws (λ v k. h v (inr k)))
 
--- ---- keys, signatures and waiting jobs
+-- ---- keys, signatures and hashes
 
 pub changed-names : (cs ws : List Want) (k : Key) → names (map (changed_want cs) ws) k ≡ names ws k
 changed-names cs [] k = refl
@@ -76,16 +76,11 @@ changed_signature cs (w ∷ ws) =
     ap (λ key. joined (signature_of (map (changed_want cs) ws)) (bits_of key)) (change-key cs w)
     ∙ ap (λ s. joined s (bits_of w.key)) (changed_signature cs ws)
 
-pub waiters_changed : (bits job : ℕ) (cs : List Want) (fs : List Filing)
-    → with_waiters bits (map (with_change job cs) fs) ≡ with_waiters bits fs
-waiters_changed bits job cs [] = refl
-waiters_changed bits job cs (f ∷ fs) =
-    ap (λ n. with_waiters (bit_or bits n) (map (with_change job cs) fs)) (go (f.request.job == job))
-    ∙ waiters_changed (bit_or bits (waiter_bit f)) job cs fs
-  where
-    go : (b : Bool) → waiter_bit (filing (cond b (with_wants f.request (map (changed_want cs) f.request.wants.items)) f.request) f.granted) ≡ waiter_bit f
-    go true = refl
-    go false = refl
+pub changed_hashes : (cs ws : List Want) → hashes_of (map (changed_want cs) ws) ≡ hashes_of ws
+changed_hashes cs [] = refl
+changed_hashes cs (w ∷ ws) =
+    ap (λ key. hash_of key ∷ hashes_of (map (changed_want cs) ws)) (change-key cs w)
+    ∙ ap (λ l. hash_of w.key ∷ l) (changed_hashes cs ws)
 
 -- a request of which no group is touched, or that is another job's
 pub unmet-change : (job : ℕ) (cs : List Want) (f : Filing) → meets (signature_of f.request.wants.items) (signature_of cs) ≡ false
@@ -104,11 +99,6 @@ unmet-change job cs f off =
 pub other-change : (job : ℕ) (cs : List Want) (f : Filing) → (f.request.job == job) ≡ false → with_change job cs f ≡ f
 other-change job cs f off =
     ap (λ b. filing (cond b (with_wants f.request (map (changed_want cs) f.request.wants.items)) f.request) f.granted) off
-
-pub own-change : (job : ℕ) (cs : List Want) (f : Filing) → (f.request.job == job) ≡ true
-    → with_change job cs f ≡ filing (with_wants f.request (map (changed_want cs) f.request.wants.items)) f.granted
-own-change job cs f on =
-    ap (λ b. filing (cond b (with_wants f.request (map (changed_want cs) f.request.wants.items)) f.request) f.granted) on
 
 -- ---- the wants of the key of one change
 

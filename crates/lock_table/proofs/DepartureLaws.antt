@@ -14,9 +14,9 @@ use Rattle.lock_queue.proofs.Lists.{Has, Sub, Sub-append, Sub-none, Sub-refl, fl
 use Rattle.lock_table.specs.Filings.{Filing, filing, requests_in, AreRight}
 use Rattle.lock_table.specs.Renewals.{raised, AreOutdated}
 use Rattle.lock_table.specs.declared.signature.Signature.{Signature}
-use Rattle.lock_table.specs.Signatures.{meets, signature_of}
+use Rattle.lock_table.specs.Signatures.{meets, signature_of, mark_at}
 use Rattle.lock_queue.proofs.Fitting.{wants_at-append, granted_behind-fewer, granted-same-at}
-use Rattle.lock_table.proofs.SignatureLaws.{mark_at, unmet-right, signed}
+use Rattle.lock_table.proofs.SignatureLaws.{unmet-right, signed}
 
 -- whether a request has a grant that does not hold, and touches one of the groups
 abbrev pub lost_at : Signature → List Request → Filing → Bool
@@ -47,59 +47,63 @@ wants_at-one r k = ap (filter (λ w. same_key w.key k)) (append-nil r.wants.item
 all_wants-more : (e : List Request) (r : Request) → all_wants (e ++ r ∷ []) ≡ all_wants e ++ all_wants (r ∷ [])
 all_wants-more e r = flat_map-append (λ (q : Request). q.wants.items) e (r ∷ [])
 
-module _ (bits : Signature) where
-  -- only what touches the groups changes
-  pub record Changes (f : Filing) (o : Option Request) : Type 0 where
-    pub kept : (k : Key) → mark_at bits k ≡ 0 → at_key k o ≡ at_key k (Some f.request)
-    pub own : (s : Request) → o ≡ Some s → meets (signature_of s.wants.items) bits ≡ false → s.wants.items ≡ f.request.wants.items
-
-  -- earlier requests that have the same wants of untouched keys
+-- the keys of which the earlier requests have the same wants
+module _ (Still : Key → Type 0) where
   abbrev pub Alike : List Request → List Request → Type 0
-  Alike d e = (k : Key) → mark_at bits k ≡ 0 → wants_at d k ≡ wants_at e k
+  Alike d e = (k : Key) → Still k → wants_at d k ≡ wants_at e k
 
-  alike-gone : (d e : List Request) (f : Filing) → Changes f None → Alike d e → Alike d (e ++ f.request ∷ [])
-  alike-gone d e f c same k z =
-      sym (append-nil (wants_at d k)) ∙ ap (λ l. l ++ []) (same k z) ∙ ap (λ l. wants_at e k ++ l) (c.kept k z ∙ sym (wants_at-one f.request k))
+  -- of these, what is left of a request has the same
+  abbrev pub Stays : Filing → Option Request → Type 0
+  Stays f o = (k : Key) → Still k → at_key k o ≡ at_key k (Some f.request)
+
+  alike-gone : (d e : List Request) (f : Filing) → Stays f None → Alike d e → Alike d (e ++ f.request ∷ [])
+  alike-gone d e f kept same k z =
+      sym (append-nil (wants_at d k)) ∙ ap (λ l. l ++ []) (same k z) ∙ ap (λ l. wants_at e k ++ l) (kept k z ∙ sym (wants_at-one f.request k))
       ∙ sym (wants_at-append e (f.request ∷ []) k)
 
-  alike-stays : (d e : List Request) (f : Filing) (s : Request) → Changes f (Some s) → Alike d e
+  pub alike-stays : (d e : List Request) (f : Filing) (s : Request) → Stays f (Some s) → Alike d e
       → Alike (d ++ s ∷ []) (e ++ f.request ∷ [])
-  alike-stays d e f s c same k z =
+  alike-stays d e f s kept same k z =
       wants_at-append d (s ∷ []) k ∙ ap (λ l. l ++ wants_at (s ∷ []) k) (same k z)
-      ∙ ap (λ l. wants_at e k ++ l) (wants_at-one s k ∙ c.kept k z ∙ sym (wants_at-one f.request k))
+      ∙ ap (λ l. wants_at e k ++ l) (wants_at-one s k ∙ kept k z ∙ sym (wants_at-one f.request k))
       ∙ sym (wants_at-append e (f.request ∷ []) k)
 
-  -- a request that is not touched keeps its grant
-  untouched : (d e : List Request) (f : Filing) (s : Request) → Changes f (Some s) → Alike d e
-      → f.granted ≡ granted_behind e f.request → meets (signature_of s.wants.items) bits ≡ false
-      → granted_behind d s ≡ f.granted
-  untouched d e f s c same right u =
-      granted-same-at d e s (λ w h. same w.key (unmet-right (signature_of s.wants.items) bits w.key u (signed s.wants.items w h)))
-      ∙ ap (list_all (fits e)) (c.own s refl u) ∙ sym right
+  -- what is left of a request that is not granted has all its wants, and of keys of which there is the same
+  pub record Rests (f : Filing) (s : Request) : Type 0 where
+    pub own : s.wants.items ≡ f.request.wants.items
+    pub still : (w : Want) → Has s.wants.items w → Still w.key
 
-  module _ (left : Filing → Option Request) where
+  pub resting : (d e : List Request) (f : Filing) (s : Request) → Rests f s → Alike d e
+      → f.granted ≡ granted_behind e f.request → granted_behind d s ≡ f.granted
+  resting d e f s r same right =
+      granted-same-at d e s (λ w h. same w.key (r.still w h)) ∙ ap (list_all (fits e)) r.own ∙ sym right
+
+  module _ (bits : Signature) (left : Filing → Option Request) where
     -- where wants only leave, no grant is lost
     pub outdated : (d e : List Request) (fs : List Filing)
-        → ((f : Filing) → Has fs f → Changes f (left f))
+        → ((f : Filing) → Has fs f → Stays f (left f))
+        → ((f : Filing) (s : Request) → Has fs f → left f ≡ Some s → f.granted ≡ false → meets (signature_of s.wants.items) bits ≡ false → Rests f s)
         → ((f : Filing) (s : Request) → Has fs f → left f ≡ Some s → Sub s.wants.items f.request.wants.items)
         → Sub (all_wants d) (all_wants e) → Alike d e → AreRight e fs → AreOutdated bits d (after left fs)
-    outdated d e [] each fewer sub same h = record {}
-    outdated d e (f ∷ fs) each fewer sub same h =
-        go (left f) refl (each f (inl refl)) (λ s. fewer f s (inl refl))
-        (λ d2 s2 a2. outdated d2 (e ++ f.request ∷ []) fs (λ x k. each x (inr k)) (λ x s k. fewer x s (inr k)) s2 a2 h.1)
+    outdated d e [] each own fewer sub same h = record {}
+    outdated d e (f ∷ fs) each own fewer sub same h =
+        go (left f) refl (each f (inl refl)) (λ s. own f s (inl refl)) (λ s. fewer f s (inl refl))
+        (λ d2 s2 a2. outdated d2 (e ++ f.request ∷ []) fs (λ x k. each x (inr k)) (λ x s k. own x s (inr k)) (λ x s k. fewer x s (inr k)) s2 a2 h.1)
       where
-        go : (o : Option Request) → left f ≡ o → Changes f o → ((s : Request) → o ≡ Some s → Sub s.wants.items f.request.wants.items)
+        go : (o : Option Request) → left f ≡ o → Stays f o
+            → ((s : Request) → o ≡ Some s → f.granted ≡ false → meets (signature_of s.wants.items) bits ≡ false → Rests f s)
+            → ((s : Request) → o ≡ Some s → Sub s.wants.items f.request.wants.items)
             → ((d2 : List Request) → Sub (all_wants d2) (all_wants (e ++ f.request ∷ [])) → Alike d2 (e ++ f.request ∷ []) → AreOutdated bits d2 (after left fs))
             → AreOutdated bits d (put o f.granted (after left fs))
-        go None is c few rest =
+        go None is c r few rest =
             rest d
             (subst (λ l. Sub l (all_wants (e ++ f.request ∷ []))) (append-nil (all_wants d))
             (subst (λ l. Sub (all_wants d ++ []) l) (sym (all_wants-more e f.request)) (Sub-append sub (Sub-none (all_wants (f.request ∷ []))))))
             (alike-gone d e f c same)
-        go (Some s) is c few rest = (
+        go (Some s) is c r few rest = (
           record {
             stays = λ g. granted_behind-fewer d e s f.request sub (few s refl) (sym h.0 ∙ g);
-            rests = λ g u. untouched d e f s c same h.0 u ∙ g;
+            rests = λ g u. resting d e f s (r s refl g u) same h.0 ∙ g;
           },
           rest (d ++ s ∷ [])
               (subst (λ l. Sub l (all_wants (e ++ f.request ∷ []))) (sym (all_wants-more d s))
@@ -107,6 +111,24 @@ module _ (bits : Signature) where
               (Sub-append sub (Sub-append (few s refl) (Sub-refl [])))))
               (alike-stays d e f s c same),
         )
+
+module _ (bits : Signature) where
+  abbrev Off : Key → Type 0
+  Off k = mark_at bits k ≡ 0
+
+  -- only what touches the groups changes
+  pub record Changes (f : Filing) (s : Request) : Type 0 where
+    pub kept : Stays Off f (Some s)
+    pub own : meets (signature_of s.wants.items) bits ≡ false → s.wants.items ≡ f.request.wants.items
+
+  -- a request that is not touched keeps its grant
+  untouched : (d e : List Request) (f : Filing) (s : Request) → Changes f s → Alike Off d e
+      → f.granted ≡ granted_behind e f.request → meets (signature_of s.wants.items) bits ≡ false
+      → granted_behind d s ≡ f.granted
+  untouched d e f s c same right u =
+      resting Off d e f s
+      (record { own = c.own u; still = λ w h. unmet-right (signature_of s.wants.items) bits w.key u (signed s.wants.items w h) })
+      same right
 
   -- by the grant at hand, by whether the request is touched, and by its grant
   not-lost : (g m b : Bool) → (g && (m && not b)) ≡ false → (m ≡ false → b ≡ g) → g ≡ true → b ≡ true
@@ -121,8 +143,8 @@ module _ (bits : Signature) where
 
     -- where wants are changed, no grant is lost if none is that is touched
     pub outdated-changed : (d e : List Request) (fs : List Filing)
-        → ((f : Filing) → Has fs f → Changes f (Some (change f.request)))
-        → Alike d e → AreRight e fs → lost_in bits d (map changed_filing fs) ≡ false → AreOutdated bits d (map changed_filing fs)
+        → ((f : Filing) → Has fs f → Changes f (change f.request))
+        → Alike Off d e → AreRight e fs → lost_in bits d (map changed_filing fs) ≡ false → AreOutdated bits d (map changed_filing fs)
     outdated-changed d e [] each same h none = record {}
     outdated-changed d e (f ∷ fs) each same h none =
         let c = each f (inl refl) in
@@ -132,7 +154,7 @@ module _ (bits : Signature) where
             stays = not-lost f.granted (meets (signature_of s.wants.items) bits) (granted_behind d s) parts.0 (untouched d e f s c same h.0);
             rests = λ g u. untouched d e f s c same h.0 u ∙ g;
           },
-          outdated-changed (d ++ s ∷ []) (e ++ f.request ∷ []) fs (λ x k. each x (inr k)) (alike-stays d e f s c same) h.1 parts.1,
+          outdated-changed (d ++ s ∷ []) (e ++ f.request ∷ []) fs (λ x k. each x (inr k)) (alike-stays Off d e f s c.kept same) h.1 parts.1,
         )
 
     -- a grant that is lost is of a request that is touched
@@ -143,8 +165,8 @@ module _ (bits : Signature) where
     lost-same false m b u = refl
 
     pub lost-changed : (d e : List Request) (fs : List Filing)
-        → ((f : Filing) → Has fs f → Changes f (Some (change f.request)))
-        → Alike d e → AreRight e fs
+        → ((f : Filing) → Has fs f → Changes f (change f.request))
+        → Alike Off d e → AreRight e fs
         → lost_in bits d (map changed_filing fs) ≡ some_lost_behind e d (requests_in fs) (requests_in (map changed_filing fs))
     lost-changed d e [] each same h = refl
     lost-changed d e (f ∷ fs) each same h =
@@ -155,7 +177,7 @@ module _ (bits : Signature) where
         ∙ ap (λ g. g && not (granted_behind d s)) h.0 in
         ap (λ b. b || lost_in bits (d ++ s ∷ []) (map changed_filing fs)) here
         ∙ ap (λ b. (granted_behind e f.request && not (granted_behind d s)) || b)
-        (lost-changed (d ++ s ∷ []) (e ++ f.request ∷ []) fs (λ x k. each x (inr k)) (alike-stays d e f s c same) h.1)
+        (lost-changed (d ++ s ∷ []) (e ++ f.request ∷ []) fs (λ x k. each x (inr k)) (alike-stays Off d e f s c.kept same) h.1)
 
 -- ---- the grants that are made
 

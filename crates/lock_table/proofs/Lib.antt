@@ -9,4 +9,12 @@ pub mod LossLaws
 pub mod LevelLaws
 mod WaiterLaws
 pub mod WalkLaws
+pub mod WhereLaws
+pub mod WaitingLaws
 pub mod GivingUpLaws
+pub mod ShelfLaws
+pub mod CountingLaws
+pub mod AwaitedLaws
+pub mod LeavingLaws
+pub mod StandingLaws
+pub mod JobLaws

@@ -1,7 +1,8 @@
 -- Renewed grants are right, and those that rise are all that are raised.
-use Rattle.std.proofs.Common.{◌≡◌, ◌∙◌, sym, ap, subst, ℕ, zero, suc, ◌<◌, Bool, true, false, not, inl, inr, ◌&&◌, cond, List, [], ◌∷◌, ◌++◌, length, get_or, Option, Some, None, is_some, refl, arith}
+use Rattle.std.proofs.Common.{◌≡◌, ◌∙◌, sym, ap, subst, ℕ, zero, suc, ◌<◌, ◌==◌, Bool, true, false, not, inl, inr, ◌&&◌, cond, List, [], ◌∷◌, ◌++◌, length, get_or, Option, Some, None, is_some, bit_and, refl, arith}
 use Rattle.std.specs.List.{list_all}
-use Rattle.std.proofs.lemmas.Bool.{and_parts}
+use Rattle.std.specs.Int.Bits.{and_zero_r}
+use Rattle.std.proofs.lemmas.Bool.{and_parts, and_right, eqb-true}
 use Rattle.lock_queue.specs.declared.request.Request.{Request}
 use Rattle.lock_queue.specs.declared.want.Want.{Want}
 use Rattle.lock_queue.specs.Keys.{same_key}
@@ -109,3 +110,27 @@ pub kept_waiting : (fs : List Filing) (i : ℕ) (g f : Filing) → i < length fs
 kept_waiting fs i g f lt is h =
     shut-all (requests_in fs) g.request.wants.items f.request.wants.items
     (λ v k. wants-Has (requests_in fs) g.request v (place-Has fs i g lt is) k) h
+
+-- ---- no bits: nothing is renewed
+
+none-met : (s bits : Signature) → (bits.groups == 0) ≡ true → meets s bits ≡ false
+none-met s bits none =
+    let zero : bit_and s.groups bits.groups ≡ 0 = ap (bit_and s.groups) (eqb-true bits.groups 0 none) ∙ and_zero_r s.groups in
+    ap (λ n. not (n == 0) && not (bit_and s.classes bits.classes == 0)) zero
+
+none-rises : (bits : Signature) (e : List Request) (f : Filing) → (bits.groups == 0) ≡ true → rises bits e f ≡ false
+none-rises bits e f none =
+    ap (λ m. not f.granted && (m && granted_behind e f.request)) (none-met (signature_of f.request.wants.items) bits none)
+    ∙ and_right (not f.granted) false refl
+
+pub renewed_none : (bits : Signature) (e : List Request) (fs : List Filing) → (bits.groups == 0) ≡ true → renewed bits e fs ≡ fs
+renewed_none bits e [] none = refl
+renewed_none bits e (f ∷ fs) none =
+    ap (λ b. cond b (with_grant f ∷ renewed bits (e ++ f.request ∷ []) fs) (f ∷ renewed bits (e ++ f.request ∷ []) fs)) (none-rises bits e f none)
+    ∙ ap (λ l. f ∷ l) (renewed_none bits (e ++ f.request ∷ []) fs none)
+
+pub risen_none : (bits : Signature) (e : List Request) (fs : List Filing) → (bits.groups == 0) ≡ true → risen bits e fs ≡ []
+risen_none bits e [] none = refl
+risen_none bits e (f ∷ fs) none =
+    ap (λ b. cond (b && is_told_of f.request.kind) (grant_of f.request ∷ risen bits (e ++ f.request ∷ []) fs) (risen bits (e ++ f.request ∷ []) fs)) (none-rises bits e f none)
+    ∙ risen_none bits (e ++ f.request ∷ []) fs none

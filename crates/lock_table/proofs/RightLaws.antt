@@ -1,16 +1,12 @@
 -- Grants beside requests that are right answer for the grants behind the requests before them.
-use Rattle.std.proofs.Common.{◌≡◌, ◌∙◌, sym, ap, ℕ, zero, suc, ◌+◌, ◌<◌, ◌==◌, Bool, true, false, not, ◌&&◌, ◌||◌, cond, List, [], ◌∷◌, ◌++◌, append-nil, append_assoc, length, get_or, take, drop, filter, Some, slice_get, refl, arith, add-one}
+use Rattle.std.proofs.Common.{◌≡◌, ◌∙◌, sym, ap, ℕ, zero, suc, ◌<◌, ◌==◌, Bool, true, false, not, ◌&&◌, ◌||◌, cond, List, [], ◌∷◌, ◌++◌, append-nil, append_assoc, length, get_or, take, filter, Some, slice_get, refl, arith}
 use Rattle.std.specs.List.{list_any}
 use Rattle.std.proofs.lemmas.Bool.{and_parts, and_from}
-use Rattle.std.proofs.lemmas.List.Elements.{filter-append}
 use Rattle.lock_queue.specs.declared.key.Key.{Key}
 use Rattle.lock_queue.specs.declared.request.Request.{Request}
-use Rattle.lock_queue.specs.declared.want.Want.{Want}
-use Rattle.lock_queue.specs.Keys.{same_key}
 use Rattle.lock_queue.specs.Jobs.{is_blocking, is_interrupt, is_blocked, is_waiting_job, is_pending, pending, first_id, as_told, told_behind, told_of, is_kept_by, is_blocked_by, waits_for}
-use Rattle.lock_queue.specs.Queue.{all_wants, wants_at, names, granted, is_granted, granted_behind, chosen_behind, some_behind, is_owner, is_waiter, waiters}
-use Rattle.lock_queue.specs.StatusWords.{first_level, standing, level_of, status_of}
-use Rattle.lock_queue.proofs.StatusLaws.{first_of}
+use Rattle.lock_queue.specs.Queue.{wants_at, names, granted, is_granted, granted_behind, chosen_behind, some_behind, is_owner, is_waiter, waiters}
+use Rattle.lock_queue.specs.StatusWords.{standing, level_of, status_of}
 use Rattle.lock_table.specs.Filings.{Filing, requests_in, AreRight, same_flag, are_right}
 use Rattle.lock_queue.proofs.Fitting.{wants_at-append, granted-same}
 use Rattle.lock_table.specs.Findings.{blocks, pends, pending_in, with_told, told_in, waits_in, owns, awaits, status_in}
@@ -99,9 +95,6 @@ pub granted-right : (fs : List Filing) (i : ℕ) (d : Filing) → AreRight [] fs
 granted-right fs i d h lt =
     ap (is_granted (take i (requests_in fs))) (slice_get-requests fs i d lt) ∙ sym (right-at [] fs i d h lt)
 
-pub request-at : (fs : List Filing) (i : ℕ) (d : Filing) → i < length fs → slice_get (requests_in fs) i ≡ Some (get_or fs i d).request
-request-at fs i d lt = slice_get-requests fs i d lt
-
 -- ---- what concerns one job
 
 pub waiting-right : (fs : List Filing) (job : ℕ) → AreRight [] fs → is_waiting_job (requests_in fs) job ≡ list_any (blocks job) fs
@@ -170,19 +163,3 @@ status-right fs key asker h =
     (chosen-right (is_owner key) (owns key) (λ e f g. ap (λ b. names f.request.wants.items key && b) (sym g)) [] fs h)
     ∙ ap (standing key asker (level_of (requests_in fs) key) (requests_in (filter (owns key) fs)))
     (chosen-right (is_waiter key) (awaits key) (λ e f g. ap (λ b. names f.request.wants.items key && not b) (sym g)) [] fs h)
-
--- ---- the first level from the request at i on
-first_level-append : (xs ys : List Want) → first_level (xs ++ ys) ≡ first_of (first_level xs) (first_level ys)
-first_level-append [] ys = refl
-first_level-append (x ∷ xs) ys = refl
-
-pub levels-from : (key : Key) (fs : List Filing) (i : ℕ) (f : Filing) → i < length fs → f ≡ get_or fs i f
-    → first_level (wants_at (requests_in (drop i fs)) key)
-    ≡ first_of (first_level (filter (λ w. same_key w.key key) f.request.wants.items)) (first_level (wants_at (requests_in (drop (i + 1) fs)) key))
-levels-from key [] i f lt is = absurd (omega arith)
-levels-from key (x ∷ fs) zero f lt is =
-    rw is
-    (ap first_level (filter-append (λ w. same_key w.key key) x.request.wants.items (all_wants (requests_in fs)))
-    ∙ first_level-append (filter (λ w. same_key w.key key) x.request.wants.items) (wants_at (requests_in fs) key))
-levels-from key (x ∷ fs) (suc i) f lt is =
-    rw (add-one (suc i)) (levels-from key fs i f (omega arith) is ∙ rw (add-one i) refl)

@@ -1,23 +1,17 @@
 -- A request whose signature does not meet a key's bits has no want of the key.
-use Rattle.std.proofs.Common.{◌≡◌, ◌∙◌, sym, ap, ℕ, zero, suc, ◌<◌, ◌==◌, Bool, true, false, not, inl, inr, ◌&&◌, ◌||◌, List, [], ◌∷◌, filter, length, refl, arith, min, bit_and, bit_or, cond}
+use Rattle.std.proofs.Common.{◌≡◌, ◌∙◌, sym, ap, ℕ, zero, suc, ◌<◌, ◌==◌, Bool, true, false, not, inl, inr, ◌&&◌, ◌||◌, List, [], ◌∷◌, filter, refl, arith, min, bit_and, cond}
 use Rattle.std.specs.Int.{bit_at}
-use Rattle.std.specs.Int.Bits.{or_zero_r}
 use Rattle.std.proofs.lemmas.Bool.{eqb-true}
-use Rattle.std.proofs.lemmas.Bool.Decides.{nat_tests}
-use Rattle.std.proofs.lemmas.Nat.{le_or_r, pow_pos}
 use Rattle.std.proofs.lemmas.Nat.Bits.{bit_at_and, bit_at_or, bit_at-pow_same, bit_at-zero, bit_at-lt}
+use Rattle.key_tally.specs.Hashes.{hashes_of}
 use Rattle.lock_queue.specs.declared.key.Key.{Key}
 use Rattle.lock_queue.specs.declared.want.Want.{Want}
 use Rattle.lock_queue.specs.Keys.{same_key}
 use Rattle.lock_queue.specs.Queue.{names}
 use Rattle.lock_queue.proofs.Lists.{Has}
 use Rattle.lock_table.specs.declared.signature.Signature.{Signature}
-use Rattle.lock_table.specs.Signatures.{group_of, class_of, signature, no_bits, joined, bits_of, signature_of, meets}
+use Rattle.lock_table.specs.Signatures.{group_of, class_of, joined, bits_of, signature_of, signature_at, meets, mark_at}
 use Rattle.lock_queue.proofs.Fitting.{same_key-eq}
-
--- 1 where a signature has the bits of a key's group and class, and 0 where it lacks one
-abbrev pub mark_at : Signature → Key → ℕ
-mark_at s k = min (bit_at s.groups (group_of k)) (bit_at s.classes (class_of k))
 
 not-false : (b : Bool) → not b ≡ false → b ≡ true
 not-false true h = refl
@@ -53,7 +47,7 @@ pub no-bit-left : (a b : Signature) (k : Key) → mark_at (joined a b) k ≡ 0 �
 no-bit-left a b k h =
     omega (arith, bit_at_or a.groups b.groups (group_of k), bit_at_or a.classes b.classes (class_of k), h)
 
-mark-own : (k : Key) → mark_at (bits_of k) k ≡ 1
+pub mark-own : (k : Key) → mark_at (bits_of k) k ≡ 1
 mark-own k = omega (arith, bit_at-pow_same (group_of k), bit_at-pow_same (class_of k))
 
 mark-lt : (s : Signature) (k : Key) → mark_at s k < 2
@@ -90,11 +84,6 @@ signed ws w h = go (mark_at (signature_of ws) w.key) refl
     go zero e = absurd (omega (arith, lacking ws w h e, mark-own w.key))
     go (suc n) e = omega (arith, e, mark-lt (signature_of ws) w.key)
 
--- the signature of no keys adds nothing
-pub joined-none : (s : Signature) → joined s no_bits ≡ s
-joined-none s =
-    ap (λ n. signature n (bit_or s.classes 0)) (or_zero_r s.groups) ∙ ap (signature s.groups) (or_zero_r s.classes)
-
 pub names-none : (ws : List Want) (k : Key) → names ws k ≡ false → filter (λ w. same_key w.key k) ws ≡ []
 names-none [] k h = refl
 names-none (w ∷ ws) k h = go (same_key w.key k) h (names-none ws k)
@@ -112,7 +101,7 @@ pub unmet_wants : (ws : List Want) (k : Key) → meets (signature_of ws) (bits_o
     → filter (λ w. same_key w.key k) ws ≡ []
 unmet_wants ws k h = names-none ws k (unmet_names ws k h)
 
--- a signature has no groups where there are no wants
-pub bare_signature : (ws : List Want) → ((signature_of ws).groups == 0) ≡ not (not (length ws == 0))
-bare_signature [] = refl
-bare_signature (w ∷ ws) = grind (arith, nat_tests, le_or_r (signature_of ws).groups (bits_of w.key).groups, pow_pos (group_of w.key))
+-- a signature by the hashes of the keys
+pub signature_by_hashes : (ws : List Want) → signature_at (hashes_of ws) ≡ signature_of ws
+signature_by_hashes [] = refl
+signature_by_hashes (w ∷ ws) = ap (λ s. joined s (bits_of w.key)) (signature_by_hashes ws)

@@ -2,7 +2,7 @@
 use Rattle.std.proofs.Common.{◌≡◌, ◌∙◌, sym, ap, ℕ, ◌==◌, ◌≤◌, ◌%◌, ◌^◌, Bool, true, false, not, ◌&&◌, ◌||◌, ◌+◌, cond, if◌then◌else◌, sum_by, List, [], ◌∷◌, ◌++◌, length, get_or, drop, filter, refl, arith, bit_and, bit_or}
 use Rattle.std.proofs.lemmas.List.Elements.{filter-append}
 use Rattle.std.specs.Int.{bit_at}
-use Rattle.std.specs.List.{list_all, list_any}
+use Rattle.std.specs.List.{list_all}
 use Rattle.std.proofs.lemmas.Bool.{eqb-true}
 use Rattle.std.proofs.lemmas.Nat.Bits.{bit_at_and, bit_at-pow_same, bit_at-zero}
 use Rattle.std.proofs.lemmas.List.Folds.{list_any-append, list_all-append}
@@ -10,13 +10,9 @@ use Rattle.std.proofs.lemmas.List.Sums.{sum_by-append}
 use Rattle.std.proofs.lemmas.Nat.{le_or_l, le_or_r}
 use Rattle.lock_queue.specs.declared.key.Key.{Key}
 use Rattle.lock_queue.specs.declared.want.Want.{Want}
-use Rattle.lock_queue.specs.Jobs.{is_blocking}
 use Rattle.lock_queue.specs.Keys.{same_key}
 use Rattle.lock_queue.specs.Queue.{all_wants, wants_at, wants_of, names, amount_of}
 use Rattle.lock_table.specs.declared.signature.Signature.{Signature}
-use Rattle.lock_table.specs.declared.departures.Leaving.{Leaving}
-use Rattle.lock_table.specs.declared.departures.Leaving.TheVariants.{All, OfId, Blocked}
-use Rattle.lock_table.specs.Departures.{leaves}
 use Rattle.lock_table.specs.Filings.{Filing, requests_in}
 use Rattle.lock_table.specs.Signatures.{bits_of, signature_of, meets}
 use Rattle.lock_table.specs.Walks.{touched, from_touched, from_met, owned, from_own}
@@ -194,27 +190,6 @@ own_wants job (f ∷ fs) = go (f.request.job == job) refl (own_wants job fs)
     go true e t = refl
     go false e t = t ∙ sym (ap (λ b. all_wants (cond b (f.request ∷ filter (λ r. r.job == job) (requests_in fs)) (filter (λ r. r.job == job) (requests_in fs)))) e)
 
-pub own_leaves : (job : ℕ) (leaving : Leaving) (fs : List Filing)
-    → list_any (leaves job leaving) (from_own job fs) ≡ list_any (leaves job leaving) fs
-own_leaves job leaving [] = refl
-own_leaves job leaving (f ∷ fs) = go (f.request.job == job) refl (own_leaves job leaving fs)
-  where
-    not-own : (l : Leaving) → (f.request.job == job) ≡ false → leaves job l f ≡ false
-    not-own All e = e
-    not-own (OfId id) e = ap (λ b. b && f.request.id == id) e
-    not-own Blocked e = ap (λ b. (b && is_blocking f.request.kind) && not f.granted) e
-
-    go : (b : Bool) → (f.request.job == job) ≡ b
-        → list_any (leaves job leaving) (from_own job fs) ≡ list_any (leaves job leaving) fs
-        → list_any (leaves job leaving) (cond b (f ∷ fs) (from_own job fs)) ≡ list_any (leaves job leaving) (f ∷ fs)
-    go true e t = refl
-    go false e t = t ∙ sym (ap (λ b. b || list_any (leaves job leaving) fs) (not-own leaving e))
-
-pub first-any : (test : Filing → Bool) (xs : List Filing) (f : Filing) → 1 ≤ length xs → f ≡ get_or xs 0 f
-    → list_any test xs ≡ (test f || list_any test (drop 1 xs))
-first-any test [] f some is = absurd (omega arith)
-first-any test (x ∷ xs) f some is = ap (λ g. test g || list_any test xs) (sym is)
-
 -- ---- one step of a walk: the first request, and those from the next on that is looked at
 
 first-wants : (k : Key) (xs : List Filing) (f : Filing) → 1 ≤ length xs → f ≡ get_or xs 0 f
@@ -224,7 +199,7 @@ first-wants k (x ∷ xs) f some is =
     filter-append (λ w. same_key w.key k) x.request.wants.items (all_wants (requests_in xs))
     ∙ ap (λ (g : Filing). filter (λ w. same_key w.key k) g.request.wants.items ++ wants_at (requests_in xs) k) (sym is)
 
-first-names : (job : ℕ) (k : Key) (xs : List Filing) (f : Filing) → 1 ≤ length xs → f ≡ get_or xs 0 f
+pub first-names : (job : ℕ) (k : Key) (xs : List Filing) (f : Filing) → 1 ≤ length xs → f ≡ get_or xs 0 f
     → names (wants_of (requests_in xs) job) k
     ≡ ((f.request.job == job && names f.request.wants.items k) || names (wants_of (requests_in (drop 1 xs)) job) k)
 first-names job k [] f some is = absurd (omega arith)
@@ -259,7 +234,7 @@ module _ (k : Key) (bits : Signature) (xs ys : List Filing) (f : Filing)
   abbrev mine : List Want
   mine = filter (λ w. same_key w.key k) f.request.wants.items
 
-  walk-wants : wants_at (requests_in xs) k ≡ mine ++ wants_at (requests_in ys) k
+  pub walk-wants : wants_at (requests_in xs) k ≡ mine ++ wants_at (requests_in ys) k
   walk-wants =
       first-wants k xs f some is-first
       ∙ ap (λ l. mine ++ l) (sym (ap (λ l. wants_at (requests_in l) k) (are ∙ ap (λ b. from_met b (drop 1 xs)) is-bit) ∙ met_wants k (drop 1 xs)))

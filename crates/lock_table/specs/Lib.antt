@@ -8,3 +8,6 @@ pub mod Walks
 pub mod Changing
 pub mod Levels
 pub mod Arrivals
+pub mod Tallies
+pub mod Standings
+pub mod Countings

@@ -18,6 +18,10 @@ rises bits earlier f =
 abbrev pub with_grant : Filing → Filing
 with_grant f = filing f.request true
 
+-- a request that is granted behind some others has its grant
+abbrev pub as_raised : List Request → Filing → Filing
+as_raised earlier f = if granted_behind earlier f.request then with_grant f else f
+
 abbrev pub renewed : Signature → List Request → List Filing → List Filing
 renewed bits earlier [] = []
 renewed bits earlier (f ∷ later) =

@@ -1,5 +1,5 @@
--- The jobs that wait, as the bits of a number (this project's profile).
-use Rattle.std.specs.Prelude.{ℕ, ◌%◌, ◌^◌, not, ◌&&◌, if◌then◌else◌, List, [], ◌∷◌, bit_or}
+-- The jobs that wait, counted by their numbers modulo 32, and the bits of those (this project's profile).
+use Rattle.std.specs.Prelude.{ℕ, ◌%◌, ◌^◌, ◌==◌, Bool, not, ◌&&◌, ◌+◌, if◌then◌else◌, List, [], ◌∷◌}
 use Rattle.lock_queue.specs.Jobs.{is_blocking}
 use Rattle.lock_table.specs.Filings.{Filing}
 
@@ -7,14 +7,15 @@ use Rattle.lock_table.specs.Filings.{Filing}
 abbrev pub job_bit : Filing → ℕ
 job_bit f = 2 ^ (f.request.job % 32)
 
--- the bit of the job that waits by a request, or 0 where none does
-abbrev pub waiter_bit : Filing → ℕ
-waiter_bit f = if not f.granted && is_blocking f.request.kind then 2 ^ (f.request.job % 32) else 0
+-- whether its job waits by it
+abbrev pub is_waiting : Filing → Bool
+is_waiting f = not f.granted && is_blocking f.request.kind
 
--- some bits, and those of the jobs that wait by these requests
-abbrev pub with_waiters : ℕ → List Filing → ℕ
-with_waiters bits [] = bits
-with_waiters bits (f ∷ later) = with_waiters (bit_or bits (waiter_bit f)) later
+-- 1 where a job of this number waits by it
+abbrev pub waiter_at : ℕ → Filing → ℕ
+waiter_at place f = if is_waiting f && f.request.job % 32 == place then 1 else 0
 
-abbrev pub waiters_in : List Filing → ℕ
-waiters_in filings = with_waiters 0 filings
+-- by how many of some requests a job of this number waits
+abbrev pub waiters_at : ℕ → List Filing → ℕ
+waiters_at place [] = 0
+waiters_at place (f ∷ later) = waiter_at place f + waiters_at place later

@@ -1,5 +1,5 @@
 -- The requests from a place on, where a walk goes on.
-use Rattle.std.specs.Prelude.{ℕ, ◌==◌, not, if◌then◌else◌, List, [], ◌∷◌, bit_and}
+use Rattle.std.specs.Prelude.{ℕ, ◌==◌, Bool, not, ◌&&◌, if◌then◌else◌, List, [], ◌∷◌, bit_and}
 use Rattle.lock_table.specs.declared.signature.Signature.{Signature}
 use Rattle.lock_table.specs.Filings.{Filing}
 use Rattle.lock_table.specs.Signatures.{meets, signature_of}
@@ -18,6 +18,15 @@ from_touched groups (f ∷ later) = if not (touched groups f == 0) then f ∷ la
 abbrev pub from_met : Signature → List Filing → List Filing
 from_met bits [] = []
 from_met bits (f ∷ later) = if meets (signature_of f.request.wants.items) bits then f ∷ later else from_met bits later
+
+-- a request that is not granted and meets a signature
+abbrev pub waits_met : Signature → Filing → Bool
+waits_met bits f = not f.granted && meets (signature_of f.request.wants.items) bits
+
+-- the requests from the first on for which a test holds
+abbrev pub from_where : (Filing → Bool) → List Filing → List Filing
+from_where test [] = []
+from_where test (f ∷ later) = if test f then f ∷ later else from_where test later
 
 -- those of some jobs' bits that are the request's job's
 abbrev pub owned : ℕ → Filing → ℕ

@@ -9,26 +9,31 @@ ghost use Rattle.lock_queue.specs.Grants.{woken_by};
 ghost use Rattle.lock_queue.specs.Outcomes.{first_refusal};
 ghost use Rattle.lock_queue.specs.Queue.{fits};
 ghost use Rattle.lock_queue.specs.WellFormed.{are_well_formed, names_locks, shares_no_pool, shares_no_pools};
+ghost use Rattle.key_tally.specs.Hashes.{hashes_of};
 ghost use Rattle.lock_table.specs.Filings.{requests_in, AreRight};
 ghost use Rattle.lock_table.specs.Departures.{call_of, leaving_of};
 
 use crate::changes::{is_some_lost, refusal_of_modify};
-use crate::departures::{Leaving, depart, depart_named};
-use crate::dequeues::{does_some_leave, refusal_of_dequeue};
+use crate::departures::{Leaving, depart, depart_named, next_losing};
+use crate::dequeues::refusal_of_dequeue;
 use crate::enqueues::judge_enqueue;
+use crate::renewal::{forget, renew};
 use crate::shelf::Shelf;
-use crate::signature::signature_of;
+use key_tally::{Hashes, hashes_of};
 use lock_queue::{Asking, EnqueueKind, LockCall, LockReply, Refusal, RequestId, Wants, Woken};
 
-/// Takes in a request that is not refused, which is granted where its wants fit.
+/// Takes in a request that is not refused, the keys of whose wants have these hashes. It is granted
+/// where its wants fit.
 #[tactic(auto, using(lock_queue::proofs::Granted::arrival_granted, lock_queue::proofs::Granted::arrival_waiting))]
 fn arrive(
     shelf: &mut Shelf,
     job: u8,
     asking: &Asking,
     wants: &Wants,
+    hashes: &Hashes,
     are_fitting: bool,
 ) -> LockReply
+    requires hashes { hashes.now.items ≡ hashes_of wants.now.items }
     requires room { length shelf.old < REQUESTS }
     requires job { (1 ≤ job) × (job ≤ JOBS) }
     requires some { IsTrue (nat_le 1 (length wants.now.items)) }
@@ -45,22 +50,23 @@ fn arrive(
 {
     if are_fitting {
         let told = matches!(asking.kind, EnqueueKind::Interrupt);
-        shelf.push(job, asking, told, wants, true);
+        shelf.push(job, asking, told, wants, hashes, true);
         return LockReply::Granted;
     }
     match asking.kind {
         EnqueueKind::Blocking => {
-            shelf.push(job, asking, false, wants, false);
+            shelf.push(job, asking, false, wants, hashes, false);
             LockReply::Queued
         }
         EnqueueKind::AtOnce => LockReply::Refused(Refusal::NotGranted),
         EnqueueKind::Interrupt => {
-            shelf.push(job, asking, false, wants, false);
+            shelf.push(job, asking, false, wants, hashes, false);
             LockReply::Refused(Refusal::NotGranted)
         }
     }
 }
 
+/// Takes in a request, unless it is refused.
 fn enqueue(shelf: &mut Shelf, job: u8, asking: &Asking, wants: &Wants) -> LockReply
     requires job { (1 ≤ job) × (job ≤ JOBS) }
     requires some { IsTrue (nat_le 1 (length wants.now.items)) }
@@ -73,9 +79,10 @@ fn enqueue(shelf: &mut Shelf, job: u8, asking: &Asking, wants: &Wants) -> LockRe
     ensures few { length (requests_in shelf.old) ≤ REQUESTS → length (requests_in shelf.new) ≤ REQUESTS }
     ensures well { IsTrue (are_well_formed (requests_in shelf.old)) → IsTrue (are_well_formed (requests_in shelf.new)) }
 {
-    match judge_enqueue(shelf.as_slice(), job, asking, wants.as_slice()) {
+    let hashes = hashes_of(wants);
+    match judge_enqueue(shelf, job, asking, wants.as_slice(), hashes.as_slice()) {
         Err(refusal) => LockReply::Refused(refusal),
-        Ok(are_fitting) => arrive(shelf, job, asking, wants, are_fitting),
+        Ok(are_fitting) => arrive(shelf, job, asking, wants, &hashes, are_fitting),
     }
 }
 
@@ -89,7 +96,7 @@ fn modify(shelf: &mut Shelf, job: u8, changes: &Wants, woken: &mut Woken) -> Loc
     ensures few { length (requests_in shelf.old) ≤ REQUESTS → length (requests_in shelf.new) ≤ REQUESTS }
     ensures woken { woken.new.items ≡ woken_by (requests_in shelf.old) job (Modify changes.now) }
 {
-    woken.clear();
+    forget(woken);
     let wanted = changes.as_slice();
     if let Some(refusal) = refusal_of_modify(shelf.as_slice(), job, wanted) {
         return LockReply::Refused(refusal);
@@ -97,13 +104,15 @@ fn modify(shelf: &mut Shelf, job: u8, changes: &Wants, woken: &mut Woken) -> Loc
     if is_some_lost(shelf.as_slice(), job, wanted) {
         return LockReply::Refused(Refusal::WouldLose);
     }
+    let awaited = shelf.awaited(wanted);
     shelf.change(job, wanted);
-    shelf.renew(signature_of(wanted), woken);
+    renew(shelf, awaited, woken);
     LockReply::Done
 }
 
 fn dequeue_named(shelf: &mut Shelf, job: u8, named: &Wants, woken: &mut Woken) -> LockReply
-    requires { AreRight [] shelf.old }
+    requires right { AreRight [] shelf.old }
+    requires well { IsTrue (are_well_formed (requests_in shelf.old)) }
     ensures requests { requests_in shelf.new ≡
         (outcome_of (requests_in shelf.old) job (DequeueNamed named.now)).requests }
     ensures reply { result ≡ (outcome_of (requests_in shelf.old) job (DequeueNamed named.now)).reply }
@@ -111,11 +120,13 @@ fn dequeue_named(shelf: &mut Shelf, job: u8, named: &Wants, woken: &mut Woken) -
     ensures few { length (requests_in shelf.old) ≤ REQUESTS → length (requests_in shelf.new) ≤ REQUESTS }
     ensures woken { woken.new.items ≡ woken_by (requests_in shelf.old) job (DequeueNamed named.now) }
 {
-    if let Some(refusal) = refusal_of_dequeue(shelf.as_slice(), job, named.as_slice()) {
-        woken.clear();
+    let locks = named.as_slice();
+    let first = next_losing(shelf.as_slice(), 0, job, locks);
+    if let Some(refusal) = refusal_of_dequeue(shelf.as_slice(), first, job, locks) {
+        forget(woken);
         return LockReply::Refused(refusal);
     }
-    depart_named(shelf, job, named.as_slice(), woken);
+    depart_named(shelf, first, job, locks, woken);
     LockReply::Done
 }
 
@@ -139,12 +150,11 @@ fn dequeue(shelf: &mut Shelf, job: u8, id: Option<RequestId>, woken: &mut Woken)
     ensures woken { woken.new.items ≡ woken_by (requests_in shelf.old) job (call_of id) }
 {
     let leaving = leaving_of(id);
-    if !does_some_leave(shelf.as_slice(), job, &leaving) {
-        woken.clear();
-        return LockReply::Refused(Refusal::NotPresent);
+    if depart(shelf, job, &leaving, woken) {
+        LockReply::Done
+    } else {
+        LockReply::Refused(Refusal::NotPresent)
     }
-    depart(shelf, job, &leaving, woken);
-    LockReply::Done
 }
 
 /// Makes a job's call, and fills in the grants that it makes.
@@ -153,6 +163,7 @@ pub fn make_call(shelf: &mut Shelf, job: u8, call: &LockCall, woken: &mut Woken)
     requires named { IsTrue (names_locks call.now) }
     requires unshared { IsTrue (shares_no_pools call.now) }
     requires right { AreRight [] shelf.old }
+    requires well { IsTrue (are_well_formed (requests_in shelf.old)) }
     ensures requests { requests_in shelf.new ≡
         (outcome_of (requests_in shelf.old) job call.now).requests }
     ensures reply { result ≡ (outcome_of (requests_in shelf.old) job call.now).reply }
@@ -163,7 +174,7 @@ pub fn make_call(shelf: &mut Shelf, job: u8, call: &LockCall, woken: &mut Woken)
 {
     match call {
         LockCall::Enqueue { asking, wants } => {
-            woken.clear();
+            forget(woken);
             enqueue(shelf, job, asking, wants)
         }
         LockCall::Modify(changes) => modify(shelf, job, changes, woken),

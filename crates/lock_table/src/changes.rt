@@ -1,19 +1,16 @@
 //! Wants that are made shared or exclusive.
-ghost use Rattle.std.specs.Prelude.{◌≡◌, ◌==◌, ◌&&◌, [], filter, if◌then◌else◌, map, not};
+ghost use Rattle.std.specs.Prelude.{◌≡◌, ◌==◌, ◌&&◌, [], filter, if◌then◌else◌, not};
 ghost use Rattle.std.specs.List.{list_any};
 ghost use Rattle.lock_queue.specs.Changes.{modify_fault};
 ghost use Rattle.lock_queue.specs.Keys.{same_key};
 ghost use Rattle.lock_queue.specs.Outcomes.{first_refusal};
 ghost use Rattle.lock_queue.specs.Queue.{is_pooled, wants_at, requests_of};
 ghost use Rattle.lock_table.specs.Changing.{fits_held, held_with, held_unless_lost, as_changed_at, costs_grant};
-ghost use Rattle.lock_table.specs.Departures.{with_change};
 ghost use Rattle.lock_table.specs.Filings.{requests_in};
-ghost use Rattle.lock_table.specs.Signatures.{signature_of};
-ghost use Rattle.lock_table.specs.Waiters.{waiters_in};
 
 use crate::filed::Filed;
 use crate::fits::job_has_key;
-use crate::signature::{Signature, bits_of, signature_of};
+use crate::signature::bits_of;
 use crate::walks::{from_met, next_met};
 use lock_queue::steps::{is_pooled, is_pooled_in, names_key};
 use lock_queue::{Key, Refusal, Want};
@@ -160,25 +157,4 @@ pub fn is_some_lost(filed: &[Filed], job: u8, changes: &[Want]) -> bool
     ensures { result ≡ list_any (costs_grant job filed.now) changes.now }
 {
     changes.iter().any(|c| does_cost_grant(filed, job, c))
-}
-
-/// Makes the changes in a request, where it is the job's and has a want of one of their groups.
-fn change_where_met(f: &mut Filed, job: u8, changes: &[Want], bits: Signature)
-    requires { bits ≡ signature_of changes.now }
-    ensures { f.new ≡ with_change job changes.now f.old }
-{
-    if f.meets(bits) && f.job() == job {
-        f.change(changes);
-    }
-}
-
-/// Makes the changes in the job's requests. Grants stay as they are noted.
-pub fn change_of_job(filed: &mut [Filed], job: u8, changes: &[Want])
-    ensures value { filed.new ≡ map (with_change job changes.now) filed.old }
-    ensures waiters { waiters_in filed.new ≡ waiters_in filed.old }
-{
-    let bits = signature_of(changes);
-    for f in filed.iter_mut() {
-        change_where_met(f, job, changes, bits);
-    }
 }

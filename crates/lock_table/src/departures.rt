@@ -1,15 +1,20 @@
 //! Requests that leave, or lose wants.
-ghost use Rattle.std.specs.Prelude.{◌≡◌, ◌≤◌, ◌<◌, ◌+◌, [], ◌∷◌, ◌++◌, map, filter, length, get_or, take, drop};
-ghost use Rattle.std.specs.List.{list_any};
+ghost use Rattle.std.specs.Prelude.{◌≡◌, ◌≤◌, ◌<◌, ◌+◌, if◌then◌else◌, [], ◌∷◌, ◌++◌, map, filter, length, get_or, take, drop, true, IsTrue};
+ghost use Rattle.std.specs.List.{list_any, list_all};
 ghost use Rattle.word36.specs.declared.sizes.TheConstants.{REQUESTS};
 ghost use Rattle.lock_queue.specs.Queue.{names};
-ghost use Rattle.lock_table.specs.Departures.{leaves, stays, signature_where, loses, lost_bits, with_fewer, keeps_wants};
+ghost use Rattle.lock_queue.specs.WellFormed.{are_well_formed};
+ghost use Rattle.lock_table.specs.Departures.{leaves, stays, Covers, CoversAll, loses, fewer, with_fewer, keeps_wants, waits_with_fewer};
 ghost use Rattle.lock_table.specs.Filings.{Filing, requests_in, AreRight};
 ghost use Rattle.lock_table.specs.Renewals.{raised};
+ghost use Rattle.lock_table.specs.Signatures.{no_bits, signature_of};
+ghost use Rattle.lock_table.specs.Walks.{from_where};
 
 use crate::filed::Filed;
+use crate::renewal::renew;
 use crate::shelf::Shelf;
 use crate::signature::Signature;
+use crate::walks::from_own;
 use lock_queue::steps::names_key;
 use lock_queue::{EnqueueKind, RequestId, Want, Woken};
 
@@ -37,38 +42,68 @@ fn is_chosen(f: &Filed, leaving: &Leaving) -> bool
 }
 
 /// Whether a request leaves.
-pub fn does_leave(f: &Filed, job: u8, leaving: &Leaving) -> bool
+fn does_leave(f: &Filed, job: u8, leaving: &Leaving) -> bool
     ensures { result ≡ leaves job leaving.now f.now }
 {
     f.job() == job && is_chosen(f, leaving)
 }
 
-/// Takes out the requests that leave, and answers the groups that they touched.
+/// The requests from the first on that leaves.
+fn from_leaving<'a>(filed: &'a [Filed], job: u8, leaving: &Leaving) -> &'a [Filed]
+    ensures value { result.now ≡ from_where (leaves job leaving.now) filed.now }
+    ensures shorter { length result.now ≤ length filed.now }
+{
+    let mut rest = from_own(filed, job);
+    while let [f, later @ ..] = rest {
+        if does_leave(f, job, leaving) {
+            break;
+        }
+        rest = from_own(later, job);
+    }
+    rest
+}
+
+/// The place of the first request from a place on that leaves, or the number of requests where there is
+/// none.
+fn next_leaving(filed: &[Filed], from: usize, job: u8, leaving: &Leaving) -> usize
+    requires { from ≤ length filed.now }
+    ensures behind { from ≤ result }
+    ensures there { result ≤ length filed.now }
+    ensures value { drop result filed.now ≡ from_where (leaves job leaving.now) (drop from filed.now) }
+{
+    filed.len() - from_leaving(&filed[from..], job, leaving).len()
+}
+
+/// Takes out the requests that leave, and answers the groups and classes of those of their keys that are
+/// awaited.
 fn remove_leaving(shelf: &mut Shelf, job: u8, leaving: &Leaving) -> Signature
     ensures value { shelf.new ≡ filter (stays job leaving.now) shelf.old }
-    ensures bits { result ≡ signature_where (leaves job leaving.now) shelf.old }
+    ensures bits { Covers result (leaves job leaving.now) shelf.old (filter (stays job leaving.now) shelf.old) }
 {
     let mut bits = Signature::none();
-    for i in (0..shelf.as_slice().len()).rev() {
-        let f = &shelf.as_slice()[i];
-        if does_leave(f, job, leaving) {
-            bits = bits.joined(f.signature());
-            shelf.remove(i);
-        }
+    let mut i = next_leaving(shelf.as_slice(), 0, job, leaving);
+    while i < shelf.as_slice().len() {
+        bits = bits.joined(shelf.remove(i));
+        i = next_leaving(shelf.as_slice(), i, job, leaving);
     }
     bits
 }
 
-/// Takes out the requests that leave, and fills in the grants that this makes.
-pub fn depart(shelf: &mut Shelf, job: u8, leaving: &Leaving, woken: &mut Woken)
+/// Takes out the requests that leave, and fills in the grants that this makes; answers whether there
+/// are any.
+pub fn depart(shelf: &mut Shelf, job: u8, leaving: &Leaving, woken: &mut Woken) -> bool
     requires { AreRight [] shelf.old }
+    ensures found { result ≡ list_any (leaves job leaving.now) shelf.old }
     ensures requests { requests_in shelf.new ≡ requests_in (filter (stays job leaving.now) shelf.old) }
     ensures right { AreRight [] shelf.new }
     ensures few { length (requests_in shelf.new) ≤ REQUESTS }
     ensures woken { woken.new.items ≡ raised [] (filter (stays job leaving.now) shelf.old) }
 {
+    let count = shelf.as_slice().len();
     let bits = remove_leaving(shelf, job, leaving);
-    shelf.renew(bits, woken);
+    let are_some_gone = shelf.as_slice().len() != count;
+    renew(shelf, bits, woken);
+    are_some_gone
 }
 
 fn is_some_named(wants: &[Want], named: &[Want]) -> bool
@@ -84,70 +119,96 @@ fn does_lose(f: &Filed, job: u8, named: &[Want]) -> bool
     f.job() == job && is_some_named(f.wants(), named)
 }
 
-/// Takes the request at a place out where it has no wants.
-fn remove_bare(shelf: &mut Shelf, i: usize)
-    requires { i < length shelf.old }
-    ensures { (d : Filing) → shelf.new ≡
-        take i shelf.old ++ filter keeps_wants (get_or shelf.old i d ∷ []) ++ drop (i + 1) shelf.old }
+/// Whether all these wants are of named keys.
+fn are_all_named(wants: &[Want], named: &[Want]) -> bool
+    ensures { result ≡ list_all (λ w. names named.now w.key) wants.now }
 {
-    if shelf.as_slice()[i].is_bare() {
-        shelf.remove(i);
-    }
+    wants.iter().all(|w| names_key(named, &w.key))
 }
 
-/// Takes the named wants out of the request at a place, and the request where none is left; answers
-/// the groups that it touched, where it loses wants. Kept apart, so that the walk itself stays short.
-#[inline(never)]
-fn give_up_of_job_at(shelf: &mut Shelf, i: usize, job: u8, named: &[Want]) -> Signature
-    requires { i < length shelf.old }
-    ensures value { (d : Filing) → shelf.new ≡
-        take i shelf.old ++ filter keeps_wants (with_fewer job named.now (get_or shelf.old i d) ∷ []) ++ drop (i + 1) shelf.old }
-    ensures bits { (d : Filing) → result ≡ lost_bits job named.now (get_or shelf.old i d) }
+/// The requests from the first on of the job that has a want of a named key.
+fn from_losing<'a>(filed: &'a [Filed], job: u8, named: &[Want]) -> &'a [Filed]
+    ensures value { result.now ≡ from_where (loses job named.now) filed.now }
+    ensures shorter { length result.now ≤ length filed.now }
 {
-    let f = &shelf.as_slice()[i];
-    if !does_lose(f, job, named) {
-        remove_bare(shelf, i);
-        return Signature::none();
+    let mut rest = from_own(filed, job);
+    while let [f, later @ ..] = rest {
+        if does_lose(f, job, named) {
+            break;
+        }
+        rest = from_own(later, job);
     }
-    let bits = f.signature();
-    shelf.remove_keys_at(i, named);
-    remove_bare(shelf, i);
-    bits
+    rest
 }
 
-/// Takes the named wants out of the request at a place, and the request where none is left, and answers
-/// the groups of what lost wants. Most requests are of other jobs and have wants: those stay as they are.
-fn give_up_at(shelf: &mut Shelf, i: usize, job: u8, named: &[Want]) -> Signature
-    requires { i < length shelf.old }
-    ensures value { (d : Filing) → shelf.new ≡
-        take i shelf.old ++ filter keeps_wants (with_fewer job named.now (get_or shelf.old i d) ∷ []) ++ drop (i + 1) shelf.old }
-    ensures bits { (d : Filing) → result ≡ lost_bits job named.now (get_or shelf.old i d) }
+/// The place of the first request of the job from a place on that has a want of a named key, or the number
+/// of requests where there is none.
+pub fn next_losing(filed: &[Filed], from: usize, job: u8, named: &[Want]) -> usize
+    requires { from ≤ length filed.now }
+    ensures behind { from ≤ result }
+    ensures there { result ≤ length filed.now }
+    ensures value { drop result filed.now ≡ from_where (loses job named.now) (drop from filed.now) }
 {
-    let f = &shelf.as_slice()[i];
-    if f.job() != job && !f.is_bare() {
+    filed.len() - from_losing(&filed[from..], job, named).len()
+}
+
+/// The groups and classes of a request's keys, where it is not granted.
+fn bits_if_waiting(f: &Filed) -> Signature
+    ensures { result ≡ (if f.now.granted then no_bits else signature_of f.now.request.wants.items) }
+{
+    if f.is_granted() {
         Signature::none()
     } else {
-        give_up_of_job_at(shelf, i, job, named)
+        f.signature()
     }
 }
 
-/// Takes the named wants out of the job's requests, and the requests that are left without wants;
-/// answers the groups of all that lost wants.
-fn give_up(shelf: &mut Shelf, job: u8, named: &[Want]) -> Signature
+/// Takes the named wants out of the request at a place, and the request where none is left; answers the
+/// groups of its keys, where it keeps wants and is not granted.
+fn give_up_at(shelf: &mut Shelf, i: usize, job: u8, named: &[Want]) -> Signature
+    requires there { i < length shelf.old }
+    requires loses { (d : Filing) → loses job named.now (get_or shelf.old i d) ≡ true }
+    ensures value { (d : Filing) → shelf.new ≡
+        take i shelf.old ++ filter keeps_wants (fewer named.now (get_or shelf.old i d) ∷ []) ++ drop (i + 1) shelf.old }
+    ensures bits { (d : Filing) → CoversAll result (waits_with_fewer job named.now) (get_or shelf.old i d ∷ []) }
+{
+    let f = &shelf.as_slice()[i];
+    if are_all_named(f.wants(), named) {
+        let _ = shelf.remove(i);
+        return Signature::none();
+    }
+    let bits = bits_if_waiting(f);
+    shelf.remove_keys_at(i, named);
+    bits
+}
+
+/// Takes the named wants out of the job's requests, from the first on that has one, and the requests that
+/// are left without wants; answers the groups of those that keep wants and are not granted, and so may be
+/// granted now.
+fn give_up(shelf: &mut Shelf, first: usize, job: u8, named: &[Want]) -> Signature
+    requires place { first ≤ length shelf.old }
+    requires first { drop first shelf.old ≡ from_where (loses job named.now) shelf.old }
+    requires kept { IsTrue (list_all keeps_wants shelf.old) }
     ensures value { shelf.new ≡ filter keeps_wants (map (with_fewer job named.now) shelf.old) }
-    ensures bits { result ≡ signature_where (loses job named.now) shelf.old }
+    ensures bits { CoversAll result (waits_with_fewer job named.now) shelf.old }
 {
     let mut bits = Signature::none();
-    for i in (0..shelf.as_slice().len()).rev() {
+    let mut i = first;
+    while i < shelf.as_slice().len() {
         bits = bits.joined(give_up_at(shelf, i, job, named));
+        i = next_losing(shelf.as_slice(), i, job, named);
     }
     bits
 }
 
-/// Takes the named wants out of the job's requests, and the requests that are left without wants, and
-/// fills in the grants that this makes.
-pub fn depart_named(shelf: &mut Shelf, job: u8, named: &[Want], woken: &mut Woken)
-    requires { AreRight [] shelf.old }
+/// Takes the named wants out of the job's requests, from the first on that has one, and the requests that
+/// are left without wants, and fills in the grants that this makes: of requests that wait for one of these
+/// keys, and of those that lost wants.
+pub fn depart_named(shelf: &mut Shelf, first: usize, job: u8, named: &[Want], woken: &mut Woken)
+    requires place { first ≤ length shelf.old }
+    requires first { drop first shelf.old ≡ from_where (loses job named.now) shelf.old }
+    requires right { AreRight [] shelf.old }
+    requires well { IsTrue (are_well_formed (requests_in shelf.old)) }
     ensures requests { requests_in shelf.new ≡
         requests_in (filter keeps_wants (map (with_fewer job named.now) shelf.old)) }
     ensures right { AreRight [] shelf.new }
@@ -155,6 +216,7 @@ pub fn depart_named(shelf: &mut Shelf, job: u8, named: &[Want], woken: &mut Woke
     ensures woken { woken.new.items ≡
         raised [] (filter keeps_wants (map (with_fewer job named.now) shelf.old)) }
 {
-    let bits = give_up(shelf, job, named);
-    shelf.renew(bits, woken);
+    let awaited = shelf.awaited(named);
+    let bits = awaited.joined(give_up(shelf, first, job, named));
+    renew(shelf, bits, woken);
 }

@@ -1,15 +1,13 @@
 //! Why wants are not given up.
-ghost use Rattle.std.specs.Prelude.{◌≡◌, []};
+ghost use Rattle.std.specs.Prelude.{◌≡◌, ◌≤◌, [], false, length, take};
 ghost use Rattle.std.specs.List.{list_any};
 ghost use Rattle.lock_queue.specs.Dequeues.{dequeue_fault};
 ghost use Rattle.lock_queue.specs.Outcomes.{first_refusal};
-ghost use Rattle.lock_table.specs.Departures.{leaves};
+ghost use Rattle.lock_table.specs.Departures.{loses};
 ghost use Rattle.lock_table.specs.Filings.{requests_in};
 
-use crate::departures::{Leaving, does_leave};
 use crate::filed::Filed;
 use crate::fits::job_has_key;
-use crate::walks::from_own;
 use lock_queue::steps::names_key;
 use lock_queue::{Refusal, Want};
 
@@ -25,8 +23,8 @@ fn fault_of(filed: &[Filed], job: u8, earlier: &[Want], w: &Want) -> Option<Refu
     }
 }
 
-/// Why the named wants are not given up, if they are not.
-pub fn refusal_of_dequeue(filed: &[Filed], job: u8, named: &[Want]) -> Option<Refusal>
+/// Why the named wants are not given up of these requests, if they are not.
+fn refusal_among(filed: &[Filed], job: u8, named: &[Want]) -> Option<Refusal>
     ensures { result ≡ first_refusal (dequeue_fault (requests_in filed.now) job) [] named.now }
 {
     for (i, w) in named.iter().enumerate() {
@@ -38,16 +36,12 @@ pub fn refusal_of_dequeue(filed: &[Filed], job: u8, named: &[Want]) -> Option<Re
     None
 }
 
-/// Whether a request leaves.
-pub fn does_some_leave(filed: &[Filed], job: u8, leaving: &Leaving) -> bool
-    ensures { result ≡ list_any (leaves job leaving.now) filed.now }
+/// Why the named wants are not given up, if they are not. No request of the job before a place has one, so
+/// those are not looked at.
+pub fn refusal_of_dequeue(filed: &[Filed], first: usize, job: u8, named: &[Want]) -> Option<Refusal>
+    requires place { first ≤ length filed.now }
+    requires none { list_any (loses job named.now) (take first filed.now) ≡ false }
+    ensures { result ≡ first_refusal (dequeue_fault (requests_in filed.now) job) [] named.now }
 {
-    let mut rest = from_own(filed, job);
-    while let [f, later @ ..] = rest {
-        if does_leave(f, job, leaving) {
-            return true;
-        }
-        rest = from_own(later, job);
-    }
-    false
+    refusal_among(&filed[first..], job, named)
 }

@@ -1,20 +1,24 @@
 //! Why a request that arrives is refused, and whether it fits.
-ghost use Rattle.std.specs.Prelude.{◌≡◌, ◌≤◌, ◌+◌, ◌^◌, max, ◌==◌, ◌&&◌, ◌||◌, not, if◌then◌else◌, [], filter};
-ghost use Rattle.std.specs.List.{list_all};
+ghost use Rattle.std.specs.Prelude.{◌≡◌, ◌≤◌, ◌<◌, ◌+◌, ◌^◌, max, ◌==◌, ◌&&◌, ◌||◌, not, if◌then◌else◌, [], filter, get_or, length, nat_le, take};
+ghost use Rattle.std.specs.List.{list_all, list_any};
 ghost use Rattle.word36.specs.declared.sizes.TheConstants.{REQUESTS};
+ghost use Rattle.lock_queue.specs.declared.want.Want.{Want};
 ghost use Rattle.lock_queue.specs.Enqueues.{enqueue_fault, some_too_low, enqueue_refusal};
 ghost use Rattle.lock_queue.specs.Outcomes.{first_refusal};
 ghost use Rattle.lock_queue.specs.Keys.{same_key};
 ghost use Rattle.lock_queue.specs.Queue.{names, wants_at, wants_of, agree, fits};
+ghost use Rattle.key_tally.specs.Hashes.{hash_of, hashes_of};
 ghost use Rattle.lock_table.specs.Arrivals.{judged};
 ghost use Rattle.lock_table.specs.Filings.{requests_in};
-ghost use Rattle.lock_table.specs.Levels.{above_all, some_below};
+ghost use Rattle.lock_table.specs.Levels.{first_bound, some_below};
+ghost use Rattle.lock_table.specs.Signatures.{bits_of};
 
 use crate::filed::Filed;
 use crate::fits::{all_agree_in, is_fitting_where, job_names};
-use crate::signature::bits_of;
+use crate::shelf::Shelf;
+use crate::signature::{Signature, bits_of};
 use crate::walks::{from_met, from_own, next_met};
-use lock_queue::steps::{are_alike_in, names_key};
+use lock_queue::steps::{are_alike_in, names_key, reach_level};
 use lock_queue::{Asking, EnqueueKind, Key, Level, Refusal, Want};
 use word36::REQUESTS;
 
@@ -36,11 +40,11 @@ fn do_agree_so_far(before: bool, f: &Filed, w: &Want) -> bool
 
 /// Why a want is refused beside the present ones: one of its key differs from it, or is the job's; else
 /// whether all of its key agree with it.
-fn judge_beside(filed: &[Filed], job: u8, w: &Want) -> Result<bool, Refusal>
+fn judge_agreeing(filed: &[Filed], job: u8, w: &Want, bits: Signature) -> Result<bool, Refusal>
+    requires { bits ≡ bits_of w.now.key }
     ensures { result ≡ judged (enqueue_fault (requests_in filed.now) job [] w.now)
         (list_all (λ v. agree v w.now) (wants_at (requests_in filed.now) w.now.key)) }
 {
-    let bits = bits_of(&w.key);
     let mut is_named = false;
     let mut do_agree = true;
     let mut rest = from_met(filed, bits);
@@ -59,30 +63,83 @@ fn judge_beside(filed: &[Filed], job: u8, w: &Want) -> Result<bool, Refusal>
     }
 }
 
-/// Why a want is refused that comes after the call's earlier ones; else whether it fits behind the
-/// present requests.
-fn judge_want(filed: &[Filed], job: u8, earlier: &[Want], w: &Want) -> Result<bool, Refusal>
-    ensures { result ≡ judged (enqueue_fault (requests_in filed.now) job earlier.now w.now)
+/// Why a want is refused beside the present ones; else whether it fits behind them. They are walked
+/// over for its key.
+fn judge_walking(filed: &[Filed], job: u8, w: &Want) -> Result<bool, Refusal>
+    ensures { result ≡ judged (enqueue_fault (requests_in filed.now) job [] w.now)
         (fits (requests_in filed.now) w.now) }
 {
-    match judge_beside(filed, job, w) {
+    match judge_agreeing(filed, job, w, bits_of(&w.key)) {
         Err(refusal) => Err(refusal),
-        Ok(do_agree) => if names_key(earlier, &w.key) {
+        Ok(do_agree) => Ok(is_fitting_where(filed, w, do_agree)),
+    }
+}
+
+/// The same of a want whose key has this hash. The present ones are walked over only where the shelf
+/// does not tell it at once.
+fn judge_beside(shelf: &Shelf, job: u8, w: &Want, hash: u16) -> Result<bool, Refusal>
+    requires { hash ≡ hash_of w.now.key }
+    ensures { result ≡ judged (enqueue_fault (requests_in shelf.now) job [] w.now)
+        (fits (requests_in shelf.now) w.now) }
+{
+    match shelf.beside(job, w, hash) {
+        Some(judged) => judged,
+        None => judge_walking(shelf.as_slice(), job, w),
+    }
+}
+
+fn has_hash(hashes: &[u16], hash: u16) -> bool
+    ensures { result ≡ list_any (λ h. h == hash) hashes.now }
+{
+    hashes.iter().any(|h| *h == hash)
+}
+
+/// Whether one of these wants, whose keys have these hashes, is of the key. Keys are compared only
+/// where one of the hashes is the key's.
+fn is_key_among(wants: &[Want], hashes: &[u16], key: &Key, hash: u16) -> bool
+    requires hashes { hashes.now ≡ hashes_of wants.now }
+    requires hash { hash ≡ hash_of key.now }
+    ensures { result ≡ names wants.now key.now }
+{
+    has_hash(hashes, hash) && names_key(wants, key)
+}
+
+/// Why the want at a place is refused behind the call's wants before it; else whether it fits behind
+/// the present requests.
+fn judge_want(
+    shelf: &Shelf,
+    job: u8,
+    wants: &[Want],
+    hashes: &[u16],
+    i: usize,
+) -> Result<bool, Refusal>
+    requires there { i < length wants.now }
+    requires hashes { hashes.now ≡ hashes_of wants.now }
+    ensures { (d : Want) → result ≡ judged
+        (enqueue_fault (requests_in shelf.now) job (take i wants.now) (get_or wants.now i d))
+        (fits (requests_in shelf.now) (get_or wants.now i d)) }
+{
+    let w = &wants[i];
+    let hash = hashes[i];
+    match judge_beside(shelf, job, w, hash) {
+        Err(refusal) => Err(refusal),
+        Ok(is_fitting) => if is_key_among(&wants[..i], &hashes[..i], &w.key, hash) {
             Err(Refusal::NamedAlready)
         } else {
-            Ok(is_fitting_where(filed, w, do_agree))
+            Ok(is_fitting)
         },
     }
 }
 
 /// Why a want is refused, for the first that is; else whether all fit behind the present requests.
-fn judge_wants(filed: &[Filed], job: u8, wants: &[Want]) -> Result<bool, Refusal>
-    ensures { result ≡ judged (first_refusal (enqueue_fault (requests_in filed.now) job) [] wants.now)
-        (list_all (fits (requests_in filed.now)) wants.now) }
+fn judge_wants(shelf: &Shelf, job: u8, wants: &[Want], hashes: &[u16]) -> Result<bool, Refusal>
+    requires { hashes.now ≡ hashes_of wants.now }
+    ensures { result ≡ judged (first_refusal (enqueue_fault (requests_in shelf.now) job) [] wants.now)
+        (list_all (fits (requests_in shelf.now)) wants.now) }
 {
     let mut are_fitting = true;
-    for (i, w) in wants.iter().enumerate() {
-        match judge_want(filed, job, &wants[..i], w) {
+    for i in 0..wants.len() {
+        match judge_want(shelf, job, wants, hashes, i) {
             Err(refusal) => return Err(refusal),
             Ok(is_fitting) => are_fitting = are_fitting && is_fitting,
         }
@@ -103,54 +160,11 @@ fn level_above(floor: u16, level: Level) -> u16
     }
 }
 
-/// The first level that is above those of these wants and at least the given one.
-fn level_above_all(wants: &[Want], floor: u16) -> u16
-    requires { floor ≤ 2 ^ 9 }
-    ensures value { result ≡ above_all floor wants.now }
-    ensures most { result ≤ 2 ^ 9 }
-{
-    let mut above = floor;
-    for w in wants {
-        above = level_above(above, w.level);
-    }
-    above
-}
-
-/// The first level that is above those of a request's wants, where it is the job's, and at least the given one.
-fn level_above_own(f: &Filed, job: u8, floor: u16) -> u16
-    requires { floor ≤ 2 ^ 9 }
-    ensures value { result ≡
-        (if f.now.request.job == job then above_all floor f.now.request.wants.items else floor) }
-    ensures most { result ≤ 2 ^ 9 }
-{
-    if f.job() == job {
-        level_above_all(f.wants(), floor)
-    } else {
-        floor
-    }
-}
-
-/// The first level that is above those of all present wants of the job; 0 where it has none.
-fn level_above_job(filed: &[Filed], job: u8) -> u16
-    ensures value { result ≡ above_all 0 (wants_of (requests_in filed.now) job) }
-    ensures most { result ≤ 2 ^ 9 }
+/// Whether a want without bypass has a level that is not above those of the wants before it.
+fn is_some_below(wants: &[Want]) -> bool
+    ensures { result ≡ some_below 0 wants.now }
 {
     let mut above = 0;
-    let mut rest = from_own(filed, job);
-    while let [f, later @ ..] = rest {
-        above = level_above_own(f, job, above);
-        rest = from_own(later, job);
-    }
-    above
-}
-
-/// Whether a want without bypass has a level below this one, or not above those of the wants before
-/// it.
-fn is_some_below(floor: u16, wants: &[Want]) -> bool
-    requires { floor ≤ 2 ^ 9 }
-    ensures { result ≡ some_below floor wants.now }
-{
-    let mut above = floor;
     for w in wants {
         if !w.bypass && w.level.number() < above {
             return true;
@@ -160,44 +174,74 @@ fn is_some_below(floor: u16, wants: &[Want]) -> bool
     false
 }
 
-/// Whether all wants bypass the rule of levels.
-fn do_all_bypass(wants: &[Want]) -> bool
-    ensures { result ≡ list_all (λ w. w.bypass) wants.now }
+/// The level of the first want without bypass.
+fn first_bound(wants: &[Want]) -> Option<Level>
+    ensures { result ≡ first_bound wants.now }
 {
-    wants.iter().all(|w| w.bypass)
+    for w in wants {
+        if !w.bypass {
+            return Some(w.level);
+        }
+    }
+    None
+}
+
+/// Whether a request is the job's and has a want of this level or a higher one.
+fn does_reach(f: &Filed, job: u8, level: Level) -> bool
+    ensures { result ≡
+        (f.now.request.job == job && list_any (λ v. nat_le level v.level) f.now.request.wants.items) }
+{
+    f.job() == job && reach_level(f.wants(), level)
+}
+
+/// Whether a present want of the job has this level or a higher one.
+fn does_job_reach(filed: &[Filed], job: u8, level: Level) -> bool
+    ensures { result ≡ list_any (λ v. nat_le level v.level) (wants_of (requests_in filed.now) job) }
+{
+    let mut rest = from_own(filed, job);
+    while let [f, later @ ..] = rest {
+        if does_reach(f, job, level) {
+            return true;
+        }
+        rest = from_own(later, job);
+    }
+    false
 }
 
 /// Whether a want without bypass has a level that is not above those of the call's wants before it
-/// and of all present wants of the job. The job's requests are looked for once, if at all.
-#[tactic(auto, using(crate::proofs::LevelLaws::below_order, crate::proofs::LevelLaws::bypassing_order))]
+/// and of all present wants of the job. Where the call's own wants rise, the first without bypass is
+/// the lowest of these, so it alone is held against the job's.
+#[tactic(auto, using(crate::proofs::LevelLaws::all_bypass_order))]
 fn are_out_of_order(filed: &[Filed], job: u8, wants: &[Want]) -> bool
     ensures { result ≡ some_too_low (wants_of (requests_in filed.now) job) wants.now }
 {
-    if do_all_bypass(wants) {
-        return false;
+    match first_bound(wants) {
+        None => false,
+        Some(level) => is_some_below(wants) || does_job_reach(filed, job, level),
     }
-    is_some_below(level_above_job(filed, job), wants)
 }
 
 /// Why a request is not taken in, if it is not: first lock by lock, then by its levels, then for want
-/// of a vector, then for want of room; else whether its wants fit behind the present requests. Each
-/// want's key is walked for once.
+/// of a vector, then for want of room; else whether its wants, whose keys have these hashes, fit behind
+/// the present requests.
 pub fn judge_enqueue(
-    filed: &[Filed],
+    shelf: &Shelf,
     job: u8,
     asking: &Asking,
     wants: &[Want],
+    hashes: &[u16],
 ) -> Result<bool, Refusal>
-    ensures { result ≡ judged (enqueue_refusal REQUESTS (requests_in filed.now) job asking.now wants.now)
-        (list_all (fits (requests_in filed.now)) wants.now) }
+    requires { hashes.now ≡ hashes_of wants.now }
+    ensures { result ≡ judged (enqueue_refusal REQUESTS (requests_in shelf.now) job asking.now wants.now)
+        (list_all (fits (requests_in shelf.now)) wants.now) }
 {
-    match judge_wants(filed, job, wants) {
+    match judge_wants(shelf, job, wants, hashes) {
         Err(refusal) => Err(refusal),
-        Ok(are_fitting) => if are_out_of_order(filed, job, wants) {
+        Ok(are_fitting) => if are_out_of_order(shelf.as_slice(), job, wants) {
             Err(Refusal::LevelOrder)
         } else if matches!(asking.kind, EnqueueKind::Interrupt) && !asking.armed {
             Err(Refusal::NoVector)
-        } else if filed.len() >= REQUESTS {
+        } else if shelf.as_slice().len() >= REQUESTS {
             Err(Refusal::QueueFull)
         } else {
             Ok(are_fitting)

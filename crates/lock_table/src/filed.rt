@@ -1,31 +1,39 @@
 //! A request with what is kept beside it.
-ghost use Rattle.std.specs.Prelude.{◌≡◌, ◌≤◌, true, false, length, map, not, IfOk, IsTrue};
+ghost use Rattle.std.specs.Prelude.{◌≡◌, ◌≤◌, ◌^◌, ◌%◌, true, false, length, map, IsTrue};
 ghost use Rattle.std.specs.List.{list_all};
 ghost use Rattle.word36.specs.declared.sizes.TheConstants.{LOCKS_A_CALL};
+ghost use Rattle.key_tally.specs.Hashes.{hashes_of};
 ghost use Rattle.lock_queue.specs.Changes.{changed_want};
-ghost use Rattle.lock_queue.specs.Dequeues.{has_wants, with_wants, without_keys};
+ghost use Rattle.lock_queue.specs.Dequeues.{with_wants, without_keys};
 ghost use Rattle.lock_queue.specs.Enqueues.{request_of};
 ghost use Rattle.lock_queue.specs.WellFormed.{is_in_range};
 ghost use Rattle.lock_table.specs.Filings.{filing};
 ghost use Rattle.lock_table.specs.Findings.{with_told};
 ghost use Rattle.lock_table.specs.Renewals.{with_grant};
 ghost use Rattle.lock_table.specs.Signatures.{meets, signature_of};
-ghost use Rattle.lock_table.specs.Waiters.{waiter_bit};
+ghost use Rattle.lock_table.specs.Waiters.{is_waiting};
 ghost use Rattle.lock_table.specs.Walks.{owned, touched};
 
 use crate::sharing::change_wants;
-use crate::signature::{Signature, signature_of};
-use crate::waiters::{bit_of_job, is_blocking};
+use crate::signature::{Signature, signature_at};
+use key_tally::{Hashes, hashes_of};
 use lock_queue::steps::{remove_keys, write_request};
-use lock_queue::{Asking, Request, Want, Wants};
+use lock_queue::{Asking, EnqueueKind, Request, Want, Wants};
 use std::alloc::{AllocError, Global};
 use std::marker::Model;
+
+/// A request and the hashes of its wants' keys.
+#[derive(Drop)]
+struct Entry {
+    request: Request,
+    hashes: Hashes,
+}
 
 /// A request, the signature of its wants, and whether it is granted. The request is boxed, so that the
 /// others move up fast when one leaves.
 #[derive(Drop)]
 pub struct Filed {
-    request: Box<Request>,
+    entry: Box<Entry>,
     signature: Signature,
     own_bit: u32,
     job: u8,
@@ -35,6 +43,7 @@ pub struct Filed {
 
 impl Model for Filed {
     ghost use Rattle.std.specs.Prelude.{◌≡◌};
+    ghost use Rattle.key_tally.specs.Hashes.{hashes_of};
     ghost use Rattle.lock_queue.specs.Jobs.{is_blocking};
     ghost use Rattle.lock_table.specs.Filings.{Filing, filing};
     ghost use Rattle.lock_table.specs.Signatures.{signature_of};
@@ -42,18 +51,42 @@ impl Model for Filed {
 
     ghost Value = { Filing };
 
-    ghost view = { λ f. filing f.request.value f.granted };
+    ghost view = { λ f. filing f.entry.value.request f.granted };
 
-    ghost invariant = { λ f. (f.signature ≡ signature_of f.request.value.wants.items)
-        × (f.own_bit ≡ job_bit (filing f.request.value f.granted)) × (f.job ≡ f.request.value.job)
-        × (f.blocking ≡ is_blocking f.request.value.kind) };
+    ghost invariant = { λ f. (f.signature ≡ signature_of f.entry.value.request.wants.items)
+        × (f.own_bit ≡ job_bit (filing f.entry.value.request f.granted)) × (f.job ≡ f.entry.value.request.job)
+        × (f.blocking ≡ is_blocking f.entry.value.request.kind)
+        × (f.entry.value.hashes.items ≡ hashes_of f.entry.value.request.wants.items) };
+}
+
+/// The bit of a job's number modulo 32.
+pub fn bit_of_job(job: u8) -> u32
+    ensures { result ≡ 2 ^ (job % 32) }
+{
+    1 << (job % 32)
+}
+
+/// Writes hashes over others.
+fn write_hashes(place: &mut Hashes, hashes: &Hashes)
+    ensures { place.new.items ≡ hashes.now.items }
+{
+    place.clear();
+    for hash in hashes.as_slice() {
+        place.push(*hash);
+    }
 }
 
 impl Filed {
     /// An unused one.
     pub fn new(alloc: Global) -> Result<Self, AllocError> {
         Ok(Filed {
-            request: Box::new(alloc, Request::default())?,
+            entry: Box::new(
+                alloc,
+                Entry {
+                    request: Request::default(),
+                    hashes: Hashes::new(),
+                },
+            )?,
             signature: Signature::none(),
             own_bit: 1,
             job: 0,
@@ -66,7 +99,7 @@ impl Filed {
     pub fn request(&self) -> &Request
         ensures { result.now ≡ self.now.request }
     {
-        &self.request
+        &self.entry.request
     }
 
     /// Whose it is.
@@ -76,15 +109,11 @@ impl Filed {
         self.job
     }
 
-    /// The bit of the job that waits by it, or 0 where none does.
-    pub fn waiter_bit(&self) -> u32
-        ensures { result ≡ waiter_bit self.now }
+    /// Whether its job waits by it.
+    pub fn is_waiting(&self) -> bool
+        ensures { result ≡ is_waiting self.now }
     {
-        if !self.granted && self.blocking {
-            self.own_bit
-        } else {
-            0
-        }
+        !self.granted && self.blocking
     }
 
     /// Those of some jobs' bits that are its job's.
@@ -98,7 +127,14 @@ impl Filed {
     pub fn wants(&self) -> &[Want]
         ensures { result.now ≡ self.now.request.wants.items }
     {
-        self.request.wants.as_slice()
+        self.entry.request.wants.as_slice()
+    }
+
+    /// The hashes of its wants' keys.
+    pub fn hashes(&self) -> &[u16]
+        ensures { result.now ≡ hashes_of self.now.request.wants.items }
+    {
+        self.entry.hashes.as_slice()
     }
 
     /// Whether it is granted.
@@ -129,14 +165,6 @@ impl Filed {
         self.signature.meets(bits)
     }
 
-    /// Whether it has no wants.
-    #[tactic(auto, using(crate::proofs::SignatureLaws::bare_signature))]
-    pub fn is_bare(&self) -> bool
-        ensures { result ≡ not (has_wants self.now.request) }
-    {
-        self.signature.groups == 0
-    }
-
     /// Grants it.
     pub fn grant(&mut self)
         ensures { self.new ≡ with_grant self.old }
@@ -148,39 +176,51 @@ impl Filed {
     pub fn tell(&mut self)
         ensures { self.new ≡ with_told self.old }
     {
-        self.request.told = true;
+        self.entry.request.told = true;
     }
 
-    /// Writes another request over it.
-    pub fn write(&mut self, job: u8, asking: &Asking, told: bool, wants: &Wants, granted: bool)
+    /// Writes another request over it, of wants whose keys have these hashes.
+    #[tactic(auto, using(crate::proofs::SignatureLaws::signature_by_hashes))]
+    pub fn write(
+        &mut self,
+        job: u8,
+        asking: &Asking,
+        told: bool,
+        wants: &Wants,
+        hashes: &Hashes,
+        granted: bool,
+    )
+        requires hashes { hashes.now.items ≡ hashes_of wants.now.items }
         ensures value { self.new ≡ filing (request_of job asking.now told wants.now) granted }
         ensures few { length wants.now.items ≤ LOCKS_A_CALL }
         ensures range { IsTrue (list_all is_in_range wants.now.items) }
     {
-        write_request(&mut self.request, job, asking, told, wants);
-        self.signature = signature_of(wants.as_slice());
+        write_request(&mut self.entry.request, job, asking, told, wants);
+        write_hashes(&mut self.entry.hashes, hashes);
+        self.signature = signature_at(hashes.as_slice());
         self.own_bit = bit_of_job(job);
         self.job = job;
-        self.blocking = is_blocking(asking.kind);
+        self.blocking = matches!(asking.kind, EnqueueKind::Blocking);
         self.granted = granted;
     }
 
     /// Takes the wants of the named keys out.
+    #[tactic(auto, using(crate::proofs::SignatureLaws::signature_by_hashes))]
     pub fn remove_keys(&mut self, named: &[Want])
         ensures { self.new ≡ filing (without_keys named.now self.old.request) self.old.granted }
     {
-        remove_keys(&mut self.request, named);
-        self.signature = signature_of(self.request.wants.as_slice());
+        remove_keys(&mut self.entry.request, named);
+        let hashes = hashes_of(&self.entry.request.wants);
+        self.signature = signature_at(hashes.as_slice());
+        self.entry.hashes = hashes;
     }
 
-    /// Makes its wants shared or exclusive, each as the change of its key says, if there is one. Kept
-    /// apart, so that a walk over requests stays short.
-    #[inline(never)]
-    #[tactic(auto, using(crate::proofs::ChangeLaws::changed_signature))]
+    /// Makes its wants shared or exclusive, each as the change of its key says, if there is one.
+    #[tactic(auto, using(crate::proofs::ChangeLaws::changed_signature, crate::proofs::ChangeLaws::changed_hashes))]
     pub fn change(&mut self, changes: &[Want])
         ensures { self.new ≡ filing
             (with_wants self.old.request (map (changed_want changes.now) self.old.request.wants.items)) self.old.granted }
     {
-        change_wants(&mut self.request, changes);
+        change_wants(&mut self.entry.request, changes);
     }
 }

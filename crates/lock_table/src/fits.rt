@@ -7,19 +7,10 @@ ghost use Rattle.lock_table.specs.Filings.{requests_in};
 ghost use Rattle.lock_table.specs.Signatures.{bits_of};
 
 use crate::filed::Filed;
-use crate::signature::{Signature, bits_of};
-use crate::walks::{from_met, next_met};
+use crate::signature::bits_of;
+use crate::walks::{from_met, from_own, next_met};
 use lock_queue::steps::{do_agree, names_key, room_beside};
 use lock_queue::{Key, Pool, Want};
-
-/// Whether a request has a want of the key.
-#[tactic(auto, using(crate::proofs::SignatureLaws::unmet_names))]
-pub fn has_key(f: &Filed, key: &Key, bits: Signature) -> bool
-    requires { bits ≡ bits_of key.now }
-    ensures { result ≡ names f.now.request.wants.items key.now }
-{
-    f.meets(bits) && names_key(f.wants(), key)
-}
 
 /// Whether a request is the job's and has a want of the key.
 pub fn job_names(f: &Filed, job: u8, key: &Key) -> bool
@@ -28,17 +19,16 @@ pub fn job_names(f: &Filed, job: u8, key: &Key) -> bool
     f.job() == job && names_key(f.wants(), key)
 }
 
-/// Whether the job has a want of the key.
+/// Whether the job has a want of the key. Only its own requests are looked at.
 pub fn job_has_key(filed: &[Filed], job: u8, key: &Key) -> bool
     ensures { result ≡ names (wants_of (requests_in filed.now) job) key.now }
 {
-    let bits = bits_of(key);
-    let mut rest = from_met(filed, bits);
-    while let [f, ..] = rest {
+    let mut rest = from_own(filed, job);
+    while let [f, later @ ..] = rest {
         if job_names(f, job, key) {
             return true;
         }
-        rest = next_met(rest, bits);
+        rest = from_own(later, job);
     }
     false
 }
@@ -116,11 +106,4 @@ pub fn is_fitting_where(earlier: &[Filed], w: &Want, do_agree: bool) -> bool
         None => do_agree,
         Some(pool) => is_room(earlier, &w.key, pool),
     }
-}
-
-/// Whether all of these wants fit behind the earlier requests.
-pub fn are_fitting(earlier: &[Filed], wants: &[Want]) -> bool
-    ensures { result ≡ list_all (fits (requests_in earlier.now)) wants.now }
-{
-    wants.iter().all(|w| is_fitting(earlier, w))
 }

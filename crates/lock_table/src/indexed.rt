@@ -46,15 +46,15 @@ impl LockTable for IndexedTable {
     }
 
     fn release(&mut self, job: u8) {
-        depart(&mut self.present, job, &Leaving::All, &mut self.unheard);
+        let _ = depart(&mut self.present, job, &Leaving::All, &mut self.unheard);
     }
 
     fn release_waking(&mut self, job: u8, woken: &mut Woken) {
-        depart(&mut self.present, job, &Leaving::All, woken);
+        let _ = depart(&mut self.present, job, &Leaving::All, woken);
     }
 
     fn withdraw(&mut self, job: u8) {
-        depart(&mut self.present, job, &Leaving::Blocked, &mut self.unheard);
+        let _ = depart(&mut self.present, job, &Leaving::Blocked, &mut self.unheard);
     }
 
     fn waiting(&self, job: u8) -> bool {
@@ -70,7 +70,7 @@ impl LockTable for IndexedTable {
     }
 
     fn status(&self, key: &Key, job: u8) -> Status {
-        status_in(self.present.as_slice(), key, job)
+        status_in(&self.present, key, job)
     }
 
     fn len(&self) -> usize {

@@ -1,16 +1,24 @@
-//! Grants that are made when requests have left or changed, and the jobs that wait then.
-ghost use Rattle.std.specs.Prelude.{◌≡◌, ◌≤◌, ◌<◌, ◌+◌, ◌++◌, [], false, length, take, drop, IsTrue};
+//! Grants that are made when requests have left or changed.
+ghost use Rattle.std.specs.Prelude.{◌≡◌, ◌≤◌, ◌<◌, ◌++◌, [], ◌∷◌, false, length, get_or, set, take, IsTrue};
 ghost use Rattle.word36.specs.declared.sizes.TheConstants.{REQUESTS};
 ghost use Rattle.lock_queue.specs.Queue.{granted_behind};
-ghost use Rattle.lock_table.specs.Filings.{requests_in};
-ghost use Rattle.lock_table.specs.Renewals.{renewed, risen, rises, shuts};
-ghost use Rattle.lock_table.specs.Waiters.{waiters_in};
+ghost use Rattle.lock_table.specs.Filings.{Filing, requests_in};
+ghost use Rattle.lock_table.specs.Renewals.{renewed, risen, raised, as_raised, shuts};
 
 use crate::filed::Filed;
-use crate::fits::are_fitting;
+use crate::shelf::Shelf;
 use crate::signature::Signature;
+use crate::walks::next_waiting;
 use lock_queue::Woken;
 use lock_queue::steps::{do_agree, grant_of, is_pooled, is_told_of};
+
+/// Takes all grants out, one by one: mostly there are none or one, and the room for all others need not
+/// be written.
+pub fn forget(woken: &mut Woken)
+    ensures { woken.new.items ≡ [] }
+{
+    while woken.pop().is_some() {}
+}
 
 /// Whether the first want of a request does not fit behind the first of an earlier one.
 fn does_shut(g: &Filed, f: &Filed) -> bool
@@ -30,39 +38,59 @@ fn does_keep(earlier: &[Filed], place: usize, f: &Filed) -> bool
     place < earlier.len() && does_shut(&earlier[place], f)
 }
 
-/// Whether a request is not granted yet, meets the bits and is granted now. Most that wait
-/// do so for the key of the last that was looked at, so they are held beside that one first.
-fn does_rise(earlier: &[Filed], f: &Filed, bits: Signature, last: &mut usize) -> bool
-    ensures { result ≡ rises bits (requests_in earlier.now) f.now }
+/// Whether the request at a place is granted now. Most that wait do so for the key of the last that was
+/// looked at, so they are held beside that one first.
+fn does_rise(shelf: &Shelf, i: usize, last: &mut usize) -> bool
+    requires { i < length shelf.now }
+    ensures { (d : Filing) → result ≡
+        granted_behind (requests_in (take i shelf.now)) (get_or shelf.now i d).request }
 {
-    if f.is_granted() || !f.meets(bits) || does_keep(earlier, *last, f) {
+    let all = shelf.as_slice();
+    if does_keep(&all[..i], *last, &all[i]) {
         return false;
     }
-    *last = earlier.len();
-    are_fitting(earlier, f.wants())
+    *last = i;
+    shelf.would_grant(i)
 }
 
-/// Grants what rises, fills in the grants of those whose jobs are told, and answers the bits of the
-/// jobs that wait then.
-pub fn renew(filed: &mut [Filed], bits: Signature, woken: &mut Woken) -> u32
-    requires { length filed.old ≤ REQUESTS }
-    ensures value { filed.new ≡ renewed bits [] filed.old }
-    ensures woken { woken.new.items ≡ risen bits [] filed.old }
-    ensures waiters { result ≡ waiters_in filed.new }
+/// Grants the request at a place, which waited until now, where it is granted now, and takes the grant
+/// in where its job is told.
+fn renew_at(shelf: &mut Shelf, i: usize, last: &mut usize, woken: &mut Woken)
+    requires there { i < length shelf.old }
+    requires waits { (d : Filing) → (get_or shelf.old i d).granted ≡ false }
+    requires room { length woken.old.items < REQUESTS }
+    ensures value { (d : Filing) → shelf.new ≡
+        set shelf.old i (as_raised (requests_in (take i shelf.old)) (get_or shelf.old i d)) }
+    ensures woken { (d : Filing) → woken.new.items ≡
+        woken.old.items ++ raised (requests_in (take i shelf.old)) (get_or shelf.old i d ∷ []) }
 {
-    woken.clear();
-    let mut waiters = 0;
-    let mut last = 0;
-    for i in 0..filed.len() {
-        let all = &filed[..];
-        if does_rise(&all[..i], &all[i], bits, &mut last) {
-            let r = all[i].request();
-            if is_told_of(r.kind) {
-                woken.push(grant_of(r));
-            }
-            filed[i].grant();
-        }
-        waiters |= filed[i].waiter_bit();
+    if !does_rise(shelf, i, last) {
+        return;
     }
-    waiters
+    let r = shelf.as_slice()[i].request();
+    if is_told_of(r.kind) {
+        woken.push(grant_of(r));
+    }
+    shelf.grant_at(i);
+}
+
+/// Grants what rises, and fills in the grants of those whose jobs are told. No bits are met by none, so
+/// then no request is looked at.
+#[tactic(auto, using(crate::proofs::RenewalLaws::renewed_none, crate::proofs::RenewalLaws::risen_none))]
+pub fn renew(shelf: &mut Shelf, bits: Signature, woken: &mut Woken)
+    ensures value { shelf.new ≡ renewed bits [] shelf.old }
+    ensures few { length shelf.new ≤ REQUESTS }
+    ensures woken { woken.new.items ≡ risen bits [] shelf.old }
+{
+    forget(woken);
+    let count = shelf.as_slice().len();
+    if bits.is_none() {
+        return;
+    }
+    let mut last = 0;
+    let mut i = next_waiting(shelf.as_slice(), 0, bits);
+    while i < count {
+        renew_at(shelf, i, &mut last, woken);
+        i = next_waiting(shelf.as_slice(), i + 1, bits);
+    }
 }

@@ -1,9 +1,10 @@
 //! The signature of some wants: a bit for each of 64 groups of keys that they touch, and for each of 64
 //! classes, which part keys in another way.
-ghost use Rattle.std.specs.Prelude.{◌≡◌, ◌<◌};
-ghost use Rattle.lock_table.specs.Signatures.{hash_text, hash_of, bits_of, joined, meets, no_bits, signature_of};
+ghost use Rattle.std.specs.Prelude.{◌≡◌, ◌==◌};
+ghost use Rattle.lock_table.specs.Signatures.{bits_at, bits_of, joined, meets, no_bits, signature, signature_at, signature_of};
 
-use lock_queue::{Key, Name, Scope, Want};
+use key_tally::hash_of;
+use lock_queue::{Key, Want};
 
 /// The bits of groups and of classes that some keys touch.
 #[derive(Clone, Copy, Debug, PartialEq, Eq)]
@@ -25,6 +26,13 @@ impl Signature {
         }
     }
 
+    /// Whether it is the one of no keys.
+    pub fn is_none(self) -> bool
+        ensures { result ≡ (self.groups == 0) }
+    {
+        self.groups == 0
+    }
+
     /// The bits of both.
     pub fn joined(self, other: Signature) -> Self
         ensures { result ≡ joined self other }
@@ -43,42 +51,33 @@ impl Signature {
     }
 }
 
-fn hash_text(text: &[u8], start: u64) -> u64
-    requires { start < 4096 }
-    ensures value { result ≡ hash_text start text.now }
-    ensures below { result < 4096 }
+/// The bits of the group and the class of keys of a hash.
+#[inline]
+pub fn bits_at(hash: u16) -> Signature
+    ensures { result ≡ bits_at hash }
 {
-    let mut hash = start;
-    for c in text {
-        hash = (hash * 37 + *c as u64) % 4096;
+    Signature {
+        groups: 1 << (hash % 64),
+        classes: 1 << (hash / 64 % 64),
     }
-    hash
 }
 
-/// A number below 4,096, made of a key's scope and name.
-fn hash_of(key: &Key) -> u64
-    ensures value { result ≡ hash_of key.now }
-    ensures below { result < 4096 }
+/// The bits of all of some hashes.
+pub fn signature_at(hashes: &[u16]) -> Signature
+    ensures { result ≡ signature_at hashes.now }
 {
-    let start = match key.scope {
-        Scope::All => 0,
-        Scope::Job(job) => job as u64,
-    };
-    match &key.name {
-        Name::Text(text) => hash_text(text.as_str().as_bytes(), start),
-        Name::Code(code) => (code.number() + start) % 4096,
+    let mut signature = Signature::none();
+    for i in (0..hashes.len()).rev() {
+        signature = signature.joined(bits_at(hashes[i]));
     }
+    signature
 }
 
 /// The bits of a key's group and class.
 pub fn bits_of(key: &Key) -> Signature
     ensures { result ≡ bits_of key.now }
 {
-    let hash = hash_of(key);
-    Signature {
-        groups: 1 << (hash % 64),
-        classes: 1 << (hash / 64),
-    }
+    bits_at(hash_of(key))
 }
 
 /// The bits of all keys of some wants.

@@ -1,72 +1,110 @@
 //! What a job is told of a key, with the grants at hand.
-ghost use Rattle.std.specs.Prelude.{◌≡◌, ◌≤◌, filter, length};
+ghost use Rattle.std.specs.Prelude.{◌≡◌, ◌≤◌, ◌<◌, ◌+◌, ◌^◌, length};
 ghost use Rattle.word36.specs.declared.sizes.TheConstants.{REQUESTS};
-ghost use Rattle.lock_queue.specs.Keys.{same_key};
-ghost use Rattle.lock_queue.specs.Queue.{wants_at};
-ghost use Rattle.lock_queue.specs.StatusWords.{first_level};
+ghost use Rattle.lock_queue.specs.StatusSteps.{most_taken};
+ghost use Rattle.lock_queue.specs.StatusWords.{level_of};
 ghost use Rattle.lock_table.specs.Filings.{requests_in};
 ghost use Rattle.lock_table.specs.Findings.{status_in};
 ghost use Rattle.lock_table.specs.Signatures.{bits_of};
+ghost use Rattle.lock_table.specs.Standings.{unwanted, with_next, with_next_owner};
 
 use crate::filed::Filed;
-use crate::fits::has_key;
-use crate::signature::{Signature, bits_of};
-use lock_queue::steps::{level_in, with_owner, with_waiter};
-use lock_queue::{Key, Level, Status};
+use crate::shelf::Shelf;
+use crate::signature::{Signature, bits_at};
+use crate::walks::{from_met, next_met};
+use key_tally::hash_of;
+use lock_queue::steps::{level_in, names_key, with_owner, with_waiter};
+use lock_queue::{Key, Level, Request, Status};
 
-/// The level of the request's first want of the key.
-#[tactic(auto, using(crate::proofs::SignatureLaws::unmet_wants))]
-fn level_of(f: &Filed, key: &Key, bits: Signature) -> Option<Level>
-    requires { bits ≡ bits_of key.now }
-    ensures { result ≡ first_level (filter (λ w. same_key w.key key.now) f.now.request.wants.items) }
+/// The status of a key of this level that no request wants.
+fn unwanted(level: Level) -> Status
+    ensures { result ≡ unwanted level }
 {
-    if f.meets(bits) {
-        level_in(f.wants(), key)
-    } else {
-        None
-    }
-}
-
-/// The level of the first want of the key.
-fn level_at(filed: &[Filed], key: &Key) -> Option<Level>
-    ensures { result ≡ first_level (wants_at (requests_in filed.now) key.now) }
-{
-    let bits = bits_of(key);
-    for f in filed {
-        if let Some(level) = level_of(f, key, bits) {
-            return Some(level);
-        }
-    }
-    None
-}
-
-/// What a job is told of a key. The list is gone over from its end, so that the first owner is met
-/// last.
-#[tactic(auto, using(lock_queue::proofs::StatusLaws::standing_owner, lock_queue::proofs::StatusLaws::standing_waiter))]
-pub fn status_in(filed: &[Filed], key: &Key, job: u8) -> Status
-    requires { length filed.now ≤ REQUESTS }
-    ensures { result ≡ status_in filed.now key.now job }
-{
-    let bits = bits_of(key);
-    let mut status = Status {
+    Status {
         owns: false,
         waits: false,
         exclusive: false,
-        level: level_at(filed, key).unwrap_or(Level::new(0)),
+        level,
         first_owner: None,
         owner_count: 0,
         waiter_count: 0,
         amount: 0,
-    };
-    for i in (0..filed.len()).rev() {
-        let f = &filed[i];
-        if has_key(f, key, bits) {
-            status = if f.is_granted() {
-                with_owner(status, f.request(), key, job)
-            } else {
-                with_waiter(status, f.request(), job)
-            };
+    }
+}
+
+/// The level of the first want of the key, or 0 where there is none.
+fn level_at(filed: &[Filed], key: &Key, bits: Signature) -> Level
+    requires { bits ≡ bits_of key.now }
+    ensures { result ≡ level_of (requests_in filed.now) key.now }
+{
+    let mut rest = from_met(filed, bits);
+    while let [f, ..] = rest {
+        if let Some(level) = level_in(f.wants(), key) {
+            return level;
         }
+        rest = next_met(rest, bits);
+    }
+    Level::new(0)
+}
+
+/// One more owner, behind the others.
+fn with_next_owner(before: Status, r: &Request, key: &Key, job: u8) -> Status
+    requires count { before.owner_count < 2 ^ 15 }
+    requires amount { before.amount + most_taken < 2 ^ 32 }
+    ensures value { result ≡ with_next_owner key.now job r.now before }
+    ensures amount { result.amount ≤ before.amount + most_taken }
+{
+    let first_owner = before.first_owner.or(Some(r.job));
+    Status {
+        first_owner,
+        ..with_owner(before, r, key, job)
+    }
+}
+
+/// One more request, behind the others, where it wants the key.
+fn with_next(before: Status, f: &Filed, key: &Key, job: u8) -> Status
+    requires owners { before.owner_count < 2 ^ 15 }
+    requires waiters { before.waiter_count < 2 ^ 15 }
+    requires amount { before.amount + most_taken < 2 ^ 32 }
+    ensures value { result ≡ with_next key.now job f.now before }
+    ensures owners { result.owner_count ≤ before.owner_count + 1 }
+    ensures waiters { result.waiter_count ≤ before.waiter_count + 1 }
+    ensures amount { result.amount ≤ before.amount + most_taken }
+{
+    if !names_key(f.wants(), key) {
+        before
+    } else if f.is_granted() {
+        with_next_owner(before, f.request(), key, job)
+    } else {
+        with_waiter(before, f.request(), job)
+    }
+}
+
+/// What a job is told of a key of these bits. Only requests that meet them are looked at.
+fn status_met(filed: &[Filed], key: &Key, job: u8, bits: Signature) -> Status
+    requires few { length filed.now ≤ REQUESTS }
+    requires bits { bits ≡ bits_of key.now }
+    ensures { result ≡ status_in filed.now key.now job }
+{
+    let met = from_met(filed, bits);
+    let mut status = unwanted(level_at(met, key, bits));
+    let mut rest = met;
+    while let [f, ..] = rest {
+        status = with_next(status, f, key, job);
+        rest = next_met(rest, bits);
     }
     status
+}
+
+/// What a job is told of a key. The requests are looked at only where one may want it.
+#[tactic(auto, using(crate::proofs::StandingLaws::status_lacking))]
+pub fn status_in(shelf: &Shelf, key: &Key, job: u8) -> Status
+    ensures { result ≡ status_in shelf.now key.now job }
+{
+    let hash = hash_of(key);
+    if shelf.lacks(key, hash) {
+        unwanted(Level::new(0))
+    } else {
+        status_met(shelf.as_slice(), key, job, bits_at(hash))
+    }
 }

@@ -1,22 +1,50 @@
-//! The jobs that wait, as the bits of a number.
-ghost use Rattle.std.specs.Prelude.{◌≡◌, ◌^◌, ◌%◌};
-ghost use Rattle.lock_queue.specs.Jobs.{is_blocking};
+//! The jobs that wait, counted.
+ghost use Rattle.std.specs.Prelude.{◌≡◌, ℕ, ◌+◌, ◌<◌, ◌≤◌, ◌==◌, ◌%◌, not, length, slice_index};
+ghost use Rattle.lock_table.specs.Waiters.{is_waiting, waiter_at};
 
-use lock_queue::EnqueueKind;
+use crate::filed::Filed;
 
-/// The bits of a set of jobs, one for each number from 0 to 31.
-const JOB_BITS: u8 = 32;
-
-/// The bit of a job.
-pub fn bit_of_job(job: u8) -> u32
-    ensures { result ≡ 2 ^ (job % 32) }
-{
-    1 << (job % JOB_BITS)
+/// By how many of the present requests the jobs wait, for each job number modulo 32.
+#[derive(Drop)]
+pub struct Waiters {
+    counts: [u16; 32],
+    ghost long: { length counts ≡ 32 },
 }
 
-/// Whether a job waits by a request of a kind that is not granted.
-pub fn is_blocking(kind: EnqueueKind) -> bool
-    ensures { result ≡ is_blocking kind }
-{
-    matches!(kind, EnqueueKind::Blocking)
+impl Waiters {
+    /// The one of no requests.
+    pub fn new() -> Self
+        ensures { (place : ℕ) → slice_index result.counts place ≡ 0 }
+    {
+        Waiters { counts: [0; 32] }
+    }
+
+    /// Counts a request that comes, where its job waits by it.
+    pub fn add(&mut self, f: &Filed)
+        requires { (place : ℕ) → slice_index self.old.counts place < 65535 }
+        ensures { (place : ℕ) → slice_index self.new.counts place ≡
+            waiter_at place f.now + slice_index self.old.counts place }
+    {
+        if f.is_waiting() {
+            self.counts[(f.job() % 32) as usize] += 1;
+        }
+    }
+
+    /// Counts a request that leaves, or is about to be granted, no more.
+    pub fn remove(&mut self, f: &Filed)
+        requires { (place : ℕ) → waiter_at place f.now ≤ slice_index self.old.counts place }
+        ensures { (place : ℕ) → waiter_at place f.now + slice_index self.new.counts place ≡
+            slice_index self.old.counts place }
+    {
+        if f.is_waiting() {
+            self.counts[(f.job() % 32) as usize] -= 1;
+        }
+    }
+
+    /// Whether a job of this number modulo 32 waits.
+    pub fn has(&self, job: u8) -> bool
+        ensures { result ≡ not (slice_index self.now.counts (job % 32) == 0) }
+    {
+        self.counts[(job % 32) as usize] != 0
+    }
 }

@@ -1,10 +1,9 @@
 //! Walks that look only into requests that touch a key's group, or into those of a job.
-ghost use Rattle.std.specs.Prelude.{◌≡◌, ◌<◌, ◌≤◌, ◌^◌, ◌%◌, drop, length, bit_or, IsTrue};
-ghost use Rattle.lock_table.specs.Walks.{touched, from_touched, from_met, owned, from_own};
+ghost use Rattle.std.specs.Prelude.{◌≡◌, ◌<◌, ◌≤◌, drop, length, bit_or, IsTrue};
+ghost use Rattle.lock_table.specs.Walks.{touched, from_touched, from_met, waits_met, from_where, owned, from_own};
 
-use crate::filed::Filed;
+use crate::filed::{Filed, bit_of_job};
 use crate::signature::Signature;
-use crate::waiters::bit_of_job;
 
 /// The groups that four requests touch.
 #[inline(always)]
@@ -54,22 +53,6 @@ pub fn from_met(filed: &[Filed], bits: Signature) -> &[Filed]
     rest
 }
 
-/// The requests behind the first, from the first on that touches one of the groups and one of the
-/// classes. Where many do they stand side by side, so the next is looked at alone.
-#[inline(always)]
-pub fn next_met(filed: &[Filed], bits: Signature) -> &[Filed]
-    requires { 1 ≤ length filed.now }
-    ensures value { result.now ≡ from_met bits (drop 1 filed.now) }
-    ensures shorter { length result.now < length filed.now }
-{
-    let later = &filed[1..];
-    if does_first_meet(later, bits) {
-        later
-    } else {
-        from_met(later, bits)
-    }
-}
-
 /// Whether the first request touches one of the groups and one of the classes.
 fn does_first_meet(filed: &[Filed], bits: Signature) -> bool
     ensures { IsTrue result → from_met bits filed.now ≡ filed.now }
@@ -78,6 +61,58 @@ fn does_first_meet(filed: &[Filed], bits: Signature) -> bool
         [f, ..] => f.meets(bits),
         [] => false,
     }
+}
+
+/// The requests from the first on that touches one of the groups and one of the classes. Where many do
+/// they stand side by side, so the first is looked at alone.
+#[inline(always)]
+fn near_met(filed: &[Filed], bits: Signature) -> &[Filed]
+    ensures value { result.now ≡ from_met bits filed.now }
+    ensures shorter { length result.now ≤ length filed.now }
+{
+    if does_first_meet(filed, bits) {
+        filed
+    } else {
+        from_met(filed, bits)
+    }
+}
+
+/// The requests behind the first, from the first on that touches one of the groups and one of the
+/// classes.
+#[inline(always)]
+pub fn next_met(filed: &[Filed], bits: Signature) -> &[Filed]
+    requires { 1 ≤ length filed.now }
+    ensures value { result.now ≡ from_met bits (drop 1 filed.now) }
+    ensures shorter { length result.now < length filed.now }
+{
+    near_met(&filed[1..], bits)
+}
+
+/// The requests from the first on that is not granted and touches one of the groups and one of the
+/// classes.
+fn from_waiting(filed: &[Filed], bits: Signature) -> &[Filed]
+    ensures value { result.now ≡ from_where (waits_met bits) filed.now }
+    ensures shorter { length result.now ≤ length filed.now }
+{
+    let mut rest = near_met(filed, bits);
+    while let [f, ..] = rest {
+        if !f.is_granted() {
+            break;
+        }
+        rest = next_met(rest, bits);
+    }
+    rest
+}
+
+/// The place of the first request from a place on that is not granted and touches one of the groups and one
+/// of the classes, or the number of requests where there is none.
+pub fn next_waiting(filed: &[Filed], from: usize, bits: Signature) -> usize
+    requires { from ≤ length filed.now }
+    ensures behind { from ≤ result }
+    ensures there { result ≤ length filed.now }
+    ensures value { drop result filed.now ≡ from_where (waits_met bits) (drop from filed.now) }
+{
+    filed.len() - from_waiting(&filed[from..], bits).len()
 }
 
 /// The bits of four requests' jobs that are among some.

@@ -12,28 +12,27 @@ use Rattle.lock_table.specs.Filings.{Filing, requests_in}
 use Rattle.lock_table.proofs.ArrivalLaws.{judged-err}
 use Rattle.lock_table.proofs.calls.enqueue.Goals as goal
 
--- what is refused, seen by the slices that were looked at
-refused-of : (fs seen : List Filing) (job : ℕ) (asking : Asking) (wants wanted : List Want) (o : Result Bool Refusal) (r : Refusal)
-    → seen ≡ fs → wanted ≡ wants
-    → o ≡ judged (enqueue_refusal REQUESTS (requests_in seen) job asking wanted) (list_all (fits (requests_in seen)) wanted) → o ≡ Err r
+-- what is refused, seen by the slice of wants that was looked at
+refused-of : (fs : List Filing) (job : ℕ) (asking : Asking) (wants wanted : List Want) (o : Result Bool Refusal) (r : Refusal)
+    → wanted ≡ wants
+    → o ≡ judged (enqueue_refusal REQUESTS (requests_in fs) job asking wanted) (list_all (fits (requests_in fs)) wanted) → o ≡ Err r
     → enqueue_refusal REQUESTS (requests_in fs) job asking wants ≡ Some r
-refused-of fs seen job asking wants wanted o r same are found is =
+refused-of fs job asking wants wanted o r are found is =
     ap (λ l. enqueue_refusal REQUESTS (requests_in fs) job asking l) (sym are)
-    ∙ ap (λ l. enqueue_refusal REQUESTS (requests_in l) job asking wanted) (sym same)
-    ∙ judged-err (enqueue_refusal REQUESTS (requests_in seen) job asking wanted) (list_all (fits (requests_in seen)) wanted) r (sym found ∙ is)
+    ∙ judged-err (enqueue_refusal REQUESTS (requests_in fs) job asking wanted) (list_all (fits (requests_in fs)) wanted) r (sym found ∙ is)
 
 pub returns-in-Err-clause-requests : goal.returns-in-Err-clause-requests
 returns-in-Err-clause-requests c =
     let fs = c.args.shelf.now in
     let a = c.args in
-    let none = refused-of fs c.as_slice.result.now a.job a.asking.now a.wants.now.items c.as_slice-2.result.now c.judge_enqueue.result c.in-Err.refusal
-    c.as_slice.ensures.value c.as_slice-2.ensures.value c.judge_enqueue.ensures c.in-Err.is in
+    let none = refused-of fs a.job a.asking.now a.wants.now.items c.as_slice.result.now c.judge_enqueue.result c.in-Err.refusal
+    c.as_slice.ensures.value c.judge_enqueue.ensures c.in-Err.is in
     sym (ap (λ o. (unless_refused (requests_in fs) o (arrival (requests_in fs) a.job a.asking.now a.wants.now)).requests) none)
 
 pub returns-in-Err-clause-reply : goal.returns-in-Err-clause-reply
 returns-in-Err-clause-reply c =
     let fs = c.args.shelf.now in
     let a = c.args in
-    let none = refused-of fs c.as_slice.result.now a.job a.asking.now a.wants.now.items c.as_slice-2.result.now c.judge_enqueue.result c.in-Err.refusal
-    c.as_slice.ensures.value c.as_slice-2.ensures.value c.judge_enqueue.ensures c.in-Err.is in
+    let none = refused-of fs a.job a.asking.now a.wants.now.items c.as_slice.result.now c.judge_enqueue.result c.in-Err.refusal
+    c.as_slice.ensures.value c.judge_enqueue.ensures c.in-Err.is in
     sym (ap (λ o. (unless_refused (requests_in fs) o (arrival (requests_in fs) a.job a.asking.now a.wants.now)).reply) none)

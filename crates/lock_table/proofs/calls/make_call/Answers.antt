@@ -10,7 +10,7 @@ pub returns-in-Enqueue-clause-woken : goal.returns-in-Enqueue-clause-woken
 returns-in-Enqueue-clause-woken c =
     let rs = requests_in c.args.shelf.now in
     let q = c.in-Enqueue in
-    c.clear.ensures ∙ sym (ap (woken_by rs c.args.job) q.is ∙ woken-enqueue rs c.args.job q.asking q.wants)
+    c.forget.ensures ∙ sym (ap (woken_by rs c.args.job) q.is ∙ woken-enqueue rs c.args.job q.asking q.wants)
 
 pub returns-in-Modify-clause-woken : goal.returns-in-Modify-clause-woken
 returns-in-Modify-clause-woken c =

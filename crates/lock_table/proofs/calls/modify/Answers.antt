@@ -6,13 +6,13 @@ use Rattle.lock_queue.specs.declared.want.Want.{Want}
 use Rattle.lock_queue.specs.Changes.{modify_fault}
 use Rattle.lock_queue.specs.Grants.{left_of, woken, unless_refused_grants}
 use Rattle.lock_queue.specs.Outcomes.{Outcome, first_refusal}
-use Rattle.lock_table.specs.declared.signature.Signature.{Signature}
 use Rattle.lock_table.specs.Changing.{costs_grant}
 use Rattle.lock_table.specs.Departures.{with_change}
 use Rattle.lock_table.specs.Filings.{Filing, requests_in, AreRight}
 use Rattle.lock_table.specs.Renewals.{raised, AreOutdated}
 use Rattle.lock_table.specs.Signatures.{signature_of}
-use Rattle.lock_table.proofs.CallLaws.{change-outdated, change-woken, modify-lost, modify-done}
+use Rattle.lock_table.specs.Tallies.{Marks}
+use Rattle.lock_table.proofs.CallLaws.{change-awaited, change-woken, modify-lost, modify-done}
 use Rattle.lock_table.proofs.DepartureLaws.{lost_in}
 use Rattle.lock_table.proofs.LossLaws.{changes-cost}
 use Rattle.lock_table.proofs.RenewalLaws.{renewed-requests, right-renewed, risen-raised}
@@ -64,7 +64,7 @@ returns-then-is_some_lost-clause-woken c =
     let lost = lost-of fs c.as_slice-2.result.now c.args.job cs c.as_slice-wanted.result.now c.is_some_lost.result
     c.as_slice-2.ensures.value c.as_slice-wanted.ensures.value c.is_some_lost.ensures c.requires passed in
     let out = modify-lost fs c.args.job c.args.changes.now c.requires passed (lost ∙ c.if-is_some_lost.true) in
-    c.clear.ensures
+    c.forget.ensures
     ∙ sym (ap (λ (o : Outcome). unless_refused_grants o.reply (woken (left_of c.args.job (Modify c.args.changes.now)) (requests_in fs))) out)
 
 pub returns-clause-requests : goal.returns-clause-requests
@@ -78,7 +78,7 @@ returns-clause-requests c =
     let kept = lost ∙ c.if-is_some_lost.false in
     let out = modify-done fs c.args.job c.args.changes.now c.requires passed kept in
     let mid = c.change.ensures.value ∙ ap (λ l. map (with_change c.args.job l) fs) c.as_slice-wanted.ensures.value in
-    ap requests_in c.renew.ensures.value ∙ renewed-requests c.signature_of.result [] c.change.new.self
+    ap requests_in c.renew.ensures.value ∙ renewed-requests c.awaited-awaited.result [] c.change.new.self
     ∙ ap requests_in mid ∙ sym (ap (λ (o : Outcome). o.requests) out)
 
 pub returns-clause-reply : goal.returns-clause-reply
@@ -103,11 +103,11 @@ returns-clause-right c =
     c.as_slice-2.ensures.value c.as_slice-wanted.ensures.value c.is_some_lost.ensures c.requires passed in
     let kept = lost ∙ c.if-is_some_lost.false in
     let mid = c.change.ensures.value ∙ ap (λ l. map (with_change c.args.job l) fs) c.as_slice-wanted.ensures.value in
-    let bits : c.signature_of.result ≡ signature_of cs = c.signature_of.ensures ∙ ap signature_of c.as_slice-wanted.ensures.value in
-    let outdated : AreOutdated c.signature_of.result [] c.change.new.self =
-    subst (λ (n : Signature). AreOutdated n [] c.change.new.self) (sym bits)
-    (subst (AreOutdated (signature_of cs) []) (sym mid) (change-outdated c.args.job cs fs c.requires kept)) in
-    subst (AreRight []) (sym c.renew.ensures.value) (right-renewed c.signature_of.result [] c.change.new.self outdated)
+    let marks : Marks c.awaited-awaited.result cs fs =
+    subst (λ l. Marks c.awaited-awaited.result l fs) c.as_slice-wanted.ensures.value c.awaited-awaited.ensures in
+    let outdated : AreOutdated c.awaited-awaited.result [] c.change.new.self =
+    subst (AreOutdated c.awaited-awaited.result []) (sym mid) (change-awaited c.args.job cs fs c.awaited-awaited.result marks c.requires kept) in
+    subst (AreRight []) (sym c.renew.ensures.value) (right-renewed c.awaited-awaited.result [] c.change.new.self outdated)
 
 pub returns-clause-woken : goal.returns-clause-woken
 returns-clause-woken c =
@@ -120,10 +120,10 @@ returns-clause-woken c =
     let kept = lost ∙ c.if-is_some_lost.false in
     let out = modify-done fs c.args.job c.args.changes.now c.requires passed kept in
     let mid = c.change.ensures.value ∙ ap (λ l. map (with_change c.args.job l) fs) c.as_slice-wanted.ensures.value in
-    let bits : c.signature_of.result ≡ signature_of cs = c.signature_of.ensures ∙ ap signature_of c.as_slice-wanted.ensures.value in
-    let outdated : AreOutdated c.signature_of.result [] c.change.new.self =
-    subst (λ (n : Signature). AreOutdated n [] c.change.new.self) (sym bits)
-    (subst (AreOutdated (signature_of cs) []) (sym mid) (change-outdated c.args.job cs fs c.requires kept)) in
-    c.renew.ensures.woken ∙ risen-raised c.signature_of.result [] c.change.new.self outdated
+    let marks : Marks c.awaited-awaited.result cs fs =
+    subst (λ l. Marks c.awaited-awaited.result l fs) c.as_slice-wanted.ensures.value c.awaited-awaited.ensures in
+    let outdated : AreOutdated c.awaited-awaited.result [] c.change.new.self =
+    subst (AreOutdated c.awaited-awaited.result []) (sym mid) (change-awaited c.args.job cs fs c.awaited-awaited.result marks c.requires kept) in
+    c.renew.ensures.woken ∙ risen-raised c.awaited-awaited.result [] c.change.new.self outdated
     ∙ ap (raised []) mid ∙ change-woken fs c.args.job c.args.changes.now c.requires
     ∙ sym (ap (λ (o : Outcome). unless_refused_grants o.reply (woken (left_of c.args.job (Modify c.args.changes.now)) (requests_in fs))) out)

@@ -1,32 +1,96 @@
-use Rattle.std.proofs.Common.{◌≡◌, ◌∙◌, ◌<◌, ◌+◌, ◌-◌, sym, ap, false, ◌++◌, filter, map, length, get_or, take, drop, arith}
+use Rattle.std.proofs.Common.{◌≡◌, ◌∙◌, ◌<◌, ◌≤◌, sym, ap, subst, refl, false, drop, length, arith}
+use Rattle.std.proofs.lemmas.List.{drop_all, take_all}
+use Rattle.std.specs.List.{list_any}
 use Rattle.lock_queue.specs.Unused.{unused_request}
-use Rattle.lock_table.specs.Departures.{loses, lost_bits, keeps_wants, with_fewer, signature_where}
+use Rattle.lock_table.specs.declared.signature.Signature.{Signature}
+use Rattle.lock_table.specs.Departures.{loses, waits_with_fewer}
 use Rattle.lock_table.specs.Filings.{Filing, filing}
-use Rattle.lock_table.specs.Signatures.{joined}
-use Rattle.lock_table.proofs.GivingUpLaws.{kept-from, bits-from, front-at, front-long}
+use Rattle.lock_table.specs.Walks.{from_where}
+use Rattle.lock_table.proofs.GivingUpLaws.{CoversAllBut, left-all, covers-first, covers-last, step-front, step-long, step-left, step-kept, step-smaller, step-covers}
+use Rattle.lock_table.proofs.WhereLaws.{where-head, passed-none}
 use Rattle.lock_table.proofs.departures.give_up.Goals as goal
+
+pub loop-i-init : goal.loop-i-init
+loop-i-init c =
+    let test = loses c.args.job c.args.named.now in
+    let fs = c.args.shelf.now in
+    let n = c.args.first in
+    let is = c.requires.first in record {
+      items = refl;
+      bits = covers-first c.args.job c.args.named.now c.none-bits.result fs (drop n fs) is;
+      kept = c.requires.kept;
+      front = passed-none test fs 0 n (omega arith) is refl;
+      there = c.requires.place;
+      loses = λ d lt. where-head test fs 0 n d is lt;
+    }
+
+pub give_up_at-requires : goal.give_up_at-requires
+give_up_at-requires c =
+    let lt : c.loop-i.i < length c.loop-i.shelf = let long = ap length c.as_slice.ensures.value in omega (arith, long, c.loop-i-test.true) in
+    record { there = lt; loses = λ d. c.loop-i.invariant.loses d lt }
+
+pub next_losing-i-requires : goal.next_losing-i-requires
+next_losing-i-requires c =
+    let d : Filing = filing unused_request false in
+    let lt : c.loop-i.i < length c.loop-i.shelf = let long = ap length c.as_slice.ensures.value in omega (arith, long, c.loop-i-test.true) in
+    let long = ap length c.as_slice-in-loop-i.ensures.value in
+    let enough = step-long c.args.job c.args.named.now c.loop-i.shelf c.give_up_at.new.shelf c.loop-i.i d lt (c.loop-i.invariant.loses d lt) (c.give_up_at.ensures.value d) in
+    omega (arith, long, enough)
 
 pub loop-i-preserved : goal.loop-i-preserved
 loop-i-preserved c =
     let job = c.args.job in
     let named = c.args.named.now in
-    let old = c.args.shelf.now in
+    let test = loses job named in
+    let fs = c.args.shelf.now in
     let now = c.loop-i.shelf in
     let new = c.give_up_at.new.shelf in
-    let i = c.loop-i.i - 1 in
+    let i = c.loop-i.i in
+    let m = c.next_losing-i.result in
     let d : Filing = filing unused_request false in
-    let more : (c.loop-i.i - 1) + 1 ≡ c.loop-i.i = omega arith in
-    let lt : c.loop-i.i - 1 < length c.args.shelf.now = omega (arith, c.loop-i.invariant.there) in
-    let are = c.loop-i.invariant.items ∙ ap (λ m. take m old ++ filter keeps_wants (map (with_fewer job named) (drop c.loop-i.i old))) (sym more) in
-    let items = c.give_up_at.ensures.value d
-    ∙ kept-from keeps_wants (with_fewer job named) old (filter keeps_wants (map (with_fewer job named) (drop c.loop-i.i old))) now i d lt
-    (ap (λ m. filter keeps_wants (map (with_fewer job named) (drop m old))) (sym more)) are in
-    let at = ap (λ l. get_or l i d) are ∙ front-at old (filter keeps_wants (map (with_fewer job named) (drop c.loop-i.i old))) i d lt in record {
-      items = items;
-      bits = c.joined-bits.ensures ∙ ap (joined c.loop-i.bits) (c.give_up_at.ensures.bits d ∙ ap (lost_bits job named) at)
-          ∙ ap (λ b. joined b (lost_bits job named (get_or old i d))) (c.loop-i.invariant.bits ∙ ap (λ m. signature_where (loses job named) (drop m old)) (sym more))
-          ∙ sym (bits-from job named old i d lt);
-      there = omega (arith, lt);
-      front = let long = front-long old (filter keeps_wants (map (with_fewer job named) (drop i old))) i (omega (arith, lt)) in
-          let same = ap length items in omega (arith, long, same);
+    let same = c.as_slice-in-loop-i.ensures.value in
+    let lt : c.loop-i.i < length c.loop-i.shelf = let long = ap length c.as_slice.ensures.value in omega (arith, long, c.loop-i-test.true) in
+    let on = c.loop-i.invariant.loses d lt in
+    let are = c.give_up_at.ensures.value d in
+    let is : drop m new ≡ from_where test (drop i new) =
+    ap (drop m) (sym same) ∙ c.next_losing-i.ensures.value ∙ ap (λ l. from_where test (drop i l)) same in record {
+      items = step-left job named now new i d lt on are ∙ c.loop-i.invariant.items;
+      bits = subst (λ (b : Signature). CoversAllBut b (waits_with_fewer job named) fs (drop m new)) (sym c.joined-bits.ensures)
+          (step-covers job named now new i d lt on are c.loop-i.bits c.give_up_at.result fs (drop m new) is (c.give_up_at.ensures.bits d) c.loop-i.invariant.bits);
+      kept = step-kept job named now new i d lt on are c.loop-i.invariant.kept;
+      front = passed-none test new i m c.next_losing-i.ensures.behind is
+          (ap (list_any test) (step-front job named now new i d lt on are) ∙ c.loop-i.invariant.front);
+      there = let le = c.next_losing-i.ensures.there in let long = ap length same in omega (arith, le, long);
+      loses = λ e k. where-head test new i m e is k;
     }
+
+pub loop-i-smaller : goal.loop-i-smaller
+loop-i-smaller c =
+    let job = c.args.job in
+    let named = c.args.named.now in
+    let test = loses job named in
+    let now = c.loop-i.shelf in
+    let new = c.give_up_at.new.shelf in
+    let i = c.loop-i.i in
+    let m = c.next_losing-i.result in
+    let d : Filing = filing unused_request false in
+    let same = c.as_slice-in-loop-i.ensures.value in
+    let lt : c.loop-i.i < length c.loop-i.shelf = let long = ap length c.as_slice.ensures.value in omega (arith, long, c.loop-i-test.true) in
+    let is : drop m new ≡ from_where test (drop i new) =
+    ap (drop m) (sym same) ∙ c.next_losing-i.ensures.value ∙ ap (λ l. from_where test (drop i l)) same in
+    let there : c.next_losing-i.result ≤ length c.give_up_at.new.shelf = let le = c.next_losing-i.ensures.there in let long = ap length same in omega (arith, le, long) in
+    step-smaller job named now new i d lt (c.loop-i.invariant.loses d lt) (c.give_up_at.ensures.value d) m there is
+
+pub returns-clause-value : goal.returns-clause-value
+returns-clause-value c =
+    let test = loses c.args.job c.args.named.now in
+    let now = c.loop-i.shelf in
+    let end : length c.loop-i.shelf ≤ c.loop-i.i = let long = ap length c.as_slice.ensures.value in omega (arith, long, c.loop-i-test.false) in
+    sym (left-all c.args.job c.args.named.now now (ap (list_any test) (sym (take_all c.loop-i.i now end)) ∙ c.loop-i.invariant.front) c.loop-i.invariant.kept)
+    ∙ c.loop-i.invariant.items
+
+pub returns-clause-bits : goal.returns-clause-bits
+returns-clause-bits c =
+    let end : length c.loop-i.shelf ≤ c.loop-i.i = let long = ap length c.as_slice.ensures.value in omega (arith, long, c.loop-i-test.false) in
+    covers-last c.args.job c.args.named.now c.loop-i.bits c.args.shelf.now (drop c.loop-i.i c.loop-i.shelf)
+    (drop_all c.loop-i.i c.loop-i.shelf end) c.loop-i.invariant.bits

@@ -9,6 +9,6 @@ use Rattle.lock_table.proofs.enqueues.judge_wants.Given as goal
 
 abbrev pub invariant-loop-i : goal.invariant-loop-i
 invariant-loop-i l =
-    judged (first_refusal (enqueue_fault (requests_in l.filed) l.job) (take l.i l.wants) (drop l.i l.wants))
-    (l.are_fitting && list_all (fits (requests_in l.filed)) (drop l.i l.wants))
-    ≡ judged (first_refusal (enqueue_fault (requests_in l.filed) l.job) [] l.wants) (list_all (fits (requests_in l.filed)) l.wants)
+    judged (first_refusal (enqueue_fault (requests_in l.shelf) l.job) (take l.i l.wants) (drop l.i l.wants))
+    (l.are_fitting && list_all (fits (requests_in l.shelf)) (drop l.i l.wants))
+    ≡ judged (first_refusal (enqueue_fault (requests_in l.shelf) l.job) [] l.wants) (list_all (fits (requests_in l.shelf)) l.wants)

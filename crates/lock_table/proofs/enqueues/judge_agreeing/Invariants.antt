@@ -1,0 +1,19 @@
+use Rattle.std.proofs.Common.{◌≡◌, ◌&&◌, ◌||◌, length}
+use Rattle.std.specs.List.{list_all}
+use Rattle.lock_queue.specs.Enqueues.{are_alike}
+use Rattle.lock_queue.specs.Queue.{agree, names, wants_at, wants_of}
+use Rattle.lock_table.specs.Filings.{requests_in}
+use Rattle.lock_table.proofs.enqueues.judge_agreeing.Given as goal
+
+abbrev pub invariant-loop-rest : goal.invariant-loop-rest
+invariant-loop-rest l =
+    record {
+      alike : list_all (λ v. are_alike v l.w) (wants_at (requests_in l.rest) l.w.key)
+          ≡ list_all (λ v. are_alike v l.w) (wants_at (requests_in l.filed) l.w.key);
+      agreeing : (l.do_agree && list_all (λ v. agree v l.w) (wants_at (requests_in l.rest) l.w.key))
+          ≡ list_all (λ v. agree v l.w) (wants_at (requests_in l.filed) l.w.key);
+      named : (l.is_named || names (wants_of (requests_in l.rest) l.job) l.w.key) ≡ names (wants_of (requests_in l.filed) l.job) l.w.key;
+    }
+
+abbrev pub decreases-loop-rest : goal.decreases-loop-rest
+decreases-loop-rest l = length l.rest
