@@ -30,10 +30,10 @@ fn arrive(
     job: u8,
     asking: &Asking,
     wants: &Wants,
-    hashes: &Hashes,
+    hashes: Hashes,
     are_fitting: bool,
 ) -> LockReply
-    requires hashes { hashes.now.items ≡ hashes_of wants.now.items }
+    requires hashes { hashes.items ≡ hashes_of wants.now.items }
     requires room { length shelf.old < REQUESTS }
     requires job { (1 ≤ job) × (job ≤ JOBS) }
     requires some { IsTrue (nat_le 1 (length wants.now.items)) }
@@ -82,7 +82,7 @@ fn enqueue(shelf: &mut Shelf, job: u8, asking: &Asking, wants: &Wants) -> LockRe
     let hashes = hashes_of(wants);
     match judge_enqueue(shelf, job, asking, wants.as_slice(), hashes.as_slice()) {
         Err(refusal) => LockReply::Refused(refusal),
-        Ok(are_fitting) => arrive(shelf, job, asking, wants, &hashes, are_fitting),
+        Ok(are_fitting) => arrive(shelf, job, asking, wants, hashes, are_fitting),
     }
 }
 

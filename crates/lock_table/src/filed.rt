@@ -66,16 +66,6 @@ pub fn bit_of_job(job: u8) -> u32
     1 << (job % 32)
 }
 
-/// Writes hashes over others.
-fn write_hashes(place: &mut Hashes, hashes: &Hashes)
-    ensures { place.new.items ≡ hashes.now.items }
-{
-    place.clear();
-    for hash in hashes.as_slice() {
-        place.push(*hash);
-    }
-}
-
 impl Filed {
     /// An unused one.
     pub fn new(alloc: Global) -> Result<Self, AllocError> {
@@ -187,17 +177,17 @@ impl Filed {
         asking: &Asking,
         told: bool,
         wants: &Wants,
-        hashes: &Hashes,
+        hashes: Hashes,
         granted: bool,
     )
-        requires hashes { hashes.now.items ≡ hashes_of wants.now.items }
+        requires hashes { hashes.items ≡ hashes_of wants.now.items }
         ensures value { self.new ≡ filing (request_of job asking.now told wants.now) granted }
         ensures few { length wants.now.items ≤ LOCKS_A_CALL }
         ensures range { IsTrue (list_all is_in_range wants.now.items) }
     {
         write_request(&mut self.entry.request, job, asking, told, wants);
-        write_hashes(&mut self.entry.hashes, hashes);
         self.signature = signature_at(hashes.as_slice());
+        self.entry.hashes = hashes;
         self.own_bit = bit_of_job(job);
         self.job = job;
         self.blocking = matches!(asking.kind, EnqueueKind::Blocking);
@@ -210,9 +200,9 @@ impl Filed {
         ensures { self.new ≡ filing (without_keys named.now self.old.request) self.old.granted }
     {
         remove_keys(&mut self.entry.request, named);
-        let hashes = hashes_of(&self.entry.request.wants);
-        self.signature = signature_at(hashes.as_slice());
-        self.entry.hashes = hashes;
+        let left = hashes_of(&self.entry.request.wants);
+        self.signature = signature_at(left.as_slice());
+        self.entry.hashes = left;
     }
 
     /// Makes its wants shared or exclusive, each as the change of its key says, if there is one.

@@ -170,11 +170,11 @@ impl Shelf {
         asking: &Asking,
         told: bool,
         wants: &Wants,
-        hashes: &Hashes,
+        hashes: Hashes,
         granted: bool,
     )
         requires room { length self.old < REQUESTS }
-        requires hashes { hashes.now.items ≡ hashes_of wants.now.items }
+        requires hashes { hashes.items ≡ hashes_of wants.now.items }
         ensures value { self.new ≡
             self.old ++ filing (request_of job asking.now told wants.now) granted ∷ [] }
         ensures few { length wants.now.items ≤ LOCKS_A_CALL }
@@ -183,7 +183,7 @@ impl Shelf {
         let mut filed = self.spare.swap_remove(self.spare.len() - 1);
         filed.write(job, asking, told, wants, hashes, granted);
         self.tally
-            .add(job, granted, wants.as_slice(), hashes.as_slice());
+            .add(job, granted, wants.as_slice(), filed.hashes());
         self.waiters.add(&filed);
         let _ = self.present.push(filed);
     }
@@ -195,11 +195,11 @@ impl Shelf {
         asking: &Asking,
         told: bool,
         wants: &Wants,
-        hashes: &Hashes,
+        hashes: Hashes,
         granted: bool,
     )
         requires room { length self.old < REQUESTS }
-        requires hashes { hashes.now.items ≡ hashes_of wants.now.items }
+        requires hashes { hashes.items ≡ hashes_of wants.now.items }
         ensures value { self.new ≡
             self.old ++ filing (request_of job asking.now told wants.now) granted ∷ [] }
         ensures requests { requests_in self.new ≡
