@@ -2,7 +2,7 @@
 use Rattle.std.proofs.Common.{◌≡◌, ◌≢◌, ◌∙◌, sym, ap, ℕ, ◌+◌, ◌%◌, ◌^◌, ◌<◌, ◌≤◌, ◌==◌, Bool, true, false, ◌&&◌, ◌||◌, if◌then◌else◌, List, [], ◌∷◌, sum_by, bit_or, refl, arith}
 use Rattle.std.specs.Int.{bit_at}
 use Rattle.std.specs.Int.Bits.{bit_xor}
-use Rattle.std.specs.List.{list_all}
+use Rattle.std.specs.List.{list_all, list_any}
 use Rattle.std.proofs.lemmas.Bool.{and_parts, and_from, eqb-true, eq-eqb}
 use Rattle.std.proofs.lemmas.Bool.Decides.{nat_tests}
 use Rattle.std.proofs.lemmas.List.Sums.{sum_by-cons}
@@ -45,6 +45,21 @@ unnamed jobs job (c ∷ cs) k h off =
   where
     go : (b : Bool) → (c.job == job) ≡ b → (bit_at jobs (c.job % 32) == 1) ≡ true → names_counted cs job k ≡ false
         → ((b && same_key c.want.key k) || names_counted cs job k) ≡ false
+    go false e set rest = rest
+    go true e set rest =
+        let same : bit_at jobs (c.job % 32) ≡ bit_at jobs (job % 32) = ap (λ n. bit_at jobs (n % 32)) (eqb-true c.job job e) in
+        absurd (omega (arith, same, eqb-true (bit_at jobs (c.job % 32)) 1 set, eqb-true (bit_at jobs (job % 32)) 0 off))
+
+-- nor has it any want
+pub absent : (jobs job : ℕ) (cs : List Counted) → of_jobs jobs cs ≡ true → (bit_at jobs (job % 32) == 0) ≡ true
+    → list_any (λ c. c.job == job) cs ≡ false
+absent jobs job [] h off = refl
+absent jobs job (c ∷ cs) h off =
+    let p = and_parts (bit_at jobs (c.job % 32) == 1) (of_jobs jobs cs) h in
+    go (c.job == job) refl p.0 (absent jobs job cs p.1 off)
+  where
+    go : (b : Bool) → (c.job == job) ≡ b → (bit_at jobs (c.job % 32) == 1) ≡ true → list_any (λ c. c.job == job) cs ≡ false
+        → (b || list_any (λ c. c.job == job) cs) ≡ false
     go false e set rest = rest
     go true e set rest =
         let same : bit_at jobs (c.job % 32) ≡ bit_at jobs (job % 32) = ap (λ n. bit_at jobs (n % 32)) (eqb-true c.job job e) in

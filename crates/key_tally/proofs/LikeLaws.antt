@@ -1,7 +1,7 @@
 -- What some wants have in common, and what follows for a want beside them.
-use Rattle.std.proofs.Common.{◌≡◌, ◌∙◌, sym, ap, ℕ, ◌%◌, ◌==◌, Bool, true, false, not, ◌&&◌, ◌||◌, cond, List, [], ◌∷◌, map, Option, Some, None, Ok, Err, refl}
+use Rattle.std.proofs.Common.{◌≡◌, ◌∙◌, sym, ap, ℕ, ◌%◌, ◌==◌, Bool, true, false, not, ◌&&◌, ◌||◌, cond, List, [], ◌∷◌, map, Option, Some, None, is_some, Ok, Err, refl}
 use Rattle.std.specs.Int.{bit_at}
-use Rattle.std.specs.List.{list_all}
+use Rattle.std.specs.List.{list_all, list_any}
 use Rattle.std.proofs.lemmas.Bool.{and_parts, and_from, eqb-true}
 use Rattle.lock_queue.specs.declared.key.Key.{Key}
 use Rattle.lock_queue.specs.declared.refusal.Refusal.TheVariants.{Differs, NamedAlready}
@@ -10,11 +10,12 @@ use Rattle.lock_queue.specs.Enqueues.{are_alike, same_pool_size}
 use Rattle.lock_queue.specs.Keys.{same_key}
 use Rattle.lock_queue.specs.Outcomes.{refuse_if, or_else}
 use Rattle.lock_queue.specs.Pools.{PoolShare}
-use Rattle.lock_queue.specs.Queue.{fits_beside}
+use Rattle.lock_queue.specs.Queue.{agree, fits_beside, is_pooled}
 use Rattle.lock_queue.proofs.Fitting.{same_key-eq}
 use Rattle.key_tally.specs.declared.likeness.Likeness.{Likeness}
+use Rattle.key_tally.proofs.CountLaws.{is_against}
 use Rattle.key_tally.proofs.JobLaws.{of_jobs, unnamed}
-use Rattle.key_tally.specs.Tallies.{Counted, LikenessOf, beside, is_like, judged, names_counted, wants_counted}
+use Rattle.key_tally.specs.Tallies.{Counted, LikenessOf, allows, beside, is_like, judged, names_counted, wants_counted}
 
 -- ---- wants that are like one
 
@@ -128,3 +129,43 @@ like_add l m c cs of like sole = record {
 pub from_not : (b : Bool) → not b ≡ true → b ≡ false
 from_not true h = absurd (cc)
 from_not false h = refl
+
+-- ---- a want that is kept from its key
+
+-- a want that is like the same one is of the key, and has no pool where the other has none
+like-unpooled : (like v w : Want) → is_like like v ≡ true → is_like like w ≡ true → is_pooled w ≡ false → is_pooled v ≡ false
+like-unpooled like v w hv hw none =
+    let p = and_parts (are_alike v like) (same_key v.key like.key) hv in
+    let q = and_parts (are_alike w like) (same_key w.key like.key) hw in
+    let a = (and_parts (v.level == like.level) (same_pool_size v.pool like.pool) p.0).1 in
+    let b = (and_parts (w.level == like.level) (same_pool_size w.pool like.pool) q.0).1 in
+    both v.pool like.pool a ∙ sym (both w.pool like.pool b) ∙ none
+  where
+    both : (o l : Option PoolShare) → same_pool_size o l ≡ true → is_some o ≡ is_some l
+    both None None h = refl
+    both (Some s) (Some t) h = refl
+    both None (Some t) h = cc
+    both (Some s) None h = cc
+
+like-key : (like v w : Want) → is_like like v ≡ true → is_like like w ≡ true → same_key v.key w.key ≡ true
+like-key like v w hv hw =
+    let p = and_parts (are_alike v like) (same_key v.key like.key) hv in
+    let q = and_parts (are_alike w like) (same_key w.key like.key) hw in
+    ap (same_key v.key) (same_key-eq w.key like.key q.1) ∙ p.1
+
+pub kept_alike : (like : Want) (cs : List Counted) (w : Want) → all_like like cs ≡ true → is_like like w ≡ true → is_pooled w ≡ false
+    → list_any (is_against w) cs ≡ true → list_all (allows w) cs ≡ false
+kept_alike like [] w all own none some = cc
+kept_alike like (c ∷ cs) w all own none some =
+    let p = and_parts (is_like like c.want) (all_like like cs) all in
+    go c.granted (same_key c.want.key w.key) (is_pooled c.want) (agree c.want w) (like-key like c.want w p.0 own)
+    (like-unpooled like c.want w p.0 own none) some (kept_alike like cs w p.1 own none)
+  where
+    go : (g k o a : Bool) → k ≡ true → o ≡ false → ((g && not a) || list_any (is_against w) cs) ≡ true
+        → (list_any (is_against w) cs ≡ true → list_all (allows w) cs ≡ false)
+        → (not ((g && k) && (not o && not a)) && list_all (allows w) cs) ≡ false
+    go true true false false ke oe some rest = refl
+    go true true false true ke oe some rest = rest some
+    go false k o a ke oe some rest = rest some
+    go true false o a ke oe some rest = absurd (cc)
+    go true true true a ke oe some rest = absurd (cc)

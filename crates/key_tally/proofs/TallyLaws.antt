@@ -1,8 +1,8 @@
 -- The entries of a tally are those of the wants of their hashes, one more or one less.
 use Rattle.std.proofs.Common.{drop, take, ◌≡◌, ◌≢◌, ◌∙◌, sym, ap, subst, ℕ, ◌+◌, ◌*◌, ◌%◌, ◌<◌, ◌≤◌, ◌==◌, Bool, true, false, not, ◌&&◌, ◌||◌, cond, if◌then◌else◌, List, [], ◌∷◌, ◌++◌, filter, get_or, length, length-append, map, set, sum_by, Option, Some, None, Result, IfSome, refl, arith}
-use Rattle.std.specs.List.{list_all}
-use Rattle.std.proofs.lemmas.Bool.{eqb-true, eq-eqb}
-use Rattle.std.proofs.lemmas.List.{append-nil, append_assoc, drop_more, get_or-map, length-map, map-append, take_more, get_or-set_same, get_or-set_other}
+use Rattle.std.specs.List.{list_all, list_any}
+use Rattle.std.proofs.lemmas.Bool.{eqb-true, eq-eqb, and_right, or_from, or_parts}
+use Rattle.std.proofs.lemmas.List.{append-nil, append_assoc, drop_more, map-append, take_more, get_or-set_same, get_or-set_other, get_or-map, length-map}
 use Rattle.std.proofs.lemmas.List.Elements.{filter-append}
 use Rattle.std.proofs.lemmas.List.Folds.{list_all-append}
 use Rattle.std.proofs.lemmas.List.Sums.{sum_by-append, sum_by-cons}
@@ -20,9 +20,10 @@ use Rattle.lock_queue.specs.Queue.{fits_beside}
 use Rattle.lock_queue.proofs.Fitting.{fits_beside-fewer, same_key-eq}
 use Rattle.lock_queue.proofs.Lists.{Sub, Sub-append, Sub-filter, Sub-length, Sub-none}
 use Rattle.key_tally.specs.declared.entry.Entry.{Entry}
+use Rattle.key_tally.specs.declared.sums.Sums.{Sums}
 use Rattle.key_tally.specs.declared.tally.Tally.{Tally}
-use Rattle.key_tally.specs.Hashes.{hash_name, hash_of, hashes_of, hash_text, start_of}
-use Rattle.key_tally.specs.Tallies.{Counted, EntryOf, Tallied, beside, counted, counted_of, has_hash, judged, names_counted, of_bit, waiting_counted, wants_counted}
+use Rattle.key_tally.specs.Hashes.{hash_name, hash_of, hash_text, start_of}
+use Rattle.key_tally.specs.Tallies.{Counted, EntryOf, SumsOf, Tallied, beside, counted, counted_of, has_hash, judged, names_counted, of_bit, waiting_counted, wants_counted}
 use Rattle.key_tally.proofs.CountLaws.{waiting_one}
 
 -- ---- hashes
@@ -102,14 +103,28 @@ module _ {X : Type 0} where
   length-moved a b c =
       omega (arith, length-append a (b ++ c), length-append b c, length-append b (a ++ c), length-append a c)
 
+  filter-twice : (p : X → Bool) (a b c : List X) → filter p (a ++ (b ++ c)) ≡ filter p a ++ (filter p b ++ filter p c)
+  filter-twice p a b c = filter-append p a (b ++ c) ∙ ap (λ l. filter p a ++ l) (filter-append p b c)
+
+sums-moved : (s : Sums) (a b c : List Counted) → SumsOf s (a ++ (b ++ c)) → SumsOf s (b ++ (a ++ c))
+sums-moved s a b c of = record {
+  count = of.count ∙ length-moved a b c;
+  unshared = of.unshared ∙ sum-moved _ a b c;
+  amount = of.amount ∙ sum-moved _ a b c;
+  range = sym (all-moved _ a b c) ∙ of.range;
+}
+
+part-moved : (p : Counted → Bool) (s : Sums) (a b c : List Counted) → SumsOf s (filter p (a ++ (b ++ c)))
+    → SumsOf s (filter p (b ++ (a ++ c)))
+part-moved p s a b c of =
+    subst (SumsOf s) (sym (filter-twice p b a c))
+    (sums-moved s (filter p a) (filter p b) (filter p c) (subst (SumsOf s) (filter-twice p a b c) of))
+
 pub entry_moved : (e : Entry) (a b c : List Counted) → EntryOf e (a ++ (b ++ c)) → EntryOf e (b ++ (a ++ c))
 entry_moved e a b c of = record {
   counts = record {
-    all = of.counts.all ∙ length-moved a b c;
-    waiting = of.counts.waiting ∙ sum-moved _ a b c;
-    unshared = of.counts.unshared ∙ sum-moved _ a b c;
-    amount = of.counts.amount ∙ sum-moved _ a b c;
-    range = sym (all-moved _ a b c) ∙ of.counts.range;
+    granted = part-moved (λ x. x.granted) e.counts.granted a b c of.counts.granted;
+    waiting = part-moved (λ x. not x.granted) e.counts.waiting a b c of.counts.waiting;
     few = omega (arith, of.counts.few, length-moved a b c);
   };
   jobs = record {
@@ -120,8 +135,7 @@ entry_moved e a b c of = record {
 }
 
 of-append : (h : ℕ) (a b c : List Counted) → of_hash h (a ++ (b ++ c)) ≡ of_hash h a ++ (of_hash h b ++ of_hash h c)
-of-append h a b c =
-    filter-append (has_hash h) a (b ++ c) ∙ ap (λ l. of_hash h a ++ l) (filter-append (has_hash h) b c)
+of-append h a b c = filter-twice (has_hash h) a b c
 
 pub tallied_moved : (t : Tally) (a b c : List Counted) → Tallied t (a ++ (b ++ c)) → Tallied t (b ++ (a ++ c))
 tallied_moved t a b c of = record {
@@ -187,6 +201,23 @@ names_of_hash (c ∷ cs) job k = go (same_key c.want.key k) refl (has_hash (hash
     go true e false f rest = let on = key-hash c k e in absurd (cc)
     go false e false f rest = rest ∙ ap (λ x. x || names_counted cs job k) (sym (and-false (c.job == job)))
 
+-- a job that has none of a hash
+pub absent_of_hash : (cs : List Counted) (job h : ℕ) → list_any (λ c. c.job == job) (of_hash h cs) ≡ false
+    → list_any (λ c. c.job == job && has_hash h c) cs ≡ false
+absent_of_hash [] job h none = refl
+absent_of_hash (c ∷ cs) job h none = go (has_hash h c) none (absent_of_hash cs job h)
+  where
+    rest : Bool
+    rest = list_any (λ c. c.job == job && has_hash h c) cs
+
+    go : (b : Bool) → list_any (λ c. c.job == job) (cond b (c ∷ of_hash h cs) (of_hash h cs)) ≡ false
+        → (list_any (λ c. c.job == job) (of_hash h cs) ≡ false → rest ≡ false)
+        → ((c.job == job && b) || rest) ≡ false
+    go true off later =
+        let p = or_parts (c.job == job) (list_any (λ c. c.job == job) (of_hash h cs)) off in
+        or_from (c.job == job && true) rest (ap (λ x. x && true) p.0) (later p.1)
+    go false off later = or_from (c.job == job && false) rest (and_right (c.job == job) false refl) (later off)
+
 beside-of-hash : (cs : List Counted) (job : ℕ) (w : Want) → beside (of_hash (hash_of w.key) cs) job w ≡ beside cs job w
 beside-of-hash cs job w =
     ap (λ ws. judged (or_else (refuse_if (not (list_all (λ v. are_alike v w) ws)) Differs)
@@ -226,6 +257,34 @@ entry_among t h e a b x lt is own of =
     (subst (EntryOf e) (filter-append (has_hash h) a (x ∷ b) ∙ ap (λ l. of_hash h a ++ l) (own_hash h x b own))
     (entry_at t (a ++ x ∷ b) h e of lt is))
 
+-- where no want has the hash, there are none of it
+pub unused_hash : (h : ℕ) (cs : List Counted) → list_any (has_hash h) cs ≡ false → of_hash h cs ≡ []
+unused_hash h [] off = refl
+unused_hash h (c ∷ cs) off = go (has_hash h c) off (unused_hash h cs)
+  where
+    go : (b : Bool) → (b || list_any (has_hash h) cs) ≡ false → (list_any (has_hash h) cs ≡ false → of_hash h cs ≡ [])
+        → cond b (c ∷ of_hash h cs) (of_hash h cs) ≡ []
+    go true f rest = absurd (cc)
+    go false f rest = rest f
+
+-- where one of the wants of a hash does not pass a test, one of all does not
+some-of-hash : (p : Counted → Bool) (h : ℕ) (cs : List Counted) → list_all p (of_hash h cs) ≡ false → list_all p cs ≡ false
+some-of-hash p h [] off = off
+some-of-hash p h (c ∷ cs) off = go (has_hash h c) (p c) refl off (some-of-hash p h cs)
+  where
+    go : (b q : Bool) → p c ≡ q → list_all p (cond b (c ∷ of_hash h cs) (of_hash h cs)) ≡ false
+        → (list_all p (of_hash h cs) ≡ false → list_all p cs ≡ false) → (q && list_all p cs) ≡ false
+    go b false is off rest = refl
+    go true true is off rest = rest (ap (λ x. x && list_all p (of_hash h cs)) (sym is) ∙ off)
+    go false true is off rest = rest off
+
+pub kept_among : (p : Counted → Bool) (h : ℕ) (a b : List Counted) (x : Counted) → h ≡ hash_of x.want.key
+    → list_all p (x ∷ (of_hash h a ++ of_hash h b)) ≡ false → list_all p (a ++ x ∷ b) ≡ false
+kept_among p h a b x own off =
+    some-of-hash p h (a ++ x ∷ b)
+    (ap (list_all p) (filter-append (has_hash h) a (x ∷ b) ∙ ap (λ l. of_hash h a ++ l) (own_hash h x b own))
+    ∙ all-moved p (of_hash h a) (x ∷ []) (of_hash h b) ∙ off)
+
 is-zero : (n : ℕ) → not (n == 0) ≡ false → n ≡ 0
 is-zero n h = go (n == 0) refl h
   where
@@ -247,32 +306,16 @@ swapped u x ds ts cs of =
     (tallied_moved u (x ∷ []) (ds ++ ts) cs
     (subst (λ l. Tallied u (x ∷ l)) (sym (append_assoc ds ts cs)) of)))
 
-granted-more : (t u : Tally) (hash i : ℕ) (cs : List Counted) (job : ℕ) (wants : List Want) (w : Want) → i < length wants
-    → hash ≡ hash_of (get_or wants i w).key
-    → ((ds : List Counted) (v : Want) → hash ≡ hash_of v.key → Tallied t (counted job false v ∷ ds) → Tallied u (counted job true v ∷ ds))
+pub granted_more : (t u : Tally) (i : ℕ) (cs : List Counted) (job : ℕ) (wants : List Want) (w : Want) → i < length wants
+    → ((ds : List Counted) → Tallied t (counted job false (get_or wants i w) ∷ ds) → Tallied u (counted job true (get_or wants i w) ∷ ds))
     → Tallied t (counted_of job false (drop i wants) ++ (counted_of job true (take i wants) ++ cs))
     → Tallied u (counted_of job false (drop (i + 1) wants) ++ (counted_of job true (take (i + 1) wants) ++ cs))
-granted-more t u hash i cs job wants w lt own step of =
+granted_more t u i cs job wants w lt step of =
     let v : Want = get_or wants i w in
     let ds : List Counted = counted_of job false (drop (i + 1) wants) in
     let ts : List Counted = counted_of job true (take i wants) in
     subst (λ l. Tallied u (ds ++ (l ++ cs)))
     (sym (ap (counted_of job true) (take_more wants i w lt) ∙ map-append (counted job true) (take i wants) (v ∷ [])))
     (swapped u (counted job true v) ds ts cs
-    (step (ds ++ (ts ++ cs)) v own
+    (step (ds ++ (ts ++ cs))
     (subst (λ l. Tallied t (counted_of job false l ++ (ts ++ cs))) (drop_more wants i w lt) of)))
-
-pub granted_more : (t u : Tally) (hashes : List ℕ) (hash i : ℕ) (cs : List Counted) (job : ℕ) (wants : List Want)
-    → hashes ≡ hashes_of wants → i < length hashes → hash ≡ get_or hashes i 0
-    → ((ds : List Counted) (v : Want) → hash ≡ hash_of v.key → Tallied t (counted job false v ∷ ds) → Tallied u (counted job true v ∷ ds))
-    → Tallied t (counted_of job false (drop i wants) ++ (counted_of job true (take i wants) ++ cs))
-    → Tallied u (counted_of job false (drop (i + 1) wants) ++ (counted_of job true (take (i + 1) wants) ++ cs))
-granted_more t u hashes hash i cs job [] same lt at step of =
-    let none : length hashes ≡ 0 = ap length same in
-    absurd (omega (arith, none, lt))
-granted_more t u hashes hash i cs job (w ∷ wants) same lt at step of =
-    let long : length hashes ≡ length (w ∷ wants) = ap length same ∙ length-map (w ∷ wants) (λ (x : Want). hash_of x.key) in
-    let below : i < length (w ∷ wants) = omega (arith, long, lt) in
-    granted-more t u hash i cs job (w ∷ wants) w below
-    (at ∙ ap (λ l. get_or l i 0) same ∙ get_or-map (λ (x : Want). hash_of x.key) (w ∷ wants) i w 0 below)
-    step of

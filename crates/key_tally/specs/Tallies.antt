@@ -10,12 +10,15 @@ use Rattle.lock_queue.specs.declared.want.Want.{Want}
 use Rattle.lock_queue.specs.Enqueues.{are_alike}
 use Rattle.lock_queue.specs.Keys.{same_key}
 use Rattle.lock_queue.specs.Outcomes.{refuse_if, or_else}
-use Rattle.lock_queue.specs.Queue.{amount_of, fits_beside}
+use Rattle.lock_queue.specs.Queue.{agree, amount_of, fits_beside, is_pooled}
 use Rattle.lock_queue.specs.WellFormed.{is_in_range}
 use Rattle.key_tally.specs.declared.counts.Counts.{Counts}
 use Rattle.key_tally.specs.declared.entry.Entry.{Entry}
+use Rattle.key_tally.specs.declared.hash.TheConstants.{HASHES}
 use Rattle.key_tally.specs.declared.jobs.Jobs.{Jobs}
+use Rattle.key_tally.specs.declared.jobs.TheConstants.{JOB_BITS}
 use Rattle.key_tally.specs.declared.likeness.Likeness.{Likeness}
+use Rattle.key_tally.specs.declared.sums.Sums.{Sums}
 use Rattle.key_tally.specs.declared.tally.Tally.{Tally}
 use Rattle.key_tally.specs.Hashes.{hash_of}
 
@@ -59,15 +62,31 @@ beside cs job w =
     (refuse_if (names_counted cs job w.key) NamedAlready))
     (fits_beside (wants_counted cs w.key) w w.pool)
 
+-- whether a present want lets another of its key stand behind it: it does unless it is granted, of the key, without a
+-- pool, and does not agree with it
+abbrev pub allows : Want → Counted → Bool
+allows w c = not ((c.granted && same_key c.want.key w.key) && (not (is_pooled c.want) && not (agree c.want w)))
+
 -- ---- what is kept of the wants of one hash
 
 -- the numbers are those of these wants
-pub record CountsOf (n : Counts) (cs : List Counted) : Type 0 where
-  pub all : n.all ≡ length cs
-  pub waiting : n.waiting ≡ sum_by (λ c. if c.granted then 0 else 1) cs
-  pub unshared : n.unshared ≡ sum_by (λ c. if c.want.shared then 0 else 1) cs
-  pub amount : n.amount ≡ sum_by (λ c. amount_of c.want) cs
+pub record SumsOf (s : Sums) (cs : List Counted) : Type 0 where
+  pub count : s.count ≡ length cs
+  pub unshared : s.unshared ≡ sum_by (λ c. if c.want.shared then 0 else 1) cs
+  pub amount : s.amount ≡ sum_by (λ c. amount_of c.want) cs
   pub range : list_all (λ c. is_in_range c.want) cs ≡ true
+
+-- those of them that are granted, and the others
+abbrev pub granted_ones : List Counted → List Counted
+granted_ones cs = filter (λ c. c.granted) cs
+
+abbrev pub waiting_ones : List Counted → List Counted
+waiting_ones cs = filter (λ c. not c.granted) cs
+
+-- the numbers are those of these wants, of which there are no more than a full table has
+pub record CountsOf (n : Counts) (cs : List Counted) : Type 0 where
+  pub granted : SumsOf n.granted (granted_ones cs)
+  pub waiting : SumsOf n.waiting (waiting_ones cs)
   pub few : length cs ≤ LOCKS_A_CALL * REQUESTS
 
 -- whether a want is alike to another, and of its key
@@ -80,12 +99,12 @@ pub record LikenessOf (l : Likeness) (cs : List Counted) : Type 0 where
 
 -- one for a want of a job that has this bit
 abbrev pub of_bit : ℕ → Counted → ℕ
-of_bit bit c = if c.job % 32 == bit then 1 else 0
+of_bit bit c = if c.job % JOB_BITS == bit then 1 else 0
 
 -- the bits are at least those of the jobs that have a want, and where the wants are said to be of jobs of different
 -- bits, they are
 pub record JobsOf (j : Jobs) (cs : List Counted) : Type 0 where
-  pub present : list_all (λ c. bit_at j.bits (c.job % 32) == 1) cs ≡ true
+  pub present : list_all (λ c. bit_at j.bits (c.job % JOB_BITS) == 1) cs ≡ true
   pub apart : j.apart ≡ true → (bit : ℕ) → sum_by (of_bit bit) cs ≤ 1
 
 -- the entry is that of these wants
@@ -96,5 +115,5 @@ pub record EntryOf (e : Entry) (cs : List Counted) : Type 0 where
 
 -- the tally is of these wants, in whatever order: each entry is that of the wants of its hash
 pub record Tallied (t : Tally) (cs : List Counted) : Type 0 where
-  pub entries : (hash : ℕ) (unused : Entry) → hash < 4096
+  pub entries : (hash : ℕ) (unused : Entry) → hash < HASHES
       → EntryOf (get_or t.entries.items hash unused) (filter (has_hash hash) cs)

@@ -1,32 +1,19 @@
-//! How many wants there are of one hash, and how much they take. There are never more of them than a
-//! full table has, and an amount has 18 bits, so that no number here wraps.
-ghost use Rattle.std.specs.Prelude.{◌≡◌, ◌∷◌, ◌*◌, ◌<◌, ◌≤◌, ◌^◌, ◌==◌, ◌+◌, [], ℕ, List, Bool, true, false, length, map, not, sum_by, if◌then◌else◌, IsTrue};
+//! The numbers of the wants of one hash: of those that are granted, and of those that wait.
+ghost use Rattle.std.specs.Prelude.{◌≡◌, ◌∷◌, ◌*◌, ◌<◌, ◌==◌, ◌&&◌, ◌+◌, ◌^◌, [], ℕ, List, Bool, true, false, length, map, not, sum_by, if◌then◌else◌, IsTrue};
+ghost use Rattle.std.specs.List.{list_any};
 ghost use Rattle.word36.specs.declared.sizes.TheConstants.{LOCKS_A_CALL, REQUESTS};
-ghost use Rattle.lock_queue.specs.Queue.{amount_of, fits_beside};
+ghost use Rattle.lock_queue.specs.Queue.{agree, fits_beside};
 ghost use Rattle.lock_queue.specs.WellFormed.{is_in_range};
 ghost use Rattle.key_tally.specs.Tallies.{Counted, CountsOf, counted};
 
+use crate::sums::Sums;
 use lock_queue::Want;
 
-/// The numbers.
+/// The numbers of the wants that are granted, and of the others.
 #[derive(Drop)]
 pub struct Counts {
-    all: u32,
-    waiting: u32,
-    unshared: u32,
-    amount: u32,
-}
-
-/// What a want takes of its pool.
-#[inline]
-fn amount_of(w: &Want) -> u32
-    ensures value { result ≡ amount_of w.now }
-    ensures below { result < 2 ^ 18 }
-{
-    match w.pool {
-        Some(pool) => pool.amount(),
-        None => 0,
-    }
+    granted: Sums,
+    waiting: Sums,
 }
 
 impl Counts {
@@ -35,10 +22,8 @@ impl Counts {
         ensures { CountsOf result [] }
     {
         Counts {
-            all: 0,
-            waiting: 0,
-            unshared: 0,
-            amount: 0,
+            granted: Sums::none(),
+            waiting: Sums::none(),
         }
     }
 
@@ -49,10 +34,11 @@ impl Counts {
         ensures { (cs : List Counted) (job : ℕ) → CountsOf self.old cs → length cs < LOCKS_A_CALL * REQUESTS
             → CountsOf self.new (counted job granted w.now ∷ cs) }
     {
-        self.all = self.all.wrapping_add(1);
-        self.waiting = self.waiting.wrapping_add(!granted as u32);
-        self.unshared = self.unshared.wrapping_add(!w.shared as u32);
-        self.amount = self.amount.wrapping_add(amount_of(w));
+        if granted {
+            self.granted.add(w);
+        } else {
+            self.waiting.add(w);
+        }
     }
 
     /// Counts a want that leaves no more.
@@ -61,28 +47,30 @@ impl Counts {
         ensures { (cs : List Counted) (job : ℕ) → CountsOf self.old (counted job granted w.now ∷ cs)
             → CountsOf self.new cs }
     {
-        self.all = self.all.wrapping_sub(1);
-        self.waiting = self.waiting.wrapping_sub(!granted as u32);
-        self.unshared = self.unshared.wrapping_sub(!w.shared as u32);
-        self.amount = self.amount.wrapping_sub(amount_of(w));
+        if granted {
+            self.granted.remove(w);
+        } else {
+            self.waiting.remove(w);
+        }
     }
 
-    /// Counts one that is granted no more among those that wait.
+    /// Counts a want that is granted no more among those that wait.
     #[inline]
-    pub fn grant(&mut self)
-        ensures { (cs : List Counted) (job : ℕ) (w : Want) → CountsOf self.old (counted job false w ∷ cs)
-            → CountsOf self.new (counted job true w ∷ cs) }
+    pub fn grant(&mut self, w: &Want)
+        ensures { (cs : List Counted) (job : ℕ) → CountsOf self.old (counted job false w.now ∷ cs)
+            → CountsOf self.new (counted job true w.now ∷ cs) }
     {
-        self.waiting = self.waiting.wrapping_sub(1);
+        self.waiting.remove(w);
+        self.granted.add(w);
     }
 
     /// Whether there are none.
     #[inline]
     pub fn is_none(&self) -> bool
-        ensures value { result ≡ (self.now.all == 0) }
+        ensures value { result ≡ (self.now.granted.count == 0 && self.now.waiting.count == 0) }
         ensures none { IsTrue result → (cs : List Counted) → CountsOf self.now cs → cs ≡ [] }
     {
-        self.all == 0
+        self.granted.count == 0 && self.waiting.count == 0
     }
 
     /// Whether one of them waits.
@@ -91,7 +79,24 @@ impl Counts {
         ensures { (cs : List Counted) → CountsOf self.now cs
             → result ≡ not (sum_by (λ c. if c.granted then 0 else 1) cs == 0) }
     {
-        self.waiting != 0
+        self.waiting.count != 0
+    }
+
+    /// Whether all of them are shared.
+    #[inline]
+    fn are_shared(&self) -> bool
+        ensures { result ≡ (self.now.granted.unshared == 0 && self.now.waiting.unshared == 0) }
+    {
+        self.granted.unshared == 0 && self.waiting.unshared == 0
+    }
+
+    /// What they take of their pools, all in all.
+    #[inline]
+    fn amount(&self) -> u64
+        ensures sum { result ≡ self.now.granted.amount + self.now.waiting.amount }
+        ensures below { result < 2 ^ 33 }
+    {
+        self.granted.amount as u64 + self.waiting.amount as u64
     }
 
     /// Whether a want fits beside all of them, of which there is at least one.
@@ -101,8 +106,8 @@ impl Counts {
             → result ≡ fits_beside (map (λ c. c.want) (c ∷ cs)) w.now w.now.pool }
     {
         match w.pool {
-            Some(pool) => self.amount as u64 + pool.amount() as u64 <= pool.size() as u64,
-            None => w.shared && self.unshared == 0,
+            Some(pool) => self.amount() + pool.amount() as u64 <= pool.size() as u64,
+            None => w.shared && self.are_shared(),
         }
     }
 
@@ -113,8 +118,25 @@ impl Counts {
             → fits_beside (map (λ c. c.want) cs) w.now w.now.pool ≡ true }
     {
         match w.pool {
-            Some(pool) => self.amount <= pool.size(),
-            None => self.all == 1 || w.shared && self.unshared == 0,
+            Some(pool) => self.amount() <= pool.size() as u64,
+            None => {
+                self.granted.count.wrapping_add(self.waiting.count) == 1
+                    || w.shared && self.are_shared()
+            }
         }
+    }
+
+    /// Whether one of them that is granted does not agree with a want.
+    #[inline]
+    pub fn keeps(&self, w: &Want) -> bool
+        ensures { IsTrue result → (cs : List Counted) → CountsOf self.now cs
+            → list_any (λ c. c.granted && not (agree c.want w.now)) cs ≡ true }
+    {
+        let against = if w.shared {
+            self.granted.unshared
+        } else {
+            self.granted.count
+        };
+        against != 0
     }
 }

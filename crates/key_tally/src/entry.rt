@@ -1,11 +1,11 @@
 //! What is known of the present wants of one hash.
 ghost use Rattle.std.specs.Prelude.{◌≡◌, ◌∷◌, ◌*◌, ◌<◌, ◌==◌, ◌&&◌, ◌||◌, [], ℕ, List, Bool, true, false, not, length, map, sum_by, if◌then◌else◌, IfSome, IsTrue};
+ghost use Rattle.std.specs.List.{list_all, list_any};
 ghost use Rattle.word36.specs.declared.sizes.TheConstants.{LOCKS_A_CALL, REQUESTS};
-ghost use Rattle.lock_queue.specs.declared.want.Want.{Want};
 ghost use Rattle.lock_queue.specs.Keys.{same_key};
-ghost use Rattle.lock_queue.specs.Queue.{fits_beside};
+ghost use Rattle.lock_queue.specs.Queue.{fits_beside, is_pooled};
 ghost use Rattle.lock_queue.specs.WellFormed.{is_in_range};
-ghost use Rattle.key_tally.specs.Tallies.{Counted, EntryOf, beside, counted, wants_counted};
+ghost use Rattle.key_tally.specs.Tallies.{Counted, EntryOf, allows, beside, counted, wants_counted};
 
 use crate::counts::Counts;
 use crate::jobs::Jobs;
@@ -80,11 +80,11 @@ impl Entry {
 
     /// Takes one that is granted out of those that wait.
     #[inline]
-    pub fn grant(&mut self)
-        ensures { (cs : List Counted) (job : ℕ) (w : Want) → EntryOf self.old (counted job false w ∷ cs)
-            → EntryOf self.new (counted job true w ∷ cs) }
+    pub fn grant(&mut self, w: &Want)
+        ensures { (cs : List Counted) (job : ℕ) → EntryOf self.old (counted job false w.now ∷ cs)
+            → EntryOf self.new (counted job true w.now ∷ cs) }
     {
-        self.counts.grant();
+        self.counts.grant(w);
     }
 
     /// Whether one of them waits.
@@ -99,11 +99,19 @@ impl Entry {
     /// Whether none of them is of this key, as far as is known.
     #[inline]
     pub fn lacks(&self, key: &Key) -> bool
-        ensures value { result ≡ ((self.now.counts.all == 0)
+        ensures value { result ≡ ((self.now.counts.granted.count == 0 && self.now.counts.waiting.count == 0)
             || (self.now.likeness.sole && not (same_key self.now.likeness.like.key key.now))) }
         ensures none { IsTrue result → (cs : List Counted) → EntryOf self.now cs → wants_counted cs key.now ≡ [] }
     {
         self.counts.is_none() || self.likeness.is_sole() && !self.likeness.is_of(key)
+    }
+
+    /// Whether none of them is of a job for certain.
+    #[inline]
+    pub fn lacks_of(&self, job: u8) -> bool
+        ensures { IsTrue result → (cs : List Counted) → EntryOf self.now cs → list_any (λ c. c.job == job) cs ≡ false }
+    {
+        self.counts.is_none() || self.jobs.lacks(job)
     }
 
     /// Why a want of a job is refused beside them; else whether it fits. Nothing where they have to be
@@ -132,5 +140,17 @@ impl Entry {
             → fits_beside (map (λ c. c.want) cs) w.now w.now.pool ≡ true }
     {
         self.counts.fits_among(w)
+    }
+
+    /// Whether a want, which is one of them and not granted, is seen to be kept from its key: one that is
+    /// granted does not agree with it.
+    #[inline]
+    pub fn keeps(&self, w: &Want) -> bool
+        ensures unpooled { IsTrue result → is_pooled w.now ≡ false }
+        ensures kept { IsTrue result → (cs : List Counted) (job : ℕ) → EntryOf self.now (counted job false w.now ∷ cs)
+            → list_all (allows w.now) (counted job false w.now ∷ cs) ≡ false }
+    {
+        // All are like one, which is of the want's key and has a pool where the want has one.
+        w.pool.is_none() && self.likeness.is_sole() && self.counts.keeps(w)
     }
 }

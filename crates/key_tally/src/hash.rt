@@ -1,30 +1,34 @@
-//! A number below 4,096 for each key.
+//! A number for each key, its hash.
 ghost use Rattle.std.specs.Prelude.{◌≡◌, ◌<◌};
+ghost use Rattle.key_tally.specs.declared.hash.TheConstants.{HASHES};
 ghost use Rattle.key_tally.specs.Hashes.{hash_text, hash_of, hashes_of};
 
 use arrayvec::ArrayVec;
 use lock_queue::{Key, Name, Scope, Wants};
 use word36::LOCKS_A_CALL;
 
+/// How many hashes there are.
+pub const HASHES: usize = 4096;
+
 /// The hashes of the keys of a call's wants.
 pub type Hashes = ArrayVec<u16, LOCKS_A_CALL>;
 
 fn hash_text(text: &[u8], start: u64) -> u64
-    requires { start < 4096 }
+    requires { start < HASHES }
     ensures value { result ≡ hash_text start text.now }
-    ensures below { result < 4096 }
+    ensures below { result < HASHES }
 {
     let mut hash = start;
     for c in text {
-        hash = (hash * 37 + *c as u64) % 4096;
+        hash = (hash * 37 + *c as u64) % HASHES as u64;
     }
     hash
 }
 
-/// A number below 4,096, made of a key's scope and name.
+/// A number made of a key's scope and name.
 pub fn hash_of(key: &Key) -> u16
     ensures value { result ≡ hash_of key.now }
-    ensures below { result < 4096 }
+    ensures below { result < HASHES }
 {
     let start = match key.scope {
         Scope::All => 0,
@@ -32,7 +36,7 @@ pub fn hash_of(key: &Key) -> u16
     };
     let hash = match &key.name {
         Name::Text(text) => hash_text(text.as_str().as_bytes(), start),
-        Name::Code(code) => (code.number() + start) % 4096,
+        Name::Code(code) => (code.number() + start) % HASHES as u64,
     };
     hash as u16
 }

@@ -2,6 +2,7 @@
 ghost use Rattle.std.specs.Prelude.{◌≡◌, ◌∷◌, ◌^◌, ◌%◌, ◌==◌, [], ℕ, List, Bool};
 ghost use Rattle.std.specs.Int.{bit_at};
 ghost use Rattle.lock_queue.specs.declared.want.Want.{Want};
+ghost use Rattle.key_tally.specs.declared.jobs.TheConstants.{JOB_BITS};
 ghost use Rattle.key_tally.specs.Tallies.{Counted, JobsOf, counted};
 
 /// How many jobs are told apart by their bits.
@@ -15,10 +16,10 @@ pub struct Jobs {
     apart: bool,
 }
 
-/// The bit of a job.
+/// The bit of a job's number modulo 32.
 #[inline]
-fn bit_of_job(job: u8) -> u32
-    ensures { result ≡ 2 ^ (job % 32) }
+pub fn bit_of_job(job: u8) -> u32
+    ensures { result ≡ 2 ^ (job % JOB_BITS) }
 {
     1 << (job % JOB_BITS)
 }
@@ -70,7 +71,7 @@ impl Jobs {
     /// Whether a job has none of them for certain.
     #[inline]
     pub fn lacks(&self, job: u8) -> bool
-        ensures { result ≡ (bit_at self.now.bits (job % 32) == 0) }
+        ensures { result ≡ (bit_at self.now.bits (job % JOB_BITS) == 0) }
     {
         self.bits >> (job % JOB_BITS) & 1 == 0
     }

@@ -7,7 +7,9 @@ mod entry;
 mod hash;
 mod jobs;
 mod likeness;
+mod sums;
 mod tally;
 
 pub use hash::{Hashes, hash_of, hashes_of};
+pub use jobs::bit_of_job;
 pub use tally::Tally;

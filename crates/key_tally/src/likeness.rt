@@ -1,34 +1,18 @@
 //! What the wants of one hash have in common.
 ghost use Rattle.std.specs.Prelude.{◌≡◌, ◌∷◌, [], ℕ, List, Bool, true, false, not, IsTrue};
 ghost use Rattle.std.specs.List.{list_all};
-ghost use Rattle.lock_queue.specs.Enqueues.{same_pool_size, are_alike};
+ghost use Rattle.lock_queue.specs.Enqueues.{are_alike};
 ghost use Rattle.lock_queue.specs.Keys.{same_key};
 ghost use Rattle.key_tally.specs.Tallies.{Counted, LikenessOf, counted, is_like};
 
-use lock_queue::{Key, Pool, Want};
+use lock_queue::steps::is_alike;
+use lock_queue::{Key, Want};
 
 /// Whether all of them are known to be of one key and alike, and if so, one of them.
 #[derive(Drop)]
 pub struct Likeness {
     sole: bool,
     like: Want,
-}
-
-fn is_same_pool_size(a: Option<Pool>, b: Option<Pool>) -> bool
-    ensures { result ≡ same_pool_size a b }
-{
-    match (a, b) {
-        (Some(a), Some(b)) => a.size() == b.size(),
-        (None, None) => true,
-        (Some(_), None) | (None, Some(_)) => false,
-    }
-}
-
-#[inline]
-fn is_alike(v: &Want, w: &Want) -> bool
-    ensures { result ≡ are_alike v.now w.now }
-{
-    v.level == w.level && is_same_pool_size(v.pool, w.pool)
 }
 
 impl Likeness {

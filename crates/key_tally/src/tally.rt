@@ -1,5 +1,6 @@
 //! The tally: an entry for each hash.
 ghost use Rattle.std.specs.Prelude.{◌≡◌, length};
+ghost use Rattle.key_tally.specs.declared.hash.TheConstants.{HASHES};
 
 use crate::entry::Entry;
 
@@ -9,5 +10,5 @@ mod methods;
 #[derive(Drop)]
 pub struct Tally {
     entries: Vec<Entry>,
-    ghost long: { length entries.items ≡ 4096 },
+    ghost long: { length entries.items ≡ HASHES },
 }

@@ -71,6 +71,7 @@ pub fn is_pooled_in(wants: &[Want], key: &Key) -> bool
     false
 }
 
+#[inline]
 fn is_same_pool_size(a: Option<Pool>, b: Option<Pool>) -> bool
     ensures { result ≡ same_pool_size a b }
 {
@@ -81,7 +82,9 @@ fn is_same_pool_size(a: Option<Pool>, b: Option<Pool>) -> bool
     }
 }
 
-fn is_alike(v: &Want, w: &Want) -> bool
+/// Whether two wants of one key are alike: of one level, and of pools of one size or of none.
+#[inline]
+pub fn is_alike(v: &Want, w: &Want) -> bool
     ensures { result ≡ are_alike v.now w.now }
 {
     v.level == w.level && is_same_pool_size(v.pool, w.pool)

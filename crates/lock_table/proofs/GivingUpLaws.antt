@@ -1,5 +1,5 @@
 -- Wants that are given up, of one request after the other from the first on.
-use Rattle.std.proofs.Common.{◌≡◌, ◌∙◌, sym, ap, refl, ℕ, zero, suc, ◌+◌, ◌-◌, ◌<◌, ◌≤◌, ◌==◌, Bool, true, false, not, ◌&&◌, ◌||◌, inl, inr, Option, cond, if◌then◌else◌, List, [], ◌∷◌, ◌++◌, append-nil, append_assoc, add-one, length, length-append, length-drop, get_or, take, drop, filter, map, arith}
+use Rattle.std.proofs.Common.{◌≡◌, ◌∙◌, sym, ap, refl, ℕ, zero, suc, ◌+◌, ◌-◌, ◌<◌, ◌≤◌, ◌==◌, Bool, true, false, not, ◌&&◌, ◌||◌, inl, inr, Option, None, cond, if◌then◌else◌, List, [], ◌∷◌, ◌++◌, append-nil, append_assoc, add-one, length, length-append, length-drop, get_or, take, drop, filter, map, arith}
 use Rattle.std.specs.List.{list_all, list_any}
 use Rattle.std.proofs.lemmas.Bool.{and_parts, and_right, or_parts, or_from}
 use Rattle.std.proofs.lemmas.Bool.Decides.{nat_tests}
@@ -15,7 +15,7 @@ use Rattle.lock_queue.specs.Keys.{same_key}
 use Rattle.lock_queue.specs.Outcomes.{first_refusal, refuse_if, or_else}
 use Rattle.lock_queue.specs.Queue.{names, all_wants, wants_of}
 use Rattle.lock_queue.specs.WellFormed.{is_well_formed, is_job, are_right_wants, are_well_formed}
-use Rattle.lock_queue.proofs.Fitting.{names-found, same_key-eq}
+use Rattle.lock_queue.proofs.Fitting.{names-found, same_key-eq, same_key-refl}
 use Rattle.lock_queue.proofs.Lists.{Has}
 use Rattle.lock_table.specs.declared.signature.Signature.{Signature}
 use Rattle.lock_table.specs.Departures.{some_names, CoversAll, loses, fewer, with_fewer, keeps_wants, waits_with_fewer}
@@ -226,6 +226,29 @@ module _ (job : ℕ) (named : List Want) where
             (ap (some_names (waits_with_fewer job named) k) (drop_more now i d lt)
             ∙ or_from (waits_with_fewer job named f && names f.request.wants.items k) (some_names (waits_with_fewer job named) k later) e behind))
 
+-- ---- where none loses wants any more
+
+where-none : (test : Filing → Bool) (fs : List Filing) → list_any test fs ≡ false → from_where test fs ≡ []
+where-none test [] h = refl
+where-none test (f ∷ fs) h =
+    let p = or_parts (test f) (list_any test fs) h in
+    ap (λ b. cond b (f ∷ fs) (from_where test fs)) p.0 ∙ where-none test fs p.1
+
+-- the walk finds none behind a place
+pub behind-none : (test : Filing → Bool) (fs : List Filing) (i : ℕ) → list_any test fs ≡ false → from_where test (drop i fs) ≡ []
+behind-none test fs i h =
+    where-none test (drop i fs)
+    (or_parts (list_any test (take i fs)) (list_any test (drop i fs))
+    (sym (list_any-append test (take i fs) (drop i fs)) ∙ ap (list_any test) (take-append-drop i fs) ∙ h)).1
+
+pub covers-none : (bits : Signature) (job : ℕ) (named : List Want) (fs : List Filing) → list_any (loses job named) fs ≡ false
+    → CoversAll bits (waits_with_fewer job named) fs
+covers-none bits job named fs none k some =
+    let both : true ≡ false =
+    sym some ∙ sym (where-names (loses job named) (waits_with_fewer job named) (waits-loses job named) fs k)
+    ∙ ap (some_names (waits_with_fewer job named) k) (where-none (loses job named) fs none) in
+    absurd (cc)
+
 pub same-at : (xs : List Filing) (i : ℕ) (d e : Filing) → i < length xs → get_or xs i d ≡ get_or xs i e
 same-at [] i d e lt = absurd (omega arith)
 same-at (x ∷ xs) zero d e lt = refl
@@ -331,3 +354,51 @@ refusal-behind job named fs n h =
     refusals-same (dequeue_fault (requests_in (drop n fs)) job) (dequeue_fault (requests_in fs) job) [] named
     (λ d w k. ap (λ b. or_else (refuse_if (names d w.key) NamedAlready) (refuse_if (not b) NotPresent))
     (names-behind job named fs n w.key h (has-named named w k)))
+
+-- ---- the refusal of a call that names one lock
+
+same-turned : (a b : Key) → same_key a b ≡ same_key b a
+same-turned a b = go (same_key a b) refl (same_key b a) refl
+  where
+    turned : (c d : Key) → same_key c d ≡ true → same_key d c ≡ true
+    turned c d e = ap (λ k. same_key k c) (sym (same_key-eq c d e)) ∙ same_key-refl c
+
+    go : (p : Bool) → same_key a b ≡ p → (q : Bool) → same_key b a ≡ q → p ≡ q
+    go true e true f = refl
+    go false e false f = refl
+    go true e false f = sym (turned a b e) ∙ f
+    go false e true f = sym e ∙ turned b a f
+
+or-false : (b : Bool) → (b || false) ≡ b
+or-false true = refl
+or-false false = refl
+
+names-one : (w : Want) (ws : List Want) → list_any (λ v. names (w ∷ []) v.key) ws ≡ names ws w.key
+names-one w [] = refl
+names-one w (v ∷ vs) =
+    ap (λ b. b || list_any (λ v. names (w ∷ []) v.key) vs) (or-false (same_key w.key v.key) ∙ same-turned w.key v.key)
+    ∙ ap (λ b. same_key v.key w.key || b) (names-one w vs)
+
+loses-one : (job : ℕ) (w : Want) (fs : List Filing) → list_any (loses job (w ∷ [])) fs ≡ names (wants_of (requests_in fs) job) w.key
+loses-one job w [] = refl
+loses-one job w (f ∷ fs) = go (f.request.job == job) (names-one w f.request.wants.items) (loses-one job w fs)
+  where
+    go : (b : Bool) → list_any (λ v. names (w ∷ []) v.key) f.request.wants.items ≡ names f.request.wants.items w.key
+        → list_any (loses job (w ∷ [])) fs ≡ names (wants_of (requests_in fs) job) w.key
+        → ((b && list_any (λ v. names (w ∷ []) v.key) f.request.wants.items) || list_any (loses job (w ∷ [])) fs)
+        ≡ names (all_wants (cond b (f.request ∷ filter (λ r. r.job == job) (requests_in fs)) (filter (λ r. r.job == job) (requests_in fs)))) w.key
+    go true e t =
+        ap (λ b. b || list_any (loses job (w ∷ [])) fs) e ∙ ap (λ b. names f.request.wants.items w.key || b) t
+        ∙ sym (list_any-append (λ v. same_key v.key w.key) f.request.wants.items (wants_of (requests_in fs) job))
+    go false e t = t
+
+pub refusal-one : (job : ℕ) (named : List Want) (fs : List Filing) (b : Bool) → length named ≡ 1 → list_any (loses job named) fs ≡ b
+    → refuse_if (not b) NotPresent ≡ first_refusal (dequeue_fault (requests_in fs) job) [] named
+refusal-one job [] fs b one is = absurd (omega (arith, one))
+refusal-one job (v ∷ w ∷ ws) fs b one is = absurd (omega (arith, one))
+refusal-one job (w ∷ []) fs b one is =
+    go b ∙ ap (λ x. or_else (refuse_if (not x) NotPresent) None) (sym is ∙ loses-one job w fs)
+  where
+    go : (x : Bool) → refuse_if (not x) NotPresent ≡ or_else (refuse_if (not x) NotPresent) None
+    go true = refl
+    go false = refl

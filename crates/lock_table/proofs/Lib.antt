@@ -1,6 +1,7 @@
 pub mod SignatureLaws
 pub mod RightLaws
 pub mod RenewalLaws
+mod KeptLaws
 pub mod DepartureLaws
 pub mod ChangeLaws
 pub mod CallLaws
@@ -12,6 +13,8 @@ pub mod WalkLaws
 pub mod WhereLaws
 pub mod WaitingLaws
 pub mod GivingUpLaws
+pub mod HashLaws
+pub mod SoleLaws
 pub mod ShelfLaws
 pub mod CountingLaws
 pub mod AwaitedLaws

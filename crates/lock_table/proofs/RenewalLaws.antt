@@ -1,17 +1,12 @@
 -- Renewed grants are right, and those that rise are all that are raised.
-use Rattle.std.proofs.Common.{◌≡◌, ◌∙◌, sym, ap, subst, ℕ, zero, suc, ◌<◌, ◌==◌, Bool, true, false, not, inl, inr, ◌&&◌, cond, List, [], ◌∷◌, ◌++◌, length, get_or, Option, Some, None, is_some, bit_and, refl, arith}
-use Rattle.std.specs.List.{list_all}
+use Rattle.std.proofs.Common.{◌≡◌, ◌∙◌, sym, ap, ◌==◌, Bool, true, false, not, ◌&&◌, cond, List, [], ◌∷◌, ◌++◌, bit_and, refl}
 use Rattle.std.specs.Int.Bits.{and_zero_r}
-use Rattle.std.proofs.lemmas.Bool.{and_parts, and_right, eqb-true}
+use Rattle.std.proofs.lemmas.Bool.{and_right, eqb-true}
 use Rattle.lock_queue.specs.declared.request.Request.{Request}
-use Rattle.lock_queue.specs.declared.want.Want.{Want}
-use Rattle.lock_queue.specs.Keys.{same_key}
-use Rattle.lock_queue.specs.Pools.{PoolShare}
-use Rattle.lock_queue.proofs.Lists.{Has, Has-left, Has-right, Has-filter, list_all-Has}
 use Rattle.lock_queue.specs.Grants.{is_told_of, grant_of}
-use Rattle.lock_queue.specs.Queue.{all_wants, wants_at, is_pooled, agree, fits_beside, fits, granted_behind}
+use Rattle.lock_queue.specs.Queue.{granted_behind}
 use Rattle.lock_table.specs.Filings.{Filing, requests_in, AreRight}
-use Rattle.lock_table.specs.Renewals.{rises, with_grant, renewed, risen, raised, shuts, AreOutdated}
+use Rattle.lock_table.specs.Renewals.{rises, with_grant, renewed, risen, raised, AreOutdated}
 use Rattle.lock_table.specs.declared.signature.Signature.{Signature}
 use Rattle.lock_table.specs.Signatures.{meets, signature_of}
 
@@ -63,53 +58,6 @@ risen-raised bits e (f ∷ fs) h =
     (same-test f.granted (meets (signature_of f.request.wants.items) bits) (granted_behind e f.request) (is_told_of f.request.kind) h.0.rests)
     ∙ ap (λ l. cond ((is_told_of f.request.kind && not f.granted) && granted_behind e f.request) (grant_of f.request ∷ l) l)
     (risen-raised bits (e ++ f.request ∷ []) fs h.1)
-
--- ---- a request that an earlier one keeps from its grant
-
-wants-Has : (e : List Request) (g : Request) (v : Want) → Has e g → Has g.wants.items v → Has (all_wants e) v
-wants-Has [] g v there h = absurd there
-wants-Has (r ∷ e) g v (inl same) h =
-    Has-left r.wants.items (all_wants e) v (subst (λ (q : Request). Has q.wants.items v) (sym same) h)
-wants-Has (r ∷ e) g v (inr later) h = Has-right r.wants.items (all_wants e) v (wants-Has e g v later h)
-
--- a want does not fit behind one of its key that does not agree with it
-shut-first : (e : List Request) (v w : Want) → Has (all_wants e) v
-    → ((not (is_pooled w) && not (agree v w)) && same_key v.key w.key) ≡ true → fits e w ≡ false
-shut-first e v w there h = go w.pool front.0
-  where
-    parts : ((not (is_pooled w) && not (agree v w)) ≡ true) × (same_key v.key w.key ≡ true)
-    parts = and_parts (not (is_pooled w) && not (agree v w)) (same_key v.key w.key) h
-
-    front : (not (is_pooled w) ≡ true) × (not (agree v w) ≡ true)
-    front = and_parts (not (is_pooled w)) (not (agree v w)) parts.0
-
-    differs : (b : Bool) → list_all (λ u. agree u w) (wants_at e w.key) ≡ b → b ≡ false
-    differs true all =
-        let on : agree v w ≡ true =
-        list_all-Has (λ u. agree u w) (wants_at e w.key) v all (Has-filter (λ u. same_key u.key w.key) (all_wants e) v parts.1 there) in
-        absurd (cc (on, front.1))
-    differs false all = refl
-
-    go : (o : Option PoolShare) → not (is_some o) ≡ true → fits_beside (wants_at e w.key) w o ≡ false
-    go None t = differs (list_all (λ u. agree u w) (wants_at e w.key)) refl
-    go (Some share) t = absurd (cc)
-
-shut-all : (e : List Request) (vs ws : List Want) → ((v : Want) → Has vs v → Has (all_wants e) v) → shuts vs ws ≡ true
-    → list_all (fits e) ws ≡ false
-shut-all e [] ws has h = absurd (cc)
-shut-all e (v ∷ vs) [] has h = absurd (cc)
-shut-all e (v ∷ vs) (w ∷ ws) has h = ap (λ b. b && list_all (fits e) ws) (shut-first e v w (has v (inl refl)) h)
-
-place-Has : (fs : List Filing) (i : ℕ) (g : Filing) → i < length fs → g ≡ get_or fs i g → Has (requests_in fs) g.request
-place-Has [] i g lt is = absurd (omega arith)
-place-Has (f ∷ fs) zero g lt is = inl (ap (λ (x : Filing). x.request) (sym is))
-place-Has (f ∷ fs) (suc i) g lt is = inr (place-Has fs i g (omega arith) is)
-
-pub kept_waiting : (fs : List Filing) (i : ℕ) (g f : Filing) → i < length fs → g ≡ get_or fs i g
-    → shuts g.request.wants.items f.request.wants.items ≡ true → granted_behind (requests_in fs) f.request ≡ false
-kept_waiting fs i g f lt is h =
-    shut-all (requests_in fs) g.request.wants.items f.request.wants.items
-    (λ v k. wants-Has (requests_in fs) g.request v (place-Has fs i g lt is) k) h
 
 -- ---- no bits: nothing is renewed
 

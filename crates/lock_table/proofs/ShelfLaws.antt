@@ -1,5 +1,5 @@
 -- A tally stays that of the present requests where one comes, leaves, is granted or gets other wants.
-use Rattle.std.proofs.Common.{◌≡◌, ◌∙◌, sym, ap, subst, ℕ, zero, suc, ◌+◌, ◌*◌, ◌<◌, ◌≤◌, ◌==◌, Bool, true, false, not, ◌&&◌, ◌||◌, cond, List, [], ◌∷◌, ◌++◌, append_assoc, add-one, length, filter, map, sum_by, Option, Some, None, Result, IfSome, get_or, set, take, drop, remove, refl, arith, nat_le, take-append-drop}
+use Rattle.std.proofs.Common.{◌≡◌, ◌∙◌, sym, ap, subst, ℕ, zero, suc, ◌+◌, ◌*◌, ◌<◌, ◌≤◌, ◌==◌, Bool, true, false, not, inl, ◌&&◌, ◌||◌, cond, List, [], ◌∷◌, ◌++◌, append_assoc, add-one, length, filter, map, sum_by, Option, Some, None, Result, IfSome, get_or, set, take, drop, remove, refl, arith, nat_le, take-append-drop}
 use Rattle.std.specs.List.{list_all, list_any}
 use Rattle.std.proofs.lemmas.Bool.{and_parts, eqb-true, eq-eqb, le-leb, leb-true}
 use Rattle.std.proofs.lemmas.List.{take_more, map-append, length-map}
@@ -9,13 +9,13 @@ use Rattle.std.proofs.lemmas.List.Folds.{list_any-append, list_all-append}
 use Rattle.word36.specs.declared.sizes.TheConstants.{LOCKS_A_CALL, REQUESTS}
 use Rattle.key_tally.specs.declared.tally.Tally.{Tally}
 use Rattle.key_tally.specs.Hashes.{hash_of, hashes_of}
-use Rattle.key_tally.specs.Tallies.{Counted, Tallied, beside, counted, counted_of, judged, wants_counted}
+use Rattle.key_tally.specs.Tallies.{Counted, Tallied, allows, beside, counted, counted_of, judged, wants_counted}
 use Rattle.lock_queue.specs.declared.key.Key.{Key}
 use Rattle.lock_queue.specs.declared.want.Want.{Want}
 use Rattle.lock_queue.specs.declared.refusal.Refusal.{Refusal}
 use Rattle.lock_queue.specs.Enqueues.{enqueue_fault}
 use Rattle.lock_queue.specs.Keys.{same_key}
-use Rattle.lock_queue.specs.Queue.{names, fits, fits_beside, agree, amount_of, wants_at}
+use Rattle.lock_queue.specs.Queue.{names, fits, fits_beside, agree, amount_of, is_pooled, wants_at}
 use Rattle.lock_queue.specs.Pools.{PoolShare}
 use Rattle.lock_queue.specs.Changes.{changed_want}
 use Rattle.lock_queue.specs.Dequeues.{with_wants}
@@ -24,13 +24,15 @@ use Rattle.lock_queue.specs.WellFormed.{is_in_range}
 use Rattle.lock_table.specs.Countings.{counted_in, is_countable}
 use Rattle.lock_table.specs.Filings.{Filing, filing, requests_in}
 use Rattle.lock_table.specs.Findings.{pends, with_told, told_in}
-use Rattle.lock_table.specs.Renewals.{with_grant}
+use Rattle.lock_table.specs.Renewals.{with_grant, AreKept, WaitsAmong}
 use Rattle.lock_table.specs.declared.signature.Signature.{Signature}
 use Rattle.lock_table.specs.Signatures.{joined, mark_at}
 use Rattle.lock_table.specs.Tallies.{waiting_count, Marks, MarksAt}
 use Rattle.lock_queue.proofs.Fitting.{same_key-eq}
+use Rattle.lock_queue.proofs.Lists.{Has, Has-right}
 use Rattle.lock_table.proofs.AwaitedLaws.{marks-left, marks-right}
-use Rattle.lock_table.proofs.CountingLaws.{counted_by, counted-beside, counted-wants, counted-around, counted-without, counted-set, counted-push, counted-most, countable-parts}
+use Rattle.lock_table.proofs.KeptLaws.{kept_from}
+use Rattle.lock_table.proofs.CountingLaws.{counted_by, counted-beside, counted-wants, counted-append, counted-around, counted-without, counted-set, counted-push, counted-most, countable-parts}
 
 -- ---- requests that can be counted
 
@@ -241,69 +243,112 @@ fits-front xs ys w (Some share) h =
     le-leb (sum_by amount_of xs + share.amount) share.size
     (omega (arith, leb-true (sum_by amount_of (xs ++ ys) + share.amount) share.size h, sum_by-append amount_of xs ys))
 
-counted-split : (job : ℕ) (granted : Bool) (ws : List Want) (i : ℕ) (w : Want) → i < length ws → w ≡ get_or ws i w
-    → counted_of job granted ws ≡ counted_of job granted (take i ws) ++ counted job granted w ∷ counted_of job granted (drop (suc i) ws)
-counted-split job granted [] i w lt is = absurd (omega arith)
-counted-split job granted (x ∷ ws) zero w lt is = ap (λ (v : Want). counted job granted v ∷ counted_of job granted ws) (sym is)
-counted-split job granted (x ∷ ws) (suc i) w lt is = ap (λ l. counted job granted x ∷ l) (counted-split job granted ws i w (omega arith) is)
+-- a list is what stands before a place, what stands there, and what stands behind it
+apart : {X : Type 0} (xs : List X) (i : ℕ) (x : X) → i < length xs → x ≡ get_or xs i x → xs ≡ take i xs ++ x ∷ drop (suc i) xs
+apart [] i x lt is = absurd (omega arith)
+apart (y ∷ xs) zero x lt is = ap (λ z. z ∷ xs) (sym is)
+apart (y ∷ xs) (suc i) x lt is = ap (λ l. y ∷ l) (apart xs i x (omega arith) is)
 
 parted : {X : Type 0} (e x z l : List X) → e ++ (x ++ z) ++ l ≡ (e ++ x) ++ (z ++ l)
 parted e x z l = append_assoc e (x ++ z) l ∙ ap (λ k. e ++ k) (append_assoc x z l) ∙ sym (append_assoc e x (z ++ l))
 
--- a want fits behind the earlier requests, where it does beside all wants before it
-pub fits-known : (t : Tally) (earlier : List Filing) (front back : List Counted) (job : ℕ) (granted : Bool) (w : Want)
-    → ((a b : List Counted) (j : ℕ) (g : Bool) → Tallied t (a ++ counted j g w ∷ b) → fits_beside (wants_counted a w.key) w w.pool ≡ true)
-    → Tallied t ((counted_in earlier ++ front) ++ counted job granted w ∷ back) → fits (requests_in earlier) w ≡ true
-fits-known t earlier front back job granted w seen tallied =
-    fits-front (wants_at (requests_in earlier) w.key) (wants_counted front w.key) w w.pool
-    (ap (λ l. fits_beside l w w.pool) (sym both) ∙ seen (counted_in earlier ++ front) back job granted tallied)
-  where
-    both : wants_counted (counted_in earlier ++ front) w.key ≡ wants_at (requests_in earlier) w.key ++ wants_counted front w.key
-    both =
-        ap (filter (λ v. same_key v.key w.key)) (map-append (λ (c : Counted). c.want) (counted_in earlier) front)
-        ∙ filter-append (λ v. same_key v.key w.key) (map (λ (c : Counted). c.want) (counted_in earlier)) (map (λ (c : Counted). c.want) front)
-        ∙ ap (λ l. l ++ wants_counted front w.key) (counted-wants earlier w.key)
+-- a want of a request, between the wants before it and those behind it
+counted-among : (earlier later : List Filing) (f : Filing) (front back : List Want) (w : Want) → f.request.wants.items ≡ front ++ w ∷ back
+    → counted_in (earlier ++ f ∷ later)
+    ≡ (counted_in earlier ++ counted_of f.request.job f.granted front)
+    ++ counted f.request.job f.granted w ∷ (counted_of f.request.job f.granted back ++ counted_in later)
+counted-among earlier later f front back w is =
+    counted-append earlier (f ∷ later)
+    ∙ sym (append_assoc (counted_in earlier) (counted_by f) (counted_in later))
+    ∙ ap (λ ws. counted_in earlier ++ counted_of f.request.job f.granted ws ++ counted_in later) is
+    ∙ ap (λ l. counted_in earlier ++ l ++ counted_in later) (map-append (counted f.request.job f.granted) front (w ∷ back))
+    ∙ parted (counted_in earlier) (counted_of f.request.job f.granted front)
+    (counted f.request.job f.granted w ∷ counted_of f.request.job f.granted back) (counted_in later)
 
--- whether the want at a place of a request fits, where that is told of it between the others; with those before it
-pub fits-next : (t : Tally) (earlier later : List Filing) (job : ℕ) (granted : Bool) (ws : List Want) (i : ℕ) (w : Want) (fitting : Bool)
-    → i < length ws → w ≡ get_or ws i w
-    → ((front back : List Counted) (j : ℕ) (g : Bool) → Tallied t ((counted_in earlier ++ front) ++ counted j g w ∷ back) → fitting ≡ fits (requests_in earlier) w)
-    → Tallied t (counted_in earlier ++ counted_of job granted ws ++ counted_in later)
-    → list_all (fits (requests_in earlier)) (take i ws) ≡ true → list_all (fits (requests_in earlier)) (take (i + 1) ws) ≡ fitting
-fits-next t earlier later job granted ws i w fitting lt is told tallied before =
-    ap (list_all (fits (requests_in earlier))) (take-next ws i w lt is)
-    ∙ list_all-append (fits (requests_in earlier)) (take i ws) (w ∷ [])
-    ∙ ap (λ b. b && (fits (requests_in earlier) w && true)) before
-    ∙ ap (λ b. b && true) (sym (told front (counted_of job granted (drop (suc i) ws) ++ counted_in later) job granted here))
-    ∙ alone fitting
-  where
-    front : List Counted
-    front = counted_of job granted (take i ws)
+module _ (t : Tally) (earlier later : List Filing) (f : Filing) (among : WaitsAmong t earlier f later) where
+  -- a want fits behind the earlier requests, where it does beside all wants before it
+  pub fits-known : (front back : List Want) (w : Want)
+      → ((a b : List Counted) (j : ℕ) (g : Bool) → Tallied t (a ++ counted j g w ∷ b) → fits_beside (wants_counted a w.key) w w.pool ≡ true)
+      → f.request.wants.items ≡ front ++ w ∷ back → fits (requests_in earlier) w ≡ true
+  fits-known front back w seen is =
+      fits-front (wants_at (requests_in earlier) w.key) (wants_counted own w.key) w w.pool
+      (ap (λ l. fits_beside l w w.pool) (sym both)
+      ∙ seen (counted_in earlier ++ own) (counted_of f.request.job f.granted back ++ counted_in later) f.request.job f.granted
+      (subst (Tallied t) (counted-among earlier later f front back w is) among.tallied))
+    where
+      own : List Counted
+      own = counted_of f.request.job f.granted front
 
-    here : Tallied t ((counted_in earlier ++ front) ++ counted job granted w ∷ (counted_of job granted (drop (suc i) ws) ++ counted_in later))
-    here =
-        subst (Tallied t)
-        (ap (λ l. counted_in earlier ++ l ++ counted_in later) (counted-split job granted ws i w lt is)
-        ∙ parted (counted_in earlier) front (counted job granted w ∷ counted_of job granted (drop (suc i) ws)) (counted_in later))
-        tallied
+      both : wants_counted (counted_in earlier ++ own) w.key ≡ wants_at (requests_in earlier) w.key ++ wants_counted own w.key
+      both =
+          ap (filter (λ v. same_key v.key w.key)) (map-append (λ (c : Counted). c.want) (counted_in earlier) own)
+          ∙ filter-append (λ v. same_key v.key w.key) (map (λ (c : Counted). c.want) (counted_in earlier)) (map (λ (c : Counted). c.want) own)
+          ∙ ap (λ l. l ++ wants_counted own w.key) (counted-wants earlier w.key)
 
-    alone : (b : Bool) → (b && true) ≡ b
-    alone true = refl
-    alone false = refl
+  -- and it does not where a granted request keeps it from its grant
+  pub shut-known : (front back : List Want) (w : Want) → is_pooled w ≡ false
+      → ((a b : List Counted) (j : ℕ) → Tallied t (a ++ counted j false w ∷ b) → list_all (allows w) (a ++ counted j false w ∷ b) ≡ false)
+      → f.request.wants.items ≡ front ++ w ∷ back → fits (requests_in earlier) w ≡ false
+  shut-known front back w unpooled seen is =
+      kept_from earlier later f w among.kept among.waits
+      (subst (λ l. Has l w) (sym is) (Has-right front (w ∷ back) w (inl refl))) unpooled
+      (ap (list_all (allows w)) same ∙ seen before behind f.request.job (subst (Tallied t) same among.tallied))
+    where
+      before : List Counted
+      before = counted_in earlier ++ counted_of f.request.job f.granted front
+
+      behind : List Counted
+      behind = counted_of f.request.job f.granted back ++ counted_in later
+
+      same : counted_in (earlier ++ f ∷ later) ≡ before ++ counted f.request.job false w ∷ behind
+      same =
+          counted-among earlier later f front back w is
+          ∙ ap (λ (g : Bool). before ++ counted f.request.job g w ∷ behind) among.waits
+
+  -- where the want at a place of the request is seen not to fit, they do not all fit
+  pub shut-at : (ws : List Want) (i : ℕ) (w : Want) → i < length ws → w ≡ get_or ws i w → is_pooled w ≡ false
+      → ((a b : List Counted) (j : ℕ) → Tallied t (a ++ counted j false w ∷ b) → list_all (allows w) (a ++ counted j false w ∷ b) ≡ false)
+      → f.request.wants.items ≡ ws → list_all (fits (requests_in earlier)) ws ≡ false
+  shut-at ws i w lt is unpooled seen own =
+      ap (list_all (fits (requests_in earlier))) (apart ws i w lt is)
+      ∙ list_all-append (fits (requests_in earlier)) (take i ws) (w ∷ drop (suc i) ws)
+      ∙ ap (λ b. list_all (fits (requests_in earlier)) (take i ws) && (b && list_all (fits (requests_in earlier)) (drop (suc i) ws)))
+      (shut-known (take i ws) (drop (suc i) ws) w unpooled seen (own ∙ apart ws i w lt is))
+      ∙ never (list_all (fits (requests_in earlier)) (take i ws))
+    where
+      never : (b : Bool) → (b && false) ≡ false
+      never true = refl
+      never false = refl
+
+  -- whether the want at a place of the request fits, where that is told of it; with those before it
+  pub fits-next : (ws : List Want) (i : ℕ) (w : Want) (fitting : Bool) → i < length ws → w ≡ get_or ws i w
+      → ((front back : List Want) → f.request.wants.items ≡ front ++ w ∷ back → fitting ≡ fits (requests_in earlier) w)
+      → f.request.wants.items ≡ ws → list_all (fits (requests_in earlier)) (take i ws) ≡ true
+      → list_all (fits (requests_in earlier)) (take (i + 1) ws) ≡ fitting
+  fits-next ws i w fitting lt is told own before =
+      ap (list_all (fits (requests_in earlier))) (take-next ws i w lt is)
+      ∙ list_all-append (fits (requests_in earlier)) (take i ws) (w ∷ [])
+      ∙ ap (λ b. b && (fits (requests_in earlier) w && true)) before
+      ∙ ap (λ b. b && true) (sym (told (take i ws) (drop (suc i) ws) (own ∙ apart ws i w lt is)))
+      ∙ alone fitting
+    where
+      alone : (b : Bool) → (b && true) ≡ b
+      alone true = refl
+      alone false = refl
 
 -- where the first of some wants do not all fit, they do not
 pub fits-not : (test : Want → Bool) (ws : List Want) (k : ℕ) → list_all test (take k ws) ≡ false → list_all test ws ≡ false
 fits-not test ws k h =
     ap (list_all test) (sym (take-append-drop k ws)) ∙ list_all-append test (take k ws) (drop k ws) ∙ ap (λ b. b && list_all test (drop k ws)) h
 
--- a request at a place, beside the others
-pub tallied-at : (t : Tally) (fs : List Filing) (i : ℕ) (f : Filing) → i < length fs → f ≡ get_or fs i f → Tallied t (counted_in fs)
-    → Tallied t (counted_in (take i fs) ++ counted_by f ++ counted_in (drop (suc i) fs))
-tallied-at t fs i f lt at tallied =
-    subst (Tallied t)
-    (counted-around fs i f lt
-    ∙ ap (λ (x : Filing). counted_in (take i fs) ++ counted_by x ++ counted_in (drop (suc i) fs)) (sym at))
-    tallied
+-- a request at a place that waits, between the others
+pub waits-at : (t : Tally) (fs : List Filing) (i : ℕ) (f : Filing) → i < length fs → f ≡ get_or fs i f → f.granted ≡ false
+    → Tallied t (counted_in fs) → AreKept [] fs → WaitsAmong t (take i fs) f (drop (suc i) fs)
+waits-at t fs i f lt at off tallied kept = record {
+  waits = off;
+  tallied = subst (λ l. Tallied t (counted_in l)) (apart fs i f lt at) tallied;
+  kept = subst (AreKept []) (apart fs i f lt at) kept;
+}
 
 pub take-whole : {X : Type 0} (xs : List X) (i : ℕ) → length xs ≤ i → take i xs ≡ xs
 take-whole [] zero le = refl

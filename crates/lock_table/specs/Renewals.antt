@@ -1,12 +1,13 @@
 -- How grants are renewed when requests have left or changed.
 use Rattle.std.specs.Prelude.{◌≡◌, ⊤, Bool, true, false, not, ◌&&◌, if◌then◌else◌, List, [], ◌∷◌, ◌++◌}
+use Rattle.key_tally.specs.declared.tally.Tally.{Tally}
+use Rattle.key_tally.specs.Tallies.{Tallied}
 use Rattle.lock_queue.specs.declared.grant.Grant.{Grant}
 use Rattle.lock_queue.specs.declared.request.Request.{Request}
-use Rattle.lock_queue.specs.declared.want.Want.{Want}
-use Rattle.lock_queue.specs.Keys.{same_key}
 use Rattle.lock_queue.specs.Grants.{is_told_of, grant_of}
-use Rattle.lock_queue.specs.Queue.{is_pooled, agree, granted_behind}
+use Rattle.lock_queue.specs.Queue.{granted_behind}
 use Rattle.lock_table.specs.declared.signature.Signature.{Signature}
+use Rattle.lock_table.specs.Countings.{counted_in}
 use Rattle.lock_table.specs.Filings.{Filing, filing}
 use Rattle.lock_table.specs.Signatures.{meets, signature_of}
 
@@ -54,8 +55,14 @@ raised earlier (f ∷ later) =
     then grant_of f.request ∷ raised (earlier ++ f.request ∷ []) later
     else raised (earlier ++ f.request ∷ []) later
 
--- whether the first of a request's wants does not fit behind the first of an earlier request's
-abbrev pub shuts : List Want → List Want → Bool
-shuts [] later = false
-shuts (v ∷ vs) [] = false
-shuts (v ∷ vs) (w ∷ ws) = (not (is_pooled w) && not (agree v w)) && same_key v.key w.key
+-- each request that is granted is granted behind the requests before it
+abbrev pub AreKept : List Request → List Filing → Type 0
+AreKept earlier [] = ⊤
+AreKept earlier (f ∷ later) =
+    (f.granted ≡ true → granted_behind earlier f.request ≡ true) × AreKept (earlier ++ f.request ∷ []) later
+
+-- a request that is not granted, between the earlier and the later ones, whose wants are those of a tally
+pub record WaitsAmong (t : Tally) (earlier : List Filing) (f : Filing) (later : List Filing) : Type 0 where
+  pub waits : f.granted ≡ false
+  pub tallied : Tallied t (counted_in (earlier ++ f ∷ later))
+  pub kept : AreKept [] (earlier ++ f ∷ later)

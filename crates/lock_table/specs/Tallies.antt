@@ -1,5 +1,5 @@
 -- How many wants of the requests that are not granted have a key of a hash, and what of some wants is waited for.
-use Rattle.std.specs.Prelude.{◌≡◌, ℕ, ◌+◌, ◌==◌, true, false, if◌then◌else◌, List, [], ◌∷◌}
+use Rattle.std.specs.Prelude.{◌≡◌, ℕ, ◌+◌, ◌==◌, ◌&&◌, Bool, true, false, if◌then◌else◌, List, [], ◌∷◌}
 use Rattle.std.specs.List.{list_any}
 use Rattle.lock_queue.specs.declared.key.Key.{Key}
 use Rattle.lock_queue.specs.Queue.{names}
@@ -29,3 +29,8 @@ abbrev pub MarksAt : Signature → List ℕ → List Filing → Type 0
 MarksAt bits hashes filings =
     (key : Key) → list_any (λ h. h == hash_of key) hashes ≡ true → (waiting_count (hash_of key) filings == 0) ≡ false
     → mark_at bits key ≡ 1
+
+-- whether the job has a want of a hash
+abbrev pub has_of_hash : ℕ → ℕ → List Filing → Bool
+has_of_hash job hash filings =
+    list_any (λ f. f.request.job == job && list_any (λ w. hash_of w.key == hash) f.request.wants.items) filings

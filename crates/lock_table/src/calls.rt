@@ -67,6 +67,7 @@ fn arrive(
 }
 
 /// Takes in a request, unless it is refused.
+#[inline(never)]
 fn enqueue(shelf: &mut Shelf, job: u8, asking: &Asking, wants: &Wants) -> LockReply
     requires job { (1 ≤ job) × (job ≤ JOBS) }
     requires some { IsTrue (nat_le 1 (length wants.now.items)) }
@@ -87,6 +88,7 @@ fn enqueue(shelf: &mut Shelf, job: u8, asking: &Asking, wants: &Wants) -> LockRe
 }
 
 /// Makes wants of the job shared or exclusive where they stand, unless a grant would be lost by it.
+#[inline(never)]
 fn modify(shelf: &mut Shelf, job: u8, changes: &Wants, woken: &mut Woken) -> LockReply
     requires { AreRight [] shelf.old }
     ensures requests { requests_in shelf.new ≡
@@ -110,6 +112,7 @@ fn modify(shelf: &mut Shelf, job: u8, changes: &Wants, woken: &mut Woken) -> Loc
     LockReply::Done
 }
 
+#[inline(never)]
 fn dequeue_named(shelf: &mut Shelf, job: u8, named: &Wants, woken: &mut Woken) -> LockReply
     requires right { AreRight [] shelf.old }
     requires well { IsTrue (are_well_formed (requests_in shelf.old)) }
@@ -126,7 +129,7 @@ fn dequeue_named(shelf: &mut Shelf, job: u8, named: &Wants, woken: &mut Woken) -
         forget(woken);
         return LockReply::Refused(refusal);
     }
-    depart_named(shelf, first, job, locks, woken);
+    depart_named(shelf, first, job, named, woken);
     LockReply::Done
 }
 

@@ -1,13 +1,15 @@
 //! Requests that leave, or lose wants.
-ghost use Rattle.std.specs.Prelude.{◌≡◌, ◌≤◌, ◌<◌, ◌+◌, if◌then◌else◌, [], ◌∷◌, ◌++◌, map, filter, length, get_or, take, drop, true, IsTrue};
+ghost use Rattle.std.specs.Prelude.{◌≡◌, ◌≤◌, ◌<◌, ◌+◌, if◌then◌else◌, [], ◌∷◌, ◌++◌, map, filter, length, get_or, take, drop, true, false, IsTrue};
 ghost use Rattle.std.specs.List.{list_any, list_all};
 ghost use Rattle.word36.specs.declared.sizes.TheConstants.{REQUESTS};
+ghost use Rattle.key_tally.specs.Hashes.{hashes_of};
 ghost use Rattle.lock_queue.specs.Queue.{names};
 ghost use Rattle.lock_queue.specs.WellFormed.{are_well_formed};
 ghost use Rattle.lock_table.specs.Departures.{leaves, stays, Covers, CoversAll, loses, fewer, with_fewer, keeps_wants, waits_with_fewer};
 ghost use Rattle.lock_table.specs.Filings.{Filing, requests_in, AreRight};
-ghost use Rattle.lock_table.specs.Renewals.{raised};
+ghost use Rattle.lock_table.specs.Renewals.{raised, AreOutdated};
 ghost use Rattle.lock_table.specs.Signatures.{no_bits, signature_of};
+ghost use Rattle.lock_table.specs.Tallies.{has_of_hash};
 ghost use Rattle.lock_table.specs.Walks.{from_where};
 
 use crate::filed::Filed;
@@ -15,8 +17,9 @@ use crate::renewal::renew;
 use crate::shelf::Shelf;
 use crate::signature::Signature;
 use crate::walks::from_own;
+use key_tally::hashes_of;
 use lock_queue::steps::names_key;
-use lock_queue::{EnqueueKind, RequestId, Want, Woken};
+use lock_queue::{EnqueueKind, RequestId, Want, Wants, Woken};
 
 /// Which requests of a job leave.
 #[derive(Clone, Copy, Debug, PartialEq, Eq)]
@@ -182,13 +185,26 @@ fn give_up_at(shelf: &mut Shelf, i: usize, job: u8, named: &[Want]) -> Signature
     bits
 }
 
-/// Takes the named wants out of the job's requests, from the first on that has one, and the requests that
-/// are left without wants; answers the groups of those that keep wants and are not granted, and so may be
-/// granted now.
-fn give_up(shelf: &mut Shelf, first: usize, job: u8, named: &[Want]) -> Signature
+/// Whether the job has no want of these hashes for certain.
+fn lacks_all(shelf: &Shelf, job: u8, hashes: &[u16]) -> bool
+    ensures { IsTrue result → list_any (λ h. has_of_hash job h shelf.now) hashes.now ≡ false }
+{
+    for hash in hashes {
+        if !shelf.lacks_of(job, *hash) {
+            return false;
+        }
+    }
+    true
+}
+
+/// Takes the named wants, whose keys have these hashes, out of the job's requests, from the first on that
+/// has one, and the requests that are left without wants; answers the groups of those that keep wants
+/// and are not granted, and so may be granted now.
+fn give_up(shelf: &mut Shelf, first: usize, job: u8, named: &[Want], hashes: &[u16]) -> Signature
     requires place { first ≤ length shelf.old }
     requires first { drop first shelf.old ≡ from_where (loses job named.now) shelf.old }
     requires kept { IsTrue (list_all keeps_wants shelf.old) }
+    requires hashes { hashes.now ≡ hashes_of named.now }
     ensures value { shelf.new ≡ filter keeps_wants (map (with_fewer job named.now) shelf.old) }
     ensures bits { CoversAll result (waits_with_fewer job named.now) shelf.old }
 {
@@ -196,27 +212,94 @@ fn give_up(shelf: &mut Shelf, first: usize, job: u8, named: &[Want]) -> Signatur
     let mut i = first;
     while i < shelf.as_slice().len() {
         bits = bits.joined(give_up_at(shelf, i, job, named));
+        if lacks_all(shelf, job, hashes) {
+            return bits;
+        }
         i = next_losing(shelf.as_slice(), i, job, named);
     }
     bits
 }
 
+/// Takes the named wants out of one request after the other, and answers the groups and classes of the
+/// requests that may be granted then: of those that wait for one of the keys, and of those that lost
+/// wants.
+fn give_up_each(shelf: &mut Shelf, first: usize, job: u8, named: &Wants) -> Signature
+    requires place { first ≤ length shelf.old }
+    requires first { drop first shelf.old ≡ from_where (loses job named.now.items) shelf.old }
+    requires kept { IsTrue (list_all keeps_wants shelf.old) }
+    requires right { AreRight [] shelf.old }
+    ensures value { shelf.new ≡ filter keeps_wants (map (with_fewer job named.now.items) shelf.old) }
+    ensures bits { AreOutdated result [] shelf.new }
+{
+    let hashes = hashes_of(named);
+    let awaited = shelf.awaited_at(hashes.as_slice());
+    awaited.joined(give_up(shelf, first, job, named.as_slice(), hashes.as_slice()))
+}
+
+/// Whether one lock is named, and the request at a place has one want.
+fn is_sole(filed: &[Filed], place: usize, named: &[Want]) -> bool
+    ensures named { IsTrue result → length named.now ≡ 1 }
+    ensures there { IsTrue result → place < length filed.now }
+    ensures wants { IsTrue result → (d : Filing) → length (get_or filed.now place d).request.wants.items ≡ 1 }
+{
+    named.len() == 1 && place < filed.len() && filed[place].wants().len() == 1
+}
+
+/// Does as `give_up_each` where one lock is named, and the first request that has it, at this place, wants
+/// no other. That request is taken out; mostly the job has no other want of its hash, so no other
+/// request is looked at.
+fn give_up_sole(shelf: &mut Shelf, place: usize, job: u8, named: &Wants) -> Signature
+    requires there { place < length shelf.old }
+    requires first { drop place shelf.old ≡ from_where (loses job named.now.items) shelf.old }
+    requires kept { IsTrue (list_all keeps_wants shelf.old) }
+    requires named { length named.now.items ≡ 1 }
+    requires wants { (d : Filing) → length (get_or shelf.old place d).request.wants.items ≡ 1 }
+    requires right { AreRight [] shelf.old }
+    ensures value { shelf.new ≡ filter keeps_wants (map (with_fewer job named.now.items) shelf.old) }
+    ensures bits { AreOutdated result [] shelf.new }
+{
+    let hash = shelf.as_slice()[place].hashes()[0];
+    let awaited = shelf.remove(place);
+    if shelf.lacks_of(job, hash) {
+        return awaited;
+    }
+    let locks = named.as_slice();
+    let next = next_losing(shelf.as_slice(), place, job, locks);
+    awaited.joined(give_up(shelf, next, job, locks, &[hash]))
+}
+
+/// Takes the named wants out, in whichever of the two ways serves, and answers the groups and classes of
+/// the requests that may be granted then.
+fn give_up_named(shelf: &mut Shelf, first: usize, job: u8, named: &Wants) -> Signature
+    requires place { first ≤ length shelf.old }
+    requires first { drop first shelf.old ≡ from_where (loses job named.now.items) shelf.old }
+    requires right { AreRight [] shelf.old }
+    requires well { IsTrue (are_well_formed (requests_in shelf.old)) }
+    ensures value { shelf.new ≡ filter keeps_wants (map (with_fewer job named.now.items) shelf.old) }
+    ensures bits { AreOutdated result [] shelf.new }
+{
+    if is_sole(shelf.as_slice(), first, named.as_slice()) {
+        give_up_sole(shelf, first, job, named)
+    } else {
+        give_up_each(shelf, first, job, named)
+    }
+}
+
 /// Takes the named wants out of the job's requests, from the first on that has one, and the requests that
 /// are left without wants, and fills in the grants that this makes: of requests that wait for one of these
 /// keys, and of those that lost wants.
-pub fn depart_named(shelf: &mut Shelf, first: usize, job: u8, named: &[Want], woken: &mut Woken)
+pub fn depart_named(shelf: &mut Shelf, first: usize, job: u8, named: &Wants, woken: &mut Woken)
     requires place { first ≤ length shelf.old }
-    requires first { drop first shelf.old ≡ from_where (loses job named.now) shelf.old }
+    requires first { drop first shelf.old ≡ from_where (loses job named.now.items) shelf.old }
     requires right { AreRight [] shelf.old }
     requires well { IsTrue (are_well_formed (requests_in shelf.old)) }
     ensures requests { requests_in shelf.new ≡
-        requests_in (filter keeps_wants (map (with_fewer job named.now) shelf.old)) }
+        requests_in (filter keeps_wants (map (with_fewer job named.now.items) shelf.old)) }
     ensures right { AreRight [] shelf.new }
     ensures few { length (requests_in shelf.new) ≤ REQUESTS }
     ensures woken { woken.new.items ≡
-        raised [] (filter keeps_wants (map (with_fewer job named.now) shelf.old)) }
+        raised [] (filter keeps_wants (map (with_fewer job named.now.items) shelf.old)) }
 {
-    let awaited = shelf.awaited(named);
-    let bits = awaited.joined(give_up(shelf, first, job, named));
+    let bits = give_up_named(shelf, first, job, named);
     renew(shelf, bits, woken);
 }

@@ -1,10 +1,10 @@
 //! Why wants are not given up.
-ghost use Rattle.std.specs.Prelude.{◌≡◌, ◌≤◌, [], false, length, take};
-ghost use Rattle.std.specs.List.{list_any};
+ghost use Rattle.std.specs.Prelude.{◌≡◌, ◌≤◌, [], drop, length};
 ghost use Rattle.lock_queue.specs.Dequeues.{dequeue_fault};
 ghost use Rattle.lock_queue.specs.Outcomes.{first_refusal};
 ghost use Rattle.lock_table.specs.Departures.{loses};
 ghost use Rattle.lock_table.specs.Filings.{requests_in};
+ghost use Rattle.lock_table.specs.Walks.{from_where};
 
 use crate::filed::Filed;
 use crate::fits::job_has_key;
@@ -36,12 +36,19 @@ fn refusal_among(filed: &[Filed], job: u8, named: &[Want]) -> Option<Refusal>
     None
 }
 
-/// Why the named wants are not given up, if they are not. No request of the job before a place has one, so
-/// those are not looked at.
+/// Why the named wants are not given up, if they are not. The place is that of the first request of the job
+/// that has one of them, or the number of requests: whether there is one answers it for one lock, and
+/// for more those before it are not looked at.
 pub fn refusal_of_dequeue(filed: &[Filed], first: usize, job: u8, named: &[Want]) -> Option<Refusal>
     requires place { first ≤ length filed.now }
-    requires none { list_any (loses job named.now) (take first filed.now) ≡ false }
+    requires first { drop first filed.now ≡ from_where (loses job named.now) filed.now }
     ensures { result ≡ first_refusal (dequeue_fault (requests_in filed.now) job) [] named.now }
 {
-    refusal_among(&filed[first..], job, named)
+    if named.len() != 1 {
+        refusal_among(&filed[first..], job, named)
+    } else if first < filed.len() {
+        None
+    } else {
+        Some(Refusal::NotPresent)
+    }
 }

@@ -1,5 +1,5 @@
 //! A request with what is kept beside it.
-ghost use Rattle.std.specs.Prelude.{◌≡◌, ◌≤◌, ◌^◌, ◌%◌, true, false, length, map, IsTrue};
+ghost use Rattle.std.specs.Prelude.{◌≡◌, ◌≤◌, true, false, length, map, IsTrue};
 ghost use Rattle.std.specs.List.{list_all};
 ghost use Rattle.word36.specs.declared.sizes.TheConstants.{LOCKS_A_CALL};
 ghost use Rattle.key_tally.specs.Hashes.{hashes_of};
@@ -16,7 +16,7 @@ ghost use Rattle.lock_table.specs.Walks.{owned, touched};
 
 use crate::sharing::change_wants;
 use crate::signature::{Signature, signature_at};
-use key_tally::{Hashes, hashes_of};
+use key_tally::{Hashes, bit_of_job, hashes_of};
 use lock_queue::steps::{remove_keys, write_request};
 use lock_queue::{Asking, EnqueueKind, Request, Want, Wants};
 use std::alloc::{AllocError, Global};
@@ -57,13 +57,6 @@ impl Model for Filed {
         × (f.own_bit ≡ job_bit (filing f.entry.value.request f.granted)) × (f.job ≡ f.entry.value.request.job)
         × (f.blocking ≡ is_blocking f.entry.value.request.kind)
         × (f.entry.value.hashes.items ≡ hashes_of f.entry.value.request.wants.items) };
-}
-
-/// The bit of a job's number modulo 32.
-pub fn bit_of_job(job: u8) -> u32
-    ensures { result ≡ 2 ^ (job % 32) }
-{
-    1 << (job % 32)
 }
 
 impl Filed {

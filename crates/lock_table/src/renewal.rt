@@ -1,16 +1,14 @@
 //! Grants that are made when requests have left or changed.
-ghost use Rattle.std.specs.Prelude.{◌≡◌, ◌≤◌, ◌<◌, ◌++◌, [], ◌∷◌, false, length, get_or, set, take, IsTrue};
+ghost use Rattle.std.specs.Prelude.{◌≡◌, ◌≤◌, ◌<◌, ◌++◌, [], ◌∷◌, false, length, get_or, set, take};
 ghost use Rattle.word36.specs.declared.sizes.TheConstants.{REQUESTS};
-ghost use Rattle.lock_queue.specs.Queue.{granted_behind};
 ghost use Rattle.lock_table.specs.Filings.{Filing, requests_in};
-ghost use Rattle.lock_table.specs.Renewals.{renewed, risen, raised, as_raised, shuts};
+ghost use Rattle.lock_table.specs.Renewals.{renewed, risen, raised, as_raised, AreKept};
 
-use crate::filed::Filed;
 use crate::shelf::Shelf;
 use crate::signature::Signature;
 use crate::walks::next_waiting;
 use lock_queue::Woken;
-use lock_queue::steps::{do_agree, grant_of, is_pooled, is_told_of};
+use lock_queue::steps::{grant_of, is_told_of};
 
 /// Takes all grants out, one by one: mostly there are none or one, and the room for all others need not
 /// be written.
@@ -20,51 +18,19 @@ pub fn forget(woken: &mut Woken)
     while woken.pop().is_some() {}
 }
 
-/// Whether the first want of a request does not fit behind the first of an earlier one.
-fn does_shut(g: &Filed, f: &Filed) -> bool
-    ensures { result ≡ shuts g.now.request.wants.items f.now.request.wants.items }
-{
-    match (g.wants(), f.wants()) {
-        ([v, ..], [w, ..]) => !is_pooled(w) && !do_agree(v, w) && v.key.is_same(&w.key),
-        _ => false,
-    }
-}
-
-/// Whether the request at a place is seen to keep a later one from its grant.
-#[tactic(auto, using(crate::proofs::RenewalLaws::kept_waiting))]
-fn does_keep(earlier: &[Filed], place: usize, f: &Filed) -> bool
-    ensures { IsTrue result → granted_behind (requests_in earlier.now) f.now.request ≡ false }
-{
-    place < earlier.len() && does_shut(&earlier[place], f)
-}
-
-/// Whether the request at a place is granted now. Most that wait do so for the key of the last that was
-/// looked at, so they are held beside that one first.
-fn does_rise(shelf: &Shelf, i: usize, last: &mut usize) -> bool
-    requires { i < length shelf.now }
-    ensures { (d : Filing) → result ≡
-        granted_behind (requests_in (take i shelf.now)) (get_or shelf.now i d).request }
-{
-    let all = shelf.as_slice();
-    if does_keep(&all[..i], *last, &all[i]) {
-        return false;
-    }
-    *last = i;
-    shelf.would_grant(i)
-}
-
 /// Grants the request at a place, which waited until now, where it is granted now, and takes the grant
 /// in where its job is told.
-fn renew_at(shelf: &mut Shelf, i: usize, last: &mut usize, woken: &mut Woken)
+fn renew_at(shelf: &mut Shelf, i: usize, woken: &mut Woken)
     requires there { i < length shelf.old }
     requires waits { (d : Filing) → (get_or shelf.old i d).granted ≡ false }
+    requires kept { AreKept [] shelf.old }
     requires room { length woken.old.items < REQUESTS }
     ensures value { (d : Filing) → shelf.new ≡
         set shelf.old i (as_raised (requests_in (take i shelf.old)) (get_or shelf.old i d)) }
     ensures woken { (d : Filing) → woken.new.items ≡
         woken.old.items ++ raised (requests_in (take i shelf.old)) (get_or shelf.old i d ∷ []) }
 {
-    if !does_rise(shelf, i, last) {
+    if !shelf.would_grant(i) {
         return;
     }
     let r = shelf.as_slice()[i].request();
@@ -78,6 +44,7 @@ fn renew_at(shelf: &mut Shelf, i: usize, last: &mut usize, woken: &mut Woken)
 /// then no request is looked at.
 #[tactic(auto, using(crate::proofs::RenewalLaws::renewed_none, crate::proofs::RenewalLaws::risen_none))]
 pub fn renew(shelf: &mut Shelf, bits: Signature, woken: &mut Woken)
+    requires { AreKept [] shelf.old }
     ensures value { shelf.new ≡ renewed bits [] shelf.old }
     ensures few { length shelf.new ≤ REQUESTS }
     ensures woken { woken.new.items ≡ risen bits [] shelf.old }
@@ -87,10 +54,9 @@ pub fn renew(shelf: &mut Shelf, bits: Signature, woken: &mut Woken)
     if bits.is_none() {
         return;
     }
-    let mut last = 0;
     let mut i = next_waiting(shelf.as_slice(), 0, bits);
     while i < count {
-        renew_at(shelf, i, &mut last, woken);
+        renew_at(shelf, i, woken);
         i = next_waiting(shelf.as_slice(), i + 1, bits);
     }
 }

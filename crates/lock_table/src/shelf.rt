@@ -1,9 +1,9 @@
 //! The requests that are present, in order of arrival, and the room for others.
-ghost use Rattle.std.specs.Prelude.{◌≡◌, ℕ, List, Bool, true, false, ◌==◌, ◌+◌, ◌<◌, ◌≤◌, [], ◌∷◌, ◌++◌, length, get_or, set, map, take, drop, remove, IfOk, IfSome, IsTrue, vec_capacity};
+ghost use Rattle.std.specs.Prelude.{◌≡◌, ℕ, List, true, false, ◌==◌, ◌+◌, ◌<◌, ◌≤◌, [], ◌∷◌, ◌++◌, length, get_or, set, map, take, drop, remove, IfOk, IfSome, IsTrue, vec_capacity};
 ghost use Rattle.std.specs.List.{list_all, list_any};
 ghost use Rattle.word36.specs.declared.sizes.TheConstants.{LOCKS_A_CALL, REQUESTS};
 ghost use Rattle.key_tally.specs.Hashes.{hash_of, hashes_of};
-ghost use Rattle.key_tally.specs.Tallies.{Counted, Tallied, counted, counted_of};
+ghost use Rattle.key_tally.specs.Tallies.{Tallied};
 ghost use Rattle.lock_queue.specs.declared.key.Key.{Key};
 ghost use Rattle.lock_queue.specs.Enqueues.{enqueue_fault, request_of};
 ghost use Rattle.lock_queue.specs.Queue.{fits, granted_behind, wants_at};
@@ -13,9 +13,9 @@ ghost use Rattle.lock_table.specs.Countings.{counted_in};
 ghost use Rattle.lock_table.specs.Departures.{fewer, with_change};
 ghost use Rattle.lock_table.specs.Filings.{Filing, filing, requests_in, AreRight};
 ghost use Rattle.lock_table.specs.Findings.{blocks, told_in};
-ghost use Rattle.lock_table.specs.Renewals.{with_grant};
+ghost use Rattle.lock_table.specs.Renewals.{with_grant, AreKept, WaitsAmong};
 ghost use Rattle.lock_table.specs.Signatures.{mark_at};
-ghost use Rattle.lock_table.specs.Tallies.{waiting_count, Marks, MarksAt};
+ghost use Rattle.lock_table.specs.Tallies.{has_of_hash, waiting_count, Marks, MarksAt};
 
 use crate::filed::Filed;
 use crate::fits::is_fitting;
@@ -87,7 +87,7 @@ fn bits_awaited(tally: &Tally, hash: u16) -> Signature
     ensures { (filings : List Filing) (key : Key) → Tallied tally.now (counted_in filings) → hash ≡ hash_of key
         → (waiting_count hash filings == 0) ≡ false → mark_at result key ≡ 1 }
 {
-    if hash >= 4096 || tally.is_awaited(hash) {
+    if tally.is_awaited(hash) {
         bits_at(hash)
     } else {
         Signature::none()
@@ -116,24 +116,42 @@ fn awaited_of(tally: &Tally, wants: &[Want]) -> Signature
     bits
 }
 
-/// Whether a want of a request, whose key has this hash, fits behind the earlier requests.
+/// Whether one of the wants of a request that waits, whose keys have these hashes, is seen not to fit
+/// behind the earlier requests: the tally tells it of most that do not.
+fn is_some_kept(tally: &Tally, wants: &[Want], hashes: &[u16]) -> bool
+    requires hashes { hashes.now ≡ hashes_of wants.now }
+    ensures { IsTrue result → (earlier : List Filing) (f : Filing) (later : List Filing)
+        → WaitsAmong tally.now earlier f later
+        → f.request.wants.items ≡ wants.now → list_all (fits (requests_in earlier)) wants.now ≡ false }
+{
+    for (i, w) in wants.iter().enumerate() {
+        if tally.keeps(w, hashes[i]) {
+            return true;
+        }
+    }
+    false
+}
+
+/// Whether a want of a request that waits, whose key has this hash, fits behind the earlier requests. The
+/// tally tells it of most that do.
 fn fits_behind(tally: &Tally, earlier: &[Filed], w: &Want, hash: u16) -> bool
     requires { hash ≡ hash_of w.now.key }
-    ensures { (front back : List Counted) (job : ℕ) (granted : Bool)
-        → Tallied tally.now ((counted_in earlier.now ++ front) ++ counted job granted w.now ∷ back)
-        → result ≡ fits (requests_in earlier.now) w.now }
+    ensures { (f : Filing) (later : List Filing) (front back : List Want) → WaitsAmong tally.now earlier.now f later
+        → f.request.wants.items ≡ front ++ w.now ∷ back → result ≡ fits (requests_in earlier.now) w.now }
 {
     tally.fits_all(w, hash) || is_fitting(earlier, w)
 }
 
-/// Whether all wants of a request, whose keys have these hashes, fit behind the earlier requests. The
-/// tally tells it of most that do.
+/// Whether all wants of a request that waits, whose keys have these hashes, fit behind the earlier
+/// requests.
 fn do_fit_behind(tally: &Tally, earlier: &[Filed], wants: &[Want], hashes: &[u16]) -> bool
     requires hashes { hashes.now ≡ hashes_of wants.now }
-    ensures { (later : List Filing) (job : ℕ) (granted : Bool)
-        → Tallied tally.now (counted_in earlier.now ++ counted_of job granted wants.now ++ counted_in later)
-        → result ≡ list_all (fits (requests_in earlier.now)) wants.now }
+    ensures { (f : Filing) (later : List Filing) → WaitsAmong tally.now earlier.now f later
+        → f.request.wants.items ≡ wants.now → result ≡ list_all (fits (requests_in earlier.now)) wants.now }
 {
+    if is_some_kept(tally, wants, hashes) {
+        return false;
+    }
     for (i, w) in wants.iter().enumerate() {
         if !fits_behind(tally, earlier, w, hashes[i]) {
             return false;
@@ -222,15 +240,12 @@ impl Shelf {
         ensures few { length self.new ≤ REQUESTS }
         ensures bits { (d : Filing) → Marks result (get_or self.old i d).request.wants.items self.old }
     {
+        let f = &self.present[i];
+        let bits = awaited_at(&self.tally, f.hashes());
+        self.tally
+            .remove(f.job(), f.is_granted(), f.wants(), f.hashes());
+        self.waiters.remove(f);
         let filed = self.present.remove(i);
-        let bits = awaited_at(&self.tally, filed.hashes());
-        self.tally.remove(
-            filed.job(),
-            filed.is_granted(),
-            filed.wants(),
-            filed.hashes(),
-        );
-        self.waiters.remove(&filed);
         let _ = self.spare.push(filed);
         bits
     }
@@ -252,7 +267,7 @@ impl Shelf {
         ensures few { length self.new ≤ REQUESTS }
     {
         let filed = &mut self.present[i];
-        self.tally.grant(filed.hashes());
+        self.tally.grant(filed.wants(), filed.hashes());
         self.waiters.remove(filed);
         filed.grant();
     }
@@ -356,9 +371,11 @@ impl Shelf {
         self.tally.lacks(key, hash)
     }
 
-    /// Whether the request at a place is granted now.
+    /// Whether the request at a place, which waited until now, is granted now.
     pub fn would_grant(&self, i: usize) -> bool
-        requires { i < length self.now }
+        requires there { i < length self.now }
+        requires waits { (d : Filing) → (get_or self.now i d).granted ≡ false }
+        requires kept { AreKept [] self.now }
         ensures { (d : Filing) → result ≡ granted_behind (requests_in (take i self.now)) (get_or self.now i d).request }
     {
         let f = &self.present[i];
@@ -372,5 +389,20 @@ impl Shelf {
         ensures { Marks result wants.now self.now }
     {
         awaited_of(&self.tally, wants)
+    }
+
+    /// The same of the wants whose keys have these hashes.
+    pub fn awaited_at(&self, hashes: &[u16]) -> Signature
+        ensures { MarksAt result hashes.now self.now }
+    {
+        awaited_at(&self.tally, hashes)
+    }
+
+    /// Whether a job has no want of this hash for certain.
+    #[inline]
+    pub fn lacks_of(&self, job: u8, hash: u16) -> bool
+        ensures { IsTrue result → has_of_hash job hash self.now ≡ false }
+    {
+        self.tally.lacks_of(job, hash)
     }
 }

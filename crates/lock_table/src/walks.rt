@@ -2,8 +2,9 @@
 ghost use Rattle.std.specs.Prelude.{◌≡◌, ◌<◌, ◌≤◌, drop, length, bit_or, IsTrue};
 ghost use Rattle.lock_table.specs.Walks.{touched, from_touched, from_met, waits_met, from_where, owned, from_own};
 
-use crate::filed::{Filed, bit_of_job};
+use crate::filed::Filed;
 use crate::signature::Signature;
+use key_tally::bit_of_job;
 
 /// The groups that four requests touch.
 #[inline(always)]

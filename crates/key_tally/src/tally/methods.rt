@@ -1,27 +1,25 @@
 //! What a tally counts and tells.
-ghost use Rattle.std.specs.Prelude.{◌≡◌, ◌∷◌, ◌*◌, ◌+◌, ◌≤◌, ◌<◌, ◌==◌, ◌++◌, [], ℕ, List, Bool, true, false, get_or, length, not, IfOk, IfSome, IsTrue};
-ghost use Rattle.std.specs.List.{list_all};
+ghost use Rattle.std.specs.Prelude.{◌≡◌, ◌∷◌, ◌*◌, ◌+◌, ◌≤◌, ◌<◌, ◌==◌, ◌++◌, [], ℕ, List, Bool, true, false, get_or, length, not, IfOk, IfSome, IsTrue, ◌&&◌};
+ghost use Rattle.std.specs.List.{list_all, list_any};
 ghost use Rattle.word36.specs.declared.sizes.TheConstants.{LOCKS_A_CALL, REQUESTS};
-ghost use Rattle.lock_queue.specs.declared.want.Want.{Want};
-ghost use Rattle.lock_queue.specs.Queue.{fits_beside};
+ghost use Rattle.lock_queue.specs.Queue.{fits_beside, is_pooled};
 ghost use Rattle.lock_queue.specs.WellFormed.{is_in_range};
+ghost use Rattle.key_tally.specs.declared.hash.TheConstants.{HASHES};
 ghost use Rattle.key_tally.specs.Hashes.{hash_of, hashes_of};
-ghost use Rattle.key_tally.specs.Tallies.{Counted, EntryOf, Tallied, beside, counted, counted_of, waiting_counted, wants_counted};
+ghost use Rattle.key_tally.specs.Tallies.{Counted, EntryOf, Tallied, allows, beside, counted, counted_of, has_hash, waiting_counted, wants_counted};
 
 use super::Tally;
 use crate::entry::Entry;
+use crate::hash::HASHES;
 use lock_queue::{Key, Refusal, Scope, Want};
 use std::alloc::{AllocError, Global};
-
-/// How many hashes there are.
-const HASHES: usize = 4096;
 
 /// The place of a key's entry, which is its hash.
 #[inline(always)]
 fn place_of(key: &Key, hash: u16) -> usize
     requires { hash ≡ hash_of key.now }
     ensures value { result ≡ hash }
-    ensures below { result < 4096 }
+    ensures below { result < HASHES }
 {
     // Nothing is done with the job: it is read so that it is known to be a byte.
     let _job = match key.scope {
@@ -33,8 +31,8 @@ fn place_of(key: &Key, hash: u16) -> usize
 
 /// As many entries of no wants as there are hashes.
 fn unused(alloc: Global) -> Result<Vec<Entry>, AllocError>
-    ensures long { IfOk result (λ v. length v.items ≡ 4096) }
-    ensures none { IfOk result (λ v. (hash : ℕ) (unused : Entry) → hash < 4096 → EntryOf (get_or v.items hash unused) []) }
+    ensures long { IfOk result (λ v. length v.items ≡ HASHES) }
+    ensures none { IfOk result (λ v. (hash : ℕ) (unused : Entry) → hash < HASHES → EntryOf (get_or v.items hash unused) []) }
 {
     let mut entries = Vec::with_capacity(alloc, HASHES)?;
     for _ in 0..HASHES {
@@ -83,16 +81,14 @@ impl Tally {
         self.entries[place_of(&w.key, hash)].remove(job, granted, w);
     }
 
-    /// Counts a want that is granted, whose key has this hash, no more among those that wait.
+    /// Counts a want that is granted no more among those that wait.
     #[inline(always)]
-    fn grant_one(&mut self, hash: u16)
-        ensures { (cs : List Counted) (job : ℕ) (w : Want) → hash ≡ hash_of w.key
-            → Tallied self.old (counted job false w ∷ cs)
-            → Tallied self.new (counted job true w ∷ cs) }
+    fn grant_one(&mut self, w: &Want, hash: u16)
+        requires hash { hash ≡ hash_of w.now.key }
+        ensures { (cs : List Counted) (job : ℕ) → Tallied self.old (counted job false w.now ∷ cs)
+            → Tallied self.new (counted job true w.now ∷ cs) }
     {
-        if (hash as usize) < HASHES {
-            self.entries[hash as usize].grant();
-        }
+        self.entries[place_of(&w.key, hash)].grant(w);
     }
 
     /// Counts the wants of a request that comes, whose keys have these hashes.
@@ -122,26 +118,25 @@ impl Tally {
 
     /// Counts the wants of a request that is granted, whose keys have these hashes, no more among those
     /// that wait.
-    pub fn grant(&mut self, hashes: &[u16])
-        ensures granted { (a b : List Counted) (job : ℕ) (wants : List Want) → hashes.now ≡ hashes_of wants
-            → Tallied self.old (a ++ counted_of job false wants ++ b)
-            → Tallied self.new (a ++ counted_of job true wants ++ b) }
+    pub fn grant(&mut self, wants: &[Want], hashes: &[u16])
+        requires hashes { hashes.now ≡ hashes_of wants.now }
+        ensures granted { (a b : List Counted) (job : ℕ) → Tallied self.old (a ++ counted_of job false wants.now ++ b)
+            → Tallied self.new (a ++ counted_of job true wants.now ++ b) }
     {
-        for hash in hashes {
-            self.grant_one(*hash);
+        for (i, w) in wants.iter().enumerate() {
+            self.grant_one(w, hashes[i]);
         }
     }
 
-    /// Whether a want that waits has this hash.
+    /// Whether a want that waits has this hash. It is true of a number that is no hash.
     #[inline]
     pub fn is_awaited(&self, hash: u16) -> bool
-        requires { hash < 4096 }
         ensures none { (cs : List Counted) → Tallied self.now cs → result ≡ false
             → waiting_counted hash cs ≡ 0 }
-        ensures exact { (cs : List Counted) → Tallied self.now cs
+        ensures exact { hash < HASHES → (cs : List Counted) → Tallied self.now cs
             → result ≡ not (waiting_counted hash cs == 0) }
     {
-        self.entries[hash as usize].is_awaited()
+        hash as usize >= HASHES || self.entries[hash as usize].is_awaited()
     }
 
     /// Why a want of a job, whose key has this hash, is refused beside the present ones; else whether it
@@ -165,12 +160,36 @@ impl Tally {
         self.entries[place_of(&w.key, hash)].fits_among(w)
     }
 
-    /// Whether no present want is of this key, which has this hash, as far as is known.
+    /// Whether a want, which is among the present ones and whose key has this hash, is seen to be kept
+    /// from its key: one that is granted does not agree with it.
+    #[inline]
+    pub fn keeps(&self, w: &Want, hash: u16) -> bool
+        requires { hash ≡ hash_of w.now.key }
+        ensures unpooled { IsTrue result → is_pooled w.now ≡ false }
+        ensures kept { IsTrue result → (a b : List Counted) (job : ℕ) → Tallied self.now (a ++ counted job false w.now ∷ b)
+            → list_all (allows w.now) (a ++ counted job false w.now ∷ b) ≡ false }
+    {
+        self.entries[place_of(&w.key, hash)].keeps(w)
+    }
+
+    /// Whether no present want is of this key, which has this hash, as far as is known: it always is
+    /// where no present want has the hash.
     #[inline]
     pub fn lacks(&self, key: &Key, hash: u16) -> bool
         requires { hash ≡ hash_of key.now }
-        ensures { IsTrue result → (cs : List Counted) → Tallied self.now cs → wants_counted cs key.now ≡ [] }
+        ensures none { IsTrue result → (cs : List Counted) → Tallied self.now cs → wants_counted cs key.now ≡ [] }
+        ensures unused { (cs : List Counted) → Tallied self.now cs → list_any (has_hash hash) cs ≡ false
+            → result ≡ true }
     {
         self.entries[place_of(key, hash)].lacks(key)
+    }
+
+    /// Whether a job has no present want of this hash for certain.
+    #[inline]
+    pub fn lacks_of(&self, job: u8, hash: u16) -> bool
+        ensures { IsTrue result → (cs : List Counted) → Tallied self.now cs
+            → list_any (λ c. c.job == job && has_hash hash c) cs ≡ false }
+    {
+        (hash as usize) < HASHES && self.entries[hash as usize].lacks_of(job)
     }
 }

@@ -1,15 +1,11 @@
-use Rattle.std.proofs.Common.{◌≡◌, ◌∙◌, sym, ap, refl, [], filter, map, take, None, arith}
-use Rattle.std.specs.List.{list_any}
+use Rattle.std.proofs.Common.{◌≡◌, ◌∙◌, sym, ap, [], None}
 use Rattle.lock_queue.specs.declared.call.LockCall.TheVariants.{DequeueNamed}
 use Rattle.lock_queue.specs.declared.call.LockReply.TheVariants.{Done}
 use Rattle.lock_queue.specs.Dequeues.{dequeue_fault, without_named}
 use Rattle.lock_queue.specs.Grants.{left_of, woken, unless_refused_grants}
 use Rattle.lock_queue.specs.Outcomes.{outcome, unless_refused, first_refusal}
-use Rattle.lock_table.specs.Departures.{loses, keeps_wants, with_fewer}
 use Rattle.lock_table.specs.Filings.{requests_in}
-use Rattle.lock_table.specs.Renewals.{raised}
 use Rattle.lock_table.proofs.CallLaws.{named-requests, named-woken}
-use Rattle.lock_table.proofs.WhereLaws.{passed-none}
 use Rattle.lock_table.proofs.calls.dequeue_named.Goals as goal
 
 pub returns-clause-requests : goal.returns-clause-requests
@@ -21,7 +17,6 @@ returns-clause-requests c =
     ∙ ap (λ l. first_refusal (dequeue_fault (requests_in l) c.args.job) [] c.as_slice-locks.result.now) (sym c.as_slice-2.ensures.value)
     ∙ sym c.refusal_of_dequeue.ensures ∙ c.in_default.is in
     c.depart_named.ensures.requests
-    ∙ ap (λ l. requests_in (filter keeps_wants (map (with_fewer c.args.job l) fs))) c.as_slice-locks.ensures.value
     ∙ named-requests fs c.args.job c.args.named.now.items
     ∙ sym (ap (λ o. (unless_refused rs o (outcome (without_named rs c.args.job c.args.named.now.items) Done)).requests) passed)
 
@@ -34,13 +29,5 @@ returns-clause-woken c =
     ∙ ap (λ l. first_refusal (dequeue_fault (requests_in l) c.args.job) [] c.as_slice-locks.result.now) (sym c.as_slice-2.ensures.value)
     ∙ sym c.refusal_of_dequeue.ensures ∙ c.in_default.is in
     c.depart_named.ensures.woken
-    ∙ ap (λ l. raised [] (filter keeps_wants (map (with_fewer c.args.job l) fs))) c.as_slice-locks.ensures.value
     ∙ named-woken fs c.args.job c.args.named.now c.requires.right
     ∙ sym (ap (λ o. unless_refused_grants (unless_refused rs o (outcome (without_named rs c.args.job c.args.named.now.items) Done)).reply (woken (left_of c.args.job (DequeueNamed c.args.named.now)) rs)) passed)
-
-pub refusal_of_dequeue-requires-clause-none : goal.refusal_of_dequeue-requires-clause-none
-refusal_of_dequeue-requires-clause-none c =
-    let test = loses c.args.job c.as_slice-locks.result.now in
-    let n = c.next_losing-first.result in
-    ap (λ l. list_any test (take n l)) (c.as_slice-2.ensures.value ∙ sym c.as_slice.ensures.value)
-    ∙ passed-none test c.as_slice.result.now 0 n (omega arith) c.next_losing-first.ensures.value refl

@@ -14,6 +14,7 @@ use Rattle.lock_table.specs.Signatures.{signature_of}
 use Rattle.lock_table.specs.Tallies.{Marks}
 use Rattle.lock_table.proofs.CallLaws.{change-awaited, change-woken, modify-lost, modify-done}
 use Rattle.lock_table.proofs.DepartureLaws.{lost_in}
+use Rattle.lock_table.proofs.KeptLaws.{outdated-kept}
 use Rattle.lock_table.proofs.LossLaws.{changes-cost}
 use Rattle.lock_table.proofs.RenewalLaws.{renewed-requests, right-renewed, risen-raised}
 use Rattle.lock_table.proofs.calls.modify.Goals as goal
@@ -127,3 +128,19 @@ returns-clause-woken c =
     c.renew.ensures.woken ∙ risen-raised c.awaited-awaited.result [] c.change.new.self outdated
     ∙ ap (raised []) mid ∙ change-woken fs c.args.job c.args.changes.now c.requires
     ∙ sym (ap (λ (o : Outcome). unless_refused_grants o.reply (woken (left_of c.args.job (Modify c.args.changes.now)) (requests_in fs))) out)
+
+pub renew-requires : goal.renew-requires
+renew-requires c =
+    let fs = c.args.shelf.now in
+    let cs = c.args.changes.now.items in
+    let passed = passed-of fs c.as_slice.result.now c.args.job cs c.as_slice-wanted.result.now c.refusal_of_modify.result
+    c.as_slice.ensures.value c.as_slice-wanted.ensures.value c.refusal_of_modify.ensures c.in_default.is in
+    let lost = lost-of fs c.as_slice-2.result.now c.args.job cs c.as_slice-wanted.result.now c.is_some_lost.result
+    c.as_slice-2.ensures.value c.as_slice-wanted.ensures.value c.is_some_lost.ensures c.requires passed in
+    let kept = lost ∙ c.if-is_some_lost.false in
+    let mid = c.change.ensures.value ∙ ap (λ l. map (with_change c.args.job l) fs) c.as_slice-wanted.ensures.value in
+    let marks : Marks c.awaited-awaited.result cs fs =
+    subst (λ l. Marks c.awaited-awaited.result l fs) c.as_slice-wanted.ensures.value c.awaited-awaited.ensures in
+    let outdated : AreOutdated c.awaited-awaited.result [] c.change.new.self =
+    subst (AreOutdated c.awaited-awaited.result []) (sym mid) (change-awaited c.args.job cs fs c.awaited-awaited.result marks c.requires kept) in
+    outdated-kept c.awaited-awaited.result [] c.change.new.self outdated

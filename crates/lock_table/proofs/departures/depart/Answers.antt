@@ -3,6 +3,7 @@ use Rattle.lock_table.specs.Departures.{leaves, stays}
 use Rattle.lock_table.specs.Filings.{requests_in, AreRight}
 use Rattle.lock_table.specs.Renewals.{raised, AreOutdated}
 use Rattle.lock_table.proofs.CallLaws.{leaving-outdated}
+use Rattle.lock_table.proofs.KeptLaws.{outdated-kept}
 use Rattle.lock_table.proofs.LeavingLaws.{fewer-stay}
 use Rattle.lock_table.proofs.RenewalLaws.{renewed-requests, right-renewed, risen-raised}
 use Rattle.lock_table.proofs.departures.depart.Goals as goal
@@ -32,3 +33,10 @@ returns-clause-woken c =
     (leaving-outdated c.remove_leaving-bits.result c.args.shelf.now c.args.job c.args.leaving.now c.remove_leaving-bits.ensures.bits c.requires) in
     c.renew.ensures.woken ∙ risen-raised c.remove_leaving-bits.result [] c.remove_leaving-bits.new.shelf outdated
     ∙ ap (raised []) c.remove_leaving-bits.ensures.value
+
+pub renew-requires : goal.renew-requires
+renew-requires c =
+    let outdated : AreOutdated c.remove_leaving-bits.result [] c.remove_leaving-bits.new.shelf =
+    subst (AreOutdated c.remove_leaving-bits.result []) (sym c.remove_leaving-bits.ensures.value)
+    (leaving-outdated c.remove_leaving-bits.result c.args.shelf.now c.args.job c.args.leaving.now c.remove_leaving-bits.ensures.bits c.requires) in
+    outdated-kept c.remove_leaving-bits.result [] c.remove_leaving-bits.new.shelf outdated

@@ -2,6 +2,7 @@ use Rattle.std.proofs.Common.{◌≡◌, ◌∙◌, ◌<◌, ◌++◌, ap, sym, 
 use Rattle.lock_queue.specs.Unused.{unused_request}
 use Rattle.lock_table.specs.Filings.{Filing, filing, requests_in}
 use Rattle.lock_table.specs.Walks.{from_where, waits_met}
+use Rattle.lock_table.proofs.KeptLaws.{raised-kept}
 use Rattle.lock_table.proofs.WaitingLaws.{risen_from, passed-renewed, passed-risen, step-renewed, step-risen, raised-few}
 use Rattle.lock_table.proofs.WhereLaws.{where-head}
 use Rattle.lock_table.proofs.renewal.renew.Goals as goal
@@ -19,6 +20,7 @@ loop-i-init c =
       few = let none = ap length c.forget.ensures in omega (arith, none);
       long = ap length (sym c.as_slice-count.ensures.value);
       there = let le = c.next_waiting-i.ensures.there in let same-long = ap length same in let count-long = ap length c.as_slice-count.ensures.value in omega (arith, le, same-long, count-long);
+      kept = c.requires;
       waits = λ d lt. where-head (waits_met bits) fs 0 m d is (let count-long = ap length c.as_slice-count.ensures.value in omega (arith, lt, count-long));
     }
 
@@ -53,5 +55,6 @@ loop-i-preserved c =
           omega (arith, one, c.loop-i.invariant.few, c.next_waiting-i-in-loop-i.ensures.behind);
       long = long;
       there = let same-long = ap length same in omega (arith, c.next_waiting-i-in-loop-i.ensures.there, same-long, long);
+      kept = raised-kept old fs i d lt (c.renew_at.ensures.value d) c.loop-i.invariant.kept;
       waits = λ e k. where-head (waits_met bits) fs (i + 1) m e is (omega (arith, k, long));
     }

@@ -1,6 +1,6 @@
 use Rattle.std.proofs.Common.{◌≡◌, ◌≤◌, ◌<◌, ◌-◌, ◌++◌, [], length, get_or, true}
 use Rattle.lock_table.specs.Filings.{Filing}
-use Rattle.lock_table.specs.Renewals.{renewed, risen}
+use Rattle.lock_table.specs.Renewals.{renewed, risen, AreKept}
 use Rattle.lock_table.specs.Walks.{waits_met}
 use Rattle.lock_table.proofs.WaitingLaws.{renewed_from, risen_from}
 use Rattle.lock_table.proofs.renewal.renew.Given as goal
@@ -13,6 +13,7 @@ invariant-loop-i l =
       few : length l.woken.items ≤ l.i;
       long : length l.shelf ≡ l.count;
       there : l.i ≤ l.count;
+      kept : AreKept [] l.shelf;
       waits : (d : Filing) → l.i < l.count → waits_met l.bits (get_or l.shelf l.i d) ≡ true;
     }
 

@@ -1,5 +1,5 @@
-use Rattle.std.proofs.Common.{◌≡◌, ◌∙◌, sym, ap, subst, ◌<◌, false, get_or, set, length, rules, arith}
-use Rattle.key_tally.specs.Tallies.{Tallied}
+use Rattle.std.proofs.Common.{◌≡◌, ◌∙◌, ◌++◌, sym, ap, subst, ◌<◌, true, false, get_or, set, length, rules, arith}
+use Rattle.key_tally.specs.Tallies.{Tallied, counted_of}
 use Rattle.lock_table.specs.Countings.{counted_in, is_countable}
 use Rattle.lock_table.specs.Filings.{Filing}
 use Rattle.lock_table.specs.Waiters.{waiter_at}
@@ -34,6 +34,6 @@ invariant_of-self c =
           omega (arith, left, none, c.self.invariant.4 place, waiters-put place fs c.args.i f c.grant-2.new.self lt at)),
       subst (λ (x : Filing). Tallied c.grant.new.self (counted_in (set fs c.args.i x))) (sym c.grant-2.ensures)
           (tallied-granted s.tally c.grant.new.self fs c.args.i f
-          (λ a b job. c.grant.ensures.granted a b job f.request.wants.items c.hashes.ensures)
+          (λ a b job. subst (λ ws. Tallied s.tally (a ++ counted_of job false ws ++ b) → Tallied c.grant.new.self (a ++ counted_of job true ws ++ b)) c.wants.ensures (c.grant.ensures.granted a b job))
           lt c.self.invariant.5 at waits),
     )

@@ -9,4 +9,4 @@ pub returns : goal.returns
 returns c = λ lacks.
     let fs = c.self.inside.present.items in
     ap (λ l. wants_at (requests_in l) c.args.key.now) (sym c.self.view_is)
-    ∙ sym (counted-wants fs c.args.key.now) ∙ c.lacks.ensures lacks (counted_in fs) c.self.invariant.5
+    ∙ sym (counted-wants fs c.args.key.now) ∙ c.lacks.ensures.none lacks (counted_in fs) c.self.invariant.5

@@ -13,12 +13,12 @@ pub remove-requires-2 : goal.remove-requires-2
 remove-requires-2 c = λ place.
     let s = c.self.inside in
     let lt : c.args.i < length s.present.items = search rules in
-    omega (arith, c.self.invariant.4 place, waiters-there place s.present.items c.args.i c.remove-filed.result lt c.remove-filed.ensures.value)
+    omega (arith, c.self.invariant.4 place, waiters-there place s.present.items c.args.i c.index-f.result.now lt c.index-f.ensures)
 
 pub invariant_of-self : goal.invariant_of-self
 invariant_of-self c =
     let s = c.self.inside in
-    let f = c.remove-filed.result in
+    let f = c.index-f.result.now in
     let lt : c.args.i < length s.present.items = search rules in (
       grind arith,
       grind arith,
@@ -30,20 +30,20 @@ invariant_of-self c =
             arith,
             left,
             c.self.invariant.4 place,
-            waiters-gone place s.present.items c.remove-filed.new.self.items c.args.i f lt c.remove-filed.ensures.value c.remove-filed.ensures.items,
+            waiters-gone place s.present.items c.remove-filed.new.self.items c.args.i f lt c.index-f.ensures c.remove-filed.ensures.items,
           )),
       tallied-gone s.tally c.remove.new.self s.present.items c.remove-filed.new.self.items c.args.i f c.job.result c.is_granted.result c.wants.result.now
-          c.remove.ensures.removed lt c.self.invariant.5 c.remove-filed.ensures.value c.job.ensures c.is_granted.ensures c.wants.ensures c.remove-filed.ensures.items,
+          c.remove.ensures.removed lt c.self.invariant.5 c.index-f.ensures c.job.ensures c.is_granted.ensures c.wants.ensures c.remove-filed.ensures.items,
     )
 
 pub returns-clause-bits : goal.returns-clause-bits
 returns-clause-bits c = λ d.
     let s = c.self.inside in
-    let f = c.remove-filed.result in
+    let f = c.index-f.result.now in
     let lt : c.args.i < length s.present.items = search rules in
     let same : c.args.self.now ≡ s.present.items = search rules in
     let here : get_or c.args.self.now c.args.i d ≡ f =
-    ap (λ l. get_or l c.args.i d) same ∙ get_or_default s.present.items c.args.i d f lt ∙ sym c.remove-filed.ensures.value in
+    ap (λ l. get_or l c.args.i d) same ∙ get_or_default s.present.items c.args.i d f lt ∙ sym c.index-f.ensures in
     let hashed : MarksAt c.awaited_at-bits.result (hashes_of f.request.wants.items) s.present.items =
     subst (λ hs. MarksAt c.awaited_at-bits.result hs s.present.items) c.hashes.ensures (c.awaited_at-bits.ensures s.present.items c.self.invariant.5) in
     let marked : Marks c.awaited_at-bits.result f.request.wants.items s.present.items =
