@@ -4,15 +4,16 @@ use Rattle.std.specs.Prelude.{option_map, option_and_then, bytes_eq, codes}
 use Rattle.std.specs.List.{list_all}
 use Rattle.std.proofs.lemmas.Bool.Decides.{nat_tests}
 use Rattle.arrayvec.specs.ArrayVec.{ArrayVec}
-use Rattle.word36.specs.declared.sizes.TheConstants.{JOBS, LOCKS_A_CALL}
+use Rattle.word36.specs.declared.sizes.TheConstants.{JOBS, LOCKS_A_CALL, NAME_LENGTH}
 use Rattle.lock_queue.specs.Pools.{PoolShare, share_of, is_right_share}
 use Rattle.lock_queue.specs.Uses.{pool_on, requested_want, want_on}
 use Rattle.lock_queue.specs.WellFormed.{is_job, names_locks, shares_no_pool, shares_no_pools}
 use Rattle.lock_queue.specs.declared.call.LockCall.{LockCall}
 use Rattle.lock_queue.specs.declared.call.LockCall.TheVariants.{Enqueue, Modify, DequeueNamed, DequeueAll, DequeueId}
 use Rattle.lock_queue.specs.declared.key.Key.{Key}
+use Rattle.lock_queue.specs.declared.name.Name.TheVariants.{Text, Code}
 use Rattle.lock_queue.specs.declared.refusal.Refusal.{Refusal}
-use Rattle.lock_queue.specs.declared.refusal.Refusal.TheVariants.{BadCount, BadPool}
+use Rattle.lock_queue.specs.declared.refusal.Refusal.TheVariants.{BadCount, BadName, BadPool}
 use Rattle.lock_queue.specs.declared.request.EnqueueKind.{EnqueueKind}
 use Rattle.lock_queue.specs.declared.request.EnqueueKind.TheVariants.{Blocking, AtOnce, Interrupt}
 use Rattle.lock_queue.specs.declared.terms.LockUse.{LockUse}
@@ -26,7 +27,7 @@ use Rattle.queue_script.specs.Numbers.{number, is_digit, value_onto, parts}
 use Rattle.queue_script.specs.Options.{half_of}
 use Rattle.queue_script.specs.declared.locks.Lock.{Lock}
 use Rattle.queue_script.specs.declared.locks.LockName.{LockName}
-use Rattle.queue_script.specs.declared.locks.LockName.TheVariants.{Fitting, TooLong}
+use Rattle.queue_script.specs.declared.locks.LockName.TheVariants.{Spelled, Coded}
 
 both : (a b : Bool) → a ≡ true → b ≡ true → (a && b) ≡ true
 both a b p q = ap (λ x. x && b) p ∙ q
@@ -92,9 +93,14 @@ requested-unshared key terms v h =
     let p = requested-pool key terms (pool_on terms.shared terms.pool_size terms.pool_amount) v h in
     p.2 ∙ ap not (pool-unshared (terms.pool_size == 0 && terms.pool_amount == 0) terms.shared (is_right_share (share_of terms.pool_size terms.pool_amount)) (share_of terms.pool_size terms.pool_amount) p.0 p.1)
 
+fitting-unshared : (fits : Bool) (key : Key) (terms : Terms) (v : Want) → cond fits (want_on Requested key terms) (Err BadName) ≡ Ok v → shares_no_pool v ≡ true
+fitting-unshared true key terms v h = requested-unshared key terms v h
+fitting-unshared false key terms v h = absurd (cc)
+
 want-unshared : (job : ℕ) (name : LockName) (lock : Lock) (v : Want) → want_of_name job Requested name lock.options ≡ Ok v → shares_no_pool v ≡ true
-want-unshared job TooLong lock v h = absurd (cc)
-want-unshared job (Fitting name) lock v h = requested-unshared (key_of job name lock.options.own) (terms_of lock.options) v h
+want-unshared job (Coded code) lock v h = requested-unshared (key_of job (Code code) lock.options.own) (terms_of lock.options) v h
+want-unshared job (Spelled text) lock v h =
+    fitting-unshared (nat_le (length text) NAME_LENGTH) (key_of job (Text text) lock.options.own) (terms_of lock.options) v h
 
 wants-unshared : (job : ℕ) (locks : List Lock) (all : List Want) → wants_of job Requested locks ≡ Ok all → list_all shares_no_pool all ≡ true
 wants-unshared job [] all h = let e : all ≡ [] = cc in ap (list_all shares_no_pool) e

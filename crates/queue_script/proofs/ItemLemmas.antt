@@ -1,5 +1,5 @@
 -- Lemmas on the items of a line that spell locks.
-use Rattle.std.proofs.Common.{◌≡◌, ◌<◌, ◌≤◌, ◌+◌, ◌-◌, ◌++◌, ◌∙◌, ◌==◌, ℕ, true, false, List, [], ◌∷◌, Some, None, length, take, drop, get_or, take-append-drop, length-take-le, take_all, arith, ap, sym, eq-eqb, All, cond}
+use Rattle.std.proofs.Common.{◌≡◌, ◌<◌, ◌≤◌, ◌+◌, ◌-◌, ◌++◌, ◌∙◌, ◌==◌, ℕ, Bool, true, false, List, [], ◌∷◌, Some, None, length, take, drop, get_or, take-append-drop, length-take-le, take_all, arith, ap, sym, eq-eqb, All, cond}
 use Rattle.std.proofs.lemmas.Bool.Decides.{nat_tests}
 use Rattle.std.proofs.lemmas.List.{drop_more, take_rest}
 use Rattle.std.proofs.lemmas.List.Elements.{All-nil, All-cons, All-head, All-tail}
@@ -7,11 +7,17 @@ use Rattle.std.proofs.lemmas.List.Splits.{slice_split-cons_no, slice_split_at, s
 use Rattle.std.specs.List.{list_all, slice_split, onto_first}
 use Rattle.queue_script.proofs.LockLemmas.{and_parts}
 use Rattle.std.specs.Prelude.{option_map, option_and_then}
-use Rattle.lock_queue.specs.declared.name.Name.TheVariants.{Code}
-use Rattle.queue_script.specs.declared.locks.LockName.TheVariants.{Fitting}
-use Rattle.queue_script.specs.Options.{no_options, options_from}
-use Rattle.queue_script.specs.Locks.{is_name_character, SplitsLock, user_code, text_name, name_of_characters, name_of, lock_of_parts}
+use Rattle.queue_script.specs.declared.locks.LockName.TheVariants.{Spelled, Coded}
+use Rattle.queue_script.specs.Options.{no_options, options_from, option_of, with_option, is_option_character, SpellsOptions}
+use Rattle.queue_script.specs.declared.options.LockOption.{LockOption}
+use Rattle.queue_script.specs.declared.options.Options.{Options}
+use Rattle.queue_script.specs.Locks.{is_name_character, IsFirstLock, user_code, name_of_characters, name_of, lock_of_parts}
 use Rattle.queue_script.specs.Numbers.{parts}
+
+-- the first item of some has this name in characters, these options, and these items behind it
+abbrev SplitsLock : List ℕ → List ℕ → List (List ℕ) → List (List ℕ) → Type 0
+SplitsLock items name options others =
+    (item : List ℕ) × (parts 32 items ≡ item ∷ others) × (parts 47 item ≡ name ∷ options) × (list_all is_name_character name ≡ true) × (0 < length name)
 
 name-no_blank : (c : ℕ) → is_name_character c ≡ true → (c == 32) ≡ false
 name-no_blank c h = grind (arith, nat_tests)
@@ -19,12 +25,15 @@ name-no_blank c h = grind (arith, nat_tests)
 name-no_slash : (c : ℕ) → is_name_character c ≡ true → (c == 47) ≡ false
 name-no_slash c h = grind (arith, nat_tests)
 
--- a name has no character that no name has
+-- characters of some kind do not have a character that is not of the kind
+unlike : (kind : ℕ → Bool) (s : ℕ) (text : List ℕ) → ((c : ℕ) → kind c ≡ true → (c == s) ≡ false) → list_all kind text ≡ true → All (λ b. (b == s) ≡ false) text
+unlike kind s [] differs h = All-nil (λ b. (b == s) ≡ false)
+unlike kind s (c ∷ cs) differs h =
+    let p = and_parts (kind c) (list_all kind cs) h in
+    All-cons (λ b. (b == s) ≡ false) c cs (differs c p.0) (unlike kind s cs differs p.1)
+
 without : (s : ℕ) (name : List ℕ) → ((c : ℕ) → is_name_character c ≡ true → (c == s) ≡ false) → list_all is_name_character name ≡ true → All (λ b. (b == s) ≡ false) name
-without s [] differs h = All-nil (λ b. (b == s) ≡ false)
-without s (c ∷ cs) differs h =
-    let p = and_parts (is_name_character c) (list_all is_name_character cs) h in
-    All-cons (λ b. (b == s) ≡ false) c cs (differs c p.0) (without s cs differs p.1)
+without s name differs h = unlike is_name_character s name differs h
 
 -- characters that are no separators stand in front of the first part
 in_front : (s : ℕ) (front text first : List ℕ) (more : List (List ℕ)) → All (λ b. (b == s) ≡ false) front → parts s text ≡ first ∷ more → parts s (front ++ text) ≡ (front ++ first) ∷ more
@@ -49,12 +58,12 @@ alone-slash name named = slice_split_none (λ b. b == 47) name (without 47 name 
 some-taken : (n : ℕ) (text : List ℕ) → (n ≡ 0 → ⊥) → n ≤ length text → 0 < length (take n text)
 some-taken n text some within = let e = length-take-le n text within in omega arith
 
-pub splits-end : (items : List ℕ) (n : ℕ) → (n ≡ 0 → ⊥) → n ≡ length items → list_all is_name_character (take n items) ≡ true → SplitsLock items (take n items) [] []
+splits-end : (items : List ℕ) (n : ℕ) → (n ≡ 0 → ⊥) → n ≡ length items → list_all is_name_character (take n items) ≡ true → SplitsLock items (take n items) [] []
 splits-end items n some end named =
     let whole : take n items ≡ items = take_all n items (omega arith) in
     (take n items, ap (parts 32) (sym whole) ∙ alone-blank (take n items) named, alone-slash (take n items) named, named, some-taken n items some (omega arith))
 
-pub splits-blank : (items : List ℕ) (n : ℕ) → (n ≡ 0 → ⊥) → n < length items → get_or items n 0 ≡ 32 → list_all is_name_character (take n items) ≡ true
+splits-blank : (items : List ℕ) (n : ℕ) → (n ≡ 0 → ⊥) → n < length items → get_or items n 0 ≡ 32 → list_all is_name_character (take n items) ≡ true
     → SplitsLock items (take n items) [] (parts 32 (take (length items - (n + 1)) (drop (n + 1) items)))
 unfolding parts
 splits-blank items n some within here named = (
@@ -70,7 +79,7 @@ splits-blank items n some within here named = (
 behind-slash : (rest first : List ℕ) (more : List (List ℕ)) (c : ℕ) → c ≡ 47 → parts 32 rest ≡ first ∷ more → parts 32 (c ∷ rest) ≡ (c ∷ first) ∷ more
 behind-slash rest first more c is e = in_front 32 (c ∷ []) rest first more (All-cons (λ b. (b == 32) ≡ false) c [] (grind (arith, nat_tests)) (All-nil (λ b. (b == 32) ≡ false))) e
 
-pub splits-slash : (items options : List ℕ) (others : List (List ℕ)) (n : ℕ) → (n ≡ 0 → ⊥) → n < length items → get_or items n 0 ≡ 47 → list_all is_name_character (take n items) ≡ true
+splits-slash : (items options : List ℕ) (others : List (List ℕ)) (n : ℕ) → (n ≡ 0 → ⊥) → n < length items → get_or items n 0 ≡ 47 → list_all is_name_character (take n items) ≡ true
     → parts 32 (take (length items - (n + 1)) (drop (n + 1) items)) ≡ options ∷ others
     → SplitsLock items (take n items) (parts 47 options) others
 unfolding parts
@@ -90,14 +99,93 @@ splits-slash items options others n some within here named split =
 name-no_code : (c : ℕ) → is_name_character c ≡ true → (c == 35) ≡ false
 name-no_code c h = grind (arith, nat_tests)
 
-named : (name : List ℕ) → list_all is_name_character name ≡ true → 0 < length name → name_of name ≡ Some (text_name name)
+named : (name : List ℕ) → list_all is_name_character name ≡ true → 0 < length name → name_of name ≡ Some (Spelled name)
 named [] h some = absurd (omega arith)
 named (c ∷ cs) h some =
     let p = and_parts (is_name_character c) (list_all is_name_character cs) h in
-    ap (λ b. cond b (option_map (λ code. Fitting (Code code)) (user_code cs)) (name_of_characters (c ∷ cs))) (name-no_code c p.0)
-    ∙ ap (λ b. cond b (Some (text_name (c ∷ cs))) None) h
+    ap (λ b. cond b (option_map Coded (user_code cs)) (name_of_characters (c ∷ cs))) (name-no_code c p.0)
+    ∙ ap (λ b. cond b (Some (Spelled (c ∷ cs))) None) h
 
-pub lock_named : (name : List ℕ) (options : List (List ℕ)) → list_all is_name_character name ≡ true → 0 < length name
-    → lock_of_parts (name ∷ options) ≡ option_map (λ o. record { name = text_name name; options = o }) (options_from no_options options)
+lock_named : (name : List ℕ) (options : List (List ℕ)) → list_all is_name_character name ≡ true → 0 < length name
+    → lock_of_parts (name ∷ options) ≡ option_map (λ o. record { name = Spelled name; options = o }) (options_from no_options options)
 lock_named name options h some =
     ap (option_and_then (λ n. option_map (λ o. record { name = n; options = o }) (options_from no_options options))) (named name h some)
+
+lock_alone : (name : List ℕ) → list_all is_name_character name ≡ true → 0 < length name → lock_of_parts (name ∷ []) ≡ Some (record { name = Spelled name; options = no_options })
+lock_alone name h some = lock_named name [] h some
+
+-- ---- the first lock of some items
+
+pub alone-end : (items : List ℕ) (n : ℕ) → (n ≡ 0 → ⊥) → n ≡ length items → list_all is_name_character (take n items) ≡ true
+    → IsFirstLock (parts 32 items) (Some (record { name = Spelled (take n items); options = no_options })) []
+alone-end items n some end named =
+    let s = splits-end items n some end named in
+    (s.0, s.1, ap lock_of_parts s.2 ∙ lock_alone (take n items) s.3 s.4)
+
+pub alone-more : (items : List ℕ) (n : ℕ) → (n ≡ 0 → ⊥) → n < length items → get_or items n 0 ≡ 32 → list_all is_name_character (take n items) ≡ true
+    → IsFirstLock (parts 32 items) (Some (record { name = Spelled (take n items); options = no_options })) (parts 32 (take (length items - (n + 1)) (drop (n + 1) items)))
+alone-more items n some within here named =
+    let s = splits-blank items n some within here named in
+    (s.0, s.1, ap lock_of_parts s.2 ∙ lock_alone (take n items) s.3 s.4)
+
+pub with_options : (items : List ℕ) (others : List (List ℕ)) (o : Options) (n : ℕ) → (n ≡ 0 → ⊥) → n < length items → get_or items n 0 ≡ 47 → list_all is_name_character (take n items) ≡ true
+    → SpellsOptions no_options (take (length items - (n + 1)) (drop (n + 1) items)) o others
+    → IsFirstLock (parts 32 items) (Some (record { name = Spelled (take n items); options = o })) others
+with_options items others o n some within here named spells =
+    let s = splits-slash items spells.0 others n some within here named spells.1 in
+    (s.0, s.1, ap lock_of_parts s.2 ∙ lock_named (take n items) (parts 47 spells.0) s.3 s.4 ∙ ap (option_map (λ os. record { name = Spelled (take n items); options = os })) spells.2)
+
+-- ---- the options in front of some items
+
+option-no_blank : (c : ℕ) → is_option_character c ≡ true → (c == 32) ≡ false
+option-no_blank c h = grind (arith, nat_tests)
+
+option-no_slash : (c : ℕ) → is_option_character c ≡ true → (c == 47) ≡ false
+option-no_slash c h = grind (arith, nat_tests)
+
+no_blank : (text : List ℕ) → list_all is_option_character text ≡ true → All (λ b. (b == 32) ≡ false) text
+no_blank text h = unlike is_option_character 32 text option-no_blank h
+
+no_slash : (text : List ℕ) → list_all is_option_character text ≡ true → All (λ b. (b == 47) ≡ false) text
+no_slash text h = unlike is_option_character 47 text option-no_slash h
+
+one_more : (before next : Options) (text : List ℕ) (more : List (List ℕ)) (option : LockOption) → option_of text ≡ Some option → with_option before option ≡ Some next
+    → options_from before (text ∷ more) ≡ options_from next more
+one_more before next text more option read fits =
+    ap (option_and_then (λ o. option_and_then (λ n. options_from n more) (with_option before o))) read ∙ ap (option_and_then (λ n. options_from n more)) fits
+
+pub options-end : (before next : Options) (text : List ℕ) (n : ℕ) (option : LockOption) → n ≡ length text → list_all is_option_character (take n text) ≡ true
+    → option_of (take n text) ≡ Some option → with_option before option ≡ Some next → SpellsOptions before text next []
+unfolding parts
+options-end before next text n option end apart read fits =
+    let whole : take n text ≡ text = take_all n text (omega arith) in (
+      take n text,
+      ap (parts 32) (sym whole) ∙ slice_split_none (λ b. b == 32) (take n text) (no_blank (take n text) apart),
+      ap (options_from before) (slice_split_none (λ b. b == 47) (take n text) (no_slash (take n text) apart)) ∙ one_more before next (take n text) [] option read fits,
+    )
+
+pub options-blank : (before next : Options) (text : List ℕ) (n : ℕ) (option : LockOption) → n < length text → get_or text n 0 ≡ 32 → list_all is_option_character (take n text) ≡ true
+    → option_of (take n text) ≡ Some option → with_option before option ≡ Some next
+    → SpellsOptions before text next (parts 32 (take (length text - (n + 1)) (drop (n + 1) text)))
+unfolding parts
+options-blank before next text n option within here apart read fits = (
+  take n text,
+  ap (slice_split (λ b. b == 32)) (at text n within)
+      ∙ slice_split_at (λ b. b == 32) (take n text) (get_or text n 0) (drop (n + 1) text) (no_blank (take n text) apart) (eq-eqb _ _ here)
+      ∙ ap (λ l. take n text ∷ parts 32 l) (sym (take_rest text (n + 1))),
+  ap (options_from before) (slice_split_none (λ b. b == 47) (take n text) (no_slash (take n text) apart)) ∙ one_more before next (take n text) [] option read fits,
+)
+
+pub options-slash : (before next last : Options) (text : List ℕ) (others : List (List ℕ)) (n : ℕ) (option : LockOption) → n < length text → get_or text n 0 ≡ 47 → list_all is_option_character (take n text) ≡ true
+    → option_of (take n text) ≡ Some option → with_option before option ≡ Some next
+    → SpellsOptions next (take (length text - (n + 1)) (drop (n + 1) text)) last others → SpellsOptions before text last others
+unfolding parts
+options-slash before next last text others n option within here apart read fits spells =
+    let rest : parts 32 (drop (n + 1) text) ≡ spells.0 ∷ others = ap (parts 32) (sym (take_rest text (n + 1))) ∙ spells.1 in (
+      take n text ++ get_or text n 0 ∷ spells.0,
+      ap (parts 32) (at text n within)
+          ∙ in_front 32 (take n text) (get_or text n 0 ∷ drop (n + 1) text) (get_or text n 0 ∷ spells.0) others (no_blank (take n text) apart)
+          (behind-slash (drop (n + 1) text) spells.0 others (get_or text n 0) here rest),
+      ap (options_from before) (slice_split_at (λ b. b == 47) (take n text) (get_or text n 0) spells.0 (no_slash (take n text) apart) (eq-eqb _ _ here))
+          ∙ one_more before next (take n text) (parts 47 spells.0) option read fits ∙ spells.2,
+    )

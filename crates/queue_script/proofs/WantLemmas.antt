@@ -1,5 +1,5 @@
 -- Lemmas on the wants of a call.
-use Rattle.std.proofs.Common.{◌≡◌, ◌≤◌, ◌+◌, ◌++◌, ◌&&◌, ℕ, true, false, cond, List, [], ◌∷◌, length, Option, Some, None, Result, Ok, Err, min, is_some, nat_le, arith, refl, sym, ap, ◌∙◌, append-nil, append_assoc, length-append}
+use Rattle.std.proofs.Common.{◌≡◌, ◌≤◌, ◌+◌, ◌++◌, ◌&&◌, ℕ, suc, Bool, true, false, cond, List, [], ◌∷◌, length, Option, Some, None, Result, Ok, Err, min, is_some, nat_le, arith, refl, sym, ap, ◌∙◌, append-nil, append_assoc, length-append}
 use Rattle.std.specs.Prelude.{option_map}
 use Rattle.std.specs.Option.{option_or}
 use Rattle.std.proofs.lemmas.Bool.Decides.{nat_tests}
@@ -12,7 +12,10 @@ use Rattle.lock_queue.specs.declared.terms.LockUse.{LockUse}
 use Rattle.lock_queue.specs.declared.call.LockCall.{LockCall}
 use Rattle.queue_script.specs.Commands.{call_with}
 use Rattle.queue_script.specs.Borrowed.{filled}
-use Rattle.queue_script.specs.Locks.{lock_of, locks_of, want_of, onto_wants, wants_of, stored, call_wants}
+use Rattle.queue_script.specs.Options.{no_options}
+use Rattle.queue_script.specs.declared.locks.LockName.TheVariants.{Spelled}
+use Rattle.lock_queue.specs.declared.terms.LockUse.TheVariants.{Requested, Named}
+use Rattle.queue_script.specs.Locks.{lock_of, locks_of, want_of, plain_want, with_want, refused_by, refused_with, onto_wants, wants_of, stored, call_wants}
 
 -- the wants so far, or the first refusal
 abbrev pub told_by : Option Refusal → List Want → Result (List Want) Refusal
@@ -46,6 +49,19 @@ wants_of-push : (job : ℕ) (use_ : LockUse) (locks : List Lock) (lock : Lock) �
 wants_of-push job use_ [] lock = join-first (want_of job use_ lock)
 wants_of-push job use_ (l ∷ ls) lock =
     ap (onto_wants (want_of job use_ l)) (wants_of-push job use_ ls lock) ∙ onto-join (want_of job use_ l) (wants_of job use_ ls) (want_of job use_ lock)
+
+-- a name alone is wanted on the same terms by every call
+pub want_of_plain : (job : ℕ) (use_ : LockUse) (text : List ℕ) → want_of job use_ (record { name = Spelled text; options = no_options }) ≡ plain_want text
+want_of_plain job Requested text = refl
+want_of_plain job Named text = refl
+
+pub pushed : (ws ws' : List Want) (w : Result Want Refusal) (u : Unit {0}) → Ok u ≡ refused_by w → ws' ≡ with_want ws w → (want : Want) × (w ≡ Ok want) × (ws' ≡ ws ++ want ∷ [])
+pushed ws ws' (Ok want) u h items = (want, refl, items)
+pushed ws ws' (Err why) u h items = absurd (cc)
+
+pub refused : (ws ws' : List Want) (w : Result Want Refusal) (why : Refusal) → Err why ≡ refused_by w → ws' ≡ with_want ws w → (w ≡ Err why) × (ws' ≡ ws)
+refused ws ws' (Ok want) why h items = absurd (cc)
+refused ws ws' (Err other) why h items = (cc, items)
 
 -- reading one more item
 map-push : (seen : List Lock) (lock : Lock) (o : Option (List Lock)) → option_map (λ ls. seen ++ ls) (option_map (λ ls. lock ∷ ls) o) ≡ option_map (λ ls. (seen ++ lock ∷ []) ++ ls) o
@@ -87,30 +103,6 @@ gathers-want job use_ all old rest item lock count next wants wants' want refusa
       wants_of-push job use_ g.seen lock ∙ ap (λ w. join w (want_of job use_ lock)) (g.told (omega arith)) ∙ ap (join (told_by refusal wants)) wanted ∙ join-told refusal wants want ∙ ap (told_by refusal) (sym pushed);
 }
 
-pub gathers-refusal : (job : ℕ) (use_ : LockUse) (all old rest : List (List ℕ)) (item : List ℕ) (lock : Lock) (count next : ℕ) (wants : List Want) (refusal refusal' : Option Refusal) (why : Refusal)
-    → Gathers job use_ all old count wants refusal → old ≡ item ∷ rest → lock_of item ≡ Some lock → next ≡ min 16 count + 1
-    → want_of job use_ lock ≡ Err why → refusal' ≡ option_or refusal (Some why) → Gathers job use_ all rest next wants refusal'
-gathers-refusal job use_ all old rest item lock count next wants refusal refusal' why g taken is counted wanted first = record {
-  seen = g.seen ++ lock ∷ [];
-  read = read-push all old rest item g.seen lock g.read taken is;
-  counted = let c = g.counted in let n = length-append g.seen (lock ∷ []) in omega arith;
-  told = λ h.
-      let n = length-append g.seen (lock ∷ []) in
-      wants_of-push job use_ g.seen lock ∙ ap (λ w. join w (want_of job use_ lock)) (g.told (omega arith)) ∙ ap (join (told_by refusal wants)) wanted ∙ join-refused refusal wants why
-      ∙ ap (λ r. told_by r wants) (sym first);
-}
-
--- a lock that is not looked at
-pub gathers-more : (job : ℕ) (use_ : LockUse) (all old rest : List (List ℕ)) (item : List ℕ) (lock : Lock) (count next : ℕ) (wants : List Want) (refusal : Option Refusal)
-    → Gathers job use_ all old count wants refusal → old ≡ item ∷ rest → lock_of item ≡ Some lock → next ≡ min 16 count + 1 → 16 ≤ count
-    → Gathers job use_ all rest next wants refusal
-gathers-more job use_ all old rest item lock count next wants refusal g taken is counted many = record {
-  seen = g.seen ++ lock ∷ [];
-  read = read-push all old rest item g.seen lock g.read taken is;
-  counted = let c = g.counted in let n = length-append g.seen (lock ∷ []) in omega arith;
-  told = λ h. let c = g.counted in let n = length-append g.seen (lock ∷ []) in absurd (omega arith);
-}
-
 -- ---- the end
 
 -- an item that is no lock
@@ -141,6 +133,83 @@ gathers-all job use_ all rest count wants refusal g empty one most =
     let c = g.counted in
     ap (option_map (call_wants job use_)) (all-read all g.seen rest g.read empty)
     ∙ ap Some (few (length g.seen) _ _ (omega arith) (omega arith) ∙ ap stored (g.told (omega arith)))
+
+-- ---- a call that is refused
+
+wants_of-refused : (job : ℕ) (use_ : LockUse) (locks more : List Lock) (why : Refusal) → wants_of job use_ locks ≡ Err why → wants_of job use_ (locks ++ more) ≡ Err why
+wants_of-refused job use_ [] more why h = absurd (cc)
+wants_of-refused job use_ (l ∷ ls) more why h = first (want_of job use_ l) (wants_of job use_ ls) (wants_of job use_ (ls ++ more)) h (λ e. wants_of-refused job use_ ls more why e)
+  where
+    first : (w : Result Want Refusal) (ws all : Result (List Want) Refusal) → onto_wants w ws ≡ Err why → (ws ≡ Err why → all ≡ Err why) → onto_wants w all ≡ Err why
+    first (Err r) ws all h later = h
+    first (Ok w) (Err r) all h later = let e = later h in rw e refl
+    first (Ok w) (Ok ws) all h later = absurd (cc)
+
+few_refused : (n m : ℕ) (x y z : Result (ArrayVec Want) Refusal) → 1 ≤ n → m ≡ n → x ≡ y → cond (nat_le 1 n && nat_le n 16) x z ≡ cond (nat_le m 16) y z
+few_refused n m x y z one same e = grind (arith, nat_tests)
+
+filled_refused : (b : Bool) (why : Refusal) (wants : ArrayVec Want) → filled (Some (cond b (Err why) (Err BadCount))) wants ≡ Some (cond b (Err why) (Err BadCount))
+filled_refused true why wants = refl
+filled_refused false why wants = refl
+
+pub gathers-refused : (job : ℕ) (use_ : LockUse) (all old rest : List (List ℕ)) (item : List ℕ) (lock : Lock) (count : ℕ) (wants : List Want) (after : ArrayVec Want) (why : Refusal) (r : Option (Result (Unit {0}) Refusal))
+    → Gathers job use_ all old count wants None → count ≤ 16 → old ≡ item ∷ rest → lock_of item ≡ Some lock → want_of job use_ lock ≡ Err why
+    → r ≡ option_map (refused_with (count + 1) why) (locks_of rest) → filled r after ≡ option_map (call_wants job use_) (locks_of all)
+gathers-refused job use_ all old rest item lock count wants after why r g few taken is wrong result =
+    ap (λ x. filled x after) result ∙ finish (locks_of rest)
+    ∙ sym (ap (option_map (call_wants job use_)) (read-push all old rest item g.seen lock g.read taken is))
+  where
+    seen : List Lock
+    seen = g.seen ++ lock ∷ []
+
+    refused-so : wants_of job use_ seen ≡ Err why
+    refused-so =
+        let c = g.counted in
+        wants_of-push job use_ g.seen lock ∙ ap (λ w. join w (want_of job use_ lock)) (g.told (omega (arith, few))) ∙ ap (join (Ok wants)) wrong
+
+    finish : (o : Option (List Lock)) → filled (option_map (refused_with (count + 1) why) o) after ≡ option_map (call_wants job use_) (option_map (λ ls. seen ++ ls) o)
+    finish None = refl
+    finish (Some ls) =
+        let c = g.counted in
+        let n = length-append g.seen (lock ∷ []) in
+        let m = length-append seen ls in
+        filled_refused (nat_le (count + 1 + length ls) 16) why after
+        ∙ ap Some (sym (few_refused (length (seen ++ ls)) (count + 1 + length ls) _ _ _ (omega arith) (omega (arith, few)) (ap stored (wants_of-refused job use_ seen ls why refused-so))))
+
+pub gathers-full : (job : ℕ) (use_ : LockUse) (all old rest : List (List ℕ)) (item : List ℕ) (lock : Lock) (count : ℕ) (wants : List Want) (after : ArrayVec Want) (r : Option (Result (Unit {0}) Refusal))
+    → Gathers job use_ all old count wants None → 16 ≤ count → old ≡ item ∷ rest → lock_of item ≡ Some lock
+    → r ≡ option_map (refused_with 17 BadCount) (locks_of rest) → filled r after ≡ option_map (call_wants job use_) (locks_of all)
+gathers-full job use_ all old rest item lock count wants after r g many taken is result =
+    ap (λ x. filled x after) result ∙ finish (locks_of rest)
+    ∙ sym (ap (option_map (call_wants job use_)) (read-push all old rest item g.seen lock g.read taken is))
+  where
+    seen : List Lock
+    seen = g.seen ++ lock ∷ []
+
+    same : (b : Bool) → filled (Some (cond b (Err BadCount) (Err BadCount))) after ≡ Some (Err BadCount)
+    same true = refl
+    same false = refl
+
+    finish : (o : Option (List Lock)) → filled (option_map (refused_with 17 BadCount) o) after ≡ option_map (call_wants job use_) (option_map (λ ls. seen ++ ls) o)
+    finish None = refl
+    finish (Some ls) =
+        let c = g.counted in
+        let n = length-append g.seen (lock ∷ []) in
+        let m = length-append seen ls in
+        same (nat_le (17 + length ls) 16) ∙ ap Some (sym (few_or_many (length (seen ++ ls)) _ _ (λ one most. omega (arith, many))))
+
+counts_on : (n m : ℕ) (x y : Result (Unit {0}) Refusal) → cond (nat_le (min 16 n + 1 + m) 16) x y ≡ cond (nat_le (n + suc m) 16) x y
+counts_on n m x y = grind (arith, nat_tests)
+
+pub refuse-more : (count next : ℕ) (why : Refusal) (old rest : List (List ℕ)) (item : List ℕ) (lock : Lock) → next ≡ min 16 count + 1 → old ≡ item ∷ rest → lock_of item ≡ Some lock
+    → option_map (refused_with next why) (locks_of rest) ≡ option_map (refused_with count why) (locks_of old)
+refuse-more count next why old rest item lock counted taken is =
+    ap (λ n. option_map (refused_with n why) (locks_of rest)) counted ∙ finish (locks_of rest)
+    ∙ sym (ap (option_map (refused_with count why)) (ap locks_of taken ∙ locks_of-cons item rest lock is))
+  where
+    finish : (o : Option (List Lock)) → option_map (refused_with (min 16 count + 1) why) o ≡ option_map (refused_with count why) (option_map (λ ls. lock ∷ ls) o)
+    finish None = refl
+    finish (Some ls) = ap Some (counts_on count (length ls) (Err why) (Err BadCount))
 
 -- ---- calls that are filled in
 

@@ -1,5 +1,5 @@
 -- The locks of a command, and what a call wants of them (this project's profile).
-use Rattle.std.specs.Prelude.{◌≡◌, ◌<◌, ◌==◌, ◌&&◌, ◌||◌, ℕ, Bool, true, List, [], ◌∷◌, length, Option, Some, None, Result, Ok, Err, if◌then◌else◌, option_and_then, option_map, unwrap_or, nat_le}
+use Rattle.std.specs.Prelude.{◌≡◌, ◌<◌, ◌==◌, ◌&&◌, ◌||◌, ◌++◌, ◌+◌, ℕ, Bool, true, false, List, [], ◌∷◌, length, Option, Some, None, Result, Ok, Err, if◌then◌else◌, option_and_then, option_map, unwrap_or, nat_le}
 use Rattle.std.specs.List.{list_all}
 use Rattle.arrayvec.specs.ArrayVec.{ArrayVec}
 use Rattle.word36.specs.declared.sizes.TheConstants.{LOCKS_A_CALL, NAME_LENGTH}
@@ -15,9 +15,11 @@ use Rattle.lock_queue.specs.declared.terms.Terms.{Terms}
 use Rattle.lock_queue.specs.declared.want.Want.{Want}
 use Rattle.queue_script.specs.Numbers.{number, parts}
 use Rattle.queue_script.specs.Options.{no_options, options_from}
+use Rattle.queue_script.specs.declared.locks.FirstLock.{FirstLock}
+use Rattle.queue_script.specs.declared.locks.FirstLock.TheVariants as AtFirst
 use Rattle.queue_script.specs.declared.locks.Lock.{Lock}
 use Rattle.queue_script.specs.declared.locks.LockName.{LockName}
-use Rattle.queue_script.specs.declared.locks.LockName.TheVariants.{Fitting, TooLong}
+use Rattle.queue_script.specs.declared.locks.LockName.TheVariants.{Spelled, Coded}
 use Rattle.queue_script.specs.declared.locks.TheConstants.{CODE_DIGITS, MOST_CODE}
 use Rattle.queue_script.specs.declared.options.Options.{Options}
 use Rattle.queue_script.specs.declared.options.PoolOption.{PoolOption}
@@ -34,18 +36,15 @@ is_name_character c =
 abbrev pub user_code : List ℕ → Option ℕ
 user_code digits = if nat_le (length digits) CODE_DIGITS then number 8 MOST_CODE digits else None
 
--- a name of characters, which may be too long for a lock
-abbrev pub text_name : List ℕ → LockName
-text_name text = if nat_le (length text) NAME_LENGTH then Fitting (Text text) else TooLong
-
+-- a name in characters, which may be too long for a lock
 abbrev pub name_of_characters : List ℕ → Option LockName
-name_of_characters text = if list_all is_name_character text then Some (text_name text) else None
+name_of_characters text = if list_all is_name_character text then Some (Spelled text) else None
 
 -- the name that a text spells: `#` and a user code, or one or more characters
 abbrev pub name_of : List ℕ → Option LockName
 name_of [] = None
 name_of (c ∷ rest) =
-    if c == 35 then option_map (λ code. Fitting (Code code)) (user_code rest) else name_of_characters (c ∷ rest)
+    if c == 35 then option_map Coded (user_code rest) else name_of_characters (c ∷ rest)
 
 -- the lock of some texts: a name and options
 abbrev pub lock_of_parts : List (List ℕ) → Option Lock
@@ -62,10 +61,10 @@ abbrev pub locks_of : List (List ℕ) → Option (List Lock)
 locks_of [] = Some []
 locks_of (item ∷ more) = option_and_then (λ lock. option_map (λ locks. lock ∷ locks) (locks_of more)) (lock_of item)
 
--- the first item of some has this name in characters, these options, and these items behind it
-abbrev pub SplitsLock : List ℕ → List ℕ → List (List ℕ) → List (List ℕ) → Type 0
-SplitsLock items name options others =
-    (item : List ℕ) × (parts 32 items ≡ item ∷ others) × (parts 47 item ≡ name ∷ options) × (list_all is_name_character name ≡ true) × (0 < length name)
+-- the lock that the first of some items spells: a name alone has no options
+abbrev pub any_lock : FirstLock → Lock
+any_lock (AtFirst.Name name) = record { name = Spelled name; options = no_options }
+any_lock (AtFirst.Lock lock) = lock
 
 -- the first of some items spells this lock, or none, and these are behind it
 abbrev pub IsFirstLock : List (List ℕ) → Option Lock → List (List ℕ) → Type 0
@@ -90,13 +89,31 @@ abbrev pub terms_of : Options → Terms
 terms_of o =
     record { shared = o.shared; bypass = o.bypass; level = unwrap_or o.level 0; pool_size = size_in o.pool; pool_amount = amount_in o.pool }
 
--- what a job's call wants of a lock, or why that is refused
+-- what a job's call wants of a lock, or why that is refused: a name in characters has at most 30
 abbrev pub want_of_name : ℕ → LockUse → LockName → Options → Result Want Refusal
-want_of_name job use_ TooLong o = Err BadName
-want_of_name job use_ (Fitting name) o = want_on use_ (key_of job name o.own) (terms_of o)
+want_of_name job use_ (Spelled text) o =
+    if nat_le (length text) NAME_LENGTH then want_on use_ (key_of job (Text text) o.own) (terms_of o) else Err BadName
+want_of_name job use_ (Coded code) o = want_on use_ (key_of job (Code code) o.own) (terms_of o)
 
 abbrev pub want_of : ℕ → LockUse → Lock → Result Want Refusal
 want_of job use_ lock = want_of_name job use_ lock.name lock.options
+
+-- what any call wants of the lock of a name alone
+abbrev pub plain_want : List ℕ → Result Want Refusal
+plain_want text =
+    if nat_le (length text) NAME_LENGTH
+    then Ok (record { key = record { scope = All; name = Text text }; shared = false; bypass = false; level = 0; pool = None })
+    else Err BadName
+
+-- some wants and one more, where it is not refused
+abbrev pub with_want : List Want → Result Want Refusal → List Want
+with_want wants (Ok want) = wants ++ want ∷ []
+with_want wants (Err refusal) = wants
+
+-- why a want is refused, if it is
+abbrev pub refused_by : Result Want Refusal → Result (Unit {0}) Refusal
+refused_by (Ok want) = Ok tt
+refused_by (Err refusal) = Err refusal
 
 -- a want in front of others, or the first refusal
 abbrev pub onto_wants : Result Want Refusal → Result (List Want) Refusal → Result (List Want) Refusal
@@ -117,3 +134,7 @@ stored (Err refusal) = Err refusal
 abbrev pub call_wants : ℕ → LockUse → List Lock → Result (ArrayVec Want) Refusal
 call_wants job use_ locks =
     if nat_le 1 (length locks) && nat_le (length locks) LOCKS_A_CALL then stored (wants_of job use_ locks) else Err BadCount
+
+-- why a call is refused that names so many locks and these, where one of them is wrong: their number is looked at first
+abbrev pub refused_with : ℕ → Refusal → List Lock → Result (Unit {0}) Refusal
+refused_with count why locks = if nat_le (count + length locks) LOCKS_A_CALL then Err why else Err BadCount

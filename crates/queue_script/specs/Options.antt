@@ -1,5 +1,5 @@
 -- The options of a lock: `/S`, `/B`, `/Ln`, `/Ps:a` and `/J` (this project's profile).
-use Rattle.std.specs.Prelude.{◌==◌, ℕ, true, false, List, [], ◌∷◌, Option, Some, None, if◌then◌else◌, option_and_then, option_map}
+use Rattle.std.specs.Prelude.{◌≡◌, ◌==◌, ◌&&◌, not, ℕ, Bool, true, false, List, [], ◌∷◌, Option, Some, None, if◌then◌else◌, option_and_then, option_map}
 use Rattle.queue_script.specs.Numbers.{number, parts}
 use Rattle.queue_script.specs.declared.options.LockOption.{LockOption}
 use Rattle.queue_script.specs.declared.options.LockOption.TheVariants.{Shared, Bypass, Level, Pool, Own}
@@ -50,3 +50,12 @@ abbrev pub options_from : Options → List (List ℕ) → Option Options
 options_from o [] = Some o
 options_from o (text ∷ more) =
     option_and_then (λ option. option_and_then (λ next. options_from next more) (with_option o option)) (option_of text)
+
+-- neither a slash nor a blank, which end an option
+abbrev pub is_option_character : ℕ → Bool
+is_option_character c = not (c == 47) && not (c == 32)
+
+-- the first of some items spells what makes these options of some others, and these items are behind it
+abbrev pub SpellsOptions : Options → List ℕ → Options → List (List ℕ) → Type 0
+SpellsOptions before items options others =
+    (item : List ℕ) × (parts 32 items ≡ item ∷ others) × (options_from before (parts 47 item) ≡ Some options)

@@ -1,9 +1,10 @@
 //! The wants of a call.
-ghost use Rattle.std.specs.Prelude.{◌≡◌, [], option_map};
+ghost use Rattle.std.specs.Prelude.{◌≡◌, ◌≤◌, ◌+◌, [], option_map};
+ghost use Rattle.word36.specs.declared.sizes.TheConstants.{LOCKS_A_CALL};
 ghost use Rattle.queue_script.specs.Borrowed.{filled};
-ghost use Rattle.queue_script.specs.Locks.{locks_of, call_wants};
+ghost use Rattle.queue_script.specs.Locks.{locks_of, call_wants, refused_with};
 
-use crate::locks::next_lock;
+use crate::locks::{next_lock, read_lock};
 use crate::parts::Parts;
 use lock_queue::{LockUse, Refusal, Wants};
 use word36::LOCKS_A_CALL;
@@ -20,6 +21,28 @@ fn clear(wants: &mut Wants)
     }
 }
 
+/// Why a call is refused that names so many locks and those of some items, where `why` is wrong with
+/// one of them: their number is looked at first. None where an item is no lock.
+#[inline(never)]
+fn refuse(mut items: Parts<'_>, first: usize, why: Refusal) -> Option<Result<(), Refusal>>
+    requires { first ≤ LOCKS_A_CALL + 1 }
+    ensures { result ≡ option_map (refused_with first why) (locks_of items.entry) }
+{
+    let mut count = first;
+    while let Some(item) = items.next() {
+        match read_lock(item) {
+            None => return None,
+            Some(_) => {}
+        }
+        count = LOCKS_A_CALL.min(count) + 1;
+    }
+    if count > LOCKS_A_CALL {
+        Some(Err(Refusal::BadCount))
+    } else {
+        Some(Err(why))
+    }
+}
+
 /// Fills in the wants that the items of a line spell, or says why the call is refused; None where
 /// an item is no lock.
 pub fn read_wants(
@@ -30,24 +53,20 @@ pub fn read_wants(
 ) -> Option<Result<(), Refusal>>
     ensures { filled result wants.new ≡ option_map (call_wants job lock_use) (locks_of items.entry) }
 {
-    let mut count = 0;
-    let mut refusal = None;
     clear(wants);
     while let Some(item) = next_lock(&mut items) {
         let lock = item?;
-        if count < LOCKS_A_CALL {
-            match lock.into_want(job, lock_use) {
-                Ok(want) => wants.push(want),
-                Err(why) => refusal = refusal.or(Some(why)),
-            }
+        if wants.is_full() {
+            return refuse(items, LOCKS_A_CALL + 1, Refusal::BadCount);
         }
-        count = LOCKS_A_CALL.min(count) + 1;
+        let count = wants.len();
+        match lock.push_want(job, lock_use, wants) {
+            Ok(()) => {}
+            Err(why) => return refuse(items, count + 1, why),
+        }
     }
-    if count == 0 || count > LOCKS_A_CALL {
+    if wants.is_empty() {
         return Some(Err(Refusal::BadCount));
     }
-    match refusal {
-        None => Some(Ok(())),
-        Some(refusal) => Some(Err(refusal)),
-    }
+    Some(Ok(()))
 }

@@ -1,14 +1,18 @@
 //! The locks of a command.
-ghost use Rattle.std.specs.Prelude.{◌≡◌, ◌<◌, ◌≤◌, true, [], ◌∷◌, length, take, ◌^◌, IfSome, MatchOption};
+ghost use Rattle.std.specs.Prelude.{◌≡◌, ◌<◌, ◌≤◌, true, [], ◌∷◌, length, take, ◌^◌, Some, IfSome, MatchOption, option_map};
 ghost use Rattle.std.specs.List.{list_all};
 ghost use Rattle.queue_script.specs.Options.{no_options};
 ghost use Rattle.queue_script.specs.Numbers.{parts, texts_in};
-ghost use Rattle.queue_script.specs.Locks.{is_name_character, user_code, text_name, name_of_characters, name_of, lock_of, lock_of_parts, want_of, key_of, SplitsLock, IsFirstLock};
+ghost use Rattle.queue_script.specs.Locks.{is_name_character, user_code, name_of_characters, name_of, lock_of, any_lock, want_of, plain_want, with_want, refused_by, key_of, terms_of, IsFirstLock};
+ghost use Rattle.arrayvec.specs.ArrayVec.{array_vec_len};
+ghost use Rattle.lock_queue.specs.Uses.{want_on};
+ghost use Rattle.word36.specs.declared.sizes.TheConstants.{LOCKS_A_CALL};
 
 use crate::numbers::number;
-use crate::options::{Options, read_options};
-use crate::parts::{Parts, split_part};
-use lock_queue::{Key, LockUse, Name, NameText, Refusal, Scope, UserCode, Want};
+use crate::options::{Options, front_options, read_options};
+use crate::parts::Parts;
+use lock_queue::{Key, Level, LockUse, Name, NameText, Refusal, Scope, UserCode, Want, Wants};
+use std::marker::Model;
 use std::str;
 
 /// The largest user code, a number of 33 bits.
@@ -17,22 +21,48 @@ const MOST_CODE: u64 = 0o77_777_777_777;
 /// The most digits of a user code.
 const CODE_DIGITS: usize = 11;
 
-/// A lock's name as the script spells it.
+/// A name in characters where it stands in a line: one character or more. It may be too long for a
+/// lock.
 #[derive(Drop)]
-pub enum LockName {
-    /// A name that a lock can have.
-    Fitting(Name),
-    /// A text that is too long for a name.
-    TooLong,
+pub struct Characters<'a> {
+    text: &'a str,
 }
 
-/// A lock as the script spells it.
+impl<'a> Model for Characters<'a> {
+    ghost use Rattle.std.specs.Prelude.{ℕ, List, ◌<◌, length};
+
+    ghost Value = { List ℕ };
+
+    ghost view = { λ c. c.text.now };
+
+    ghost invariant = { λ c. 0 < length c.text.now };
+}
+
+/// A lock's name as a line spells it.
 #[derive(Drop)]
-pub struct Lock {
+pub enum LockName<'a> {
+    /// A name in characters. It is not copied yet.
+    Spelled(Characters<'a>),
+    /// A name in bits.
+    Coded(UserCode),
+}
+
+/// A lock as a line spells it.
+#[derive(Drop)]
+pub struct Lock<'a> {
     /// Its name.
-    pub name: LockName,
+    pub name: LockName<'a>,
     /// Its options.
     pub options: Options,
+}
+
+/// The first lock of some items.
+#[derive(Drop)]
+pub enum FirstLock<'a> {
+    /// A name in characters alone, as most locks are.
+    Name(Characters<'a>),
+    /// A lock of any form.
+    Lock(Lock<'a>),
 }
 
 /// 1 for each character that a name may have, and 0 for the others.
@@ -69,31 +99,6 @@ fn name_length(text: &[u8]) -> usize
     text.len()
 }
 
-/// The name in characters and the options of the first item of some, and the other items: the name is
-/// gone over once. None where the item begins otherwise.
-#[inline(always)]
-fn split_lock(items: &[u8]) -> Option<(&[u8], Option<&[u8]>, Option<&[u8]>)>
-    ensures { IfSome result (λ r. SplitsLock items.now r.0.now (texts_in 47 r.1) (texts_in 32 r.2)) }
-{
-    let count = name_length(items);
-    if count == 0 {
-        return None;
-    }
-    let name = &items[..count];
-    if count == items.len() {
-        return Some((name, None, None));
-    }
-    let behind = &items[count + 1..];
-    if items[count] == b' ' {
-        return Some((name, None, Some(behind)));
-    }
-    if items[count] != b'/' {
-        return None;
-    }
-    let (options, others) = split_part(behind, b' ');
-    Some((name, Some(options), others))
-}
-
 /// Whether a name may have these characters.
 fn has_name_characters(text: &[u8]) -> bool
     ensures { result ≡ list_all is_name_character text.now }
@@ -114,26 +119,23 @@ fn read_code(digits: &[u8]) -> Option<u64>
 
 /// The name of these characters, which may be too long for a lock.
 #[inline(always)]
-fn text_name(text: &[u8]) -> LockName
+fn spelled(text: &[u8]) -> Characters<'_>
     requires named { list_all is_name_character text.now ≡ true }
     requires some { 0 < length text.now }
-    ensures { result ≡ text_name text.now }
+    ensures { result ≡ text.now }
 {
     // What is read is ASCII, and so it is UTF-8.
     let text = unsafe { str::from_utf8_unchecked(text) };
-    match NameText::new(text) {
-        Some(name) => LockName::Fitting(Name::Text(name)),
-        None => LockName::TooLong,
-    }
+    Characters { text }
 }
 
 /// The name of these characters, if a name may have them.
-fn read_text(text: &[u8]) -> Option<LockName>
+fn read_text(text: &[u8]) -> Option<LockName<'_>>
     requires { 0 < length text.now }
     ensures { result ≡ name_of_characters text.now }
 {
     if has_name_characters(text) {
-        Some(text_name(text))
+        Some(LockName::Spelled(spelled(text)))
     } else {
         None
     }
@@ -141,55 +143,70 @@ fn read_text(text: &[u8]) -> Option<LockName>
 
 /// The name that a text spells.
 #[inline(always)]
-fn read_name(text: &[u8]) -> Option<LockName>
+fn read_name(text: &[u8]) -> Option<LockName<'_>>
     ensures { result ≡ name_of text.now }
 {
     match text.split_first() {
         None => None,
         Some((b'#', digits)) => {
             let code = UserCode::new(read_code(digits)?);
-            Some(LockName::Fitting(Name::Code(code)))
+            Some(LockName::Coded(code))
         }
         Some(_) => read_text(text),
     }
 }
 
-/// The lock of a name in characters and of some options.
+/// The lock that the first item of some spells, and the other items, where its name is in characters:
+/// it is gone over once. None where the item begins otherwise, or is no lock.
 #[inline(always)]
-#[tactic(auto, using(crate::proofs::ItemLemmas::lock_named))]
-fn named_lock(name: &[u8], options: Option<&[u8]>) -> Option<Lock>
-    requires named { list_all is_name_character name.now ≡ true }
-    requires some { 0 < length name.now }
-    ensures { result ≡ lock_of_parts (name.now ∷ texts_in 47 options.entry) }
+fn named_lock(items: &[u8]) -> Option<(FirstLock<'_>, Option<&[u8]>)>
+    ensures { IfSome result (λ r. IsFirstLock (parts 32 items.now) (Some (any_lock r.0)) (texts_in 32 r.1)) }
 {
-    let options = match options {
-        None => Options::none(),
-        Some(texts) => read_options(Parts::of(texts, b'/'))?,
-    };
-    Some(Lock {
-        name: text_name(name),
-        options,
-    })
+    let count = name_length(items);
+    if count == 0 {
+        return None;
+    }
+    let name = &items[..count];
+    if count == items.len() {
+        return Some((FirstLock::Name(spelled(name)), None));
+    }
+    let behind = &items[count + 1..];
+    if items[count] == b' ' {
+        return Some((FirstLock::Name(spelled(name)), Some(behind)));
+    }
+    if items[count] != b'/' {
+        return None;
+    }
+    match front_options(behind) {
+        None => None,
+        Some((options, others)) => {
+            let name = LockName::Spelled(spelled(name));
+            Some((FirstLock::Lock(Lock { name, options }), others))
+        }
+    }
 }
 
 /// Takes the first of some items, and reads the lock that it spells, if it is one.
 #[inline(always)]
-pub fn next_lock<'a>(items: &mut Parts<'a>) -> Option<Option<Lock>>
-    ensures { MatchOption result (items.old ≡ []) (λ lock. IsFirstLock items.old lock items.new) }
+pub fn next_lock<'a>(items: &mut Parts<'a>) -> Option<Option<FirstLock<'a>>>
+    ensures { MatchOption result (items.old ≡ []) (λ lock. IsFirstLock items.old (option_map any_lock lock) items.new) }
 {
     if let Some(text) = items.left() {
-        if let Some((name, options, others)) = split_lock(text) {
+        if let Some((lock, others)) = named_lock(text) {
             *items = Parts::between_blanks(others);
-            return Some(named_lock(name, options));
+            return Some(Some(lock));
         }
     }
     let item = items.next()?;
-    Some(read_lock(item))
+    match read_lock(item) {
+        None => Some(None),
+        Some(lock) => Some(Some(FirstLock::Lock(lock))),
+    }
 }
 
 /// The lock that an item of a line spells.
 #[inline(always)]
-pub fn read_lock(item: &[u8]) -> Option<Lock>
+pub fn read_lock(item: &[u8]) -> Option<Lock<'_>>
     ensures { result ≡ lock_of item.now }
 {
     let mut texts = Parts::of(item, b'/');
@@ -200,6 +217,7 @@ pub fn read_lock(item: &[u8]) -> Option<Lock>
 }
 
 /// The key of a name.
+#[inline(always)]
 fn key_of(job: u8, name: Name, own: bool) -> Key
     ensures { result ≡ key_of job name own }
 {
@@ -207,18 +225,75 @@ fn key_of(job: u8, name: Name, own: bool) -> Key
     Key { scope, name }
 }
 
-impl Lock {
-    /// What a job's call wants of the lock, or why that is refused.
+/// Puts what a call wants of the lock of this name behind other wants, or says why that is refused.
+#[inline(always)]
+fn push_named(
+    name: Name,
+    options: Options,
+    job: u8,
+    lock_use: LockUse,
+    wants: &mut Wants,
+) -> Result<(), Refusal>
+    requires { array_vec_len wants.old < LOCKS_A_CALL }
+    ensures answer { result ≡ refused_by (want_on lock_use (key_of job name options.own) (terms_of options)) }
+    ensures items { wants.new.items ≡ with_want wants.old.items (want_on lock_use (key_of job name options.own) (terms_of options)) }
+{
+    let key = key_of(job, name, options.own);
+    match Want::on(lock_use, key, options.terms()) {
+        Ok(want) => {
+            wants.push(want);
+            Ok(())
+        }
+        Err(refusal) => Err(refusal),
+    }
+}
+
+/// Puts what any call wants of the lock of a name alone behind other wants, or says why that is
+/// refused.
+#[inline(always)]
+fn push_plain(name: Characters<'_>, wants: &mut Wants) -> Result<(), Refusal>
+    requires { array_vec_len wants.old < LOCKS_A_CALL }
+    ensures answer { result ≡ refused_by (plain_want name.entry) }
+    ensures items { wants.new.items ≡ with_want wants.old.items (plain_want name.entry) }
+{
+    match NameText::new(name.text) {
+        Some(text) => {
+            wants.push(Want {
+                key: Key {
+                    scope: Scope::All,
+                    name: Name::Text(text),
+                },
+                shared: false,
+                bypass: false,
+                level: Level::new(0),
+                pool: None,
+            });
+            Ok(())
+        }
+        None => Err(Refusal::BadName),
+    }
+}
+
+impl FirstLock<'_> {
+    /// Puts what a job's call wants of the lock behind other wants, or says why that is refused. Here
+    /// the name is copied.
     #[inline(always)]
-    pub fn into_want(self, job: u8, lock_use: LockUse) -> Result<Want, Refusal>
-        ensures { result ≡ want_of job lock_use self }
+    #[tactic(auto, using(crate::proofs::WantLemmas::want_of_plain))]
+    pub fn push_want(self, job: u8, lock_use: LockUse, wants: &mut Wants) -> Result<(), Refusal>
+        requires { array_vec_len wants.old < LOCKS_A_CALL }
+        ensures answer { result ≡ refused_by (want_of job lock_use (any_lock self.entry)) }
+        ensures items { wants.new.items ≡ with_want wants.old.items (want_of job lock_use (any_lock self.entry)) }
     {
-        let Lock { name, options } = self;
-        let name = match name {
-            LockName::Fitting(name) => name,
-            LockName::TooLong => return Err(Refusal::BadName),
+        let Lock { name, options } = match self {
+            FirstLock::Name(name) => return push_plain(name, wants),
+            FirstLock::Lock(lock) => lock,
         };
-        let key = key_of(job, name, options.own);
-        Want::on(lock_use, key, options.terms())
+        match name {
+            LockName::Coded(code) => push_named(Name::Code(code), options, job, lock_use, wants),
+            LockName::Spelled(name) => match NameText::new(name.text) {
+                Some(text) => push_named(Name::Text(text), options, job, lock_use, wants),
+                None => Err(Refusal::BadName),
+            },
+        }
     }
 }

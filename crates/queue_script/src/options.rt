@@ -1,8 +1,9 @@
 //! The options of a lock.
-ghost use Rattle.std.specs.Prelude.{◌≡◌, ◌^◌, ◌<◌, IfSome};
-ghost use Rattle.queue_script.specs.Numbers.{parts};
+ghost use Rattle.std.specs.Prelude.{◌≡◌, ◌^◌, ◌<◌, ◌≤◌, true, length, take, IfSome};
+ghost use Rattle.std.specs.List.{list_all};
+ghost use Rattle.queue_script.specs.Numbers.{parts, texts_in};
 ghost use Rattle.queue_script.specs.Locks.{terms_of};
-ghost use Rattle.queue_script.specs.Options.{half_of, option_of, pool_of, with_option, options_from, no_options};
+ghost use Rattle.queue_script.specs.Options.{half_of, option_of, pool_of, with_option, options_from, no_options, is_option_character, SpellsOptions};
 
 use crate::numbers::number;
 use crate::parts::Parts;
@@ -168,4 +169,51 @@ pub fn read_options(mut texts: Parts<'_>) -> Option<Options>
         options = options.with(read_option(text)?)?;
     }
     Some(options)
+}
+
+/// Whether an option may have this character: it ends no option.
+#[inline(always)]
+fn is_option_character(character: u8) -> bool
+    ensures { result ≡ is_option_character character }
+{
+    character != b'/' && character != b' '
+}
+
+/// How long the option is that stands in front of some items.
+#[inline(always)]
+fn option_length(text: &[u8]) -> usize
+    ensures within { result ≤ length text.now }
+    ensures within_option { list_all is_option_character (take result text.now) ≡ true }
+{
+    for (i, character) in text.iter().enumerate() {
+        if !is_option_character(*character) {
+            return i;
+        }
+    }
+    text.len()
+}
+
+/// The options that stand in front of some items, each but the first behind a `/`, and those items:
+/// they are gone over once. None where they are not right.
+#[inline(always)]
+pub fn front_options(text: &[u8]) -> Option<(Options, Option<&[u8]>)>
+    ensures { IfSome result (λ r. SpellsOptions no_options text.now r.0 (texts_in 32 r.1)) }
+{
+    let mut options = Options::none();
+    let mut rest = text;
+    loop {
+        let length = option_length(rest);
+        options = options.with(read_option(&rest[..length])?)?;
+        if length == rest.len() {
+            return Some((options, None));
+        }
+        let behind = &rest[length + 1..];
+        if rest[length] == b' ' {
+            return Some((options, Some(behind)));
+        }
+        if rest[length] != b'/' {
+            return None;
+        }
+        rest = behind;
+    }
 }

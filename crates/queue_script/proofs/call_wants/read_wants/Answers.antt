@@ -1,30 +1,30 @@
-use Rattle.std.proofs.Common.{◌≡◌, ◌+◌, min, arith, ap, sym, ◌∙◌}
-use Rattle.queue_script.proofs.WantLemmas.{gathers-want, gathers-refusal, gathers-more}
+use Rattle.std.proofs.Common.{◌≡◌, ◌≤◌, ◌<◌, ◌+◌, [], ◌∷◌, min, length, length-append, arith, ap, sym, ◌∙◌}
+use Rattle.std.proofs.lemmas.Bool.Decides.{nat_tests}
+use Rattle.std.specs.Prelude.{option_map}
+use Rattle.queue_script.specs.Locks.{any_lock, locks_of, refused_with}
+use Rattle.queue_script.proofs.WantLemmas.{pushed, refused, gathers-want, gathers-refused, gathers-full}
 use Rattle.queue_script.proofs.call_wants.read_wants.Goals as goal
-use Rattle.queue_script.proofs.call_wants.read_wants.Goals.{then-count-lt-LOCKS_A_CALL+in-Ok, then-count-lt-LOCKS_A_CALL+in-Err, else-count-lt-LOCKS_A_CALL}
+
+pub returns-then-is_full : goal.returns-then-is_full
+returns-then-is_full c =
+    let full : 16 ≤ length c.loop-item.wants.items = grind (arith, nat_tests, c.is_full.ensures.value, c.if-is_full.true) in
+    gathers-full _ _ _ _ _ _ _ _ _ _ _ c.loop-item.invariant.gathers full c.in-Some.ensures.1 (c.in-Some.ensures.2 ∙ ap (option_map any_lock) c.in_ok-lock.was) c.refuse.ensures
 
 pub loop-item-preserved : goal.loop-item-preserved
 loop-item-preserved c =
-    let before = c.loop-item.invariant.gathers in
-    let taken = c.in-Some.ensures.1 in
-    let is = c.in-Some.ensures.2 ∙ c.in_ok-lock.was in
-    let counted : c.min-count.result + 1 ≡ min 16 c.loop-item.count + 1 = ap (λ n. n + 1) c.min-count.ensures in
-    elim c.if-count-lt-LOCKS_A_CALL.branch [
-      | then-count-lt-LOCKS_A_CALL+in-Ok w ↦
-          let pushed = w.push.ensures.items in
-          let wanted = sym w.in-Ok.ensures in
-          rw (w.wants-is, w.refusal-is) record {
-            gathers = gathers-want _ _ _ _ _ _ _ _ _ _ _ _ _ before taken is counted wanted pushed;
-            room = let n = w.push.ensures.len in omega (arith, c.loop-item.invariant.room);
-          }
-      | then-count-lt-LOCKS_A_CALL+in-Err w ↦
-          let refused = sym w.in-Err.ensures in
-          rw (w.wants-is, w.refusal-is) record {
-            gathers = gathers-refusal _ _ _ _ _ _ _ _ _ _ _ _ _ before taken is counted refused w.or-refusal.ensures;
-            room = omega (arith, c.loop-item.invariant.room);
-          }
-      | else-count-lt-LOCKS_A_CALL w ↦ rw (w.wants-is, w.refusal-is) record {
-        gathers = gathers-more _ _ _ _ _ _ _ _ _ _ _ before taken is counted w.if-count-lt-LOCKS_A_CALL.false;
-        room = omega (arith, c.loop-item.invariant.room);
-      }
-    ]
+    let few : length c.loop-item.wants.items < 16 = grind (arith, nat_tests, c.is_full.ensures.value, c.if-is_full.false, c.loop-item.invariant.room) in
+    let is = c.in-Some.ensures.2 ∙ ap (option_map any_lock) c.in_ok-lock.was in
+    let p = pushed _ _ _ _ (sym c.in-Ok.is ∙ c.push_want.ensures.answer) c.push_want.ensures.items in
+    let n = length-append c.loop-item.wants.items (p.0 ∷ []) in
+    let l = ap length p.2 in
+    let counted : length c.push_want.new.wants.items ≡ min 16 (length c.loop-item.wants.items) + 1 = omega (arith, few) in record {
+      gathers = gathers-want _ _ _ _ _ _ _ _ _ _ _ _ _ c.loop-item.invariant.gathers c.in-Some.ensures.1 is counted p.1 p.2;
+      room = omega (arith, few);
+    }
+
+pub returns-in-Err : goal.returns-in-Err
+returns-in-Err c =
+    let is = c.in-Some.ensures.2 ∙ ap (option_map any_lock) c.in_ok-lock.was in
+    let p = refused _ _ _ _ (sym c.in-Err.is ∙ c.push_want.ensures.answer) c.push_want.ensures.items in
+    let counted = ap (λ n. option_map (refused_with (n + 1) c.in-Err.why) (locks_of c.next_lock.new.items)) c.len-count.ensures.value in
+    gathers-refused _ _ _ _ _ _ _ _ _ _ _ _ c.loop-item.invariant.gathers c.loop-item.invariant.room c.in-Some.ensures.1 is p.0 (c.refuse-in-Err.ensures ∙ counted)
