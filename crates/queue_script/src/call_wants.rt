@@ -1,6 +1,5 @@
 //! The wants of a call.
-ghost use Rattle.std.specs.Prelude.{◌≡◌, ◌≤◌, ◌+◌, [], option_map};
-ghost use Rattle.word36.specs.declared.sizes.TheConstants.{LOCKS_A_CALL};
+ghost use Rattle.std.specs.Prelude.{◌≡◌, [], option_map};
 ghost use Rattle.queue_script.specs.Borrowed.{filled};
 ghost use Rattle.queue_script.specs.Locks.{locks_of, call_wants, refused_with};
 
@@ -25,7 +24,6 @@ fn clear(wants: &mut Wants)
 /// one of them: their number is looked at first. None where an item is no lock.
 #[inline(never)]
 fn refuse(mut items: Parts<'_>, first: usize, why: Refusal) -> Option<Result<(), Refusal>>
-    requires { first ≤ LOCKS_A_CALL + 1 }
     ensures { result ≡ option_map (refused_with first why) (locks_of items.entry) }
 {
     let mut count = first;
