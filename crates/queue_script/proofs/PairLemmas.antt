@@ -1,5 +1,5 @@
 -- Lemmas on who waits for whom.
-use Rattle.std.proofs.Common.{◌≡◌, ◌<◌, ◌≤◌, ◌+◌, ◌-◌, ◌*◌, ◌/◌, ◌%◌, ◌++◌, ◌&&◌, ◌||◌, ℕ, Bool, true, false, cond, suc, zero, List, [], ◌∷◌, length, slice_index_or, slice_set, arith, refl, sym, ap, ◌∙◌, append_assoc, append-nil, add-one, below_more, get_or-set_other, get_or-set_same, ◌≢◌, subst, inl, inr}
+use Rattle.std.proofs.Common.{◌≡◌, ◌<◌, ◌≤◌, ◌+◌, ◌-◌, ◌*◌, ◌/◌, ◌%◌, ◌++◌, ◌&&◌, ◌||◌, ℕ, Bool, true, false, cond, suc, zero, List, [], ◌∷◌, length, slice_index_or, slice_set, replicate, arith, refl, sym, ap, ◌∙◌, append_assoc, append-nil, add-one, below_more, get_or-set_other, get_or-set_same, ◌≢◌, subst, inl, inr}
 use Rattle.std.proofs.lemmas.Bool.{cases_lt}
 use Rattle.std.proofs.Math.Bool.{beq}
 use Rattle.std.specs.Cmp.Lexicographic.{pointwise}
@@ -129,6 +129,32 @@ set-known xs i v want within below here =
     below_more (λ j. slice_index_or (slice_set xs i v) j false ≡ want j) i
     (λ j h. let ne : j ≢ i = omega arith in rw get_or-set_other (below j h))
     (rw get_or-set_same here)
+
+nothing-in : (n i : ℕ) → slice_index_or (replicate n false) i false ≡ false
+nothing-in zero i = refl
+nothing-in (suc n) zero = refl
+nothing-in (suc n) (suc i) = nothing-in n i
+
+-- a table in which nothing is filled in
+pub nothing : (i : ℕ) → slice_index_or (replicate PAIRS false) i false ≡ false
+nothing i = nothing-in PAIRS i
+
+-- the row of one job more is known
+pub row_known : (w : ℕ → ℕ → Bool) (old new : List Bool) (job : ℕ) → ((i : ℕ) → i < NUMBERS * job → slice_index_or old i false ≡ w (i / NUMBERS) (i % NUMBERS))
+    → ((i : ℕ) → i < NUMBERS * job → slice_index_or new i false ≡ slice_index_or old i false)
+    → ((k : ℕ) → k < NUMBERS → slice_index_or new (NUMBERS * job + k) false ≡ w job k)
+    → (i : ℕ) → i < NUMBERS * (job + 1) → slice_index_or new i false ≡ w (i / NUMBERS) (i % NUMBERS)
+row_known w old new job known kept own i lt =
+    elim (cases_lt i (NUMBERS * job)) [
+      | inl before ↦ kept i before ∙ known i before
+      | inr here ↦
+          let at : i ≡ NUMBERS * job + (i - NUMBERS * job) = omega (arith, here) in
+          let below : i - NUMBERS * job < NUMBERS = omega (arith, here, lt) in
+          let row : i / NUMBERS ≡ job = omega (arith, here, lt) in
+          let place : i % NUMBERS ≡ i - NUMBERS * job = omega (arith, here, lt) in
+          ap (λ n. slice_index_or new n false) at ∙ own (i - NUMBERS * job) below
+          ∙ ap (λ n. w n (i - NUMBERS * job)) (sym row) ∙ ap (w (i / NUMBERS)) (sym place)
+    ]
 
 -- ---- a job that waits for nobody is in no circle
 

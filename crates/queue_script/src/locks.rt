@@ -86,7 +86,7 @@ pub fn is_name_character(character: u8) -> bool
 }
 
 /// How many characters at the front of a text a name may have.
-#[inline(always)]
+#[inline(never)]
 fn name_length(text: &[u8]) -> usize
     ensures within { result ≤ length text.now }
     ensures named { list_all is_name_character (take result text.now) ≡ true }

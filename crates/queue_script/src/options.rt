@@ -1,5 +1,5 @@
 //! The options of a lock.
-ghost use Rattle.std.specs.Prelude.{◌≡◌, ◌^◌, ◌<◌, ◌≤◌, true, length, take, IfSome};
+ghost use Rattle.std.specs.Prelude.{◌≡◌, ◌^◌, ◌<◌, ◌≤◌, true, length, take, IfSome, Some};
 ghost use Rattle.std.specs.List.{list_all};
 ghost use Rattle.queue_script.specs.Numbers.{parts, texts_in};
 ghost use Rattle.queue_script.specs.Locks.{terms_of};
@@ -193,6 +193,48 @@ fn option_length(text: &[u8]) -> usize
     text.len()
 }
 
+/// Whether no more characters of an option stand in front of a text.
+#[inline(always)]
+fn is_at_end(text: &[u8]) -> bool {
+    text.is_empty() || !is_option_character(text[0])
+}
+
+/// The level of one digit that stands in front of a text, and its length, where nothing follows that
+/// belongs to it.
+#[inline(always)]
+fn front_level(text: &[u8]) -> Option<(LockOption, usize)>
+    ensures within { IfSome result (λ r. r.1 ≤ length text.now) }
+    ensures option { IfSome result (λ r. option_of (take r.1 text.now) ≡ Some r.0) }
+    ensures characters { IfSome result (λ r. list_all is_option_character (take r.1 text.now) ≡ true) }
+{
+    match text {
+        [b'L', digit, rest @ ..] if is_option_character(*digit) && is_at_end(rest) => {
+            Some((read_option(&text[..2])?, 2))
+        }
+        _ => None,
+    }
+}
+
+/// The option that stands in front of a text, and its length. What follows it may be more than its end.
+#[inline(always)]
+fn front_option(text: &[u8]) -> Option<(LockOption, usize)>
+    ensures within { IfSome result (λ r. r.1 ≤ length text.now) }
+    ensures option { IfSome result (λ r. option_of (take r.1 text.now) ≡ Some r.0) }
+    ensures characters { IfSome result (λ r. list_all is_option_character (take r.1 text.now) ≡ true) }
+{
+    match text {
+        [b'S', ..] => return Some((LockOption::Shared, 1)),
+        [b'B', ..] => return Some((LockOption::Bypass, 1)),
+        [b'J', ..] => return Some((LockOption::Own, 1)),
+        _ => {}
+    }
+    if let Some(level) = front_level(text) {
+        return Some(level);
+    }
+    let length = option_length(text);
+    Some((read_option(&text[..length])?, length))
+}
+
 /// The options that stand in front of some items, each but the first behind a `/`, and those items:
 /// they are gone over once. None where they are not right.
 #[inline(always)]
@@ -202,8 +244,8 @@ pub fn front_options(text: &[u8]) -> Option<(Options, Option<&[u8]>)>
     let mut options = Options::none();
     let mut rest = text;
     loop {
-        let length = option_length(rest);
-        options = options.with(read_option(&rest[..length])?)?;
+        let (option, length) = front_option(rest)?;
+        options = options.with(option)?;
         if length == rest.len() {
             return Some((options, None));
         }

@@ -1,5 +1,5 @@
 //! Who waits for whom.
-ghost use Rattle.std.specs.Prelude.{◌≡◌, ◌++◌, ◌<◌, ◌≤◌, ◌/◌, ◌%◌, OnOk, ℕ, false, slice_index_or};
+ghost use Rattle.std.specs.Prelude.{◌≡◌, ◌++◌, ◌<◌, ◌≤◌, ◌+◌, ◌*◌, ◌/◌, ◌%◌, OnOk, ℕ, false, length, slice_index_or};
 ghost use Rattle.lock_queue.specs.Waits.{jobs};
 ghost use Rattle.queue_script.specs.WaitPairs.{pair_line, waits_text, pairs_text, pair_in, circle_job, circle_jobs, or_none};
 ghost use Rattle.std.specs.List.{flat_map};
@@ -53,37 +53,28 @@ fn push_pairs<L: LockTable>(out: &mut Vec<u8>, table: &L) -> Result<(), AllocErr
     Ok(())
 }
 
-/// Which jobs wait, by their numbers from 0 on.
-fn waiting_jobs<L: LockTable>(table: &L) -> [bool; NUMBERS]
-    ensures { (j : ℕ) → j < NUMBERS → slice_index_or result j false ≡ is_waiting_job (L.requests table.now) j }
+/// Fills in the row of a job: for which jobs it waits.
+fn fill_row<L: LockTable>(pairs: &mut PairTable, table: &L, job: usize)
+    requires { job < NUMBERS }
+    ensures size { length pairs.new ≡ PAIRS }
+    ensures own { (k : ℕ) → k < NUMBERS → slice_index_or pairs.new (NUMBERS * job + k) false ≡ waits_for (L.requests table.now) job k }
+    ensures before { (i : ℕ) → i < NUMBERS * job → slice_index_or pairs.new i false ≡ slice_index_or pairs.old i false }
+    ensures behind { (i : ℕ) → NUMBERS * job + NUMBERS ≤ i → slice_index_or pairs.new i false ≡ slice_index_or pairs.old i false }
 {
-    let mut waiting = [false; NUMBERS];
-    for job in 0..NUMBERS {
-        waiting[job] = table.waiting(job as u8);
+    for other in 0..NUMBERS {
+        pairs[NUMBERS * job + other] = table.waits_for(job as u8, other as u8);
     }
-    waiting
-}
-
-/// Whether a job waits for another, where it is known which jobs wait.
-#[inline(always)]
-#[tactic(auto, using(crate::proofs::PairLemmas::no_waits))]
-fn does_wait<L: LockTable>(table: &L, waiting: &[bool; NUMBERS], job: usize, other: usize) -> bool
-    requires job { job < NUMBERS }
-    requires other { other < NUMBERS }
-    requires waiting { (j : ℕ) → j < NUMBERS → slice_index_or waiting.now j false ≡ is_waiting_job (L.requests table.now) j }
-    ensures { result ≡ waits_for (L.requests table.now) job other }
-{
-    waiting[job] && table.waits_for(job as u8, other as u8)
 }
 
 /// The table of who waits for whom. Of a job that does not wait nothing is asked.
 pub fn pair_table<L: LockTable>(table: &L) -> PairTable
     ensures { (i : ℕ) → i < PAIRS → slice_index_or result i false ≡ waits_for (L.requests table.now) (i / NUMBERS) (i % NUMBERS) }
 {
-    let waiting = waiting_jobs(table);
     let mut pairs = [false; PAIRS];
-    for i in 0..PAIRS {
-        pairs[i] = does_wait(table, &waiting, i / NUMBERS, i % NUMBERS);
+    for job in 0..NUMBERS {
+        if table.waiting(job as u8) {
+            fill_row(&mut pairs, table, job);
+        }
     }
     pairs
 }

@@ -1,16 +1,40 @@
-use Rattle.std.proofs.Common.{◌<◌, ◌/◌, ◌%◌, ◌∙◌, ℕ, length, arith}
-use Rattle.std.proofs.Math.ListN.{length-set}
+use Rattle.std.proofs.Common.{◌+◌, ◌*◌, ◌∙◌, false, sym, ap, length, slice_index_or, arith}
 use Rattle.lock_queue.specs.Jobs.{waits_for}
-use Rattle.queue_script.proofs.PairLemmas.{set-known}
+use Rattle.queue_script.proofs.PairLemmas.{no_waits, nothing, row_known}
 use Rattle.queue_script.specs.declared.circles.TheConstants.{NUMBERS}
 use Rattle.queue_script.proofs.wait_pairs.pair_table.Goals as goal
+use Rattle.queue_script.proofs.wait_pairs.pair_table.Goals.{then-waiting, else-waiting}
 
-pub loop-i-preserved : goal.loop-i-preserved
-loop-i-preserved g c =
-    let want = λ (i : ℕ). waits_for (g.L.LockTable.requests c.args.table.now) (i / NUMBERS) (i % NUMBERS) in
-    let size = c.loop-i.invariant.size in
-    let within : c.loop-i.i < length c.loop-i.pairs = omega arith in
-    record {
-      size = length-set c.loop-i.pairs c.loop-i.i c.does_wait.result ∙ size;
-      known = set-known c.loop-i.pairs c.loop-i.i c.does_wait.result want within c.loop-i.invariant.known c.does_wait.ensures;
-    }
+pub loop-job-init : goal.loop-job-init
+loop-job-init g c = record {
+  size = omega arith;
+  known = λ i lt. absurd (omega (arith, lt));
+  empty = λ i le. nothing i;
+}
+
+pub loop-job-preserved : goal.loop-job-preserved
+loop-job-preserved g c =
+    let requests = g.L.LockTable.requests c.args.table.now in
+    let w = waits_for requests in
+    let job = c.loop-job.job in
+    let old = c.loop-job.pairs in
+    elim c.if-waiting.branch [
+      | then-waiting v ↦ record {
+        size = ap length v.pairs-is ∙ v.fill_row.ensures.size;
+        known = row_known w old c.if-waiting.pairs job c.loop-job.invariant.known
+            (λ i lt. ap (λ l. slice_index_or l i false) v.pairs-is ∙ v.fill_row.ensures.before i lt)
+            (λ k lt. ap (λ l. slice_index_or l (NUMBERS * job + k) false) v.pairs-is ∙ v.fill_row.ensures.own k lt);
+        empty = λ i le.
+            ap (λ l. slice_index_or l i false) v.pairs-is ∙ v.fill_row.ensures.behind i (omega (arith, le))
+            ∙ c.loop-job.invariant.empty i (omega (arith, le));
+      }
+      | else-waiting v ↦ record {
+        size = ap length v.pairs-is ∙ c.loop-job.invariant.size;
+        known = row_known w old c.if-waiting.pairs job c.loop-job.invariant.known
+            (λ i lt. ap (λ l. slice_index_or l i false) v.pairs-is)
+            (λ k lt. ap (λ l. slice_index_or l (NUMBERS * job + k) false) v.pairs-is
+            ∙ c.loop-job.invariant.empty (NUMBERS * job + k) (omega arith)
+            ∙ sym (no_waits requests job k (sym c.waiting.ensures ∙ v.if-waiting.false)));
+        empty = λ i le. ap (λ l. slice_index_or l i false) v.pairs-is ∙ c.loop-job.invariant.empty i (omega (arith, le));
+      }
+    ]

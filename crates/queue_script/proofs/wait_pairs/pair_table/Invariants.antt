@@ -1,10 +1,12 @@
-use Rattle.std.proofs.Common.{◌≡◌, ◌<◌, ◌/◌, ◌%◌, ℕ, false, length, slice_index_or}
+-- The rows of the jobs before the next one are filled in, and the others are empty.
+use Rattle.std.proofs.Common.{◌≡◌, ◌<◌, ◌≤◌, ◌*◌, ◌/◌, ◌%◌, ℕ, false, length, slice_index_or}
 use Rattle.lock_queue.specs.Jobs.{waits_for}
 use Rattle.queue_script.specs.declared.circles.TheConstants.{NUMBERS, PAIRS}
 use Rattle.queue_script.proofs.wait_pairs.pair_table.Given as goal
 
-abbrev pub invariant-loop-i : goal.invariant-loop-i
-invariant-loop-i g l = record {
+abbrev pub invariant-loop-job : goal.invariant-loop-job
+invariant-loop-job g l = record {
   size : length l.pairs ≡ PAIRS;
-  known : (k : ℕ) → k < l.i → slice_index_or l.pairs k false ≡ waits_for (g.L.LockTable.requests l.table) (k / NUMBERS) (k % NUMBERS);
+  known : (i : ℕ) → i < NUMBERS * l.job → slice_index_or l.pairs i false ≡ waits_for (g.L.LockTable.requests l.table) (i / NUMBERS) (i % NUMBERS);
+  empty : (i : ℕ) → NUMBERS * l.job ≤ i → slice_index_or l.pairs i false ≡ false;
 }
