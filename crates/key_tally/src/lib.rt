@@ -10,6 +10,5 @@ mod likeness;
 mod sums;
 mod tally;
 
-pub use hash::{Hashes, hash_of, hashes_of};
-pub use jobs::bit_of_job;
+pub use hash::{HASHES, Hashes, hash_of, hashes_of};
 pub use tally::Tally;

@@ -1,17 +1,25 @@
 -- What is found of the wants of a request that arrives, want by want.
-use Rattle.std.proofs.Common.{◌≡◌, ◌∙◌, sym, ap, Bool, ◌&&◌, Option, Some, None, Ok, Err, ℕ, zero, suc, ◌+◌, ◌<◌, ◌==◌, true, false, ◌||◌, List, [], ◌∷◌, ◌++◌, length, get_or, take, drop, add-one, refl, arith}
-use Rattle.std.specs.List.{list_all, list_any}
-use Rattle.std.proofs.lemmas.Bool.{eq-eqb, or_parts}
+use Rattle.std.proofs.Common.{◌≡◌, ◌∙◌, sym, ap, Bool, ◌&&◌, Option, Some, None, Ok, Err, ℕ, zero, suc, ◌+◌, ◌<◌, true, false, ◌||◌, List, [], ◌∷◌, ◌++◌, length, get_or, take, drop, add-one, refl, arith}
+use Rattle.std.specs.List.{list_all}
+use Rattle.std.proofs.lemmas.List.{get_or-map, get_or_default, length-map}
 use Rattle.lock_queue.specs.declared.key.Key.{Key}
 use Rattle.lock_queue.specs.declared.refusal.Refusal.{Refusal}
 use Rattle.lock_queue.specs.declared.want.Want.{Want}
 use Rattle.lock_queue.specs.Keys.{same_key}
 use Rattle.lock_queue.specs.Outcomes.{or_else, first_refusal}
 use Rattle.lock_queue.specs.Queue.{names}
+use Rattle.lock_queue.specs.Unused.{unused_want}
 use Rattle.lock_queue.proofs.Fitting.{same_key-eq}
 use Rattle.key_tally.specs.Hashes.{hash_of, hashes_of}
 use Rattle.lock_table.specs.Arrivals.{judged}
-use Rattle.lock_table.proofs.WalkLaws.{and-assoc}
+
+pub or-assoc : (a b c : Bool) → ((a || b) || c) ≡ (a || (b || c))
+or-assoc true b c = refl
+or-assoc false b c = refl
+
+pub and-assoc : (a b c : Bool) → ((a && b) && c) ≡ (a && (b && c))
+and-assoc true b c = refl
+and-assoc false b c = refl
 
 pub judged-ok : (o : Option Refusal) (g b : Bool) → judged o g ≡ Ok b → (o ≡ None) × (g ≡ b)
 judged-ok (Some refusal) g b h = absurd (cc)
@@ -43,24 +51,25 @@ judged-step fault fit wants i w g lt is =
     ∙ ap (λ l. judged (or_else (fault (take i wants) w) (first_refusal fault l (drop (i + 1) wants))) (g && (fit w && list_all fit (drop (i + 1) wants)))) (sym (take-at wants i w lt is))
     ∙ ap (judged (or_else (fault (take i wants) w) (first_refusal fault (take (i + 1) wants) (drop (i + 1) wants)))) (sym (and-assoc g (fit w) (list_all fit (drop (i + 1) wants))))
 
--- wants whose keys have other hashes than a key do not name it
-unhashed : (ws : List Want) (k : Key) → list_any (λ h. h == hash_of k) (hashes_of ws) ≡ false → names ws k ≡ false
-unhashed [] k h = refl
-unhashed (w ∷ ws) k h = go (same_key w.key k) refl (or_parts (hash_of w.key == hash_of k) (list_any (λ h. h == hash_of k) (hashes_of ws)) h) (unhashed ws k)
-  where
-    go : (b : Bool) → same_key w.key k ≡ b
-        → ((hash_of w.key == hash_of k) ≡ false) × (list_any (λ h. h == hash_of k) (hashes_of ws) ≡ false)
-        → (list_any (λ h. h == hash_of k) (hashes_of ws) ≡ false → names ws k ≡ false)
-        → (b || names ws k) ≡ false
-    go true e p rest =
-        let on : (hash_of w.key == hash_of k) ≡ true = eq-eqb (hash_of w.key) (hash_of k) (ap hash_of (same_key-eq w.key k e)) in
-        absurd (cc)
-    go false e p rest = rest p.1
+-- a want that is not of a key does not name it
+module _ (ws : List Want) (hashes : List ℕ) (k : Key) (i : ℕ) (are : hashes ≡ hashes_of ws) (lt : i < length hashes) where
+  below-wants : i < length ws
+  below-wants = omega (arith, lt, ap length are, length-map ws (λ (w : Want). hash_of w.key))
 
-pub unhashed_names : (ws : List Want) (hashes : List ℕ) (k : Key) (h : ℕ) → hashes ≡ hashes_of ws → h ≡ hash_of k
-    → list_any (λ n. n == h) hashes ≡ false → names ws k ≡ false
-unhashed_names ws hashes k h are is none =
-    unhashed ws k (ap (list_any (λ n. n == hash_of k)) (sym are) ∙ ap (λ m. list_any (λ n. n == m) hashes) (sym is) ∙ none)
+  pub unnamed-next : (d : Want) → same_key (get_or ws i d).key k ≡ false → names (drop (i + 1) ws) k ≡ names (drop i ws) k
+  unnamed-next d off =
+      sym (ap (λ l. names l k) (drop-at ws i (get_or ws i d) below-wants (get_or_default ws i d (get_or ws i d) below-wants))
+      ∙ ap (λ b. b || names (drop (i + 1) ws) k) off)
+
+  -- nor does one whose key has another hash
+  pub unhashed-next : (h : ℕ) → h ≡ hash_of k → (get_or hashes i 0 ≡ h → ⊥) → names (drop (i + 1) ws) k ≡ names (drop i ws) k
+  unhashed-next h is other = unnamed-next unused_want (go (same_key (get_or ws i unused_want).key k) refl)
+    where
+      go : (b : Bool) → same_key (get_or ws i unused_want).key k ≡ b → b ≡ false
+      go true e =
+          absurd (other (ap (λ l. get_or l i 0) are ∙ get_or-map (λ (w : Want). hash_of w.key) ws i unused_want 0 below-wants
+          ∙ ap hash_of (same_key-eq (get_or ws i unused_want).key k e) ∙ sym is))
+      go false e = refl
 
 -- the hashes of the first wants are the first hashes
 pub hashes_take : (ws : List Want) (i : ℕ) → take i (hashes_of ws) ≡ hashes_of (take i ws)

@@ -1,8 +1,8 @@
--- What is awaited: a key that a request has that is not granted is, so its bits are among those that are gathered.
+-- What is awaited: a key that a request has that is not granted is, so its awaited are among those that are gathered.
 use Rattle.std.proofs.Common.{◌≡◌, ◌∙◌, sym, ap, subst, ℕ, ◌+◌, ◌≤◌, ◌==◌, Bool, true, false, inl, inr, ◌&&◌, ◌||◌, cond, if◌then◌else◌, List, [], ◌∷◌, filter, refl, arith}
-use Rattle.std.proofs.lemmas.Bool.{eq-eqb}
+use Rattle.std.proofs.lemmas.Bool.{eq-eqb, eqb-true, or_parts}
 use Rattle.std.proofs.lemmas.Bool.Decides.{nat_tests}
-use Rattle.std.proofs.lemmas.Nat.Bits.{bit_at_or, bit_at-lt}
+use Rattle.std.specs.List.{list_any}
 use Rattle.lock_queue.specs.declared.key.Key.{Key}
 use Rattle.lock_queue.specs.declared.want.Want.{Want}
 use Rattle.lock_queue.specs.Keys.{same_key}
@@ -11,8 +11,10 @@ use Rattle.lock_queue.proofs.Fitting.{same_key-refl}
 use Rattle.lock_queue.proofs.Lists.{Has}
 use Rattle.lock_table.specs.Departures.{some_names}
 use Rattle.lock_table.specs.Filings.{Filing}
-use Rattle.lock_table.specs.declared.signature.Signature.{Signature}
-use Rattle.lock_table.specs.Signatures.{hash_of, joined, group_of, class_of, mark_at}
+use Rattle.lock_table.specs.declared.awaited.Awaited.{Awaited}
+use Rattle.lock_table.specs.Awaited.{hits, marks}
+use Rattle.key_tally.specs.Hashes.{hash_of, hashes_of}
+use Rattle.slot_rows.specs.Rows.{is_among}
 use Rattle.lock_table.specs.Tallies.{want_count, waiting_count}
 
 counted : (ws : List Want) (w : Want) → Has ws w → 1 ≤ want_count (hash_of w.key) ws
@@ -57,13 +59,44 @@ pub awaited-has : (fs : List Filing) (f : Filing) (w : Want) → Has fs f → f.
     → (waiting_count (hash_of w.key) fs == 0) ≡ false
 awaited-has fs f w there g h = not-none (waiting_count (hash_of w.key) fs) (counted-waiting fs f w there g h)
 
-pub marks-left : (a b : Signature) (k : Key) → mark_at a k ≡ 1 → mark_at (joined a b) k ≡ 1
-marks-left a b k h =
-    omega (arith, bit_at_or a.groups b.groups (group_of k), bit_at_or a.classes b.classes (class_of k), h, bit_at-lt a.groups (group_of k), bit_at-lt a.classes (class_of k), bit_at-lt b.groups (group_of k), bit_at-lt b.classes (class_of k))
+-- of wants that hit none of the hashes, each has a key that is not marked
+pub unhit : (awaited : Awaited) (ws : List Want) (k : Key) → hits awaited ws ≡ false → is_among (hash_of k) (hashes_of ws) ≡ true
+    → marks awaited k ≡ false
+unhit awaited ws k h own = go awaited.any refl awaited.hashes.items h
+  where
+    each : (hs : List ℕ) → list_any (λ x. is_among x (hashes_of ws)) hs ≡ false → is_among (hash_of k) hs ≡ false
+    each [] t = refl
+    each (x ∷ hs) t =
+        let p = or_parts (is_among x (hashes_of ws)) (list_any (λ y. is_among y (hashes_of ws)) hs) t in
+        or-both (x == hash_of k) (is_among (hash_of k) hs) (other x p.0) (each hs p.1)
+      where
+        other : (y : ℕ) → is_among y (hashes_of ws) ≡ false → (y == hash_of k) ≡ false
+        other y off = pick (y == hash_of k) refl
+          where
+            pick : (b : Bool) → (y == hash_of k) ≡ b → (y == hash_of k) ≡ false
+            pick true e = let on : is_among y (hashes_of ws) ≡ true = ap (λ n. is_among n (hashes_of ws)) (eqb-true y (hash_of k) e) ∙ own in absurd (cc)
+            pick false e = e
 
-pub marks-right : (a b : Signature) (k : Key) → mark_at b k ≡ 1 → mark_at (joined a b) k ≡ 1
-marks-right a b k h =
-    omega (arith, bit_at_or a.groups b.groups (group_of k), bit_at_or a.classes b.classes (class_of k), h, bit_at-lt a.groups (group_of k), bit_at-lt a.classes (class_of k), bit_at-lt b.groups (group_of k), bit_at-lt b.classes (class_of k))
+        or-both : (a b : Bool) → a ≡ false → b ≡ false → (a || b) ≡ false
+        or-both false b e f = f
+        or-both true b e f = absurd (cc)
+
+    go : (any : Bool) → awaited.any ≡ any → (hs : List ℕ) → (awaited.any || list_any (λ x. is_among x (hashes_of ws)) awaited.hashes.items) ≡ false
+        → marks awaited k ≡ false
+    go any e hs t =
+        let p = or_parts awaited.any (list_any (λ x. is_among x (hashes_of ws)) awaited.hashes.items) t in
+        ap (λ b. b || is_among (hash_of k) awaited.hashes.items) p.0 ∙ each awaited.hashes.items p.1
+
+-- a want's hash is among those of the wants
+pub own-hash : (ws : List Want) (w : Want) → Has ws w → is_among (hash_of w.key) (hashes_of ws) ≡ true
+own-hash [] w h = absurd h
+own-hash (v ∷ ws) w (inl same) =
+    ap (λ b. b || is_among (hash_of w.key) (hashes_of ws)) (eq-eqb (hash_of v.key) (hash_of w.key) (ap (λ (u : Want). hash_of u.key) same))
+own-hash (v ∷ ws) w (inr later) = ap (λ b. (hash_of v.key == hash_of w.key) || b) (own-hash ws w later) ∙ or-on (hash_of v.key == hash_of w.key)
+  where
+    or-on : (b : Bool) → (b || true) ≡ true
+    or-on true = refl
+    or-on false = refl
 
 -- ---- what is left waits no more than all did
 

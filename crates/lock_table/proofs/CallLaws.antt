@@ -1,40 +1,35 @@
 -- What each call leaves, in the lists that the code makes.
-use Rattle.std.proofs.Common.{◌≡◌, ◌∙◌, sym, ap, subst, refl, ℕ, suc, Bool, true, false, not, inl, inr, ◌==◌, ◌&&◌, ◌||◌, cond, if◌then◌else◌, List, [], ◌∷◌, ◌++◌, length, filter, map, Option, Some, None, arith}
+use Rattle.std.proofs.Common.{◌≡◌, ◌∙◌, sym, ap, refl, ℕ, zero, suc, Bool, true, false, not, ◌==◌, ◌<◌, ◌&&◌, ◌||◌, cond, if◌then◌else◌, List, [], ◌∷◌, ◌++◌, filter, map, length, get_or, nat_le, Option, Some, None, is_some, slice_get, arith}
 use Rattle.std.specs.List.{list_any}
-use Rattle.std.proofs.lemmas.Bool.{or_parts}
-use Rattle.std.proofs.lemmas.Bool.Decides.{nat_tests}
+use Rattle.std.proofs.lemmas.Bool.{or_parts, and_parts}
+use Rattle.std.specs.Option.{MatchOption, IfSome}
+use Rattle.std.proofs.lemmas.List.Folds.{list_any_at}
+use Rattle.word36.specs.declared.sizes.TheConstants.{LOCKS_A_CALL}
 use Rattle.arrayvec.specs.ArrayVec.{ArrayVec}
 use Rattle.lock_queue.specs.declared.call.LockCall.{LockCall}
 use Rattle.lock_queue.specs.declared.call.LockCall.TheVariants.{Enqueue, Modify, DequeueNamed, DequeueAll, DequeueId}
 use Rattle.lock_queue.specs.declared.call.LockReply.TheVariants.{Done, Refused}
-use Rattle.lock_queue.specs.declared.key.Key.{Key}
-use Rattle.lock_queue.specs.declared.refusal.Refusal.TheVariants.{NotPresent, WouldLose}
+use Rattle.lock_queue.specs.declared.refusal.Refusal.TheVariants.{NotPresent}
 use Rattle.lock_queue.specs.declared.request.Request.{Request}
 use Rattle.lock_queue.specs.declared.want.Want.{Want}
 use Rattle.lock_queue.specs.Calls.{outcome_of}
-use Rattle.lock_queue.specs.Changes.{modify_fault, changed_want, changed, with_changes, some_lost, some_lost_behind}
+use Rattle.lock_queue.specs.Changes.{changed, with_changes}
 use Rattle.lock_queue.specs.Dequeues.{has_wants, with_wants, without_keys, without_keys_of, without_named, is_of_job, has_id}
-use Rattle.lock_queue.specs.Grants.{staying_if, left_of, woken}
-use Rattle.lock_queue.specs.Jobs.{released, withdrawn, is_not_blocked_where, is_one, is_blocking}
-use Rattle.lock_queue.specs.Keys.{same_key}
-use Rattle.lock_queue.specs.Outcomes.{Outcome, outcome, unless_refused, refuse_if, or_else, first_refusal}
-use Rattle.lock_queue.specs.Queue.{names}
-use Rattle.lock_queue.proofs.Fitting.{same_key-eq, names-found}
+use Rattle.lock_queue.specs.Grants.{staying_if, left_of, woken, is_told_of, grant_of}
+use Rattle.lock_queue.specs.Jobs.{released, withdrawn, is_not_blocked_where, is_one, is_blocking, is_interrupt, first_id}
+use Rattle.lock_queue.specs.Outcomes.{outcome}
+use Rattle.lock_queue.specs.Queue.{granted_behind, names}
+use Rattle.lock_queue.specs.WellFormed.{is_job, is_well_formed, are_well_formed, are_right_wants}
 use Rattle.lock_queue.proofs.GrantLaws.{left-labels}
-use Rattle.lock_queue.proofs.Lists.{Has, Has-map, Has-filter, Sub, Sub-refl, Sub-filter, Sub-Has}
-use Rattle.lock_table.specs.declared.departures.Leaving.{Leaving}
 use Rattle.lock_table.specs.declared.departures.Leaving.TheVariants.{All, OfId, Blocked}
-use Rattle.lock_table.specs.Departures.{leaves, stays, Covers, CoversAll, loses, with_fewer, waits_with_fewer, keeps_wants, with_change, call_of, leaving_of}
-use Rattle.lock_table.specs.Filings.{Filing, requests_in, AreRight}
-use Rattle.lock_table.specs.Renewals.{raised, AreOutdated}
-use Rattle.lock_table.specs.declared.signature.Signature.{Signature}
-use Rattle.lock_table.specs.Signatures.{hash_of, joined, meets, signature_of, mark_at}
-use Rattle.lock_table.specs.Tallies.{waiting_count, Marks}
-use Rattle.lock_table.proofs.AwaitedLaws.{awaited-has, has-named, marks-left, marks-right, some-named}
-use Rattle.lock_table.proofs.ChangeLaws.{change-key, changed-names, at-changed, all-unchanged}
-use Rattle.lock_table.proofs.DepartureLaws.{lost_in, after, put, at_key, Alike, Stays, alike-stays, Rests, resting, Changes, outdated, outdated-changed, lost-changed, Keeps, raised-all}
+use Rattle.lock_table.specs.Departures.{leaves, stays, loses, with_fewer, keeps_wants, with_change, call_of, leaving_of}
+use Rattle.lock_table.specs.Filings.{Filing, filing, requests_in, AreRight}
+use Rattle.lock_table.specs.Boxes.{unused_filing}
+use Rattle.lock_table.specs.Findings.{pends, pending_in}
+use Rattle.lock_table.specs.Views.{is_own}
+use Rattle.lock_table.specs.Renewals.{raised}
+use Rattle.lock_table.proofs.DepartureLaws.{after, put, Keeps, raised-all}
 use Rattle.lock_table.proofs.RightLaws.{chosen-right}
-use Rattle.lock_table.proofs.SignatureLaws.{unmet-right, unsigned, signed, names-none}
 
 -- ---- the requests that stay
 
@@ -121,59 +116,6 @@ dequeue-woken fs job None h =
 dequeue-woken fs job (Some id) h =
     ap (raised []) (filter-after (stays job (OfId id)) fs) ∙ raised-all (left_of job (DequeueId id)) (left-keeps job (DequeueId id)) fs h
 
--- ---- what leaves is in the signature
-
--- the keys that those have that stay and are not granted, and of which the bits were not gathered
-abbrev StillIn : Signature → List Filing → Key → Type 0
-StillIn bits fs k = ((waiting_count (hash_of k) fs == 0) ≡ false) × (mark_at bits k ≡ 0)
-
-module _ (bits : Signature) (test : Filing → Bool) (fs : List Filing) (covers : Covers bits test fs (filter (λ f. not (test f)) fs)) where
-  abbrev staying : List Filing
-  staying = filter (λ f. not (test f)) fs
-
-  gone-stays : (f : Filing) → Has fs f → Stays (StillIn bits staying) f (staying_if (not (test f)) f.request)
-  gone-stays f h k z = go (test f) refl
-    where
-      unnamed : (b : Bool) → names f.request.wants.items k ≡ b → test f ≡ true → b ≡ false
-      unnamed false n t = refl
-      unnamed true n t = let one = covers k (some-named test fs f k h t n) z.0 in absurd (omega (arith, one, z.1))
-
-      go : (b : Bool) → test f ≡ b → at_key k (staying_if (not b) f.request) ≡ at_key k (Some f.request)
-      go true t =
-          sym (names-none f.request.wants.items k (unnamed (names f.request.wants.items k) refl t))
-      go false t = refl
-
-  staying-of : (b : Bool) (r s : Request) → staying_if b r ≡ Some s → (b ≡ true) × (r ≡ s)
-  staying-of true r s e = (refl, cc)
-  staying-of false r s e = absurd (cc)
-
-  gone-rests : (f : Filing) (s : Request) → Has fs f → staying_if (not (test f)) f.request ≡ Some s → f.granted ≡ false
-      → meets (signature_of s.wants.items) bits ≡ false → Rests (StillIn bits staying) f s
-  gone-rests f s h is g u =
-      let at = staying-of (not (test f)) f.request s is in
-      let own : s.wants.items ≡ f.request.wants.items = ap (λ (q : Request). q.wants.items) (sym at.1) in record {
-        own = own;
-        still = λ w k. (
-          awaited-has staying f w (Has-filter (λ f. not (test f)) fs f at.0 h) g (subst (λ l. Has l w) own k),
-          unmet-right (signature_of s.wants.items) bits w.key u (signed s.wants.items w k),
-        );
-      }
-
-fewer-if : (b : Bool) (r s : Request) → staying_if b r ≡ Some s → Sub s.wants.items r.wants.items
-fewer-if true r s e = let same : r ≡ s = cc in subst (λ (q : Request). Sub q.wants.items r.wants.items) same (Sub-refl r.wants.items)
-fewer-if false r s e = absurd (cc)
-
-pub leaving-outdated : (bits : Signature) (fs : List Filing) (job : ℕ) (leaving : Leaving)
-    → Covers bits (leaves job leaving) fs (filter (stays job leaving) fs) → AreRight [] fs
-    → AreOutdated bits [] (filter (stays job leaving) fs)
-leaving-outdated bits fs job leaving covers h =
-    subst (AreOutdated bits []) (sym (filter-after (stays job leaving) fs))
-    (outdated (StillIn bits (filter (stays job leaving) fs)) bits (λ f. staying_if (stays job leaving f) f.request) [] [] fs
-    (λ f k. gone-stays bits (leaves job leaving) fs covers f k)
-    (λ f s k is. gone-rests bits (leaves job leaving) fs covers f s k is)
-    (λ f s k is. fewer-if (stays job leaving f) f.request s is)
-    (Sub-refl []) (λ k z. refl) h)
-
 -- ---- wants that are given up
 
 named-after : (fs : List Filing) (job : ℕ) (named : ArrayVec Want)
@@ -217,136 +159,65 @@ none-lost named (w ∷ ws) h =
     ap (λ b. cond (not b) (w ∷ filter (λ w. not (names named w.key)) ws) (filter (λ w. not (names named w.key)) ws)) p.0
     ∙ ap (λ l. w ∷ l) (none-lost named ws p.1)
 
-not-empty : (n : ℕ) → true ≡ not (suc n == 0)
-not-empty n = grind (arith, nat_tests)
-
--- a request with no wants leaves none
-at-staying : (q : Request) (k : Key) → at_key k (staying_if (has_wants q) q) ≡ filter (λ w. same_key w.key k) q.wants.items
-at-staying q k = go q.wants.items
+-- a request without named wants keeps all
+same-fewer : (job : ℕ) (named : List Want) (f : Filing) → loses job named f ≡ false → with_fewer job named f ≡ f
+same-fewer job named f h = ap (λ r. filing r f.granted) (go (f.request.job == job) h)
   where
-    go : (ws : List Want) → at_key k (staying_if (not (length ws == 0)) (with_wants q ws)) ≡ filter (λ w. same_key w.key k) ws
-    go [] = refl
-    go (w ∷ ws) = ap (λ b. at_key k (staying_if b (with_wants q (w ∷ ws)))) (sym (not-empty (length ws)))
+    go : (b : Bool) → (b && list_any (λ w. names named w.key) f.request.wants.items) ≡ false
+        → cond b (without_keys named f.request) f.request ≡ f.request
+    go true t = ap (λ l. with_wants f.request l) (none-lost named f.request.wants.items t)
+    go false t = refl
 
--- a request with wants has a first
-some-want : (bits : Signature) (ws all : List Want) → not (length ws == 0) ≡ true → Sub ws all
-    → meets (signature_of ws) bits ≡ false → ((k : Key) → names all k ≡ true → mark_at bits k ≡ 1) → false ≡ true
-some-want bits [] all some sub u marked = some
-some-want bits (w ∷ ws) all some sub u marked =
-    let none = unmet-right (signature_of (w ∷ ws)) bits w.key u (signed (w ∷ ws) w (inl refl)) in
-    absurd (omega (arith, none, marked w.key (has-named all w (Sub-Has w sub (inl refl)))))
+well-wants : (r : Request) → is_well_formed r ≡ true → has_wants r ≡ true
+well-wants r h =
+    let p = and_parts (is_job r.job && (has_wants r && nat_le (length r.wants.items) LOCKS_A_CALL)) (are_right_wants r.wants.items) h in
+    let q = and_parts (is_job r.job) (has_wants r && nat_le (length r.wants.items) LOCKS_A_CALL) p.0 in
+    (and_parts (has_wants r) (nat_le (length r.wants.items) LOCKS_A_CALL) q.1).0
 
-module _ (fs : List Filing) (job : ℕ) (named : List Want) (awaited lost : Signature) (marks : Marks awaited named fs)
-    (covers : CoversAll lost (waits_with_fewer job named) fs) where
-  abbrev bits : Signature
-  bits = joined awaited lost
+-- where no request has named wants all stay as they are
+pub none-named : (fs : List Filing) (job : ℕ) (named : List Want) → list_any (loses job named) fs ≡ false
+    → are_well_formed (requests_in fs) ≡ true → filter keeps_wants (map (with_fewer job named) fs) ≡ fs
+none-named [] job named h well = refl
+none-named (f ∷ fs) job named h well =
+    let p = or_parts (loses job named f) (list_any (loses job named) fs) h in
+    let w = and_parts (is_well_formed f.request) (are_well_formed (requests_in fs)) well in
+    ap (λ g. cond (keeps_wants g) (g ∷ filter keeps_wants (map (with_fewer job named) fs)) (filter keeps_wants (map (with_fewer job named) fs))) (same-fewer job named f p.0)
+    ∙ ap (λ b. cond b (f ∷ filter keeps_wants (map (with_fewer job named) fs)) (filter keeps_wants (map (with_fewer job named) fs))) (well-wants f.request w.0)
+    ∙ ap (λ l. f ∷ l) (none-named fs job named p.1 w.1)
 
-  abbrev Still : Key → Type 0
-  Still = StillIn bits fs
+-- a place is found where there is one
+pub found-place : (test : Filing → Bool) (fs : List Filing) (o : Option ℕ)
+    → MatchOption o (list_any test fs ≡ false) (λ i. (d : Filing) → test (get_or fs i d) ≡ true) → IfSome o (λ i. i < length fs)
+    → is_some o ≡ list_any test fs
+found-place test fs None none there = sym none
+found-place test fs (Some i) on there = sym (list_any_at test fs i unused_filing there (on unused_filing))
 
-  abbrev left-named : Request → Option Request
-  left-named r = staying_if (has_wants (without_keys_of job named r)) (without_keys_of job named r)
+-- the request at a place
+pub request-at : (fs : List Filing) (i : ℕ) (d : Filing) → i < length fs → slice_get (requests_in fs) i ≡ Some (get_or fs i d).request
+request-at [] i d lt = absurd (omega arith)
+request-at (f ∷ fs) zero d lt = refl
+request-at (f ∷ fs) (suc i) d lt = request-at fs i d (omega arith)
 
-  fewer-of : (b : Bool) (r : Request) → Sub (cond b (without_keys named r) r).wants.items r.wants.items
-  fewer-of true r = Sub-filter (λ w. not (names named w.key)) r.wants.items
-  fewer-of false r = Sub-refl r.wants.items
+-- ---- the job's own requests
 
-  fewer-named : (r s : Request) → left-named r ≡ Some s → Sub s.wants.items r.wants.items
-  fewer-named r s is = go (has_wants (without_keys_of job named r)) is
-    where
-      go : (b : Bool) → staying_if b (without_keys_of job named r) ≡ Some s → Sub s.wants.items r.wants.items
-      go true e =
-          let same : without_keys_of job named r ≡ s = cc in
-          subst (λ (q : Request). Sub q.wants.items r.wants.items) same (fewer-of (r.job == job) r)
-      go false e = absurd (cc)
+-- what pends of a job is found among its own
+pub own-pending : (xs fs : List Filing) (job : ℕ) → filter (is_own job) xs ≡ filter (is_own job) fs → pending_in xs job ≡ pending_in fs job
+own-pending xs fs job same =
+    ap (λ l. first_id (requests_in l)) (sym (own-first xs) ∙ ap (filter (pends job)) same ∙ own-first fs)
+  where
+    -- what pends is the job's
+    own-first : (ys : List Filing) → filter (pends job) (filter (is_own job) ys) ≡ filter (pends job) ys
+    own-first [] = refl
+    own-first (f ∷ ys) = go (f.request.job == job) refl (own-first ys)
+      where
+        rest : List Filing
+        rest = filter (is_own job) ys
 
-  -- a request that loses no want keeps them
-  unlost : (b : Bool) (r : Request) → (b && list_any (λ w. names named w.key) r.wants.items) ≡ false
-      → (cond b (without_keys named r) r).wants.items ≡ r.wants.items
-  unlost true r h = none-lost named r.wants.items h
-  unlost false r h = refl
-
-  -- a key that is not named keeps its wants
-  kept-key : (ws : List Want) (k : Key) → names named k ≡ false
-      → filter (λ w. same_key w.key k) (filter (λ w. not (names named w.key)) ws) ≡ filter (λ w. same_key w.key k) ws
-  kept-key [] k none = refl
-  kept-key (w ∷ ws) k none = go (names named w.key) refl (same_key w.key k) refl (kept-key ws k none)
-    where
-      rest : List Want
-      rest = filter (λ w. not (names named w.key)) ws
-
-      go : (b : Bool) → names named w.key ≡ b → (c : Bool) → same_key w.key k ≡ c
-          → filter (λ w. same_key w.key k) rest ≡ filter (λ w. same_key w.key k) ws
-          → filter (λ w. same_key w.key k) (cond (not b) (w ∷ rest) rest) ≡ cond c (w ∷ filter (λ w. same_key w.key k) ws) (filter (λ w. same_key w.key k) ws)
-      go true n true e t =
-          let named-too : names named k ≡ true = ap (names named) (sym (same_key-eq w.key k e)) ∙ n in absurd (cc)
-      go true n false e t = t
-      go false n c e t =
-          ap (λ b. cond b (w ∷ filter (λ w. same_key w.key k) rest) (filter (λ w. same_key w.key k) rest)) e
-          ∙ ap (λ l. cond c (w ∷ l) l) t
-
-  kept-of : (b : Bool) (r : Request) (k : Key) → names named k ≡ false
-      → filter (λ w. same_key w.key k) (cond b (without_keys named r) r).wants.items ≡ filter (λ w. same_key w.key k) r.wants.items
-  kept-of true r k none = kept-key r.wants.items k none
-  kept-of false r k none = refl
-
-  named-stays : (f : Filing) → Stays Still f (left-named f.request)
-  named-stays f k z =
-      at-staying (without_keys_of job named f.request) k ∙ kept-of (f.request.job == job) f.request k (unnamed (names named k) refl)
-    where
-      unnamed : (b : Bool) → names named k ≡ b → b ≡ false
-      unnamed false n = refl
-      unnamed true n =
-          let one = marks-left awaited lost k (marks k n z.0) in
-          absurd (omega (arith, one, z.1))
-
-  own-of : (b : Bool) (r s : Request) → staying_if b r ≡ Some s → (b ≡ true) × (r ≡ s)
-  own-of true r s e = (refl, cc)
-  own-of false r s e = absurd (cc)
-
-  named-rests : (f : Filing) (s : Request) → Has fs f → left-named f.request ≡ Some s → f.granted ≡ false
-      → meets (signature_of s.wants.items) bits ≡ false → Rests Still f s
-  named-rests f s h is g u = go (loses job named f) refl
-    where
-      r : Request
-      r = f.request
-
-      q : Request
-      q = without_keys_of job named r
-
-      at : (has_wants q ≡ true) × (q ≡ s)
-      at = own-of (has_wants q) q s is
-
-      off : meets (signature_of q.wants.items) bits ≡ false
-      off = ap (λ (x : Request). meets (signature_of x.wants.items) bits) at.1 ∙ u
-
-      go : (b : Bool) → loses job named f ≡ b → Rests Still f s
-      go false t =
-          let own : s.wants.items ≡ r.wants.items = ap (λ (x : Request). x.wants.items) (sym at.1) ∙ unlost (r.job == job) r t in record {
-            own = own;
-            still = λ w k. (
-              awaited-has fs f w h g (subst (λ l. Has l w) own k),
-              unmet-right (signature_of s.wants.items) bits w.key u (signed s.wants.items w k),
-            );
-          }
-      go true t =
-          let waits : waits_with_fewer job named f ≡ true =
-          ap (λ b. (b && has_wants q) && not f.granted) t ∙ ap (λ b. b && not f.granted) at.0 ∙ ap not g in
-          let bad : false ≡ true = some-want bits q.wants.items r.wants.items at.0 (fewer-of (r.job == job) r) off
-          (λ k n. marks-right awaited lost k (covers k (some-named (waits_with_fewer job named) fs f k h waits n))) in
-          absurd (cc)
-
-pub named-outdated : (fs : List Filing) (job : ℕ) (named : ArrayVec Want) (awaited lost : Signature) → Marks awaited named.items fs
-    → CoversAll lost (waits_with_fewer job named.items) fs → AreRight [] fs
-    → AreOutdated (joined awaited lost) [] (filter keeps_wants (map (with_fewer job named.items) fs))
-named-outdated fs job named awaited lost marks covers h =
-    subst (AreOutdated (joined awaited lost) []) (sym (named-after fs job named))
-    (outdated (StillIn (joined awaited lost) fs) (joined awaited lost)
-    (λ f. left_of job (DequeueNamed named) f.request) [] [] fs
-    (λ f k. named-stays fs job named.items awaited lost marks covers f)
-    (λ f s k is. named-rests fs job named.items awaited lost marks covers f s k is)
-    (λ f s k is. fewer-named fs job named.items awaited lost marks covers f.request s is)
-    (Sub-refl []) (λ k z. refl) h)
+        go : (b : Bool) → (f.request.job == job) ≡ b → filter (pends job) rest ≡ filter (pends job) ys
+            → filter (pends job) (cond b (f ∷ rest) rest) ≡ filter (pends job) (f ∷ ys)
+        go true e t = ap (λ l. cond (pends job f) (f ∷ l) l) t
+        go false e t =
+            t ∙ sym (ap (λ b. cond (((b && is_interrupt f.request.kind) && not f.request.told) && f.granted) (f ∷ filter (pends job) ys) (filter (pends job) ys)) e)
 
 -- ---- wants that are changed
 
@@ -365,125 +236,25 @@ pub change-woken : (fs : List Filing) (job : ℕ) (changes : ArrayVec Want) → 
 change-woken fs job changes h =
     ap (raised []) (change-after fs job changes) ∙ raised-all (left_of job (Modify changes)) (left-keeps job (Modify changes)) fs h
 
-module _ (job : ℕ) (cs : List Want) where
-  changes-of : (b : Bool) (f : Filing)
-      → Changes (signature_of cs) f (cond b (with_wants f.request (map (changed_want cs) f.request.wants.items)) f.request)
-  changes-of true f = record {
-    kept = λ k z. at-changed cs f.request.wants.items k (unsigned cs k z);
-    own = λ u.
-        all-unchanged cs f.request.wants.items (λ w k.
-        let bit : mark_at (signature_of (map (changed_want cs) f.request.wants.items)) w.key ≡ 1 =
-        ap (mark_at (signature_of (map (changed_want cs) f.request.wants.items))) (sym (change-key cs w))
-        ∙ signed (map (changed_want cs) f.request.wants.items) (changed_want cs w) (Has-map (changed_want cs) f.request.wants.items w k) in
-        unsigned cs w.key (unmet-right (signature_of (map (changed_want cs) f.request.wants.items)) (signature_of cs) w.key u bit));
-  }
-  changes-of false f = record {
-    kept = λ k z. refl;
-    own = λ u. refl;
-  }
+-- ---- where none leaves
 
-  pub change-lost : (fs : List Filing) → AreRight [] fs
-      → lost_in (signature_of cs) [] (map (with_change job cs) fs) ≡ some_lost (requests_in fs) (with_changes (requests_in fs) job cs)
-  change-lost fs h =
-      lost-changed (signature_of cs) (changed job cs) [] [] fs (λ f k. changes-of (f.request.job == job) f) (λ k z. refl) h
-      ∙ ap (some_lost_behind [] [] (requests_in fs)) (change-requests fs job cs)
+-- where none leaves all stay
+pub all-stay : (test : Filing → Bool) (fs : List Filing) → list_any test fs ≡ false → filter (λ f. not (test f)) fs ≡ fs
+all-stay test [] h = refl
+all-stay test (f ∷ fs) h =
+    let p = or_parts (test f) (list_any test fs) h in
+    ap (λ b. cond (not b) (f ∷ filter (λ f. not (test f)) fs) (filter (λ f. not (test f)) fs)) p.0
+    ∙ ap (λ l. f ∷ l) (all-stay test fs p.1)
 
-  pub change-outdated : (fs : List Filing) → AreRight [] fs → lost_in (signature_of cs) [] (map (with_change job cs) fs) ≡ false
-      → AreOutdated (signature_of cs) [] (map (with_change job cs) fs)
-  change-outdated fs h none =
-      outdated-changed (signature_of cs) (changed job cs) [] [] fs (λ f k. changes-of (f.request.job == job) f) (λ k z. refl) h none
-
--- a request that waits and wants a key that is changed has its bits: so only those that have them are looked at
-module _ (job : ℕ) (cs : List Want) (all : List Filing) (bits : Signature) (marks : Marks bits cs all) where
-  abbrev Unnamed : Key → Type 0
-  Unnamed k = names cs k ≡ false
-
-  as_left : Bool → Request → Request
-  as_left b r = cond b (with_wants r (map (changed_want cs) r.wants.items)) r
-
-  unnamed-stays : (b : Bool) (f : Filing) → Stays Unnamed f (Some (as_left b f.request))
-  unfolding as_left
-  unnamed-stays true f = λ k z. at-changed cs f.request.wants.items k z
-  unnamed-stays false f = λ k z. refl
-
-  same-names : (b : Bool) (r : Request) (k : Key) → names (as_left b r).wants.items k ≡ names r.wants.items k
-  unfolding as_left
-  same-names true r k = changed-names cs r.wants.items k
-  same-names false r k = refl
-
-  unnamed-own : (b : Bool) (f : Filing) → ((w : Want) → Has f.request.wants.items w → names cs w.key ≡ false)
-      → (as_left b f.request).wants.items ≡ f.request.wants.items
-  unfolding as_left
-  unnamed-own true f h = all-unchanged cs f.request.wants.items h
-  unnamed-own false f h = refl
-
-  -- a key of a request that waits, and has not these bits, is not changed
-  unnamed-key : (b : Bool) (f : Filing) (k : Key) → Has all f → f.granted ≡ false
-      → meets (signature_of (as_left b f.request).wants.items) bits ≡ false → names f.request.wants.items k ≡ true → names cs k ≡ false
-  unnamed-key b f k h g u n = go (names cs k) refl
-    where
-      mine : List Want
-      mine = (as_left b f.request).wants.items
-
-      awaited : (waiting_count (hash_of k) all == 0) ≡ false
-      awaited =
-          let at = names-found f.request.wants.items k n in
-          ap (λ (x : Key). waiting_count (hash_of x) all == 0) (sym at.2) ∙ awaited-has all f at.0 h g at.1
-
-      off : mark_at bits k ≡ 0
-      off =
-          let at = names-found mine k (same-names b f.request k ∙ n) in
-          ap (mark_at bits) (sym at.2) ∙ unmet-right (signature_of mine) bits at.0.key u (signed mine at.0 at.1)
-
-      go : (c : Bool) → names cs k ≡ c → c ≡ false
-      go false e = refl
-      go true e = absurd (omega (arith, off, marks k e awaited))
-
-  unnamed-rests : (b : Bool) (f : Filing) → Has all f → f.granted ≡ false
-      → meets (signature_of (as_left b f.request).wants.items) bits ≡ false → Rests Unnamed f (as_left b f.request)
-  unnamed-rests b f h g u = record {
-    own = unnamed-own b f (λ w k. unnamed-key b f w.key h g u (has-named f.request.wants.items w k));
-    still = λ w k.
-        unnamed-key b f w.key h g u (sym (same-names b f.request w.key) ∙ has-named (as_left b f.request).wants.items w k);
-  }
-
-  waiting-outdated : (d e : List Request) (fs : List Filing) → ((f : Filing) → Has fs f → Has all f) → Alike Unnamed d e → AreRight e fs
-      → AreOutdated (signature_of cs) d (map (with_change job cs) fs) → AreOutdated bits d (map (with_change job cs) fs)
-  unfolding as_left
-  waiting-outdated d e [] each same h old = record {}
-  waiting-outdated d e (f ∷ fs) each same h old =
-      let s : Request = changed job cs f.request in (
-        record {
-          stays = old.0.stays;
-          rests = λ g u. resting Unnamed d e f s (unnamed-rests (f.request.job == job) f (each f (inl refl)) g u) same h.0 ∙ g;
-        },
-        waiting-outdated (d ++ s ∷ []) (e ++ f.request ∷ []) fs (λ x k. each x (inr k))
-            (alike-stays Unnamed d e f s (unnamed-stays (f.request.job == job) f) same) h.1 old.1,
-      )
-
-pub change-awaited : (job : ℕ) (cs : List Want) (fs : List Filing) (bits : Signature) → Marks bits cs fs → AreRight [] fs
-    → lost_in (signature_of cs) [] (map (with_change job cs) fs) ≡ false → AreOutdated bits [] (map (with_change job cs) fs)
-change-awaited job cs fs bits marks h none =
-    waiting-outdated job cs fs bits marks [] [] fs (λ f k. k) (λ k z. refl) h (change-outdated job cs fs h none)
-
--- ---- the outcome of a change
-
-module _ (fs : List Filing) (job : ℕ) (changes : ArrayVec Want) (right : AreRight [] fs)
-    (passed : first_refusal (modify_fault (requests_in fs) job) [] changes.items ≡ None) where
-  abbrev outcome-if : Bool → Outcome
-  outcome-if lost =
-      unless_refused (requests_in fs) (or_else None (refuse_if lost WouldLose)) (outcome (with_changes (requests_in fs) job changes.items) Done)
-
-  judged : outcome_of (requests_in fs) job (Modify changes) ≡ outcome-if (lost_in (signature_of changes.items) [] (map (with_change job changes.items) fs))
-  judged =
-      ap (λ o. unless_refused (requests_in fs) (or_else o (refuse_if (some_lost (requests_in fs) (with_changes (requests_in fs) job changes.items)) WouldLose))
-      (outcome (with_changes (requests_in fs) job changes.items) Done)) passed
-      ∙ ap outcome-if (sym (change-lost job changes.items fs right))
-
-  pub modify-lost : lost_in (signature_of changes.items) [] (map (with_change job changes.items) fs) ≡ true
-      → outcome_of (requests_in fs) job (Modify changes) ≡ outcome (requests_in fs) (Refused WouldLose)
-  modify-lost lost = judged ∙ ap outcome-if lost
-
-  pub modify-done : lost_in (signature_of changes.items) [] (map (with_change job changes.items) fs) ≡ false
-      → outcome_of (requests_in fs) job (Modify changes) ≡ outcome (requests_in (map (with_change job changes.items) fs)) Done
-  modify-done kept = judged ∙ ap outcome-if kept ∙ ap (λ l. outcome l Done) (sym (change-requests fs job changes.items))
+-- grants that are right rise nowhere
+pub none-raised : (e : List Request) (fs : List Filing) → AreRight e fs → raised e fs ≡ []
+none-raised e [] h = refl
+none-raised e (f ∷ fs) h =
+    ap (λ b. cond b (grant_of f.request ∷ raised (e ++ f.request ∷ []) fs) (raised (e ++ f.request ∷ []) fs))
+    (ap (λ g. (is_told_of f.request.kind && not g) && granted_behind e f.request) h.0 ∙ off (is_told_of f.request.kind) (granted_behind e f.request))
+    ∙ none-raised (e ++ f.request ∷ []) fs h.1
+  where
+    off : (t g : Bool) → ((t && not g) && g) ≡ false
+    off true true = refl
+    off true false = refl
+    off false g = refl

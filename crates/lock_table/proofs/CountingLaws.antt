@@ -18,7 +18,7 @@ use Rattle.lock_queue.proofs.Lists.{flat_map-append}
 use Rattle.key_tally.specs.Tallies.{Counted, counted, counted_of, wants_counted, names_counted, waiting_counted, has_hash, judged, beside}
 use Rattle.lock_table.specs.Countings.{counted_in, is_countable}
 use Rattle.lock_table.specs.Filings.{Filing, requests_in}
-use Rattle.lock_table.specs.Signatures.{hash_of}
+use Rattle.key_tally.specs.Hashes.{hash_of}
 use Rattle.lock_table.specs.Tallies.{want_count, waiting_count}
 
 -- those of one request

@@ -13,20 +13,17 @@ use Rattle.lock_queue.proofs.GrantLaws.{left-gone, left-stays}
 use Rattle.lock_queue.proofs.Lists.{Has, Sub, Sub-append, Sub-none, Sub-refl, flat_map-append}
 use Rattle.lock_table.specs.Filings.{Filing, filing, requests_in, AreRight}
 use Rattle.lock_table.specs.Renewals.{raised, AreOutdated}
-use Rattle.lock_table.specs.declared.signature.Signature.{Signature}
-use Rattle.lock_table.specs.Signatures.{meets, signature_of, mark_at}
 use Rattle.lock_queue.proofs.Fitting.{wants_at-append, granted_behind-fewer, granted-same-at}
-use Rattle.lock_table.proofs.SignatureLaws.{unmet-right, signed}
 
 -- whether a request has a grant that does not hold, and touches one of the groups
-abbrev pub lost_at : Signature → List Request → Filing → Bool
-lost_at bits earlier f =
-    f.granted && (meets (signature_of f.request.wants.items) bits && not (granted_behind earlier f.request))
+abbrev pub lost_at : (List Want → Bool) → List Request → Filing → Bool
+lost_at touched earlier f =
+    f.granted && (touched f.request.wants.items && not (granted_behind earlier f.request))
 
 -- the same of one of these
-abbrev pub lost_in : Signature → List Request → List Filing → Bool
-lost_in bits earlier [] = false
-lost_in bits earlier (f ∷ later) = lost_at bits earlier f || lost_in bits (earlier ++ f.request ∷ []) later
+abbrev pub lost_in : (List Want → Bool) → List Request → List Filing → Bool
+lost_in touched earlier [] = false
+lost_in touched earlier (f ∷ later) = lost_at touched earlier f || lost_in touched (earlier ++ f.request ∷ []) later
 
 abbrev pub put : Option Request → Bool → List Filing → List Filing
 put None g rest = rest
@@ -78,23 +75,23 @@ module _ (Still : Key → Type 0) where
   resting d e f s r same right =
       granted-same-at d e s (λ w h. same w.key (r.still w h)) ∙ ap (list_all (fits e)) r.own ∙ sym right
 
-  module _ (bits : Signature) (left : Filing → Option Request) where
+  module _ (touched : List Want → Bool) (left : Filing → Option Request) where
     -- where wants only leave, no grant is lost
     pub outdated : (d e : List Request) (fs : List Filing)
         → ((f : Filing) → Has fs f → Stays f (left f))
-        → ((f : Filing) (s : Request) → Has fs f → left f ≡ Some s → f.granted ≡ false → meets (signature_of s.wants.items) bits ≡ false → Rests f s)
+        → ((f : Filing) (s : Request) → Has fs f → left f ≡ Some s → f.granted ≡ false → touched s.wants.items ≡ false → Rests f s)
         → ((f : Filing) (s : Request) → Has fs f → left f ≡ Some s → Sub s.wants.items f.request.wants.items)
-        → Sub (all_wants d) (all_wants e) → Alike d e → AreRight e fs → AreOutdated bits d (after left fs)
+        → Sub (all_wants d) (all_wants e) → Alike d e → AreRight e fs → AreOutdated touched d (after left fs)
     outdated d e [] each own fewer sub same h = record {}
     outdated d e (f ∷ fs) each own fewer sub same h =
         go (left f) refl (each f (inl refl)) (λ s. own f s (inl refl)) (λ s. fewer f s (inl refl))
         (λ d2 s2 a2. outdated d2 (e ++ f.request ∷ []) fs (λ x k. each x (inr k)) (λ x s k. own x s (inr k)) (λ x s k. fewer x s (inr k)) s2 a2 h.1)
       where
         go : (o : Option Request) → left f ≡ o → Stays f o
-            → ((s : Request) → o ≡ Some s → f.granted ≡ false → meets (signature_of s.wants.items) bits ≡ false → Rests f s)
+            → ((s : Request) → o ≡ Some s → f.granted ≡ false → touched s.wants.items ≡ false → Rests f s)
             → ((s : Request) → o ≡ Some s → Sub s.wants.items f.request.wants.items)
-            → ((d2 : List Request) → Sub (all_wants d2) (all_wants (e ++ f.request ∷ [])) → Alike d2 (e ++ f.request ∷ []) → AreOutdated bits d2 (after left fs))
-            → AreOutdated bits d (put o f.granted (after left fs))
+            → ((d2 : List Request) → Sub (all_wants d2) (all_wants (e ++ f.request ∷ [])) → Alike d2 (e ++ f.request ∷ []) → AreOutdated touched d2 (after left fs))
+            → AreOutdated touched d (put o f.granted (after left fs))
         go None is c r few rest =
             rest d
             (subst (λ l. Sub l (all_wants (e ++ f.request ∷ []))) (append-nil (all_wants d))
@@ -112,22 +109,20 @@ module _ (Still : Key → Type 0) where
               (alike-stays d e f s c same),
         )
 
-module _ (bits : Signature) where
-  abbrev Off : Key → Type 0
-  Off k = mark_at bits k ≡ 0
-
+-- the wants that are not touched have keys that are off
+module _ (touched : List Want → Bool) (Off : Key → Type 0) (off : (ws : List Want) (w : Want) → Has ws w → touched ws ≡ false → Off w.key) where
   -- only what touches the groups changes
   pub record Changes (f : Filing) (s : Request) : Type 0 where
     pub kept : Stays Off f (Some s)
-    pub own : meets (signature_of s.wants.items) bits ≡ false → s.wants.items ≡ f.request.wants.items
+    pub own : touched s.wants.items ≡ false → s.wants.items ≡ f.request.wants.items
 
   -- a request that is not touched keeps its grant
   untouched : (d e : List Request) (f : Filing) (s : Request) → Changes f s → Alike Off d e
-      → f.granted ≡ granted_behind e f.request → meets (signature_of s.wants.items) bits ≡ false
+      → f.granted ≡ granted_behind e f.request → touched s.wants.items ≡ false
       → granted_behind d s ≡ f.granted
   untouched d e f s c same right u =
       resting Off d e f s
-      (record { own = c.own u; still = λ w h. unmet-right (signature_of s.wants.items) bits w.key u (signed s.wants.items w h) })
+      (record { own = c.own u; still = λ w h. off s.wants.items w h u })
       same right
 
   -- by the grant at hand, by whether the request is touched, and by its grant
@@ -144,14 +139,14 @@ module _ (bits : Signature) where
     -- where wants are changed, no grant is lost if none is that is touched
     pub outdated-changed : (d e : List Request) (fs : List Filing)
         → ((f : Filing) → Has fs f → Changes f (change f.request))
-        → Alike Off d e → AreRight e fs → lost_in bits d (map changed_filing fs) ≡ false → AreOutdated bits d (map changed_filing fs)
+        → Alike Off d e → AreRight e fs → lost_in touched d (map changed_filing fs) ≡ false → AreOutdated touched d (map changed_filing fs)
     outdated-changed d e [] each same h none = record {}
     outdated-changed d e (f ∷ fs) each same h none =
         let c = each f (inl refl) in
         let s : Request = change f.request in
-        let parts = or_parts (lost_at bits d (filing s f.granted)) (lost_in bits (d ++ s ∷ []) (map changed_filing fs)) none in (
+        let parts = or_parts (lost_at touched d (filing s f.granted)) (lost_in touched (d ++ s ∷ []) (map changed_filing fs)) none in (
           record {
-            stays = not-lost f.granted (meets (signature_of s.wants.items) bits) (granted_behind d s) parts.0 (untouched d e f s c same h.0);
+            stays = not-lost f.granted (touched s.wants.items) (granted_behind d s) parts.0 (untouched d e f s c same h.0);
             rests = λ g u. untouched d e f s c same h.0 u ∙ g;
           },
           outdated-changed (d ++ s ∷ []) (e ++ f.request ∷ []) fs (λ x k. each x (inr k)) (alike-stays Off d e f s c.kept same) h.1 parts.1,
@@ -167,15 +162,15 @@ module _ (bits : Signature) where
     pub lost-changed : (d e : List Request) (fs : List Filing)
         → ((f : Filing) → Has fs f → Changes f (change f.request))
         → Alike Off d e → AreRight e fs
-        → lost_in bits d (map changed_filing fs) ≡ some_lost_behind e d (requests_in fs) (requests_in (map changed_filing fs))
+        → lost_in touched d (map changed_filing fs) ≡ some_lost_behind e d (requests_in fs) (requests_in (map changed_filing fs))
     lost-changed d e [] each same h = refl
     lost-changed d e (f ∷ fs) each same h =
         let c = each f (inl refl) in
         let s : Request = change f.request in
-        let here : lost_at bits d (filing s f.granted) ≡ (granted_behind e f.request && not (granted_behind d s)) =
-        lost-same f.granted (meets (signature_of s.wants.items) bits) (granted_behind d s) (untouched d e f s c same h.0)
+        let here : lost_at touched d (filing s f.granted) ≡ (granted_behind e f.request && not (granted_behind d s)) =
+        lost-same f.granted (touched s.wants.items) (granted_behind d s) (untouched d e f s c same h.0)
         ∙ ap (λ g. g && not (granted_behind d s)) h.0 in
-        ap (λ b. b || lost_in bits (d ++ s ∷ []) (map changed_filing fs)) here
+        ap (λ b. b || lost_in touched (d ++ s ∷ []) (map changed_filing fs)) here
         ∙ ap (λ b. (granted_behind e f.request && not (granted_behind d s)) || b)
         (lost-changed (d ++ s ∷ []) (e ++ f.request ∷ []) fs (λ x k. each x (inr k)) (alike-stays Off d e f s c.kept same) h.1)
 

@@ -1,32 +1,25 @@
--- Wants that are given up, of one request after the other from the first on.
-use Rattle.std.proofs.Common.{◌≡◌, ◌∙◌, sym, ap, refl, ℕ, zero, suc, ◌+◌, ◌-◌, ◌<◌, ◌≤◌, ◌==◌, Bool, true, false, not, ◌&&◌, ◌||◌, inl, inr, Option, None, cond, if◌then◌else◌, List, [], ◌∷◌, ◌++◌, append-nil, append_assoc, add-one, length, length-append, length-drop, get_or, take, drop, filter, map, arith}
+-- Wants that are given up, of one request after the other until none has them.
+use Rattle.std.proofs.Common.{◌≡◌, ◌∙◌, sym, ap, refl, ℕ, suc, ◌+◌, ◌<◌, ◌==◌, Bool, true, false, not, ◌&&◌, ◌||◌, cond, List, [], ◌∷◌, ◌++◌, append-nil, append_assoc, add-one, length, length-append, get_or, take, drop, filter, map, arith}
 use Rattle.std.specs.List.{list_all, list_any}
 use Rattle.std.proofs.lemmas.Bool.{and_parts, and_right, or_parts, or_from}
 use Rattle.std.proofs.lemmas.Bool.Decides.{nat_tests}
-use Rattle.std.proofs.lemmas.List.{take-append-drop, take_at, drop_at, drop_more, length-take-le, map-append}
+use Rattle.std.proofs.lemmas.List.{take-append-drop, drop_more, map-append}
 use Rattle.std.proofs.lemmas.List.Elements.{filter-append}
 use Rattle.std.proofs.lemmas.List.Folds.{list_all-append, list_any-append}
+use Rattle.key_tally.specs.Hashes.{hash_of, hashes_of}
 use Rattle.lock_queue.specs.declared.key.Key.{Key}
-use Rattle.lock_queue.specs.declared.refusal.Refusal.{Refusal}
-use Rattle.lock_queue.specs.declared.refusal.Refusal.TheVariants.{NamedAlready, NotPresent}
 use Rattle.lock_queue.specs.declared.want.Want.{Want}
-use Rattle.lock_queue.specs.Dequeues.{with_wants, without_keys, has_wants, dequeue_fault}
-use Rattle.lock_queue.specs.Keys.{same_key}
-use Rattle.lock_queue.specs.Outcomes.{first_refusal, refuse_if, or_else}
-use Rattle.lock_queue.specs.Queue.{names, all_wants, wants_of}
+use Rattle.lock_queue.specs.Dequeues.{with_wants, without_keys, has_wants}
+use Rattle.lock_queue.specs.Queue.{names}
 use Rattle.lock_queue.specs.WellFormed.{is_well_formed, is_job, are_right_wants, are_well_formed}
-use Rattle.lock_queue.proofs.Fitting.{names-found, same_key-eq, same_key-refl}
-use Rattle.lock_queue.proofs.Lists.{Has}
-use Rattle.lock_table.specs.declared.signature.Signature.{Signature}
+use Rattle.lock_queue.proofs.Fitting.{names-found}
+use Rattle.slot_rows.specs.Rows.{is_among}
+use Rattle.lock_table.specs.declared.awaited.Awaited.{Awaited}
+use Rattle.lock_table.specs.Awaited.{Keeps, has, marks}
 use Rattle.lock_table.specs.Departures.{some_names, CoversAll, loses, fewer, with_fewer, keeps_wants, waits_with_fewer}
 use Rattle.lock_table.specs.Filings.{Filing, filing, requests_in}
-use Rattle.lock_table.specs.Signatures.{no_bits, joined, signature_of, mark_at}
-use Rattle.lock_table.specs.Walks.{from_where}
-use Rattle.lock_table.proofs.AwaitedLaws.{has-named, marks-left, marks-right}
+use Rattle.lock_table.proofs.AwaitedLaws.{own-hash}
 use Rattle.lock_table.proofs.CallLaws.{none-lost}
-use Rattle.lock_table.proofs.LeavingLaws.{where-names}
-use Rattle.lock_table.proofs.SignatureLaws.{signed}
-use Rattle.lock_table.proofs.WhereLaws.{where-short}
 
 -- a request that loses no wants
 pub unlosing : (job : ℕ) (named : List Want) (f : Filing) → loses job named f ≡ false → with_fewer job named f ≡ f
@@ -42,10 +35,6 @@ pub losing : (job : ℕ) (named : List Want) (f : Filing) → loses job named f 
 losing job named f h =
     ap (λ b. filing (cond b (without_keys named f.request) f.request) f.granted)
     (and_parts (f.request.job == job) (list_any (λ w. names named w.key) f.request.wants.items) h).0
-
--- who is not the job's loses none
-pub not-losing : (job : ℕ) (named : List Want) (f : Filing) → (f.request.job == job) ≡ false → loses job named f ≡ false
-not-losing job named f e = ap (λ b. b && list_any (λ w. names named w.key) f.request.wants.items) e
 
 -- what a request keeps of its wants
 pub named-all : (named ws : List Want)
@@ -86,10 +75,10 @@ none-named named (w ∷ ws) = go (names named w.key) refl (none-named named ws)
     go true e t = t
     go false e t = or_from (names named w.key) (list_any (λ w. names named w.key) rest) e t
 
--- a signature has the bits of what has lost wants, while others that lose some are still there
-abbrev pub CoversAllBut : Signature → (Filing → Bool) → List Filing → List Filing → Type 0
-CoversAllBut bits test filings rest =
-    (key : Key) → some_names test key filings ≡ true → some_names test key rest ≡ false → mark_at bits key ≡ 1
+-- the hashes of what has lost wants are there, while others that lose some are still present
+abbrev pub CoversAllBut : Awaited → (Filing → Bool) → List Filing → List Filing → Type 0
+CoversAllBut awaited test filings rest =
+    (key : Key) → some_names test key filings ≡ true → some_names test key rest ≡ false → marks awaited key ≡ true
 
 module _ (job : ℕ) (named : List Want) where
   abbrev pub left : List Filing → List Filing
@@ -122,17 +111,19 @@ module _ (job : ℕ) (named : List Want) where
       ap (λ x. cond (keeps_wants x) (x ∷ left fs) (left fs)) (unlosing job named f p.0)
       ∙ ap (λ b. cond b (f ∷ left fs) (left fs)) q.0 ∙ ap (λ l. f ∷ l) (left-all fs p.1 q.1)
 
-  pub covers-first : (bits : Signature) (fs rest : List Filing) → rest ≡ from_where (loses job named) fs
-      → CoversAllBut bits (waits_with_fewer job named) fs rest
-  covers-first bits fs rest is k some off =
-      let both : true ≡ false =
-      sym some ∙ sym (where-names (loses job named) (waits_with_fewer job named) waits-loses fs k)
-      ∙ ap (some_names (waits_with_fewer job named) k) (sym is) ∙ off in
-      absurd (cc)
+  pub covers-first : (awaited : Awaited) (fs : List Filing) → CoversAllBut awaited (waits_with_fewer job named) fs fs
+  covers-first awaited fs k some off = absurd (cc (sym some ∙ off))
 
-  pub covers-last : (bits : Signature) (fs rest : List Filing) → rest ≡ [] → CoversAllBut bits (waits_with_fewer job named) fs rest
-      → CoversAll bits (waits_with_fewer job named) fs
-  covers-last bits fs rest is before k some = before k some (ap (some_names (waits_with_fewer job named) k) is)
+  none-waits : (fs : List Filing) (k : Key) → list_any (loses job named) fs ≡ false → some_names (waits_with_fewer job named) k fs ≡ false
+  none-waits [] k h = refl
+  none-waits (f ∷ fs) k h =
+      let p = or_parts (loses job named f) (list_any (loses job named) fs) h in
+      or_from (waits_with_fewer job named f && names f.request.wants.items k) (some_names (waits_with_fewer job named) k fs)
+      (ap (λ b. b && names f.request.wants.items k) (waits-loses f p.0)) (none-waits fs k p.1)
+
+  pub covers-last : (awaited : Awaited) (fs rest : List Filing) → list_any (loses job named) rest ≡ false
+      → CoversAllBut awaited (waits_with_fewer job named) fs rest → CoversAll awaited (waits_with_fewer job named) fs
+  covers-last awaited fs rest none before k some = before k some (none-waits rest k none)
 
   -- ---- one request gives up its wants
 
@@ -152,19 +143,6 @@ module _ (job : ℕ) (named : List Want) where
 
     parts : new ≡ take i now ++ (part ++ later)
     parts = are ∙ append_assoc (take i now) part later
-
-    long : length (take i now) ≡ i
-    long = length-take-le i now (omega arith)
-
-    pub step-front : take i new ≡ take i now
-    step-front = ap (take i) parts ∙ take_at (take i now) (part ++ later) i long
-
-    pub step-long : i ≤ length new
-    step-long =
-        let all = ap length parts ∙ length-append (take i now) (part ++ later) in omega (arith, all, long)
-
-    step-back : drop i new ≡ part ++ later
-    step-back = ap (drop i) parts ∙ drop_at (take i now) (part ++ later) i long
 
     left-part : left part ≡ left (f ∷ [])
     left-part = go (keeps_wants (fewer named f)) refl
@@ -195,64 +173,52 @@ module _ (job : ℕ) (named : List Want) where
         ∙ ap (λ b. b && list_all keeps_wants (part ++ later)) p.0
         ∙ list_all-append keeps_wants part later ∙ ap (λ b. b && list_all keeps_wants later) part-kept ∙ q.1
 
-    passed : from_where (loses job named) (drop i new) ≡ from_where (loses job named) later
-    passed = ap (from_where (loses job named)) step-back ∙ go (keeps_wants (fewer named f))
+    -- fewer lose wants then
+    counted : (xs ys : List Filing) → length (filter (loses job named) (xs ++ ys)) ≡ length (filter (loses job named) xs) + length (filter (loses job named) ys)
+    counted xs ys =
+        ap length (filter-append (loses job named) xs ys) ∙ length-append (filter (loses job named) xs) (filter (loses job named) ys)
+
+    part-count : length (filter (loses job named) part) ≡ 0
+    part-count = go (keeps_wants (fewer named f))
       where
-        go : (b : Bool) → from_where (loses job named) (cond b (fewer named f ∷ []) [] ++ later) ≡ from_where (loses job named) later
-        go true = ap (λ b. cond b (fewer named f ∷ later) (from_where (loses job named) later)) (fewer-loses f)
+        go : (b : Bool) → length (filter (loses job named) (cond b (fewer named f ∷ []) [])) ≡ 0
+        go true = ap (λ b. length (cond b (fewer named f ∷ []) [])) (fewer-loses f)
         go false = refl
 
-    -- the next stands behind it
-    pub step-smaller : (m : ℕ) → m ≤ length new → drop m new ≡ from_where (loses job named) (drop i new) → length new - m < length now - i
-    step-smaller m le is =
-        let same = ap length (is ∙ passed) in
-        omega (arith, same, length-drop m new, length-drop (i + 1) now, where-short (loses job named) later, lt)
+    pub step-smaller : length (filter (loses job named) new) < length (filter (loses job named) now)
+    step-smaller =
+        let n1 : length (filter (loses job named) new) ≡ length (filter (loses job named) (take i now ++ (part ++ later))) = ap (λ l. length (filter (loses job named) l)) parts in
+        let n2 = counted (take i now) (part ++ later) in
+        let n3 = counted part later in
+        let o1 : length (filter (loses job named) now) ≡ length (filter (loses job named) (take i now ++ f ∷ later)) = ap (λ l. length (filter (loses job named) l)) whole in
+        let o2 = counted (take i now) (f ∷ later) in
+        let one : filter (loses job named) (f ∷ later) ≡ f ∷ filter (loses job named) later =
+        ap (λ b. cond b (f ∷ filter (loses job named) later) (filter (loses job named) later)) losing-there in
+        let o3 = ap length one in
+        omega (arith, n1, n2, n3, o1, o2, o3, part-count)
 
-    pub step-covers : (bits more : Signature) (fs rest : List Filing) → rest ≡ from_where (loses job named) (drop i new)
-        → CoversAll more (waits_with_fewer job named) (f ∷ []) → CoversAllBut bits (waits_with_fewer job named) fs (drop i now)
-        → CoversAllBut (joined bits more) (waits_with_fewer job named) fs rest
-    step-covers bits more fs rest is own before k some off = go (waits_with_fewer job named f && names f.request.wants.items k) refl
+    pub step-covers : (awaited more : Awaited) (fs : List Filing) → CoversAll more (waits_with_fewer job named) (f ∷ []) → Keeps awaited more
+        → CoversAllBut awaited (waits_with_fewer job named) fs now → CoversAllBut more (waits_with_fewer job named) fs new
+    step-covers awaited more fs own keeps before k some off = go (waits_with_fewer job named f && names f.request.wants.items k) refl
       where
-        behind : some_names (waits_with_fewer job named) k later ≡ false
-        behind =
-            sym (where-names (loses job named) (waits_with_fewer job named) waits-loses later k)
-            ∙ ap (some_names (waits_with_fewer job named) k) (sym (is ∙ passed)) ∙ off
+        test : Filing → Bool
+        test x = waits_with_fewer job named x && names x.request.wants.items k
 
-        go : (b : Bool) → (waits_with_fewer job named f && names f.request.wants.items k) ≡ b → mark_at (joined bits more) k ≡ 1
-        go true e = marks-right bits more k (own k (ap (λ b. b || false) e))
+        ends : (list_any test (take i now) ≡ false) × (list_any test (part ++ later) ≡ false)
+        ends =
+            or_parts (list_any test (take i now)) (list_any test (part ++ later))
+            (sym (list_any-append test (take i now) (part ++ later)) ∙ ap (list_any test) (sym parts) ∙ off)
+
+        behind : list_any test later ≡ false
+        behind = (or_parts (list_any test part) (list_any test later) (sym (list_any-append test part later) ∙ ends.1)).1
+
+        go : (b : Bool) → (waits_with_fewer job named f && names f.request.wants.items k) ≡ b → marks more k ≡ true
+        go true e = own k (ap (λ b. b || false) e)
         go false e =
-            marks-left bits more k
+            keeps (hash_of k)
             (before k some
-            (ap (some_names (waits_with_fewer job named) k) (drop_more now i d lt)
-            ∙ or_from (waits_with_fewer job named f && names f.request.wants.items k) (some_names (waits_with_fewer job named) k later) e behind))
-
--- ---- where none loses wants any more
-
-where-none : (test : Filing → Bool) (fs : List Filing) → list_any test fs ≡ false → from_where test fs ≡ []
-where-none test [] h = refl
-where-none test (f ∷ fs) h =
-    let p = or_parts (test f) (list_any test fs) h in
-    ap (λ b. cond b (f ∷ fs) (from_where test fs)) p.0 ∙ where-none test fs p.1
-
--- the walk finds none behind a place
-pub behind-none : (test : Filing → Bool) (fs : List Filing) (i : ℕ) → list_any test fs ≡ false → from_where test (drop i fs) ≡ []
-behind-none test fs i h =
-    where-none test (drop i fs)
-    (or_parts (list_any test (take i fs)) (list_any test (drop i fs))
-    (sym (list_any-append test (take i fs) (drop i fs)) ∙ ap (list_any test) (take-append-drop i fs) ∙ h)).1
-
-pub covers-none : (bits : Signature) (job : ℕ) (named : List Want) (fs : List Filing) → list_any (loses job named) fs ≡ false
-    → CoversAll bits (waits_with_fewer job named) fs
-covers-none bits job named fs none k some =
-    let both : true ≡ false =
-    sym some ∙ sym (where-names (loses job named) (waits_with_fewer job named) (waits-loses job named) fs k)
-    ∙ ap (some_names (waits_with_fewer job named) k) (where-none (loses job named) fs none) in
-    absurd (cc)
-
-pub same-at : (xs : List Filing) (i : ℕ) (d e : Filing) → i < length xs → get_or xs i d ≡ get_or xs i e
-same-at [] i d e lt = absurd (omega arith)
-same-at (x ∷ xs) zero d e lt = refl
-same-at (x ∷ xs) (suc i) d e lt = same-at xs i d e (omega arith)
+            (ap (list_any test) whole ∙ list_any-append test (take i now) (f ∷ later)
+            ∙ or_from (list_any test (take i now)) (list_any test (f ∷ later)) ends.0 (or_from (test f) (list_any test later) e behind)))
 
 -- a request that keeps no wants is taken out
 pub bare-gone : (fs now : List Filing) (i : ℕ) (y : Filing) → now ≡ take i fs ++ drop (suc i) fs → keeps_wants y ≡ false
@@ -267,32 +233,34 @@ pub kept-there : (fs now : List Filing) (i : ℕ) (y : Filing) → now ≡ take 
 kept-there fs now i y are some =
     are ∙ sym (ap (λ b. take i fs ++ cond b (y ∷ []) [] ++ drop (i + 1) fs) some ∙ append_assoc (take i fs) (y ∷ []) (drop (i + 1) fs))
 
--- ---- the bits of one request
-
-named-marks : (ws : List Want) (k : Key) → names ws k ≡ true → mark_at (signature_of ws) k ≡ 1
-named-marks ws k h =
-    let found = names-found ws k h in
-    ap (mark_at (signature_of ws)) (sym found.2) ∙ signed ws found.0 found.1
+-- ---- the hashes of one request
 
 or-last : (b : Bool) → (b || false) ≡ true → b ≡ true
 or-last true h = refl
 or-last false h = h
 
-pub covers-one : (job : ℕ) (named : List Want) (f : Filing)
-    → CoversAll (if f.granted then no_bits else signature_of f.request.wants.items) (waits_with_fewer job named) (f ∷ [])
-covers-one job named f k some =
+-- a request that waits, all of whose hashes are there
+pub covers-one : (awaited : Awaited) (job : ℕ) (named : List Want) (f : Filing)
+    → ((hash : ℕ) → is_among hash (hashes_of f.request.wants.items) ≡ true → has awaited hash ≡ true)
+    → CoversAll awaited (waits_with_fewer job named) (f ∷ [])
+covers-one awaited job named f all k some =
     let p = and_parts (waits_with_fewer job named f) (names f.request.wants.items k) (or-last (waits_with_fewer job named f && names f.request.wants.items k) some) in
-    go f.granted (and_parts (loses job named f && keeps_wants (with_fewer job named f)) (not f.granted) p.0).1 p.1
-  where
-    go : (g : Bool) → not g ≡ true → names f.request.wants.items k ≡ true
-        → mark_at (if g then no_bits else signature_of f.request.wants.items) k ≡ 1
-    go true off n = absurd (cc)
-    go false off n = named-marks f.request.wants.items k n
+    let found = names-found f.request.wants.items k p.1 in
+    all (hash_of k) (ap (λ (key : Key). is_among (hash_of key) (hashes_of f.request.wants.items)) (sym found.2) ∙ own-hash f.request.wants.items found.0 found.1)
+
+-- one that is granted does not wait
+pub covers-granted : (awaited : Awaited) (job : ℕ) (named : List Want) (f : Filing) → f.granted ≡ true
+    → CoversAll awaited (waits_with_fewer job named) (f ∷ [])
+covers-granted awaited job named f on k some =
+    let p = and_parts (waits_with_fewer job named f) (names f.request.wants.items k) (or-last (waits_with_fewer job named f && names f.request.wants.items k) some) in
+    let q = and_parts (loses job named f && keeps_wants (with_fewer job named f)) (not f.granted) p.0 in
+    let both : false ≡ true = ap not (sym on) ∙ q.1 in
+    absurd (cc)
 
 -- a request that keeps none does not wait then
-pub covers-bare : (bits : Signature) (job : ℕ) (named : List Want) (f : Filing) → loses job named f ≡ true → keeps_wants (fewer named f) ≡ false
-    → CoversAll bits (waits_with_fewer job named) (f ∷ [])
-covers-bare bits job named f on bare k some =
+pub covers-bare : (awaited : Awaited) (job : ℕ) (named : List Want) (f : Filing) → loses job named f ≡ true → keeps_wants (fewer named f) ≡ false
+    → CoversAll awaited (waits_with_fewer job named) (f ∷ [])
+covers-bare awaited job named f on bare k some =
     let p = and_parts (waits_with_fewer job named f) (names f.request.wants.items k) (or-last (waits_with_fewer job named f && names f.request.wants.items k) some) in
     let q = and_parts (loses job named f && keeps_wants (with_fewer job named f)) (not f.granted) p.0 in
     let keeps = (and_parts (loses job named f) (keeps_wants (with_fewer job named f)) q.0).1 in
@@ -308,97 +276,3 @@ well-kept (f ∷ fs) h =
     let r = and_parts (is_job f.request.job) (has_wants f.request && _) q.0 in
     let s = and_parts (has_wants f.request) _ r.1 in
     ap (λ b. b && list_all keeps_wants fs) s.0 ∙ well-kept fs p.1
-
--- ---- the refusal
-
--- wants of which none is named
-unnamed-want : (named ws : List Want) (k : Key) → list_any (λ w. names named w.key) ws ≡ false → names named k ≡ true → names ws k ≡ false
-unnamed-want named [] k h n = refl
-unnamed-want named (w ∷ ws) k h n =
-    let p = or_parts (names named w.key) (list_any (λ w. names named w.key) ws) h in
-    or-from-same (same_key w.key k) refl p.0 (unnamed-want named ws k p.1 n)
-  where
-    or-from-same : (b : Bool) → same_key w.key k ≡ b → names named w.key ≡ false → names ws k ≡ false → (b || names ws k) ≡ false
-    or-from-same true e off t =
-        let both : true ≡ false = sym n ∙ ap (names named) (sym (same_key-eq w.key k e)) ∙ off in absurd (cc)
-    or-from-same false e off t = t
-
--- a named key is not of a request of the job that is passed over
-names-behind : (job : ℕ) (named : List Want) (fs : List Filing) (n : ℕ) (k : Key) → list_any (loses job named) (take n fs) ≡ false
-    → names named k ≡ true → names (wants_of (requests_in (drop n fs)) job) k ≡ names (wants_of (requests_in fs) job) k
-names-behind job named fs zero k h m = refl
-names-behind job named [] (suc n) k h m = refl
-names-behind job named (f ∷ fs) (suc n) k h m =
-    let p = or_parts (loses job named f) (list_any (loses job named) (take n fs)) h in
-    names-behind job named fs n k p.1 m ∙ go (f.request.job == job) p.0
-  where
-    go : (b : Bool) → (b && list_any (λ w. names named w.key) f.request.wants.items) ≡ false
-        → names (wants_of (requests_in fs) job) k
-        ≡ names (all_wants (cond b (f.request ∷ filter (λ r. r.job == job) (requests_in fs)) (filter (λ r. r.job == job) (requests_in fs)))) k
-    go true e =
-        sym (list_any-append (λ w. same_key w.key k) f.request.wants.items (wants_of (requests_in fs) job)
-        ∙ ap (λ b. b || names (wants_of (requests_in fs) job) k) (unnamed-want named f.request.wants.items k e m))
-    go false e = refl
-
-refusals-same : (f g : List Want → Want → Option Refusal) (e ws : List Want) → ((d : List Want) (w : Want) → Has ws w → f d w ≡ g d w)
-    → first_refusal f e ws ≡ first_refusal g e ws
-refusals-same f g e [] same = refl
-refusals-same f g e (w ∷ ws) same =
-    ap (λ o. or_else o (first_refusal f (e ++ w ∷ []) ws)) (same e w (inl refl))
-    ∙ ap (or_else (g e w)) (refusals-same f g (e ++ w ∷ []) ws (λ d v h. same d v (inr h)))
-
--- so the refusal is found behind those
-pub refusal-behind : (job : ℕ) (named : List Want) (fs : List Filing) (n : ℕ) → list_any (loses job named) (take n fs) ≡ false
-    → first_refusal (dequeue_fault (requests_in (drop n fs)) job) [] named ≡ first_refusal (dequeue_fault (requests_in fs) job) [] named
-refusal-behind job named fs n h =
-    refusals-same (dequeue_fault (requests_in (drop n fs)) job) (dequeue_fault (requests_in fs) job) [] named
-    (λ d w k. ap (λ b. or_else (refuse_if (names d w.key) NamedAlready) (refuse_if (not b) NotPresent))
-    (names-behind job named fs n w.key h (has-named named w k)))
-
--- ---- the refusal of a call that names one lock
-
-same-turned : (a b : Key) → same_key a b ≡ same_key b a
-same-turned a b = go (same_key a b) refl (same_key b a) refl
-  where
-    turned : (c d : Key) → same_key c d ≡ true → same_key d c ≡ true
-    turned c d e = ap (λ k. same_key k c) (sym (same_key-eq c d e)) ∙ same_key-refl c
-
-    go : (p : Bool) → same_key a b ≡ p → (q : Bool) → same_key b a ≡ q → p ≡ q
-    go true e true f = refl
-    go false e false f = refl
-    go true e false f = sym (turned a b e) ∙ f
-    go false e true f = sym e ∙ turned b a f
-
-or-false : (b : Bool) → (b || false) ≡ b
-or-false true = refl
-or-false false = refl
-
-names-one : (w : Want) (ws : List Want) → list_any (λ v. names (w ∷ []) v.key) ws ≡ names ws w.key
-names-one w [] = refl
-names-one w (v ∷ vs) =
-    ap (λ b. b || list_any (λ v. names (w ∷ []) v.key) vs) (or-false (same_key w.key v.key) ∙ same-turned w.key v.key)
-    ∙ ap (λ b. same_key v.key w.key || b) (names-one w vs)
-
-loses-one : (job : ℕ) (w : Want) (fs : List Filing) → list_any (loses job (w ∷ [])) fs ≡ names (wants_of (requests_in fs) job) w.key
-loses-one job w [] = refl
-loses-one job w (f ∷ fs) = go (f.request.job == job) (names-one w f.request.wants.items) (loses-one job w fs)
-  where
-    go : (b : Bool) → list_any (λ v. names (w ∷ []) v.key) f.request.wants.items ≡ names f.request.wants.items w.key
-        → list_any (loses job (w ∷ [])) fs ≡ names (wants_of (requests_in fs) job) w.key
-        → ((b && list_any (λ v. names (w ∷ []) v.key) f.request.wants.items) || list_any (loses job (w ∷ [])) fs)
-        ≡ names (all_wants (cond b (f.request ∷ filter (λ r. r.job == job) (requests_in fs)) (filter (λ r. r.job == job) (requests_in fs)))) w.key
-    go true e t =
-        ap (λ b. b || list_any (loses job (w ∷ [])) fs) e ∙ ap (λ b. names f.request.wants.items w.key || b) t
-        ∙ sym (list_any-append (λ v. same_key v.key w.key) f.request.wants.items (wants_of (requests_in fs) job))
-    go false e t = t
-
-pub refusal-one : (job : ℕ) (named : List Want) (fs : List Filing) (b : Bool) → length named ≡ 1 → list_any (loses job named) fs ≡ b
-    → refuse_if (not b) NotPresent ≡ first_refusal (dequeue_fault (requests_in fs) job) [] named
-refusal-one job [] fs b one is = absurd (omega (arith, one))
-refusal-one job (v ∷ w ∷ ws) fs b one is = absurd (omega (arith, one))
-refusal-one job (w ∷ []) fs b one is =
-    go b ∙ ap (λ x. or_else (refuse_if (not x) NotPresent) None) (sym is ∙ loses-one job w fs)
-  where
-    go : (x : Bool) → refuse_if (not x) NotPresent ≡ or_else (refuse_if (not x) NotPresent) None
-    go true = refl
-    go false = refl

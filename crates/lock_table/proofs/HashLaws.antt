@@ -59,7 +59,7 @@ unnamed-key k (v ∷ vs) h =
         absurd (cc)
     go false e off rest = rest
 
-unnamed-wants : (named ws : List Want) → list_any (λ h. list_any (λ w. hash_of w.key == h) ws) (hashes_of named) ≡ false
+pub unnamed-wants : (named ws : List Want) → list_any (λ h. list_any (λ w. hash_of w.key == h) ws) (hashes_of named) ≡ false
     → list_any (λ w. names named w.key) ws ≡ false
 unnamed-wants named [] h = refl
 unnamed-wants named (w ∷ ws) h =

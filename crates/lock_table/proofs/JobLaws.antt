@@ -1,155 +1,125 @@
--- A walk over a job's requests finds what a walk over all finds of the job.
-use Rattle.std.proofs.Common.{◌≡◌, ◌∙◌, sym, ap, ℕ, ◌-◌, ◌≤◌, ◌==◌, Bool, true, false, not, ◌&&◌, ◌||◌, cond, List, [], ◌∷◌, ◌++◌, append_assoc, append-nil, length, length-append, subst, get_or, take, drop, filter, refl, arith}
+-- A walk from request to request tells whether one job waits for another.
+use Rattle.std.proofs.Common.{◌≡◌, ◌∙◌, sym, ap, ℕ, ◌+◌, ◌<◌, ◌≤◌, Bool, true, false, not, ◌&&◌, ◌||◌, List, [], ◌∷◌, ◌++◌, suc, zero, cond, length, get_or, set, take, drop, refl, add-one, append-nil, append_assoc, take-append-drop, arith}
 use Rattle.std.specs.List.{list_any}
-use Rattle.std.proofs.lemmas.List.Elements.{filter-append}
+use Rattle.std.proofs.lemmas.Bool.{or_parts}
 use Rattle.std.proofs.lemmas.List.Folds.{list_any-append}
-use Rattle.lock_queue.specs.declared.key.Key.{Key}
 use Rattle.lock_queue.specs.declared.request.Request.{Request}
-use Rattle.lock_queue.specs.declared.want.Want.{Want}
-use Rattle.lock_queue.specs.Keys.{same_key}
-use Rattle.lock_queue.specs.Jobs.{first_id, is_blocking, is_interrupt, is_kept_by}
-use Rattle.lock_queue.specs.Queue.{all_wants, wants_at, requests_of}
+use Rattle.lock_queue.specs.Jobs.{is_blocking, is_kept_by}
 use Rattle.lock_table.specs.Filings.{Filing, requests_in}
-use Rattle.lock_table.specs.Findings.{blocks, pends, pending_in, waits_in}
-use Rattle.lock_table.specs.Walks.{from_own}
+use Rattle.lock_table.specs.Findings.{blocks, pends, told_in, waits_in, with_told}
+use Rattle.lock_table.specs.Boxes.{Boxed, at, at_all, filings, unused_filing}
+use Rattle.lock_table.specs.Views.{is_own, seen}
+use Rattle.lock_table.specs.declared.view.View.{View}
+
+abbrev pub kept : ℕ → ℕ → List Request → Filing → Bool
+kept job other e f = blocks job f && list_any (is_kept_by other e) f.request.wants.items
+
+take-first : (fs : List Filing) (i : ℕ) (d : Filing) → i < length fs → take (i + 1) fs ≡ take i fs ++ get_or fs i d ∷ []
+take-first [] i d lt = absurd (omega arith)
+take-first (f ∷ fs) zero d lt = refl
+take-first (f ∷ fs) (suc i) d lt =
+    let same : take (i + 1) fs ≡ take (suc i) fs = rw (add-one i) refl in
+    rw (add-one (suc i)) (ap (λ l. f ∷ l) (sym same ∙ take-first fs i d (omega arith)))
+
+boxed-at : (filed : List Filing) (slots : List ℕ) (i : ℕ) → i < length slots → get_or (at_all filed slots) i unused_filing ≡ at filed (get_or slots i 0)
+boxed-at filed [] i lt = absurd (omega arith)
+boxed-at filed (s ∷ slots) zero lt = refl
+boxed-at filed (s ∷ slots) (suc i) lt = boxed-at filed slots i (omega arith)
+
+seen-length : (filed : List Filing) (slots : List ℕ) → length (at_all filed slots) ≡ length slots
+seen-length filed [] = refl
+seen-length filed (s ∷ slots) = let rest = seen-length filed slots in omega (arith, rest)
+
+-- the request that is seen at a place stands in the slot there
+pub seen-at : (v : View) (i : ℕ) → i < length (seen v) → get_or (seen v) i unused_filing ≡ at v.boxes.now (get_or v.slots.now i 0)
+seen-at v i lt = let long = seen-length v.boxes.now v.slots.now in boxed-at v.boxes.now v.slots.now i (omega (arith, long, lt))
+
+-- ---- a request that is kept
+
+or-true : (b : Bool) → (b || true) ≡ true
+or-true true = refl
+or-true false = refl
+
+drop-next : (fs : List Filing) (i : ℕ) (d : Filing) → i < length fs → drop i fs ≡ get_or fs i d ∷ drop (i + 1) fs
+drop-next [] i d lt = absurd (omega arith)
+drop-next (f ∷ fs) zero d lt = refl
+drop-next (f ∷ fs) (suc i) d lt = rw (add-one (suc i)) (drop-next fs i d (omega arith) ∙ rw (add-one i) refl)
+
+-- where one at a place is kept, the job waits
+pub waits-at : (job other : ℕ) (e : List Request) (front : List Filing) (f : Filing) (later : List Filing)
+    → kept job other (e ++ requests_in front) f ≡ true → waits_in job other e (front ++ f ∷ later) ≡ true
+waits-at job other e [] f later on =
+    ap (λ b. b || waits_in job other (e ++ f.request ∷ []) later) (ap (λ l. kept job other l f) (sym (append-nil e)) ∙ on)
+waits-at job other e (x ∷ front) f later on =
+    ap (λ b. kept job other e x || b)
+    (waits-at job other (e ++ x.request ∷ []) front f later
+    (ap (λ l. kept job other l f) (append_assoc e (x.request ∷ []) (requests_in front)) ∙ on))
+    ∙ or-true (kept job other e x)
+
+pub waits-there : (job other : ℕ) (fs : List Filing) (i : ℕ) (d : Filing) → i < length fs
+    → kept job other (requests_in (take i fs)) (get_or fs i d) ≡ true → waits_in job other [] fs ≡ true
+waits-there job other fs i d lt on =
+    ap (waits_in job other []) (sym (take-append-drop i fs) ∙ ap (λ l. take i fs ++ l) (drop-next fs i d lt))
+    ∙ waits-at job other [] (take i fs) (get_or fs i d) (drop (i + 1) fs) on
+
+-- the requests before the one at a place
+pub front-taken : (front later : List Boxed) (b : Boxed) → take (length front) (filings (front ++ b ∷ later)) ≡ filings front
+front-taken [] later b = refl
+front-taken (x ∷ front) later b = ap (λ l. x.filing ∷ l) (front-taken front later b)
+
+-- where none is, it does not
+pub waits-nowhere : (job other : ℕ) (e : List Request) (bs : List Boxed)
+    → ((front later : List Boxed) (b : Boxed) → bs ≡ front ++ b ∷ later → kept job other (e ++ requests_in (filings front)) b.filing ≡ false)
+    → waits_in job other e (filings bs) ≡ false
+waits-nowhere job other e [] none = refl
+waits-nowhere job other e (b ∷ bs) none =
+    ap (λ c. c || waits_in job other (e ++ b.filing.request ∷ []) (filings bs))
+    (ap (λ l. kept job other l b.filing) (sym (append-nil e)) ∙ none [] bs b refl)
+    ∙ waits-nowhere job other (e ++ b.filing.request ∷ []) bs
+    (λ front later x is.
+    ap (λ l. kept job other l x.filing) (append_assoc e (b.filing.request ∷ []) (requests_in (filings front)))
+    ∙ none (b ∷ front) later x (ap (λ l. b ∷ l) is))
+
+-- the requests of others are not
+pub kept-other : (job other : ℕ) (e : List Request) (f : Filing) → is_own job f ≡ false → kept job other e f ≡ false
+kept-other job other e f off =
+    ap (λ b. ((b && is_blocking f.request.kind) && not f.granted) && list_any (is_kept_by other e) f.request.wants.items) off
+
+pub unblocked : (job other : ℕ) (e : List Request) (f : Filing) → blocks job f ≡ false → kept job other e f ≡ false
+unblocked job other e f off = ap (λ b. b && list_any (is_kept_by other e) f.request.wants.items) off
 
 -- ---- the first request that pends
 
-pub own_pending : (job : ℕ) (fs : List Filing) → pending_in (from_own job fs) job ≡ pending_in fs job
-own_pending job [] = refl
-own_pending job (f ∷ fs) = go (f.request.job == job) refl (own_pending job fs)
-  where
-    go : (b : Bool) → (f.request.job == job) ≡ b → pending_in (from_own job fs) job ≡ pending_in fs job
-        → pending_in (cond b (f ∷ fs) (from_own job fs)) job ≡ pending_in (f ∷ fs) job
-    go true e t = refl
-    go false e t =
-        t ∙ sym (ap (λ b. first_id (requests_in (cond (((b && is_interrupt f.request.kind) && not f.request.told) && f.granted) (f ∷ filter (pends job) fs) (filter (pends job) fs)))) e)
+-- no request up to a place pends
+pub pends-next : (job : ℕ) (fs : List Filing) (i : ℕ) (d : Filing) → i < length fs → list_any (pends job) (take i fs) ≡ false
+    → pends job (get_or fs i d) ≡ false → list_any (pends job) (take (i + 1) fs) ≡ false
+pends-next job fs i d lt before off =
+    ap (list_any (pends job)) (take-first fs i d lt)
+    ∙ list_any-append (pends job) (take i fs) (get_or fs i d ∷ [])
+    ∙ ap (λ b. b || (pends job (get_or fs i d) || false)) before
+    ∙ ap (λ b. b || false) off
 
-pub pending-first : (job : ℕ) (xs : List Filing) (f : Filing) → 1 ≤ length xs → f ≡ get_or xs 0 f
-    → pending_in xs job ≡ first_id (requests_in (cond (pends job f) (f ∷ filter (pends job) (drop 1 xs)) (filter (pends job) (drop 1 xs))))
-pending-first job [] f some is = absurd (omega arith)
-pending-first job (x ∷ xs) f some is =
-    ap (λ (g : Filing). first_id (requests_in (cond (pends job g) (g ∷ filter (pends job) xs) (filter (pends job) xs)))) (sym is)
+-- none of them does
+pub pends-none : (job : ℕ) (fs : List Filing) (i : ℕ) → length fs ≤ i → list_any (pends job) (take i fs) ≡ false → list_any (pends job) fs ≡ false
+pends-none job [] i le before = refl
+pends-none job (f ∷ fs) zero le before = absurd (omega arith)
+pends-none job (f ∷ fs) (suc i) le before =
+    let p = or_parts (pends job f) (list_any (pends job) (take i fs)) before in
+    ap (λ b. b || list_any (pends job) fs) p.0 ∙ pends-none job fs i (omega (arith, le)) p.1
 
--- ---- a job's wants of a key
+-- the first one that does is told
+pub pends-here : (job : ℕ) (fs : List Filing) (i : ℕ) (d : Filing) → i < length fs → list_any (pends job) (take i fs) ≡ false
+    → pends job (get_or fs i d) ≡ true → told_in job fs ≡ set fs i (with_told (get_or fs i d))
+pends-here job [] i d lt before on = absurd (omega arith)
+pends-here job (f ∷ fs) zero d lt before on = ap (λ b. cond b (with_told f ∷ fs) (f ∷ told_in job fs)) on
+pends-here job (f ∷ fs) (suc i) d lt before on =
+    let p = or_parts (pends job f) (list_any (pends job) (take i fs)) before in
+    ap (λ b. cond b (with_told f ∷ fs) (f ∷ told_in job fs)) p.0
+    ∙ ap (λ l. f ∷ l) (pends-here job fs i d (omega (arith, lt)) p.1 on)
 
-own_requests : (job : ℕ) (fs : List Filing) → requests_of (requests_in (from_own job fs)) job ≡ requests_of (requests_in fs) job
-own_requests job [] = refl
-own_requests job (f ∷ fs) = go (f.request.job == job) refl (own_requests job fs)
-  where
-    go : (b : Bool) → (f.request.job == job) ≡ b
-        → requests_of (requests_in (from_own job fs)) job ≡ requests_of (requests_in fs) job
-        → requests_of (requests_in (cond b (f ∷ fs) (from_own job fs))) job ≡ requests_of (requests_in (f ∷ fs)) job
-    go true e t = refl
-    go false e t = t ∙ sym (ap (λ b. cond b (f.request ∷ requests_of (requests_in fs) job) (requests_of (requests_in fs) job)) e)
-
-pub own_any_at : (p : Want → Bool) (job : ℕ) (k : Key) (fs : List Filing)
-    → list_any p (wants_at (requests_of (requests_in (from_own job fs)) job) k) ≡ list_any p (wants_at (requests_of (requests_in fs) job) k)
-own_any_at p job k fs = ap (λ l. list_any p (wants_at l k)) (own_requests job fs)
-
-pub first-any_at : (p : Want → Bool) (job : ℕ) (k : Key) (xs : List Filing) (f : Filing) → 1 ≤ length xs → f ≡ get_or xs 0 f
-    → list_any p (wants_at (requests_of (requests_in xs) job) k)
-    ≡ ((f.request.job == job && list_any p (filter (λ w. same_key w.key k) f.request.wants.items)) || list_any p (wants_at (requests_of (requests_in (drop 1 xs)) job) k))
-first-any_at p job k [] f some is = absurd (omega arith)
-first-any_at p job k (x ∷ xs) f some is =
-    go (x.request.job == job)
-    ∙ ap (λ (g : Filing). (g.request.job == job && list_any p (filter (λ w. same_key w.key k) g.request.wants.items)) || list_any p (wants_at (requests_of (requests_in xs) job) k)) (sym is)
-  where
-    go : (b : Bool)
-        → list_any p (wants_at (cond b (x.request ∷ requests_of (requests_in xs) job) (requests_of (requests_in xs) job)) k)
-        ≡ ((b && list_any p (filter (λ w. same_key w.key k) x.request.wants.items)) || list_any p (wants_at (requests_of (requests_in xs) job) k))
-    go true =
-        ap (list_any p) (filter-append (λ w. same_key w.key k) x.request.wants.items (all_wants (requests_of (requests_in xs) job)))
-        ∙ list_any-append p (filter (λ w. same_key w.key k) x.request.wants.items) (wants_at (requests_of (requests_in xs) job) k)
-    go false = refl
-
--- ---- the first request by which a job waits
-
--- those before the first that is the job's
-abbrev skipped : ℕ → List Filing → List Filing
-skipped job [] = []
-skipped job (f ∷ fs) = cond (f.request.job == job) [] (f ∷ skipped job fs)
-
-own-split : (job : ℕ) (fs : List Filing) → fs ≡ skipped job fs ++ from_own job fs
-own-split job [] = refl
-own-split job (f ∷ fs) = go (f.request.job == job) (own-split job fs)
-  where
-    go : (b : Bool) → fs ≡ skipped job fs ++ from_own job fs → f ∷ fs ≡ cond b [] (f ∷ skipped job fs) ++ cond b (f ∷ fs) (from_own job fs)
-    go true t = refl
-    go false t = ap (λ l. f ∷ l) t
-
-waits-own : (job other : ℕ) (e : List Request) (fs : List Filing)
-    → waits_in job other e fs ≡ waits_in job other (e ++ requests_in (skipped job fs)) (from_own job fs)
-waits-own job other e [] = refl
-waits-own job other e (f ∷ fs) = go (f.request.job == job) refl (waits-own job other (e ++ f.request ∷ []) fs)
-  where
-    go : (b : Bool) → (f.request.job == job) ≡ b
-        → waits_in job other (e ++ f.request ∷ []) fs ≡ waits_in job other ((e ++ f.request ∷ []) ++ requests_in (skipped job fs)) (from_own job fs)
-        → waits_in job other e (f ∷ fs) ≡ waits_in job other (e ++ requests_in (cond b [] (f ∷ skipped job fs))) (cond b (f ∷ fs) (from_own job fs))
-    go true is t = ap (λ l. waits_in job other l (f ∷ fs)) (sym (append-nil e))
-    go false is t =
-        ap (λ b. (((b && is_blocking f.request.kind) && not f.granted) && list_any (is_kept_by other e) f.request.wants.items) || waits_in job other (e ++ f.request ∷ []) fs) is
-        ∙ t ∙ ap (λ l. waits_in job other l (from_own job fs)) (append_assoc e (f.request ∷ []) (requests_in (skipped job fs)))
-
-requests-append : (xs ys : List Filing) → requests_in (xs ++ ys) ≡ requests_in xs ++ requests_in ys
-requests-append [] ys = refl
-requests-append (x ∷ xs) ys = ap (λ l. x.request ∷ l) (requests-append xs ys)
-
--- what is before some of the last
-before-last : (fs b r : List Filing) → fs ≡ b ++ r → take (length fs - length r) fs ≡ b
-before-last fs b r are =
-    let long : length fs - length r ≡ length b = omega (arith, ap length are, length-append b r) in
-    ap (λ n. take n fs) long ∙ ap (take (length b)) are ∙ take_length b r
-  where
-    take_length : (b r : List Filing) → take (length b) (b ++ r) ≡ b
-    take_length [] r = refl
-    take_length (x ∷ b) r = ap (λ l. x ∷ l) (take_length b r)
-
--- what is told of the requests from a place on, behind those before it
-pub record Rest (job other : ℕ) (fs rest : List Filing) : Type 0 where
-  pub split : take (length fs - length rest) fs ++ rest ≡ fs
-  pub waits : waits_in job other (requests_in (take (length fs - length rest) fs)) rest ≡ waits_in job other [] fs
-
-rest-from : (job other : ℕ) (fs b r : List Filing) → fs ≡ b ++ r → waits_in job other (requests_in b) r ≡ waits_in job other [] fs → Rest job other fs r
-rest-from job other fs b r are waits =
-    let same = before-last fs b r are in record {
-      split = ap (λ l. l ++ r) same ∙ sym are;
-      waits = ap (λ l. waits_in job other (requests_in l) r) same ∙ waits;
-    }
-
-pub rest-first : (job other : ℕ) (fs ys : List Filing) → ys ≡ from_own job fs → Rest job other fs ys
-rest-first job other fs ys are =
-    subst (λ l. Rest job other fs l) (sym are)
-    (rest-from job other fs (skipped job fs) (from_own job fs) (own-split job fs) (sym (waits-own job other [] fs)))
-
-abbrev kept : ℕ → ℕ → List Request → Filing → Bool
-kept job other e f = blocks job f && list_any (is_kept_by other e) f.request.wants.items
-
-pub waits-first : (job other : ℕ) (fs xs : List Filing) (f : Filing) → Rest job other fs xs → 1 ≤ length xs → f ≡ get_or xs 0 f
-    → (kept job other (requests_in (take (length fs - length xs) fs)) f
-    || waits_in job other (requests_in (take (length fs - length xs) fs) ++ f.request ∷ []) (drop 1 xs))
-    ≡ waits_in job other [] fs
-waits-first job other fs [] f rest some is = absurd (omega arith)
-waits-first job other fs (x ∷ xs) f rest some is =
-    ap (λ (g : Filing). kept job other (requests_in (take (length fs - length (x ∷ xs)) fs)) g
-    || waits_in job other (requests_in (take (length fs - length (x ∷ xs)) fs) ++ g.request ∷ []) xs) is
-    ∙ rest.waits
-
-pub rest-next : (job other : ℕ) (fs xs ys : List Filing) (f : Filing) → Rest job other fs xs → 1 ≤ length xs → f ≡ get_or xs 0 f
-    → kept job other (requests_in (take (length fs - length xs) fs)) f ≡ false → ys ≡ from_own job (drop 1 xs) → Rest job other fs ys
-rest-next job other fs [] ys f rest some is off are = absurd (omega arith)
-rest-next job other fs (x ∷ xs) ys f rest some is off are =
-    let b : List Filing = take (length fs - length (x ∷ xs)) fs in
-    let e : List Request = requests_in b in
-    let whole : fs ≡ (b ++ x ∷ skipped job xs) ++ from_own job xs =
-    sym rest.split ∙ ap (λ l. b ++ x ∷ l) (own-split job xs) ∙ sym (append_assoc b (x ∷ skipped job xs) (from_own job xs)) in
-    let waits : waits_in job other (requests_in (b ++ x ∷ skipped job xs)) (from_own job xs) ≡ waits_in job other [] fs =
-    ap (λ l. waits_in job other l (from_own job xs)) (requests-append b (x ∷ skipped job xs) ∙ sym (append_assoc e (x.request ∷ []) (requests_in (skipped job xs))))
-    ∙ sym (waits-own job other (e ++ x.request ∷ []) xs)
-    ∙ sym (ap (λ t. t || waits_in job other (e ++ x.request ∷ []) xs) (ap (λ (g : Filing). kept job other e g) (sym is) ∙ off))
-    ∙ rest.waits in
-    subst (λ l. Rest job other fs l) (sym are) (rest-from job other fs (b ++ x ∷ skipped job xs) (from_own job xs) whole waits)
-
-pub waits-none : (job other : ℕ) (fs xs : List Filing) → Rest job other fs xs → length xs ≤ 0 → waits_in job other [] fs ≡ false
-waits-none job other fs [] rest none = sym rest.waits
-waits-none job other fs (x ∷ xs) rest none = absurd (omega arith)
+-- where none pends, none is told
+pub told-none : (job : ℕ) (fs : List Filing) → list_any (pends job) fs ≡ false → told_in job fs ≡ fs
+told-none job [] h = refl
+told-none job (f ∷ fs) h =
+    let p = or_parts (pends job f) (list_any (pends job) fs) h in
+    ap (λ b. cond b (with_told f ∷ fs) (f ∷ told_in job fs)) p.0 ∙ ap (λ l. f ∷ l) (told-none job fs p.1)

@@ -15,14 +15,13 @@ use Rattle.lock_queue.proofs.Lists.{Has, Has-left, Has-right, Has-cases, Has-fil
 use Rattle.lock_table.specs.Countings.{counted_in}
 use Rattle.lock_table.specs.Filings.{Filing, requests_in}
 use Rattle.lock_table.specs.Renewals.{with_grant, as_raised, AreOutdated, AreKept}
-use Rattle.lock_table.specs.declared.signature.Signature.{Signature}
 use Rattle.lock_table.proofs.CountingLaws.{counted_by}
 
 -- ---- which requests are kept
 
-pub outdated-kept : (bits : Signature) (e : List Request) (fs : List Filing) → AreOutdated bits e fs → AreKept e fs
-outdated-kept bits e [] h = record {}
-outdated-kept bits e (f ∷ fs) h = (h.0.stays, outdated-kept bits (e ++ f.request ∷ []) fs h.1)
+pub outdated-kept : (touched : List Want → Bool) (e : List Request) (fs : List Filing) → AreOutdated touched e fs → AreKept e fs
+outdated-kept touched e [] h = record {}
+outdated-kept touched e (f ∷ fs) h = (h.0.stays, outdated-kept touched (e ++ f.request ∷ []) fs h.1)
 
 -- those behind a request are kept behind it
 later-kept : (e : List Request) (front : List Filing) (f : Filing) (later : List Filing) → AreKept e (front ++ f ∷ later)

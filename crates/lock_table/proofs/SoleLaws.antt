@@ -1,141 +1,115 @@
--- The only want of a request is given up, by a call that names its key alone.
-use Rattle.std.proofs.Common.{◌≡◌, ◌∙◌, sym, ap, refl, ℕ, zero, suc, cond, ◌+◌, ◌<◌, ◌==◌, Bool, true, false, not, bit_or, ◌&&◌, ◌||◌, List, [], ◌∷◌, ◌++◌, add-one, length, get_or, take, drop, filter, arith}
-use Rattle.std.specs.Int.Bits.{or_zero_r}
-use Rattle.std.specs.List.{list_all, list_any}
-use Rattle.std.proofs.lemmas.Bool.{and_parts, or_parts}
-use Rattle.std.proofs.lemmas.List.{take-append-drop, drop_more}
-use Rattle.std.proofs.lemmas.List.Folds.{list_any-append}
-use Rattle.key_tally.specs.Hashes.{hash_of, hashes_of}
-use Rattle.lock_queue.specs.declared.key.Key.{Key}
+-- A job that has one request alone has none once it has left.
+use Rattle.std.proofs.Common.{◌≡◌, ◌∙◌, sym, ap, ℕ, zero, suc, ◌<◌, ◌==◌, Bool, true, false, ◌&&◌, ◌||◌, cond, List, [], ◌∷◌, ◌++◌, filter, length, get_or, take, drop, remove, refl, arith}
+use Rattle.std.specs.List.{list_any, list_all}
 use Rattle.lock_queue.specs.declared.want.Want.{Want}
+use Rattle.lock_queue.specs.declared.key.Key.{Key}
 use Rattle.lock_queue.specs.Keys.{same_key}
 use Rattle.lock_queue.specs.Queue.{names}
 use Rattle.lock_queue.proofs.Fitting.{same_key-eq}
-use Rattle.lock_table.specs.declared.signature.Signature.{Signature}
-use Rattle.lock_table.specs.Departures.{CoversAll, loses, fewer, keeps_wants, waits_with_fewer}
+use Rattle.lock_table.specs.Boxes.{Boxed, filings, slots_in}
+use Rattle.lock_table.specs.Departures.{loses}
 use Rattle.lock_table.specs.Filings.{Filing}
-use Rattle.lock_table.specs.Signatures.{no_bits, joined}
-use Rattle.lock_table.specs.Tallies.{has_of_hash, Marks}
-use Rattle.lock_table.specs.Walks.{from_where}
-use Rattle.lock_table.proofs.GivingUpLaws.{bare-gone, left, left-all, losing, named-all, step-front, step-kept, step-left}
-use Rattle.lock_table.proofs.HashLaws.{none-loses}
-use Rattle.lock_table.proofs.WhereLaws.{passed-none}
+use Rattle.lock_table.specs.Views.{is_own}
 
-pub joined-none : (bits : Signature) → joined bits no_bits ≡ bits
-joined-none bits =
-    ap (λ n. record { groups = n; classes = bit_or bits.classes 0 }) (or_zero_r bits.groups)
-    ∙ ap (λ n. record { groups = bits.groups; classes = n }) (or_zero_r bits.classes)
+-- one of two truths where the other fails
+or-off : (a b : Bool) → (a || b) ≡ false → b ≡ false
+or-off true b h = absurd (cc)
+or-off false b h = h
 
--- where one of one is, all are
-any-all : {X : Type 0} (p : X → Bool) (xs : List X) → length xs ≡ 1 → list_any p xs ≡ true → list_all p xs ≡ true
-any-all p [] one h = absurd (omega (arith, one))
-any-all p (x ∷ y ∷ xs) one h = absurd (omega (arith, one))
-any-all p (x ∷ []) one h = go (p x) h
+pub one-is : (xs : List ℕ) → length xs ≡ 1 → xs ≡ get_or xs 0 0 ∷ []
+one-is [] one = absurd (omega (arith, one))
+one-is (x ∷ []) one = refl
+one-is (x ∷ y ∷ xs) one = absurd (omega (arith, one))
+
+-- one want alone is named where some is
+pub one-named : (test : Want → Bool) (ws : List Want) → length ws ≡ 1 → list_any test ws ≡ true → list_all test ws ≡ true
+one-named test [] one on = absurd (cc)
+one-named test (w ∷ []) one on = go (test w) on
   where
     go : (b : Bool) → (b || false) ≡ true → (b && true) ≡ true
-    go true e = refl
-    go false e = e
+    go true h = refl
+    go false h = h
+one-named test (w ∷ v ∷ ws) one on = absurd (omega (arith, one))
 
--- the want's key is the named one
-same-one : (v w : Want) → list_any (λ u. names (w ∷ []) u.key) (v ∷ []) ≡ true → w.key ≡ v.key
-same-one v w h = go (same_key w.key v.key) refl h
+-- the one want of the one named key has the same key
+pub same-names : (named ws : List Want) (d e : Want) → length named ≡ 1 → length ws ≡ 1
+    → same_key (get_or named 0 d).key (get_or ws 0 e).key ≡ true → (key : Key) → names named key ≡ true → names ws key ≡ true
+same-names [] ws d e a b on key h = absurd (omega (arith, a))
+same-names (n ∷ m ∷ named) ws d e a b on key h = absurd (omega (arith, a))
+same-names (n ∷ []) [] d e a b on key h = absurd (omega (arith, b))
+same-names (n ∷ []) (w ∷ v ∷ ws) d e a b on key h = absurd (omega (arith, b))
+same-names (n ∷ []) (w ∷ []) d e a b on key h = ap (λ k. same_key k key || false) (sym (same_key-eq n.key w.key on)) ∙ h
+
+unchosen-any : (test : Filing → Bool) (choice : Boxed → Bool) (bs : List Boxed) → ((b : Boxed) → test b.filing ≡ true → choice b ≡ true)
+    → slots_in (filter choice bs) ≡ [] → list_any test (filings bs) ≡ false
+unchosen-any test choice [] all none = refl
+unchosen-any test choice (b ∷ bs) all none = go (choice b) refl (test b.filing) refl none (unchosen-any test choice bs all)
   where
-    go : (b : Bool) → same_key w.key v.key ≡ b → ((b || false) || false) ≡ true → w.key ≡ v.key
-    go true e on = same_key-eq w.key v.key e
-    go false e on = absurd (cc)
+    go : (c : Bool) → choice b ≡ c → (t : Bool) → test b.filing ≡ t → slots_in (cond c (b ∷ filter choice bs) (filter choice bs)) ≡ []
+        → (slots_in (filter choice bs) ≡ [] → list_any test (filings bs) ≡ false) → (t || list_any test (filings bs)) ≡ false
+    go true e t f h rest = let long = ap length h in absurd (omega (arith, long))
+    go false e true f h rest = let on : choice b ≡ true = all b f in absurd (cc)
+    go false e false f h rest = rest h
 
-pub names-same : (named ws : List Want) (k : Key) → length named ≡ 1 → length ws ≡ 1 → list_any (λ u. names named u.key) ws ≡ true
-    → names named k ≡ true → names ws k ≡ true
-names-same [] ws k one sole on h = absurd (omega (arith, one))
-names-same (w ∷ x ∷ xs) ws k one sole on h = absurd (omega (arith, one))
-names-same (w ∷ []) [] k one sole on h = absurd (omega (arith, sole))
-names-same (w ∷ []) (v ∷ u ∷ us) k one sole on h = absurd (omega (arith, sole))
-names-same (w ∷ []) (v ∷ []) k one sole on h = ap (λ x. same_key x k || false) (sym (same-one v w on)) ∙ h
+no-zero : (choice : Boxed → Bool) (xs : List Boxed) (slot : ℕ) → slots_in (filter choice xs) ≡ slot ∷ []
+    → ((front later : List Boxed) (x : Boxed) → xs ≡ front ++ x ∷ later → x.slot ≡ slot → zero ≡ suc (length front)) → ⊥
+no-zero choice [] slot k g = let long = ap length k in omega (arith, long)
+no-zero choice (x ∷ xs) slot k g = go (choice x) k (no-zero choice xs slot)
+  where
+    go : (c : Bool) → slots_in (cond c (x ∷ filter choice xs) (filter choice xs)) ≡ slot ∷ []
+        → (slots_in (filter choice xs) ≡ slot ∷ []
+        → ((front later : List Boxed) (y : Boxed) → xs ≡ front ++ y ∷ later → y.slot ≡ slot → zero ≡ suc (length front)) → ⊥) → ⊥
+    go true h rest = let z = g [] xs x refl (ap (λ l. get_or l 0 0) h) in omega (arith, z)
+    go false h rest = rest h (λ front later y is s. let z = g (x ∷ front) later y (ap (λ l. x ∷ l) is) s in absurd (omega (arith, z)))
 
-pub hashes-same : (named ws : List Want) (hash : ℕ) → length named ≡ 1 → length ws ≡ 1 → list_any (λ u. names named u.key) ws ≡ true
-    → hash ≡ get_or (hashes_of ws) 0 0 → hash ∷ [] ≡ hashes_of named
-hashes-same [] ws hash one sole on is = absurd (omega (arith, one))
-hashes-same (w ∷ x ∷ xs) ws hash one sole on is = absurd (omega (arith, one))
-hashes-same (w ∷ []) [] hash one sole on is = absurd (omega (arith, sole))
-hashes-same (w ∷ []) (v ∷ u ∷ us) hash one sole on is = absurd (omega (arith, sole))
-hashes-same (w ∷ []) (v ∷ []) hash one sole on is = ap (λ h. h ∷ []) (is ∙ ap hash_of (sym (same-one v w on)))
+-- the one that is chosen stands at a place; without it none is left for which the test holds
+pub alone-left : (test : Filing → Bool) (choice : Boxed → Bool) (bs : List Boxed) (slot place : ℕ)
+    → ((b : Boxed) → test b.filing ≡ true → choice b ≡ true) → slots_in (filter choice bs) ≡ slot ∷ []
+    → ((front later : List Boxed) (b : Boxed) → bs ≡ front ++ b ∷ later → b.slot ≡ slot → place ≡ length front)
+    → list_any test (remove (filings bs) place) ≡ false
+alone-left test choice [] slot place all one told = let long = ap length one in absurd (omega (arith, long))
+alone-left test choice (b ∷ bs) slot place all one told = go (choice b) refl one place told (alone-left test choice bs slot)
+  where
+    go : (c : Bool) → choice b ≡ c → slots_in (cond c (b ∷ filter choice bs) (filter choice bs)) ≡ slot ∷ [] → (p : ℕ)
+        → ((front later : List Boxed) (x : Boxed) → b ∷ bs ≡ front ++ x ∷ later → x.slot ≡ slot → p ≡ length front)
+        → ((q : ℕ) → ((y : Boxed) → test y.filing ≡ true → choice y ≡ true) → slots_in (filter choice bs) ≡ slot ∷ []
+        → ((front later : List Boxed) (x : Boxed) → bs ≡ front ++ x ∷ later → x.slot ≡ slot → q ≡ length front)
+        → list_any test (remove (filings bs) q) ≡ false)
+        → list_any test (remove (b.filing ∷ filings bs) p) ≡ false
+    go true e h p at rest =
+        ap (λ n. list_any test (remove (b.filing ∷ filings bs) n)) (at [] bs b refl (ap (λ l. get_or l 0 0) h))
+        ∙ unchosen-any test choice bs all (ap (λ l. drop 1 l) h)
+    go false e h zero at rest = absurd (no-zero choice bs slot h (λ front later x is t. at (b ∷ front) later x (ap (λ l. b ∷ l) is) t))
+    go false e h (suc p) at rest =
+        let off : test b.filing ≡ false = unchosen (test b.filing) refl in
+        ap (λ t. t || list_any test (remove (filings bs) p)) off
+        ∙ rest p all h (λ front later x is s. let z = at (b ∷ front) later x (ap (λ l. b ∷ l) is) s in omega (arith, z))
+      where
+        unchosen : (t : Bool) → test b.filing ≡ t → t ≡ false
+        unchosen true f = let on : choice b ≡ true = all b f in absurd (cc)
+        unchosen false f = refl
 
-where-passed : (test : Filing → Bool) (fs : List Filing) (n : ℕ) → list_any test (take n fs) ≡ false
-    → from_where test (drop n fs) ≡ from_where test fs
-where-passed test fs zero h = refl
-where-passed test [] (suc n) h = refl
-where-passed test (f ∷ fs) (suc n) h =
-    let p = or_parts (test f) (list_any test (take n fs)) h in
-    where-passed test fs n p.1 ∙ sym (ap (λ b. cond b (f ∷ fs) (from_where test fs)) p.0)
+-- of a job without requests none loses a want
+pub none-own : (job : ℕ) (named : List Want) (fs : List Filing) → list_any (is_own job) fs ≡ false → list_any (loses job named) fs ≡ false
+none-own job named [] h = refl
+none-own job named (f ∷ fs) h = go (f.request.job == job) h (none-own job named fs)
+  where
+    go : (b : Bool) → (b || list_any (is_own job) fs) ≡ false → (list_any (is_own job) fs ≡ false → list_any (loses job named) fs ≡ false)
+        → ((b && list_any (λ w. names named w.key) f.request.wants.items) || list_any (loses job named) fs) ≡ false
+    go true t rest = absurd (cc)
+    go false t rest = rest t
 
-module _ (job : ℕ) (named : List Want) (fs now : List Filing) (i : ℕ) (d : Filing) (lt : i < length fs)
-    (on : loses job named (get_or fs i d) ≡ true) (sole : length (get_or fs i d).request.wants.items ≡ 1)
-    (gone : now ≡ take i fs ++ drop (suc i) fs) where
-  abbrev f : Filing
-  f = get_or fs i d
+pub any-at : (test : Filing → Bool) (fs : List Filing) (i : ℕ) (d : Filing) → i < length fs → test (get_or fs i d) ≡ true → list_any test fs ≡ true
+any-at test [] i d lt on = absurd (omega arith)
+any-at test (f ∷ fs) zero d lt on = ap (λ b. b || list_any test fs) on
+any-at test (f ∷ fs) (suc i) d lt on = go (test f) (any-at test fs i d (omega (arith, lt)) on)
+  where
+    go : (b : Bool) → list_any test fs ≡ true → (b || list_any test fs) ≡ true
+    go true h = refl
+    go false h = h
 
-  pub sole-named : list_any (λ u. names named u.key) f.request.wants.items ≡ true
-  sole-named = (and_parts (f.request.job == job) (list_any (λ u. names named u.key) f.request.wants.items) on).1
-
-  bare : keeps_wants (fewer named f) ≡ false
-  bare =
-      named-all named f.request.wants.items
-      ∙ ap not (any-all (λ u. names named u.key) f.request.wants.items sole sole-named)
-
-  pub sole-gone : now ≡ take i fs ++ filter keeps_wants (fewer named f ∷ []) ++ drop (i + 1) fs
-  sole-gone = bare-gone fs now i (fewer named f) gone bare
-
-  resting : waits_with_fewer job named f ≡ false
-  resting =
-      ap (λ b. (loses job named f && b) && not f.granted) (ap keeps_wants (losing job named f on) ∙ bare)
-      ∙ off (loses job named f) f.granted
-    where
-      off : (a b : Bool) → ((a && false) && not b) ≡ false
-      off true b = refl
-      off false b = refl
-
-  -- so what waits with fewer wants is among the others
-  pub sole-covers : (bits : Signature) → CoversAll bits (waits_with_fewer job named) now → CoversAll bits (waits_with_fewer job named) fs
-  sole-covers bits covers k some = covers k (others ∙ some)
-    where
-      test : Filing → Bool
-      test = λ g. waits_with_fewer job named g && names g.request.wants.items k
-
-      others : list_any test now ≡ list_any test fs
-      others =
-          ap (list_any test) (gone ∙ ap (λ m. take i fs ++ drop m fs) (sym (add-one i)))
-          ∙ list_any-append test (take i fs) (drop (i + 1) fs)
-          ∙ ap (λ b. list_any test (take i fs) || ((b && names f.request.wants.items k) || list_any test (drop (i + 1) fs))) (sym resting)
-          ∙ sym (ap (list_any test) (sym (take-append-drop i fs) ∙ ap (λ l. take i fs ++ l) (drop_more fs i d lt))
-          ∙ list_any-append test (take i fs) (f ∷ drop (i + 1) fs))
-
-  pub sole-left : left job named now ≡ left job named fs
-  sole-left = step-left job named fs now i d lt on sole-gone
-
-  pub sole-kept : list_all keeps_wants fs ≡ true → list_all keeps_wants now ≡ true
-  sole-kept kept = step-kept job named fs now i d lt on sole-gone kept
-
-  -- the next of the job that loses some is the first of all
-  pub sole-next : (m : ℕ) → drop i fs ≡ from_where (loses job named) fs → drop m now ≡ from_where (loses job named) (drop i now)
-      → drop m now ≡ from_where (loses job named) now
-  sole-next m first is =
-      is
-      ∙ where-passed (loses job named) now i
-      (ap (list_any (loses job named)) (step-front job named fs now i d lt on sole-gone)
-      ∙ passed-none (loses job named) fs 0 i (omega arith) first refl)
-
-  module _ (one : length named ≡ 1) where
-    pub sole-marks : (bits : Signature) → Marks bits f.request.wants.items fs → Marks bits named fs
-    sole-marks bits marks k n waits = marks k (names-same named f.request.wants.items k one sole sole-named n) waits
-
-    module _ (hash : ℕ) (is : hash ≡ get_or (hashes_of f.request.wants.items) 0 0) where
-      pub sole-hashes : hash ∷ [] ≡ hashes_of named
-      sole-hashes = hashes-same named f.request.wants.items hash one sole sole-named is
-
-      pub sole-none : has_of_hash job hash now ≡ false → list_any (loses job named) now ≡ false
-      sole-none lacks =
-          none-loses job named now
-          (ap (list_any (λ (h : ℕ). has_of_hash job h now)) (sym sole-hashes) ∙ ap (λ b. b || false) lacks)
-
-      pub sole-all : list_all keeps_wants fs ≡ true → has_of_hash job hash now ≡ false → now ≡ left job named fs
-      sole-all kept lacks = sym (left-all job named now (sole-none lacks) (sole-kept kept)) ∙ sole-left
+pub removed : (fs : List Filing) (i : ℕ) → remove fs i ≡ take i fs ++ drop (suc i) fs
+removed [] zero = refl
+removed [] (suc i) = refl
+removed (f ∷ fs) zero = refl
+removed (f ∷ fs) (suc i) = ap (λ l. f ∷ l) (removed fs i)

@@ -1,5 +1,5 @@
 -- A status grows by the requests of a key from the first on.
-use Rattle.std.proofs.Common.{◌≡◌, ◌∙◌, sym, ap, ℕ, ◌+◌, ◌≤◌, ◌==◌, Bool, true, false, not, ◌&&◌, ◌||◌, cond, List, [], ◌∷◌, ◌++◌, length, get_or, drop, filter, sum_by, unwrap_or, Option, Some, None, refl, arith}
+use Rattle.std.proofs.Common.{◌≡◌, ◌∙◌, sym, ap, ℕ, ◌+◌, ◌≤◌, ◌==◌, Bool, true, false, not, ◌&&◌, ◌||◌, cond, List, [], ◌∷◌, ◌++◌, length, filter, sum_by, unwrap_or, Option, Some, None, refl, arith}
 use Rattle.std.specs.List.{list_any}
 use Rattle.std.specs.Option.{option_or}
 use Rattle.std.proofs.lemmas.List.Elements.{filter-append}
@@ -7,19 +7,17 @@ use Rattle.lock_queue.specs.declared.key.Key.{Key}
 use Rattle.lock_queue.specs.declared.request.Request.{Request}
 use Rattle.lock_queue.specs.declared.status.Status.{Status}
 use Rattle.lock_queue.specs.declared.want.Want.{Want}
+use Rattle.key_tally.specs.Hashes.{hash_of}
 use Rattle.lock_queue.specs.Keys.{same_key}
 use Rattle.lock_queue.specs.Queue.{all_wants, wants_at, names, amount_of}
 use Rattle.lock_queue.specs.StatusSteps.{with_owner, with_waiter}
 use Rattle.lock_queue.specs.StatusWords.{first_level, is_exclusive, level_of, standing}
-use Rattle.lock_queue.proofs.StatusLaws.{first_of, standing_owner, standing_waiter}
-use Rattle.lock_table.specs.declared.signature.Signature.{Signature}
+use Rattle.lock_queue.proofs.StatusLaws.{standing_owner, standing_waiter}
 use Rattle.lock_table.specs.Filings.{Filing, requests_in}
 use Rattle.lock_table.specs.Findings.{owns, awaits, status_in}
-use Rattle.lock_table.specs.Signatures.{bits_of, signature_of, meets}
 use Rattle.lock_table.specs.Standings.{unwanted, with_next_owner, with_next, followed}
-use Rattle.lock_table.specs.Walks.{from_met}
-use Rattle.lock_table.proofs.SignatureLaws.{unmet_names}
-use Rattle.lock_table.proofs.WalkLaws.{met_wants, walk-wants}
+use Rattle.lock_table.specs.Views.{touches}
+use Rattle.lock_table.proofs.ViewLaws.{same_wants, unhashed}
 
 or-turned : (a b c : Bool) → (a || (b || c)) ≡ ((b || a) || c)
 or-turned true true c = refl
@@ -93,19 +91,21 @@ next-told key asker level s f fs = go (names f.request.wants.items key) f.grante
         ∙ next-waiter asker f.request s (standing key asker level (requests_in own) (requests_in waiting))
     go false g = refl
 
--- ---- a walk over the requests that meet a key's bits
+-- ---- which requests tell something of a key
 
 module _ (key : Key) (mark : Filing → Bool) (unmarked : (f : Filing) → names f.request.wants.items key ≡ false → mark f ≡ false) where
-  met-filter : (fs : List Filing) → filter mark (from_met (bits_of key) fs) ≡ filter mark fs
-  met-filter [] = refl
-  met-filter (f ∷ fs) = go (meets (signature_of f.request.wants.items) (bits_of key)) refl (met-filter fs)
+  touching-filter : (fs : List Filing) → filter mark (filter (touches (hash_of key)) fs) ≡ filter mark fs
+  touching-filter [] = refl
+  touching-filter (f ∷ fs) = go (touches (hash_of key) f) refl (touching-filter fs)
     where
-      go : (b : Bool) → meets (signature_of f.request.wants.items) (bits_of key) ≡ b
-          → filter mark (from_met (bits_of key) fs) ≡ filter mark fs
-          → filter mark (cond b (f ∷ fs) (from_met (bits_of key) fs)) ≡ filter mark (f ∷ fs)
-      go true e t = refl
+      some : List Filing
+      some = filter (touches (hash_of key)) fs
+
+      go : (b : Bool) → touches (hash_of key) f ≡ b → filter mark some ≡ filter mark fs
+          → filter mark (cond b (f ∷ some) some) ≡ filter mark (f ∷ fs)
+      go true e t = ap (λ l. cond (mark f) (f ∷ l) l) t
       go false e t =
-          t ∙ sym (ap (λ b. cond b (f ∷ filter mark fs) (filter mark fs)) (unmarked f (unmet_names f.request.wants.items key e)))
+          t ∙ sym (ap (λ b. cond b (f ∷ filter mark fs) (filter mark fs)) (unmarked f (unhashed f.request.wants.items key e)))
 
   unnamed-filter : (fs : List Filing) → wants_at (requests_in fs) key ≡ [] → filter mark fs ≡ []
   unnamed-filter [] h = refl
@@ -135,13 +135,23 @@ unowned key f e = ap (λ b. b && f.granted) e
 unawaited : (key : Key) (f : Filing) → names f.request.wants.items key ≡ false → awaits key f ≡ false
 unawaited key f e = ap (λ b. b && not f.granted) e
 
-pub met_told : (key : Key) (asker level : ℕ) (fs : List Filing) → told_by key asker level (from_met (bits_of key) fs) ≡ told_by key asker level fs
-met_told key asker level fs =
-    ap (λ l. standing key asker level (requests_in l) (requests_in (filter (awaits key) (from_met (bits_of key) fs)))) (met-filter key (owns key) (unowned key) fs)
-    ∙ ap (λ l. standing key asker level (requests_in (filter (owns key) fs)) (requests_in l)) (met-filter key (awaits key) (unawaited key) fs)
+same-filter : (key : Key) (h : ℕ) (mark : Filing → Bool) → ((f : Filing) → names f.request.wants.items key ≡ false → mark f ≡ false)
+    → (fs gs : List Filing) → h ≡ hash_of key → filter (touches h) fs ≡ filter (touches h) gs → filter mark fs ≡ filter mark gs
+same-filter key h mark unmarked fs gs is same =
+    sym (touching-filter key mark unmarked fs)
+    ∙ ap (λ n. filter mark (filter (touches n) fs)) (sym is) ∙ ap (filter mark) same ∙ ap (λ n. filter mark (filter (touches n) gs)) is
+    ∙ touching-filter key mark unmarked gs
 
-pub met_level : (key : Key) (fs : List Filing) → level_of (requests_in (from_met (bits_of key) fs)) key ≡ level_of (requests_in fs) key
-met_level key fs = ap (λ l. unwrap_or (first_level l) 0) (met_wants key fs)
+-- a status tells the same of two lists of which the same requests touch the key's hash
+pub same_status : (key : Key) (h asker : ℕ) (fs gs : List Filing) → h ≡ hash_of key → filter (touches h) fs ≡ filter (touches h) gs
+    → status_in fs key asker ≡ status_in gs key asker
+same_status key h asker fs gs is same =
+    ap (λ l. standing key asker (unwrap_or (first_level l) 0) (requests_in (filter (owns key) fs)) (requests_in (filter (awaits key) fs)))
+    (same_wants key h fs gs is same)
+    ∙ ap (λ l. standing key asker (level_of (requests_in gs) key) (requests_in l) (requests_in (filter (awaits key) fs)))
+    (same-filter key h (owns key) (unowned key) fs gs is same)
+    ∙ ap (λ l. standing key asker (level_of (requests_in gs) key) (requests_in (filter (owns key) gs)) (requests_in l))
+    (same-filter key h (awaits key) (unawaited key) fs gs is same)
 
 pub unwanted-followed : (key : Key) (asker level : ℕ) (fs : List Filing) → followed (unwanted level) (told_by key asker level fs) ≡ told_by key asker level fs
 unwanted-followed key asker level fs =
@@ -156,32 +166,13 @@ told_by-none key asker level s [] le = followed-none key asker level s
 told_by-none key asker level s (f ∷ fs) le = absurd (omega arith)
 
 -- one step of the walk
-pub walk_told : (key : Key) (asker level : ℕ) (bits : Signature) (s : Status) (xs ys : List Filing) (f : Filing)
-    → bits ≡ bits_of key → 1 ≤ length xs → f ≡ get_or xs 0 f → ys ≡ from_met bits (drop 1 xs)
+pub walk_told : (key : Key) (asker level : ℕ) (s : Status) (xs ys : List Filing) (f : Filing) → xs ≡ f ∷ ys
     → followed (with_next key asker f s) (told_by key asker level ys) ≡ followed s (told_by key asker level xs)
-walk_told key asker level bits s [] ys f is-bits some is are = absurd (omega arith)
-walk_told key asker level bits s (x ∷ xs) ys f is-bits some is are =
-    ap (λ l. followed (with_next key asker f s) (told_by key asker level l)) (are ∙ ap (λ b. from_met b xs) is-bits)
-    ∙ ap (followed (with_next key asker f s)) (met_told key asker level xs)
-    ∙ ap (λ g. followed (with_next key asker g s) (told_by key asker level xs)) is
-    ∙ sym (next-told key asker level s x xs)
+walk_told key asker level s xs ys f is =
+    sym (ap (λ l. followed s (told_by key asker level l)) is ∙ next-told key asker level s f ys)
 
 pub status_lacking : (key : Key) (asker : ℕ) (fs : List Filing) → wants_at (requests_in fs) key ≡ [] → status_in fs key asker ≡ unwanted 0
 status_lacking key asker fs h =
     ap (λ l. standing key asker (unwrap_or (first_level l) 0) (requests_in (filter (owns key) fs)) (requests_in (filter (awaits key) fs))) h
     ∙ ap (λ l. standing key asker 0 (requests_in l) (requests_in (filter (awaits key) fs))) (unnamed-filter key (owns key) (unowned key) fs h)
     ∙ ap (λ l. standing key asker 0 [] (requests_in l)) (unnamed-filter key (awaits key) (unawaited key) fs h)
-
--- ---- the level
-
-first_level-append : (xs ys : List Want) → first_level (xs ++ ys) ≡ first_of (first_level xs) (first_level ys)
-first_level-append [] ys = refl
-first_level-append (x ∷ xs) ys = refl
-
-pub walk_level : (key : Key) (bits : Signature) (xs ys : List Filing) (f : Filing)
-    → bits ≡ bits_of key → 1 ≤ length xs → f ≡ get_or xs 0 f → ys ≡ from_met bits (drop 1 xs)
-    → first_level (wants_at (requests_in xs) key)
-    ≡ first_of (first_level (filter (λ w. same_key w.key key) f.request.wants.items)) (first_level (wants_at (requests_in ys) key))
-walk_level key bits xs ys f is-bits some is are =
-    ap first_level (walk-wants key bits xs ys f is-bits some is are)
-    ∙ first_level-append (filter (λ w. same_key w.key key) f.request.wants.items) (wants_at (requests_in ys) key)

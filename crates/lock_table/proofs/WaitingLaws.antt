@@ -1,236 +1,292 @@
--- What a walk over the requests that wait passes over is not renewed.
-use Rattle.std.proofs.Common.{◌≡◌, ◌∙◌, sym, ap, refl, ℕ, zero, suc, ◌+◌, ◌-◌, ◌<◌, ◌≤◌, Bool, true, false, not, ◌&&◌, cond, List, [], ◌∷◌, ◌++◌, append-nil, append_assoc, length, length-append, length-drop, get_or, set, take, drop, arith}
-use Rattle.std.proofs.lemmas.Bool.{and_parts, and_right}
-use Rattle.std.proofs.lemmas.List.{drop-drop, drop_more, drop-set-lt, take_more_set}
+-- A walk over the marked places passes over none that is renewed.
+use Rattle.std.proofs.Common.{◌≡◌, ◌∙◌, sym, ap, subst, refl, ℕ, zero, suc, ◌+◌, ◌<◌, ◌≤◌, Bool, true, false, not, ◌&&◌, cond, List, [], ◌∷◌, ◌++◌, append-nil, append_assoc, length, length-append, length-drop, get_or, set, take, drop, arith}
+use Rattle.std.proofs.lemmas.Bool.{and_right}
+use Rattle.std.proofs.lemmas.List.{drop_more, take_all, take_more}
+use Rattle.std.proofs.Math.Seq.{set-append_seam}
 use Rattle.lock_queue.specs.declared.grant.Grant.{Grant}
 use Rattle.lock_queue.specs.declared.request.Request.{Request}
+use Rattle.lock_queue.specs.declared.want.Want.{Want}
 use Rattle.lock_queue.specs.Grants.{is_told_of, grant_of}
 use Rattle.lock_queue.specs.Queue.{granted_behind}
-use Rattle.lock_table.specs.declared.signature.Signature.{Signature}
+use Rattle.lock_table.specs.Boxes.{Boxed, boxed, filings}
 use Rattle.lock_table.specs.Filings.{Filing, requests_in}
-use Rattle.lock_table.specs.Renewals.{rises, renewed, risen, raised, with_grant, as_raised}
-use Rattle.lock_table.specs.Signatures.{meets, signature_of}
-use Rattle.lock_table.proofs.WhereLaws.{take-add}
-use Rattle.lock_table.specs.Walks.{from_met, waits_met, from_where}
+use Rattle.lock_table.specs.Renewals.{rises, renewed, risen, raised, with_grant, as_raised, Marked, MarksRising}
+use Rattle.lock_table.proofs.QueueLaws.{filings-at, filings-length, filings-take}
+use Rattle.lock_table.proofs.RenewalLaws.{renewed-requests}
+
+requests-length : (fs : List Filing) → length (requests_in fs) ≡ length fs
+requests-length [] = refl
+requests-length (f ∷ fs) = ap (λ n. suc n) (requests-length fs)
+
+-- ---- what is renewed of a list's parts
+
+renewed-append : (touched : List Want → Bool) (e : List Request) (xs ys : List Filing)
+    → renewed touched e (xs ++ ys) ≡ renewed touched e xs ++ renewed touched (e ++ requests_in xs) ys
+renewed-append touched e [] ys = ap (λ l. renewed touched l ys) (sym (append-nil e))
+renewed-append touched e (x ∷ xs) ys =
+    go (rises touched e x) (
+    renewed-append touched (e ++ x.request ∷ []) xs ys
+    ∙ ap (λ l. renewed touched (e ++ x.request ∷ []) xs ++ renewed touched l ys) (append_assoc e (x.request ∷ []) (requests_in xs)))
+  where
+    go : (b : Bool) → renewed touched (e ++ x.request ∷ []) (xs ++ ys)
+        ≡ renewed touched (e ++ x.request ∷ []) xs ++ renewed touched (e ++ x.request ∷ requests_in xs) ys
+        → cond b (with_grant x ∷ renewed touched (e ++ x.request ∷ []) (xs ++ ys)) (x ∷ renewed touched (e ++ x.request ∷ []) (xs ++ ys))
+        ≡ cond b (with_grant x ∷ renewed touched (e ++ x.request ∷ []) xs) (x ∷ renewed touched (e ++ x.request ∷ []) xs)
+        ++ renewed touched (e ++ x.request ∷ requests_in xs) ys
+    go true t = ap (λ l. with_grant x ∷ l) t
+    go false t = ap (λ l. x ∷ l) t
+
+risen-append : (touched : List Want → Bool) (e : List Request) (xs ys : List Filing)
+    → risen touched e (xs ++ ys) ≡ risen touched e xs ++ risen touched (e ++ requests_in xs) ys
+risen-append touched e [] ys = ap (λ l. risen touched l ys) (sym (append-nil e))
+risen-append touched e (x ∷ xs) ys =
+    go (rises touched e x && is_told_of x.request.kind) (
+    risen-append touched (e ++ x.request ∷ []) xs ys
+    ∙ ap (λ l. risen touched (e ++ x.request ∷ []) xs ++ risen touched l ys) (append_assoc e (x.request ∷ []) (requests_in xs)))
+  where
+    go : (b : Bool) → risen touched (e ++ x.request ∷ []) (xs ++ ys)
+        ≡ risen touched (e ++ x.request ∷ []) xs ++ risen touched (e ++ x.request ∷ requests_in xs) ys
+        → cond b (grant_of x.request ∷ risen touched (e ++ x.request ∷ []) (xs ++ ys)) (risen touched (e ++ x.request ∷ []) (xs ++ ys))
+        ≡ cond b (grant_of x.request ∷ risen touched (e ++ x.request ∷ []) xs) (risen touched (e ++ x.request ∷ []) xs)
+        ++ risen touched (e ++ x.request ∷ requests_in xs) ys
+    go true t = ap (λ l. grant_of x.request ∷ l) t
+    go false t = t
+
+-- no more rise than there are
+risen-short : (touched : List Want → Bool) (e : List Request) (fs : List Filing) → length (risen touched e fs) ≤ length fs
+risen-short touched e [] = omega arith
+risen-short touched e (f ∷ fs) = go (rises touched e f && is_told_of f.request.kind) (risen-short touched (e ++ f.request ∷ []) fs)
+  where
+    go : (b : Bool) → length (risen touched (e ++ f.request ∷ []) fs) ≤ length fs
+        → length (cond b (grant_of f.request ∷ risen touched (e ++ f.request ∷ []) fs) (risen touched (e ++ f.request ∷ []) fs)) ≤ length (f ∷ fs)
+    go true le = omega (arith, le)
+    go false le = omega (arith, le)
+
+pub untouched-rises : (touched : List Want → Bool) (e : List Request) (f : Filing) → touched f.request.wants.items ≡ false → rises touched e f ≡ false
+untouched-rises touched e f off =
+    ap (λ m. not f.granted && (m && granted_behind e f.request)) off ∙ and_right (not f.granted) false refl
+
+pub granted-rises : (touched : List Want → Bool) (e : List Request) (f : Filing) → f.granted ≡ true → rises touched e f ≡ false
+granted-rises touched e f on = ap (λ g. not g && (touched f.request.wants.items && granted_behind e f.request)) on
+
+pub kept-rises : (touched : List Want → Bool) (e : List Request) (f : Filing) → granted_behind e f.request ≡ false → rises touched e f ≡ false
+kept-rises touched e f off = go (not f.granted) (touched f.request.wants.items) (granted_behind e f.request) off
+  where
+    go : (g m b : Bool) → b ≡ false → (g && (m && b)) ≡ false
+    go true true b h = h
+    go true false b h = refl
+    go false m b h = refl
+
+waiting-rises : (touched : List Want → Bool) (e : List Request) (f : Filing) → f.granted ≡ false → touched f.request.wants.items ≡ true
+    → rises touched e f ≡ granted_behind e f.request
+waiting-rises touched e f off on =
+    ap (λ g. not g && (touched f.request.wants.items && granted_behind e f.request)) off ∙ ap (λ m. m && granted_behind e f.request) on
+
+at-seam : (xs ys : List Filing) → take (length xs) (xs ++ ys) ≡ xs
+at-seam [] ys = refl
+at-seam (x ∷ xs) ys = ap (λ l. x ∷ l) (at-seam xs ys)
+
+got-seam : (xs ys : List Filing) (f d : Filing) → get_or (xs ++ f ∷ ys) (length xs) d ≡ f
+got-seam [] ys f d = refl
+got-seam (x ∷ xs) ys f d = got-seam xs ys f d
+
+same-at : (fs : List Filing) (i : ℕ) (d e : Filing) → i < length fs → get_or fs i d ≡ get_or fs i e
+same-at [] i d e lt = absurd (omega arith)
+same-at (f ∷ fs) zero d e lt = refl
+same-at (f ∷ fs) (suc i) d e lt = same-at fs i d e (omega (arith, lt))
+
+pub renewed-length : (touched : List Want → Bool) (e : List Request) (fs : List Filing) → length (renewed touched e fs) ≡ length fs
+renewed-length touched e fs =
+    sym (requests-length (renewed touched e fs)) ∙ ap length (renewed-requests touched e fs) ∙ requests-length fs
+
+length-take_at : (n : ℕ) (fs : List Filing) → n ≤ length fs → length (take n fs) ≡ n
+length-take_at zero fs le = refl
+length-take_at (suc n) [] le = absurd (omega (arith, le))
+length-take_at (suc n) (f ∷ fs) le = ap suc (length-take_at n fs (omega (arith, le)))
 
 -- ---- the walk
 
-met-short : (bits : Signature) (fs : List Filing) → length (from_met bits fs) ≤ length fs
-met-short bits [] = omega arith
-met-short bits (f ∷ fs) = go (meets (signature_of f.request.wants.items) bits) (met-short bits fs)
-  where
-    go : (b : Bool) → length (from_met bits fs) ≤ length fs → length (cond b (f ∷ fs) (from_met bits fs)) ≤ length (f ∷ fs)
-    go true le = omega arith
-    go false le = omega (arith, le)
+-- the requests before a place are renewed
+pub record Passed (touched : List Want → Bool) (before : List Filing) (n : ℕ) (now : List Filing) (woken : List Grant) : Type 0 where
+  pub there : n ≤ length before
+  pub filed : now ≡ renewed touched [] (take n before) ++ drop n before
+  pub told : woken ≡ risen touched [] (take n before)
 
--- a request that waits and meets a signature meets it
-pub met-waiting : (bits : Signature) (fs : List Filing) → from_where (waits_met bits) (from_met bits fs) ≡ from_where (waits_met bits) fs
-met-waiting bits [] = refl
-met-waiting bits (f ∷ fs) = go (meets (signature_of f.request.wants.items) bits) refl (met-waiting bits fs)
-  where
-    go : (b : Bool) → meets (signature_of f.request.wants.items) bits ≡ b → from_where (waits_met bits) (from_met bits fs) ≡ from_where (waits_met bits) fs
-        → from_where (waits_met bits) (cond b (f ∷ fs) (from_met bits fs)) ≡ from_where (waits_met bits) (f ∷ fs)
-    go true e t = refl
-    go false e t =
-        t ∙ sym (ap (λ m. cond (not f.granted && m) (f ∷ fs) (from_where (waits_met bits) fs)) e
-        ∙ ap (λ m. cond m (f ∷ fs) (from_where (waits_met bits) fs)) (and_right (not f.granted) false refl))
+pub begun : (touched : List Want → Bool) (before : List Filing) (woken : List Grant) → woken ≡ [] → Passed touched before 0 before woken
+begun touched before woken none = record { there = omega arith; filed = refl; told = none }
 
-pub met-twice : (bits : Signature) (fs : List Filing) → from_met bits (from_met bits fs) ≡ from_met bits fs
-met-twice bits [] = refl
-met-twice bits (f ∷ fs) = go (meets (signature_of f.request.wants.items) bits) refl (met-twice bits fs)
-  where
-    go : (b : Bool) → meets (signature_of f.request.wants.items) bits ≡ b → from_met bits (from_met bits fs) ≡ from_met bits fs
-        → from_met bits (cond b (f ∷ fs) (from_met bits fs)) ≡ cond b (f ∷ fs) (from_met bits fs)
-    go true e t = ap (λ m. cond m (f ∷ fs) (from_met bits fs)) e
-    go false e t = t
-
-met-head : (bits : Signature) (f : Filing) (fs : List Filing) → from_met bits (f ∷ fs) ≡ f ∷ fs → meets (signature_of f.request.wants.items) bits ≡ true
-met-head bits f fs h = go (meets (signature_of f.request.wants.items) bits) refl h
-  where
-    go : (b : Bool) → meets (signature_of f.request.wants.items) bits ≡ b → cond b (f ∷ fs) (from_met bits fs) ≡ f ∷ fs → b ≡ true
-    go true e t = refl
-    go false e t = let long = ap length t in absurd (omega (arith, long, met-short bits fs))
-
--- the walk ends at the first that meets the signature and is not granted
-pub waiting-first : (bits : Signature) (xs : List Filing) (f : Filing) → 1 ≤ length xs → f ≡ get_or xs 0 f → from_met bits xs ≡ xs
-    → f.granted ≡ false → from_where (waits_met bits) xs ≡ xs
-waiting-first bits [] f some is met off = refl
-waiting-first bits (x ∷ xs) f some is met off =
-    ap (λ g. cond (not g && meets (signature_of x.request.wants.items) bits) (x ∷ xs) (from_where (waits_met bits) xs))
-    (ap (λ (y : Filing). y.granted) (sym is) ∙ off)
-    ∙ ap (λ m. cond m (x ∷ xs) (from_where (waits_met bits) xs)) (met-head bits x xs met)
-
--- and passes over one that is granted
-pub waiting-next : (bits : Signature) (xs : List Filing) (f : Filing) → 1 ≤ length xs → f ≡ get_or xs 0 f → f.granted ≡ true
-    → from_where (waits_met bits) (from_met bits (drop 1 xs)) ≡ from_where (waits_met bits) xs
-waiting-next bits [] f some is on = absurd (omega arith)
-waiting-next bits (x ∷ xs) f some is on =
-    met-waiting bits xs
-    ∙ sym (ap (λ g. cond (not g && meets (signature_of x.request.wants.items) bits) (x ∷ xs) (from_where (waits_met bits) xs))
-    (ap (λ (y : Filing). y.granted) (sym is) ∙ on))
-
--- ---- what is renewed
-
-unmet-rises : (bits : Signature) (e : List Request) (f : Filing) → waits_met bits f ≡ false → rises bits e f ≡ false
-unmet-rises bits e f h = go (not f.granted) (meets (signature_of f.request.wants.items) bits) h
-  where
-    go : (g m : Bool) → (g && m) ≡ false → (g && (m && granted_behind e f.request)) ≡ false
-    go true m h = ap (λ b. b && granted_behind e f.request) h
-    go false m h = refl
-
-met-rises : (bits : Signature) (e : List Request) (f : Filing) → waits_met bits f ≡ true → rises bits e f ≡ granted_behind e f.request
-met-rises bits e f h =
-    let p = and_parts (not f.granted) (meets (signature_of f.request.wants.items) bits) h in
-    ap (λ g. g && (meets (signature_of f.request.wants.items) bits && granted_behind e f.request)) p.0
-    ∙ ap (λ m. m && granted_behind e f.request) p.1
-
--- by how many requests a walk passes over
-module _ (bits : Signature) where
-  longer : (f : Filing) (fs : List Filing) (k : ℕ) → drop k fs ≡ f ∷ fs → false ≡ true
-  longer f fs k t = let long = ap length t in absurd (omega (arith, long, length-drop k fs))
-
-  pass-renewed : (e : List Request) (fs : List Filing) (k : ℕ) → drop k fs ≡ from_where (waits_met bits) fs
-      → take k fs ++ renewed bits (e ++ requests_in (take k fs)) (drop k fs) ≡ renewed bits e fs
-  pass-renewed e fs zero h = ap (λ l. renewed bits l fs) (append-nil e)
-  pass-renewed e [] (suc k) h = refl
-  pass-renewed e (f ∷ fs) (suc k) h = go (waits_met bits f) refl h (pass-renewed (e ++ f.request ∷ []) fs k)
-    where
-      go : (b : Bool) → waits_met bits f ≡ b → drop k fs ≡ cond b (f ∷ fs) (from_where (waits_met bits) fs)
-          → (drop k fs ≡ from_where (waits_met bits) fs
-          → take k fs ++ renewed bits ((e ++ f.request ∷ []) ++ requests_in (take k fs)) (drop k fs) ≡ renewed bits (e ++ f.request ∷ []) fs)
-          → f ∷ take k fs ++ renewed bits (e ++ f.request ∷ requests_in (take k fs)) (drop k fs) ≡ renewed bits e (f ∷ fs)
-      go true w t rest = let bad = longer f fs k t in absurd (cc)
-      go false w t rest =
-          ap (λ l. f ∷ take k fs ++ renewed bits l (drop k fs)) (sym (append_assoc e (f.request ∷ []) (requests_in (take k fs))))
-          ∙ ap (λ l. f ∷ l) (rest t)
-          ∙ sym (ap (λ b. cond b (with_grant f ∷ renewed bits (e ++ f.request ∷ []) fs) (f ∷ renewed bits (e ++ f.request ∷ []) fs)) (unmet-rises bits e f w))
-
-  pass-risen : (e : List Request) (fs : List Filing) (k : ℕ) → drop k fs ≡ from_where (waits_met bits) fs
-      → risen bits (e ++ requests_in (take k fs)) (drop k fs) ≡ risen bits e fs
-  pass-risen e fs zero h = ap (λ l. risen bits l fs) (append-nil e)
-  pass-risen e [] (suc k) h = refl
-  pass-risen e (f ∷ fs) (suc k) h = go (waits_met bits f) refl h (pass-risen (e ++ f.request ∷ []) fs k)
-    where
-      go : (b : Bool) → waits_met bits f ≡ b → drop k fs ≡ cond b (f ∷ fs) (from_where (waits_met bits) fs)
-          → (drop k fs ≡ from_where (waits_met bits) fs
-          → risen bits ((e ++ f.request ∷ []) ++ requests_in (take k fs)) (drop k fs) ≡ risen bits (e ++ f.request ∷ []) fs)
-          → risen bits (e ++ f.request ∷ requests_in (take k fs)) (drop k fs) ≡ risen bits e (f ∷ fs)
-      go true w t rest = let bad = longer f fs k t in absurd (cc)
-      go false w t rest =
-          ap (λ l. risen bits l (drop k fs)) (sym (append_assoc e (f.request ∷ []) (requests_in (take k fs))))
-          ∙ rest t
-          ∙ sym (ap (λ b. cond (b && is_told_of f.request.kind) (grant_of f.request ∷ risen bits (e ++ f.request ∷ []) fs) (risen bits (e ++ f.request ∷ []) fs)) (unmet-rises bits e f w))
-
-requests-append : (xs ys : List Filing) → requests_in (xs ++ ys) ≡ requests_in xs ++ requests_in ys
-requests-append [] ys = refl
-requests-append (x ∷ xs) ys = ap (λ l. x.request ∷ l) (requests-append xs ys)
-
--- a list of which the first so many are gone through, and the grants of those behind them
-abbrev pub renewed_from : Signature → List Filing → ℕ → List Filing
-renewed_from bits fs i = take i fs ++ renewed bits (requests_in (take i fs)) (drop i fs)
-
-abbrev pub risen_from : Signature → List Filing → ℕ → List Grant
-risen_from bits fs i = risen bits (requests_in (take i fs)) (drop i fs)
-
-module _ (bits : Signature) (fs : List Filing) (n m : ℕ) (le : n ≤ m) (is : drop m fs ≡ from_where (waits_met bits) (drop n fs)) where
-  abbrev k : ℕ
-  k = m - n
-
-  at : m ≡ n + k
-  at = omega (arith, le)
-
-  here : drop k (drop n fs) ≡ from_where (waits_met bits) (drop n fs)
-  here = drop-drop k n fs ∙ ap (λ j. drop j fs) (sym at) ∙ is
-
-  pub passed-renewed : renewed_from bits fs m ≡ renewed_from bits fs n
-  passed-renewed =
-      ap (renewed_from bits fs) at
-      ∙ ap (λ l. l ++ renewed bits (requests_in l) (drop (n + k) fs)) (take-add fs n k)
-      ∙ ap (λ l. (take n fs ++ take k (drop n fs)) ++ renewed bits l (drop (n + k) fs)) (requests-append (take n fs) (take k (drop n fs)))
-      ∙ ap (λ l. (take n fs ++ take k (drop n fs)) ++ renewed bits (requests_in (take n fs) ++ requests_in (take k (drop n fs))) l) (sym (drop-drop k n fs))
-      ∙ append_assoc (take n fs) (take k (drop n fs)) (renewed bits (requests_in (take n fs) ++ requests_in (take k (drop n fs))) (drop k (drop n fs)))
-      ∙ ap (λ l. take n fs ++ l) (pass-renewed bits (requests_in (take n fs)) (drop n fs) k here)
-
-  pub passed-risen : risen_from bits fs m ≡ risen_from bits fs n
-  passed-risen =
-      ap (risen_from bits fs) at
-      ∙ ap (λ l. risen bits (requests_in l) (drop (n + k) fs)) (take-add fs n k)
-      ∙ ap (λ l. risen bits l (drop (n + k) fs)) (requests-append (take n fs) (take k (drop n fs)))
-      ∙ ap (λ l. risen bits (requests_in (take n fs) ++ requests_in (take k (drop n fs))) l) (sym (drop-drop k n fs))
-      ∙ pass-risen bits (requests_in (take n fs)) (drop n fs) k here
-
-module _ (bits : Signature) (fs now : List Filing) (i : ℕ) (d : Filing) (lt : i < length fs) (waits : waits_met bits (get_or fs i d) ≡ true)
-    (are : now ≡ set fs i (as_raised (requests_in (take i fs)) (get_or fs i d))) where
+module _ (touched : List Want → Bool) (before now : List Filing) (woken : List Grant) (n : ℕ) (d : Filing)
+    (p : Passed touched before n now woken) (lt : n < length before) where
   abbrev e : List Request
-  e = requests_in (take i fs)
+  e = requests_in (take n before)
 
   abbrev f : Filing
-  f = get_or fs i d
+  f = get_or before n d
 
-  abbrev later : List Filing
-  later = drop (i + 1) fs
+  abbrev done : List Filing
+  done = renewed touched [] (take n before)
 
-  front : take (i + 1) now ≡ take i fs ++ as_raised e f ∷ []
-  front = ap (take (i + 1)) are ∙ take_more_set fs i (as_raised e f) lt
+  one-filed : (r : Bool) → cond r (with_grant f ∷ []) (f ∷ []) ≡ cond r (with_grant f) f ∷ []
+  one-filed true = refl
+  one-filed false = refl
 
-  behind : drop (i + 1) now ≡ later
-  behind = ap (drop (i + 1)) are ∙ drop-set-lt (i + 1) fs i (as_raised e f) (omega arith)
+  more-renewed : renewed touched [] (take (n + 1) before) ≡ done ++ cond (rises touched e f) (with_grant f) f ∷ []
+  more-renewed =
+      ap (renewed touched []) (take_more before n d lt)
+      ∙ renewed-append touched [] (take n before) (f ∷ [])
+      ∙ ap (λ l. done ++ l) (one-filed (rises touched e f))
 
-  same-request : (b : Bool) → (cond b (with_grant f) f).request ≡ f.request
-  same-request true = refl
-  same-request false = refl
+  more-risen : risen touched [] (take (n + 1) before)
+      ≡ risen touched [] (take n before) ++ cond (rises touched e f && is_told_of f.request.kind) (grant_of f.request ∷ []) []
+  more-risen = ap (risen touched []) (take_more before n d lt) ∙ risen-append touched [] (take n before) (f ∷ [])
 
-  before : requests_in (take (i + 1) now) ≡ e ++ f.request ∷ []
-  before =
-      ap requests_in front ∙ requests-append (take i fs) (as_raised e f ∷ [])
-      ∙ ap (λ r. e ++ r ∷ []) (same-request (granted_behind e f.request))
+  stepped : (next : List Filing) (told : List Grant)
+      → next ≡ done ++ cond (rises touched e f) (with_grant f) f ∷ drop (n + 1) before
+      → told ≡ woken ++ cond (rises touched e f && is_told_of f.request.kind) (grant_of f.request ∷ []) []
+      → Passed touched before (n + 1) next told
+  stepped next told filed more = record {
+    there = omega (arith, lt);
+    filed = filed
+        ∙ sym (append_assoc done (cond (rises touched e f) (with_grant f) f ∷ []) (drop (n + 1) before))
+        ∙ ap (λ l. l ++ drop (n + 1) before) (sym more-renewed);
+    told = more
+        ∙ ap (λ l. l ++ cond (rises touched e f && is_told_of f.request.kind) (grant_of f.request ∷ []) []) p.told
+        ∙ sym more-risen;
+  }
 
-  pub step-renewed : renewed_from bits now (i + 1) ≡ renewed_from bits fs i
-  step-renewed =
-      ap (λ l. take (i + 1) now ++ renewed bits l (drop (i + 1) now)) before
-      ∙ ap (λ l. take (i + 1) now ++ renewed bits (e ++ f.request ∷ []) l) behind
-      ∙ ap (λ l. l ++ renewed bits (e ++ f.request ∷ []) later) front
-      ∙ append_assoc (take i fs) (as_raised e f ∷ []) (renewed bits (e ++ f.request ∷ []) later)
-      ∙ ap (λ l. take i fs ++ l) (sym (one (granted_behind e f.request)))
-      ∙ ap (λ b. take i fs ++ cond b (with_grant f ∷ renewed bits (e ++ f.request ∷ []) later) (f ∷ renewed bits (e ++ f.request ∷ []) later))
-      (sym (met-rises bits e f waits))
-      ∙ ap (λ l. take i fs ++ renewed bits e l) (sym (drop_more fs i d lt))
+  -- one that does not rise stays as it is
+  pub passed : rises touched e f ≡ false → Passed touched before (n + 1) now woken
+  passed off =
+      stepped now woken
+      (p.filed ∙ ap (λ l. done ++ l) (drop_more before n d lt) ∙ ap (λ r. done ++ cond r (with_grant f) f ∷ drop (n + 1) before) (sym off))
+      (sym (append-nil woken) ∙ ap (λ r. woken ++ cond (r && is_told_of f.request.kind) (grant_of f.request ∷ []) []) (sym off))
+
+  done-length : length done ≡ n
+  done-length = renewed-length touched [] (take n before) ∙ length-take_at n before (omega (arith, lt))
+
+  whole : now ≡ done ++ f ∷ drop (n + 1) before
+  whole = p.filed ∙ ap (λ l. done ++ l) (drop_more before n d lt)
+
+  -- the request at the place, and those before it
+  pub got : (x : Filing) → get_or now n x ≡ f
+  got x =
+      ap (λ l. get_or l n x) whole ∙ ap (λ j. get_or (done ++ f ∷ drop (n + 1) before) j x) (sym done-length)
+      ∙ got-seam done (drop (n + 1) before) f x
+
+  pub before-it : requests_in (take n now) ≡ e
+  before-it =
+      ap (λ l. requests_in (take n l)) whole ∙ ap (λ j. requests_in (take j (done ++ f ∷ drop (n + 1) before))) (sym done-length)
+      ∙ ap requests_in (at-seam done (f ∷ drop (n + 1) before)) ∙ renewed-requests touched [] (take n before)
+
+  pub lifted : (x : Filing) (next : List Filing) (told : List Grant) → f.granted ≡ false → touched f.request.wants.items ≡ true
+      → next ≡ set now n (as_raised (requests_in (take n now)) (get_or now n x))
+      → told ≡ woken ++ raised (requests_in (take n now)) (get_or now n x ∷ [])
+      → Passed touched before (n + 1) next told
+  lifted x next told off on filed more =
+      stepped next told (
+      filed
+      ∙ ap (λ l. set now n (as_raised l (get_or now n x))) before-it
+      ∙ ap (λ y. set now n (as_raised e y)) (got x)
+      ∙ ap (λ l. set l n (as_raised e f)) whole
+      ∙ ap (λ j. set (done ++ f ∷ drop (n + 1) before) j (as_raised e f)) (sym done-length)
+      ∙ set-append_seam done f (drop (n + 1) before) (as_raised e f)
+      ∙ ap (λ r. done ++ cond r (with_grant f) f ∷ drop (n + 1) before) (sym (waiting-rises touched e f off on)))
+      (more
+      ∙ ap (λ l. woken ++ raised l (get_or now n x ∷ [])) before-it
+      ∙ ap (λ y. woken ++ raised e (y ∷ [])) (got x)
+      ∙ ap (λ l. woken ++ l) (one (is_told_of f.request.kind) (not f.granted) (granted_behind e f.request) (ap not off))
+      ∙ ap (λ r. woken ++ cond (r && is_told_of f.request.kind) (grant_of f.request ∷ []) []) (sym (waiting-rises touched e f off on)))
     where
-      one : (b : Bool) → cond b (with_grant f ∷ renewed bits (e ++ f.request ∷ []) later) (f ∷ renewed bits (e ++ f.request ∷ []) later)
-          ≡ cond b (with_grant f) f ∷ renewed bits (e ++ f.request ∷ []) later
-      one true = refl
-      one false = refl
-
-  pub step-risen : (grants more : List Grant) → more ≡ grants ++ raised e (f ∷ [])
-      → more ++ risen_from bits now (i + 1) ≡ grants ++ risen_from bits fs i
-  step-risen grants more is =
-      ap (λ l. more ++ risen bits l (drop (i + 1) now)) before
-      ∙ ap (λ l. more ++ risen bits (e ++ f.request ∷ []) l) behind
-      ∙ ap (λ l. l ++ risen bits (e ++ f.request ∷ []) later) is
-      ∙ append_assoc grants (raised e (f ∷ [])) (risen bits (e ++ f.request ∷ []) later)
-      ∙ ap (λ l. grants ++ l) (one (is_told_of f.request.kind) (not f.granted) (granted_behind e f.request) off)
-      ∙ ap (λ b. grants ++ cond (b && is_told_of f.request.kind) (grant_of f.request ∷ risen bits (e ++ f.request ∷ []) later) (risen bits (e ++ f.request ∷ []) later))
-      (sym (met-rises bits e f waits))
-      ∙ ap (λ l. grants ++ risen bits e l) (sym (drop_more fs i d lt))
-    where
-      off : not f.granted ≡ true
-      off = (and_parts (not f.granted) (meets (signature_of f.request.wants.items) bits) waits).0
-
-      one : (t g b : Bool) → g ≡ true
-          → cond ((t && g) && b) (grant_of f.request ∷ []) [] ++ risen bits (e ++ f.request ∷ []) later
-          ≡ cond (b && t) (grant_of f.request ∷ risen bits (e ++ f.request ∷ []) later) (risen bits (e ++ f.request ∷ []) later)
+      one : (t g b : Bool) → g ≡ true → cond ((t && g) && b) (grant_of f.request ∷ []) [] ≡ cond (b && t) (grant_of f.request ∷ []) []
       one true true true h = refl
       one true true false h = refl
       one false true true h = refl
       one false true false h = refl
       one t false b h = absurd (cc)
 
--- one request makes at most one grant
-pub raised-few : (e : List Request) (f : Filing) (grants more : List Grant) → more ≡ grants ++ raised e (f ∷ []) → length more ≤ length grants + 1
-raised-few e f grants more is =
-    let same = ap length is ∙ length-append grants (raised e (f ∷ [])) in
-    let one = few ((is_told_of f.request.kind && not f.granted) && granted_behind e f.request) in omega (arith, same, one)
+-- some that do not rise stay as they are
+pub skipped : (touched : List Want → Bool) (before now : List Filing) (woken : List Grant) (d : Filing) (m n : ℕ)
+    → Passed touched before n now woken → n + m ≤ length before
+    → ((k : ℕ) → n ≤ k → k < n + m → rises touched (requests_in (take k before)) (get_or before k d) ≡ false)
+    → Passed touched before (n + m) now woken
+skipped touched before now woken d zero n p le none = let same : n + 0 ≡ n = omega arith in subst (λ k. Passed touched before k now woken) (sym same) p
+skipped touched before now woken d (suc m) n p le none =
+    let same : n + suc m ≡ (n + 1) + m = omega arith in
+    subst (λ k. Passed touched before k now woken) (sym same)
+    (skipped touched before now woken d m (n + 1)
+    (passed touched before now woken n d p (omega (arith, le)) (none n (omega arith) (omega arith)))
+    (omega (arith, le)) (λ k at below. none k (omega (arith, at)) (omega (arith, below))))
+
+-- behind the last place all are renewed
+pub ended-filed : (touched : List Want → Bool) (before now : List Filing) (woken : List Grant) (n : ℕ) → Passed touched before n now woken
+    → length before ≤ n → now ≡ renewed touched [] before
+ended-filed touched before now woken n p le =
+    p.filed ∙ ap (λ l. renewed touched [] l ++ drop n before) (take_all n before le)
+    ∙ ap (λ l. renewed touched [] before ++ l) (no-more before n le) ∙ append-nil (renewed touched [] before)
   where
-    few : (b : Bool) → length (cond b (grant_of f.request ∷ []) []) ≤ 1
-    few true = omega arith
-    few false = omega arith
+    no-more : (fs : List Filing) (k : ℕ) → length fs ≤ k → drop k fs ≡ []
+    no-more [] zero h = refl
+    no-more [] (suc k) h = refl
+    no-more (x ∷ fs) zero h = absurd (omega (arith, h))
+    no-more (x ∷ fs) (suc k) h = no-more fs k (omega (arith, h))
+
+pub ended-told : (touched : List Want → Bool) (before now : List Filing) (woken : List Grant) (n : ℕ) → Passed touched before n now woken
+    → length before ≤ n → woken ≡ risen touched [] before
+ended-told touched before now woken n p le = p.told ∙ ap (risen touched []) (take_all n before le)
+
+-- fewer are told than there are places before
+pub few-told : (touched : List Want → Bool) (before now : List Filing) (woken : List Grant) (n : ℕ) → Passed touched before n now woken
+    → length woken ≤ n
+few-told touched before now woken n p =
+    let short = risen-short touched [] (take n before) in
+    let long = length-take_at n before p.there in
+    omega (arith, ap length p.told, short, long)
+
+pub passed-length : (touched : List Want → Bool) (before now : List Filing) (woken : List Grant) (n : ℕ) → Passed touched before n now woken
+    → length now ≡ length before
+passed-length touched before now woken n p =
+    let all = ap length p.filed in
+    let both = length-append (renewed touched [] (take n before)) (drop n before) in
+    let front = renewed-length touched [] (take n before) in
+    let long = length-take_at n before p.there in
+    let rest = length-drop n before in
+    omega (arith, all, both, front, long, rest, p.there)
+
+-- ---- what is not marked does not rise
+
+pub split-at : (bs : List Boxed) (i : ℕ) (d : Boxed) → i < length bs → bs ≡ take i bs ++ get_or bs i d ∷ drop (suc i) bs
+split-at [] i d lt = absurd (omega arith)
+split-at (b ∷ bs) zero d lt = refl
+split-at (b ∷ bs) (suc i) d lt = ap (λ l. b ∷ l) (split-at bs i d (omega (arith, lt)))
+
+pub boxes-take : (n : ℕ) (bs : List Boxed) → n ≤ length bs → length (take n bs) ≡ n
+boxes-take zero bs le = refl
+boxes-take (suc n) [] le = absurd (omega (arith, le))
+boxes-take (suc n) (b ∷ bs) le = ap suc (boxes-take n bs (omega (arith, le)))
+
+touched-rises : (touched : List Want → Bool) (e : List Request) (f : Filing) → rises touched e f ≡ true → touched f.request.wants.items ≡ true
+touched-rises touched e f h = go (not f.granted) (touched f.request.wants.items) (granted_behind e f.request) h
+  where
+    go : (a b c : Bool) → (a && (b && c)) ≡ true → b ≡ true
+    go true true c h = refl
+    go true false c h = h
+    go false b c h = absurd (cc)
+
+pub unmarked-rests : (touched : List Want → Bool) (marks : List ℕ) (bs : List Boxed) (d : Filing) (i : ℕ) → i < length (filings bs)
+    → MarksRising touched (λ f. touched f.request.wants.items) marks bs → (Marked marks i → ⊥)
+    → rises touched (requests_in (take i (filings bs))) (get_or (filings bs) i d) ≡ false
+unmarked-rests touched marks bs d i lt rising off = go (rises touched (requests_in (take i (filings bs))) (get_or (filings bs) i d)) refl
+  where
+    x : Boxed
+    x = boxed 0 d
+
+    go : (b : Bool) → rises touched (requests_in (take i (filings bs))) (get_or (filings bs) i d) ≡ b → b ≡ false
+    go false e = refl
+    go true e =
+        let below : i < length bs = omega (arith, lt, filings-length bs) in
+        let on : rises touched (requests_in (filings (take i bs))) (get_or bs i x).filing ≡ true =
+        ap (λ l. rises touched (requests_in l) (get_or bs i x).filing) (filings-take i bs)
+        ∙ ap (λ y. rises touched (requests_in (take i (filings bs))) y) (sym (filings-at i bs x d below)) ∙ e in
+        let marked = rising (take i bs) (drop (suc i) bs) (get_or bs i x) (split-at bs i x below)
+        (touched-rises touched (requests_in (filings (take i bs))) (get_or bs i x).filing on) on in
+        absurd (off (subst (Marked marks) (boxes-take i bs (omega (arith, below))) marked))

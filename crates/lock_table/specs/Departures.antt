@@ -1,19 +1,20 @@
--- Which requests leave, and what a signature of them has.
-use Rattle.std.specs.Prelude.{ℕ, Bool, not, true, false, ◌≡◌, ◌==◌, ◌&&◌, List, Option, Some, None}
+-- Which requests leave, and which hashes of them are awaited.
+use Rattle.std.specs.Prelude.{ℕ, Bool, not, true, false, ◌≡◌, ◌==◌, ◌&&◌, if◌then◌else◌, List, Option, Some, None}
 use Rattle.std.specs.List.{list_any}
 use Rattle.lock_queue.specs.declared.call.LockCall.{LockCall}
 use Rattle.lock_queue.specs.declared.call.LockCall.TheVariants.{DequeueAll, DequeueId}
 use Rattle.lock_queue.specs.declared.key.Key.{Key}
 use Rattle.lock_queue.specs.declared.want.Want.{Want}
-use Rattle.lock_queue.specs.Changes.{changed}
+use Rattle.lock_queue.specs.Changes.{changed, changed_want}
 use Rattle.lock_queue.specs.Dequeues.{has_wants, without_keys, without_keys_of, has_id}
 use Rattle.lock_queue.specs.Jobs.{is_blocking}
 use Rattle.lock_queue.specs.Queue.{names}
 use Rattle.lock_table.specs.declared.departures.Leaving.{Leaving}
 use Rattle.lock_table.specs.declared.departures.Leaving.TheVariants.{All, OfId, Blocked}
 use Rattle.lock_table.specs.Filings.{Filing, filing}
-use Rattle.lock_table.specs.declared.signature.Signature.{Signature}
-use Rattle.lock_table.specs.Signatures.{hash_of, mark_at}
+use Rattle.key_tally.specs.Hashes.{hash_of}
+use Rattle.lock_table.specs.declared.awaited.Awaited.{Awaited}
+use Rattle.lock_table.specs.Awaited.{marks}
 use Rattle.lock_table.specs.Tallies.{waiting_count}
 
 abbrev pub leaves : ℕ → Leaving → Filing → Bool
@@ -28,15 +29,14 @@ stays job leaving f = not (leaves job leaving f)
 abbrev pub some_names : (Filing → Bool) → Key → List Filing → Bool
 some_names test key filings = list_any (λ f. test f && names f.request.wants.items key) filings
 
--- a signature has the bits of each key that one of the requests has for which a test holds, and whose hash is awaited
--- by others
-abbrev pub Covers : Signature → (Filing → Bool) → List Filing → List Filing → Type 0
-Covers bits test filings others =
-    (key : Key) → some_names test key filings ≡ true → (waiting_count (hash_of key) others == 0) ≡ false → mark_at bits key ≡ 1
+-- the awaited hashes have that of each key that one of the requests has for which a test holds, and that others await
+abbrev pub Covers : Awaited → (Filing → Bool) → List Filing → List Filing → Type 0
+Covers a test filings others =
+    (key : Key) → some_names test key filings ≡ true → (waiting_count (hash_of key) others == 0) ≡ false → marks a key ≡ true
 
--- a signature has the bits of each key that one of the requests has for which a test holds
-abbrev pub CoversAll : Signature → (Filing → Bool) → List Filing → Type 0
-CoversAll bits test filings = (key : Key) → some_names test key filings ≡ true → mark_at bits key ≡ 1
+-- and that of each key that one of the requests has for which a test holds
+abbrev pub CoversAll : Awaited → (Filing → Bool) → List Filing → Type 0
+CoversAll a test filings = (key : Key) → some_names test key filings ≡ true → marks a key ≡ true
 
 -- whether a request of the job has a want of one of the keys
 abbrev pub loses : ℕ → List Want → Filing → Bool
@@ -59,6 +59,22 @@ waits_with_fewer job named f = (loses job named f && keeps_wants (with_fewer job
 
 abbrev pub with_change : ℕ → List Want → Filing → Filing
 with_change job changes f = filing (changed job changes f.request) f.granted
+
+-- whether one of two holds and the other does not
+abbrev pub is_unlike : Bool → Bool → Bool
+is_unlike a b = if a then not b else b
+
+-- whether one of the changes, whatever its key, is shared where the want is not, or the want where it is not
+abbrev pub some_differs : List Want → Want → Bool
+some_differs changes w = list_any (λ c. is_unlike c.shared w.shared) changes
+
+-- whether the changes make a want shared that is exclusive, or exclusive that is shared
+abbrev pub is_altered : List Want → Want → Bool
+is_altered changes w = is_unlike (changed_want changes w).shared w.shared
+
+-- whether a request is the job's and the changes alter one of its wants
+abbrev pub differs : ℕ → List Want → Filing → Bool
+differs job changes f = f.request.job == job && list_any (is_altered changes) f.request.wants.items
 
 -- the call by which all requests leave, or all of an id
 abbrev pub call_of : Option ℕ → LockCall

@@ -1,10 +1,12 @@
-pub mod Signatures
+pub mod Boxes
+pub mod Views
+pub mod Rowing
+pub mod Awaited
 pub mod Filings
 pub mod Renewals
 pub mod Departures
 pub mod Findings
 pub mod Waiters
-pub mod Walks
 pub mod Changing
 pub mod Levels
 pub mod Arrivals

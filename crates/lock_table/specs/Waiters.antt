@@ -1,11 +1,7 @@
--- The jobs that wait, counted by their numbers modulo 32, and the bits of those (this project's profile).
-use Rattle.std.specs.Prelude.{ℕ, ◌%◌, ◌^◌, ◌==◌, Bool, not, ◌&&◌, ◌+◌, if◌then◌else◌, List, [], ◌∷◌}
+-- The jobs that wait, counted by their numbers modulo 32 (this project's profile).
+use Rattle.std.specs.Prelude.{ℕ, ◌%◌, ◌==◌, Bool, not, ◌&&◌, ◌+◌, if◌then◌else◌, List, [], ◌∷◌}
 use Rattle.lock_queue.specs.Jobs.{is_blocking}
 use Rattle.lock_table.specs.Filings.{Filing}
-
--- the bit of a request's job
-abbrev pub job_bit : Filing → ℕ
-job_bit f = 2 ^ (f.request.job % 32)
 
 -- whether its job waits by it
 abbrev pub is_waiting : Filing → Bool

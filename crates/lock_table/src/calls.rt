@@ -10,11 +10,13 @@ ghost use Rattle.lock_queue.specs.Outcomes.{first_refusal};
 ghost use Rattle.lock_queue.specs.Queue.{fits};
 ghost use Rattle.lock_queue.specs.WellFormed.{are_well_formed, names_locks, shares_no_pool, shares_no_pools};
 ghost use Rattle.key_tally.specs.Hashes.{hashes_of};
+ghost use Rattle.lock_table.specs.Boxes.{filings};
 ghost use Rattle.lock_table.specs.Filings.{requests_in, AreRight};
 ghost use Rattle.lock_table.specs.Departures.{call_of, leaving_of};
 
+use crate::awaited::Awaited;
 use crate::changes::{is_some_lost, refusal_of_modify};
-use crate::departures::{Leaving, depart, depart_named, next_losing};
+use crate::departures::{Leaving, depart, depart_named, depart_sole, some_losing};
 use crate::dequeues::refusal_of_dequeue;
 use crate::enqueues::judge_enqueue;
 use crate::renewal::{forget, renew};
@@ -34,19 +36,19 @@ fn arrive(
     are_fitting: bool,
 ) -> LockReply
     requires hashes { hashes.items ≡ hashes_of wants.now.items }
-    requires room { length shelf.old < REQUESTS }
+    requires room { length (filings shelf.old) < REQUESTS }
     requires job { (1 ≤ job) × (job ≤ JOBS) }
     requires some { IsTrue (nat_le 1 (length wants.now.items)) }
     requires unshared { IsTrue (list_all shares_no_pool wants.now.items) }
-    requires passed { first_refusal (enqueue_fault (requests_in shelf.old) job) [] wants.now.items ≡ None }
-    requires right { AreRight [] shelf.old }
-    requires fitting { are_fitting ≡ list_all (fits (requests_in shelf.old)) wants.now.items }
-    ensures requests { requests_in shelf.new ≡
-        (arrival (requests_in shelf.old) job asking.now wants.now).requests }
-    ensures reply { result ≡ (arrival (requests_in shelf.old) job asking.now wants.now).reply }
-    ensures right { AreRight [] shelf.new }
-    ensures few { length (requests_in shelf.old) ≤ REQUESTS → length (requests_in shelf.new) ≤ REQUESTS }
-    ensures well { IsTrue (are_well_formed (requests_in shelf.old)) → IsTrue (are_well_formed (requests_in shelf.new)) }
+    requires passed { first_refusal (enqueue_fault (requests_in (filings shelf.old)) job) [] wants.now.items ≡ None }
+    requires right { AreRight [] (filings shelf.old) }
+    requires fitting { are_fitting ≡ list_all (fits (requests_in (filings shelf.old))) wants.now.items }
+    ensures requests { requests_in (filings shelf.new) ≡
+        (arrival (requests_in (filings shelf.old)) job asking.now wants.now).requests }
+    ensures reply { result ≡ (arrival (requests_in (filings shelf.old)) job asking.now wants.now).reply }
+    ensures right { AreRight [] (filings shelf.new) }
+    ensures few { length (requests_in (filings shelf.old)) ≤ REQUESTS → length (requests_in (filings shelf.new)) ≤ REQUESTS }
+    ensures well { IsTrue (are_well_formed (requests_in (filings shelf.old))) → IsTrue (are_well_formed (requests_in (filings shelf.new))) }
 {
     if are_fitting {
         let told = matches!(asking.kind, EnqueueKind::Interrupt);
@@ -72,13 +74,13 @@ fn enqueue(shelf: &mut Shelf, job: u8, asking: &Asking, wants: &Wants) -> LockRe
     requires job { (1 ≤ job) × (job ≤ JOBS) }
     requires some { IsTrue (nat_le 1 (length wants.now.items)) }
     requires unshared { IsTrue (list_all shares_no_pool wants.now.items) }
-    requires right { AreRight [] shelf.old }
-    ensures requests { requests_in shelf.new ≡
-        (enqueue REQUESTS (requests_in shelf.old) job asking.now wants.now).requests }
-    ensures reply { result ≡ (enqueue REQUESTS (requests_in shelf.old) job asking.now wants.now).reply }
-    ensures right { AreRight [] shelf.new }
-    ensures few { length (requests_in shelf.old) ≤ REQUESTS → length (requests_in shelf.new) ≤ REQUESTS }
-    ensures well { IsTrue (are_well_formed (requests_in shelf.old)) → IsTrue (are_well_formed (requests_in shelf.new)) }
+    requires right { AreRight [] (filings shelf.old) }
+    ensures requests { requests_in (filings shelf.new) ≡
+        (enqueue REQUESTS (requests_in (filings shelf.old)) job asking.now wants.now).requests }
+    ensures reply { result ≡ (enqueue REQUESTS (requests_in (filings shelf.old)) job asking.now wants.now).reply }
+    ensures right { AreRight [] (filings shelf.new) }
+    ensures few { length (requests_in (filings shelf.old)) ≤ REQUESTS → length (requests_in (filings shelf.new)) ≤ REQUESTS }
+    ensures well { IsTrue (are_well_formed (requests_in (filings shelf.old))) → IsTrue (are_well_formed (requests_in (filings shelf.new))) }
 {
     let hashes = hashes_of(wants);
     match judge_enqueue(shelf, job, asking, wants.as_slice(), hashes.as_slice()) {
@@ -90,47 +92,79 @@ fn enqueue(shelf: &mut Shelf, job: u8, asking: &Asking, wants: &Wants) -> LockRe
 /// Makes wants of the job shared or exclusive where they stand, unless a grant would be lost by it.
 #[inline(never)]
 fn modify(shelf: &mut Shelf, job: u8, changes: &Wants, woken: &mut Woken) -> LockReply
-    requires { AreRight [] shelf.old }
-    ensures requests { requests_in shelf.new ≡
-        (outcome_of (requests_in shelf.old) job (Modify changes.now)).requests }
-    ensures reply { result ≡ (outcome_of (requests_in shelf.old) job (Modify changes.now)).reply }
-    ensures right { AreRight [] shelf.new }
-    ensures few { length (requests_in shelf.old) ≤ REQUESTS → length (requests_in shelf.new) ≤ REQUESTS }
-    ensures woken { woken.new.items ≡ woken_by (requests_in shelf.old) job (Modify changes.now) }
+    requires { AreRight [] (filings shelf.old) }
+    ensures requests { requests_in (filings shelf.new) ≡
+        (outcome_of (requests_in (filings shelf.old)) job (Modify changes.now)).requests }
+    ensures reply { result ≡ (outcome_of (requests_in (filings shelf.old)) job (Modify changes.now)).reply }
+    ensures right { AreRight [] (filings shelf.new) }
+    ensures few { length (requests_in (filings shelf.old)) ≤ REQUESTS → length (requests_in (filings shelf.new)) ≤ REQUESTS }
+    ensures woken { woken.new.items ≡ woken_by (requests_in (filings shelf.old)) job (Modify changes.now) }
 {
     forget(woken);
     let wanted = changes.as_slice();
-    if let Some(refusal) = refusal_of_modify(shelf.as_slice(), job, wanted) {
+    let hashed = hashes_of(changes);
+    let hashes = hashed.as_slice();
+    if let Some(refusal) = refusal_of_modify(shelf, job, wanted, hashes) {
         return LockReply::Refused(refusal);
     }
-    if is_some_lost(shelf.as_slice(), job, wanted) {
+    if is_some_lost(shelf, job, wanted, hashes) {
         return LockReply::Refused(Refusal::WouldLose);
     }
-    let awaited = shelf.awaited(wanted);
+    let mut awaited = Awaited::none();
+    shelf.add_awaited(hashes, &mut awaited);
     shelf.change(job, wanted);
-    renew(shelf, awaited, woken);
+    renew(shelf, &awaited, woken);
     LockReply::Done
 }
 
-#[inline(never)]
-fn dequeue_named(shelf: &mut Shelf, job: u8, named: &Wants, woken: &mut Woken) -> LockReply
-    requires right { AreRight [] shelf.old }
-    requires well { IsTrue (are_well_formed (requests_in shelf.old)) }
-    ensures requests { requests_in shelf.new ≡
-        (outcome_of (requests_in shelf.old) job (DequeueNamed named.now)).requests }
-    ensures reply { result ≡ (outcome_of (requests_in shelf.old) job (DequeueNamed named.now)).reply }
-    ensures right { AreRight [] shelf.new }
-    ensures few { length (requests_in shelf.old) ≤ REQUESTS → length (requests_in shelf.new) ≤ REQUESTS }
-    ensures woken { woken.new.items ≡ woken_by (requests_in shelf.old) job (DequeueNamed named.now) }
+/// Takes the named wants out of the job's requests, unless one of the locks is refused.
+fn dequeue_some(shelf: &mut Shelf, job: u8, named: &Wants, woken: &mut Woken) -> LockReply
+    requires right { AreRight [] (filings shelf.old) }
+    requires well { IsTrue (are_well_formed (requests_in (filings shelf.old))) }
+    ensures requests { requests_in (filings shelf.new) ≡
+        (outcome_of (requests_in (filings shelf.old)) job (DequeueNamed named.now)).requests }
+    ensures reply { result ≡ (outcome_of (requests_in (filings shelf.old)) job (DequeueNamed named.now)).reply }
+    ensures right { AreRight [] (filings shelf.new) }
+    ensures few { length (requests_in (filings shelf.old)) ≤ REQUESTS → length (requests_in (filings shelf.new)) ≤ REQUESTS }
+    ensures woken { woken.new.items ≡ woken_by (requests_in (filings shelf.old)) job (DequeueNamed named.now) }
 {
     let locks = named.as_slice();
-    let first = next_losing(shelf.as_slice(), 0, job, locks);
-    if let Some(refusal) = refusal_of_dequeue(shelf.as_slice(), first, job, locks) {
+    let hashes = hashes_of(named);
+    let first = some_losing(shelf, job, locks, hashes.as_slice());
+    if let Some(refusal) = refusal_of_dequeue(
+        shelf,
+        first.is_some(),
+        job,
+        locks,
+        hashes.as_slice(),
+    ) {
         forget(woken);
         return LockReply::Refused(refusal);
     }
-    depart_named(shelf, first, job, named, woken);
+    match first {
+        Some(i) => depart_named(shelf, i, job, locks, hashes.as_slice(), woken),
+        None => forget(woken),
+    }
     LockReply::Done
+}
+
+/// The same, with a short way for a job that has one request of one lock.
+#[inline(never)]
+fn dequeue_named(shelf: &mut Shelf, job: u8, named: &Wants, woken: &mut Woken) -> LockReply
+    requires right { AreRight [] (filings shelf.old) }
+    requires well { IsTrue (are_well_formed (requests_in (filings shelf.old))) }
+    ensures requests { requests_in (filings shelf.new) ≡
+        (outcome_of (requests_in (filings shelf.old)) job (DequeueNamed named.now)).requests }
+    ensures reply { result ≡ (outcome_of (requests_in (filings shelf.old)) job (DequeueNamed named.now)).reply }
+    ensures right { AreRight [] (filings shelf.new) }
+    ensures few { length (requests_in (filings shelf.old)) ≤ REQUESTS → length (requests_in (filings shelf.new)) ≤ REQUESTS }
+    ensures woken { woken.new.items ≡ woken_by (requests_in (filings shelf.old)) job (DequeueNamed named.now) }
+{
+    if depart_sole(shelf, job, named.as_slice(), woken) {
+        LockReply::Done
+    } else {
+        dequeue_some(shelf, job, named, woken)
+    }
 }
 
 fn leaving_of(id: Option<RequestId>) -> Leaving
@@ -144,13 +178,13 @@ fn leaving_of(id: Option<RequestId>) -> Leaving
 
 /// Takes out all requests of a job, or all of an id, where there are any.
 fn dequeue(shelf: &mut Shelf, job: u8, id: Option<RequestId>, woken: &mut Woken) -> LockReply
-    requires { AreRight [] shelf.old }
-    ensures requests { requests_in shelf.new ≡
-        (outcome_of (requests_in shelf.old) job (call_of id)).requests }
-    ensures reply { result ≡ (outcome_of (requests_in shelf.old) job (call_of id)).reply }
-    ensures right { AreRight [] shelf.new }
-    ensures few { length (requests_in shelf.old) ≤ REQUESTS → length (requests_in shelf.new) ≤ REQUESTS }
-    ensures woken { woken.new.items ≡ woken_by (requests_in shelf.old) job (call_of id) }
+    requires { AreRight [] (filings shelf.old) }
+    ensures requests { requests_in (filings shelf.new) ≡
+        (outcome_of (requests_in (filings shelf.old)) job (call_of id)).requests }
+    ensures reply { result ≡ (outcome_of (requests_in (filings shelf.old)) job (call_of id)).reply }
+    ensures right { AreRight [] (filings shelf.new) }
+    ensures few { length (requests_in (filings shelf.old)) ≤ REQUESTS → length (requests_in (filings shelf.new)) ≤ REQUESTS }
+    ensures woken { woken.new.items ≡ woken_by (requests_in (filings shelf.old)) job (call_of id) }
 {
     let leaving = leaving_of(id);
     if depart(shelf, job, &leaving, woken) {
@@ -165,15 +199,15 @@ pub fn make_call(shelf: &mut Shelf, job: u8, call: &LockCall, woken: &mut Woken)
     requires job { (1 ≤ job) × (job ≤ JOBS) }
     requires named { IsTrue (names_locks call.now) }
     requires unshared { IsTrue (shares_no_pools call.now) }
-    requires right { AreRight [] shelf.old }
-    requires well { IsTrue (are_well_formed (requests_in shelf.old)) }
-    ensures requests { requests_in shelf.new ≡
-        (outcome_of (requests_in shelf.old) job call.now).requests }
-    ensures reply { result ≡ (outcome_of (requests_in shelf.old) job call.now).reply }
-    ensures right { AreRight [] shelf.new }
-    ensures woken { woken.new.items ≡ woken_by (requests_in shelf.old) job call.now }
-    ensures few { length (requests_in shelf.old) ≤ REQUESTS → length (requests_in shelf.new) ≤ REQUESTS }
-    ensures well { IsTrue (are_well_formed (requests_in shelf.old)) → IsTrue (are_well_formed (requests_in shelf.new)) }
+    requires right { AreRight [] (filings shelf.old) }
+    requires well { IsTrue (are_well_formed (requests_in (filings shelf.old))) }
+    ensures requests { requests_in (filings shelf.new) ≡
+        (outcome_of (requests_in (filings shelf.old)) job call.now).requests }
+    ensures reply { result ≡ (outcome_of (requests_in (filings shelf.old)) job call.now).reply }
+    ensures right { AreRight [] (filings shelf.new) }
+    ensures woken { woken.new.items ≡ woken_by (requests_in (filings shelf.old)) job call.now }
+    ensures few { length (requests_in (filings shelf.old)) ≤ REQUESTS → length (requests_in (filings shelf.new)) ≤ REQUESTS }
+    ensures well { IsTrue (are_well_formed (requests_in (filings shelf.old))) → IsTrue (are_well_formed (requests_in (filings shelf.new))) }
 {
     match call {
         LockCall::Enqueue { asking, wants } => {

@@ -1,18 +1,21 @@
 //! Wants that are made shared or exclusive.
 ghost use Rattle.std.specs.Prelude.{◌≡◌, ◌==◌, ◌&&◌, [], filter, if◌then◌else◌, not};
 ghost use Rattle.std.specs.List.{list_any};
+ghost use Rattle.key_tally.specs.Hashes.{hash_of, hashes_of};
 ghost use Rattle.lock_queue.specs.Changes.{modify_fault};
 ghost use Rattle.lock_queue.specs.Keys.{same_key};
 ghost use Rattle.lock_queue.specs.Outcomes.{first_refusal};
 ghost use Rattle.lock_queue.specs.Queue.{is_pooled, wants_at, requests_of};
+ghost use Rattle.lock_table.specs.Boxes.{filings};
 ghost use Rattle.lock_table.specs.Changing.{fits_held, held_with, held_unless_lost, as_changed_at, costs_grant};
 ghost use Rattle.lock_table.specs.Filings.{requests_in};
+ghost use Rattle.lock_table.specs.Views.{seen};
 
 use crate::filed::Filed;
-use crate::fits::job_has_key;
-use crate::signature::bits_of;
-use crate::walks::{from_met, next_met};
-use lock_queue::steps::{is_pooled, is_pooled_in, names_key};
+use crate::fits::{is_key_among, job_has_key};
+use crate::shelf::Shelf;
+use crate::view::View;
+use lock_queue::steps::{is_pooled, is_pooled_in};
 use lock_queue::{Key, Refusal, Want};
 
 /// Whether a request is the job's and has a want of the key that is of a pool.
@@ -23,42 +26,68 @@ fn has_own_pooled(f: &Filed, job: u8, key: &Key) -> bool
     f.job() == job && is_pooled_in(f.wants(), key)
 }
 
-/// Whether a want of the job of this key is of a pool.
-fn has_pooled(filed: &[Filed], job: u8, key: &Key) -> bool
+/// Whether a want of the job of this key is of a pool, among these requests.
+fn has_pooled_in(queue: View<'_>, job: u8, key: &Key) -> bool
     ensures { result ≡
-        list_any is_pooled (wants_at (requests_of (requests_in filed.now) job) key.now) }
+        list_any is_pooled (wants_at (requests_of (requests_in (seen queue.entry)) job) key.now) }
 {
-    let bits = bits_of(key);
-    let mut rest = from_met(filed, bits);
-    while let [f, ..] = rest {
+    let mut rest = queue;
+    while let Some((f, later)) = rest.split_first() {
         if has_own_pooled(f, job, key) {
             return true;
         }
-        rest = next_met(rest, bits);
+        rest = later;
     }
     false
 }
 
-fn fault_of(filed: &[Filed], job: u8, earlier: &[Want], c: &Want) -> Option<Refusal>
-    ensures { result ≡ modify_fault (requests_in filed.now) job earlier.now c.now }
+/// The same of all requests: those that may want a key of its hash are walked over.
+fn has_pooled(shelf: &Shelf, job: u8, key: &Key, hash: u16) -> bool
+    requires { hash ≡ hash_of key.now }
+    ensures { result ≡
+        list_any is_pooled (wants_at (requests_of (requests_in (filings shelf.now)) job) key.now) }
 {
-    if names_key(earlier, &c.key) {
+    has_pooled_in(shelf.queue(hash), job, key)
+}
+
+/// Why a change, whose key has this hash, is not made behind the call's changes before it, whatever would
+/// become of the grants. The hashes are those of their keys.
+fn fault_of(
+    shelf: &Shelf,
+    job: u8,
+    earlier: &[Want],
+    hashes: &[u16],
+    c: &Want,
+    hash: u16,
+) -> Option<Refusal>
+    requires hashes { hashes.now ≡ hashes_of earlier.now }
+    requires hash { hash ≡ hash_of c.now.key }
+    ensures { result ≡ modify_fault (requests_in (filings shelf.now)) job earlier.now c.now }
+{
+    if is_key_among(earlier, hashes, &c.key, hash) {
         Some(Refusal::NamedAlready)
-    } else if !job_has_key(filed, job, &c.key) {
+    } else if !job_has_key(shelf, job, &c.key, hash) {
         Some(Refusal::NotPresent)
-    } else if c.shared && has_pooled(filed, job, &c.key) {
+    } else if c.shared && has_pooled(shelf, job, &c.key, hash) {
         Some(Refusal::BadPool)
     } else {
         None
     }
 }
 
-/// Why wants are not changed, lock by lock, whatever would become of the grants.
-pub fn refusal_of_modify(filed: &[Filed], job: u8, changes: &[Want]) -> Option<Refusal>
-    ensures { result ≡ first_refusal (modify_fault (requests_in filed.now) job) [] changes.now }
+/// Why wants are not changed, lock by lock, whatever would become of the grants. The hashes are those of
+/// the changes' keys.
+pub fn refusal_of_modify(
+    shelf: &Shelf,
+    job: u8,
+    changes: &[Want],
+    hashes: &[u16],
+) -> Option<Refusal>
+    requires { hashes.now ≡ hashes_of changes.now }
+    ensures { result ≡ first_refusal (modify_fault (requests_in (filings shelf.now)) job) [] changes.now }
 {
     for (i, c) in changes.iter().enumerate() {
-        let fault = fault_of(filed, job, &changes[..i], c);
+        let fault = fault_of(shelf, job, &changes[..i], &hashes[..i], c, hashes[i]);
         if fault.is_some() {
             return fault;
         }
@@ -136,25 +165,38 @@ fn held_unless_lost(hold: Hold, granted: bool, wants: &[Want], mine: bool, c: &W
 }
 
 /// Whether a change of the job's wants of one key costs a grant, whosever it is.
-fn does_cost_grant(filed: &[Filed], job: u8, c: &Want) -> bool
-    ensures { result ≡ costs_grant job filed.now c.now }
+fn does_cost_grant(queue: View<'_>, job: u8, c: &Want) -> bool
+    ensures { result ≡ costs_grant job (seen queue.entry) c.now }
 {
-    let bits = bits_of(&c.key);
     let mut hold = Hold::Free;
-    let mut rest = from_met(filed, bits);
-    while let [f, ..] = rest {
+    let mut rest = queue;
+    while let Some((f, later)) = rest.split_first() {
         match held_unless_lost(hold, f.is_granted(), f.wants(), f.job() == job, c) {
             Some(held) => hold = held,
             None => return true,
         }
-        rest = next_met(rest, bits);
+        rest = later;
     }
     false
 }
 
-/// Whether one of the changes costs a grant. Nothing is changed for it.
-pub fn is_some_lost(filed: &[Filed], job: u8, changes: &[Want]) -> bool
-    ensures { result ≡ list_any (costs_grant job filed.now) changes.now }
+/// The same, where the requests that may want the key, which has this hash, are those of its queue.
+fn costs_grant_at(shelf: &Shelf, job: u8, c: &Want, hash: u16) -> bool
+    requires { hash ≡ hash_of c.now.key }
+    ensures { result ≡ costs_grant job (filings shelf.now) c.now }
 {
-    changes.iter().any(|c| does_cost_grant(filed, job, c))
+    does_cost_grant(shelf.queue(hash), job, c)
+}
+
+/// Whether one of the changes, whose keys have these hashes, costs a grant. Nothing is changed for it.
+pub fn is_some_lost(shelf: &Shelf, job: u8, changes: &[Want], hashes: &[u16]) -> bool
+    requires { hashes.now ≡ hashes_of changes.now }
+    ensures { result ≡ list_any (costs_grant job (filings shelf.now)) changes.now }
+{
+    for (i, c) in changes.iter().enumerate() {
+        if costs_grant_at(shelf, job, c, hashes[i]) {
+            return true;
+        }
+    }
+    false
 }

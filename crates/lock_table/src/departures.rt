@@ -1,24 +1,27 @@
 //! Requests that leave, or lose wants.
-ghost use Rattle.std.specs.Prelude.{◌≡◌, ◌≤◌, ◌<◌, ◌+◌, if◌then◌else◌, [], ◌∷◌, ◌++◌, map, filter, length, get_or, take, drop, true, false, IsTrue};
+ghost use Rattle.std.specs.Prelude.{◌≡◌, ◌≤◌, ◌<◌, ◌+◌, if◌then◌else◌, [], ◌∷◌, ◌++◌, ℕ, map, filter, length, get_or, take, drop, remove, true, false, IfSome, IsTrue, MatchOption};
 ghost use Rattle.std.specs.List.{list_any, list_all};
 ghost use Rattle.word36.specs.declared.sizes.TheConstants.{REQUESTS};
 ghost use Rattle.key_tally.specs.Hashes.{hashes_of};
+ghost use Rattle.lock_queue.specs.declared.key.Key.{Key};
 ghost use Rattle.lock_queue.specs.Queue.{names};
 ghost use Rattle.lock_queue.specs.WellFormed.{are_well_formed};
+ghost use Rattle.lock_table.specs.Boxes.{filings};
 ghost use Rattle.lock_table.specs.Departures.{leaves, stays, Covers, CoversAll, loses, fewer, with_fewer, keeps_wants, waits_with_fewer};
 ghost use Rattle.lock_table.specs.Filings.{Filing, requests_in, AreRight};
 ghost use Rattle.lock_table.specs.Renewals.{raised, AreOutdated};
-ghost use Rattle.lock_table.specs.Signatures.{no_bits, signature_of};
 ghost use Rattle.lock_table.specs.Tallies.{has_of_hash};
-ghost use Rattle.lock_table.specs.Walks.{from_where};
+ghost use Rattle.slot_rows.specs.Rows.{is_among};
+ghost use Rattle.lock_table.specs.Awaited.{Keeps, has};
+ghost use Rattle.lock_table.specs.Views.{Tells, is_own};
 
+use crate::awaited::Awaited;
 use crate::filed::Filed;
+use crate::fits::is_key_among;
 use crate::renewal::renew;
 use crate::shelf::Shelf;
-use crate::signature::Signature;
-use crate::walks::from_own;
+use crate::view::View;
 use key_tally::hashes_of;
-use lock_queue::steps::names_key;
 use lock_queue::{EnqueueKind, RequestId, Want, Wants, Woken};
 
 /// Which requests of a job leave.
@@ -51,143 +54,149 @@ fn does_leave(f: &Filed, job: u8, leaving: &Leaving) -> bool
     f.job() == job && is_chosen(f, leaving)
 }
 
-/// The requests from the first on that leaves.
-fn from_leaving<'a>(filed: &'a [Filed], job: u8, leaving: &Leaving) -> &'a [Filed]
-    ensures value { result.now ≡ from_where (leaves job leaving.now) filed.now }
-    ensures shorter { length result.now ≤ length filed.now }
+/// The place of a request that leaves, if there is one: those that may be the job's are looked at.
+fn some_leaving(shelf: &Shelf, job: u8, leaving: &Leaving) -> Option<usize>
+    ensures value { MatchOption result (list_any (leaves job leaving.now) (filings shelf.now) ≡ false)
+        (λ i. (d : Filing) → leaves job leaving.now (get_or (filings shelf.now) i d) ≡ true) }
+    ensures there { IfSome result (λ i. i < length (filings shelf.now)) }
 {
-    let mut rest = from_own(filed, job);
-    while let [f, later @ ..] = rest {
-        if does_leave(f, job, leaving) {
-            break;
+    let own = shelf.own(job);
+    for slot in own.slots {
+        if does_leave(own.at(*slot), job, leaving) {
+            return Some(shelf.place_of(*slot));
         }
-        rest = from_own(later, job);
     }
-    rest
+    None
 }
 
-/// The place of the first request from a place on that leaves, or the number of requests where there is
-/// none.
-fn next_leaving(filed: &[Filed], from: usize, job: u8, leaving: &Leaving) -> usize
-    requires { from ≤ length filed.now }
-    ensures behind { from ≤ result }
-    ensures there { result ≤ length filed.now }
-    ensures value { drop result filed.now ≡ from_where (leaves job leaving.now) (drop from filed.now) }
+/// Takes out the requests that leave, and answers the hashes of those of their keys that are awaited.
+fn remove_leaving(shelf: &mut Shelf, job: u8, leaving: &Leaving, awaited: &mut Awaited)
+    ensures value { filings shelf.new ≡ filter (stays job leaving.now) (filings shelf.old) }
+    ensures covers { Covers awaited.new (leaves job leaving.now) (filings shelf.old) (filter (stays job leaving.now) (filings shelf.old)) }
 {
-    filed.len() - from_leaving(&filed[from..], job, leaving).len()
-}
-
-/// Takes out the requests that leave, and answers the groups and classes of those of their keys that are
-/// awaited.
-fn remove_leaving(shelf: &mut Shelf, job: u8, leaving: &Leaving) -> Signature
-    ensures value { shelf.new ≡ filter (stays job leaving.now) shelf.old }
-    ensures bits { Covers result (leaves job leaving.now) shelf.old (filter (stays job leaving.now) shelf.old) }
-{
-    let mut bits = Signature::none();
-    let mut i = next_leaving(shelf.as_slice(), 0, job, leaving);
-    while i < shelf.as_slice().len() {
-        bits = bits.joined(shelf.remove(i));
-        i = next_leaving(shelf.as_slice(), i, job, leaving);
+    while let Some(i) = some_leaving(shelf, job, leaving) {
+        shelf.remove(i, awaited);
     }
-    bits
 }
 
 /// Takes out the requests that leave, and fills in the grants that this makes; answers whether there
 /// are any.
 pub fn depart(shelf: &mut Shelf, job: u8, leaving: &Leaving, woken: &mut Woken) -> bool
-    requires { AreRight [] shelf.old }
-    ensures found { result ≡ list_any (leaves job leaving.now) shelf.old }
-    ensures requests { requests_in shelf.new ≡ requests_in (filter (stays job leaving.now) shelf.old) }
-    ensures right { AreRight [] shelf.new }
-    ensures few { length (requests_in shelf.new) ≤ REQUESTS }
-    ensures woken { woken.new.items ≡ raised [] (filter (stays job leaving.now) shelf.old) }
+    requires { AreRight [] (filings shelf.old) }
+    ensures found { result ≡ list_any (leaves job leaving.now) (filings shelf.old) }
+    ensures requests { requests_in (filings shelf.new) ≡ requests_in (filter (stays job leaving.now) (filings shelf.old)) }
+    ensures right { AreRight [] (filings shelf.new) }
+    ensures few { length (requests_in (filings shelf.new)) ≤ REQUESTS }
+    ensures woken { woken.new.items ≡ raised [] (filter (stays job leaving.now) (filings shelf.old)) }
 {
-    let count = shelf.as_slice().len();
-    let bits = remove_leaving(shelf, job, leaving);
-    let are_some_gone = shelf.as_slice().len() != count;
-    renew(shelf, bits, woken);
+    let count = shelf.len();
+    let mut awaited = Awaited::none();
+    remove_leaving(shelf, job, leaving, &mut awaited);
+    let are_some_gone = shelf.len() != count;
+    renew(shelf, &awaited, woken);
     are_some_gone
 }
 
-fn is_some_named(wants: &[Want], named: &[Want]) -> bool
+/// Whether one of these wants is of a named key. The first hashes are those of the wants' keys, the others
+/// those of the named ones; keys are compared only where their hashes meet.
+fn is_some_named(wants: &[Want], own: &[u16], named: &[Want], hashes: &[u16]) -> bool
+    requires own { own.now ≡ hashes_of wants.now }
+    requires hashes { hashes.now ≡ hashes_of named.now }
     ensures { result ≡ list_any (λ w. names named.now w.key) wants.now }
 {
-    wants.iter().any(|w| names_key(named, &w.key))
+    for (i, w) in wants.iter().enumerate() {
+        if is_key_among(named, hashes, &w.key, own[i]) {
+            return true;
+        }
+    }
+    false
 }
 
-/// Whether a request of the job has a want of a named key.
-fn does_lose(f: &Filed, job: u8, named: &[Want]) -> bool
+/// Whether a request of the job has a want of a named key. The hashes are those of the named keys.
+#[inline(always)]
+fn does_lose(f: &Filed, job: u8, named: &[Want], hashes: &[u16]) -> bool
+    requires hashes { hashes.now ≡ hashes_of named.now }
     ensures { result ≡ loses job named.now f.now }
 {
-    f.job() == job && is_some_named(f.wants(), named)
+    f.job() == job && is_some_named(f.wants(), f.hashes(), named, hashes)
 }
 
-/// Whether all these wants are of named keys.
-fn are_all_named(wants: &[Want], named: &[Want]) -> bool
+/// Whether all these wants are of named keys. The first hashes are those of the wants' keys, the others
+/// those of the named ones.
+fn are_all_named(wants: &[Want], own: &[u16], named: &[Want], hashes: &[u16]) -> bool
+    requires own { own.now ≡ hashes_of wants.now }
+    requires hashes { hashes.now ≡ hashes_of named.now }
     ensures { result ≡ list_all (λ w. names named.now w.key) wants.now }
 {
-    wants.iter().all(|w| names_key(named, &w.key))
-}
-
-/// The requests from the first on of the job that has a want of a named key.
-fn from_losing<'a>(filed: &'a [Filed], job: u8, named: &[Want]) -> &'a [Filed]
-    ensures value { result.now ≡ from_where (loses job named.now) filed.now }
-    ensures shorter { length result.now ≤ length filed.now }
-{
-    let mut rest = from_own(filed, job);
-    while let [f, later @ ..] = rest {
-        if does_lose(f, job, named) {
-            break;
+    for (i, w) in wants.iter().enumerate() {
+        if !is_key_among(named, hashes, &w.key, own[i]) {
+            return false;
         }
-        rest = from_own(later, job);
     }
-    rest
+    true
 }
 
-/// The place of the first request of the job from a place on that has a want of a named key, or the number
-/// of requests where there is none.
-pub fn next_losing(filed: &[Filed], from: usize, job: u8, named: &[Want]) -> usize
-    requires { from ≤ length filed.now }
-    ensures behind { from ≤ result }
-    ensures there { result ≤ length filed.now }
-    ensures value { drop result filed.now ≡ from_where (loses job named.now) (drop from filed.now) }
+/// Whether all wants of a request are of named keys, at least one of which is. The hashes are those of the
+/// named keys.
+fn does_lose_all(f: &Filed, named: &[Want], hashes: &[u16]) -> bool
+    requires some { list_any (λ w. names named.now w.key) f.now.request.wants.items ≡ true }
+    requires hashes { hashes.now ≡ hashes_of named.now }
+    ensures { result ≡ list_all (λ w. names named.now w.key) f.now.request.wants.items }
 {
-    filed.len() - from_losing(&filed[from..], job, named).len()
+    let wants = f.wants();
+    wants.len() == 1 || are_all_named(wants, f.hashes(), named, hashes)
 }
 
-/// The groups and classes of a request's keys, where it is not granted.
-fn bits_if_waiting(f: &Filed) -> Signature
-    ensures { result ≡ (if f.now.granted then no_bits else signature_of f.now.request.wants.items) }
+/// The place of a request of the job that has a want of a named key, if there is one, among requests where
+/// all such are. The hashes are those of the named keys.
+fn some_losing_in(
+    shelf: &Shelf,
+    among: View<'_>,
+    job: u8,
+    named: &[Want],
+    hashes: &[u16],
+) -> Option<usize>
+    requires tells { Tells (loses job named.now) among shelf.now }
+    requires hashes { hashes.now ≡ hashes_of named.now }
+    ensures value { MatchOption result (list_any (loses job named.now) (filings shelf.now) ≡ false)
+        (λ i. (d : Filing) → loses job named.now (get_or (filings shelf.now) i d) ≡ true) }
+    ensures there { IfSome result (λ i. i < length (filings shelf.now)) }
 {
-    if f.is_granted() {
-        Signature::none()
-    } else {
-        f.signature()
+    for slot in among.slots {
+        if does_lose(among.at(*slot), job, named, hashes) {
+            return Some(shelf.place_of(*slot));
+        }
+    }
+    None
+}
+
+/// The same of all requests: those that may want the key are looked at where one key is named, and else
+/// those that may be the job's. The hashes are those of the named keys.
+pub fn some_losing(shelf: &Shelf, job: u8, named: &[Want], hashes: &[u16]) -> Option<usize>
+    requires hashes { hashes.now ≡ hashes_of named.now }
+    ensures value { MatchOption result (list_any (loses job named.now) (filings shelf.now) ≡ false)
+        (λ i. (d : Filing) → loses job named.now (get_or (filings shelf.now) i d) ≡ true) }
+    ensures there { IfSome result (λ i. i < length (filings shelf.now)) }
+{
+    match hashes {
+        [hash] => some_losing_in(shelf, shelf.queue(*hash), job, named, hashes),
+        _ => some_losing_in(shelf, shelf.own(job), job, named, hashes),
     }
 }
 
-/// Takes the named wants out of the request at a place, and the request where none is left; answers the
-/// groups of its keys, where it keeps wants and is not granted.
-fn give_up_at(shelf: &mut Shelf, i: usize, job: u8, named: &[Want]) -> Signature
-    requires there { i < length shelf.old }
-    requires loses { (d : Filing) → loses job named.now (get_or shelf.old i d) ≡ true }
-    ensures value { (d : Filing) → shelf.new ≡
-        take i shelf.old ++ filter keeps_wants (fewer named.now (get_or shelf.old i d) ∷ []) ++ drop (i + 1) shelf.old }
-    ensures bits { (d : Filing) → CoversAll result (waits_with_fewer job named.now) (get_or shelf.old i d ∷ []) }
+/// Takes in all of some hashes.
+fn add_all(hashes: &[u16], awaited: &mut Awaited)
+    ensures added { (hash : ℕ) → is_among hash hashes.now ≡ true → has awaited.new hash ≡ true }
+    ensures keeps { Keeps awaited.old awaited.new }
 {
-    let f = &shelf.as_slice()[i];
-    if are_all_named(f.wants(), named) {
-        let _ = shelf.remove(i);
-        return Signature::none();
+    for hash in hashes {
+        awaited.add(*hash);
     }
-    let bits = bits_if_waiting(f);
-    shelf.remove_keys_at(i, named);
-    bits
 }
 
 /// Whether the job has no want of these hashes for certain.
 fn lacks_all(shelf: &Shelf, job: u8, hashes: &[u16]) -> bool
-    ensures { IsTrue result → list_any (λ h. has_of_hash job h shelf.now) hashes.now ≡ false }
+    ensures { IsTrue result → list_any (λ h. has_of_hash job h (filings shelf.now)) hashes.now ≡ false }
 {
     for hash in hashes {
         if !shelf.lacks_of(job, *hash) {
@@ -197,109 +206,126 @@ fn lacks_all(shelf: &Shelf, job: u8, hashes: &[u16]) -> bool
     true
 }
 
-/// Takes the named wants, whose keys have these hashes, out of the job's requests, from the first on that
-/// has one, and the requests that are left without wants; answers the groups of those that keep wants
-/// and are not granted, and so may be granted now.
-fn give_up(shelf: &mut Shelf, first: usize, job: u8, named: &[Want], hashes: &[u16]) -> Signature
-    requires place { first ≤ length shelf.old }
-    requires first { drop first shelf.old ≡ from_where (loses job named.now) shelf.old }
-    requires kept { IsTrue (list_all keeps_wants shelf.old) }
+/// Takes the named wants out of the request at a place, and the request where none is left. Takes in the
+/// hashes of its keys, where it keeps wants and is not granted; those of the named ones, which are given,
+/// were taken in before.
+fn give_up_at(
+    shelf: &mut Shelf,
+    i: usize,
+    job: u8,
+    named: &[Want],
+    hashes: &[u16],
+    awaited: &mut Awaited,
+)
     requires hashes { hashes.now ≡ hashes_of named.now }
-    ensures value { shelf.new ≡ filter keeps_wants (map (with_fewer job named.now) shelf.old) }
-    ensures bits { CoversAll result (waits_with_fewer job named.now) shelf.old }
+    requires there { i < length (filings shelf.old) }
+    requires loses { (d : Filing) → loses job named.now (get_or (filings shelf.old) i d) ≡ true }
+    ensures value { (d : Filing) → filings shelf.new ≡
+        take i (filings shelf.old) ++ filter keeps_wants (fewer named.now (get_or (filings shelf.old) i d) ∷ []) ++ drop (i + 1) (filings shelf.old) }
+    ensures covers { (d : Filing) → CoversAll awaited.new (waits_with_fewer job named.now) (get_or (filings shelf.old) i d ∷ []) }
+    ensures keeps { Keeps awaited.old awaited.new }
 {
-    let mut bits = Signature::none();
-    let mut i = first;
-    while i < shelf.as_slice().len() {
-        bits = bits.joined(give_up_at(shelf, i, job, named));
-        if lacks_all(shelf, job, hashes) {
-            return bits;
-        }
-        i = next_losing(shelf.as_slice(), i, job, named);
+    let f = shelf.filed(i);
+    if does_lose_all(f, named, hashes) {
+        shelf.remove(i, awaited);
+        return;
     }
-    bits
-}
-
-/// Takes the named wants out of one request after the other, and answers the groups and classes of the
-/// requests that may be granted then: of those that wait for one of the keys, and of those that lost
-/// wants.
-fn give_up_each(shelf: &mut Shelf, first: usize, job: u8, named: &Wants) -> Signature
-    requires place { first ≤ length shelf.old }
-    requires first { drop first shelf.old ≡ from_where (loses job named.now.items) shelf.old }
-    requires kept { IsTrue (list_all keeps_wants shelf.old) }
-    requires right { AreRight [] shelf.old }
-    ensures value { shelf.new ≡ filter keeps_wants (map (with_fewer job named.now.items) shelf.old) }
-    ensures bits { AreOutdated result [] shelf.new }
-{
-    let hashes = hashes_of(named);
-    let awaited = shelf.awaited_at(hashes.as_slice());
-    awaited.joined(give_up(shelf, first, job, named.as_slice(), hashes.as_slice()))
-}
-
-/// Whether one lock is named, and the request at a place has one want.
-fn is_sole(filed: &[Filed], place: usize, named: &[Want]) -> bool
-    ensures named { IsTrue result → length named.now ≡ 1 }
-    ensures there { IsTrue result → place < length filed.now }
-    ensures wants { IsTrue result → (d : Filing) → length (get_or filed.now place d).request.wants.items ≡ 1 }
-{
-    named.len() == 1 && place < filed.len() && filed[place].wants().len() == 1
-}
-
-/// Does as `give_up_each` where one lock is named, and the first request that has it, at this place, wants
-/// no other. That request is taken out; mostly the job has no other want of its hash, so no other
-/// request is looked at.
-fn give_up_sole(shelf: &mut Shelf, place: usize, job: u8, named: &Wants) -> Signature
-    requires there { place < length shelf.old }
-    requires first { drop place shelf.old ≡ from_where (loses job named.now.items) shelf.old }
-    requires kept { IsTrue (list_all keeps_wants shelf.old) }
-    requires named { length named.now.items ≡ 1 }
-    requires wants { (d : Filing) → length (get_or shelf.old place d).request.wants.items ≡ 1 }
-    requires right { AreRight [] shelf.old }
-    ensures value { shelf.new ≡ filter keeps_wants (map (with_fewer job named.now.items) shelf.old) }
-    ensures bits { AreOutdated result [] shelf.new }
-{
-    let hash = shelf.as_slice()[place].hashes()[0];
-    let awaited = shelf.remove(place);
-    if shelf.lacks_of(job, hash) {
-        return awaited;
+    if !f.is_granted() {
+        add_all(f.hashes(), awaited);
     }
-    let locks = named.as_slice();
-    let next = next_losing(shelf.as_slice(), place, job, locks);
-    awaited.joined(give_up(shelf, next, job, locks, &[hash]))
+    shelf.remove_keys_at(i, named);
 }
 
-/// Takes the named wants out, in whichever of the two ways serves, and answers the groups and classes of
-/// the requests that may be granted then.
-fn give_up_named(shelf: &mut Shelf, first: usize, job: u8, named: &Wants) -> Signature
-    requires place { first ≤ length shelf.old }
-    requires first { drop first shelf.old ≡ from_where (loses job named.now.items) shelf.old }
-    requires right { AreRight [] shelf.old }
-    requires well { IsTrue (are_well_formed (requests_in shelf.old)) }
-    ensures value { shelf.new ≡ filter keeps_wants (map (with_fewer job named.now.items) shelf.old) }
-    ensures bits { AreOutdated result [] shelf.new }
+/// Whether a request is the job's, and its one want of the one named key.
+fn is_sole(f: &Filed, job: u8, named: &[Want]) -> bool
+    ensures one { IsTrue result → length named.now ≡ 1 }
+    ensures loses { IsTrue result → loses job named.now f.now ≡ true }
+    ensures all { IsTrue result → list_all (λ w. names named.now w.key) f.now.request.wants.items ≡ true }
+    ensures names { IsTrue result → (key : Key) → names named.now key ≡ true → names f.now.request.wants.items key ≡ true }
 {
-    if is_sole(shelf.as_slice(), first, named.as_slice()) {
-        give_up_sole(shelf, first, job, named)
-    } else {
-        give_up_each(shelf, first, job, named)
+    if named.len() != 1 {
+        return false;
+    }
+    if f.wants().len() != 1 {
+        return false;
+    }
+    f.job() == job && named[0].key.is_same(&f.wants()[0].key)
+}
+
+/// The place of the request of a job that is seen to have no other, where its one want is of the one
+/// named key.
+fn sole_losing(shelf: &Shelf, job: u8, named: &[Want]) -> Option<usize>
+    ensures one { IfSome result (λ i. length named.now ≡ 1) }
+    ensures there { IfSome result (λ i. i < length (filings shelf.now)) }
+    ensures loses { IfSome result (λ i. (d : Filing) → loses job named.now (get_or (filings shelf.now) i d) ≡ true) }
+    ensures all { IfSome result (λ i. (d : Filing) → list_all (λ w. names named.now w.key) (get_or (filings shelf.now) i d).request.wants.items ≡ true) }
+    ensures names { IfSome result (λ i. (d : Filing) (key : Key) → names named.now key ≡ true
+        → names (get_or (filings shelf.now) i d).request.wants.items key ≡ true) }
+    ensures alone { IfSome result (λ i. list_any (is_own job) (remove (filings shelf.now) i) ≡ false) }
+{
+    let own = shelf.own(job);
+    match own.slots {
+        [slot] if is_sole(own.at(*slot), job, named) => Some(shelf.place_of(*slot)),
+        _ => None,
     }
 }
 
-/// Takes the named wants out of the job's requests, from the first on that has one, and the requests that
-/// are left without wants, and fills in the grants that this makes: of requests that wait for one of these
-/// keys, and of those that lost wants.
-pub fn depart_named(shelf: &mut Shelf, first: usize, job: u8, named: &Wants, woken: &mut Woken)
-    requires place { first ≤ length shelf.old }
-    requires first { drop first shelf.old ≡ from_where (loses job named.now.items) shelf.old }
-    requires right { AreRight [] shelf.old }
-    requires well { IsTrue (are_well_formed (requests_in shelf.old)) }
-    ensures requests { requests_in shelf.new ≡
-        requests_in (filter keeps_wants (map (with_fewer job named.now.items) shelf.old)) }
-    ensures right { AreRight [] shelf.new }
-    ensures few { length (requests_in shelf.new) ≤ REQUESTS }
+/// Takes out the request of a job that is seen to have no other, where its one want is of the one named
+/// key, and fills in the grants that this makes. Answers whether it is so; else nothing is done.
+pub fn depart_sole(shelf: &mut Shelf, job: u8, named: &[Want], woken: &mut Woken) -> bool
+    requires right { AreRight [] (filings shelf.old) }
+    requires well { IsTrue (are_well_formed (requests_in (filings shelf.old))) }
+    ensures one { IsTrue result → length named.now ≡ 1 }
+    ensures loses { IsTrue result → list_any (loses job named.now) (filings shelf.old) ≡ true }
+    ensures requests { IsTrue result → requests_in (filings shelf.new) ≡
+        requests_in (filter keeps_wants (map (with_fewer job named.now) (filings shelf.old))) }
+    ensures right { IsTrue result → AreRight [] (filings shelf.new) }
+    ensures few { IsTrue result → length (requests_in (filings shelf.new)) ≤ REQUESTS }
+    ensures woken { IsTrue result → woken.new.items ≡
+        raised [] (filter keeps_wants (map (with_fewer job named.now) (filings shelf.old))) }
+    ensures otherwise { result ≡ false → shelf.new ≡ shelf.old }
+{
+    let Some(i) = sole_losing(shelf, job, named) else {
+        return false;
+    };
+    let mut awaited = Awaited::none();
+    shelf.remove(i, &mut awaited);
+    renew(shelf, &awaited, woken);
+    true
+}
+
+/// Takes the named wants out of the job's requests, of which one at this place has some, and the requests
+/// that are left without wants, and fills in the grants that this makes.
+pub fn depart_named(
+    shelf: &mut Shelf,
+    first: usize,
+    job: u8,
+    named: &[Want],
+    hashes: &[u16],
+    woken: &mut Woken,
+)
+    requires hashes { hashes.now ≡ hashes_of named.now }
+    requires there { first < length (filings shelf.old) }
+    requires loses { (d : Filing) → loses job named.now (get_or (filings shelf.old) first d) ≡ true }
+    requires right { AreRight [] (filings shelf.old) }
+    requires well { IsTrue (are_well_formed (requests_in (filings shelf.old))) }
+    ensures requests { requests_in (filings shelf.new) ≡
+        requests_in (filter keeps_wants (map (with_fewer job named.now) (filings shelf.old))) }
+    ensures right { AreRight [] (filings shelf.new) }
+    ensures few { length (requests_in (filings shelf.new)) ≤ REQUESTS }
     ensures woken { woken.new.items ≡
-        raised [] (filter keeps_wants (map (with_fewer job named.now.items) shelf.old)) }
+        raised [] (filter keeps_wants (map (with_fewer job named.now) (filings shelf.old))) }
 {
-    let bits = give_up_named(shelf, first, job, named);
-    renew(shelf, bits, woken);
+    let mut awaited = Awaited::none();
+    shelf.add_awaited(hashes, &mut awaited);
+    let mut losing = Some(first);
+    while let Some(i) = losing {
+        give_up_at(shelf, i, job, named, hashes, &mut awaited);
+        losing = if lacks_all(shelf, job, hashes) {
+            None
+        } else {
+            some_losing(shelf, job, named, hashes)
+        };
+    }
+    renew(shelf, &awaited, woken);
 }

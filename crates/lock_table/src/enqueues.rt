@@ -9,16 +9,16 @@ ghost use Rattle.lock_queue.specs.Keys.{same_key};
 ghost use Rattle.lock_queue.specs.Queue.{names, wants_at, wants_of, agree, fits};
 ghost use Rattle.key_tally.specs.Hashes.{hash_of, hashes_of};
 ghost use Rattle.lock_table.specs.Arrivals.{judged};
+ghost use Rattle.lock_table.specs.Boxes.{filings};
 ghost use Rattle.lock_table.specs.Filings.{requests_in};
 ghost use Rattle.lock_table.specs.Levels.{first_bound, some_below};
-ghost use Rattle.lock_table.specs.Signatures.{bits_of};
+ghost use Rattle.lock_table.specs.Views.{seen};
 
 use crate::filed::Filed;
-use crate::fits::{all_agree_in, is_fitting_where, job_names};
+use crate::fits::{all_agree_in, is_fitting_where, is_key_among, job_names};
 use crate::shelf::Shelf;
-use crate::signature::{Signature, bits_of};
-use crate::walks::{from_met, from_own, next_met};
-use lock_queue::steps::{are_alike_in, names_key, reach_level};
+use crate::view::View;
+use lock_queue::steps::{are_alike_in, reach_level};
 use lock_queue::{Asking, EnqueueKind, Key, Level, Refusal, Want};
 use word36::REQUESTS;
 
@@ -40,21 +40,20 @@ fn do_agree_so_far(before: bool, f: &Filed, w: &Want) -> bool
 
 /// Why a want is refused beside the present ones: one of its key differs from it, or is the job's; else
 /// whether all of its key agree with it.
-fn judge_agreeing(filed: &[Filed], job: u8, w: &Want, bits: Signature) -> Result<bool, Refusal>
-    requires { bits ≡ bits_of w.now.key }
-    ensures { result ≡ judged (enqueue_fault (requests_in filed.now) job [] w.now)
-        (list_all (λ v. agree v w.now) (wants_at (requests_in filed.now) w.now.key)) }
+fn judge_agreeing(queue: View<'_>, job: u8, w: &Want) -> Result<bool, Refusal>
+    ensures { result ≡ judged (enqueue_fault (requests_in (seen queue.entry)) job [] w.now)
+        (list_all (λ v. agree v w.now) (wants_at (requests_in (seen queue.entry)) w.now.key)) }
 {
     let mut is_named = false;
     let mut do_agree = true;
-    let mut rest = from_met(filed, bits);
-    while let [f, ..] = rest {
+    let mut rest = queue;
+    while let Some((f, later)) = rest.split_first() {
         if !are_alike_in(f.wants(), w) {
             return Err(Refusal::Differs);
         }
         is_named = is_named_so_far(is_named, f, job, &w.key);
         do_agree = do_agree_so_far(do_agree, f, w);
-        rest = next_met(rest, bits);
+        rest = later;
     }
     if is_named {
         Err(Refusal::NamedAlready)
@@ -63,15 +62,15 @@ fn judge_agreeing(filed: &[Filed], job: u8, w: &Want, bits: Signature) -> Result
     }
 }
 
-/// Why a want is refused beside the present ones; else whether it fits behind them. They are walked
-/// over for its key.
-fn judge_walking(filed: &[Filed], job: u8, w: &Want) -> Result<bool, Refusal>
-    ensures { result ≡ judged (enqueue_fault (requests_in filed.now) job [] w.now)
-        (fits (requests_in filed.now) w.now) }
+/// Why a want is refused beside the present ones; else whether it fits behind them. Those that may have
+/// its key are walked over.
+fn judge_walking(queue: View<'_>, job: u8, w: &Want) -> Result<bool, Refusal>
+    ensures { result ≡ judged (enqueue_fault (requests_in (seen queue.entry)) job [] w.now)
+        (fits (requests_in (seen queue.entry)) w.now) }
 {
-    match judge_agreeing(filed, job, w, bits_of(&w.key)) {
+    match judge_agreeing(queue, job, w) {
         Err(refusal) => Err(refusal),
-        Ok(do_agree) => Ok(is_fitting_where(filed, w, do_agree)),
+        Ok(do_agree) => Ok(is_fitting_where(queue, w, do_agree)),
     }
 }
 
@@ -79,29 +78,13 @@ fn judge_walking(filed: &[Filed], job: u8, w: &Want) -> Result<bool, Refusal>
 /// does not tell it at once.
 fn judge_beside(shelf: &Shelf, job: u8, w: &Want, hash: u16) -> Result<bool, Refusal>
     requires { hash ≡ hash_of w.now.key }
-    ensures { result ≡ judged (enqueue_fault (requests_in shelf.now) job [] w.now)
-        (fits (requests_in shelf.now) w.now) }
+    ensures { result ≡ judged (enqueue_fault (requests_in (filings shelf.now)) job [] w.now)
+        (fits (requests_in (filings shelf.now)) w.now) }
 {
     match shelf.beside(job, w, hash) {
         Some(judged) => judged,
-        None => judge_walking(shelf.as_slice(), job, w),
+        None => judge_walking(shelf.queue(hash), job, w),
     }
-}
-
-fn has_hash(hashes: &[u16], hash: u16) -> bool
-    ensures { result ≡ list_any (λ h. h == hash) hashes.now }
-{
-    hashes.iter().any(|h| *h == hash)
-}
-
-/// Whether one of these wants, whose keys have these hashes, is of the key. Keys are compared only
-/// where one of the hashes is the key's.
-fn is_key_among(wants: &[Want], hashes: &[u16], key: &Key, hash: u16) -> bool
-    requires hashes { hashes.now ≡ hashes_of wants.now }
-    requires hash { hash ≡ hash_of key.now }
-    ensures { result ≡ names wants.now key.now }
-{
-    has_hash(hashes, hash) && names_key(wants, key)
 }
 
 /// Why the want at a place is refused behind the call's wants before it; else whether it fits behind
@@ -116,8 +99,8 @@ fn judge_want(
     requires there { i < length wants.now }
     requires hashes { hashes.now ≡ hashes_of wants.now }
     ensures { (d : Want) → result ≡ judged
-        (enqueue_fault (requests_in shelf.now) job (take i wants.now) (get_or wants.now i d))
-        (fits (requests_in shelf.now) (get_or wants.now i d)) }
+        (enqueue_fault (requests_in (filings shelf.now)) job (take i wants.now) (get_or wants.now i d))
+        (fits (requests_in (filings shelf.now)) (get_or wants.now i d)) }
 {
     let w = &wants[i];
     let hash = hashes[i];
@@ -134,8 +117,8 @@ fn judge_want(
 /// Why a want is refused, for the first that is; else whether all fit behind the present requests.
 fn judge_wants(shelf: &Shelf, job: u8, wants: &[Want], hashes: &[u16]) -> Result<bool, Refusal>
     requires { hashes.now ≡ hashes_of wants.now }
-    ensures { result ≡ judged (first_refusal (enqueue_fault (requests_in shelf.now) job) [] wants.now)
-        (list_all (fits (requests_in shelf.now)) wants.now) }
+    ensures { result ≡ judged (first_refusal (enqueue_fault (requests_in (filings shelf.now)) job) [] wants.now)
+        (list_all (fits (requests_in (filings shelf.now))) wants.now) }
 {
     let mut are_fitting = true;
     for i in 0..wants.len() {
@@ -195,15 +178,15 @@ fn does_reach(f: &Filed, job: u8, level: Level) -> bool
 }
 
 /// Whether a present want of the job has this level or a higher one.
-fn does_job_reach(filed: &[Filed], job: u8, level: Level) -> bool
-    ensures { result ≡ list_any (λ v. nat_le level v.level) (wants_of (requests_in filed.now) job) }
+fn does_job_reach(own: View<'_>, job: u8, level: Level) -> bool
+    ensures { result ≡ list_any (λ v. nat_le level v.level) (wants_of (requests_in (seen own.entry)) job) }
 {
-    let mut rest = from_own(filed, job);
-    while let [f, later @ ..] = rest {
+    let mut rest = own;
+    while let Some((f, later)) = rest.split_first() {
         if does_reach(f, job, level) {
             return true;
         }
-        rest = from_own(later, job);
+        rest = later;
     }
     false
 }
@@ -212,12 +195,12 @@ fn does_job_reach(filed: &[Filed], job: u8, level: Level) -> bool
 /// and of all present wants of the job. Where the call's own wants rise, the first without bypass is
 /// the lowest of these, so it alone is held against the job's.
 #[tactic(auto, using(crate::proofs::LevelLaws::all_bypass_order))]
-fn are_out_of_order(filed: &[Filed], job: u8, wants: &[Want]) -> bool
-    ensures { result ≡ some_too_low (wants_of (requests_in filed.now) job) wants.now }
+fn are_out_of_order(shelf: &Shelf, job: u8, wants: &[Want]) -> bool
+    ensures { result ≡ some_too_low (wants_of (requests_in (filings shelf.now)) job) wants.now }
 {
     match first_bound(wants) {
         None => false,
-        Some(level) => is_some_below(wants) || does_job_reach(filed, job, level),
+        Some(level) => is_some_below(wants) || does_job_reach(shelf.own(job), job, level),
     }
 }
 
@@ -232,16 +215,16 @@ pub fn judge_enqueue(
     hashes: &[u16],
 ) -> Result<bool, Refusal>
     requires { hashes.now ≡ hashes_of wants.now }
-    ensures { result ≡ judged (enqueue_refusal REQUESTS (requests_in shelf.now) job asking.now wants.now)
-        (list_all (fits (requests_in shelf.now)) wants.now) }
+    ensures { result ≡ judged (enqueue_refusal REQUESTS (requests_in (filings shelf.now)) job asking.now wants.now)
+        (list_all (fits (requests_in (filings shelf.now))) wants.now) }
 {
     match judge_wants(shelf, job, wants, hashes) {
         Err(refusal) => Err(refusal),
-        Ok(are_fitting) => if are_out_of_order(shelf.as_slice(), job, wants) {
+        Ok(are_fitting) => if are_out_of_order(shelf, job, wants) {
             Err(Refusal::LevelOrder)
         } else if matches!(asking.kind, EnqueueKind::Interrupt) && !asking.armed {
             Err(Refusal::NoVector)
-        } else if shelf.as_slice().len() >= REQUESTS {
+        } else if shelf.len() >= REQUESTS {
             Err(Refusal::QueueFull)
         } else {
             Ok(are_fitting)

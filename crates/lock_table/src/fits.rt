@@ -1,16 +1,34 @@
-//! Which wants fit behind some requests. Only requests that touch a key's group are looked at.
+//! Which wants fit behind some requests.
 ghost use Rattle.std.specs.Prelude.{◌≡◌, ◌==◌, ◌&&◌, ◌+◌, ◌<◌, nat_le, filter, sum_by, MatchOption};
 ghost use Rattle.std.specs.List.{list_all};
+ghost use Rattle.key_tally.specs.Hashes.{hash_of, hashes_of};
 ghost use Rattle.lock_queue.specs.Keys.{same_key};
 ghost use Rattle.lock_queue.specs.Queue.{names, wants_at, wants_of, agree, amount_of, fits};
+ghost use Rattle.lock_table.specs.Boxes.{filings};
 ghost use Rattle.lock_table.specs.Filings.{requests_in};
-ghost use Rattle.lock_table.specs.Signatures.{bits_of};
+ghost use Rattle.lock_table.specs.Views.{seen};
 
 use crate::filed::Filed;
-use crate::signature::bits_of;
-use crate::walks::{from_met, from_own, next_met};
+use crate::shelf::Shelf;
+use crate::view::View;
 use lock_queue::steps::{do_agree, names_key, room_beside};
 use lock_queue::{Key, Pool, Want};
+
+/// Whether one of these wants, whose keys have these hashes, is of the key. Keys are compared only
+/// where their hashes are the same.
+#[inline]
+pub fn is_key_among(wants: &[Want], hashes: &[u16], key: &Key, hash: u16) -> bool
+    requires hashes { hashes.now ≡ hashes_of wants.now }
+    requires hash { hash ≡ hash_of key.now }
+    ensures { result ≡ names wants.now key.now }
+{
+    for (i, other) in hashes.iter().enumerate() {
+        if *other == hash && wants[i].key.is_same(key) {
+            return true;
+        }
+    }
+    false
+}
 
 /// Whether a request is the job's and has a want of the key.
 pub fn job_names(f: &Filed, job: u8, key: &Key) -> bool
@@ -19,18 +37,35 @@ pub fn job_names(f: &Filed, job: u8, key: &Key) -> bool
     f.job() == job && names_key(f.wants(), key)
 }
 
-/// Whether the job has a want of the key. Only its own requests are looked at.
-pub fn job_has_key(filed: &[Filed], job: u8, key: &Key) -> bool
-    ensures { result ≡ names (wants_of (requests_in filed.now) job) key.now }
+/// The same, where the key has this hash.
+fn job_names_at(f: &Filed, job: u8, key: &Key, hash: u16) -> bool
+    requires { hash ≡ hash_of key.now }
+    ensures { result ≡ (f.now.request.job == job && names f.now.request.wants.items key.now) }
 {
-    let mut rest = from_own(filed, job);
-    while let [f, later @ ..] = rest {
-        if job_names(f, job, key) {
+    f.job() == job && is_key_among(f.wants(), f.hashes(), key, hash)
+}
+
+/// Whether the job has a want of the key, which has this hash, among these requests.
+fn has_key_in(queue: View<'_>, job: u8, key: &Key, hash: u16) -> bool
+    requires { hash ≡ hash_of key.now }
+    ensures { result ≡ names (wants_of (requests_in (seen queue.entry)) job) key.now }
+{
+    let mut rest = queue;
+    while let Some((f, later)) = rest.split_first() {
+        if job_names_at(f, job, key, hash) {
             return true;
         }
-        rest = from_own(later, job);
+        rest = later;
     }
     false
+}
+
+/// The same of all requests: those that may want a key of its hash are walked over.
+pub fn job_has_key(shelf: &Shelf, job: u8, key: &Key, hash: u16) -> bool
+    requires { hash ≡ hash_of key.now }
+    ensures { result ≡ names (wants_of (requests_in (filings shelf.now)) job) key.now }
+{
+    has_key_in(shelf.queue(hash), job, key, hash)
 }
 
 /// Whether each of these wants that is of a want's key agrees with it. Keys are compared last.
@@ -46,16 +81,15 @@ pub fn all_agree_in(wants: &[Want], w: &Want) -> bool
     true
 }
 
-fn do_all_agree(earlier: &[Filed], w: &Want) -> bool
-    ensures { result ≡ list_all (λ v. agree v w.now) (wants_at (requests_in earlier.now) w.now.key) }
+fn do_all_agree(earlier: View<'_>, w: &Want) -> bool
+    ensures { result ≡ list_all (λ v. agree v w.now) (wants_at (requests_in (seen earlier.entry)) w.now.key) }
 {
-    let bits = bits_of(&w.key);
-    let mut rest = from_met(earlier, bits);
-    while let [f, ..] = rest {
+    let mut rest = earlier;
+    while let Some((f, later)) = rest.split_first() {
         if !all_agree_in(f.wants(), w) {
             return false;
         }
-        rest = next_met(rest, bits);
+        rest = later;
     }
     true
 }
@@ -69,26 +103,25 @@ fn room_behind(f: &Filed, key: &Key, room: u32) -> Option<u32>
 }
 
 /// Whether the earlier amounts of a key and this one add up to at most the pool's size.
-fn is_room(earlier: &[Filed], key: &Key, pool: Pool) -> bool
+fn is_room(earlier: View<'_>, key: &Key, pool: Pool) -> bool
     ensures { result ≡
-        nat_le (sum_by amount_of (wants_at (requests_in earlier.now) key.now) + pool.amount) pool.size }
+        nat_le (sum_by amount_of (wants_at (requests_in (seen earlier.entry)) key.now) + pool.amount) pool.size }
 {
-    let bits = bits_of(key);
     let mut left = pool.size() - pool.amount();
-    let mut rest = from_met(earlier, bits);
-    while let [f, ..] = rest {
+    let mut rest = earlier;
+    while let Some((f, later)) = rest.split_first() {
         match room_behind(f, key, left) {
             Some(room) => left = room,
             None => return false,
         }
-        rest = next_met(rest, bits);
+        rest = later;
     }
     true
 }
 
 /// Whether a want fits behind the earlier requests.
-pub fn is_fitting(earlier: &[Filed], w: &Want) -> bool
-    ensures { result ≡ fits (requests_in earlier.now) w.now }
+pub fn is_fitting(earlier: View<'_>, w: &Want) -> bool
+    ensures { result ≡ fits (requests_in (seen earlier.entry)) w.now }
 {
     match w.pool {
         None => do_all_agree(earlier, w),
@@ -98,9 +131,9 @@ pub fn is_fitting(earlier: &[Filed], w: &Want) -> bool
 
 /// Whether a want fits behind the earlier requests, where it is known whether their wants of its key
 /// agree with it.
-pub fn is_fitting_where(earlier: &[Filed], w: &Want, do_agree: bool) -> bool
-    requires { do_agree ≡ list_all (λ v. agree v w.now) (wants_at (requests_in earlier.now) w.now.key) }
-    ensures { result ≡ fits (requests_in earlier.now) w.now }
+pub fn is_fitting_where(earlier: View<'_>, w: &Want, do_agree: bool) -> bool
+    requires { do_agree ≡ list_all (λ v. agree v w.now) (wants_at (requests_in (seen earlier)) w.now.key) }
+    ensures { result ≡ fits (requests_in (seen earlier.entry)) w.now }
 {
     match w.pool {
         None => do_agree,

@@ -2,29 +2,31 @@
 ghost use Rattle.std.specs.Prelude.{◌≡◌, ◌≤◌, [], length, IsTrue};
 ghost use Rattle.word36.specs.declared.sizes.TheConstants.{REQUESTS};
 ghost use Rattle.lock_queue.specs.WellFormed.{are_well_formed};
+ghost use Rattle.lock_table.specs.Boxes.{filings};
 ghost use Rattle.lock_table.specs.Filings.{requests_in, are_right};
 
 use crate::calls::make_call;
 use crate::departures::{Leaving, depart};
-use crate::jobs::{does_wait_for, pending_in};
+use crate::jobs::pending_in;
 use crate::shelf::Shelf;
 use crate::standing::status_in;
+use crate::waits::does_wait_for;
 use lock_queue::{Key, LockCall, LockReply, LockTable, Request, RequestId, Status, Woken};
 use std::alloc::{AllocError, Global};
 
-/// A table that keeps beside each request whether it is granted, and the groups of its keys, so that
-/// a call looks at few requests.
+/// A table that keeps beside each request whether it is granted, and knows where the requests of each key
+/// and of each job stand, so that a call looks at few of them.
 #[derive(Drop)]
 pub struct IndexedTable {
     present: Shelf,
     unheard: Woken,
-    ghost right: { IsTrue (are_right [] present) },
-    ghost few: { length (requests_in present) ≤ REQUESTS },
-    ghost well: { IsTrue (are_well_formed (requests_in present)) },
+    ghost right: { IsTrue (are_right [] (filings present)) },
+    ghost few: { length (requests_in (filings present)) ≤ REQUESTS },
+    ghost well: { IsTrue (are_well_formed (requests_in (filings present))) },
 }
 
 impl LockTable for IndexedTable {
-    ghost requests = { λ t. requests_in t.present };
+    ghost requests = { λ t. requests_in (filings t.present) };
 
     ghost few = { λ t. t.few };
 
@@ -62,7 +64,7 @@ impl LockTable for IndexedTable {
     }
 
     fn pending(&self, job: u8) -> Option<RequestId> {
-        pending_in(self.present.as_slice(), job)
+        pending_in(self.present.own(job), job)
     }
 
     fn told(&mut self, job: u8) {
@@ -74,19 +76,19 @@ impl LockTable for IndexedTable {
     }
 
     fn len(&self) -> usize {
-        self.present.as_slice().len()
+        self.present.len()
     }
 
     fn request(&self, i: usize) -> &Request {
-        self.present.as_slice()[i].request()
+        self.present.filed(i).request()
     }
 
     fn granted(&self, i: usize) -> bool {
-        self.present.as_slice()[i].is_granted()
+        self.present.filed(i).is_granted()
     }
 
     fn waits_for(&self, job: u8, other: u8) -> bool {
-        does_wait_for(self.present.as_slice(), job, other)
+        does_wait_for(&self.present, job, other)
     }
 
     fn clear(&mut self) {

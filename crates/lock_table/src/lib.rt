@@ -1,6 +1,9 @@
-//! A lock table for many requests: each request has a signature of its keys and its grant beside it.
+//! A lock table for many requests: each stands in a box of its own with its grant, and the boxes of a
+//! key's requests and of a job's are known.
 #![tactic(auto)]
 
+mod awaited;
+mod boxes;
 mod calls;
 mod changes;
 mod departures;
@@ -13,9 +16,9 @@ mod jobs;
 mod renewal;
 mod sharing;
 mod shelf;
-mod signature;
 mod standing;
+mod view;
 mod waiters;
-mod walks;
+mod waits;
 
 pub use indexed::IndexedTable;

@@ -3,15 +3,15 @@ ghost use Rattle.std.specs.Prelude.{◌≡◌, ◌≤◌, ◌<◌, ◌+◌, ◌^
 ghost use Rattle.word36.specs.declared.sizes.TheConstants.{REQUESTS};
 ghost use Rattle.lock_queue.specs.StatusSteps.{most_taken};
 ghost use Rattle.lock_queue.specs.StatusWords.{level_of};
+ghost use Rattle.lock_table.specs.Boxes.{filings};
 ghost use Rattle.lock_table.specs.Filings.{requests_in};
 ghost use Rattle.lock_table.specs.Findings.{status_in};
-ghost use Rattle.lock_table.specs.Signatures.{bits_of};
 ghost use Rattle.lock_table.specs.Standings.{unwanted, with_next, with_next_owner};
+ghost use Rattle.lock_table.specs.Views.{seen};
 
 use crate::filed::Filed;
 use crate::shelf::Shelf;
-use crate::signature::{Signature, bits_at};
-use crate::walks::{from_met, next_met};
+use crate::view::View;
 use key_tally::hash_of;
 use lock_queue::steps::{level_in, names_key, with_owner, with_waiter};
 use lock_queue::{Key, Level, Request, Status};
@@ -33,16 +33,15 @@ fn unwanted(level: Level) -> Status
 }
 
 /// The level of the first want of the key, or 0 where there is none.
-fn level_at(filed: &[Filed], key: &Key, bits: Signature) -> Level
-    requires { bits ≡ bits_of key.now }
-    ensures { result ≡ level_of (requests_in filed.now) key.now }
+fn level_at(queue: View<'_>, key: &Key) -> Level
+    ensures { result ≡ level_of (requests_in (seen queue.entry)) key.now }
 {
-    let mut rest = from_met(filed, bits);
-    while let [f, ..] = rest {
+    let mut rest = queue;
+    while let Some((f, later)) = rest.split_first() {
         if let Some(level) = level_in(f.wants(), key) {
             return level;
         }
-        rest = next_met(rest, bits);
+        rest = later;
     }
     Level::new(0)
 }
@@ -80,18 +79,16 @@ fn with_next(before: Status, f: &Filed, key: &Key, job: u8) -> Status
     }
 }
 
-/// What a job is told of a key of these bits. Only requests that meet them are looked at.
-fn status_met(filed: &[Filed], key: &Key, job: u8, bits: Signature) -> Status
-    requires few { length filed.now ≤ REQUESTS }
-    requires bits { bits ≡ bits_of key.now }
-    ensures { result ≡ status_in filed.now key.now job }
+/// What a job is told of a key, by these requests.
+fn status_among(queue: View<'_>, key: &Key, job: u8) -> Status
+    requires few { length (seen queue) ≤ REQUESTS }
+    ensures { result ≡ status_in (seen queue.entry) key.now job }
 {
-    let met = from_met(filed, bits);
-    let mut status = unwanted(level_at(met, key, bits));
-    let mut rest = met;
-    while let [f, ..] = rest {
+    let mut status = unwanted(level_at(queue, key));
+    let mut rest = queue;
+    while let Some((f, later)) = rest.split_first() {
         status = with_next(status, f, key, job);
-        rest = next_met(rest, bits);
+        rest = later;
     }
     status
 }
@@ -99,12 +96,12 @@ fn status_met(filed: &[Filed], key: &Key, job: u8, bits: Signature) -> Status
 /// What a job is told of a key. The requests are looked at only where one may want it.
 #[tactic(auto, using(crate::proofs::StandingLaws::status_lacking))]
 pub fn status_in(shelf: &Shelf, key: &Key, job: u8) -> Status
-    ensures { result ≡ status_in shelf.now key.now job }
+    ensures { result ≡ status_in (filings shelf.now) key.now job }
 {
     let hash = hash_of(key);
     if shelf.lacks(key, hash) {
         unwanted(Level::new(0))
     } else {
-        status_met(shelf.as_slice(), key, job, bits_at(hash))
+        status_among(shelf.queue(hash), key, job)
     }
 }

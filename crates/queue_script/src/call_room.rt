@@ -4,6 +4,7 @@ ghost use Rattle.std.specs.Prelude.{◌≡◌, option_map};
 ghost use Rattle.queue_script.specs.Borrowed.{filled, lent_by};
 ghost use Rattle.queue_script.specs.Commands.{request_call, change_call, release_call, release_all_call, release_id_call};
 ghost use Rattle.queue_script.specs.Locks.{locks_of, call_wants};
+ghost use Rattle.lock_queue.specs.declared.call.LockCall.TheVariants.{DequeueId};
 ghost use Rattle.lock_queue.specs.declared.terms.LockUse.TheVariants.{Named};
 
 use crate::call_wants::read_wants;
@@ -97,7 +98,7 @@ impl CallRoom {
             return None;
         }
         let id = RequestId::new(read_half(id)?);
-        self.other = LockCall::DequeueId(id);
+        fill_id(&mut self.other, id);
         Some(Ok(&self.other))
     }
 
@@ -110,6 +111,16 @@ impl CallRoom {
             Some(Ok(())) => Some(Ok(&self.keys)),
             Some(Err(refusal)) => Some(Err(refusal)),
         }
+    }
+}
+
+/// Fills in that the requests of an id are given up. Where that stood before, its room is not written.
+fn fill_id(call: &mut LockCall, id: RequestId)
+    ensures { call.new ≡ DequeueId id }
+{
+    match call {
+        LockCall::DequeueId(place) => *place = id,
+        _ => *call = LockCall::DequeueId(id),
     }
 }
 

@@ -1,4 +1,4 @@
-use Rattle.std.proofs.Common.{◌≡◌, ◌∙◌, sym, ap, ℕ, Bool, List, Result, Err, Some}
+use Rattle.std.proofs.Common.{◌≡◌, ◌∙◌, sym, ap, ℕ, Bool, List, Option, Result, Err, Some, None}
 use Rattle.std.specs.List.{list_all}
 use Rattle.word36.specs.declared.sizes.TheConstants.{REQUESTS}
 use Rattle.lock_queue.specs.declared.call.Asking.{Asking}
@@ -8,9 +8,13 @@ use Rattle.lock_queue.specs.Enqueues.{arrival, enqueue_refusal}
 use Rattle.lock_queue.specs.Outcomes.{unless_refused}
 use Rattle.lock_queue.specs.Queue.{fits}
 use Rattle.lock_table.specs.Arrivals.{judged}
+use Rattle.lock_table.specs.Boxes.{filings}
 use Rattle.lock_table.specs.Filings.{Filing, requests_in}
-use Rattle.lock_table.proofs.ArrivalLaws.{judged-err}
 use Rattle.lock_table.proofs.calls.enqueue.Goals as goal
+
+judged-err : (o : Option Refusal) (g : Bool) (r : Refusal) → judged o g ≡ Err r → o ≡ Some r
+judged-err (Some refusal) g r h = cc
+judged-err None g r h = absurd (cc)
 
 -- what is refused, seen by the slice of wants that was looked at
 refused-of : (fs : List Filing) (job : ℕ) (asking : Asking) (wants wanted : List Want) (o : Result Bool Refusal) (r : Refusal)
@@ -23,7 +27,7 @@ refused-of fs job asking wants wanted o r are found is =
 
 pub returns-in-Err-clause-requests : goal.returns-in-Err-clause-requests
 returns-in-Err-clause-requests c =
-    let fs = c.args.shelf.now in
+    let fs = filings c.args.shelf.now in
     let a = c.args in
     let none = refused-of fs a.job a.asking.now a.wants.now.items c.as_slice.result.now c.judge_enqueue.result c.in-Err.refusal
     c.as_slice.ensures.value c.judge_enqueue.ensures c.in-Err.is in
@@ -31,7 +35,7 @@ returns-in-Err-clause-requests c =
 
 pub returns-in-Err-clause-reply : goal.returns-in-Err-clause-reply
 returns-in-Err-clause-reply c =
-    let fs = c.args.shelf.now in
+    let fs = filings c.args.shelf.now in
     let a = c.args in
     let none = refused-of fs a.job a.asking.now a.wants.now.items c.as_slice.result.now c.judge_enqueue.result c.in-Err.refusal
     c.as_slice.ensures.value c.judge_enqueue.ensures c.in-Err.is in

@@ -1,10 +1,11 @@
 use Rattle.std.proofs.Common.{◌≡◌, [], take, drop}
 use Rattle.lock_queue.specs.Changes.{modify_fault}
 use Rattle.lock_queue.specs.Outcomes.{first_refusal}
+use Rattle.lock_table.specs.Boxes.{filings}
 use Rattle.lock_table.specs.Filings.{requests_in}
 use Rattle.lock_table.proofs.changes.refusal_of_modify.Given as goal
 
 abbrev pub invariant-loop-i : goal.invariant-loop-i
 invariant-loop-i l =
-    first_refusal (modify_fault (requests_in l.filed) l.job) (take l.i l.changes) (drop l.i l.changes)
-    ≡ first_refusal (modify_fault (requests_in l.filed) l.job) [] l.changes
+    first_refusal (modify_fault (requests_in (filings l.shelf)) l.job) (take l.i l.changes) (drop l.i l.changes)
+    ≡ first_refusal (modify_fault (requests_in (filings l.shelf)) l.job) [] l.changes

@@ -1,10 +1,11 @@
 use Rattle.std.proofs.Common.{◌≡◌, [], take, drop}
 use Rattle.lock_queue.specs.Dequeues.{dequeue_fault}
 use Rattle.lock_queue.specs.Outcomes.{first_refusal}
+use Rattle.lock_table.specs.Boxes.{filings}
 use Rattle.lock_table.specs.Filings.{requests_in}
 use Rattle.lock_table.proofs.dequeues.refusal_among.Given as goal
 
 abbrev pub invariant-loop-i : goal.invariant-loop-i
 invariant-loop-i l =
-    first_refusal (dequeue_fault (requests_in l.filed) l.job) (take l.i l.named) (drop l.i l.named)
-    ≡ first_refusal (dequeue_fault (requests_in l.filed) l.job) [] l.named
+    first_refusal (dequeue_fault (requests_in (filings l.shelf)) l.job) (take l.i l.named) (drop l.i l.named)
+    ≡ first_refusal (dequeue_fault (requests_in (filings l.shelf)) l.job) [] l.named

@@ -7,6 +7,7 @@ use Rattle.lock_queue.specs.Enqueues.{enqueue_fault}
 use Rattle.lock_queue.specs.Outcomes.{or_else, first_refusal}
 use Rattle.lock_queue.specs.Queue.{fits}
 use Rattle.lock_table.specs.Arrivals.{judged}
+use Rattle.lock_table.specs.Boxes.{filings}
 use Rattle.lock_table.specs.Filings.{requests_in}
 use Rattle.lock_table.proofs.ArrivalLaws.{judged-ok, judged-err, judged-step}
 use Rattle.lock_table.proofs.enqueues.judge_wants.Goals as goal
@@ -14,7 +15,7 @@ use Rattle.lock_table.proofs.enqueues.judge_wants.Goals.{then-are_fitting, else-
 
 pub returns-in-Err : goal.returns-in-Err
 returns-in-Err c =
-    let rs = requests_in c.args.shelf.now in
+    let rs = requests_in (filings c.args.shelf.now) in
     let job = c.args.job in
     let wants = c.args.wants.now in
     let i = c.loop-i.i in
@@ -28,7 +29,7 @@ returns-in-Err c =
 
 pub loop-i-preserved : goal.loop-i-preserved
 loop-i-preserved c =
-    let rs = requests_in c.args.shelf.now in
+    let rs = requests_in (filings c.args.shelf.now) in
     let job = c.args.job in
     let wants = c.args.wants.now in
     let i = c.loop-i.i in

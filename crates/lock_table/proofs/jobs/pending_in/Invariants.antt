@@ -1,9 +1,10 @@
 use Rattle.std.proofs.Common.{◌≡◌, length}
 use Rattle.lock_table.specs.Findings.{pending_in}
+use Rattle.lock_table.specs.Views.{seen}
 use Rattle.lock_table.proofs.jobs.pending_in.Given as goal
 
-abbrev pub invariant-loop-rest : goal.invariant-loop-rest
-invariant-loop-rest l = pending_in l.rest l.job ≡ pending_in l.filed l.job
+abbrev pub invariant-loop-f : goal.invariant-loop-f
+invariant-loop-f l = pending_in (seen l.rest) l.job ≡ pending_in (seen l.own) l.job
 
-abbrev pub decreases-loop-rest : goal.decreases-loop-rest
-decreases-loop-rest l = length l.rest
+abbrev pub decreases-loop-f : goal.decreases-loop-f
+decreases-loop-f l = length (seen l.rest)

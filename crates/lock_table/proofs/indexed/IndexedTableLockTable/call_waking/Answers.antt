@@ -1,9 +1,10 @@
 use Rattle.std.proofs.Common.{[]}
+use Rattle.lock_table.specs.Boxes.{filings}
 use Rattle.lock_table.proofs.RightLaws.{right-from, right-to}
 use Rattle.lock_table.proofs.indexed.IndexedTableLockTable.call_waking.Goals as goal
 
 pub make_call-requires-clause-right : goal.make_call-requires-clause-right
-make_call-requires-clause-right c = right-from [] c.args.self.now.present c.args.self.now.right
+make_call-requires-clause-right c = right-from [] (filings c.args.self.now.present) c.args.self.now.right
 
 pub invariant_of-self : goal.invariant_of-self
 invariant_of-self c = record {

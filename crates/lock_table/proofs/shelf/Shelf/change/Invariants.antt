@@ -1,13 +1,16 @@
--- The requests before the place are changed, and the others will be.
-use Rattle.std.proofs.Common.{◌≡◌, ◌++◌, length, take, drop, map}
-use Rattle.lock_table.specs.Departures.{with_change}
+use Rattle.std.proofs.Common.{◌≡◌, ◌≤◌, length, map, filter}
+use Rattle.word36.specs.declared.sizes.TheConstants.{REQUESTS}
+use Rattle.lock_table.specs.Boxes.{filings}
+use Rattle.lock_table.specs.Departures.{differs, with_change}
 use Rattle.lock_table.proofs.shelf.Shelf.change.Given as goal
 
 abbrev pub invariant-loop-i : goal.invariant-loop-i
 invariant-loop-i l =
     record {
-      value :
-          take l.i l.self ++ map (with_change l.job l.changes) (drop l.i l.self)
-          ≡ map (with_change l.job l.changes) l.initial.self;
-      long : length l.self ≡ length l.initial.self;
+      alike : map (with_change l.job l.changes) (filings l.self) ≡ map (with_change l.job l.changes) (filings l.initial.self);
+      few : length (filings l.self) ≤ REQUESTS;
     }
+
+-- those are changed that differ, and differ no more then
+abbrev pub decreases-loop-i : goal.decreases-loop-i
+decreases-loop-i l = length (filter (differs l.job l.changes) (filings l.self))

@@ -1,52 +1,80 @@
-use Rattle.std.proofs.Common.{◌≡◌, ◌∙◌, sym, ap, subst, ◌<◌, true, get_or, length, rules, arith}
+use Rattle.std.proofs.Common.{◌≡◌, ◌∙◌, ◌<◌, sym, ap, subst, get_or, remove, length, [], ◌∷◌, arith}
 use Rattle.std.specs.List.{list_all}
-use Rattle.std.proofs.lemmas.List.{get_or_default}
+use Rattle.key_tally.specs.declared.hash.TheConstants.{HASHES}
 use Rattle.key_tally.specs.Hashes.{hashes_of}
+use Rattle.slot_rows.specs.Rows.{RowsOf}
+use Rattle.slot_rows.proofs.RowsLaws.{without_numbers}
+use Rattle.lock_table.specs.Awaited.{Marks}
+use Rattle.lock_table.specs.Boxes.{Boxed, boxed, filings, unused_filing}
 use Rattle.lock_table.specs.Countings.{is_countable}
 use Rattle.lock_table.specs.Filings.{Filing}
-use Rattle.lock_table.specs.Tallies.{Marks, MarksAt}
-use Rattle.lock_table.proofs.ShelfLaws.{countable-remove, tallied-gone, marks-hashes}
-use Rattle.lock_table.proofs.WaiterLaws.{waiters-there, waiters-gone}
+use Rattle.lock_table.specs.Rowing.{by_hash, by_job}
+use Rattle.lock_table.proofs.QueueLaws.{filings-at, filings-length}
+use Rattle.lock_table.proofs.RowingLaws.{filings-gone, rows-gone}
+use Rattle.lock_table.proofs.StockLaws.{countable-remove, tallied-gone}
+use Rattle.lock_table.proofs.WaiterLaws.{waiters-gone, waiters-there}
 use Rattle.lock_table.proofs.shelf.Shelf.remove.Goals as goal
 
 pub remove-requires-2 : goal.remove-requires-2
 remove-requires-2 c = λ place.
     let s = c.self.inside in
-    let lt : c.args.i < length s.present.items = search rules in
-    omega (arith, c.self.invariant.4 place, waiters-there place s.present.items c.args.i c.index-f.result.now lt c.index-f.ensures)
+    let bs = s.boxes in
+    let fs = filings bs in
+    let i = c.args.i in
+    let f = c.filed-f.result.now in
+    let d : Boxed = boxed 0 unused_filing in
+    let lt : c.args.i < length c.self.inside.boxes =
+    subst (λ n. c.args.i < n) (ap (λ l. length (filings l)) (sym c.self.view_is) ∙ filings-length bs) c.requires in
+    let among : c.args.i < length (filings c.self.inside.boxes) = omega (arith, lt, filings-length bs) in
+    let at : f ≡ get_or fs i f = c.filed-f.ensures d ∙ sym (filings-at i bs d f lt) in
+    omega (arith, c.self.invariant.1 place, waiters-there place fs c.args.i f among at)
 
 pub invariant_of-self : goal.invariant_of-self
 invariant_of-self c =
     let s = c.self.inside in
-    let f = c.index-f.result.now in
-    let lt : c.args.i < length s.present.items = search rules in (
-      grind arith,
-      grind arith,
-      grind arith,
-      subst (λ l. list_all is_countable l ≡ true) (sym c.remove-filed.ensures.items) (countable-remove s.present.items c.args.i c.self.invariant.3),
-      (λ place.
-          let left = c.remove-2.ensures place in
-          omega (
-            arith,
-            left,
-            c.self.invariant.4 place,
-            waiters-gone place s.present.items c.remove-filed.new.self.items c.args.i f lt c.index-f.ensures c.remove-filed.ensures.items,
-          )),
-      tallied-gone s.tally c.remove.new.self s.present.items c.remove-filed.new.self.items c.args.i f c.job.result c.is_granted.result c.wants.result.now
-          c.remove.ensures.removed lt c.self.invariant.5 c.index-f.ensures c.job.ensures c.is_granted.ensures c.wants.ensures c.remove-filed.ensures.items,
+    let bs = s.boxes in
+    let fs = filings bs in
+    let i = c.args.i in
+    let f = c.filed-f.result.now in
+    let d : Boxed = boxed 0 unused_filing in
+    let lt : c.args.i < length c.self.inside.boxes =
+    subst (λ n. c.args.i < n) (ap (λ l. length (filings l)) (sym c.self.view_is) ∙ filings-length bs) c.requires in
+    let among : c.args.i < length (filings c.self.inside.boxes) = omega (arith, lt, filings-length bs) in
+    let at : f ≡ get_or fs i f = c.filed-f.ensures d ∙ sym (filings-at i bs d f lt) in
+    let slot = c.slot-slot.result in
+    let whole : filings c.remove-3.new.self ≡ remove fs i = ap filings c.remove-3.ensures.value ∙ filings-gone bs i in (
+      ap (list_all is_countable) whole ∙ countable-remove fs i c.self.invariant.0,
+      (λ place. omega (arith, c.remove-2.ensures place, c.self.invariant.1 place, waiters-gone place fs (filings c.remove-3.new.self) i f among at whole)),
+      tallied-gone s.tally c.remove.new.self fs (filings c.remove-3.new.self) i f c.job.result c.is_granted.result c.wants.result.now
+          c.remove.ensures.removed among c.self.invariant.2 at c.job.ensures c.is_granted.ensures c.wants.ensures whole,
+      subst (λ l. RowsOf HASHES c.leave.new.self (by_hash l)) (sym c.remove-3.ensures.value)
+          (rows-gone HASHES s.keys c.leave.new.self (λ b. hashes_of b.filing.request.wants.items) bs i d slot c.hashes-3.result.now
+          lt c.slot-slot.ensures.apart (c.slot-slot.ensures.value d)
+          (c.hashes-3.ensures ∙ ap (λ (x : Filing). hashes_of x.request.wants.items) (c.filed-f.ensures d)) c.self.invariant.3
+          (λ a b of none. without_numbers HASHES c.leave.new.self a b slot (c.leave.ensures HASHES a b of none))),
+      subst (λ l. RowsOf 256 c.leave_at.new.self (by_job l)) (sym c.remove-3.ensures.value)
+          (rows-gone 256 s.own c.leave_at.new.self (λ b. b.filing.request.job ∷ []) bs i d slot (c.from.result ∷ [])
+          lt c.slot-slot.ensures.apart (c.slot-slot.ensures.value d)
+          (ap (λ n. n ∷ []) (c.from.ensures ∙ c.job-2.ensures ∙ ap (λ (x : Filing). x.request.job) (c.filed-f.ensures d))) c.self.invariant.4
+          (λ a b of none. c.leave_at.ensures 256 a b of none)),
     )
 
-pub returns-clause-bits : goal.returns-clause-bits
-returns-clause-bits c = λ d.
+pub returns-clause-value : goal.returns-clause-value
+returns-clause-value c =
+    ap filings c.remove-3.ensures.value ∙ filings-gone c.self.inside.boxes c.args.i ∙ ap (λ l. remove (filings l) c.args.i) c.self.view_is
+
+pub returns-clause-marks : goal.returns-clause-marks
+returns-clause-marks c = λ e.
     let s = c.self.inside in
-    let f = c.index-f.result.now in
-    let lt : c.args.i < length s.present.items = search rules in
-    let same : c.args.self.now ≡ s.present.items = search rules in
-    let here : get_or c.args.self.now c.args.i d ≡ f =
-    ap (λ l. get_or l c.args.i d) same ∙ get_or_default s.present.items c.args.i d f lt ∙ sym c.index-f.ensures in
-    let hashed : MarksAt c.awaited_at-bits.result (hashes_of f.request.wants.items) s.present.items =
-    subst (λ hs. MarksAt c.awaited_at-bits.result hs s.present.items) c.hashes.ensures (c.awaited_at-bits.ensures s.present.items c.self.invariant.5) in
-    let marked : Marks c.awaited_at-bits.result f.request.wants.items s.present.items =
-    marks-hashes c.awaited_at-bits.result f.request.wants.items s.present.items hashed in
-    subst (λ l. Marks c.awaited_at-bits.result (get_or c.args.self.now c.args.i d).request.wants.items l) (sym same)
-    (subst (λ (x : Filing). Marks c.awaited_at-bits.result x.request.wants.items s.present.items) (sym here) marked)
+    let bs = s.boxes in
+    let fs = filings bs in
+    let i = c.args.i in
+    let f = c.filed-f.result.now in
+    let d : Boxed = boxed 0 unused_filing in
+    let lt : c.args.i < length c.self.inside.boxes =
+    subst (λ n. c.args.i < n) (ap (λ l. length (filings l)) (sym c.self.view_is) ∙ filings-length bs) c.requires in
+    let among : c.args.i < length (filings c.self.inside.boxes) = omega (arith, lt, filings-length bs) in
+    let at : f ≡ get_or fs i f = c.filed-f.ensures d ∙ sym (filings-at i bs d f lt) in
+    subst (λ l. Marks c.add_awaited.new.awaited (get_or (filings l) i e).request.wants.items (filings l)) c.self.view_is
+    (subst (λ (x : Filing). Marks c.add_awaited.new.awaited x.request.wants.items fs) (c.filed-f.ensures d ∙ sym (filings-at i bs d e lt))
+    (c.add_awaited.ensures.marks fs f.request.wants.items c.self.invariant.2 c.hashes.ensures))

@@ -1,28 +1,60 @@
-use Rattle.std.proofs.Common.{[], ◌≡◌, ◌∙◌, sym, ap, subst, ◌<◌, false, get_or, take, drop, suc, length, rules}
+use Rattle.std.proofs.Common.{◌≡◌, ◌∙◌, ◌+◌, sym, ap, subst, true, get_or, take}
 use Rattle.std.specs.List.{list_all}
-use Rattle.std.proofs.lemmas.List.{get_or_default}
+use Rattle.key_tally.specs.Tallies.{Tallied}
 use Rattle.lock_queue.specs.Queue.{fits, granted_behind}
+use Rattle.lock_table.specs.Boxes.{filings}
+use Rattle.lock_table.specs.Countings.{counted_in}
 use Rattle.lock_table.specs.Filings.{Filing, requests_in}
-use Rattle.lock_table.specs.Renewals.{AreKept, WaitsAmong}
-use Rattle.lock_table.proofs.ShelfLaws.{waits-at}
+use Rattle.lock_table.specs.Views.{seen, touches}
+use Rattle.lock_table.proofs.QueueLaws.{boxed-at, touches-own}
+use Rattle.lock_table.proofs.ShelfLaws.{grant-next, fits-not, take-whole}
 use Rattle.lock_table.proofs.shelf.Shelf.would_grant.Goals as goal
+
+pub queue_before-requires-clause-touches : goal.queue_before-requires-clause-touches
+queue_before-requires-clause-touches c = λ d.
+    let f = c.filed-f.result.now in
+    ap (touches (get_or c.hashes-hashes.result.now c.loop-k.k 0))
+    (sym (boxed-at c.args.i c.self.inside.boxes c.args.self.now f c.self.view_is c.requires.there c.filed-f.ensures d))
+    ∙ touches-own f c.hashes-hashes.result.now c.wants-w-items.result.now c.loop-k.k c.hashes-hashes.ensures c.wants-w-items.ensures c.loop-k-test.true
+
+pub returns-then-not-fits_behind : goal.returns-then-not-fits_behind
+returns-then-not-fits_behind c = λ d.
+    let fs = filings c.args.self.now in
+    let i = c.args.i in
+    let f = c.filed-f.result.now in
+    let ws = c.wants-w-items.result.now in
+    let at = boxed-at i c.self.inside.boxes c.args.self.now f c.self.view_is c.requires.there c.filed-f.ensures in
+    sym (fits-not (fits (requests_in (take i fs))) ws (c.loop-k.k + 1)
+    (grant-next c.self.inside.tally fs i c.loop-k.k f ws c.w-item.result (get_or c.hashes-hashes.result.now c.loop-k.k 0)
+    (seen c.queue_before.result) c.fits_behind.result c.requires.there (at f)
+    (ap (λ (x : Filing). x.granted) (at f) ∙ c.requires.waits f)
+    (subst (λ l. Tallied c.self.inside.tally (counted_in (filings l))) c.self.view_is c.self.invariant.2) c.requires.kept
+    c.loop-k-test.true c.w-item.is c.wants-w-items.ensures c.queue_before.ensures c.fits_behind.ensures c.loop-k.invariant
+    ∙ c.if-not-fits_behind.true))
+    ∙ ap (list_all (fits (requests_in (take i fs)))) c.wants-w-items.ensures
+    ∙ ap (λ (x : Filing). granted_behind (requests_in (take i fs)) x.request) (at d)
+
+pub loop-k-preserved : goal.loop-k-preserved
+loop-k-preserved c =
+    let fs = filings c.args.self.now in
+    let i = c.args.i in
+    let f = c.filed-f.result.now in
+    let ws = c.wants-w-items.result.now in
+    let at = boxed-at i c.self.inside.boxes c.args.self.now f c.self.view_is c.requires.there c.filed-f.ensures in
+    grant-next c.self.inside.tally fs i c.loop-k.k f ws c.w-item.result (get_or c.hashes-hashes.result.now c.loop-k.k 0)
+    (seen c.queue_before.result) c.fits_behind.result c.requires.there (at f)
+    (ap (λ (x : Filing). x.granted) (at f) ∙ c.requires.waits f)
+    (subst (λ l. Tallied c.self.inside.tally (counted_in (filings l))) c.self.view_is c.self.invariant.2) c.requires.kept
+    c.loop-k-test.true c.w-item.is c.wants-w-items.ensures c.queue_before.ensures c.fits_behind.ensures c.loop-k.invariant
+    ∙ c.if-not-fits_behind.false
 
 pub returns : goal.returns
 returns c = λ d.
-    let s = c.self.inside in
-    let fs = s.present.items in
+    let fs = filings c.args.self.now in
     let i = c.args.i in
-    let f = c.index-f.result.now in
-    let lt : i < length fs = search rules in
-    let at : f ≡ get_or fs i f = search rules in
-    let here : get_or c.args.self.now i d ≡ f = ap (λ l. get_or l i d) (sym c.self.view_is) ∙ get_or_default fs i d f lt ∙ sym at in
-    let off : f.granted ≡ false = ap (λ (x : Filing). x.granted) (sym here) ∙ c.requires.waits d in
-    let among : WaitsAmong s.tally (take i fs) f (drop (suc i) fs) =
-    waits-at s.tally fs i f lt at off c.self.invariant.5 (subst (AreKept []) (sym c.self.view_is) c.requires.kept) in
-    let slice : c.as_slice-earlier.result.now ≡ fs = search rules in
-    c.do_fit_behind.ensures f (drop (suc i) fs)
-    (subst (λ l. WaitsAmong s.tally (take i l) f (drop (suc i) fs)) (sym slice) among) (sym c.wants.ensures)
-    ∙ ap (λ l. list_all (fits (requests_in (take i l))) c.wants.result.now) slice
-    ∙ ap (list_all (fits (requests_in (take i fs)))) c.wants.ensures
-    ∙ ap (λ l. granted_behind (requests_in (take i l)) f.request) c.self.view_is
-    ∙ ap (λ (x : Filing). granted_behind (requests_in (take i c.args.self.now)) x.request) (sym here)
+    let f = c.filed-f.result.now in
+    let ws = c.wants-w-items.result.now in
+    let at = boxed-at i c.self.inside.boxes c.args.self.now f c.self.view_is c.requires.there c.filed-f.ensures in
+    sym (subst (λ l. list_all (fits (requests_in (take i fs))) l ≡ true) (take-whole ws c.loop-k.k c.loop-k-test.false) c.loop-k.invariant)
+    ∙ ap (list_all (fits (requests_in (take i fs)))) c.wants-w-items.ensures
+    ∙ ap (λ (x : Filing). granted_behind (requests_in (take i fs)) x.request) (at d)

@@ -1,0 +1,14 @@
+use Rattle.std.proofs.Common.{◌≡◌, length}
+use Rattle.std.specs.List.{list_any}
+use Rattle.lock_queue.specs.Queue.{is_pooled, wants_at, requests_of}
+use Rattle.lock_table.specs.Filings.{requests_in}
+use Rattle.lock_table.specs.Views.{seen}
+use Rattle.lock_table.proofs.changes.has_pooled_in.Given as goal
+
+abbrev pub invariant-loop-f : goal.invariant-loop-f
+invariant-loop-f l =
+    list_any is_pooled (wants_at (requests_of (requests_in (seen l.rest)) l.job) l.key)
+    ≡ list_any is_pooled (wants_at (requests_of (requests_in (seen l.queue)) l.job) l.key)
+
+abbrev pub decreases-loop-f : goal.decreases-loop-f
+decreases-loop-f l = length (seen l.rest)
