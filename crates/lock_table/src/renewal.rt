@@ -120,6 +120,7 @@ fn renew_queue(shelf: &mut Shelf, hash: u16, awaited: &Awaited, woken: &mut Woke
     ensures few { length (filings shelf.new) ≤ REQUESTS }
     ensures woken { woken.new.items ≡ risen (hits awaited.now) [] (filings shelf.old) }
 {
+    // It tells the proof that at most `REQUESTS` are present.
     let _ = shelf.len();
     let mut slots = [0; REQUESTS];
     let queue = shelf.queue(hash).slots;
@@ -137,6 +138,7 @@ fn renew_marked(shelf: &mut Shelf, awaited: &Awaited, woken: &mut Woken)
     ensures few { length (filings shelf.new) ≤ REQUESTS }
     ensures woken { woken.new.items ≡ risen (hits awaited.now) [] (filings shelf.old) }
 {
+    // It tells the proof that at most `REQUESTS` are present.
     let _ = shelf.len();
     let mut marks = [0; REQUESTS];
     mark_rising(shelf, awaited, &mut marks);
@@ -155,6 +157,7 @@ pub fn renew(shelf: &mut Shelf, awaited: &Awaited, woken: &mut Woken)
     ensures woken { woken.new.items ≡ risen (hits awaited.now) [] (filings shelf.old) }
 {
     forget(woken);
+    // It tells the proof that at most `REQUESTS` are present.
     let _ = shelf.len();
     if awaited.is_none() {
         return;

@@ -387,6 +387,7 @@ impl Shelf {
         ensures value { filings self.new ≡ map (with_change job changes.now) (filings self.old) }
         ensures few { length (filings self.new) ≤ REQUESTS }
     {
+        // It tells the proof that at most `REQUESTS` are present.
         let _ = self.len();
         while let Some(i) = some_differing(self, job, changes) {
             self.change_at(i, changes);
