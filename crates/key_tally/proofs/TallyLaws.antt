@@ -22,22 +22,14 @@ use Rattle.lock_queue.proofs.Lists.{Sub, Sub-append, Sub-filter, Sub-length, Sub
 use Rattle.key_tally.specs.declared.entry.Entry.{Entry}
 use Rattle.key_tally.specs.declared.sums.Sums.{Sums}
 use Rattle.key_tally.specs.declared.tally.Tally.{Tally}
-use Rattle.key_tally.specs.Hashes.{hash_name, hash_of, hash_text, start_of}
+use Rattle.key_tally.specs.Hashes.{hash_name, hash_of, start_of}
 use Rattle.key_tally.specs.Tallies.{Counted, EntryOf, SumsOf, Tallied, beside, counted, counted_of, has_hash, judged, names_counted, of_bit, waiting_counted, wants_counted}
 use Rattle.key_tally.proofs.CountLaws.{waiting_one}
 
 -- ---- hashes
 
-text-below : (h : ℕ) (t : List ℕ) → h < 4096 → hash_text h t < 4096
-text-below h [] lt = lt
-text-below h (c ∷ cs) lt = text-below ((h * 37 + c) % 4096) cs (mod_below (h * 37 + c) 4096 (omega arith))
-
-name-below : (h : ℕ) (n : Name) → h < 4096 → hash_name h n < 4096
-name-below h (Text t) lt = text-below h t lt
-name-below h (Code c) lt = mod_below (c + h) 4096 (omega arith)
-
-pub hash_below : (k : Key) → start_of k.scope < 4096 → hash_of k < 4096
-hash_below k lt = name-below (start_of k.scope) k.name lt
+pub hash_below : (k : Key) → hash_of k < 4096
+hash_below k = mod_below (hash_name k.name + start_of k.scope) 4096 (omega arith)
 
 -- the wants of a hash
 abbrev pub of_hash : ℕ → List Counted → List Counted

@@ -5,4 +5,5 @@ pub mod ListSteps
 pub mod Lists
 pub mod Refusing
 pub mod StatusLaws
+pub mod Texts
 pub mod WellKept

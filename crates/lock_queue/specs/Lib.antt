@@ -1,4 +1,5 @@
 pub mod Keys
+pub mod Names
 pub mod Pools
 pub mod Refusals
 pub mod Uses

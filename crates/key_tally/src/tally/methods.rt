@@ -11,7 +11,7 @@ ghost use Rattle.key_tally.specs.Tallies.{Counted, EntryOf, Tallied, allows, bes
 use super::Tally;
 use crate::entry::Entry;
 use crate::hash::HASHES;
-use lock_queue::{Key, Refusal, Scope, Want};
+use lock_queue::{Key, Refusal, Want};
 use std::alloc::{AllocError, Global};
 
 /// The place of a key's entry, which is its hash.
@@ -21,11 +21,6 @@ fn place_of(key: &Key, hash: u16) -> usize
     ensures value { result ≡ hash }
     ensures below { result < HASHES }
 {
-    // Nothing is done with the job: it is read so that it is known to be a byte.
-    let _job = match key.scope {
-        Scope::All => 0,
-        Scope::Job(job) => job,
-    };
     hash as usize
 }
 
