@@ -1,15 +1,13 @@
 -- The entries of a tally are those of the wants of their hashes, one more or one less.
-use Rattle.std.proofs.Common.{drop, take, ◌≡◌, ◌≢◌, ◌∙◌, sym, ap, subst, ℕ, ◌+◌, ◌*◌, ◌%◌, ◌<◌, ◌≤◌, ◌==◌, Bool, true, false, not, ◌&&◌, ◌||◌, cond, if◌then◌else◌, List, [], ◌∷◌, ◌++◌, filter, get_or, length, length-append, map, set, sum_by, Option, Some, None, Result, IfSome, refl, arith}
+use Rattle.std.proofs.Common.{drop, take, ◌≡◌, ◌≢◌, ◌∙◌, sym, ap, subst, ℕ, ◌+◌, ◌<◌, ◌≤◌, ◌==◌, Bool, true, false, not, ◌&&◌, ◌||◌, cond, if◌then◌else◌, List, [], ◌∷◌, ◌++◌, filter, get_or, length, length-append, map, set, sum_by, Option, Some, None, Result, IfSome, refl, arith}
 use Rattle.std.specs.List.{list_all, list_any}
 use Rattle.std.proofs.lemmas.Bool.{eqb-true, eq-eqb, and_right, or_from, or_parts}
-use Rattle.std.proofs.lemmas.List.{append-nil, append_assoc, drop_more, map-append, take_more, get_or-set_same, get_or-set_other, get_or-map, length-map}
+use Rattle.std.proofs.lemmas.List.{append-nil, append_assoc, drop_more, map-append, take_more, get_or-set_same, get_or-set_other}
 use Rattle.std.proofs.lemmas.List.Elements.{filter-append}
 use Rattle.std.proofs.lemmas.List.Folds.{list_all-append}
 use Rattle.std.proofs.lemmas.List.Sums.{sum_by-append, sum_by-cons}
 use Rattle.std.proofs.lemmas.Nat.{mod_below}
 use Rattle.lock_queue.specs.declared.key.Key.{Key}
-use Rattle.lock_queue.specs.declared.name.Name.{Name}
-use Rattle.lock_queue.specs.declared.name.Name.TheVariants.{Text, Code}
 use Rattle.lock_queue.specs.declared.refusal.Refusal.{Refusal}
 use Rattle.lock_queue.specs.declared.refusal.Refusal.TheVariants.{Differs, NamedAlready}
 use Rattle.lock_queue.specs.declared.want.Want.{Want}

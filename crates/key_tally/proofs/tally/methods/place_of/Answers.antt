@@ -1,4 +1,4 @@
-use Rattle.std.proofs.Common.{◌<◌, arith}
+use Rattle.std.proofs.Common.{arith}
 use Rattle.key_tally.proofs.TallyLaws.{hash_below}
 use Rattle.key_tally.proofs.tally.methods.place_of.Goals as goal
 
