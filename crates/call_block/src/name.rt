@@ -3,14 +3,16 @@ ghost use Rattle.std.specs.Prelude.{◌≡◌, ◌<◌, nat_le};
 ghost use Rattle.word36.specs.Words.{right_half};
 ghost use Rattle.ka_word.specs.Bytes.{byte_of, incremented, position_of, size_of};
 ghost use Rattle.ka_cpu.specs.Places.{word_at};
-ghost use Rattle.lock_queue.specs.declared.name.TheConstants.{NAME_ROOM};
 ghost use Rattle.call_block.specs.Names.{characters, AreLegalCharacters, text_at, name_at};
 
 use crate::bits::bits;
 use arrayvec::ArrayString;
 use ka_cpu::{JobMemory, Regs, fetch};
-use lock_queue::{NAME_ROOM, Name, NameText, Refusal, UserCode};
-use word36::Word;
+use lock_queue::{Name, NameText, Refusal, UserCode};
+use word36::{NAME_LENGTH, Word};
+
+/// The most characters that are read of a name: one more than it may have, so that a longer one shows.
+const NAME_ROOM: usize = NAME_LENGTH + 1;
 
 /// The bits of a character.
 const CHARACTER_BITS: u64 = 7;
@@ -100,7 +102,7 @@ fn read_text<M: JobMemory>(regs: &Regs, memory: &M, pointer: Word) -> Result<Nam
     let Some(text) = read_characters(regs, memory, pointer) else {
         return Err(Refusal::BadPointer);
     };
-    NameText::held(text).ok_or(Refusal::BadName)
+    NameText::new(text.as_str()).ok_or(Refusal::BadName)
 }
 
 /// The name that a word of a block stands for.

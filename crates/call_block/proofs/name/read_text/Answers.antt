@@ -1,8 +1,9 @@
-use Rattle.std.proofs.Common.{◌∙◌, sym}
+use Rattle.std.proofs.Common.{◌∙◌, sym, ap}
+use Rattle.call_block.specs.Names.{name_text}
 use Rattle.call_block.proofs.NameLemmas.{text_of-legal, name_text-new}
 use Rattle.call_block.proofs.name.read_text.Goals as goal
 
 pub returns : goal.returns
 returns g c =
-    let made = name_text-new c.held.result c.in-Some.text.bytes c.held.ensures.variant c.held.ensures.value in
-    c.ok_or.ensures.value ∙ made ∙ sym (text_of-legal c.in-Some.text.bytes _ c.in-Some.ensures)
+    let made = name_text-new c.new.result c.as_str.result.now c.new.ensures.variant c.new.ensures.value in
+    c.ok_or.ensures.value ∙ made ∙ ap name_text c.as_str.ensures.value ∙ sym (text_of-legal c.in-Some.text.bytes _ c.in-Some.ensures)
