@@ -11,7 +11,7 @@ use Rattle.lock_queue.specs.Queue.{names}
 use Rattle.lock_queue.specs.Unused.{unused_want}
 use Rattle.lock_queue.proofs.Fitting.{same_key-eq}
 use Rattle.key_tally.specs.Hashes.{hash_of, hashes_of}
-use Rattle.lock_table.specs.Arrivals.{judged}
+use Rattle.lock_shelf.specs.Arrivals.{judged}
 
 pub or-assoc : (a b c : Bool) → ((a || b) || c) ≡ (a || (b || c))
 or-assoc true b c = refl

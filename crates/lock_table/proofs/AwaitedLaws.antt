@@ -10,12 +10,12 @@ use Rattle.lock_queue.specs.Queue.{names}
 use Rattle.lock_queue.proofs.Fitting.{same_key-refl}
 use Rattle.lock_queue.proofs.Lists.{Has}
 use Rattle.lock_table.specs.Departures.{some_names}
-use Rattle.lock_table.specs.Filings.{Filing}
-use Rattle.lock_table.specs.declared.awaited.Awaited.{Awaited}
-use Rattle.lock_table.specs.Awaited.{hits, marks}
+use Rattle.lock_shelf.specs.Filings.{Filing}
+use Rattle.lock_shelf.specs.declared.awaited.Awaited.{Awaited}
+use Rattle.lock_shelf.specs.Awaited.{hits, marks}
 use Rattle.key_tally.specs.Hashes.{hash_of, hashes_of}
 use Rattle.slot_rows.specs.Rows.{is_among}
-use Rattle.lock_table.specs.Tallies.{want_count, waiting_count}
+use Rattle.lock_shelf.specs.Tallies.{want_count, waiting_count}
 
 counted : (ws : List Want) (w : Want) → Has ws w → 1 ≤ want_count (hash_of w.key) ws
 counted [] w h = absurd h

@@ -22,11 +22,12 @@ use Rattle.lock_queue.specs.Queue.{granted_behind, names}
 use Rattle.lock_queue.specs.WellFormed.{is_job, is_well_formed, are_well_formed, are_right_wants}
 use Rattle.lock_queue.proofs.GrantLaws.{left-labels}
 use Rattle.lock_table.specs.declared.departures.Leaving.TheVariants.{All, OfId, Blocked}
-use Rattle.lock_table.specs.Departures.{leaves, stays, loses, with_fewer, keeps_wants, with_change, call_of, leaving_of}
-use Rattle.lock_table.specs.Filings.{Filing, filing, requests_in, AreRight}
-use Rattle.lock_table.specs.Boxes.{unused_filing}
-use Rattle.lock_table.specs.Findings.{pends, pending_in}
-use Rattle.lock_table.specs.Views.{is_own}
+use Rattle.lock_table.specs.Departures.{leaves, stays, loses, with_fewer, keeps_wants, call_of, leaving_of}
+use Rattle.lock_shelf.specs.Changes.{with_change}
+use Rattle.lock_shelf.specs.Filings.{Filing, filing, requests_in, AreRight}
+use Rattle.lock_shelf.specs.Boxes.{unused_filing}
+use Rattle.lock_shelf.specs.Jobs.{pends, pending_in}
+use Rattle.lock_shelf.specs.Views.{is_own}
 use Rattle.lock_table.specs.Renewals.{raised}
 use Rattle.lock_table.proofs.DepartureLaws.{after, put, Keeps, raised-all}
 use Rattle.lock_table.proofs.RightLaws.{chosen-right}

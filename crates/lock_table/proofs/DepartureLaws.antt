@@ -11,7 +11,7 @@ use Rattle.lock_queue.specs.Keys.{same_key}
 use Rattle.lock_queue.specs.Queue.{all_wants, wants_at, fits, granted_behind, is_granted, chosen_behind}
 use Rattle.lock_queue.proofs.GrantLaws.{left-gone, left-stays}
 use Rattle.lock_queue.proofs.Lists.{Has, Sub, Sub-append, Sub-none, Sub-refl, flat_map-append}
-use Rattle.lock_table.specs.Filings.{Filing, filing, requests_in, AreRight}
+use Rattle.lock_shelf.specs.Filings.{Filing, filing, requests_in, AreRight}
 use Rattle.lock_table.specs.Renewals.{raised, AreOutdated}
 use Rattle.lock_queue.proofs.Fitting.{wants_at-append, granted_behind-fewer, granted-same-at}
 

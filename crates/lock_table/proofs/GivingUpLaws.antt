@@ -14,10 +14,11 @@ use Rattle.lock_queue.specs.Queue.{names}
 use Rattle.lock_queue.specs.WellFormed.{is_well_formed, is_job, are_right_wants, are_well_formed}
 use Rattle.lock_queue.proofs.Fitting.{names-found}
 use Rattle.slot_rows.specs.Rows.{is_among}
-use Rattle.lock_table.specs.declared.awaited.Awaited.{Awaited}
-use Rattle.lock_table.specs.Awaited.{Keeps, has, marks}
-use Rattle.lock_table.specs.Departures.{some_names, CoversAll, loses, fewer, with_fewer, keeps_wants, waits_with_fewer}
-use Rattle.lock_table.specs.Filings.{Filing, filing, requests_in}
+use Rattle.lock_shelf.specs.declared.awaited.Awaited.{Awaited}
+use Rattle.lock_shelf.specs.Awaited.{Keeps, has, marks}
+use Rattle.lock_table.specs.Departures.{some_names, CoversAll, loses, with_fewer, keeps_wants, waits_with_fewer}
+use Rattle.lock_shelf.specs.Changes.{fewer}
+use Rattle.lock_shelf.specs.Filings.{Filing, filing, requests_in}
 use Rattle.lock_table.proofs.AwaitedLaws.{own-hash}
 use Rattle.lock_table.proofs.CallLaws.{none-lost}
 

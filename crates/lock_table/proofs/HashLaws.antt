@@ -1,42 +1,18 @@
 -- A job that has no want of the hashes of named keys has none of these keys.
-use Rattle.std.proofs.Common.{◌≡◌, ◌∙◌, sym, ap, refl, ℕ, ◌==◌, Bool, true, false, ◌&&◌, ◌||◌, List, [], ◌∷◌}
+use Rattle.std.proofs.Common.{◌≡◌, sym, ap, refl, ℕ, ◌==◌, Bool, true, false, ◌&&◌, ◌||◌, List, [], ◌∷◌, ◌∙◌, ◌<◌, length, get_or}
 use Rattle.std.specs.List.{list_any}
-use Rattle.std.proofs.lemmas.Bool.{and_right, eq-eqb, or_from, or_parts}
-use Rattle.std.proofs.lemmas.List.Folds.{list_any-append}
+use Rattle.std.proofs.lemmas.Bool.{eq-eqb, or_from, or_parts}
 use Rattle.key_tally.specs.Hashes.{hash_of, hashes_of}
-use Rattle.key_tally.specs.Tallies.{Counted, counted_of, has_hash}
 use Rattle.lock_queue.specs.declared.key.Key.{Key}
 use Rattle.lock_queue.specs.declared.want.Want.{Want}
 use Rattle.lock_queue.specs.Keys.{same_key}
 use Rattle.lock_queue.specs.Queue.{names}
 use Rattle.lock_queue.proofs.Fitting.{same_key-eq}
-use Rattle.lock_table.specs.Countings.{counted_in}
 use Rattle.lock_table.specs.Departures.{loses}
-use Rattle.lock_table.specs.Filings.{Filing}
-use Rattle.lock_table.specs.Tallies.{has_of_hash}
-use Rattle.lock_table.proofs.CountingLaws.{counted_by}
-
--- ---- as a tally counts them
-
-hash-one : (job j h : ℕ) (granted : Bool) (ws : List Want)
-    → list_any (λ c. c.job == job && has_hash h c) (counted_of j granted ws) ≡ (j == job && list_any (λ w. hash_of w.key == h) ws)
-hash-one job j h granted [] = sym (and_right (j == job) false refl)
-hash-one job j h granted (w ∷ ws) =
-    ap (λ b. (j == job && hash_of w.key == h) || b) (hash-one job j h granted ws)
-    ∙ both (j == job) (hash_of w.key == h) (list_any (λ v. hash_of v.key == h) ws)
-  where
-    both : (a b c : Bool) → ((a && b) || (a && c)) ≡ (a && (b || c))
-    both true b c = refl
-    both false b c = refl
-
-pub counted-hash : (job h : ℕ) (fs : List Filing) → list_any (λ c. c.job == job && has_hash h c) (counted_in fs) ≡ has_of_hash job h fs
-counted-hash job h [] = refl
-counted-hash job h (f ∷ fs) =
-    list_any-append (λ (c : Counted). c.job == job && has_hash h c) (counted_by f) (counted_in fs)
-    ∙ ap (λ b. b || list_any (λ (c : Counted). c.job == job && has_hash h c) (counted_in fs)) (hash-one job f.request.job h f.granted f.request.wants.items)
-    ∙ ap (λ b. (f.request.job == job && list_any (λ w. hash_of w.key == h) f.request.wants.items) || b) (counted-hash job h fs)
-
--- ---- as keys are named
+use Rattle.lock_shelf.specs.Filings.{Filing}
+use Rattle.lock_shelf.specs.Tallies.{has_of_hash}
+use Rattle.std.proofs.lemmas.List.{get_or-map}
+use Rattle.lock_shelf.specs.Boxes.{at}
 
 any-either : {X : Type 0} (p q : X → Bool) (xs : List X) → list_any (λ x. p x || q x) xs ≡ false
     → (list_any p xs ≡ false) × (list_any q xs ≡ false)
@@ -82,3 +58,11 @@ none-loses job named [] h = refl
 none-loses job named (f ∷ fs) h =
     let p = any-either (λ h. f.request.job == job && list_any (λ w. hash_of w.key == h) f.request.wants.items) (λ h. has_of_hash job h fs) (hashes_of named) h in
     or_from (loses job named f) (list_any (loses job named) fs) (unlosing-one job named f p.0) (none-loses job named fs p.1)
+
+-- the hash of its key stands beside each want of a request
+pub hash-own : (f : Filing) (hs : List ℕ) (ws : List Want) (k : ℕ) (w : Want) → hs ≡ hashes_of f.request.wants.items
+    → ws ≡ f.request.wants.items → k < length ws → w ≡ get_or ws k w → get_or hs k 0 ≡ hash_of w.key
+hash-own f hs ws k w is own lt at =
+    ap (λ l. get_or l k 0) (is ∙ ap hashes_of (sym own))
+    ∙ get_or-map (λ (x : Want). hash_of x.key) ws k w 0 lt
+    ∙ ap (λ (x : Want). hash_of x.key) (sym at)

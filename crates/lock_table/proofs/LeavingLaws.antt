@@ -6,11 +6,11 @@ use Rattle.std.proofs.lemmas.Bool.Decides.{nat_tests}
 use Rattle.key_tally.specs.Hashes.{hash_of}
 use Rattle.lock_queue.specs.declared.key.Key.{Key}
 use Rattle.lock_queue.specs.Queue.{names}
-use Rattle.lock_table.specs.declared.awaited.Awaited.{Awaited}
-use Rattle.lock_table.specs.Awaited.{Keeps, Marks, marks}
+use Rattle.lock_shelf.specs.declared.awaited.Awaited.{Awaited}
+use Rattle.lock_shelf.specs.Awaited.{Keeps, Marks, marks}
 use Rattle.lock_table.specs.Departures.{some_names, Covers}
-use Rattle.lock_table.specs.Filings.{Filing}
-use Rattle.lock_table.specs.Tallies.{waiting_count}
+use Rattle.lock_shelf.specs.Filings.{Filing}
+use Rattle.lock_shelf.specs.Tallies.{waiting_count}
 use Rattle.lock_table.proofs.AwaitedLaws.{some-left, waiting-fewer}
 
 module _ (test : Filing → Bool) where

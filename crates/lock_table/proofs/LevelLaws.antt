@@ -7,7 +7,7 @@ use Rattle.std.proofs.lemmas.Bool.Decides.{nat_tests}
 use Rattle.lock_queue.specs.declared.want.Want.{Want}
 use Rattle.lock_queue.specs.Enqueues.{is_too_low, some_too_low}
 use Rattle.lock_queue.specs.Queue.{all_wants, wants_of}
-use Rattle.lock_table.specs.Filings.{Filing, requests_in}
+use Rattle.lock_shelf.specs.Filings.{Filing, requests_in}
 use Rattle.lock_table.specs.Levels.{first_bound, some_below}
 
 -- the first level that is above those of these wants, and at least the given one

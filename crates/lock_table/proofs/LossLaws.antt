@@ -9,11 +9,11 @@ use Rattle.lock_queue.specs.Queue.{names}
 use Rattle.lock_table.specs.declared.changes.Hold.{Hold}
 use Rattle.lock_table.specs.declared.changes.Hold.TheVariants.{Free}
 use Rattle.lock_table.specs.Changing.{held_by, is_shut_out, key_wants, loses_key, costs_grant}
-use Rattle.lock_table.specs.Departures.{with_change}
-use Rattle.lock_table.specs.Filings.{Filing}
-use Rattle.lock_table.specs.Views.{touches}
+use Rattle.lock_shelf.specs.Changes.{with_change}
+use Rattle.lock_shelf.specs.Filings.{Filing}
+use Rattle.lock_shelf.specs.Views.{touches}
 use Rattle.lock_table.proofs.ModifyLaws.{changed-names}
-use Rattle.lock_table.proofs.ViewLaws.{names-none, unhashed}
+use Rattle.lock_shelf.proofs.ViewLaws.{names-none, unhashed}
 
 untouched-changed : (job : ℕ) (c : Want) (f : Filing) → touches (hash_of c.key) f ≡ false → key_wants c.key (with_change job (c ∷ []) f) ≡ []
 untouched-changed job c f off = names-none (with_change job (c ∷ []) f).request.wants.items c.key (go (f.request.job == job))

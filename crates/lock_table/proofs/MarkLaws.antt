@@ -1,17 +1,17 @@
 -- Which of the requests in some slots are marked.
-use Rattle.std.proofs.Common.{◌≡◌, ◌∙◌, sym, ap, subst, refl, ℕ, ◌+◌, ◌-◌, ◌<◌, ◌==◌, Bool, true, false, ◌||◌, cond, List, [], ◌∷◌, ◌++◌, filter, length, get_or, set, take, drop}
+use Rattle.std.proofs.Common.{◌≡◌, ◌∙◌, sym, ap, subst, refl, ℕ, ◌+◌, ◌-◌, ◌<◌, ◌==◌, Bool, true, false, ◌||◌, cond, List, [], ◌∷◌, ◌++◌, filter, length, get_or, set, take, drop, zero, suc, replicate}
 use Rattle.std.specs.List.{list_any}
 use Rattle.std.proofs.lemmas.Bool.{eq-eqb, eqb-true}
 use Rattle.std.proofs.lemmas.List.{map-append, take_more, take_rest, get_or-drop, get_or-set_same, get_or-set_other}
 use Rattle.std.proofs.lemmas.List.Folds.{list_any-append}
 use Rattle.lock_queue.specs.declared.want.Want.{Want}
 use Rattle.slot_rows.specs.Rows.{has_slot}
-use Rattle.lock_table.specs.declared.view.View.{View}
-use Rattle.lock_table.specs.Boxes.{Boxed, boxed_in, at, filings, slots_in}
-use Rattle.lock_table.specs.Filings.{Filing, requests_in}
+use Rattle.lock_shelf.specs.declared.view.View.{View}
+use Rattle.lock_shelf.specs.Boxes.{Boxed, boxed_in, at, filings, slots_in}
+use Rattle.lock_shelf.specs.Filings.{Filing, requests_in}
 use Rattle.lock_table.specs.Renewals.{rises, KeepsMarks, Marked, MarksRising, MarksWaiting, MayRise}
-use Rattle.lock_table.specs.Views.{Tells}
-use Rattle.lock_table.proofs.QueueLaws.{first-box, later-boxes}
+use Rattle.lock_shelf.specs.Views.{Tells}
+use Rattle.lock_shelf.proofs.QueueLaws.{first-box, later-boxes}
 
 -- each request in one of some slots that rises is marked
 abbrev pub MarksAmong : (List Want → Bool) → List ℕ → List ℕ → List Boxed → Type 0
@@ -147,3 +147,9 @@ pub all-told : (fact : List Boxed → Boxed → Type 0) (test : Filing → Bool)
     → (front later : List Boxed) (b : Boxed) → bs ≡ front ++ b ∷ later → test b.filing ≡ true → fact front b
 all-told fact test v bs t all front later b is on =
     all front later b is (ap (has_slot b.slot) (t.slots ∙ ap (λ l. slots_in (filter t.choice l)) is) ∙ chosen-there t.choice front later b (t.all b on))
+
+-- no place is marked at first
+pub no-count : (n place : ℕ) → ◌≡◌ {A = ℕ} (get_or (replicate n 0) place 0) 0
+no-count zero place = refl
+no-count (suc n) zero = refl
+no-count (suc n) (suc place) = no-count n place

@@ -21,28 +21,19 @@ use Rattle.lock_queue.specs.Queue.{wants_at, names, agree, is_pooled, amount_in,
 use Rattle.lock_queue.proofs.Fitting.{same_key-eq, same_key-swap, names-found, wants_at-append}
 use Rattle.lock_queue.proofs.Lists.{Has, Has-map, map-Has, list_all-Has, sum-cons, sum-append}
 use Rattle.lock_queue.proofs.Refusing.{refuse_if-None, or_else-None}
-use Rattle.lock_table.specs.declared.awaited.Awaited.{Awaited}
+use Rattle.lock_shelf.specs.declared.awaited.Awaited.{Awaited}
+use Rattle.lock_shelf.proofs.FiledLaws.{changed_key}
 use Rattle.lock_table.specs.declared.changes.Hold.{Hold}
 use Rattle.lock_table.specs.declared.changes.Hold.TheVariants.{Free, Shared, Exclusive}
-use Rattle.lock_table.specs.Awaited.{hits, marks, Marks}
+use Rattle.lock_shelf.specs.Awaited.{hits, marks, Marks}
 use Rattle.lock_table.specs.Changing.{fits_held, held_with, held_by, is_shut_out, key_wants, loses_key, costs_grant}
-use Rattle.lock_table.specs.Departures.{with_change}
-use Rattle.lock_table.specs.Filings.{Filing, requests_in, AreRight}
+use Rattle.lock_shelf.specs.Changes.{with_change}
+use Rattle.lock_shelf.specs.Filings.{Filing, requests_in, AreRight}
 use Rattle.lock_table.specs.Renewals.{AreOutdated}
-use Rattle.lock_table.specs.Tallies.{waiting_count}
+use Rattle.lock_shelf.specs.Tallies.{waiting_count}
 use Rattle.lock_table.proofs.AwaitedLaws.{awaited-has, has-named, unhit, own-hash}
 use Rattle.lock_table.proofs.CallLaws.{change-requests}
 use Rattle.lock_table.proofs.DepartureLaws.{lost_in, Alike, alike-stays, Stays, Rests, resting, Changes, outdated-changed, lost-changed, wants_at-one}
-
--- ---- wants that are not changed
-
-pub change-key : (cs : List Want) (w : Want) → (changed_want cs w).key ≡ w.key
-change-key [] w = refl
-change-key (c ∷ cs) w =
-    elim (same_key w.key c.key) as (λ b. (cond b (record w { shared = c.shared }) (changed_want cs w)).key ≡ w.key) [
-      | true ↦ refl
-      | false ↦ change-key cs w
-    ]
 
 pub unchanged : (cs : List Want) (w : Want) → names cs w.key ≡ false → changed_want cs w ≡ w
 unchanged [] w h = refl
@@ -59,7 +50,7 @@ pub at-changed : (cs ws : List Want) (k : Key) → names cs k ≡ false
     → filter (λ w. same_key w.key k) (map (changed_want cs) ws) ≡ filter (λ w. same_key w.key k) ws
 at-changed cs [] k h = refl
 at-changed cs (w ∷ ws) k h =
-    ap (λ key. cond (same_key key k) (changed_want cs w ∷ filter (λ w. same_key w.key k) (map (changed_want cs) ws)) (filter (λ w. same_key w.key k) (map (changed_want cs) ws))) (change-key cs w)
+    ap (λ key. cond (same_key key k) (changed_want cs w ∷ filter (λ w. same_key w.key k) (map (changed_want cs) ws)) (filter (λ w. same_key w.key k) (map (changed_want cs) ws))) (changed_key cs w)
     ∙ go (same_key w.key k) refl (at-changed cs ws k h)
   where
     go : (b : Bool) → same_key w.key k ≡ b
@@ -80,7 +71,7 @@ all-unchanged cs (w ∷ ws) h =
 pub changed-names : (cs ws : List Want) (k : Key) → names (map (changed_want cs) ws) k ≡ names ws k
 changed-names cs [] k = refl
 changed-names cs (w ∷ ws) k =
-    ap (λ key. same_key key k || names (map (changed_want cs) ws) k) (change-key cs w)
+    ap (λ key. same_key key k || names (map (changed_want cs) ws) k) (changed_key cs w)
     ∙ ap (λ b. same_key w.key k || b) (changed-names cs ws k)
 
 -- ---- the requests that have wants of the changed keys
@@ -108,7 +99,7 @@ module _ (job : ℕ) (cs : List Want) where
     kept = λ k z. at-changed cs f.request.wants.items k z;
     own = λ u.
         all-unchanged cs f.request.wants.items (λ w k.
-        ap (names cs) (sym (change-key cs w))
+        ap (names cs) (sym (changed_key cs w))
         ∙ unnamed-want cs (map (changed_want cs) f.request.wants.items) (changed_want cs w) (Has-map (changed_want cs) f.request.wants.items w k) u);
   }
   changes-of false f = record {
@@ -355,9 +346,9 @@ module _ (cs ds : List Want) (key : Key) (same : (w : Want) → same_key w.key k
       → filter (λ w. same_key w.key key) (map (changed_want cs) ws) ≡ filter (λ w. same_key w.key key) (map (changed_want ds) ws)
   at-same [] = refl
   at-same (w ∷ ws) =
-      ap (λ k. cond (same_key k key) (changed_want cs w ∷ filter (λ w. same_key w.key key) (map (changed_want cs) ws)) (filter (λ w. same_key w.key key) (map (changed_want cs) ws))) (change-key cs w)
+      ap (λ k. cond (same_key k key) (changed_want cs w ∷ filter (λ w. same_key w.key key) (map (changed_want cs) ws)) (filter (λ w. same_key w.key key) (map (changed_want cs) ws))) (changed_key cs w)
       ∙ go (same_key w.key key) refl (at-same ws)
-      ∙ ap (λ k. cond (same_key k key) (changed_want ds w ∷ filter (λ w. same_key w.key key) (map (changed_want ds) ws)) (filter (λ w. same_key w.key key) (map (changed_want ds) ws))) (sym (change-key ds w))
+      ∙ ap (λ k. cond (same_key k key) (changed_want ds w ∷ filter (λ w. same_key w.key key) (map (changed_want ds) ws)) (filter (λ w. same_key w.key key) (map (changed_want ds) ws))) (sym (changed_key ds w))
     where
       go : (b : Bool) → same_key w.key key ≡ b
           → filter (λ w. same_key w.key key) (map (changed_want cs) ws) ≡ filter (λ w. same_key w.key key) (map (changed_want ds) ws)
@@ -443,7 +434,7 @@ module _ (job : ℕ) (cs : List Want) where
       → sum_by amount_of (filter (λ w. same_key w.key k) (map (changed_want cs) ws)) ≡ sum_by amount_of (filter (λ w. same_key w.key k) ws)
   at-amounts [] k = refl
   at-amounts (w ∷ ws) k =
-      ap (λ key. sum_by amount_of (cond (same_key key k) (changed_want cs w ∷ filter (λ w. same_key w.key k) (map (changed_want cs) ws)) (filter (λ w. same_key w.key k) (map (changed_want cs) ws)))) (change-key cs w)
+      ap (λ key. sum_by amount_of (cond (same_key key k) (changed_want cs w ∷ filter (λ w. same_key w.key k) (map (changed_want cs) ws)) (filter (λ w. same_key w.key k) (map (changed_want cs) ws)))) (changed_key cs w)
       ∙ go (same_key w.key k) (at-amounts ws k)
     where
       go : (b : Bool)
@@ -488,7 +479,7 @@ module _ (job : ℕ) (cs : List Want) where
       let from = map-Has (changed_want cs) r.wants.items v h in (
         from.0,
         from.1,
-        ap (λ (u : Want). u.key) (sym from.2) ∙ change-key cs from.0,
+        ap (λ (u : Want). u.key) (sym from.2) ∙ changed_key cs from.0,
         ap (λ (u : Want). u.pool) (sym from.2) ∙ changed-pool cs from.0,
         λ n. sym from.2 ∙ unchanged cs from.0 n,
       )

@@ -9,7 +9,7 @@ use Rattle.lock_queue.specs.Keys.{same_key}
 use Rattle.lock_queue.specs.Queue.{all_wants, wants_at, wants_of, names}
 use Rattle.lock_queue.specs.StatusWords.{first_level}
 use Rattle.lock_queue.proofs.StatusLaws.{first_of}
-use Rattle.lock_table.specs.Filings.{Filing, requests_in}
+use Rattle.lock_shelf.specs.Filings.{Filing, requests_in}
 
 next-wants : (k : Key) (xs ys : List Filing) (f : Filing) → xs ≡ f ∷ ys
     → wants_at (requests_in xs) k ≡ filter (λ w. same_key w.key k) f.request.wants.items ++ wants_at (requests_in ys) k

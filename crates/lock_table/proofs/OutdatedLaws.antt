@@ -12,17 +12,17 @@ use Rattle.lock_queue.specs.Keys.{same_key}
 use Rattle.lock_queue.specs.Queue.{names}
 use Rattle.lock_queue.proofs.Fitting.{same_key-eq}
 use Rattle.lock_queue.proofs.Lists.{Has, Has-filter, Sub, Sub-refl, Sub-filter, Sub-Has}
-use Rattle.lock_table.specs.declared.awaited.Awaited.{Awaited}
+use Rattle.lock_shelf.specs.declared.awaited.Awaited.{Awaited}
 use Rattle.lock_table.specs.declared.departures.Leaving.{Leaving}
-use Rattle.lock_table.specs.Awaited.{Marks, hits, marks}
+use Rattle.lock_shelf.specs.Awaited.{Marks, hits, marks}
 use Rattle.lock_table.specs.Departures.{leaves, stays, Covers, CoversAll, loses, with_fewer, waits_with_fewer, keeps_wants}
-use Rattle.lock_table.specs.Filings.{Filing, AreRight}
+use Rattle.lock_shelf.specs.Filings.{Filing, AreRight}
 use Rattle.lock_table.specs.Renewals.{AreOutdated}
-use Rattle.lock_table.specs.Tallies.{waiting_count}
+use Rattle.lock_shelf.specs.Tallies.{waiting_count}
 use Rattle.lock_table.proofs.AwaitedLaws.{awaited-has, has-named, own-hash, some-named, unhit}
 use Rattle.lock_table.proofs.CallLaws.{filter-after, none-lost}
 use Rattle.lock_table.proofs.DepartureLaws.{after, put, at_key, Stays, Rests, outdated}
-use Rattle.lock_table.proofs.ViewLaws.{names-none}
+use Rattle.lock_shelf.proofs.ViewLaws.{names-none}
 
 -- ---- requests that leave
 

@@ -11,7 +11,7 @@ use Rattle.lock_queue.specs.Outcomes.{first_refusal, refuse_if, or_else}
 use Rattle.lock_queue.specs.Queue.{names, all_wants, wants_of}
 use Rattle.lock_queue.proofs.Fitting.{same_key-eq, same_key-refl}
 use Rattle.lock_table.specs.Departures.{loses}
-use Rattle.lock_table.specs.Filings.{Filing, requests_in}
+use Rattle.lock_shelf.specs.Filings.{Filing, requests_in}
 
 -- ---- the refusal of a call that names one lock
 

@@ -5,8 +5,9 @@ use Rattle.lock_queue.specs.declared.request.Request.{Request}
 use Rattle.lock_queue.specs.declared.want.Want.{Want}
 use Rattle.lock_queue.specs.Grants.{is_told_of, grant_of}
 use Rattle.lock_queue.specs.Queue.{granted_behind}
-use Rattle.lock_table.specs.Filings.{Filing, requests_in, AreRight}
-use Rattle.lock_table.specs.Renewals.{rises, with_grant, renewed, risen, raised, AreOutdated}
+use Rattle.lock_shelf.specs.Filings.{Filing, requests_in, AreRight}
+use Rattle.lock_table.specs.Renewals.{rises, renewed, risen, raised, AreOutdated}
+use Rattle.lock_shelf.specs.Grants.{with_grant}
 
 pub renewed-requests : (touched : List Want → Bool) (e : List Request) (fs : List Filing) → requests_in (renewed touched e fs) ≡ requests_in fs
 renewed-requests touched e [] = refl

@@ -7,9 +7,11 @@ use Rattle.lock_queue.specs.declared.request.Request.{Request}
 use Rattle.lock_queue.specs.Jobs.{is_blocking, is_interrupt, is_blocked, is_waiting_job, is_pending, pending, first_id, as_told, told_behind, told_of, is_kept_by, is_blocked_by, waits_for}
 use Rattle.lock_queue.specs.Queue.{wants_at, names, granted, is_granted, granted_behind, chosen_behind, some_behind, is_owner, is_waiter, waiters}
 use Rattle.lock_queue.specs.StatusWords.{standing, level_of, status_of}
-use Rattle.lock_table.specs.Filings.{Filing, requests_in, AreRight, same_flag, are_right}
+use Rattle.lock_shelf.specs.Filings.{Filing, requests_in, AreRight}
+use Rattle.lock_table.specs.RightGrants.{same_flag, are_right}
 use Rattle.lock_queue.proofs.Fitting.{wants_at-append, granted-same}
-use Rattle.lock_table.specs.Findings.{blocks, pends, pending_in, with_told, told_in, waits_in, owns, awaits, status_in}
+use Rattle.lock_shelf.specs.Jobs.{blocks, pends, pending_in, with_told, told_in}
+use Rattle.lock_table.specs.Findings.{waits_in, owns, awaits, status_in}
 
 -- ---- the test
 
@@ -41,12 +43,6 @@ right-to e (f ∷ fs) h =
 pub requests-push : (fs : List Filing) (f : Filing) → requests_in (fs ++ f ∷ []) ≡ requests_in fs ++ f.request ∷ []
 requests-push [] f = refl
 requests-push (x ∷ fs) f = ap (λ l. x.request ∷ l) (requests-push fs f)
-
-pub right-push : (e : List Request) (fs : List Filing) (f : Filing) → AreRight e fs
-    → f.granted ≡ granted_behind (e ++ requests_in fs) f.request → AreRight e (fs ++ f ∷ [])
-right-push e [] f h g = (g ∙ ap (λ l. granted_behind l f.request) (append-nil e), record {})
-right-push e (x ∷ fs) f h g =
-    (h.0, right-push (e ++ x.request ∷ []) fs f h.1 (g ∙ ap (λ l. granted_behind l f.request) (sym (append_assoc e (x.request ∷ []) (requests_in fs)))))
 
 -- ---- a test that rests on the grant is one of the grant beside
 

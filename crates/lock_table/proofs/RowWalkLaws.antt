@@ -6,10 +6,10 @@ use Rattle.lock_queue.specs.declared.grant.Grant.{Grant}
 use Rattle.lock_queue.specs.declared.request.Request.{Request}
 use Rattle.lock_queue.specs.declared.want.Want.{Want}
 use Rattle.slot_rows.specs.Rows.{has_slot}
-use Rattle.lock_table.specs.Boxes.{Boxed, boxed, filings, slots_in, unused_filing}
-use Rattle.lock_table.specs.Filings.{Filing, requests_in}
+use Rattle.lock_shelf.specs.Boxes.{Boxed, boxed, filings, slots_in, unused_filing}
+use Rattle.lock_shelf.specs.Filings.{Filing, requests_in}
 use Rattle.lock_table.specs.Renewals.{rises, renewed, risen, raised, as_raised, Chosen}
-use Rattle.lock_table.proofs.QueueLaws.{filings-at, filings-length, filings-take}
+use Rattle.lock_shelf.proofs.QueueLaws.{filings-at, filings-length, filings-take}
 use Rattle.lock_table.proofs.WaitingLaws.{Passed, before-it, begun, boxes-take, ended-filed, ended-told, got, lifted, passed, split-at, untouched-rises}
 
 -- the requests before a place are renewed, and the slots that are left are those of some behind it

@@ -6,10 +6,10 @@ use Rattle.lock_queue.specs.declared.key.Key.{Key}
 use Rattle.lock_queue.specs.Keys.{same_key}
 use Rattle.lock_queue.specs.Queue.{names}
 use Rattle.lock_queue.proofs.Fitting.{same_key-eq}
-use Rattle.lock_table.specs.Boxes.{Boxed, filings, slots_in}
+use Rattle.lock_shelf.specs.Boxes.{Boxed, filings, slots_in}
 use Rattle.lock_table.specs.Departures.{loses}
-use Rattle.lock_table.specs.Filings.{Filing}
-use Rattle.lock_table.specs.Views.{is_own}
+use Rattle.lock_shelf.specs.Filings.{Filing}
+use Rattle.lock_shelf.specs.Views.{is_own}
 
 -- one of two truths where the other fails
 or-off : (a b : Bool) → (a || b) ≡ false → b ≡ false

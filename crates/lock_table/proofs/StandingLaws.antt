@@ -13,11 +13,11 @@ use Rattle.lock_queue.specs.Queue.{all_wants, wants_at, names, amount_of}
 use Rattle.lock_queue.specs.StatusSteps.{with_owner, with_waiter}
 use Rattle.lock_queue.specs.StatusWords.{first_level, is_exclusive, level_of, standing}
 use Rattle.lock_queue.proofs.StatusLaws.{standing_owner, standing_waiter}
-use Rattle.lock_table.specs.Filings.{Filing, requests_in}
+use Rattle.lock_shelf.specs.Filings.{Filing, requests_in}
 use Rattle.lock_table.specs.Findings.{owns, awaits, status_in}
 use Rattle.lock_table.specs.Standings.{unwanted, with_next_owner, with_next, followed}
-use Rattle.lock_table.specs.Views.{touches}
-use Rattle.lock_table.proofs.ViewLaws.{same_wants, unhashed}
+use Rattle.lock_shelf.specs.Views.{touches}
+use Rattle.lock_shelf.proofs.ViewLaws.{same_wants, unhashed}
 
 or-turned : (a b c : Bool) → (a || (b || c)) ≡ ((b || a) || c)
 or-turned true true c = refl

@@ -8,10 +8,11 @@ use Rattle.lock_queue.specs.declared.request.Request.{Request}
 use Rattle.lock_queue.specs.declared.want.Want.{Want}
 use Rattle.lock_queue.specs.Grants.{is_told_of, grant_of}
 use Rattle.lock_queue.specs.Queue.{granted_behind}
-use Rattle.lock_table.specs.Boxes.{Boxed, boxed, filings}
-use Rattle.lock_table.specs.Filings.{Filing, requests_in}
-use Rattle.lock_table.specs.Renewals.{rises, renewed, risen, raised, with_grant, as_raised, Marked, MarksRising}
-use Rattle.lock_table.proofs.QueueLaws.{filings-at, filings-length, filings-take}
+use Rattle.lock_shelf.specs.Boxes.{Boxed, boxed, filings}
+use Rattle.lock_shelf.specs.Filings.{Filing, requests_in}
+use Rattle.lock_table.specs.Renewals.{rises, renewed, risen, raised, as_raised, Marked, MarksRising}
+use Rattle.lock_shelf.specs.Grants.{with_grant}
+use Rattle.lock_shelf.proofs.QueueLaws.{filings-at, filings-length, filings-take}
 use Rattle.lock_table.proofs.RenewalLaws.{renewed-requests}
 
 requests-length : (fs : List Filing) → length (requests_in fs) ≡ length fs

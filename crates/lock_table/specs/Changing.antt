@@ -9,8 +9,8 @@ use Rattle.lock_queue.specs.Keys.{same_key}
 use Rattle.lock_queue.specs.Queue.{is_pooled}
 use Rattle.lock_table.specs.declared.changes.Hold.{Hold}
 use Rattle.lock_table.specs.declared.changes.Hold.TheVariants.{Free, Shared, Exclusive}
-use Rattle.lock_table.specs.Departures.{with_change}
-use Rattle.lock_table.specs.Filings.{Filing}
+use Rattle.lock_shelf.specs.Changes.{with_change}
+use Rattle.lock_shelf.specs.Filings.{Filing}
 
 -- whether a want without a pool, shared or not, fits behind wants that hold its key so
 abbrev pub fits_held : Hold → Bool → Bool

@@ -1,21 +1,20 @@
--- Which requests leave, and which hashes of them are awaited.
-use Rattle.std.specs.Prelude.{ℕ, Bool, not, true, false, ◌≡◌, ◌==◌, ◌&&◌, if◌then◌else◌, List, Option, Some, None}
+-- Which requests leave or lose wants, and which hashes of them are awaited.
+use Rattle.std.specs.Prelude.{ℕ, Bool, not, true, false, ◌≡◌, ◌==◌, ◌&&◌, List, Option, Some, None}
 use Rattle.std.specs.List.{list_any}
 use Rattle.lock_queue.specs.declared.call.LockCall.{LockCall}
 use Rattle.lock_queue.specs.declared.call.LockCall.TheVariants.{DequeueAll, DequeueId}
 use Rattle.lock_queue.specs.declared.key.Key.{Key}
 use Rattle.lock_queue.specs.declared.want.Want.{Want}
-use Rattle.lock_queue.specs.Changes.{changed, changed_want}
-use Rattle.lock_queue.specs.Dequeues.{has_wants, without_keys, without_keys_of, has_id}
+use Rattle.lock_queue.specs.Dequeues.{has_wants, without_keys_of, has_id}
 use Rattle.lock_queue.specs.Jobs.{is_blocking}
 use Rattle.lock_queue.specs.Queue.{names}
 use Rattle.lock_table.specs.declared.departures.Leaving.{Leaving}
 use Rattle.lock_table.specs.declared.departures.Leaving.TheVariants.{All, OfId, Blocked}
-use Rattle.lock_table.specs.Filings.{Filing, filing}
+use Rattle.lock_shelf.specs.Filings.{Filing, filing}
 use Rattle.key_tally.specs.Hashes.{hash_of}
-use Rattle.lock_table.specs.declared.awaited.Awaited.{Awaited}
-use Rattle.lock_table.specs.Awaited.{marks}
-use Rattle.lock_table.specs.Tallies.{waiting_count}
+use Rattle.lock_shelf.specs.declared.awaited.Awaited.{Awaited}
+use Rattle.lock_shelf.specs.Awaited.{marks}
+use Rattle.lock_shelf.specs.Tallies.{waiting_count}
 
 abbrev pub leaves : ℕ → Leaving → Filing → Bool
 leaves job All f = f.request.job == job
@@ -42,10 +41,6 @@ CoversAll a test filings = (key : Key) → some_names test key filings ≡ true 
 abbrev pub loses : ℕ → List Want → Filing → Bool
 loses job named f = f.request.job == job && list_any (λ w. names named w.key) f.request.wants.items
 
--- a request without its wants of the named keys
-abbrev pub fewer : List Want → Filing → Filing
-fewer named f = filing (without_keys named f.request) f.granted
-
 -- the same, where it is the job's
 abbrev pub with_fewer : ℕ → List Want → Filing → Filing
 with_fewer job named f = filing (without_keys_of job named f.request) f.granted
@@ -56,25 +51,6 @@ keeps_wants f = has_wants f.request
 -- whether a request that is not granted loses wants and keeps others
 abbrev pub waits_with_fewer : ℕ → List Want → Filing → Bool
 waits_with_fewer job named f = (loses job named f && keeps_wants (with_fewer job named f)) && not f.granted
-
-abbrev pub with_change : ℕ → List Want → Filing → Filing
-with_change job changes f = filing (changed job changes f.request) f.granted
-
--- whether one of two holds and the other does not
-abbrev pub is_unlike : Bool → Bool → Bool
-is_unlike a b = if a then not b else b
-
--- whether one of the changes, whatever its key, is shared where the want is not, or the want where it is not
-abbrev pub some_differs : List Want → Want → Bool
-some_differs changes w = list_any (λ c. is_unlike c.shared w.shared) changes
-
--- whether the changes make a want shared that is exclusive, or exclusive that is shared
-abbrev pub is_altered : List Want → Want → Bool
-is_altered changes w = is_unlike (changed_want changes w).shared w.shared
-
--- whether a request is the job's and the changes alter one of its wants
-abbrev pub differs : ℕ → List Want → Filing → Bool
-differs job changes f = f.request.job == job && list_any (is_altered changes) f.request.wants.items
 
 -- the call by which all requests leave, or all of an id
 abbrev pub call_of : Option ℕ → LockCall

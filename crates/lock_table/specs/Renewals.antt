@@ -1,23 +1,18 @@
 -- How grants are renewed when requests have left or changed.
 use Rattle.std.specs.Prelude.{◌≡◌, ◌<◌, ⊤, ℕ, Bool, true, false, not, ◌&&◌, if◌then◌else◌, List, [], ◌∷◌, ◌++◌, filter, get_or, length}
-use Rattle.key_tally.specs.declared.tally.Tally.{Tally}
-use Rattle.key_tally.specs.Tallies.{Tallied}
 use Rattle.lock_queue.specs.declared.grant.Grant.{Grant}
 use Rattle.lock_queue.specs.declared.request.Request.{Request}
 use Rattle.lock_queue.specs.declared.want.Want.{Want}
 use Rattle.lock_queue.specs.Grants.{is_told_of, grant_of}
 use Rattle.lock_queue.specs.Queue.{granted_behind}
-use Rattle.lock_table.specs.Boxes.{Boxed, filings, slots_in}
-use Rattle.lock_table.specs.Countings.{counted_in}
-use Rattle.lock_table.specs.Filings.{Filing, filing, requests_in}
+use Rattle.lock_shelf.specs.Boxes.{Boxed, filings, slots_in}
+use Rattle.lock_shelf.specs.Filings.{Filing, requests_in}
+use Rattle.lock_shelf.specs.Grants.{with_grant}
 
 -- a request that was not granted, whose wants are touched, and that is granted now
 abbrev pub rises : (List Want → Bool) → List Request → Filing → Bool
 rises touched earlier f =
     not f.granted && (touched f.request.wants.items && granted_behind earlier f.request)
-
-abbrev pub with_grant : Filing → Filing
-with_grant f = filing f.request true
 
 -- a request that is granted behind some others has its grant
 abbrev pub as_raised : List Request → Filing → Filing
@@ -54,18 +49,6 @@ raised earlier (f ∷ later) =
     if (is_told_of f.request.kind && not f.granted) && granted_behind earlier f.request
     then grant_of f.request ∷ raised (earlier ++ f.request ∷ []) later
     else raised (earlier ++ f.request ∷ []) later
-
--- each request that is granted is granted behind the requests before it
-abbrev pub AreKept : List Request → List Filing → Type 0
-AreKept earlier [] = ⊤
-AreKept earlier (f ∷ later) =
-    (f.granted ≡ true → granted_behind earlier f.request ≡ true) × AreKept (earlier ++ f.request ∷ []) later
-
--- a request that is not granted, between the earlier and the later ones, whose wants are those of a tally
-pub record WaitsAmong (t : Tally) (earlier : List Filing) (f : Filing) (later : List Filing) : Type 0 where
-  pub waits : f.granted ≡ false
-  pub tallied : Tallied t (counted_in (earlier ++ f ∷ later))
-  pub kept : AreKept [] (earlier ++ f ∷ later)
 
 -- a request at a place that waits, and whose wants are touched
 pub record MayRise (touched : List Want → Bool) (fs : List Filing) (i : ℕ) : Type 0 where

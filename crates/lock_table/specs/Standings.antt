@@ -5,7 +5,7 @@ use Rattle.lock_queue.specs.declared.key.Key.{Key}
 use Rattle.lock_queue.specs.declared.request.Request.{Request}
 use Rattle.lock_queue.specs.declared.status.Status.{Status}
 use Rattle.lock_queue.specs.StatusSteps.{with_owner, with_waiter}
-use Rattle.lock_table.specs.Filings.{Filing}
+use Rattle.lock_shelf.specs.Filings.{Filing}
 use Rattle.lock_table.specs.Findings.{owns, awaits}
 
 -- that of a key of a level that no request wants

@@ -10,19 +10,18 @@ ghost use Rattle.lock_queue.specs.Outcomes.{first_refusal};
 ghost use Rattle.lock_queue.specs.Queue.{fits};
 ghost use Rattle.lock_queue.specs.WellFormed.{are_well_formed, names_locks, shares_no_pool, shares_no_pools};
 ghost use Rattle.key_tally.specs.Hashes.{hashes_of};
-ghost use Rattle.lock_table.specs.Boxes.{filings};
-ghost use Rattle.lock_table.specs.Filings.{requests_in, AreRight};
+ghost use Rattle.lock_shelf.specs.Boxes.{filings};
+ghost use Rattle.lock_shelf.specs.Filings.{requests_in, AreRight};
 ghost use Rattle.lock_table.specs.Departures.{call_of, leaving_of};
 
-use crate::awaited::Awaited;
 use crate::changes::{is_some_lost, refusal_of_modify};
 use crate::departures::{Leaving, depart, depart_named, depart_sole, some_losing};
 use crate::dequeues::refusal_of_dequeue;
 use crate::enqueues::judge_enqueue;
 use crate::renewal::{forget, renew};
-use crate::shelf::Shelf;
 use key_tally::{Hashes, hashes_of};
 use lock_queue::{Asking, EnqueueKind, LockCall, LockReply, Refusal, RequestId, Wants, Woken};
+use lock_shelf::{Awaited, Shelf};
 
 /// Takes in a request that is not refused, the keys of whose wants have these hashes. It is granted
 /// where its wants fit.

@@ -6,17 +6,15 @@ ghost use Rattle.lock_queue.specs.Changes.{modify_fault};
 ghost use Rattle.lock_queue.specs.Keys.{same_key};
 ghost use Rattle.lock_queue.specs.Outcomes.{first_refusal};
 ghost use Rattle.lock_queue.specs.Queue.{is_pooled, wants_at, requests_of};
-ghost use Rattle.lock_table.specs.Boxes.{filings};
+ghost use Rattle.lock_shelf.specs.Boxes.{filings};
 ghost use Rattle.lock_table.specs.Changing.{fits_held, held_with, held_unless_lost, as_changed_at, costs_grant};
-ghost use Rattle.lock_table.specs.Filings.{requests_in};
-ghost use Rattle.lock_table.specs.Views.{seen};
+ghost use Rattle.lock_shelf.specs.Filings.{requests_in};
+ghost use Rattle.lock_shelf.specs.Views.{seen};
 
-use crate::filed::Filed;
-use crate::fits::{is_key_among, job_has_key};
-use crate::shelf::Shelf;
-use crate::view::View;
+use crate::naming::{is_key_among, job_has_key};
 use lock_queue::steps::{is_pooled, is_pooled_in};
 use lock_queue::{Key, Refusal, Want};
+use lock_shelf::{Filed, Shelf, View};
 
 /// Whether a request is the job's and has a want of the key that is of a pool.
 fn has_own_pooled(f: &Filed, job: u8, key: &Key) -> bool

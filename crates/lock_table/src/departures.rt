@@ -6,23 +6,21 @@ ghost use Rattle.key_tally.specs.Hashes.{hashes_of};
 ghost use Rattle.lock_queue.specs.declared.key.Key.{Key};
 ghost use Rattle.lock_queue.specs.Queue.{names};
 ghost use Rattle.lock_queue.specs.WellFormed.{are_well_formed};
-ghost use Rattle.lock_table.specs.Boxes.{filings};
-ghost use Rattle.lock_table.specs.Departures.{leaves, stays, Covers, CoversAll, loses, fewer, with_fewer, keeps_wants, waits_with_fewer};
-ghost use Rattle.lock_table.specs.Filings.{Filing, requests_in, AreRight};
+ghost use Rattle.lock_shelf.specs.Boxes.{filings};
+ghost use Rattle.lock_table.specs.Departures.{leaves, stays, Covers, CoversAll, loses, with_fewer, keeps_wants, waits_with_fewer};
+ghost use Rattle.lock_shelf.specs.Changes.{fewer};
+ghost use Rattle.lock_shelf.specs.Filings.{Filing, requests_in, AreRight};
 ghost use Rattle.lock_table.specs.Renewals.{raised, AreOutdated};
-ghost use Rattle.lock_table.specs.Tallies.{has_of_hash};
+ghost use Rattle.lock_shelf.specs.Tallies.{has_of_hash};
 ghost use Rattle.slot_rows.specs.Rows.{is_among};
-ghost use Rattle.lock_table.specs.Awaited.{Keeps, has};
-ghost use Rattle.lock_table.specs.Views.{Tells, is_own};
+ghost use Rattle.lock_shelf.specs.Awaited.{Keeps, has};
+ghost use Rattle.lock_shelf.specs.Views.{Tells, is_own};
 
-use crate::awaited::Awaited;
-use crate::filed::Filed;
-use crate::fits::is_key_among;
+use crate::naming::is_key_among;
 use crate::renewal::renew;
-use crate::shelf::Shelf;
-use crate::view::View;
 use key_tally::hashes_of;
 use lock_queue::{EnqueueKind, RequestId, Want, Wants, Woken};
+use lock_shelf::{Awaited, Filed, Shelf, View};
 
 /// Which requests of a job leave.
 #[derive(Clone, Copy, Debug, PartialEq, Eq)]

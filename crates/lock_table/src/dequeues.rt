@@ -4,13 +4,13 @@ ghost use Rattle.std.specs.List.{list_any};
 ghost use Rattle.key_tally.specs.Hashes.{hash_of, hashes_of};
 ghost use Rattle.lock_queue.specs.Dequeues.{dequeue_fault};
 ghost use Rattle.lock_queue.specs.Outcomes.{first_refusal};
-ghost use Rattle.lock_table.specs.Boxes.{filings};
+ghost use Rattle.lock_shelf.specs.Boxes.{filings};
 ghost use Rattle.lock_table.specs.Departures.{loses};
-ghost use Rattle.lock_table.specs.Filings.{requests_in};
+ghost use Rattle.lock_shelf.specs.Filings.{requests_in};
 
-use crate::fits::{is_key_among, job_has_key};
-use crate::shelf::Shelf;
+use crate::naming::{is_key_among, job_has_key};
 use lock_queue::{Refusal, Want};
+use lock_shelf::Shelf;
 
 /// Why a want, whose key has this hash, is not given up behind the call's wants before it, if it is not.
 /// The hashes are those of their keys.

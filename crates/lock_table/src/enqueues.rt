@@ -8,18 +8,16 @@ ghost use Rattle.lock_queue.specs.Outcomes.{first_refusal};
 ghost use Rattle.lock_queue.specs.Keys.{same_key};
 ghost use Rattle.lock_queue.specs.Queue.{names, wants_at, wants_of, agree, fits};
 ghost use Rattle.key_tally.specs.Hashes.{hash_of, hashes_of};
-ghost use Rattle.lock_table.specs.Arrivals.{judged};
-ghost use Rattle.lock_table.specs.Boxes.{filings};
-ghost use Rattle.lock_table.specs.Filings.{requests_in};
+ghost use Rattle.lock_shelf.specs.Arrivals.{judged};
+ghost use Rattle.lock_shelf.specs.Boxes.{filings};
+ghost use Rattle.lock_shelf.specs.Filings.{requests_in};
 ghost use Rattle.lock_table.specs.Levels.{first_bound, some_below};
-ghost use Rattle.lock_table.specs.Views.{seen};
+ghost use Rattle.lock_shelf.specs.Views.{seen};
 
-use crate::filed::Filed;
-use crate::fits::{all_agree_in, is_fitting_where, is_key_among, job_names};
-use crate::shelf::Shelf;
-use crate::view::View;
+use crate::naming::{is_key_among, job_names};
 use lock_queue::steps::{are_alike_in, reach_level};
 use lock_queue::{Asking, EnqueueKind, Key, Level, Refusal, Want};
+use lock_shelf::{Filed, Shelf, View, all_agree_in, is_fitting_where};
 use word36::REQUESTS;
 
 /// Whether the job names the key in a request, or did so before.

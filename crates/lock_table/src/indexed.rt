@@ -2,16 +2,16 @@
 ghost use Rattle.std.specs.Prelude.{◌≡◌, ◌≤◌, [], length, IsTrue};
 ghost use Rattle.word36.specs.declared.sizes.TheConstants.{REQUESTS};
 ghost use Rattle.lock_queue.specs.WellFormed.{are_well_formed};
-ghost use Rattle.lock_table.specs.Boxes.{filings};
-ghost use Rattle.lock_table.specs.Filings.{requests_in, are_right};
+ghost use Rattle.lock_shelf.specs.Boxes.{filings};
+ghost use Rattle.lock_shelf.specs.Filings.{requests_in};
+ghost use Rattle.lock_table.specs.RightGrants.{are_right};
 
 use crate::calls::make_call;
 use crate::departures::{Leaving, depart};
-use crate::jobs::pending_in;
-use crate::shelf::Shelf;
 use crate::standing::status_in;
 use crate::waits::does_wait_for;
 use lock_queue::{Key, LockCall, LockReply, LockTable, Request, RequestId, Status, Woken};
+use lock_shelf::{Shelf, pending_in};
 use std::alloc::{AllocError, Global};
 
 /// A table that keeps beside each request whether it is granted, and knows where the requests of each key

@@ -1,24 +1,15 @@
-//! A lock table for many requests: each stands in a box of its own with its grant, and the boxes of a
-//! key's requests and of a job's are known.
+//! A lock table for many requests, which stand on a shelf, so that a call looks at few of them.
 #![tactic(auto)]
 
-mod awaited;
-mod boxes;
 mod calls;
 mod changes;
 mod departures;
 mod dequeues;
 mod enqueues;
-mod filed;
-mod fits;
 mod indexed;
-mod jobs;
+mod naming;
 mod renewal;
-mod sharing;
-mod shelf;
 mod standing;
-mod view;
-mod waiters;
 mod waits;
 
 pub use indexed::IndexedTable;

@@ -4,17 +4,16 @@ ghost use Rattle.word36.specs.declared.sizes.TheConstants.{REQUESTS};
 ghost use Rattle.key_tally.specs.Hashes.{hashes_of};
 ghost use Rattle.lock_queue.specs.declared.want.Want.{Want};
 ghost use Rattle.slot_rows.specs.Rows.{is_among};
-ghost use Rattle.lock_table.specs.Awaited.{hits};
-ghost use Rattle.lock_table.specs.Boxes.{filings, slots_in};
-ghost use Rattle.lock_table.specs.Filings.{Filing, requests_in};
-ghost use Rattle.lock_table.specs.Renewals.{renewed, risen, raised, as_raised, AreKept, Chosen, KeepsMarks, MarksRising, MarksWaiting};
-ghost use Rattle.lock_table.specs.Views.{Tells};
+ghost use Rattle.lock_shelf.specs.Awaited.{hits};
+ghost use Rattle.lock_shelf.specs.Boxes.{filings, slots_in};
+ghost use Rattle.lock_shelf.specs.Filings.{Filing, requests_in};
+ghost use Rattle.lock_table.specs.Renewals.{renewed, risen, raised, as_raised, Chosen, KeepsMarks, MarksRising, MarksWaiting};
+ghost use Rattle.lock_shelf.specs.Grants.{AreKept};
+ghost use Rattle.lock_shelf.specs.Views.{Tells};
 
-use crate::awaited::Awaited;
-use crate::shelf::Shelf;
-use crate::view::View;
 use lock_queue::Woken;
 use lock_queue::steps::{grant_of, is_told_of};
+use lock_shelf::{Awaited, Shelf, View};
 use memchr::memchr;
 use word36::REQUESTS;
 

@@ -3,18 +3,16 @@ ghost use Rattle.std.specs.Prelude.{◌≡◌, ◌≤◌, ◌<◌, ◌+◌, ◌^
 ghost use Rattle.word36.specs.declared.sizes.TheConstants.{REQUESTS};
 ghost use Rattle.lock_queue.specs.StatusSteps.{most_taken};
 ghost use Rattle.lock_queue.specs.StatusWords.{level_of};
-ghost use Rattle.lock_table.specs.Boxes.{filings};
-ghost use Rattle.lock_table.specs.Filings.{requests_in};
+ghost use Rattle.lock_shelf.specs.Boxes.{filings};
+ghost use Rattle.lock_shelf.specs.Filings.{requests_in};
 ghost use Rattle.lock_table.specs.Findings.{status_in};
 ghost use Rattle.lock_table.specs.Standings.{unwanted, with_next, with_next_owner};
-ghost use Rattle.lock_table.specs.Views.{seen};
+ghost use Rattle.lock_shelf.specs.Views.{seen};
 
-use crate::filed::Filed;
-use crate::shelf::Shelf;
-use crate::view::View;
 use key_tally::hash_of;
 use lock_queue::steps::{level_in, names_key, with_owner, with_waiter};
 use lock_queue::{Key, Level, Request, Status};
+use lock_shelf::{Filed, Shelf, View};
 
 /// The status of a key of this level that no request wants.
 fn unwanted(level: Level) -> Status

@@ -2,13 +2,11 @@
 ghost use Rattle.std.specs.Prelude.{◌≡◌, ◌<◌, [], get_or, length, take};
 ghost use Rattle.std.specs.List.{list_any};
 ghost use Rattle.lock_queue.specs.Jobs.{is_kept_by};
-ghost use Rattle.lock_table.specs.Boxes.{filings};
-ghost use Rattle.lock_table.specs.Filings.{Filing, requests_in};
+ghost use Rattle.lock_shelf.specs.Boxes.{filings};
+ghost use Rattle.lock_shelf.specs.Filings.{Filing, requests_in};
 ghost use Rattle.lock_table.specs.Findings.{waits_in};
 
-use crate::filed::Filed;
-use crate::jobs::{does_block, is_kept_by};
-use crate::shelf::Shelf;
+use lock_shelf::{Filed, Shelf, does_block, is_kept_by};
 
 /// Whether a job keeps the request at a place from one of its wants. Of the earlier requests those that
 /// may want the key are looked at.

@@ -3,8 +3,8 @@ use Rattle.std.specs.List.{list_all}
 use Rattle.lock_queue.specs.Queue.{fits}
 use Rattle.lock_queue.specs.WellFormed.{are_well_formed}
 use Rattle.lock_queue.proofs.WellKept.{right_job, well-arrival}
-use Rattle.lock_table.specs.Boxes.{filings}
-use Rattle.lock_table.specs.Filings.{requests_in}
+use Rattle.lock_shelf.specs.Boxes.{filings}
+use Rattle.lock_shelf.specs.Filings.{requests_in}
 use Rattle.lock_table.proofs.calls.arrive.Goals as goal
 
 pub returns-then-are_fitting-clause-right : goal.returns-then-are_fitting-clause-right

@@ -2,9 +2,9 @@ use Rattle.std.proofs.Common.{◌≡◌, ◌∙◌, sym, ap, true, false, [], fi
 use Rattle.std.specs.List.{list_any}
 use Rattle.lock_queue.specs.Grants.{left_of, woken, unless_refused_grants}
 use Rattle.lock_queue.specs.Outcomes.{Outcome}
-use Rattle.lock_table.specs.Boxes.{filings}
+use Rattle.lock_shelf.specs.Boxes.{filings}
 use Rattle.lock_table.specs.Departures.{leaves, stays, call_of, leaving_of}
-use Rattle.lock_table.specs.Filings.{requests_in}
+use Rattle.lock_shelf.specs.Filings.{requests_in}
 use Rattle.lock_table.specs.Renewals.{raised}
 use Rattle.lock_table.proofs.CallLaws.{dequeue-done, dequeue-none, dequeue-woken, all-stay, none-raised}
 use Rattle.lock_table.proofs.calls.dequeue.Goals as goal

@@ -5,9 +5,9 @@ use Rattle.lock_queue.specs.declared.call.LockReply.TheVariants.{Done}
 use Rattle.lock_queue.specs.Dequeues.{dequeue_fault, without_named}
 use Rattle.lock_queue.specs.Grants.{left_of, woken, unless_refused_grants}
 use Rattle.lock_queue.specs.Outcomes.{outcome, unless_refused, first_refusal}
-use Rattle.lock_table.specs.Boxes.{filings}
+use Rattle.lock_shelf.specs.Boxes.{filings}
 use Rattle.lock_table.specs.Departures.{loses, with_fewer, keeps_wants}
-use Rattle.lock_table.specs.Filings.{requests_in}
+use Rattle.lock_shelf.specs.Filings.{requests_in}
 use Rattle.lock_table.specs.Renewals.{raised}
 use Rattle.lock_table.proofs.CallLaws.{named-requests, named-woken}
 use Rattle.lock_table.proofs.RefusalLaws.{refusal-one}

@@ -8,9 +8,9 @@ use Rattle.lock_queue.specs.declared.want.Want.{Want}
 use Rattle.lock_queue.specs.Dequeues.{dequeue_fault, without_named}
 use Rattle.lock_queue.specs.Grants.{left_of, woken, unless_refused_grants}
 use Rattle.lock_queue.specs.Outcomes.{outcome, unless_refused, first_refusal}
-use Rattle.lock_table.specs.Boxes.{filings}
+use Rattle.lock_shelf.specs.Boxes.{filings}
 use Rattle.lock_table.specs.Departures.{loses, with_fewer, keeps_wants}
-use Rattle.lock_table.specs.Filings.{Filing, requests_in}
+use Rattle.lock_shelf.specs.Filings.{Filing, requests_in}
 use Rattle.lock_table.specs.Renewals.{raised}
 use Rattle.lock_table.proofs.CallLaws.{found-place, named-requests, named-woken, none-named, none-raised}
 use Rattle.lock_table.proofs.calls.dequeue_some.Goals as goal

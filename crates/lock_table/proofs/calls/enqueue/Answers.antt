@@ -7,9 +7,9 @@ use Rattle.lock_queue.specs.declared.want.Want.{Want}
 use Rattle.lock_queue.specs.Enqueues.{arrival, enqueue_refusal}
 use Rattle.lock_queue.specs.Outcomes.{unless_refused}
 use Rattle.lock_queue.specs.Queue.{fits}
-use Rattle.lock_table.specs.Arrivals.{judged}
-use Rattle.lock_table.specs.Boxes.{filings}
-use Rattle.lock_table.specs.Filings.{Filing, requests_in}
+use Rattle.lock_shelf.specs.Arrivals.{judged}
+use Rattle.lock_shelf.specs.Boxes.{filings}
+use Rattle.lock_shelf.specs.Filings.{Filing, requests_in}
 use Rattle.lock_table.proofs.calls.enqueue.Goals as goal
 
 judged-err : (o : Option Refusal) (g : Bool) (r : Refusal) → judged o g ≡ Err r → o ≡ Some r

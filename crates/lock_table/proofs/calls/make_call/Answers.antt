@@ -3,8 +3,8 @@ use Rattle.lock_queue.specs.Grants.{woken_by}
 use Rattle.lock_queue.specs.WellFormed.{are_well_formed}
 use Rattle.lock_queue.proofs.GrantLaws.{woken-enqueue}
 use Rattle.lock_queue.proofs.WellKept.{well-modify, well-named, well-all, well-id}
-use Rattle.lock_table.specs.Boxes.{filings}
-use Rattle.lock_table.specs.Filings.{requests_in}
+use Rattle.lock_shelf.specs.Boxes.{filings}
+use Rattle.lock_shelf.specs.Filings.{requests_in}
 use Rattle.lock_table.proofs.calls.make_call.Goals as goal
 
 pub returns-in-Enqueue-clause-woken : goal.returns-in-Enqueue-clause-woken

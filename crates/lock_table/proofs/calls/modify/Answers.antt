@@ -6,15 +6,15 @@ use Rattle.lock_queue.specs.declared.want.Want.{Want}
 use Rattle.lock_queue.specs.Changes.{modify_fault}
 use Rattle.lock_queue.specs.Grants.{left_of, woken, unless_refused_grants}
 use Rattle.lock_queue.specs.Outcomes.{Outcome, first_refusal}
-use Rattle.lock_table.specs.Awaited.{hits}
-use Rattle.lock_table.specs.Boxes.{filings}
+use Rattle.lock_shelf.specs.Awaited.{hits}
+use Rattle.lock_shelf.specs.Boxes.{filings}
 use Rattle.lock_table.specs.Changing.{costs_grant}
-use Rattle.lock_table.specs.Departures.{with_change}
-use Rattle.lock_table.specs.Filings.{Filing, requests_in, AreRight}
+use Rattle.lock_shelf.specs.Changes.{with_change}
+use Rattle.lock_shelf.specs.Filings.{Filing, requests_in, AreRight}
 use Rattle.lock_table.specs.Renewals.{raised, AreOutdated}
 use Rattle.lock_table.proofs.CallLaws.{change-woken}
 use Rattle.lock_table.proofs.DepartureLaws.{lost_in}
-use Rattle.lock_table.proofs.KeptLaws.{outdated-kept}
+use Rattle.lock_table.proofs.RaisedLaws.{outdated-kept}
 use Rattle.lock_table.proofs.ModifyLaws.{named, change-awaited, changes-cost, modify-done, modify-lost, modify-refused}
 use Rattle.lock_table.proofs.RenewalLaws.{renewed-requests, right-renewed, risen-raised}
 use Rattle.lock_table.proofs.calls.modify.Goals as goal

@@ -1,6 +1,6 @@
 use Rattle.std.proofs.Common.{◌∙◌}
-use Rattle.lock_table.specs.Boxes.{filings}
-use Rattle.lock_table.specs.Views.{seen}
+use Rattle.lock_shelf.specs.Boxes.{filings}
+use Rattle.lock_shelf.specs.Views.{seen}
 use Rattle.lock_table.proofs.LossLaws.{same_costs}
 use Rattle.lock_table.proofs.changes.costs_grant_at.Goals as goal
 

@@ -1,7 +1,7 @@
 use Rattle.std.proofs.Common.{◌≡◌, [], ◌∷◌, length, map}
 use Rattle.lock_table.specs.Changing.{loses_key, costs_grant}
-use Rattle.lock_table.specs.Departures.{with_change}
-use Rattle.lock_table.specs.Views.{seen}
+use Rattle.lock_shelf.specs.Changes.{with_change}
+use Rattle.lock_shelf.specs.Views.{seen}
 use Rattle.lock_table.proofs.changes.does_cost_grant.Given as goal
 
 abbrev pub invariant-loop-f : goal.invariant-loop-f

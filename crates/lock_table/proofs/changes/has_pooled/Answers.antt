@@ -1,9 +1,9 @@
 use Rattle.std.proofs.Common.{◌∙◌, ap}
 use Rattle.std.specs.List.{list_any}
 use Rattle.lock_queue.specs.Queue.{is_pooled}
-use Rattle.lock_table.specs.Boxes.{filings}
-use Rattle.lock_table.specs.Views.{seen}
-use Rattle.lock_table.proofs.ViewLaws.{same_wants_of}
+use Rattle.lock_shelf.specs.Boxes.{filings}
+use Rattle.lock_shelf.specs.Views.{seen}
+use Rattle.lock_table.proofs.OwnLaws.{same_wants_of}
 use Rattle.lock_table.proofs.changes.has_pooled.Goals as goal
 
 pub returns : goal.returns

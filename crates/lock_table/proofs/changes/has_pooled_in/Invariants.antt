@@ -1,8 +1,8 @@
 use Rattle.std.proofs.Common.{◌≡◌, length}
 use Rattle.std.specs.List.{list_any}
 use Rattle.lock_queue.specs.Queue.{is_pooled, wants_at, requests_of}
-use Rattle.lock_table.specs.Filings.{requests_in}
-use Rattle.lock_table.specs.Views.{seen}
+use Rattle.lock_shelf.specs.Filings.{requests_in}
+use Rattle.lock_shelf.specs.Views.{seen}
 use Rattle.lock_table.proofs.changes.has_pooled_in.Given as goal
 
 abbrev pub invariant-loop-f : goal.invariant-loop-f

@@ -1,8 +1,8 @@
 use Rattle.std.proofs.Common.{◌≡◌, [], take, drop}
 use Rattle.lock_queue.specs.Changes.{modify_fault}
 use Rattle.lock_queue.specs.Outcomes.{first_refusal}
-use Rattle.lock_table.specs.Boxes.{filings}
-use Rattle.lock_table.specs.Filings.{requests_in}
+use Rattle.lock_shelf.specs.Boxes.{filings}
+use Rattle.lock_shelf.specs.Filings.{requests_in}
 use Rattle.lock_table.proofs.changes.refusal_of_modify.Given as goal
 
 abbrev pub invariant-loop-i : goal.invariant-loop-i

@@ -1,6 +1,6 @@
 use Rattle.std.proofs.Common.{◌≡◌, ℕ, true, take}
 use Rattle.slot_rows.specs.Rows.{is_among}
-use Rattle.lock_table.specs.Awaited.{Keeps, has}
+use Rattle.lock_shelf.specs.Awaited.{Keeps, has}
 use Rattle.lock_table.proofs.departures.add_all.Given as goal
 
 abbrev pub invariant-loop-hash : goal.invariant-loop-hash

@@ -1,10 +1,10 @@
 use Rattle.std.proofs.Common.{◌∙◌, sym, ap, subst, [], ◌==◌, not, length, filter}
-use Rattle.lock_table.specs.Awaited.{hits}
-use Rattle.lock_table.specs.Boxes.{filings}
+use Rattle.lock_shelf.specs.Awaited.{hits}
+use Rattle.lock_shelf.specs.Boxes.{filings}
 use Rattle.lock_table.specs.Departures.{leaves, stays}
-use Rattle.lock_table.specs.Filings.{requests_in, AreRight}
+use Rattle.lock_shelf.specs.Filings.{requests_in, AreRight}
 use Rattle.lock_table.specs.Renewals.{raised, AreOutdated}
-use Rattle.lock_table.proofs.KeptLaws.{outdated-kept}
+use Rattle.lock_table.proofs.RaisedLaws.{outdated-kept}
 use Rattle.lock_table.proofs.LeavingLaws.{fewer-stay}
 use Rattle.lock_table.proofs.OutdatedLaws.{leaving-outdated}
 use Rattle.lock_table.proofs.RenewalLaws.{renewed-requests, right-renewed, risen-raised}

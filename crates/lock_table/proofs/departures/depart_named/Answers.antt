@@ -1,15 +1,15 @@
 use Rattle.std.proofs.Common.{◌≡◌, ◌∙◌, ◌<◌, sym, ap, subst, refl, true, false, [], filter, map, get_or, length, MatchOption}
 use Rattle.std.specs.List.{list_any}
-use Rattle.lock_table.specs.Awaited.{hits}
-use Rattle.lock_table.specs.Boxes.{filings, unused_filing}
+use Rattle.lock_shelf.specs.Awaited.{hits}
+use Rattle.lock_shelf.specs.Boxes.{filings, unused_filing}
 use Rattle.lock_table.specs.Departures.{loses, with_fewer, keeps_wants}
-use Rattle.lock_table.specs.Filings.{Filing, requests_in, AreRight}
+use Rattle.lock_shelf.specs.Filings.{Filing, requests_in, AreRight}
 use Rattle.lock_table.specs.Renewals.{raised, AreOutdated}
-use Rattle.lock_table.specs.Tallies.{has_of_hash}
+use Rattle.lock_shelf.specs.Tallies.{has_of_hash}
 use Rattle.lock_table.proofs.FindingLaws.{both-found}
 use Rattle.lock_table.proofs.GivingUpLaws.{covers-first, covers-last, left-all, step-covers, step-kept, step-left, step-smaller, well-kept}
 use Rattle.lock_table.proofs.HashLaws.{none-loses}
-use Rattle.lock_table.proofs.KeptLaws.{outdated-kept}
+use Rattle.lock_table.proofs.RaisedLaws.{outdated-kept}
 use Rattle.lock_table.proofs.OutdatedLaws.{named-outdated}
 use Rattle.lock_table.proofs.RenewalLaws.{renewed-requests, right-renewed, risen-raised}
 use Rattle.lock_table.proofs.departures.depart_named.Goals as goal

@@ -1,9 +1,9 @@
 use Rattle.std.proofs.Common.{◌≡◌, ◌<◌, true, false, get_or, filter, map, length, MatchOption}
 use Rattle.std.specs.List.{list_any, list_all}
-use Rattle.lock_table.specs.Awaited.{Marks}
-use Rattle.lock_table.specs.Boxes.{filings}
+use Rattle.lock_shelf.specs.Awaited.{Marks}
+use Rattle.lock_shelf.specs.Boxes.{filings}
 use Rattle.lock_table.specs.Departures.{loses, with_fewer, keeps_wants, waits_with_fewer}
-use Rattle.lock_table.specs.Filings.{Filing}
+use Rattle.lock_shelf.specs.Filings.{Filing}
 use Rattle.lock_table.proofs.GivingUpLaws.{CoversAllBut}
 use Rattle.lock_table.proofs.departures.depart_named.Given as goal
 

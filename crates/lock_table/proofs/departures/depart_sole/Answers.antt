@@ -1,13 +1,14 @@
 use Rattle.std.proofs.Common.{◌≡◌, ◌∙◌, ◌<◌, sym, ap, subst, true, false, not, [], filter, map, get_or, length}
 use Rattle.std.specs.List.{list_any}
-use Rattle.lock_table.specs.Awaited.{Marks, hits}
-use Rattle.lock_table.specs.Boxes.{filings, unused_filing}
-use Rattle.lock_table.specs.Departures.{fewer, loses, with_fewer, keeps_wants}
-use Rattle.lock_table.specs.Filings.{Filing, requests_in, AreRight}
+use Rattle.lock_shelf.specs.Awaited.{Marks, hits}
+use Rattle.lock_shelf.specs.Boxes.{filings, unused_filing}
+use Rattle.lock_shelf.specs.Changes.{fewer}
+use Rattle.lock_table.specs.Departures.{loses, with_fewer, keeps_wants}
+use Rattle.lock_shelf.specs.Filings.{Filing, requests_in, AreRight}
 use Rattle.lock_table.specs.Renewals.{raised, AreOutdated}
-use Rattle.lock_table.specs.Views.{is_own}
+use Rattle.lock_shelf.specs.Views.{is_own}
 use Rattle.lock_table.proofs.GivingUpLaws.{bare-gone, covers-bare, covers-first, covers-last, left-all, named-all, step-covers, step-kept, step-left, well-kept}
-use Rattle.lock_table.proofs.KeptLaws.{outdated-kept}
+use Rattle.lock_table.proofs.RaisedLaws.{outdated-kept}
 use Rattle.lock_table.proofs.OutdatedLaws.{named-outdated}
 use Rattle.lock_table.proofs.RenewalLaws.{renewed-requests, right-renewed, risen-raised}
 use Rattle.lock_table.proofs.SoleLaws.{any-at, none-own, removed}

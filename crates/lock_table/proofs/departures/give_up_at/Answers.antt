@@ -4,10 +4,11 @@ use Rattle.std.proofs.lemmas.Bool.{and_parts}
 use Rattle.lock_queue.specs.Queue.{names}
 use Rattle.key_tally.specs.Hashes.{hashes_of}
 use Rattle.slot_rows.specs.Rows.{is_among}
-use Rattle.lock_table.specs.Awaited.{Keeps}
-use Rattle.lock_table.specs.Boxes.{filings, unused_filing}
-use Rattle.lock_table.specs.Departures.{CoversAll, fewer, waits_with_fewer}
-use Rattle.lock_table.specs.Filings.{Filing}
+use Rattle.lock_shelf.specs.Awaited.{Keeps}
+use Rattle.lock_shelf.specs.Boxes.{filings, unused_filing}
+use Rattle.lock_table.specs.Departures.{CoversAll, waits_with_fewer}
+use Rattle.lock_shelf.specs.Changes.{fewer}
+use Rattle.lock_shelf.specs.Filings.{Filing}
 use Rattle.lock_table.proofs.GivingUpLaws.{named-all, bare-gone, kept-there, covers-one, covers-granted, covers-bare}
 use Rattle.lock_table.proofs.departures.give_up_at.Goals as goal
 use Rattle.lock_table.proofs.departures.give_up_at.Goals.{then-not-is_granted, else-not-is_granted}

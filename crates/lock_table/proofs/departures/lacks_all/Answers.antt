@@ -2,8 +2,8 @@ use Rattle.std.proofs.Common.{ℕ, ◌∙◌, get_or, take}
 use Rattle.std.specs.List.{list_any}
 use Rattle.std.proofs.lemmas.Bool.{or_from}
 use Rattle.std.proofs.lemmas.List.Folds.{list_any_more}
-use Rattle.lock_table.specs.Boxes.{filings}
-use Rattle.lock_table.specs.Tallies.{has_of_hash}
+use Rattle.lock_shelf.specs.Boxes.{filings}
+use Rattle.lock_shelf.specs.Tallies.{has_of_hash}
 use Rattle.lock_table.proofs.departures.lacks_all.Goals as goal
 
 pub loop-hash-preserved : goal.loop-hash-preserved

@@ -1,7 +1,7 @@
 use Rattle.std.proofs.Common.{◌≡◌, false, take}
 use Rattle.std.specs.List.{list_any}
-use Rattle.lock_table.specs.Boxes.{filings}
-use Rattle.lock_table.specs.Tallies.{has_of_hash}
+use Rattle.lock_shelf.specs.Boxes.{filings}
+use Rattle.lock_shelf.specs.Tallies.{has_of_hash}
 use Rattle.lock_table.proofs.departures.lacks_all.Given as goal
 
 abbrev pub invariant-loop-hash : goal.invariant-loop-hash

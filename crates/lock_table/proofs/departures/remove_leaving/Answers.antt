@@ -1,7 +1,7 @@
 use Rattle.std.proofs.Common.{◌≡◌, ◌∙◌, ◌<◌, sym, ap, subst, true, filter, get_or, length}
-use Rattle.lock_table.specs.Boxes.{filings, unused_filing}
+use Rattle.lock_shelf.specs.Boxes.{filings, unused_filing}
 use Rattle.lock_table.specs.Departures.{leaves, stays}
-use Rattle.lock_table.specs.Filings.{Filing}
+use Rattle.lock_shelf.specs.Filings.{Filing}
 use Rattle.lock_table.proofs.CallLaws.{all-stay}
 use Rattle.lock_table.proofs.LeavingLaws.{CoversBut, filter-removed, covers-step, covers-end}
 use Rattle.lock_table.proofs.departures.remove_leaving.Goals as goal

@@ -1,5 +1,5 @@
 use Rattle.std.proofs.Common.{◌≡◌, filter, length}
-use Rattle.lock_table.specs.Boxes.{filings}
+use Rattle.lock_shelf.specs.Boxes.{filings}
 use Rattle.lock_table.specs.Departures.{leaves, stays}
 use Rattle.lock_table.proofs.LeavingLaws.{CoversBut}
 use Rattle.lock_table.proofs.departures.remove_leaving.Given as goal

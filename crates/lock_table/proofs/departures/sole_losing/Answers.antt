@@ -1,6 +1,6 @@
 use Rattle.std.proofs.Common.{◌∙◌, sym, get_or, arith}
-use Rattle.lock_table.specs.Views.{is_own}
-use Rattle.lock_table.proofs.FindingLaws.{tells-slot}
+use Rattle.lock_shelf.specs.Views.{is_own}
+use Rattle.lock_shelf.proofs.SlotLaws.{tells-slot}
 use Rattle.lock_table.proofs.SoleLaws.{alone-left, one-is}
 use Rattle.lock_table.proofs.departures.sole_losing.Goals as goal
 

@@ -1,6 +1,7 @@
 use Rattle.std.proofs.Common.{arith}
-use Rattle.lock_table.specs.Views.{is_own}
-use Rattle.lock_table.proofs.FindingLaws.{none-leaving, tells-slot}
+use Rattle.lock_shelf.specs.Views.{is_own}
+use Rattle.lock_table.proofs.FindingLaws.{none-leaving}
+use Rattle.lock_shelf.proofs.SlotLaws.{tells-slot}
 use Rattle.lock_table.proofs.departures.some_leaving.Goals as goal
 
 pub place_of-requires : goal.place_of-requires

@@ -1,6 +1,6 @@
 use Rattle.std.proofs.Common.{◌≡◌, false, take}
 use Rattle.std.specs.List.{list_any}
-use Rattle.lock_table.specs.Boxes.{at_all}
+use Rattle.lock_shelf.specs.Boxes.{at_all}
 use Rattle.lock_table.specs.Departures.{leaves}
 use Rattle.lock_table.proofs.departures.some_leaving.Given as goal
 

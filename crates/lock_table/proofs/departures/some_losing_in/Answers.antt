@@ -1,6 +1,6 @@
 use Rattle.std.proofs.Common.{arith}
 use Rattle.lock_table.specs.Departures.{loses}
-use Rattle.lock_table.proofs.FindingLaws.{none-told, tells-slot}
+use Rattle.lock_shelf.proofs.SlotLaws.{none-told, tells-slot}
 use Rattle.lock_table.proofs.departures.some_losing_in.Goals as goal
 
 pub place_of-requires : goal.place_of-requires

@@ -1,5 +1,5 @@
 use Rattle.std.proofs.Common.{◌≡◌, ◌∙◌, sym, true, false, length, arith}
-use Rattle.lock_table.specs.Boxes.{filings}
+use Rattle.lock_shelf.specs.Boxes.{filings}
 use Rattle.lock_table.proofs.RefusalLaws.{refusal-one}
 use Rattle.lock_table.proofs.dequeues.refusal_of_dequeue.Goals as goal
 

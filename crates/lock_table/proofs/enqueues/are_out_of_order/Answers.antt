@@ -1,11 +1,11 @@
 use Rattle.std.proofs.Common.{◌≡◌, ◌∙◌, sym, ap, true, false, arith, nat_le}
 use Rattle.std.specs.List.{list_any}
 use Rattle.lock_queue.specs.Queue.{wants_of}
-use Rattle.lock_table.specs.Boxes.{filings}
-use Rattle.lock_table.specs.Filings.{requests_in}
-use Rattle.lock_table.specs.Views.{seen}
+use Rattle.lock_shelf.specs.Boxes.{filings}
+use Rattle.lock_shelf.specs.Filings.{requests_in}
+use Rattle.lock_shelf.specs.Views.{seen}
 use Rattle.lock_table.proofs.LevelLaws.{first_bound_order, out_of_own_order}
-use Rattle.lock_table.proofs.ViewLaws.{same_own}
+use Rattle.lock_table.proofs.OwnLaws.{same_own}
 use Rattle.lock_table.proofs.enqueues.are_out_of_order.Goals as goal
 
 pub returns-then-is_some_below : goal.returns-then-is_some_below

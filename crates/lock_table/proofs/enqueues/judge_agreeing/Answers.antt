@@ -5,9 +5,9 @@ use Rattle.lock_queue.specs.Outcomes.{or_else, refuse_if}
 use Rattle.lock_queue.specs.Enqueues.{are_alike}
 use Rattle.lock_queue.specs.Keys.{same_key}
 use Rattle.lock_queue.specs.Queue.{agree, names, wants_at, wants_of}
-use Rattle.lock_table.specs.Arrivals.{judged}
-use Rattle.lock_table.specs.Filings.{requests_in}
-use Rattle.lock_table.specs.Views.{seen}
+use Rattle.lock_shelf.specs.Arrivals.{judged}
+use Rattle.lock_shelf.specs.Filings.{requests_in}
+use Rattle.lock_shelf.specs.Views.{seen}
 use Rattle.lock_table.proofs.ArrivalLaws.{or-assoc, and-assoc}
 use Rattle.lock_table.proofs.NextLaws.{next-all, next-names}
 use Rattle.lock_table.proofs.enqueues.judge_agreeing.Goals as goal

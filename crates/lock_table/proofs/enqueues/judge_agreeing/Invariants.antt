@@ -2,8 +2,8 @@ use Rattle.std.proofs.Common.{◌≡◌, ◌&&◌, ◌||◌, length}
 use Rattle.std.specs.List.{list_all}
 use Rattle.lock_queue.specs.Enqueues.{are_alike}
 use Rattle.lock_queue.specs.Queue.{agree, names, wants_at, wants_of}
-use Rattle.lock_table.specs.Filings.{requests_in}
-use Rattle.lock_table.specs.Views.{seen}
+use Rattle.lock_shelf.specs.Filings.{requests_in}
+use Rattle.lock_shelf.specs.Views.{seen}
 use Rattle.lock_table.proofs.enqueues.judge_agreeing.Given as goal
 
 abbrev pub invariant-loop-f : goal.invariant-loop-f

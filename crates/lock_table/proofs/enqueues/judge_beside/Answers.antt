@@ -4,11 +4,12 @@ use Rattle.lock_queue.specs.declared.refusal.Refusal.TheVariants.{Differs, Named
 use Rattle.lock_queue.specs.Enqueues.{are_alike}
 use Rattle.lock_queue.specs.Outcomes.{or_else, refuse_if}
 use Rattle.lock_queue.specs.Queue.{fits_beside, names, wants_at, wants_of}
-use Rattle.lock_table.specs.Arrivals.{judged}
-use Rattle.lock_table.specs.Boxes.{filings}
-use Rattle.lock_table.specs.Filings.{requests_in}
-use Rattle.lock_table.specs.Views.{seen}
-use Rattle.lock_table.proofs.ViewLaws.{same_wants, same_names}
+use Rattle.lock_shelf.specs.Arrivals.{judged}
+use Rattle.lock_shelf.specs.Boxes.{filings}
+use Rattle.lock_shelf.specs.Filings.{requests_in}
+use Rattle.lock_shelf.specs.Views.{seen}
+use Rattle.lock_shelf.proofs.ViewLaws.{same_wants}
+use Rattle.lock_table.proofs.OwnLaws.{same_names}
 use Rattle.lock_table.proofs.enqueues.judge_beside.Goals as goal
 
 pub returns-in-None : goal.returns-in-None

@@ -6,9 +6,9 @@ use Rattle.lock_queue.specs.declared.want.Want.{Want}
 use Rattle.lock_queue.specs.Enqueues.{enqueue_fault}
 use Rattle.lock_queue.specs.Outcomes.{or_else, first_refusal}
 use Rattle.lock_queue.specs.Queue.{fits}
-use Rattle.lock_table.specs.Arrivals.{judged}
-use Rattle.lock_table.specs.Boxes.{filings}
-use Rattle.lock_table.specs.Filings.{requests_in}
+use Rattle.lock_shelf.specs.Arrivals.{judged}
+use Rattle.lock_shelf.specs.Boxes.{filings}
+use Rattle.lock_shelf.specs.Filings.{requests_in}
 use Rattle.lock_table.proofs.ArrivalLaws.{judged-ok, judged-err, judged-step}
 use Rattle.lock_table.proofs.enqueues.judge_wants.Goals as goal
 use Rattle.lock_table.proofs.enqueues.judge_wants.Goals.{then-are_fitting, else-are_fitting}

@@ -3,9 +3,9 @@ use Rattle.std.specs.List.{list_all}
 use Rattle.lock_queue.specs.Enqueues.{enqueue_fault}
 use Rattle.lock_queue.specs.Outcomes.{first_refusal}
 use Rattle.lock_queue.specs.Queue.{fits}
-use Rattle.lock_table.specs.Arrivals.{judged}
-use Rattle.lock_table.specs.Boxes.{filings}
-use Rattle.lock_table.specs.Filings.{requests_in}
+use Rattle.lock_shelf.specs.Arrivals.{judged}
+use Rattle.lock_shelf.specs.Boxes.{filings}
+use Rattle.lock_shelf.specs.Filings.{requests_in}
 use Rattle.lock_table.proofs.enqueues.judge_wants.Given as goal
 
 abbrev pub invariant-loop-i : goal.invariant-loop-i

@@ -1,10 +1,10 @@
 use Rattle.std.proofs.Common.{◌≡◌, ◌∙◌, ◌<◌, ◌++◌, ◌∷◌, List, rules, false, ap, sym, subst, length, get_or, set, length-set, arith}
 use Rattle.std.proofs.lemmas.List.{get_or-set_same, take_all}
-use Rattle.lock_table.specs.Awaited.{hits}
-use Rattle.lock_table.specs.Boxes.{Boxed, at, filings}
-use Rattle.lock_table.specs.Filings.{Filing, requests_in}
+use Rattle.lock_shelf.specs.Awaited.{hits}
+use Rattle.lock_shelf.specs.Boxes.{Boxed, at, filings}
+use Rattle.lock_shelf.specs.Filings.{Filing, requests_in}
 use Rattle.lock_table.specs.Renewals.{rises, KeepsMarks, MarksWaiting, MayRise}
-use Rattle.lock_table.proofs.FindingLaws.{tells-slot}
+use Rattle.lock_shelf.proofs.SlotLaws.{tells-slot}
 use Rattle.lock_table.proofs.MarkLaws.{MarksAmong, among-all, among-more, filings-append, in-slot, keeps-more, waiting-more}
 use Rattle.lock_table.proofs.WaitingLaws.{granted-rises, kept-rises, untouched-rises}
 use Rattle.lock_table.proofs.renewal.mark_among.Goals as goal

@@ -1,7 +1,7 @@
 -- Of the requests in the slots before the next one those that rise are marked, and only such as may rise.
 use Rattle.std.proofs.Common.{◌≡◌, length, take}
-use Rattle.lock_table.specs.Awaited.{hits}
-use Rattle.lock_table.specs.Boxes.{filings}
+use Rattle.lock_shelf.specs.Awaited.{hits}
+use Rattle.lock_shelf.specs.Boxes.{filings}
 use Rattle.lock_table.specs.Renewals.{KeepsMarks, MarksWaiting}
 use Rattle.lock_table.proofs.MarkLaws.{MarksAmong}
 use Rattle.lock_table.proofs.renewal.mark_among.Given as goal

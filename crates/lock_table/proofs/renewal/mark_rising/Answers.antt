@@ -1,9 +1,9 @@
 use Rattle.std.proofs.Common.{◌∙◌, ap, sym, false, refl, get_or, arith}
 use Rattle.std.specs.List.{list_any}
 use Rattle.std.proofs.lemmas.List.{take_all}
-use Rattle.lock_table.specs.Awaited.{hits}
-use Rattle.lock_table.specs.Filings.{Filing}
-use Rattle.lock_table.specs.Views.{touches}
+use Rattle.lock_shelf.specs.Awaited.{hits}
+use Rattle.lock_shelf.specs.Filings.{Filing}
+use Rattle.lock_shelf.specs.Views.{touches}
 use Rattle.lock_table.proofs.MarkLaws.{hash-more}
 use Rattle.lock_table.proofs.renewal.mark_rising.Goals as goal
 

@@ -1,10 +1,10 @@
 -- The requests that want a key of one of the hashes before the next one, and rise, are marked.
 use Rattle.std.proofs.Common.{◌≡◌, length, take}
 use Rattle.std.specs.List.{list_any}
-use Rattle.lock_table.specs.Awaited.{hits}
-use Rattle.lock_table.specs.Boxes.{filings}
+use Rattle.lock_shelf.specs.Awaited.{hits}
+use Rattle.lock_shelf.specs.Boxes.{filings}
 use Rattle.lock_table.specs.Renewals.{MarksRising, MarksWaiting}
-use Rattle.lock_table.specs.Views.{touches}
+use Rattle.lock_shelf.specs.Views.{touches}
 use Rattle.lock_table.proofs.renewal.mark_rising.Given as goal
 
 abbrev pub invariant-loop-hash : goal.invariant-loop-hash

@@ -1,6 +1,6 @@
 use Rattle.std.proofs.Common.{◌∙◌, sym, rules, []}
-use Rattle.lock_table.specs.Awaited.{hits}
-use Rattle.lock_table.specs.Boxes.{filings}
+use Rattle.lock_shelf.specs.Awaited.{hits}
+use Rattle.lock_shelf.specs.Boxes.{filings}
 use Rattle.lock_table.proofs.RenewalLaws.{renewed_none, risen_none}
 use Rattle.lock_table.proofs.renewal.renew.Goals as goal
 

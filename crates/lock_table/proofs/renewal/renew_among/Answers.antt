@@ -1,10 +1,11 @@
 use Rattle.std.proofs.Common.{◌≡◌, ◌∙◌, rules, subst, ap, sym, [], ◌∷◌, ◌++◌, get_or, set, take, drop, length, suc, arith}
 use Rattle.lock_queue.specs.Queue.{granted_behind}
-use Rattle.lock_table.specs.Awaited.{hits}
-use Rattle.lock_table.specs.Boxes.{filings, slots_in, unused_filing}
-use Rattle.lock_table.specs.Filings.{Filing, requests_in}
-use Rattle.lock_table.specs.Renewals.{raised, as_raised, AreKept}
-use Rattle.lock_table.proofs.KeptLaws.{raised-kept}
+use Rattle.lock_shelf.specs.Awaited.{hits}
+use Rattle.lock_shelf.specs.Boxes.{filings, slots_in, unused_filing}
+use Rattle.lock_shelf.specs.Filings.{Filing, requests_in}
+use Rattle.lock_table.specs.Renewals.{raised, as_raised}
+use Rattle.lock_shelf.specs.Grants.{AreKept}
+use Rattle.lock_table.proofs.RaisedLaws.{raised-kept}
 use Rattle.lock_table.proofs.RowWalkLaws.{started, facing, there, among, here-filed, here-place, here-slot, here-split, stayed, raised-one, walked-filed, walked-told, before-same}
 use Rattle.lock_table.proofs.MarkLaws.{filings-append}
 use Rattle.lock_table.proofs.WaitingLaws.{few-told, got, granted-rises, kept-rises, renewed-length, untouched-rises}

@@ -1,8 +1,8 @@
 -- The requests in the slots before the next one are renewed, and those between them.
 use Rattle.std.proofs.Common.{[]}
-use Rattle.lock_table.specs.Awaited.{hits}
-use Rattle.lock_table.specs.Boxes.{filings}
-use Rattle.lock_table.specs.Renewals.{AreKept}
+use Rattle.lock_shelf.specs.Awaited.{hits}
+use Rattle.lock_shelf.specs.Boxes.{filings}
+use Rattle.lock_shelf.specs.Grants.{AreKept}
 use Rattle.lock_table.proofs.RowWalkLaws.{Walked}
 use Rattle.lock_table.proofs.renewal.renew_among.Given as goal
 

@@ -1,13 +1,12 @@
 use Rattle.std.proofs.Common.{◌≡◌, ◌∙◌, ◌+◌, ◌-◌, ◌<◌, ap, sym, subst, length, get_or, arith}
 use Rattle.std.proofs.lemmas.Bool.{eq-eqb, eqb-true}
 use Rattle.word36.specs.declared.sizes.TheConstants.{REQUESTS}
-use Rattle.lock_table.specs.Awaited.{hits}
-use Rattle.lock_table.specs.Boxes.{filings, unused_filing}
-use Rattle.lock_table.specs.Filings.{Filing}
+use Rattle.lock_shelf.specs.Awaited.{hits}
+use Rattle.lock_shelf.specs.Boxes.{filings, unused_filing}
+use Rattle.lock_shelf.specs.Filings.{Filing}
 use Rattle.lock_table.specs.Renewals.{Marked, MayRise}
-use Rattle.lock_table.proofs.KeptLaws.{raised-kept}
-use Rattle.lock_table.proofs.MarkLaws.{behind-at}
-use Rattle.lock_table.proofs.WaiterLaws.{no-count}
+use Rattle.lock_table.proofs.RaisedLaws.{raised-kept}
+use Rattle.lock_table.proofs.MarkLaws.{behind-at, no-count}
 use Rattle.lock_table.proofs.WaitingLaws.{Passed, skipped, unmarked-rests, got, lifted, few-told, passed-length, ended-filed, ended-told}
 use Rattle.lock_table.proofs.renewal.renew_marked.Goals as goal
 

@@ -1,9 +1,9 @@
 -- The requests before a place are renewed.
 use Rattle.std.proofs.Common.{◌-◌, []}
 use Rattle.word36.specs.declared.sizes.TheConstants.{REQUESTS}
-use Rattle.lock_table.specs.Awaited.{hits}
-use Rattle.lock_table.specs.Boxes.{filings}
-use Rattle.lock_table.specs.Renewals.{AreKept}
+use Rattle.lock_shelf.specs.Awaited.{hits}
+use Rattle.lock_shelf.specs.Boxes.{filings}
+use Rattle.lock_shelf.specs.Grants.{AreKept}
 use Rattle.lock_table.proofs.WaitingLaws.{Passed}
 use Rattle.lock_table.proofs.renewal.renew_marked.Given as goal
 

@@ -3,8 +3,8 @@ use Rattle.lock_queue.specs.Keys.{same_key}
 use Rattle.lock_queue.specs.Queue.{wants_at}
 use Rattle.lock_queue.specs.StatusWords.{first_level}
 use Rattle.lock_queue.proofs.StatusLaws.{first_of}
-use Rattle.lock_table.specs.Filings.{requests_in}
-use Rattle.lock_table.specs.Views.{seen}
+use Rattle.lock_shelf.specs.Filings.{requests_in}
+use Rattle.lock_shelf.specs.Views.{seen}
 use Rattle.lock_table.proofs.NextLaws.{next-level}
 use Rattle.lock_table.proofs.standing.level_at.Goals as goal
 

@@ -1,7 +1,7 @@
 use Rattle.std.proofs.Common.{◌≡◌, length}
 use Rattle.lock_queue.specs.StatusWords.{level_of}
-use Rattle.lock_table.specs.Filings.{requests_in}
-use Rattle.lock_table.specs.Views.{seen}
+use Rattle.lock_shelf.specs.Filings.{requests_in}
+use Rattle.lock_shelf.specs.Views.{seen}
 use Rattle.lock_table.proofs.standing.level_at.Given as goal
 
 abbrev pub invariant-loop-f : goal.invariant-loop-f

@@ -1,9 +1,9 @@
 use Rattle.std.proofs.Common.{◌∙◌, sym, ap, arith, length}
 use Rattle.lock_queue.specs.declared.status.Status.{Status}
 use Rattle.lock_queue.specs.StatusWords.{level_of}
-use Rattle.lock_table.specs.Filings.{requests_in}
+use Rattle.lock_shelf.specs.Filings.{requests_in}
 use Rattle.lock_table.specs.Standings.{followed, unwanted}
-use Rattle.lock_table.specs.Views.{seen}
+use Rattle.lock_shelf.specs.Views.{seen}
 use Rattle.lock_table.proofs.StandingLaws.{told_by, told_by-none, unwanted-followed, walk_told}
 use Rattle.lock_table.proofs.standing.status_among.Goals as goal
 

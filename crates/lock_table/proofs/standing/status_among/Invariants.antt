@@ -1,10 +1,10 @@
 use Rattle.std.proofs.Common.{◌≡◌, ◌+◌, ◌*◌, ◌≤◌, length}
 use Rattle.lock_queue.specs.StatusSteps.{most_taken}
 use Rattle.lock_queue.specs.StatusWords.{level_of}
-use Rattle.lock_table.specs.Filings.{requests_in}
+use Rattle.lock_shelf.specs.Filings.{requests_in}
 use Rattle.lock_table.specs.Findings.{status_in}
 use Rattle.lock_table.specs.Standings.{followed}
-use Rattle.lock_table.specs.Views.{seen}
+use Rattle.lock_shelf.specs.Views.{seen}
 use Rattle.lock_table.proofs.StandingLaws.{told_by}
 use Rattle.lock_table.proofs.standing.status_among.Given as goal
 

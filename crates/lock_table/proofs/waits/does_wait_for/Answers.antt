@@ -3,11 +3,11 @@ use Rattle.std.specs.List.{list_any}
 use Rattle.std.proofs.lemmas.Bool.{and_right}
 use Rattle.std.proofs.lemmas.List.{take_all}
 use Rattle.lock_queue.specs.Jobs.{is_kept_by}
-use Rattle.lock_table.specs.Boxes.{Boxed, at, filings, unused_filing}
-use Rattle.lock_table.specs.Filings.{Filing, requests_in}
-use Rattle.lock_table.specs.Findings.{blocks}
-use Rattle.lock_table.specs.Views.{is_own}
-use Rattle.lock_table.proofs.FindingLaws.{tells-slot}
+use Rattle.lock_shelf.specs.Boxes.{Boxed, at, filings, unused_filing}
+use Rattle.lock_shelf.specs.Filings.{Filing, requests_in}
+use Rattle.lock_shelf.specs.Jobs.{blocks}
+use Rattle.lock_shelf.specs.Views.{is_own}
+use Rattle.lock_shelf.proofs.SlotLaws.{tells-slot}
 use Rattle.lock_table.proofs.JobLaws.{front-taken, kept, kept-other, unblocked, waits-nowhere, waits-there}
 use Rattle.lock_table.proofs.MarkLaws.{AllAmong, all-more, all-told, in-slot}
 use Rattle.lock_table.proofs.waits.does_wait_for.Goals as goal

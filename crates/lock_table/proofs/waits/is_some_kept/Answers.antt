@@ -2,11 +2,11 @@ use Rattle.std.proofs.Common.{◌∙◌, sym, ap, get_or, take, ◌||◌}
 use Rattle.std.specs.List.{list_any}
 use Rattle.std.proofs.lemmas.List.Folds.{list_any_at, list_any_more}
 use Rattle.lock_queue.specs.Jobs.{is_kept_by}
-use Rattle.lock_table.specs.Boxes.{filings}
-use Rattle.lock_table.specs.Filings.{requests_in}
-use Rattle.lock_table.specs.Views.{seen}
-use Rattle.lock_table.proofs.QueueLaws.{hash-own}
-use Rattle.lock_table.proofs.ViewLaws.{same_kept}
+use Rattle.lock_shelf.specs.Boxes.{filings}
+use Rattle.lock_shelf.specs.Filings.{requests_in}
+use Rattle.lock_shelf.specs.Views.{seen}
+use Rattle.lock_table.proofs.HashLaws.{hash-own}
+use Rattle.lock_table.proofs.OwnLaws.{same_kept}
 use Rattle.lock_table.proofs.waits.is_some_kept.Goals as goal
 
 pub returns-then-is_kept_by : goal.returns-then-is_kept_by

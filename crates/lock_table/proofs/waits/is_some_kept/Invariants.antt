@@ -2,8 +2,8 @@
 use Rattle.std.proofs.Common.{◌≡◌, false, take}
 use Rattle.std.specs.List.{list_any}
 use Rattle.lock_queue.specs.Jobs.{is_kept_by}
-use Rattle.lock_table.specs.Boxes.{filings}
-use Rattle.lock_table.specs.Filings.{requests_in}
+use Rattle.lock_shelf.specs.Boxes.{filings}
+use Rattle.lock_shelf.specs.Filings.{requests_in}
 use Rattle.lock_table.proofs.waits.is_some_kept.Given as goal
 
 abbrev pub invariant-loop-k : goal.invariant-loop-k

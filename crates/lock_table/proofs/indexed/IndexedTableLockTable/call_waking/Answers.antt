@@ -1,5 +1,5 @@
 use Rattle.std.proofs.Common.{[]}
-use Rattle.lock_table.specs.Boxes.{filings}
+use Rattle.lock_shelf.specs.Boxes.{filings}
 use Rattle.lock_table.proofs.RightLaws.{right-from, right-to}
 use Rattle.lock_table.proofs.indexed.IndexedTableLockTable.call_waking.Goals as goal
 

@@ -1,7 +1,7 @@
 use Rattle.std.proofs.Common.{◌<◌, ◌∙◌, sym, ap, [], length, arith}
 use Rattle.std.proofs.lemmas.List.{length-map}
-use Rattle.lock_table.specs.Boxes.{filings, unused_filing}
-use Rattle.lock_table.specs.Filings.{Filing}
+use Rattle.lock_shelf.specs.Boxes.{filings, unused_filing}
+use Rattle.lock_shelf.specs.Filings.{Filing}
 use Rattle.lock_table.proofs.RightLaws.{right-from, granted-right}
 use Rattle.lock_table.proofs.indexed.IndexedTableLockTable.granted.Goals as goal
 

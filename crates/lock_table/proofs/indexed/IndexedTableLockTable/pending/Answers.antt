@@ -1,6 +1,6 @@
 use Rattle.std.proofs.Common.{◌∙◌, sym, []}
-use Rattle.lock_table.specs.Boxes.{filings}
-use Rattle.lock_table.specs.Views.{seen}
+use Rattle.lock_shelf.specs.Boxes.{filings}
+use Rattle.lock_shelf.specs.Views.{seen}
 use Rattle.lock_table.proofs.CallLaws.{own-pending}
 use Rattle.lock_table.proofs.RightLaws.{right-from, pending-right}
 use Rattle.lock_table.proofs.indexed.IndexedTableLockTable.pending.Goals as goal

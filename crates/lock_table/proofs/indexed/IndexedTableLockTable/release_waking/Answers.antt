@@ -1,8 +1,8 @@
 use Rattle.std.proofs.Common.{◌≡◌, ◌∙◌, sym, subst, true, [], None}
 use Rattle.lock_queue.specs.WellFormed.{are_well_formed}
 use Rattle.lock_queue.proofs.WellKept.{well-released}
-use Rattle.lock_table.specs.Boxes.{filings}
-use Rattle.lock_table.specs.Filings.{requests_in}
+use Rattle.lock_shelf.specs.Boxes.{filings}
+use Rattle.lock_shelf.specs.Filings.{requests_in}
 use Rattle.lock_table.proofs.CallLaws.{leaving-released, dequeue-woken}
 use Rattle.lock_table.proofs.RightLaws.{right-from, right-to}
 use Rattle.lock_table.proofs.indexed.IndexedTableLockTable.release_waking.Goals as goal

@@ -2,8 +2,9 @@ use Rattle.std.proofs.Common.{◌≡◌, ◌∙◌, sym, ap, subst, true, [], ar
 use Rattle.lock_queue.specs.WellFormed.{are_well_formed}
 use Rattle.lock_queue.proofs.WellKept.{well-told}
 use Rattle.std.proofs.lemmas.List.{length-map}
-use Rattle.lock_table.specs.Boxes.{filings}
-use Rattle.lock_table.specs.Filings.{requests_in, are_right}
+use Rattle.lock_shelf.specs.Boxes.{filings}
+use Rattle.lock_shelf.specs.Filings.{requests_in}
+use Rattle.lock_table.specs.RightGrants.{are_right}
 use Rattle.lock_table.proofs.RightLaws.{right-from, right-to, right-told, told-right}
 use Rattle.lock_table.proofs.indexed.IndexedTableLockTable.told.Goals as goal
 

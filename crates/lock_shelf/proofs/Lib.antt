@@ -1,0 +1,14 @@
+pub mod BoxLaws
+pub mod ChangingLaws
+pub mod CountingLaws
+pub mod FiledLaws
+pub mod KeptLaws
+pub mod PendingLaws
+pub mod PushLaws
+pub mod QueueLaws
+pub mod RowingLaws
+pub mod ShelfLaws
+pub mod SlotLaws
+pub mod StockLaws
+pub mod ViewLaws
+pub mod WaiterLaws

@@ -1,0 +1,12 @@
+pub mod Arrivals
+pub mod Awaited
+pub mod Boxes
+pub mod Changes
+pub mod Countings
+pub mod Filings
+pub mod Grants
+pub mod Jobs
+pub mod Rowing
+pub mod Tallies
+pub mod Views
+pub mod Waiters
