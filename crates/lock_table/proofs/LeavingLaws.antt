@@ -39,10 +39,6 @@ CoversBut awaited test filings rest others =
     (key : Key) → some_names test key filings ≡ true → some_names test key rest ≡ false
     → (waiting_count (hash_of key) others == 0) ≡ false → marks awaited key ≡ true
 
--- at first all are there
-pub covers-start : (awaited : Awaited) (test : Filing → Bool) (fs others : List Filing) → CoversBut awaited test fs fs others
-covers-start awaited test fs others k named off z = absurd (cc (sym named ∙ off))
-
 -- one of them leaves
 pub covers-step : (awaited more : Awaited) (test : Filing → Bool) (fs now others : List Filing) (i : ℕ) (d : Filing) → i < length now
     → filter (λ f. not (test f)) now ≡ others → Marks more (get_or now i d).request.wants.items now → Keeps awaited more

@@ -1,13 +1,11 @@
 -- Levels that are gone over once judge as those that are gone over for each want.
-use Rattle.std.proofs.Common.{◌≡◌, ◌∙◌, sym, ap, ℕ, ◌+◌, ◌==◌, max, Bool, true, false, not, ◌&&◌, ◌||◌, cond, if◌then◌else◌, List, [], ◌∷◌, ◌++◌, length, get_or, drop, filter, append_assoc, append-nil, refl, arith, nat_le, nat_lt, ◌≤◌, Option, Some, None}
+use Rattle.std.proofs.Common.{◌≡◌, ◌∙◌, sym, ap, ℕ, ◌+◌, max, Bool, true, false, not, ◌&&◌, ◌||◌, if◌then◌else◌, List, [], ◌∷◌, ◌++◌, append_assoc, append-nil, refl, arith, nat_le, nat_lt, ◌≤◌, Option, Some, None}
 use Rattle.std.specs.List.{list_any}
 use Rattle.std.proofs.lemmas.Bool.{or_parts}
 use Rattle.std.proofs.lemmas.List.Folds.{list_any-append}
 use Rattle.std.proofs.lemmas.Bool.Decides.{nat_tests}
 use Rattle.lock_queue.specs.declared.want.Want.{Want}
 use Rattle.lock_queue.specs.Enqueues.{is_too_low, some_too_low}
-use Rattle.lock_queue.specs.Queue.{all_wants, wants_of}
-use Rattle.lock_shelf.specs.Filings.{Filing, requests_in}
 use Rattle.lock_table.specs.Levels.{first_bound, some_below}
 
 -- the first level that is above those of these wants, and at least the given one
@@ -135,18 +133,3 @@ all_bypass_order before (w ∷ ws) is = go w.bypass is (all_bypass_order (before
 pub first_bound_order : (before ws : List Want) (n : ℕ) → some_below 0 ws ≡ false → first_bound ws ≡ Some n
     → some_too_low before ws ≡ list_any (λ v. nat_le n v.level) before
 first_bound_order before ws n h is = in-order before ws h ∙ ap (reach_bound before) is
-
--- one step of a walk over a job's requests
-pub own-any : (p : Want → Bool) (job : ℕ) (xs : List Filing) (f : Filing) → 1 ≤ length xs → f ≡ get_or xs 0 f
-    → list_any p (wants_of (requests_in xs) job)
-    ≡ ((f.request.job == job && list_any p f.request.wants.items) || list_any p (wants_of (requests_in (drop 1 xs)) job))
-own-any p job [] f some is = absurd (omega arith)
-own-any p job (x ∷ xs) f some is =
-    go (x.request.job == job)
-    ∙ ap (λ (g : Filing). (g.request.job == job && list_any p g.request.wants.items) || list_any p (wants_of (requests_in xs) job)) (sym is)
-  where
-    go : (b : Bool)
-        → list_any p (all_wants (cond b (x.request ∷ filter (λ r. r.job == job) (requests_in xs)) (filter (λ r. r.job == job) (requests_in xs))))
-        ≡ ((b && list_any p x.request.wants.items) || list_any p (wants_of (requests_in xs) job))
-    go true = list_any-append p x.request.wants.items (wants_of (requests_in xs) job)
-    go false = refl
