@@ -1,7 +1,6 @@
 -- Lemmas on the wants of a call.
-use Rattle.std.proofs.Common.{◌≡◌, ◌≤◌, ◌+◌, ◌++◌, ◌&&◌, ℕ, suc, Bool, true, false, cond, List, [], ◌∷◌, length, Option, Some, None, Result, Ok, Err, min, is_some, nat_le, arith, refl, sym, ap, ◌∙◌, append-nil, append_assoc, length-append}
+use Rattle.std.proofs.Common.{◌≡◌, ◌≤◌, ◌+◌, ◌++◌, ◌&&◌, ℕ, Bool, true, false, cond, List, [], ◌∷◌, length, Option, Some, None, Result, Ok, Err, min, nat_le, arith, refl, sym, ap, ◌∙◌, append_assoc, length-append}
 use Rattle.std.specs.Prelude.{option_map}
-use Rattle.std.specs.Option.{option_or}
 use Rattle.std.proofs.lemmas.Bool.Decides.{nat_tests}
 use Rattle.arrayvec.specs.ArrayVec.{ArrayVec}
 use Rattle.lock_queue.specs.declared.refusal.Refusal.{Refusal}
@@ -9,8 +8,6 @@ use Rattle.lock_queue.specs.declared.refusal.Refusal.TheVariants.{BadCount}
 use Rattle.lock_queue.specs.declared.want.Want.{Want}
 use Rattle.queue_script.specs.declared.locks.Lock.{Lock}
 use Rattle.lock_queue.specs.declared.terms.LockUse.{LockUse}
-use Rattle.lock_queue.specs.declared.call.LockCall.{LockCall}
-use Rattle.queue_script.specs.Commands.{call_with}
 use Rattle.queue_script.specs.Borrowed.{filled}
 use Rattle.queue_script.specs.Options.{no_options}
 use Rattle.queue_script.specs.declared.locks.LockName.TheVariants.{Spelled}
@@ -76,20 +73,9 @@ read-push : (all old rest : List (List ℕ)) (item : List ℕ) (seen : List Lock
 read-push all old rest item seen lock read next is =
     read ∙ ap (λ l. option_map (λ ls. seen ++ ls) (locks_of l)) next ∙ ap (option_map (λ ls. seen ++ ls)) (locks_of-cons item rest lock is) ∙ map-push seen lock (locks_of rest)
 
-pub gathers-start : (job : ℕ) (use_ : LockUse) (items : List (List ℕ)) → Gathers job use_ items items 0 [] None
-gathers-start job use_ items = record { seen = []; read = start (locks_of items); counted = refl; told = λ h. refl }
-  where
-    start : (o : Option (List Lock)) → o ≡ option_map (λ ls. [] ++ ls) o
-    start None = refl
-    start (Some ls) = refl
-
 join-told : (refusal : Option Refusal) (wants : List Want) (want : Want) → join (told_by refusal wants) (Ok want) ≡ told_by refusal (wants ++ want ∷ [])
 join-told None wants want = refl
 join-told (Some r) wants want = refl
-
-join-refused : (refusal : Option Refusal) (wants : List Want) (why : Refusal) → join (told_by refusal wants) (Err why) ≡ told_by (option_or refusal (Some why)) wants
-join-refused None wants why = refl
-join-refused (Some r) wants why = refl
 
 pub gathers-want : (job : ℕ) (use_ : LockUse) (all old rest : List (List ℕ)) (item : List ℕ) (lock : Lock) (count next : ℕ) (wants wants' : List Want) (want : Want) (refusal : Option Refusal)
     → Gathers job use_ all old count wants refusal → old ≡ item ∷ rest → lock_of item ≡ Some lock → next ≡ min 16 count + 1
@@ -105,34 +91,8 @@ gathers-want job use_ all old rest item lock count next wants wants' want refusa
 
 -- ---- the end
 
--- an item that is no lock
-pub gathers-none : (job : ℕ) (use_ : LockUse) (all old rest : List (List ℕ)) (item : List ℕ) (count : ℕ) (wants : List Want) (refusal : Option Refusal)
-    → Gathers job use_ all old count wants refusal → old ≡ item ∷ rest → lock_of item ≡ None → option_map (call_wants job use_) (locks_of all) ≡ None
-gathers-none job use_ all old rest item count wants refusal g taken is =
-    let none : locks_of (item ∷ rest) ≡ None = rw is refl in
-    ap (option_map (call_wants job use_)) (g.read ∙ ap (λ l. option_map (λ ls. g.seen ++ ls) (locks_of l)) taken ∙ ap (option_map (λ ls. g.seen ++ ls)) none)
-
-all-read : (all : List (List ℕ)) (seen : List Lock) (rest : List (List ℕ)) → locks_of all ≡ option_map (λ ls. seen ++ ls) (locks_of rest) → rest ≡ [] → locks_of all ≡ Some seen
-all-read all seen rest read empty = read ∙ ap (λ l. option_map (λ ls. seen ++ ls) (locks_of l)) empty ∙ ap Some (append-nil seen)
-
 few_or_many : (n : ℕ) (x y : Result (ArrayVec Want) Refusal) → (1 ≤ n → n ≤ 16 → ⊥) → cond (nat_le 1 n && nat_le n 16) x y ≡ y
 few_or_many n x y h = grind (arith, nat_tests)
-
-few : (n : ℕ) (x y : Result (ArrayVec Want) Refusal) → 1 ≤ n → n ≤ 16 → cond (nat_le 1 n && nat_le n 16) x y ≡ x
-few n x y one most = grind (arith, nat_tests)
-
-pub gathers-bad_count : (job : ℕ) (use_ : LockUse) (all rest : List (List ℕ)) (count : ℕ) (wants : List Want) (refusal : Option Refusal)
-    → Gathers job use_ all rest count wants refusal → rest ≡ [] → (1 ≤ count → count ≤ 16 → ⊥) → option_map (call_wants job use_) (locks_of all) ≡ Some (Err BadCount)
-gathers-bad_count job use_ all rest count wants refusal g empty bad =
-    let c = g.counted in
-    ap (option_map (call_wants job use_)) (all-read all g.seen rest g.read empty) ∙ ap Some (few_or_many (length g.seen) _ _ (λ one most. bad (omega arith) (omega arith)))
-
-pub gathers-all : (job : ℕ) (use_ : LockUse) (all rest : List (List ℕ)) (count : ℕ) (wants : List Want) (refusal : Option Refusal)
-    → Gathers job use_ all rest count wants refusal → rest ≡ [] → 1 ≤ count → count ≤ 16 → option_map (call_wants job use_) (locks_of all) ≡ Some (stored (told_by refusal wants))
-gathers-all job use_ all rest count wants refusal g empty one most =
-    let c = g.counted in
-    ap (option_map (call_wants job use_)) (all-read all g.seen rest g.read empty)
-    ∙ ap Some (few (length g.seen) _ _ (omega arith) (omega arith) ∙ ap stored (g.told (omega arith)))
 
 -- ---- a call that is refused
 
@@ -197,51 +157,3 @@ gathers-full job use_ all old rest item lock count wants after r g many taken is
         let n = length-append g.seen (lock ∷ []) in
         let m = length-append seen ls in
         same (nat_le (17 + length ls) 16) ∙ ap Some (sym (few_or_many (length (seen ++ ls)) _ _ (λ one most. omega (arith, many))))
-
-counts_on : (n m : ℕ) (x y : Result (Unit {0}) Refusal) → cond (nat_le (min 16 n + 1 + m) 16) x y ≡ cond (nat_le (n + suc m) 16) x y
-counts_on n m x y = grind (arith, nat_tests)
-
-pub refuse-more : (count next : ℕ) (why : Refusal) (old rest : List (List ℕ)) (item : List ℕ) (lock : Lock) → next ≡ min 16 count + 1 → old ≡ item ∷ rest → lock_of item ≡ Some lock
-    → option_map (refused_with next why) (locks_of rest) ≡ option_map (refused_with count why) (locks_of old)
-refuse-more count next why old rest item lock counted taken is =
-    ap (λ n. option_map (refused_with n why) (locks_of rest)) counted ∙ finish (locks_of rest)
-    ∙ sym (ap (option_map (refused_with count why)) (ap locks_of taken ∙ locks_of-cons item rest lock is))
-  where
-    finish : (o : Option (List Lock)) → option_map (refused_with (min 16 count + 1) why) o ≡ option_map (refused_with count why) (option_map (λ ls. lock ∷ ls) o)
-    finish None = refl
-    finish (Some ls) = ap Some (counts_on count (length ls) (Err why) (Err BadCount))
-
--- ---- calls that are filled in
-
-filled-call : (make : ArrayVec Want → LockCall) (r : Option (Result (Unit {0}) Refusal)) (wants : ArrayVec Want) → option_map (call_with make) (filled r wants) ≡ filled r (make wants)
-filled-call make None wants = refl
-filled-call make (Some (Ok u)) wants = refl
-filled-call make (Some (Err refusal)) wants = refl
-
-read-call : (make : ArrayVec Want → LockCall) (f : List Lock → Result (ArrayVec Want) Refusal) (x : Option (List Lock)) → option_map (call_with make) (option_map f x) ≡ option_map (λ locks. call_with make (f locks)) x
-read-call make f None = refl
-read-call make f (Some locks) = refl
-
-pub filled-for : (make : ArrayVec Want → LockCall) (r : Option (Result (Unit {0}) Refusal)) (wants : ArrayVec Want) (f : List Lock → Result (ArrayVec Want) Refusal) (x : Option (List Lock)) → filled r wants ≡ option_map f x
-    → filled r (make wants) ≡ option_map (λ locks. call_with make (f locks)) x
-filled-for make r wants f x h = sym (filled-call make r wants) ∙ ap (option_map (call_with make)) h ∙ read-call make f x
-
--- ---- items that are all locks
-
-some-map : (lock : Lock) (o : Option (List Lock)) → is_some (option_map (λ ls. lock ∷ ls) o) ≡ is_some o
-some-map lock None = refl
-some-map lock (Some ls) = refl
-
-pub locks-go_on : (all old rest : List (List ℕ)) (item : List ℕ) (lock : Lock) → is_some (locks_of old) ≡ is_some (locks_of all) → old ≡ item ∷ rest → lock_of item ≡ Some lock
-    → is_some (locks_of rest) ≡ is_some (locks_of all)
-locks-go_on all old rest item lock before taken is =
-    sym (some-map lock (locks_of rest)) ∙ ap is_some (sym (locks_of-cons item rest lock is)) ∙ ap (λ l. is_some (locks_of l)) (sym taken) ∙ before
-
-pub locks-stop : (all old rest : List (List ℕ)) (item : List ℕ) → is_some (locks_of old) ≡ is_some (locks_of all) → old ≡ item ∷ rest → lock_of item ≡ None
-    → false ≡ is_some (locks_of all)
-locks-stop all old rest item before taken is =
-    let none : locks_of (item ∷ rest) ≡ None = rw is refl in
-    sym (ap is_some none) ∙ ap (λ l. is_some (locks_of l)) (sym taken) ∙ before
-
-pub locks-end : (all old : List (List ℕ)) → is_some (locks_of old) ≡ is_some (locks_of all) → old ≡ [] → true ≡ is_some (locks_of all)
-locks-end all old before empty = sym (ap (λ l. is_some (locks_of l)) empty) ∙ before
