@@ -1,28 +1,34 @@
 #!/usr/bin/env bash
-# Host instructions for a command of `lockmon queue`, taking and giving up a lock by turns
-# (callgrind, the difference of two lengths), and the time of a million; then the same beside 200
-# requests that are present; then for a command on a busy table (busy.py).
+# Host instructions for a command of `lockmon queue` (callgrind, the difference of two lengths): one lock taken
+# and given up by turns, with the time of a million; then the same beside 200 requests that are present; a
+# command on a busy table (busy.py); and a request of sixteen locks that leaves a table of 256 such requests,
+# where 31 want each of its locks.
 set -eu
 cd "$(dirname "$0")"
-program=../crates/lockmon/out/lockmon
-script() { awk -v n="$1" 'BEGIN { for (i = 0; i < n; i += 2) print "ENQ 1 1 1 X\nDEQ 1 0 X" }'; }
+program=${LOCKMON:-../crates/lockmon/out/lockmon}
+turns() { awk -v n="$1" 'BEGIN { for (i = 0; i < n; i += 2) print "ENQ 1 1 1 X\nDEQ 1 0 X" }'; }
 present() { awk 'BEGIN { for (i = 0; i < 200; i++) print "ENQ " 2 + i % 30 " 1 " i " N" i "/B" }'; }
-for n in 2000 12000; do
-    counted=$(script $n | valgrind --tool=callgrind --callgrind-out-file=/dev/null "$program" queue 2>&1 >/dev/null | sed -n 's/.*Collected : *//p')
-    eval "at_$n=$counted"
-done
-echo "$(((at_12000 - at_2000) / 10000)) host instructions a command"
-time script 1000000 | "$program" queue >/dev/null
-for n in 1000 2000; do
-    counted=$( (present; script $n) | valgrind --tool=callgrind --callgrind-out-file=/dev/null "$program" queue 2>&1 >/dev/null | sed -n 's/.*Collected : *//p')
-    eval "at_$n=$counted"
-done
-echo "$(((at_2000 - at_1000) / 1000)) host instructions a command beside 200 requests"
+full() {
+    awk -v n="$1" 'BEGIN {
+        for (i = 0; i < 256; i++) {
+            job = 1 + i % 31
+            part = int(i / 31)
+            printf "ENQ %d 2 %d", job, 100 * part + job
+            for (k = 0; k < 16; k++) printf " KEY%d/B", 16 * part + k
+            print ""
+        }
+        for (job = 1; job <= n; job++) print "DEQ " job " 2 " job
+    }'
+}
+counted() { valgrind --tool=callgrind --callgrind-out-file=/dev/null "$program" queue 2>&1 >/dev/null | sed -n 's/.*Collected : *//p'; }
+each() { # what shorter longer commands
+    echo "$1: $((($3 - $2) / $4)) host instructions"
+}
+each "by turns" "$(turns 2000 | counted)" "$(turns 12000 | counted)" 10000
+time turns 1000000 | "$program" queue >/dev/null
+each "beside 200 requests" "$( (present; turns 1000) | counted)" "$( (present; turns 2000) | counted)" 1000
 busy=$(mktemp)
 trap 'rm -f "$busy"' EXIT
 python3 busy.py 20000 >"$busy"
-for n in 10000 20000; do
-    counted=$(head -$n "$busy" | valgrind --tool=callgrind --callgrind-out-file=/dev/null "$program" queue 2>&1 >/dev/null | sed -n 's/.*Collected : *//p')
-    eval "at_$n=$counted"
-done
-echo "$(((at_20000 - at_10000) / 10000)) host instructions a command on a busy table"
+each "on a busy table" "$(head -10000 "$busy" | counted)" "$(counted <"$busy")" 10000
+each "leaving a full table" "$(full 10 | counted)" "$(full 20 | counted)" 10
