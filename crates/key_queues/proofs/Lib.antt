@@ -1,0 +1,17 @@
+pub mod Places
+pub mod Beginnings
+pub mod Standing
+pub mod Coming
+pub mod Counting
+pub mod Counted
+pub mod Moves
+pub mod Keeping
+pub mod Arriving
+pub mod Using
+pub mod Changing
+pub mod Marks
+pub mod Room
+pub mod Opening
+pub mod Waking
+pub mod Finding
+pub mod Closing

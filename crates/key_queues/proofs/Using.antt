@@ -1,0 +1,306 @@
+-- What is found of queues that are used.
+use Rattle.std.proofs.Common.{◌≡◌, ◌≤◌, ◌<◌, ◌+◌, ◌-◌, ◌∙◌, sym, ap, subst, ℕ, zero, suc, Bool, true, false, ◌||◌, ◌==◌, not, cond, List, [], ◌∷◌, length, get_or, map, filter, slice_get, Some, None, option_map, inl, inr, refl, arith}
+use Rattle.std.specs.List.{position_or_len, remove}
+use Rattle.std.proofs.lemmas.Bool.{or_left, or_right, or_cases, eq-eqb, eqb-true, eqb-false, ne_eqb, cases_eq}
+use Rattle.std.proofs.lemmas.List.{get_or-set_same, get_or-set_other, nil_from_length}
+use Rattle.std.proofs.lemmas.Option.{slice_get-map}
+use Rattle.lock_queue.specs.declared.key.Key.{Key}
+use Rattle.lock_queue.specs.declared.request.Request.{Request}
+use Rattle.lock_queue.specs.declared.want.Want.{Want}
+use Rattle.lock_queue.specs.Keys.{same_key}
+use Rattle.lock_queue.specs.Queue.{wants_at, names}
+use Rattle.lock_queue.specs.Unused.{unused_want}
+use Rattle.lock_queue.proofs.Fitting.{eq-same_key, names-found}
+use Rattle.lock_queue.proofs.Lists.{Has}
+use Rattle.key_queues.specs.declared.lock.Lock.{Lock}
+use Rattle.key_queues.specs.Locks.{uncounted, unused_lock, lock_at, want_in, with_queue}
+use Rattle.key_queues.specs.Beginnings.{fitting}
+use Rattle.key_queues.specs.Kept.{KeptQueue, fits_next, admitted}
+use Rattle.key_queues.specs.States.{State, Stands, IsKept, CountsAll, CountsBut, IsCounted, GivesUpAt, IsUsed, IsFull, Extended}
+use Rattle.key_queues.specs.Tables.{is_there, places_at, QueuesOf}
+use Rattle.key_queues.proofs.Counted.{want_of, wants_by_places}
+use Rattle.key_queues.proofs.Counting.{counts_all, counts_to_end}
+use Rattle.key_queues.proofs.Keeping.{found_there}
+use Rattle.key_queues.proofs.Places.{past_none, found_within}
+use Rattle.key_queues.proofs.Standing.{one_of_key}
+
+-- a place that passes is kept by a filter
+pub kept_there : (t : ℕ → Bool) (x : ℕ) (xs : List ℕ) → is_there x xs ≡ true → t x ≡ true → is_there x (filter t xs) ≡ true
+kept_there t x [] h is = cc
+kept_there t x (y ∷ xs) h is =
+    elim (or_cases (y == x) (is_there x xs) h) [
+      | inl e ↦
+          let same : t y ≡ true = ap t (eqb-true y x e) ∙ is in
+          rw same (or_left (y == x) (is_there x (filter t xs)) e)
+      | inr rest ↦
+          let later = kept_there t x xs rest is in
+          elim (t y) as (λ b. is_there x (cond b (y ∷ filter t xs) (filter t xs)) ≡ true) [
+            | true ↦ or_right (y == x) (is_there x (filter t xs)) later
+            | false ↦ later
+          ]
+    ]
+
+-- and what is kept was there, and passes
+pub there_kept : (t : ℕ → Bool) (x : ℕ) (xs : List ℕ) → is_there x (filter t xs) ≡ true
+    → (is_there x xs ≡ true) × (t x ≡ true)
+there_kept t x [] h = cc
+there_kept t x (y ∷ xs) h = go (t y) refl (there_kept t x xs) h
+  where
+    go : (b : Bool) → t y ≡ b → (is_there x (filter t xs) ≡ true → (is_there x xs ≡ true) × (t x ≡ true))
+        → is_there x (cond b (y ∷ filter t xs) (filter t xs)) ≡ true
+        → (is_there x (y ∷ xs) ≡ true) × (t x ≡ true)
+    go true is later k =
+        elim (or_cases (y == x) (is_there x (filter t xs)) k) [
+          | inl e ↦ (or_left (y == x) (is_there x xs) e, ap t (sym (eqb-true y x e)) ∙ is)
+          | inr rest ↦ let found = later rest in (or_right (y == x) (is_there x xs) found.0, found.1)
+        ]
+    go false is later k = let found = later k in (or_right (y == x) (is_there x xs) found.0, found.1)
+
+-- a request names the key of each of its queues
+pub named_there : (key : ℕ → Key) (ws : List Want) (ns : List ℕ) (n : ℕ) → QueuesOf (λ w m. key m ≡ w.key) ws ns
+    → is_there n ns ≡ true
+    → names ws (key n) ≡ true
+named_there key [] [] n q h = cc
+named_there key (w ∷ ws) (m ∷ ns) n q h =
+    elim (or_cases (m == n) (is_there n ns) h) [
+      | inl e ↦
+          let same : w.key ≡ key n = sym q.0 ∙ ap key (eqb-true m n e) in
+          or_left (same_key w.key (key n)) (names ws (key n)) (eq-same_key w.key (key n) same)
+      | inr rest ↦ or_right (same_key w.key (key n)) (names ws (key n)) (named_there key ws ns n q.1 rest)
+    ]
+named_there key [] (m ∷ ns) n q h = absurd q
+named_there key (w ∷ ws) [] n q h = absurd q
+
+-- a queue that is used has the place
+pub stands_in_queue : (s : State) (x n : ℕ) → IsKept s → Stands s x n → is_there x (s.queue n).places ≡ true
+stands_in_queue s x n kept st =
+    let named : names (s.at x).wants.items (s.key n) ≡ true =
+    named_there s.key (s.at x).wants.items (s.own x) n (kept.queues x st.present) st.there in
+    subst (λ l. is_there x l ≡ true) (sym (kept.counts x n st).places)
+    (kept_there (λ p. names (s.at p).wants.items (s.key n)) x s.order st.present named)
+
+-- each want has a queue
+pub queue_of_want : (key : ℕ → Key) (ws : List Want) (ns : List ℕ) (w : Want) → QueuesOf (λ w m. key m ≡ w.key) ws ns
+    → Has ws w
+    → (m : ℕ) × (is_there m ns ≡ true) × (key m ≡ w.key)
+queue_of_want key [] [] w q h = absurd h
+queue_of_want key (v ∷ ws) (m ∷ ns) w q (inl e) = (m, or_left (m == m) (is_there m ns) (eq-eqb m m refl), q.0 ∙ ap (λ (u : Want). u.key) e)
+queue_of_want key (v ∷ ws) (m ∷ ns) w q (inr h) =
+    let found = queue_of_want key ws ns w q.1 h in (found.0, or_right (m == found.0) (is_there found.0 ns) found.1, found.2)
+queue_of_want key [] (m ∷ ns) w q h = absurd q
+queue_of_want key (v ∷ ws) [] w q h = absurd q
+
+-- and the want of a queue stands where the queue does
+pub want_at_queue : (key : ℕ → Key) (ws : List Want) (ns : List ℕ) (n : ℕ) → QueuesOf (λ w m. key m ≡ w.key) ws ns
+    → is_there n ns ≡ true
+    → (position_or_len (λ m. m == n) ns < length ws) × Has ws (want_in ns ws n) × ((want_in ns ws n).key ≡ key n)
+want_at_queue key [] [] n q h = cc
+want_at_queue key (v ∷ ws) (m ∷ ns) n q h = go (m == n) refl (want_at_queue key ws ns n q.1)
+  where
+    rest : ℕ
+    rest = position_or_len (λ m. m == n) ns
+
+    go : (b : Bool) → (m == n) ≡ b
+        → (is_there n ns ≡ true → (rest < length ws) × Has ws (want_in ns ws n) × ((want_in ns ws n).key ≡ key n))
+        → (cond (not b) (1 + rest) 0 < suc (length ws)) × Has (v ∷ ws) (get_or (v ∷ ws) (cond (not b) (1 + rest) 0) unused_want) × ((get_or (v ∷ ws) (cond (not b) (1 + rest) 0) unused_want).key ≡ key n)
+    go true e later = (omega arith, inl refl, sym q.0 ∙ ap key (eqb-true m n e))
+    go false e later =
+        let there : is_there n ns ≡ true = sym (ap (λ b. b || is_there n ns) e) ∙ h in
+        let found = later there in
+        let one : 1 + rest ≡ suc rest = omega arith in
+        rw one (omega (arith, found.0), inr found.1, found.2)
+want_at_queue key [] (m ∷ ns) n q h = absurd q
+want_at_queue key (v ∷ ws) [] n q h = absurd q
+
+pub there_at : (ns : List ℕ) (k d : ℕ) → k < length ns → is_there (get_or ns k d) ns ≡ true
+there_at [] k d lt = absurd (omega arith)
+there_at (n ∷ ns) zero d lt = or_left (n == n) (is_there n ns) (eq-eqb n n refl)
+there_at (n ∷ ns) (suc k) d lt = or_right (n == get_or ns k d) (is_there (get_or ns k d) ns) (there_at ns k d (omega arith))
+
+-- the place of the first want of a queue that is not counted
+pub record Next (s : State) (n p : ℕ) (w : Want) : Type 0 where
+  pub stands : Stands s p n
+  pub named : names (s.at p).wants.items (s.key n) ≡ true
+  pub within : position_or_len (λ m. m == n) (s.own p) < length (s.at p).wants.items
+  pub want : w ≡ want_in (s.own p) (s.at p).wants.items n
+  pub found : slice_get (wants_at (map s.at s.order) (s.key n)) (s.queue n).fitting ≡ Some w
+
+pub next_is : (s : State) (n p : ℕ) → IsKept s → IsUsed s n → slice_get (s.queue n).places (s.queue n).fitting ≡ Some p
+    → Next s n p (want_in (s.own p) (s.at p).wants.items n)
+next_is s n p kept used e =
+    let c = kept.counts used.place n used.stands in
+    let queued : is_there p (places_at s.at s.order (s.key n)) ≡ true =
+    subst (λ l. is_there p l ≡ true) c.places (found_there p (s.queue n).fitting (s.queue n).places e) in
+    let both = there_kept (λ x. names (s.at x).wants.items (s.key n)) p s.order queued in
+    let present : is_there p s.order ≡ true = both.0 in
+    let named : names (s.at p).wants.items (s.key n) ≡ true = both.1 in
+    let of = names-found (s.at p).wants.items (s.key n) named in
+    let queues = kept.queues p present in
+    let m = queue_of_want s.key (s.at p).wants.items (s.own p) of.0 queues of.1 in
+    let same : m.0 ≡ n =
+    kept.one p m.0 used.place n (record { present = present; there = m.1 }) used.stands (m.2 ∙ of.2) in
+    let there : is_there n (s.own p) ≡ true = subst (λ k. is_there k (s.own p) ≡ true) same m.1 in
+    let at = want_at_queue s.key (s.at p).wants.items (s.own p) n queues there in
+    let w : Want = want_in (s.own p) (s.at p).wants.items n in
+    let one : filter (λ v. same_key v.key (s.key n)) (s.at p).wants.items ≡ w ∷ [] =
+    subst (λ k. filter (λ v. same_key v.key k) (s.at p).wants.items ≡ w ∷ []) at.2 (one_of_key (s.at p).wants.items w (kept.apart p) at.1) in
+    let mine : want_of (s.key n) (s.at p) ≡ w = ap (λ l. get_or l 0 unused_want) one in
+    record {
+      stands = record { present = present; there = there };
+      named = named;
+      within = at.0;
+      want = refl;
+      found =
+          ap (λ l. slice_get l (s.queue n).fitting) (wants_by_places s.at kept.apart s.order (s.key n))
+          ∙ slice_get-map (λ x. want_of (s.key n) (s.at x)) (places_at s.at s.order (s.key n)) (s.queue n).fitting
+          ∙ ap (option_map (λ x. want_of (s.key n) (s.at x))) (sym (ap (λ l. slice_get l (s.queue n).fitting) c.places) ∙ e)
+          ∙ ap Some mine;
+    }
+
+-- where there is none, or it does not fit, all that fit are counted
+pub full_at_end : (s : State) (n : ℕ) → IsKept s → IsUsed s n → slice_get (s.queue n).places (s.queue n).fitting ≡ None
+    → IsFull s n
+full_at_end s n kept used e =
+    let c = kept.counts used.place n used.stands in
+    (counts_to_end (s.size n) (wants_at (map s.at s.order) (s.key n)) (s.queue n) c.counts (omega (arith, past_none (s.queue n).places (s.queue n).fitting e, c.counts.places))).all
+
+pub full_where_unfit : (s : State) (n p : ℕ) (w : Want) → IsKept s → IsUsed s n → Next s n p w
+    → fits_next (s.queue n) w w.pool ≡ false
+    → IsFull s n
+full_where_unfit s n p w kept used next f =
+    let c = kept.counts used.place n used.stands in
+    (counts_all (s.size n) (wants_at (map s.at s.order) (s.key n)) (s.queue n) w c.counts next.found f).all
+
+-- a lock with its queue changed, and the others
+pub lock_with : (locks : List Lock) (n m : ℕ) (q : KeptQueue) → n < length locks
+    → lock_at (with_queue locks n q) m ≡ cond (m == n) (record (lock_at locks n) { queue = q }) (lock_at locks m)
+lock_with locks n m q lt =
+    elim (cases_eq m n) [
+      | inl e ↦
+          rw (eq-eqb m n e)
+          (ap (λ k. lock_at (with_queue locks n q) k) e ∙ get_or-set_same locks n (record (lock_at locks n) { queue = q }) unused_lock lt)
+      | inr ne ↦ rw (ne_eqb m n ne) (get_or-set_other locks n m (record (lock_at locks n) { queue = q }) unused_lock ne)
+    ]
+
+-- one want fewer is left to count
+pub one_fewer : (locks more : List Lock) (n : ℕ) (w : Want) → n < length locks
+    → (lock_at locks n).queue.fitting < length (lock_at locks n).queue.places
+    → more ≡ with_queue locks n (admitted (lock_at locks n).queue w)
+    → uncounted (lock_at more n).queue + 1 ≤ uncounted (lock_at locks n).queue
+one_fewer locks more n w lt next is =
+    let mine : lock_at more n ≡ record (lock_at locks n) { queue = admitted (lock_at locks n).queue w } =
+    ap (λ l. lock_at l n) is ∙ lock_with locks n n (admitted (lock_at locks n).queue w) lt ∙ rw (eq-eqb n n refl) refl in
+    let left : uncounted (lock_at more n).queue ≡ length (lock_at locks n).queue.places - ((lock_at locks n).queue.fitting + 1) =
+    ap (λ (k : Lock). uncounted k.queue) mine in
+    omega (arith, left, next)
+
+-- the first place of a number that is there
+pub position_found : (p : ℕ) (xs : List ℕ) → is_there p xs ≡ true
+    → (position_or_len (λ m. m == p) xs < length xs) × (slice_get xs (position_or_len (λ m. m == p) xs) ≡ Some p)
+position_found p [] h = cc
+position_found p (x ∷ xs) h = go (x == p) refl (position_found p xs)
+  where
+    rest : ℕ
+    rest = position_or_len (λ m. m == p) xs
+
+    go : (b : Bool) → (x == p) ≡ b
+        → (is_there p xs ≡ true → (rest < length xs) × (slice_get xs rest ≡ Some p))
+        → (cond (not b) (1 + rest) 0 < suc (length xs)) × (slice_get (x ∷ xs) (cond (not b) (1 + rest) 0) ≡ Some p)
+    go true e later = (omega arith, ap Some (eqb-true x p e))
+    go false e later =
+        let found = later (sym (ap (λ b. b || is_there p xs) e) ∙ h) in
+        let one : 1 + rest ≡ suc rest = omega arith in
+        rw one (omega (arith, found.0), found.1)
+
+pub there_removed : (m k : ℕ) (ns : List ℕ) → is_there m (remove ns k) ≡ true → is_there m ns ≡ true
+there_removed m zero [] h = h
+there_removed m (suc k) [] h = h
+there_removed m zero (n ∷ ns) h = or_right (n == m) (is_there m ns) h
+there_removed m (suc k) (n ∷ ns) h =
+    elim (or_cases (n == m) (is_there m (remove ns k)) h) [
+      | inl e ↦ or_left (n == m) (is_there m ns) e
+      | inr r ↦ or_right (n == m) (is_there m ns) (there_removed m k ns r)
+    ]
+
+pub as_many_queues : (R : Want → ℕ → Type 0) (ws : List Want) (ns : List ℕ) → QueuesOf R ws ns → length ws ≡ length ns
+as_many_queues R [] [] q = refl
+as_many_queues R (w ∷ ws) (n ∷ ns) q = ap suc (as_many_queues R ws ns q.1)
+as_many_queues R [] (n ∷ ns) q = absurd q
+as_many_queues R (w ∷ ws) [] q = absurd q
+
+-- what a request owns after that it owned before
+pub owned_before : (s t : State) (p k x m : ℕ) → GivesUpAt s t p k → is_there m (t.own x) ≡ true → is_there m (s.own x) ≡ true
+owned_before s t p k x m gives there =
+    elim (cases_eq x p) [
+      | inl e ↦
+          let here : is_there m (t.own p) ≡ true = subst (λ z. is_there m (t.own z) ≡ true) e there in
+          let was : is_there m (s.own p) ≡ true = there_removed m k (s.own p) (subst (λ l. is_there m l ≡ true) gives.owns here) in
+          subst (λ z. is_there m (s.own z) ≡ true) (sym e) was
+      | inr ne ↦ subst (λ l. is_there m l ≡ true) (gives.own x ne) there
+    ]
+
+-- a queue of the key of the one that was given up is that one
+pub same_queue : (s t : State) (p k x m : ℕ) (key : Key) → IsKept s → is_there p s.order ≡ true → k < length (s.own p) → GivesUpAt s t p k
+    → is_there x t.order ≡ true
+    → is_there m (t.own x) ≡ true
+    → t.key m ≡ key
+    → key ≡ t.key (get_or (s.own p) k 0)
+    → m ≡ get_or (s.own p) k 0
+same_queue s t p k x m key kept present lt gives here there e f =
+    kept.one x m p (get_or (s.own p) k 0)
+    (record { present = subst (λ l. is_there x l ≡ true) gives.order here; there = owned_before s t p k x m gives there })
+    (record { present = present; there = there_at (s.own p) k 0 lt })
+    (sym (gives.key m) ∙ e ∙ f ∙ gives.key (get_or (s.own p) k 0))
+
+pub there_as : (m n : ℕ) (ns : List ℕ) → m ≡ n → is_there m ns ≡ true → is_there n ns ≡ true
+there_as m n ns e h = subst (λ j. is_there j ns ≡ true) e h
+
+-- a queue that is not empty after that is used
+pub used_after : (s t : State) (p k : ℕ) → IsKept s → IsKept t → is_there p s.order ≡ true → k < length (s.own p)
+    → GivesUpAt s t p k
+    → IsCounted t (get_or (s.own p) k 0)
+    → (length (t.queue (get_or (s.own p) k 0)).places == 0) ≡ false
+    → IsUsed t (get_or (s.own p) k 0)
+used_after s t p k kept_s kept_t present lt gives counted some =
+    let n : ℕ = get_or (s.own p) k 0 in
+    let places : List ℕ = (t.queue n).places in
+    let any : (x : ℕ) × (slice_get places 0 ≡ Some x) =
+    found_within places 0 (omega (arith, eqb-false (length places) 0 some)) in
+    let x : ℕ = any.0 in
+    let both = there_kept (λ y. names (t.at y).wants.items (t.key n)) x t.order (subst (λ l. is_there x l ≡ true) counted.places (found_there x 0 places any.1)) in
+    let of = names-found (t.at x).wants.items (t.key n) both.1 in
+    let m = queue_of_want t.key (t.at x).wants.items (t.own x) of.0 (kept_t.queues x both.0) of.1 in
+    let same : m.0 ≡ n = same_queue s t p k x m.0 of.0.key kept_s present lt gives both.0 m.1 m.2 of.2 in
+    record { place = x; stands = record { present = both.0; there = there_as m.0 n (t.own x) same m.1 } }
+
+-- all queues are full again where the one that was not is, or is empty
+pub full_extended : (s t : State) (n : ℕ) → CountsBut n s → Extended s t n → IsFull t n → CountsAll t
+full_extended s t n but e full x m st =
+    elim (cases_eq m n) [
+      | inl here ↦ subst (IsFull t) (sym here) full
+      | inr ne ↦
+          let was : Stands s x m = record {
+            present = subst (λ l. is_there x l ≡ true) e.order st.present;
+            there = subst (λ l. is_there m l ≡ true) (e.own x) st.there;
+          } in
+          let same : (λ y. t.at y) ≡ (λ y. s.at y) = λ i y. e.at y i in
+          ap (λ (q : KeptQueue). q.fitting) (e.others m ne)
+          ∙ but x m was ne
+          ∙ ap fitting (sym (ap (λ l. wants_at (map t.at l) (t.key m)) e.order ∙ ap (λ (f : ℕ → Request). wants_at (map f s.order) (t.key m)) same ∙ ap (wants_at (map s.at s.order)) (e.key m)))
+    ]
+
+pub full_empty : (s : State) (n : ℕ) → IsKept s → CountsBut n s → (length (s.queue n).places == 0) ≡ true → CountsAll s
+full_empty s n kept but none x m st =
+    elim (cases_eq m n) [
+      | inl here ↦
+          let at : Stands s x n = subst (Stands s x) here st in
+          let there : is_there x (s.queue n).places ≡ true = stands_in_queue s x n kept at in
+          let nil : (s.queue n).places ≡ [] = nil_from_length (s.queue n).places (eqb-true (length (s.queue n).places) 0 none) in
+          let no_place : is_there x [] ≡ true = subst (λ l. is_there x l ≡ true) nil there in
+          cc
+      | inr ne ↦ but x m st ne
+    ]
+
+-- a request that has given up all its wants leaves the order
+pub place_there : (p : ℕ) (order : List ℕ) → is_there p order ≡ true → position_or_len (λ m. m == p) order < length order
+place_there p order present = (position_found p order present).0

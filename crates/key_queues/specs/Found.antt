@@ -1,0 +1,62 @@
+-- Where the number of a key's lock is found (this project's profile).
+use Rattle.std.specs.Prelude.{◌≡◌, ◌≤◌, ◌<◌, ◌^◌, ◌⊎◌, ◌==◌, ℕ, true, false, List, [], ◌∷◌, ◌++◌, length, if◌then◌else◌, slice_index_or}
+use Rattle.std.specs.List.{All, position_or_len, remove}
+use Rattle.lock_queue.specs.declared.want.Want.{Want}
+use Rattle.key_queues.specs.declared.lock.Lock.{Lock}
+use Rattle.key_queues.specs.Locks.{lock_at}
+use Rattle.key_queues.specs.States.{is_open}
+use Rattle.key_queues.specs.Tables.{is_there}
+use Rattle.key_queues.specs.declared.hash.TheConstants.{HASHES}
+use Rattle.key_queues.specs.Hashes.{hash_of}
+use Rattle.key_queues.specs.declared.keys.Bucket.{Bucket}
+use Rattle.key_queues.specs.declared.keys.TheConstants.{ROOM}
+use Rattle.key_queues.specs.Opened.{fresh_lock, is_closed, is_open_for}
+
+abbrev pub no_bucket : Bucket
+no_bucket = record { numbers = record { items = [] }; crowded = false }
+
+abbrev pub bucket_at : List Bucket → ℕ → Bucket
+bucket_at buckets h = slice_index_or buckets h no_bucket
+
+-- a bucket with one more number, or crowded
+abbrev pub numbered : Bucket → ℕ → Bucket
+numbered b n =
+    if length b.numbers.items == ROOM
+    then record b { crowded = true }
+    else record b { numbers = record { items = b.numbers.items ++ n ∷ [] } }
+
+-- a bucket without a number
+abbrev pub without_number : Bucket → ℕ → Bucket
+without_number b n =
+    record b { numbers = record { items = remove b.numbers.items (position_or_len (λ m. m == n) b.numbers.items) } }
+
+-- a bucket that is not crowded has a number
+abbrev pub Holds : Bucket → ℕ → Type 0
+Holds b n = b.crowded ≡ false → is_there n b.numbers.items ≡ true
+
+-- the number of each open lock is held at the hash of its key
+pub record IsIndex (buckets : List Bucket) (locks : List Lock) : Type 0 where
+  pub long : length buckets ≡ HASHES
+  pub few : length locks ≤ 2 ^ 16
+  pub within : (h : ℕ) → All (λ n. n < length locks) (bucket_at buckets h).numbers.items
+  pub holds : (n : ℕ) → is_open (lock_at locks n).queue ≡ true → Holds (bucket_at buckets (hash_of (lock_at locks n).key)) n
+
+-- the lock of the key is open, and stays as it is
+pub record WasOpen (locks more : List Lock) (w : Want) (n : ℕ) : Type 0 where
+  pub same : lock_at more n ≡ lock_at locks n
+  pub open_for : is_open_for w.key (lock_at locks n) ≡ true
+
+-- no lock of the key is open, and one that was not open is made that of the key
+pub record IsBegun (locks more : List Lock) (w : Want) (n : ℕ) : Type 0 where
+  pub fresh : lock_at more n ≡ fresh_lock w
+  pub closed : is_closed (lock_at locks n) ≡ true
+  pub none : (m : ℕ) → is_open_for w.key (lock_at locks m) ≡ false
+
+-- the lock of a want's key is made ready for it
+pub record Readies (locks more : List Lock) (buckets : List Bucket) (w : Want) (n : ℕ) : Type 0 where
+  pub within : n < length more
+  pub long : length more ≡ length locks
+  pub others : (m : ℕ) → (m ≡ n → ⊥) → lock_at more m ≡ lock_at locks m
+  pub mine : WasOpen locks more w n ⊎ IsBegun locks more w n
+  pub index : IsIndex buckets more
+  pub holds : Holds (bucket_at buckets (hash_of w.key)) n

@@ -1,0 +1,10 @@
+pub mod Beginnings
+pub mod Kept
+pub mod Tables
+pub mod States
+pub mod Locks
+pub mod Laws
+pub mod Waking
+pub mod Hashes
+pub mod Opened
+pub mod Found

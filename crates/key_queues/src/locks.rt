@@ -1,0 +1,110 @@
+//! Locks by their numbers.
+ghost use Rattle.std.specs.Prelude.{IfOk, ◌≡◌, ◌<◌, ◌≤◌, ◌^◌, ◌&&◌, ℕ, true, false, not, IfSome, length, slice_set};
+ghost use Rattle.std.specs.List.{All, find, list_any, position_or_len};
+ghost use Rattle.key_queues.specs.Locks.{lock_at, unused_lock};
+ghost use Rattle.key_queues.specs.Opened.{fresh_lock, is_closed, is_open_for, size_of};
+
+use crate::{Lock, Queue};
+use lock_queue::{Key, Name, Pool, Scope, UserCode, Want};
+use std::alloc::{AllocError, Global};
+
+/// Whether a lock is open and of a key.
+fn is_open_for(lock: &Lock, key: &Key) -> bool
+    ensures { result ≡ is_open_for key.now lock.now }
+{
+    lock.queue.len() != 0 && lock.key.is_same(key)
+}
+
+/// Whether a lock is not open.
+fn is_closed(lock: &Lock) -> bool
+    ensures { result ≡ is_closed lock.now }
+{
+    lock.queue.len() == 0
+}
+
+/// The first of some numbers that is that of the open lock of a key.
+pub fn find_in(numbers: &[u16], locks: &[Lock], key: &Key) -> Option<u16>
+    requires { All (λ n. n < length locks.now) numbers.now }
+    ensures { result ≡ find (λ n. is_open_for key.now (lock_at locks.now n)) numbers.now }
+{
+    for n in numbers {
+        if is_open_for(&locks[*n as usize], key) {
+            return Some(*n);
+        }
+    }
+    None
+}
+
+/// The number of the open lock of a key.
+pub fn find_open(locks: &[Lock], key: &Key) -> Option<u16>
+    requires { length locks.now ≤ 2 ^ 16 }
+    ensures found { IfSome result (λ n. is_open_for key.now (lock_at locks.now n) ≡ true) }
+    ensures none { result ≡ None → list_any (is_open_for key.now) locks.now ≡ false }
+{
+    for (i, lock) in locks.iter().enumerate() {
+        if is_open_for(lock, key) {
+            return Some(i as u16);
+        }
+    }
+    None
+}
+
+/// The first lock that is not open.
+pub fn first_closed(locks: &[Lock]) -> usize
+    ensures { result ≡ position_or_len is_closed locks.now }
+{
+    for (i, lock) in locks.iter().enumerate() {
+        if is_closed(lock) {
+            return i;
+        }
+    }
+    locks.len()
+}
+
+/// The size of a pool.
+fn size_of(pool: &Option<Pool>) -> Option<u32>
+    ensures { result ≡ size_of pool.now }
+{
+    match pool {
+        Some(pool) => Some(pool.size()),
+        None => None,
+    }
+}
+
+/// Makes a lock that of a want's key, with no want in its queue.
+pub fn begin(locks: &mut [Lock], n: u16, w: &Want)
+    requires { n < length locks.old }
+    ensures { locks.new ≡ slice_set locks.old n (fresh_lock w.now) }
+{
+    locks[n as usize] = Lock {
+        key: w.key.copied(),
+        size: size_of(&w.pool),
+        queue: Queue::new(),
+    };
+}
+
+/// A lock that is not open.
+fn unused() -> Lock
+    ensures { result ≡ unused_lock }
+{
+    Lock {
+        key: Key {
+            scope: Scope::All,
+            name: Name::Code(UserCode::new(0)),
+        },
+        size: None,
+        queue: Queue::new(),
+    }
+}
+
+/// So many locks, none of which is open.
+pub fn no_locks(alloc: Global, count: usize) -> Result<Vec<Lock>, AllocError>
+    ensures long { IfOk result (λ locks. length locks.items ≡ count) }
+    ensures unused { IfOk result (λ locks. (n : ℕ) → lock_at locks.items n ≡ unused_lock) }
+{
+    let mut locks = Vec::with_capacity(alloc, count)?;
+    for _ in 0..count {
+        locks.push(unused())?;
+    }
+    Ok(locks)
+}

@@ -1,0 +1,223 @@
+//! The queue of one key.
+ghost use Rattle.std.specs.Prelude.{◌≡◌, ◌≤◌, ◌<◌, ◌+◌, ◌^◌, ◌==◌, [], ℕ, Option, true, if◌then◌else◌, length, slice_index};
+ghost use Rattle.std.specs.List.{position_or_len};
+ghost use Rattle.word36.specs.declared.sizes.TheConstants.{JOBS};
+ghost use Rattle.lock_queue.specs.Queue.{amount_of};
+ghost use Rattle.key_queues.specs.Tables.{is_counted};
+ghost use Rattle.key_queues.specs.Kept.{Counts, IsQueueOf, admitted, appended, counting, fits_last, fits_next, no_queue, with_place, without};
+
+use arrayvec::ArrayVec;
+use lock_queue::{Group, Want};
+use std::marker::Model;
+use word36::JOBS;
+
+/// How many wants of a key there may be: at most one of each job.
+const WANTS: usize = JOBS as usize;
+
+/// The wants of a key, by the places of their requests, in order of arrival. Those of the front fit,
+/// and no others.
+#[derive(Drop)]
+pub struct Queue {
+    places: ArrayVec<u16, WANTS>,
+    /// How many fit.
+    fitting: usize,
+    /// What they take of the pool.
+    taken: u32,
+    /// Whether they are shared, where they have no pool, and their group.
+    shared: bool,
+    group: Group,
+}
+
+impl Model for Queue {
+    ghost use Rattle.std.specs.Prelude.{◌≤◌, ◌<◌, ◌^◌, length};
+    ghost use Rattle.word36.specs.declared.sizes.TheConstants.{JOBS};
+    ghost use Rattle.key_queues.specs.Kept.{KeptQueue};
+
+    ghost Value = { KeptQueue };
+
+    ghost view = { λ q. record { places = q.places.items; fitting = q.fitting; taken = q.taken; shared = q.shared; group = q.group } };
+
+    ghost invariant = { λ q. (q.fitting ≤ length q.places.items) × (length q.places.items ≤ JOBS) × (q.taken < 2 ^ 18) };
+}
+
+/// What a want takes of its pool.
+fn amount(w: &Want) -> u32
+    ensures { result ≡ amount_of w.now }
+{
+    match w.pool {
+        Some(pool) => pool.amount(),
+        None => 0,
+    }
+}
+
+/// Where a number stands in a list, or the list's length.
+pub fn index_of(list: &[u16], n: u16) -> usize
+    ensures { result ≡ position_or_len (λ m. m == n) list.now }
+{
+    for (i, m) in list.iter().enumerate() {
+        if *m == n {
+            return i;
+        }
+    }
+    list.len()
+}
+
+impl Queue {
+    /// The queue of no wants.
+    pub fn new() -> Self
+        ensures value { result ≡ no_queue }
+        ensures queue { (size : Option ℕ) → IsQueueOf size [] result }
+    {
+        Queue {
+            places: ArrayVec::new(),
+            fitting: 0,
+            taken: 0,
+            shared: false,
+            group: Group::new(0),
+        }
+    }
+
+    /// How many wants there are.
+    pub fn len(&self) -> usize
+        ensures { result ≡ length self.now.places }
+    {
+        self.places.len()
+    }
+
+    /// The places.
+    pub fn as_slice(&self) -> &[u16]
+        ensures value { result.now ≡ self.now.places }
+        ensures few { length result.now ≤ JOBS }
+    {
+        self.places.as_slice()
+    }
+
+    /// How many of the front fit.
+    pub fn fitting(&self) -> usize
+        ensures value { result ≡ self.now.fitting }
+        ensures most { result ≤ length self.now.places }
+    {
+        self.fitting
+    }
+
+    /// The i-th place.
+    pub fn place(&self, i: usize) -> u16
+        requires { i < length self.now.places }
+        ensures { result ≡ slice_index self.now.places i }
+    {
+        self.places[i]
+    }
+
+    /// Where a place stands.
+    pub fn index_of(&self, place: u16) -> usize
+        ensures { result ≡ position_or_len (λ m. m == place) self.now.places }
+    {
+        index_of(self.places.as_slice(), place)
+    }
+
+    /// Whether the want of a place is counted.
+    pub fn counts(&self, place: u16) -> bool
+        ensures { result ≡ is_counted self.now place }
+    {
+        self.places.as_slice()[..self.fitting].contains(&place)
+    }
+
+    /// Whether a want of the key fits behind those that are counted.
+    fn fits_next(&self, w: &Want) -> bool
+        ensures value { result ≡ fits_next self.now w.now w.now.pool }
+        ensures room { result ≡ true → self.now.taken + amount_of w.now < 2 ^ 18 }
+    {
+        match w.pool {
+            Some(pool) => self.taken + pool.amount() <= pool.size(),
+            None => self.fitting == 0 || self.shared && w.shared && self.group == w.group,
+        }
+    }
+
+    /// Counts the next want too, which fits.
+    fn admit(&mut self, w: &Want)
+        requires next { self.old.fitting < length self.old.places }
+        requires room { self.old.taken + amount_of w.now < 2 ^ 18 }
+        ensures { self.new ≡ admitted self.old w.now }
+    {
+        self.fitting += 1;
+        self.taken += amount(w);
+        self.shared = w.shared;
+        self.group = w.group;
+    }
+    /// Whether a want of the key fits behind all.
+    pub fn fits_last(&self, w: &Want) -> bool
+        ensures value { result ≡ fits_last self.now w.now }
+        ensures room { result ≡ true → self.now.taken + amount_of w.now < 2 ^ 18 }
+    {
+        self.fitting == self.places.len() && self.fits_next(w)
+    }
+
+    /// A want of the key comes last, of the request at this place.
+    pub fn append(&mut self, place: u16, w: &Want)
+        requires { length self.old.places < JOBS }
+        ensures { self.new ≡ appended self.old place w.now }
+    {
+        let fits = self.fits_last(w);
+        self.enter(place);
+        if fits {
+            self.admit(w);
+        }
+    }
+
+    /// Puts a place last, which is not counted.
+    fn enter(&mut self, place: u16)
+        requires { length self.old.places < JOBS }
+        ensures { self.new ≡ with_place self.old place }
+    {
+        self.places.push(place);
+    }
+
+    /// The i-th want leaves. What may fit for that is not yet counted: `let_in` does so.
+    pub fn give_up(&mut self, i: usize, w: &Want)
+        requires { i < length self.old.places }
+        ensures { self.new ≡ without self.old i w.now }
+    {
+        let _ = self.places.remove(i);
+        if i < self.fitting {
+            self.fitting -= 1;
+            self.taken = self.taken.saturating_sub(amount(w));
+        }
+    }
+
+    /// Counts the first want that is not counted, where it fits.
+    pub fn let_in(&mut self, w: &Want) -> bool
+        requires { self.old.fitting < length self.old.places }
+        ensures value { result ≡ fits_next self.old w.now w.now.pool }
+        ensures after { self.new ≡ (if result then admitted self.old w.now else self.old) }
+        ensures places { self.new.places ≡ self.old.places }
+    {
+        let fits = self.fits_next(w);
+        if fits {
+            self.admit(w);
+        }
+        fits
+    }
+    /// Counts k wants of the front, of the party of the first.
+    pub fn recount(&mut self, k: usize, first: &Want)
+        requires { k ≤ self.old.fitting }
+        ensures { self.new ≡ counting self.old k first.now }
+    {
+        self.fitting = k;
+        self.shared = first.shared;
+        self.group = first.group;
+    }
+
+    /// Counts those wants of the queue that fit, from the first that is not counted on.
+    pub fn extend(&mut self, wants: &[Want])
+        requires { length self.old.places ≡ length wants.now }
+        ensures places { self.new.places ≡ self.old.places }
+        ensures queue { (size : Option ℕ) → Counts size wants.now self.old → IsQueueOf size wants.now self.new }
+    {
+        while self.fitting() < self.len() {
+            let next = self.fitting();
+            if !self.let_in(&wants[next]) {
+                return;
+            }
+        }
+    }
+}

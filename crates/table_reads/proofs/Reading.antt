@@ -1,0 +1,138 @@
+-- Requests with wants of a key stand in its queue, and those of a job in its list.
+use Rattle.std.proofs.Common.{◌≡◌, ◌<◌, ◌∙◌, sym, ap, subst, ℕ, Bool, true, false, ◌&&◌, ◌||◌, ◌==◌, cond, List, [], ◌∷◌, ◌++◌, length, get_or, map, filter, refl}
+use Rattle.std.specs.List.{All, list_any}
+use Rattle.std.proofs.lemmas.Bool.{both_ways}
+use Rattle.std.proofs.lemmas.List.Elements.{filter-append}
+use Rattle.lock_queue.specs.declared.key.Key.{Key}
+use Rattle.lock_queue.specs.declared.request.Request.{Request}
+use Rattle.lock_queue.specs.declared.want.Want.{Want}
+use Rattle.lock_queue.specs.Keys.{same_key}
+use Rattle.lock_queue.specs.Queue.{all_wants, names, requests_of, wants_at, wants_of}
+use Rattle.lock_queue.proofs.Fitting.{eq-same_key, names-found}
+use Rattle.lock_queue.proofs.Lists.{list_any-found}
+use Rattle.key_queues.specs.States.{State, IsTable, is_open}
+use Rattle.key_queues.specs.Tables.{is_there, places_at, IsAt}
+use Rattle.key_queues.proofs.Counted.{none_kept}
+use Rattle.key_queues.proofs.Keeping.{Has-there}
+use Rattle.key_queues.proofs.Opening.{used_open}
+use Rattle.key_queues.proofs.Using.{queue_of_want, there_kept, there_at}
+
+-- an open queue is that of its key
+pub open_at : (s : State) (n : ℕ) → IsTable s → is_open (s.queue n) ≡ true
+    → IsAt s.at s.order (s.key n) (s.size n) (s.queue n)
+open_at s n t open_is =
+    let u = t.used n open_is in
+    let c = t.kept.counts u.place n u.stands in
+    record { places = c.places; queue = record { counts = c.counts; all = t.full u.place n u.stands } }
+
+-- where no open queue is of a key, no request has a want of it
+pub shut_at : (s : State) (key : Key) → IsTable s → ((n : ℕ) → (is_open (s.queue n) && same_key (s.key n) key) ≡ false)
+    → places_at s.at s.order key ≡ []
+shut_at s key t shut = none_kept (λ x. names (s.at x).wants.items key) s.order (go (list_any (λ x. names (s.at x).wants.items key) s.order) refl)
+  where
+    go : (b : Bool) → list_any (λ x. names (s.at x).wants.items key) s.order ≡ b → b ≡ false
+    go false e = refl
+    go true e =
+        let found = list_any-found (λ x. names (s.at x).wants.items key) s.order e in
+        let x : ℕ = found.0 in
+        let of = names-found (s.at x).wants.items key found.2 in
+        let present : is_there x s.order ≡ true = Has-there s.order x found.1 in
+        let m = queue_of_want s.key (s.at x).wants.items (s.own x) of.0 (t.kept.queues x present) of.1 in
+        let open_is : is_open (s.queue m.0) ≡ true = used_open s x m.0 t.kept (record { present = present; there = m.1 }) in
+        absurd (both_ways (is_open (s.queue m.0) && same_key (s.key m.0) key) (shut m.0)
+        (ap (λ b. b && same_key (s.key m.0) key) open_is ∙ eq-same_key (s.key m.0) key (m.2 ∙ of.2)))
+
+-- what a filter keeps was there
+pub kept_present : (t : ℕ → Bool) (order : List ℕ) → All (λ p. is_there p order ≡ true) (filter t order)
+kept_present t order k d lt =
+    (there_kept t _ order (there_at (filter t order) k d lt)).0
+
+-- and stands at each of its indices
+pub place_kept : (t : ℕ → Bool) (order places : List ℕ) (i : ℕ) → places ≡ filter t order → i < length places
+    → is_there (get_or places i 0) order ≡ true
+place_kept t order places i is lt =
+    subst (λ l. is_there (get_or l i 0) order ≡ true) (sym is) (kept_present t order i 0 (subst (λ l. i < length l) is lt))
+
+-- a filter of elements that are mapped
+pub filter_mapped : {X : Type 0} → (t : X → Bool) (f : ℕ → X) (xs : List ℕ)
+    → filter t (map f xs) ≡ map f (filter (λ x. t (f x)) xs)
+filter_mapped t f [] = refl
+filter_mapped t f (x ∷ xs) = ap (λ l. cond (t (f x)) (f x ∷ l) l) (filter_mapped t f xs) ∙ go (t (f x))
+  where
+    go : (b : Bool)
+        → cond b (f x ∷ map f (filter (λ x. t (f x)) xs)) (map f (filter (λ x. t (f x)) xs))
+        ≡ map f (cond b (x ∷ filter (λ x. t (f x)) xs) (filter (λ x. t (f x)) xs))
+    go true = refl
+    go false = refl
+
+-- two filters, one after the other, in either order
+filter_swapped : {X : Type 0} → (t u : X → Bool) (xs : List X) → filter t (filter u xs) ≡ filter u (filter t xs)
+filter_swapped t u [] = refl
+filter_swapped t u (x ∷ xs) = go (t x) (u x) refl refl (filter_swapped t u xs)
+  where
+    go : (b c : Bool) → t x ≡ b → u x ≡ c → filter t (filter u xs) ≡ filter u (filter t xs)
+        → filter t (cond c (x ∷ filter u xs) (filter u xs)) ≡ filter u (cond b (x ∷ filter t xs) (filter t xs))
+    go true true e f h = rw (e, f) (ap (λ l. x ∷ l) h)
+    go true false e f h = rw f h
+    go false true e f h = rw e h
+    go false false e f h = h
+
+-- what passes is found where nothing else is kept
+any_kept : {X : Type 0} → (t : X → Bool) (xs : List X) → list_any t xs ≡ list_any (λ x. true) (filter t xs)
+any_kept t [] = refl
+any_kept t (x ∷ xs) = go (t x) (any_kept t xs)
+  where
+    go : (b : Bool) → list_any t xs ≡ list_any (λ x. true) (filter t xs)
+        → (b || list_any t xs) ≡ list_any (λ x. true) (cond b (x ∷ filter t xs) (filter t xs))
+    go true h = refl
+    go false h = h
+
+-- the requests with a want of a key
+abbrev naming : Key → List Request → List Request
+naming key rs = filter (λ r. names r.wants.items key) rs
+
+-- have all wants of the key
+wants_naming : (key : Key) (rs : List Request) → wants_at (naming key rs) key ≡ wants_at rs key
+wants_naming key [] = refl
+wants_naming key (r ∷ rs) = go (names r.wants.items key) refl (wants_naming key rs)
+  where
+    t : Want → Bool
+    t w = same_key w.key key
+
+    go : (b : Bool) → names r.wants.items key ≡ b → wants_at (naming key rs) key ≡ wants_at rs key
+        → wants_at (cond b (r ∷ naming key rs) (naming key rs)) key ≡ wants_at (r ∷ rs) key
+    go true e h =
+        filter-append t r.wants.items (all_wants (naming key rs))
+        ∙ ap (λ l. filter t r.wants.items ++ l) h
+        ∙ sym (filter-append t r.wants.items (all_wants rs))
+    go false e h =
+        h ∙ sym (filter-append t r.wants.items (all_wants rs) ∙ ap (λ l. l ++ wants_at rs key) (none_kept t r.wants.items e))
+
+module _ (at : ℕ → Request) (order : List ℕ) (key : Key) where
+  places_naming : map at (places_at at order key) ≡ naming key (map at order)
+  places_naming = sym (filter_mapped (λ r. names r.wants.items key) at order)
+
+  -- the wants of a key are those of its places
+  pub wants_at_places : wants_at (map at (places_at at order key)) key ≡ wants_at (map at order) key
+  wants_at_places = ap (λ l. wants_at l key) places_naming ∙ wants_naming key (map at order)
+
+  -- so are those of a job
+  pub wants_at_places_of : (job : ℕ)
+      → wants_at (requests_of (map at (places_at at order key)) job) key ≡ wants_at (requests_of (map at order) job) key
+  wants_at_places_of job =
+      ap (λ l. wants_at (requests_of l job) key) places_naming
+      ∙ ap (λ l. wants_at l key) (filter_swapped (λ r. r.job == job) (λ r. names r.wants.items key) (map at order))
+      ∙ wants_naming key (requests_of (map at order) job)
+
+  -- and whether the job has one
+  pub names_at_places : (job : ℕ)
+      → names (wants_of (map at (places_at at order key)) job) key ≡ names (wants_of (map at order) job) key
+  names_at_places job =
+      any_kept (λ w. same_key w.key key) (wants_of (map at (places_at at order key)) job)
+      ∙ ap (list_any (λ w. true)) (wants_at_places_of job)
+      ∙ sym (any_kept (λ w. same_key w.key key) (wants_of (map at order) job))
+
+-- the requests of a job are those of its places
+pub requests_of_places : (at : ℕ → Request) (order : List ℕ) (job : ℕ)
+    → requests_of (map at order) job ≡ map at (filter (λ p. (at p).job == job) order)
+requests_of_places at order job = filter_mapped (λ r. r.job == job) at order

@@ -1,0 +1,10 @@
+use Rattle.std.proofs.Common.{◌≡◌, ◌++◌, take, drop}
+use Rattle.lock_queue.specs.Enqueues.{some_too_low}
+use Rattle.lock_queue.specs.Queue.{all_wants}
+use Rattle.table_reads.specs.Reads.{requests_at}
+use Rattle.table_reads.proofs.refusals.are_out_of_order.Given as goal
+
+abbrev pub invariant-loop-i : goal.invariant-loop-i
+invariant-loop-i g l =
+    some_too_low (all_wants (requests_at l.store l.own) ++ take l.i l.wants) (drop l.i l.wants)
+    ≡ some_too_low (all_wants (requests_at l.store l.own)) l.wants

@@ -1,0 +1,41 @@
+-- What holds of a table between two calls (this project's profile).
+use Rattle.std.specs.Prelude.{◌≡◌, ◌≤◌, ◌*◌, ℕ, true, List, length, map}
+use Rattle.word36.specs.declared.sizes.TheConstants.{LOCKS_A_CALL}
+use Rattle.lock_queue.specs.declared.key.Key.{Key}
+use Rattle.lock_queue.specs.declared.request.Request.{Request}
+use Rattle.lock_queue.specs.Queue.{names}
+use Rattle.lock_queue.specs.WellFormed.{is_well_formed}
+use Rattle.key_queues.specs.declared.keys.Bucket.{Bucket}
+use Rattle.key_queues.specs.declared.lock.Lock.{Lock}
+use Rattle.key_queues.specs.Found.{IsIndex}
+use Rattle.key_queues.specs.States.{IsTable}
+use Rattle.key_queues.specs.Tables.{is_there}
+use Rattle.request_store.specs.Stores.{Stored, filed_at}
+use Rattle.table_reads.specs.Filing.{state_of}
+
+-- the requests of a store, in order of arrival
+abbrev pub requests_in : Stored → List Request
+requests_in s = map (λ x. (filed_at s x).request) s.order
+
+-- each request that is present is a job's, and has 1 to 16 right wants
+abbrev pub AreRight : Stored → Type 0
+AreRight s = (x : ℕ) → is_there x s.order ≡ true → is_well_formed (filed_at s x).request ≡ true
+
+-- no job has two requests with wants of one key
+abbrev pub JobsAreApart : Stored → Type 0
+JobsAreApart s =
+    (x y : ℕ) (key : Key) → is_there x s.order ≡ true → is_there y s.order ≡ true
+    → names (filed_at s x).request.wants.items key ≡ true
+    → names (filed_at s y).request.wants.items key ≡ true
+    → (filed_at s x).request.job ≡ (filed_at s y).request.job
+    → x ≡ y
+
+-- the queues count what fits, the flags tell who is granted, and open locks are found; requests are right; there is a lock for
+-- each want that may come
+pub record IsWhole (size : ℕ) (s : Stored) (locks : List Lock) (buckets : List Bucket) : Type 0 where
+  pub table : IsTable (state_of s locks)
+  pub index : IsIndex buckets locks
+  pub right : AreRight s
+  pub jobs : JobsAreApart s
+  pub few : length s.order ≤ size
+  pub room : LOCKS_A_CALL * size ≤ length locks
