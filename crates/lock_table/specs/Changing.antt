@@ -1,60 +1,130 @@
--- Whether a grant is lost where a job's wants of a key are made shared or exclusive: the wants of the key are walked over
--- in order, as they are then.
-use Rattle.std.specs.Prelude.{ℕ, Bool, true, false, not, ◌&&◌, ◌||◌, if◌then◌else◌, List, [], ◌∷◌, map, filter, Option, Some, None}
-use Rattle.std.specs.List.{list_any}
+-- Wants that are made shared or exclusive, as the queues of their keys tell (this project's profile).
+use Rattle.std.specs.Prelude.{◌≡◌, ◌<◌, ℕ, Bool, true, false, ◌&&◌, ◌==◌, if◌then◌else◌, List, [], ◌∷◌, None, is_some, drop, length, map}
+use Rattle.std.specs.List.{All, list_any, position_or_len}
 use Rattle.lock_queue.specs.declared.key.Key.{Key}
+use Rattle.lock_queue.specs.declared.request.Request.{Request}
 use Rattle.lock_queue.specs.declared.want.Want.{Want}
-use Rattle.lock_queue.specs.Changes.{changed_want}
-use Rattle.lock_queue.specs.Keys.{same_key}
-use Rattle.lock_queue.specs.Queue.{is_pooled}
-use Rattle.lock_table.specs.declared.changes.Hold.{Hold}
-use Rattle.lock_table.specs.declared.changes.Hold.TheVariants.{Free, Shared, Exclusive}
-use Rattle.lock_shelf.specs.Changes.{with_change}
-use Rattle.lock_shelf.specs.Filings.{Filing}
+use Rattle.lock_queue.specs.Changes.{changed, changed_group}
+use Rattle.lock_queue.specs.Queue.{is_pooled, names, requests_of, wants_at}
+use Rattle.lock_queue.specs.WellFormed.{are_apart}
+use Rattle.key_queues.specs.declared.keys.Bucket.{Bucket}
+use Rattle.key_queues.specs.declared.lock.Lock.{Lock}
+use Rattle.key_queues.specs.Beginnings.{fitting, is_share_of}
+use Rattle.key_queues.specs.Found.{IsIndex}
+use Rattle.key_queues.specs.Locks.{lock_at}
+use Rattle.key_queues.specs.States.{FlagsAll, IsKept, IsUsed, OpenAreUsed, IsFull, Stands}
+use Rattle.key_queues.specs.Tables.{is_there, places_at}
+use Rattle.request_store.specs.Filing.{with_want}
+use Rattle.request_store.specs.Stores.{Stored, filed_at, with_filed}
+use Rattle.table_reads.specs.Filing.{state_of, want_filed}
+use Rattle.table_reads.specs.Reads.{request_at}
+use Rattle.table_reads.specs.Whole.{JobsAreApart, requests_in}
 
--- whether a want without a pool, shared or not, fits behind wants that hold its key so
-abbrev pub fits_held : Hold → Bool → Bool
-fits_held Free shared = true
-fits_held Shared shared = shared
-fits_held Exclusive shared = false
+-- a want made shared or exclusive
+abbrev pub changed_by : Want → Want → Want
+changed_by c w = record w { shared = c.shared; group = changed_group c.shared w }
 
--- how the key is held with one more want, shared or not
-abbrev pub held_with : Hold → Bool → Hold
-held_with Free shared = if shared then Shared else Exclusive
-held_with Shared shared = if shared then Shared else Exclusive
-held_with Exclusive shared = Exclusive
+-- a request with one change made
+abbrev pub changed_once : ℕ → Want → Request → Request
+changed_once job c r = changed job (c ∷ []) r
 
--- how the key is held with some more wants of it
-abbrev pub held_by : Hold → List Want → Hold
-held_by hold [] = hold
-held_by hold (w ∷ ws) = held_by (held_with hold w.shared) ws
+-- the want of a place that stands in a queue, once a job's is changed
+abbrev pub want_then : Stored → ℕ → ℕ → Want → ℕ → Want
+want_then s n job c p =
+    if (request_at s p).job == job then changed_by c (want_filed s p n) else want_filed s p n
 
--- a want of a pool fits as before, for a change leaves the amounts as they are
-abbrev pub is_shut_out : Hold → Want → Bool
-is_shut_out hold w = not (is_pooled w) && not (fits_held hold w.shared)
+-- how many wants of a change's key fit once it is made
+abbrev pub fitting_then : (ℕ → Request) → List ℕ → ℕ → Want → ℕ
+fitting_then at order job c = fitting (wants_at (map (λ x. changed_once job c (at x)) order) c.key)
 
--- some wants of a request, where its job makes the change or not
-abbrev pub as_changed : Bool → Want → List Want → List Want
-as_changed mine c wants = if mine then map (changed_want (c ∷ [])) wants else wants
+-- whether a request that is taken for granted stands behind those
+abbrev pub is_lost_by : (ℕ → Request) → (ℕ → Bool) → List ℕ → ℕ → Want → Bool
+is_lost_by at flag order job c = list_any flag (drop (fitting_then at order job c) (places_at at order c.key))
 
--- those of the key of the change
-abbrev pub as_changed_at : Bool → Want → List Want → List Want
-as_changed_at mine c wants = filter (λ w. same_key w.key c.key) (as_changed mine c wants)
+abbrev pub loses_by : Stored → ℕ → Want → Bool
+loses_by s job c = is_lost_by (request_at s) (λ x. (filed_at s x).granted) s.order job c
 
--- how the key is held with a request's wants of it, if the request does not lose its grant
-abbrev pub held_unless_lost : Hold → Bool → List Want → Option Hold
-held_unless_lost hold granted wants =
-    if granted && list_any (is_shut_out hold) wants then None else Some (held_by hold wants)
+-- a present request has a want in a queue, which is not of a pool
+pub record IsFreeAt (s : Stored) (n p : ℕ) : Type 0 where
+  pub present : is_there p s.order ≡ true
+  pub within : position_or_len (λ m. m == n) (filed_at s p).queues.items < length (request_at s p).wants.items
+  pub free : is_share_of None (want_filed s p n).pool ≡ true
 
-abbrev pub key_wants : Key → Filing → List Want
-key_wants key f = filter (λ w. same_key w.key key) f.request.wants.items
+-- a change does not make a pool's want of the job shared
+abbrev pub SparesPools : Stored → ℕ → Want → Type 0
+SparesPools s job c = (c.shared && list_any is_pooled (wants_at (requests_of (requests_in s) job) c.key)) ≡ false
 
--- whether one of these requests has a grant, and is shut out from the key by the wants before it
-abbrev pub loses_key : Key → Hold → List Filing → Bool
-loses_key key hold [] = false
-loses_key key hold (f ∷ later) =
-    (f.granted && list_any (is_shut_out hold) (key_wants key f)) || loses_key key (held_by hold (key_wants key f)) later
+-- the want of a place in a queue, changed
+abbrev pub altered_at : Stored → ℕ → Want → ℕ → Stored
+altered_at s n c p =
+    with_filed s p (with_want (filed_at s p) (position_or_len (λ m. m == n) (filed_at s p).queues.items) (changed_by c (want_filed s p n)))
 
--- whether a change of a job's wants of one key costs a grant
-abbrev pub costs_grant : ℕ → List Filing → Want → Bool
-costs_grant job filings c = loses_key c.key Free (map (with_change job (c ∷ [])) filings)
+-- what is asked of a change: the job has a want of its key, which is not of a pool or stays as it is, and no grant is taken
+pub record IsSound (s : Stored) (locks : List Lock) (job : ℕ) (c : Want) : Type 0 where
+  pub place : ℕ
+  pub present : is_there place s.order ≡ true
+  pub mine : (request_at s place).job ≡ job
+  pub named : names (request_at s place).wants.items c.key ≡ true
+  pub spared : (n : ℕ) → (lock_at locks n).key ≡ c.key → is_some (lock_at locks n).size ≡ true → IsUsed (state_of s locks) n
+      → (x : ℕ) → is_there x s.order ≡ true → changed_once job c (request_at s x) ≡ request_at s x
+  pub safe : loses_by s job c ≡ false
+
+-- what holds of a table while wants are changed
+pub record IsBetween (s : Stored) (locks : List Lock) (buckets : List Bucket) : Type 0 where
+  pub kept : IsKept (state_of s locks)
+  pub flags : FlagsAll (state_of s locks)
+  pub used : OpenAreUsed (state_of s locks)
+  pub index : IsIndex buckets locks
+  pub jobs : JobsAreApart s
+
+-- one change is made: more wants may fit then than are counted
+pub record Altered (s t : Stored) (locks more : List Lock) (job : ℕ) (c : Want) : Type 0 where
+  pub order : t.order ≡ s.order
+  pub at : (x : ℕ) → is_there x s.order ≡ true → request_at t x ≡ changed_once job c (request_at s x)
+  pub own : (x : ℕ) → (filed_at t x).queues.items ≡ (filed_at s x).queues.items
+  pub flag : (x : ℕ) → (filed_at t x).granted ≡ (filed_at s x).granted
+  pub key : (m : ℕ) → (lock_at more m).key ≡ (lock_at locks m).key
+  pub size : (m : ℕ) → (lock_at more m).size ≡ (lock_at locks m).size
+  pub others : (m : ℕ) → ((lock_at locks m).key ≡ c.key → ⊥) → (lock_at more m).queue ≡ (lock_at locks m).queue
+
+-- the changes are of different keys, and each is sound
+pub record AreSound (s : Stored) (locks : List Lock) (job : ℕ) (changes : List Want) : Type 0 where
+  pub apart : are_apart changes ≡ true
+  pub each : All (IsSound s locks job) changes
+
+-- some changes of all are made, and the later ones are not
+pub record IsAltering (s t : Stored) (locks more : List Lock) (job : ℕ) (changes later : List Want) : Type 0 where
+  pub order : t.order ≡ s.order
+  pub at : (x : ℕ) → is_there x s.order ≡ true → changed job later (request_at t x) ≡ changed job changes (request_at s x)
+  pub own : (x : ℕ) → (filed_at t x).queues.items ≡ (filed_at s x).queues.items
+  pub flag : (x : ℕ) → (filed_at t x).granted ≡ (filed_at s x).granted
+  pub key : (m : ℕ) → (lock_at more m).key ≡ (lock_at locks m).key
+  pub size : (m : ℕ) → (lock_at more m).size ≡ (lock_at locks m).size
+  pub others : (m : ℕ) → names changes (lock_at locks m).key ≡ false → (lock_at more m).queue ≡ (lock_at locks m).queue
+  pub named : (key : Key) → names later key ≡ true → names changes key ≡ true
+
+-- more wants are counted, of one key
+pub record ExtendedAt (s t : Stored) (locks more : List Lock) (key : Key) : Type 0 where
+  pub order : t.order ≡ s.order
+  pub at : (x : ℕ) → request_at t x ≡ request_at s x
+  pub own : (x : ℕ) → (filed_at t x).queues.items ≡ (filed_at s x).queues.items
+  pub keys : (m : ℕ) → (lock_at more m).key ≡ (lock_at locks m).key
+  pub size : (m : ℕ) → (lock_at more m).size ≡ (lock_at locks m).size
+  pub full : (x m : ℕ) → Stands (state_of t more) x m → (lock_at more m).key ≡ key → IsFull (state_of t more) m
+  pub others : (m : ℕ) → ((lock_at locks m).key ≡ key → ⊥) → (lock_at more m).queue ≡ (lock_at locks m).queue
+
+-- all wants that fit are counted, but for those of some keys
+abbrev pub IsFullBut : Stored → List Lock → List Want → Type 0
+IsFullBut s locks later =
+    (x m : ℕ) → Stands (state_of s locks) x m → names later (lock_at locks m).key ≡ false → IsFull (state_of s locks) m
+
+-- the wants of the later keys are left to be counted
+pub record IsExtending (s t : Stored) (locks more : List Lock) (later : List Want) : Type 0 where
+  pub order : t.order ≡ s.order
+  pub at : (x : ℕ) → request_at t x ≡ request_at s x
+  pub full : IsFullBut t more later
+
+-- the wants of a job are changed
+pub record IsChanged (s t : Stored) (job : ℕ) (changes : List Want) : Type 0 where
+  pub order : t.order ≡ s.order
+  pub at : (x : ℕ) → is_there x s.order ≡ true → request_at t x ≡ changed job changes (request_at s x)

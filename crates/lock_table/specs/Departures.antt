@@ -1,62 +1,56 @@
--- Which requests leave or lose wants, and which hashes of them are awaited.
-use Rattle.std.specs.Prelude.{ℕ, Bool, not, true, false, ◌≡◌, ◌==◌, ◌&&◌, List, Option, Some, None}
-use Rattle.std.specs.List.{list_any}
-use Rattle.lock_queue.specs.declared.call.LockCall.{LockCall}
-use Rattle.lock_queue.specs.declared.call.LockCall.TheVariants.{DequeueAll, DequeueId}
+-- Wants are given up, and requests leave (this project's profile).
+use Rattle.std.specs.Prelude.{◌≡◌, ◌<◌, ◌==◌, ◌&&◌, ℕ, Bool, true, not, List, length, filter, Option}
 use Rattle.lock_queue.specs.declared.key.Key.{Key}
+use Rattle.lock_queue.specs.declared.request.Request.{Request}
 use Rattle.lock_queue.specs.declared.want.Want.{Want}
-use Rattle.lock_queue.specs.Dequeues.{has_wants, without_keys_of, has_id}
-use Rattle.lock_queue.specs.Jobs.{is_blocking}
-use Rattle.lock_queue.specs.Queue.{names}
-use Rattle.lock_table.specs.declared.departures.Leaving.{Leaving}
-use Rattle.lock_table.specs.declared.departures.Leaving.TheVariants.{All, OfId, Blocked}
-use Rattle.lock_shelf.specs.Filings.{Filing, filing}
-use Rattle.key_tally.specs.Hashes.{hash_of}
-use Rattle.lock_shelf.specs.declared.awaited.Awaited.{Awaited}
-use Rattle.lock_shelf.specs.Awaited.{marks}
-use Rattle.lock_shelf.specs.Tallies.{waiting_count}
+use Rattle.lock_queue.specs.Dequeues.{with_wants, without_keys_of}
+use Rattle.lock_queue.specs.Grants.{staying_if}
+use Rattle.lock_queue.specs.Keys.{same_key}
+use Rattle.key_queues.specs.Tables.{is_there}
+use Rattle.request_store.specs.Stores.{Stored, filed_at, is_blocked}
+use Rattle.table_reads.specs.Filing.{want_at}
 
-abbrev pub leaves : ℕ → Leaving → Filing → Bool
-leaves job All f = f.request.job == job
-leaves job (OfId id) f = has_id job id f.request
-leaves job Blocked f = (f.request.job == job && is_blocking f.request.kind) && not f.granted
+-- a request without its want of a key
+abbrev pub without_key : Key → Request → Request
+without_key key r = with_wants r (filter (λ v. not (same_key key v.key)) r.wants.items)
 
-abbrev pub stays : ℕ → Leaving → Filing → Bool
-stays job leaving f = not (leaves job leaving f)
+-- the k-th want of a request is that of a key
+pub record IsWantOf (s : Stored) (p : ℕ) (key : Key) (k : ℕ) : Type 0 where
+  pub within : k < length (filed_at s p).queues.items
+  pub of : (want_at s p k).key ≡ key
 
--- whether one of the requests for which a test holds has a want of a key
-abbrev pub some_names : (Filing → Bool) → Key → List Filing → Bool
-some_names test key filings = list_any (λ f. test f && names f.request.wants.items key) filings
+-- of the requests those stay that a test keeps, and each is then as it is said
+pub record IsLeft (s t : Stored) (then : ℕ → Request) (stays : ℕ → Bool) : Type 0 where
+  pub order : t.order ≡ filter stays s.order
+  pub left : (x : ℕ) → is_there x t.order ≡ true → (filed_at t x).request ≡ then x
 
--- the awaited hashes have that of each key that one of the requests has for which a test holds, and that others await
-abbrev pub Covers : Awaited → (Filing → Bool) → List Filing → List Filing → Type 0
-Covers a test filings others =
-    (key : Key) → some_names test key filings ≡ true → (waiting_count (hash_of key) others == 0) ≡ false → marks a key ≡ true
+-- all stay but those of some places
+abbrev pub stays_beside : List ℕ → ℕ → Bool
+stays_beside places x = not (is_there x places)
 
--- and that of each key that one of the requests has for which a test holds
-abbrev pub CoversAll : Awaited → (Filing → Bool) → List Filing → Type 0
-CoversAll a test filings = (key : Key) → some_names test key filings ≡ true → marks a key ≡ true
+abbrev pub request_at : Stored → ℕ → Request
+request_at s x = (filed_at s x).request
 
--- whether a request of the job has a want of one of the keys
-abbrev pub loses : ℕ → List Want → Filing → Bool
-loses job named f = f.request.job == job && list_any (λ w. names named w.key) f.request.wants.items
+-- what a call leaves of each request stands at its place after it, and those that stay do so in order
+pub record LeavesBy (left : Request → Option Request) (s t : Stored) : Type 0 where
+  pub stays : ℕ → Bool
+  pub order : t.order ≡ filter stays s.order
+  pub left_is : (x : ℕ) → is_there x s.order ≡ true → left (request_at s x) ≡ staying_if (stays x) (request_at t x)
 
--- the same, where it is the job's
-abbrev pub with_fewer : ℕ → List Want → Filing → Filing
-with_fewer job named f = filing (without_keys_of job named f.request) f.granted
+-- what is left of a request of a job that gives up the first of some keys
+abbrev pub left_named : Stored → ℕ → List Want → ℕ → Request
+left_named s job named x = without_keys_of job named (request_at s x)
 
-abbrev pub keeps_wants : Filing → Bool
-keeps_wants f = has_wants f.request
+-- which requests of a job have an id, block it, or block one of some jobs
+abbrev pub is_of : Stored → ℕ → ℕ → Bool
+is_of s job x = (filed_at s x).request.job == job
 
--- whether a request that is not granted loses wants and keeps others
-abbrev pub waits_with_fewer : ℕ → List Want → Filing → Bool
-waits_with_fewer job named f = (loses job named f && keeps_wants (with_fewer job named f)) && not f.granted
+abbrev pub has_id_at : Stored → ℕ → ℕ → ℕ → Bool
+has_id_at s job id x = is_of s job x && (filed_at s x).request.id == id
 
--- the call by which all requests leave, or all of an id
-abbrev pub call_of : Option ℕ → LockCall
-call_of None = DequeueAll
-call_of (Some id) = DequeueId id
+abbrev pub is_blocking_at : Stored → (ℕ → Bool) → ℕ → Bool
+is_blocking_at s waiters x = waiters (filed_at s x).request.job && is_blocked (filed_at s x)
 
-abbrev pub leaving_of : Option ℕ → Leaving
-leaving_of None = All
-leaving_of (Some id) = OfId id
+-- the requests for which a test holds leave
+abbrev pub LeavesWhere : Stored → Stored → (ℕ → Bool) → Type 0
+LeavesWhere s t test = IsLeft s t (request_at s) (λ x. not (test x))

@@ -1,7 +1,5 @@
-pub mod Changing
+pub mod Turns
+pub mod Arrivals
 pub mod Departures
-pub mod Findings
-pub mod Levels
-pub mod Renewals
-pub mod RightGrants
-pub mod Standings
+pub mod Changing
+pub mod Raised

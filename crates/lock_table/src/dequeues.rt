@@ -1,73 +1,142 @@
-//! Why wants are not given up.
-ghost use Rattle.std.specs.Prelude.{◌≡◌, ◌≤◌, [], drop, length};
-ghost use Rattle.std.specs.List.{list_any};
-ghost use Rattle.key_tally.specs.Hashes.{hash_of, hashes_of};
-ghost use Rattle.lock_queue.specs.Dequeues.{dequeue_fault};
+//! Keys are given up.
+ghost use Rattle.std.specs.Prelude.{◌≡◌, ◌≤◌, ℕ, true, [], None};
+ghost use Rattle.word36.specs.declared.sizes.TheConstants.{MOST_REQUESTS};
+ghost use Rattle.lock_queue.specs.declared.call.LockCall.TheVariants.{DequeueAll, DequeueId, DequeueNamed};
+ghost use Rattle.lock_queue.specs.declared.call.LockReply.TheVariants.{Done};
+ghost use Rattle.lock_queue.specs.Grants.{left_of};
+ghost use Rattle.lock_queue.specs.Dequeues.{dequeue_all, dequeue_fault, dequeue_id, dequeue_named, has_wants};
 ghost use Rattle.lock_queue.specs.Outcomes.{first_refusal};
-ghost use Rattle.lock_shelf.specs.Boxes.{filings};
-ghost use Rattle.lock_table.specs.Departures.{loses};
-ghost use Rattle.lock_shelf.specs.Filings.{requests_in};
+ghost use Rattle.lock_queue.specs.Queue.{names};
+ghost use Rattle.key_queues.specs.Found.{IsIndex};
+ghost use Rattle.key_queues.specs.States.{IsTable};
+ghost use Rattle.key_queues.specs.Tables.{is_there};
+ghost use Rattle.request_store.specs.Stores.{filed_at};
+ghost use Rattle.table_reads.specs.Filing.{state_of};
+ghost use Rattle.table_reads.specs.Whole.{IsWhole, JobsAreApart, requests_in};
+ghost use Rattle.lock_table.specs.Departures.{IsLeft, LeavesBy, left_named};
+ghost use Rattle.lock_table.specs.Turns.{Turned};
 
-use crate::naming::{is_key_among, job_has_key};
-use lock_queue::{Refusal, Want};
-use lock_shelf::Shelf;
+use crate::depart::give_up_key;
+use crate::leaving::Leaving;
+use crate::releases::{release, release_id};
+use crate::turns::Turns;
+use key_queues::{Keys, Lock};
+use lock_queue::{Key, LockReply, Refusal, RequestId, Want, Wants};
+use request_store::Store;
+use table_reads::{has_request, has_request_id, places_of, refusal_of_dequeue};
 
-/// Why a want, whose key has this hash, is not given up behind the call's wants before it, if it is not.
-/// The hashes are those of their keys.
-fn fault_of(
-    shelf: &Shelf,
+/// The place of a job's request with a want of a key, where it has one.
+fn place_of_job<const REQS: usize>(
+    store: &Store<REQS>,
+    keys: &Keys,
+    locks: &[Lock],
     job: u8,
-    earlier: &[Want],
-    hashes: &[u16],
-    w: &Want,
-    hash: u16,
-) -> Option<Refusal>
-    requires hashes { hashes.now ≡ hashes_of earlier.now }
-    requires hash { hash ≡ hash_of w.now.key }
-    ensures { result ≡ dequeue_fault (requests_in (filings shelf.now)) job earlier.now w.now }
+    key: &Key,
+) -> u16
+    requires table { IsTable (state_of store.now locks.now) }
+    requires index { IsIndex keys.now.buckets.items locks.now }
+    requires jobs { JobsAreApart store.now }
+    ensures { (x : ℕ) → is_there x store.now.order ≡ true → (filed_at store.now x).request.job ≡ job
+        → names (filed_at store.now x).request.wants.items key.now ≡ true → result ≡ x }
 {
-    if is_key_among(earlier, hashes, &w.key, hash) {
-        Some(Refusal::NamedAlready)
-    } else if !job_has_key(shelf, job, &w.key, hash) {
-        Some(Refusal::NotPresent)
-    } else {
-        None
-    }
-}
-
-/// Why the named wants are not given up, if they are not, lock by lock. The hashes are those of their
-/// keys.
-fn refusal_among(shelf: &Shelf, job: u8, named: &[Want], hashes: &[u16]) -> Option<Refusal>
-    requires { hashes.now ≡ hashes_of named.now }
-    ensures { result ≡ first_refusal (dequeue_fault (requests_in (filings shelf.now)) job) [] named.now }
-{
-    for (i, w) in named.iter().enumerate() {
-        let fault = fault_of(shelf, job, &named[..i], &hashes[..i], w, hashes[i]);
-        if fault.is_some() {
-            return fault;
+    for p in places_of(keys, locks, key) {
+        if store.get(*p).request.job == job {
+            return *p;
         }
     }
-    None
+    0
 }
 
-/// The same, where it is known whether one of the job's requests has a want of a named key: for one lock
-/// that answers it.
-pub fn refusal_of_dequeue(
-    shelf: &Shelf,
-    is_present: bool,
+/// A job gives up the wants of some keys, each of which it has, in turn.
+pub fn give_up_named<const REQS: usize>(
+    store: &mut Store<REQS>,
+    turns: &mut Turns<REQS>,
+    keys: &mut Keys,
+    locks: &mut [Lock],
     job: u8,
     named: &[Want],
-    hashes: &[u16],
-) -> Option<Refusal>
-    requires present { is_present ≡ list_any (loses job named.now) (filings shelf.now) }
-    requires hashes { hashes.now ≡ hashes_of named.now }
-    ensures { result ≡ first_refusal (dequeue_fault (requests_in (filings shelf.now)) job) [] named.now }
+)
+    requires whole { IsWhole REQS store.old locks.old keys.old.buckets.items }
+    requires passed { first_refusal (dequeue_fault (requests_in store.old) job) [] named.now ≡ None }
+    ensures table { IsTable (state_of store.new locks.new) }
+    ensures index { IsIndex keys.new.buckets.items locks.new }
+    ensures left { IsLeft store.old store.new (left_named store.old job named.now) (λ x. has_wants (left_named store.old job named.now x)) }
+    ensures turns { Turned store.old store.new turns.old turns.new }
 {
-    if named.len() != 1 {
-        refusal_among(shelf, job, named, hashes)
-    } else if is_present {
-        None
-    } else {
-        Some(Refusal::NotPresent)
+    for i in 0..named.len() {
+        let p = place_of_job(store, keys, locks, job, &named[i].key);
+        give_up_key(store, turns, keys, locks, p, &named[i].key);
     }
+}
+
+/// A job gives up the wants of named keys.
+pub fn dequeue_named<const REQS: usize>(
+    store: &mut Store<REQS>,
+    turns: &mut Turns<REQS>,
+    keys: &mut Keys,
+    locks: &mut [Lock],
+    job: u8,
+    named: &Wants,
+) -> LockReply
+    requires { IsWhole REQS store.old locks.old keys.old.buckets.items }
+    ensures whole { IsWhole REQS store.new locks.new keys.new.buckets.items }
+    ensures requests { requests_in store.new ≡ (dequeue_named (requests_in store.old) job named.now.items).requests }
+    ensures reply { result ≡ (dequeue_named (requests_in store.old) job named.now.items).reply }
+    ensures left { result ≡ Done → LeavesBy (left_of job (DequeueNamed named.now)) store.old store.new }
+    ensures turns { result ≡ Done → Turned store.old store.new turns.old turns.new }
+{
+    if let Some(refusal) = refusal_of_dequeue(store, keys, locks, job, named.as_slice()) {
+        return LockReply::Refused(refusal);
+    }
+    give_up_named(store, turns, keys, locks, job, named.as_slice());
+    LockReply::Done
+}
+
+/// A job gives up all its requests.
+pub fn dequeue_all<const REQS: usize>(
+    store: &mut Store<REQS>,
+    turns: &mut Turns<REQS>,
+    keys: &mut Keys,
+    locks: &mut [Lock],
+    leaving: &mut Leaving,
+    job: u8,
+) -> LockReply
+    requires whole { IsWhole REQS store.old locks.old keys.old.buckets.items }
+    requires small { REQS ≤ MOST_REQUESTS }
+    ensures whole { IsWhole REQS store.new locks.new keys.new.buckets.items }
+    ensures requests { requests_in store.new ≡ (dequeue_all (requests_in store.old) job).requests }
+    ensures reply { result ≡ (dequeue_all (requests_in store.old) job).reply }
+    ensures left { result ≡ Done → LeavesBy (left_of job DequeueAll) store.old store.new }
+    ensures turns { result ≡ Done → Turned store.old store.new turns.old turns.new }
+{
+    if !has_request(store, job) {
+        return LockReply::Refused(Refusal::NotPresent);
+    }
+    release(store, turns, keys, locks, leaving, job);
+    LockReply::Done
+}
+
+/// A job gives up all its requests of an id.
+pub fn dequeue_id<const REQS: usize>(
+    store: &mut Store<REQS>,
+    turns: &mut Turns<REQS>,
+    keys: &mut Keys,
+    locks: &mut [Lock],
+    leaving: &mut Leaving,
+    job: u8,
+    id: RequestId,
+) -> LockReply
+    requires whole { IsWhole REQS store.old locks.old keys.old.buckets.items }
+    requires small { REQS ≤ MOST_REQUESTS }
+    ensures whole { IsWhole REQS store.new locks.new keys.new.buckets.items }
+    ensures requests { requests_in store.new ≡ (dequeue_id (requests_in store.old) job id).requests }
+    ensures reply { result ≡ (dequeue_id (requests_in store.old) job id).reply }
+    ensures left { result ≡ Done → LeavesBy (left_of job (DequeueId id)) store.old store.new }
+    ensures turns { result ≡ Done → Turned store.old store.new turns.old turns.new }
+{
+    if !has_request_id(store, job, id) {
+        return LockReply::Refused(Refusal::NotPresent);
+    }
+    release_id(store, turns, keys, locks, leaving, job, id);
+    LockReply::Done
 }

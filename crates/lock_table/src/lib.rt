@@ -1,15 +1,17 @@
-//! A lock table for many requests, which stand on a shelf, so that a call looks at few of them.
+//! A lock table with the requests in a slab and a queue for each key.
 #![tactic(auto)]
 
-mod calls;
-mod changes;
-mod departures;
+mod arrive;
+pub mod calls;
+mod change;
+mod depart;
 mod dequeues;
 mod enqueues;
-mod indexed;
-mod naming;
-mod renewal;
-mod standing;
-mod waits;
+pub mod leaving;
+pub mod releases;
+mod steps;
+pub mod told;
+mod turns;
+pub mod waking;
 
-pub use indexed::IndexedTable;
+pub use turns::Turns;

@@ -1,0 +1,126 @@
+-- Wants are found by their keys and leave.
+use Rattle.std.proofs.Common.{◌≡◌, ◌<◌, ◌∙◌, sym, ap, subst, ℕ, zero, suc, Bool, true, false, ◌==◌, not, List, [], ◌∷◌, length, get_or, filter, slice_get, Some, refl, arith}
+use Rattle.std.specs.List.{list_all, position_or_len, remove}
+use Rattle.std.proofs.lemmas.Bool.{both_ways, false_from_ne_true, and_parts, ne_eqb}
+use Rattle.lock_queue.specs.declared.key.Key.{Key}
+use Rattle.lock_queue.specs.declared.want.Want.{Want}
+use Rattle.lock_queue.specs.Dequeues.{has_wants, with_wants}
+use Rattle.lock_queue.specs.Keys.{same_key}
+use Rattle.lock_queue.specs.Queue.{names}
+use Rattle.lock_queue.specs.Unused.{unused_want}
+use Rattle.lock_queue.specs.WellFormed.{are_apart}
+use Rattle.lock_queue.proofs.Fitting.{eq-same_key, names-found, same_key-swap}
+use Rattle.key_queues.specs.declared.lock.Lock.{Lock}
+use Rattle.key_queues.specs.Locks.{lock_at}
+use Rattle.request_store.specs.Stores.{Stored, filed_at}
+use Rattle.table_reads.specs.Filing.{state_of}
+use Rattle.key_queues.specs.States.{State, Stands, IsTable, IsUsed, LosesWant}
+use Rattle.key_queues.specs.Tables.{is_there, QueuesOf}
+use Rattle.key_queues.proofs.Using.{position_found, queue_of_want, as_many_queues}
+use Rattle.key_queues.proofs.Opening.{used_open}
+use Rattle.lock_table.specs.Departures.{without_key, IsWantOf}
+use Rattle.key_queues.specs.Opened.{is_open_for}
+use Rattle.lock_table.proofs.Entered.{apart_at}
+use Rattle.key_queues.proofs.Finding.{open_parts}
+use Rattle.lock_table.proofs.Readied.{open_for_from}
+
+filter_all : (f : Want → Bool) (ws : List Want) → list_all f ws ≡ true → filter f ws ≡ ws
+filter_all f [] h = refl
+filter_all f (w ∷ ws) h =
+    let parts = and_parts (f w) (list_all f ws) h in
+    rw parts.0 (ap (λ l. w ∷ l) (filter_all f ws parts.1))
+
+-- without the want of a key, where the keys are apart
+pub remove_key : (ws : List Want) (k : ℕ) (key : Key) → are_apart ws ≡ true → k < length ws → (get_or ws k unused_want).key ≡ key
+    → remove ws k ≡ filter (λ v. not (same_key key v.key)) ws
+remove_key [] k key h lt e = absurd (omega arith)
+remove_key (w ∷ ws) zero key h lt e =
+    let parts = and_parts (list_all (λ v. not (same_key w.key v.key)) ws) (are_apart ws) h in
+    let mine : same_key key w.key ≡ true = eq-same_key key w.key (sym e) in
+    let rest : filter (λ v. not (same_key key v.key)) ws ≡ ws =
+    filter_all (λ v. not (same_key key v.key)) ws (subst (λ j. list_all (λ v. not (same_key j v.key)) ws ≡ true) e parts.0) in
+    rw mine (sym rest)
+remove_key (w ∷ ws) (suc k) key h lt e =
+    let parts = and_parts (list_all (λ v. not (same_key w.key v.key)) ws) (are_apart ws) h in
+    let within : k < length ws = omega (arith, lt) in
+    let apart : same_key w.key key ≡ false =
+    subst (λ j. same_key w.key j ≡ false) e (apart_at (w ∷ ws) zero (suc k) unused_want h (omega arith) lt) in
+    let other : same_key key w.key ≡ false =
+    false_from_ne_true (same_key key w.key) (λ u. both_ways (same_key w.key key) apart (same_key-swap key w.key u)) in
+    let rest = remove_key ws k key parts.1 within e in
+    rw other (ap (λ l. w ∷ l) rest)
+
+-- the k-th want has the key of the k-th queue
+key_at : (key : ℕ → Key) (ws : List Want) (ns : List ℕ) (k n : ℕ) → QueuesOf (λ w m. key m ≡ w.key) ws ns
+    → slice_get ns k ≡ Some n
+    → (get_or ws k unused_want).key ≡ key n
+key_at key [] [] k n q e = cc
+key_at key (w ∷ ws) (m ∷ ns) zero n q e = let same : m ≡ n = cc in sym q.0 ∙ ap key same
+key_at key (w ∷ ws) (m ∷ ns) (suc k) n q e = key_at key ws ns k n q.1 e
+key_at key [] (m ∷ ns) k n q e = absurd q
+key_at key (w ∷ ws) [] k n q e = absurd q
+
+module _ (store : Stored) (locks : List Lock) (p : ℕ) (key : Key) where
+  -- the queue of a key that a request names
+  own_of_key : IsTable (state_of store locks) → is_there p store.order ≡ true
+      → names (filed_at store p).request.wants.items key ≡ true
+      → (m : ℕ) × Stands (state_of store locks) p m × ((lock_at locks m).key ≡ key)
+  own_of_key table present named =
+      let s : State = state_of store locks in
+      let of = names-found (s.at p).wants.items key named in
+      let m = queue_of_want s.key (s.at p).wants.items (s.own p) of.0 (table.kept.queues p present) of.1 in
+      (m.0, record { present = present; there = m.1 }, m.2 ∙ of.2)
+
+  pub key_found : (n : ℕ) → IsTable (state_of store locks) → is_there p store.order ≡ true
+      → names (filed_at store p).request.wants.items key ≡ true
+      → is_open_for key (lock_at locks n) ≡ true
+      → IsWantOf store p key (position_or_len (λ m. m == n) (filed_at store p).queues.items)
+  key_found n table present named t =
+      let s : State = state_of store locks in
+      let m = own_of_key table present named in
+      let parts = open_parts key (lock_at locks n) t in
+      let u : IsUsed s n = table.used n parts.0 in
+      let same : m.0 ≡ n = table.kept.one p m.0 u.place n m.1 u.stands (m.2 ∙ sym parts.1) in
+      let there : is_there n (s.own p) ≡ true = subst (λ j. is_there j (s.own p) ≡ true) same m.1.there in
+      let found = position_found n (s.own p) there in
+      record {
+        within = found.0;
+        of = key_at s.key (s.at p).wants.items (s.own p) (position_or_len (λ j. j == n) (s.own p)) n (table.kept.queues p present) found.1 ∙ parts.1;
+      }
+
+  pub key_lost : IsTable (state_of store locks) → is_there p store.order ≡ true
+      → names (filed_at store p).request.wants.items key ≡ true
+      → ((n : ℕ) → is_open_for key (lock_at locks n) ≡ false)
+      → ⊥
+  key_lost table present named none =
+      let s : State = state_of store locks in
+      let m = own_of_key table present named in
+      both_ways (is_open_for key (lock_at locks m.0)) (none m.0)
+      (open_for_from key (lock_at locks m.0) (used_open s p m.0 table.kept m.1) m.2)
+
+-- what is left of a request that gave up the want of a key
+pub key_given : (store later : Stored) (locks more : List Lock) (p k : ℕ) (key : Key)
+    → IsTable (state_of store locks)
+    → is_there p store.order ≡ true
+    → IsWantOf store p key k
+    → LosesWant (state_of store locks) (state_of later more) p k
+    → (filed_at later p).request ≡ without_key key (filed_at store p).request
+key_given store later locks more p k key table present want lost =
+    let s : State = state_of store locks in
+    let few = as_many_queues (λ w n. s.key n ≡ w.key) (s.at p).wants.items (s.own p) (table.kept.queues p present) in
+    lost.left
+    ∙ ap (with_wants (filed_at store p).request) (remove_key (filed_at store p).request.wants.items k key (table.kept.apart p) (omega (arith, want.within, few)) want.of)
+
+-- a request without wants has no queues
+pub none_left : (store : Stored) (locks : List Lock) (p : ℕ) → IsTable (state_of store locks)
+    → is_there p store.order ≡ true
+    → has_wants (filed_at store p).request ≡ false
+    → length (filed_at store p).queues.items ≡ 0
+none_left store locks p table present none =
+    let s : State = state_of store locks in
+    let few = as_many_queues (λ w n. s.key n ≡ w.key) (s.at p).wants.items (s.own p) (table.kept.queues p present) in
+    sym few ∙ go (length (filed_at store p).request.wants.items) none
+  where
+    go : (n : ℕ) → not (n == 0) ≡ false → n ≡ 0
+    go zero e = refl
+    go (suc n) e = absurd (both_ways (not (suc n == 0)) e (ap not (ne_eqb (suc n) 0 (λ z. absurd (omega arith)))))

@@ -1,0 +1,16 @@
+use Rattle.std.proofs.Common.{take}
+use Rattle.lock_queue.specs.Dequeues.{has_wants}
+use Rattle.key_queues.specs.Found.{IsIndex}
+use Rattle.key_queues.specs.States.{IsTable}
+use Rattle.table_reads.specs.Filing.{state_of}
+use Rattle.lock_table.specs.Departures.{IsLeft, left_named}
+use Rattle.lock_table.specs.Turns.{Turned}
+use Rattle.lock_table.proofs.dequeues.give_up_named.Given as goal
+
+abbrev pub invariant-loop-i : goal.invariant-loop-i
+invariant-loop-i g l = record {
+  table : IsTable (state_of l.store l.locks);
+  index : IsIndex l.keys.buckets.items l.locks;
+  left : IsLeft l.fn.store l.store (left_named l.fn.store l.job (take l.i l.named)) (λ x. has_wants (left_named l.fn.store l.job (take l.i l.named) x));
+  turns : Turned l.fn.store l.store l.fn.turns l.turns;
+}

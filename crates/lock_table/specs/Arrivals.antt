@@ -1,0 +1,58 @@
+-- A request comes, and its wants are entered one by one (this project's profile).
+use Rattle.std.specs.Prelude.{◌≡◌, ◌≤◌, ◌<◌, ◌*◌, ℕ, List, [], ◌∷◌, ◌++◌, length, slice_index_or, take, true}
+use Rattle.word36.specs.declared.sizes.TheConstants.{JOBS, LOCKS_A_CALL}
+use Rattle.lock_queue.specs.declared.want.Want.{Want}
+use Rattle.lock_queue.specs.Dequeues.{with_wants}
+use Rattle.lock_queue.specs.Unused.{unused_want}
+use Rattle.lock_queue.specs.WellFormed.{are_apart}
+use Rattle.key_queues.specs.declared.keys.Bucket.{Bucket}
+use Rattle.key_queues.specs.declared.lock.Lock.{Lock}
+use Rattle.key_queues.specs.Beginnings.{is_share_of}
+use Rattle.key_queues.specs.Found.{IsIndex}
+use Rattle.key_queues.specs.Locks.{lock_at}
+use Rattle.key_queues.specs.Opened.{is_open_for}
+use Rattle.key_queues.specs.States.{IsKept, CountsAll, FlagsBut, OpenAreUsed}
+use Rattle.key_queues.specs.Tables.{is_there}
+use Rattle.request_store.specs.Stores.{Stored, filed_at}
+use Rattle.table_reads.specs.Filing.{state_of}
+
+-- a place stands last
+abbrev pub IsLast : ℕ → List ℕ → Type 0
+IsLast p order = (before : List ℕ) × (order ≡ before ++ p ∷ [])
+
+-- the open lock of a want's key, if there is one, takes it: its pool has the same size, or neither is a pool; and there is room
+pub record Admits (locks : List Lock) (w : Want) : Type 0 where
+  pub alike : (n : ℕ) → is_open_for w.key (lock_at locks n) ≡ true → is_share_of (lock_at locks n).size w.pool ≡ true
+  pub room : (n : ℕ) → is_open_for w.key (lock_at locks n) ≡ true → length (lock_at locks n).queue.places < JOBS
+
+-- the open locks of wants take them, from the k-th want on
+abbrev pub AdmitsFrom : ℕ → List Lock → List Want → Type 0
+AdmitsFrom k locks wants = (j : ℕ) → k ≤ j → j < length wants → Admits locks (slice_index_or wants j unused_want)
+
+-- no request has more queues than a call names locks
+abbrev pub AreShort : Stored → Type 0
+AreShort s = (x : ℕ) → is_there x s.order ≡ true → length (filed_at s x).queues.items ≤ LOCKS_A_CALL
+
+-- what holds while the first k of some wants of the last request are entered
+pub record IsArriving (s : Stored) (locks : List Lock) (buckets : List Bucket) (p : ℕ) (wants : List Want) (k : ℕ) : Type 0 where
+  pub kept : IsKept (state_of s locks)
+  pub full : CountsAll (state_of s locks)
+  pub flags : FlagsBut p (state_of s locks)
+  pub used : OpenAreUsed (state_of s locks)
+  pub last : IsLast p s.order
+  pub index : IsIndex buckets locks
+  pub entered : (filed_at s p).request.wants.items ≡ take k wants
+  pub own : length (filed_at s p).queues.items ≡ k
+  pub within : k ≤ length wants
+  pub apart : are_apart wants ≡ true
+  pub few : length wants ≤ LOCKS_A_CALL
+  pub admits : AdmitsFrom k locks wants
+  pub short : AreShort s
+  pub room : LOCKS_A_CALL * length s.order ≤ length locks
+
+-- all requests are as they were, but for the wants of one
+pub record SameRequests (s t : Stored) (p : ℕ) : Type 0 where
+  pub order : t.order ≡ s.order
+  pub mine : with_wants (filed_at t p).request [] ≡ with_wants (filed_at s p).request []
+  pub others : (x : ℕ) → (x ≡ p → ⊥) → (filed_at t x).request ≡ (filed_at s x).request
+  pub flags : (x : ℕ) → (filed_at t x).granted ≡ (filed_at s x).granted

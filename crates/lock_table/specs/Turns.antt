@@ -1,0 +1,18 @@
+-- Whose grants turned (this project's profile).
+use Rattle.std.specs.Prelude.{◌≡◌, ℕ, Bool, true, false, not, if◌then◌else◌, List, slice_index_or}
+use Rattle.std.specs.Bool.{beq}
+use Rattle.key_queues.specs.Tables.{is_there}
+use Rattle.request_store.specs.Stores.{Stored, filed_at}
+
+-- the mark of a place
+abbrev pub mark_at : List Bool → ℕ → Bool
+mark_at marks x = slice_index_or marks x false
+
+abbrev pub turned_if : Bool → Bool → Bool
+turned_if turns mark = if turns then not mark else mark
+
+-- the mark of each request that is present turned where its flag did
+abbrev pub Turned : Stored → Stored → List Bool → List Bool → Type 0
+Turned s t before after =
+    (x : ℕ) → is_there x t.order ≡ true
+    → mark_at after x ≡ turned_if (not (beq (filed_at s x).granted (filed_at t x).granted)) (mark_at before x)
