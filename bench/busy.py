@@ -13,7 +13,7 @@ import sys
 
 JOBS = range(1, 32)
 AIM = 200
-LIMIT = 256
+LIMIT = 256                # never more requests than these at a time
 
 
 class Busy:

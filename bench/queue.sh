@@ -1,18 +1,18 @@
 #!/usr/bin/env bash
 # Host instructions for a command of `lockmon queue` (callgrind, the difference of two lengths): one lock taken
 # and given up by turns, with the time of a million; then the same beside 200 requests that are present; a
-# command on a busy table (busy.py); and a request of sixteen locks that leaves a table of 256 such requests,
-# where 31 want each of its locks.
+# command on a busy table (busy.py); a request of sixteen locks that leaves a table of 256 such requests, where
+# 31 want each of its locks; and the same of a full table of 1,024, where 63 do.
 set -eu
 cd "$(dirname "$0")"
 program=${LOCKMON:-../crates/lockmon/out/lockmon}
 turns() { awk -v n="$1" 'BEGIN { for (i = 0; i < n; i += 2) print "ENQ 1 1 1 X\nDEQ 1 0 X" }'; }
 present() { awk 'BEGIN { for (i = 0; i < 200; i++) print "ENQ " 2 + i % 30 " 1 " i " N" i "/B" }'; }
-full() {
-    awk -v n="$1" 'BEGIN {
-        for (i = 0; i < 256; i++) {
-            job = 1 + i % 31
-            part = int(i / 31)
+held() { # requests jobs leaving
+    awk -v requests="$1" -v jobs="$2" -v n="$3" 'BEGIN {
+        for (i = 0; i < requests; i++) {
+            job = 1 + i % jobs
+            part = int(i / jobs)
             printf "ENQ %d 2 %d", job, 100 * part + job
             for (k = 0; k < 16; k++) printf " KEY%d/B", 16 * part + k
             print ""
@@ -31,4 +31,5 @@ busy=$(mktemp)
 trap 'rm -f "$busy"' EXIT
 python3 busy.py 20000 >"$busy"
 each "on a busy table" "$(head -10000 "$busy" | counted)" "$(counted <"$busy")" 10000
-each "leaving a full table" "$(full 10 | counted)" "$(full 20 | counted)" 10
+each "leaving a table of 256" "$(held 256 31 10 | counted)" "$(held 256 31 20 | counted)" 10
+each "leaving a full table" "$(held 1024 63 10 | counted)" "$(held 1024 63 20 | counted)" 10

@@ -9,8 +9,8 @@ program=${1:-crates/lockview/out/lockview}
 work=$(mktemp -d)
 trap 'rm -r "$work"' EXIT
 all_jobs() {
-    for job in $(seq 31); do echo "ENQ $job 2 1 FILE"; done
-    for job in $(seq 31); do echo "ENQ $job 0 2 INDEX/L1 A.LONGER.NAME_$job/S/L2"; done
+    for job in $(seq 63); do echo "ENQ $job 2 1 FILE"; done
+    for job in $(seq 63); do echo "ENQ $job 0 2 INDEX/L1 A.LONGER.NAME_$job/S/L2"; done
 }
 draw() { # NAME WORDS..: the picture of standard input
     "$program" "${@:2}" >"$work/$1.svg"

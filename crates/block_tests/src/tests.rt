@@ -2,8 +2,8 @@
 
 use call_block::{Block, read_block};
 use ka_cpu::{Flags, JobMemory, Regs};
-use lock_queue::LockUse::{Named, Requested};
-use lock_queue::{LockUse, Name, Pool, Refusal, Scope};
+use lock_queue::BlockUse::{Blocking, Full, Named};
+use lock_queue::{BlockUse, Name, Pool, Refusal, Scope};
 use std::alloc::AllocError;
 use std::test::Fail;
 use word36::{Address, Word};
@@ -115,19 +115,19 @@ impl Job {
     }
 
     /// What a call with the block at an address reads.
-    fn read(&self, address: u32, lock_use: LockUse) -> Result<Block, Refusal> {
+    fn read(&self, address: u32, block_use: BlockUse) -> Result<Block, Refusal> {
         read_block(
             &self.regs,
             &self.core,
             Address::new(address & 0o777_777),
             JOB,
-            lock_use,
+            block_use,
         )
     }
 
-    /// Which refusal a call that enters a request gets.
+    /// Which refusal a call that enters a request and does not wait gets.
     fn refusal(&self, address: u32) -> Option<Refusal> {
-        self.read(address, Requested).err()
+        self.read(address, Full).err()
     }
 
     /// Which refusal it gets with a block of one lock.
@@ -154,7 +154,7 @@ fn a_block_is_read(rt: HostRuntime) -> Result<(), Fail> {
         &[(1, 5), (0, 7), (0, 0o777_777), (0o440_700, 0o153), (0, 0)],
     );
     job.put(0o153, &[(0o540_000, 0)]);
-    let block = job.read(0o145, Requested).ok().ok_or("refused")?;
+    let block = job.read(0o145, Full).ok().ok_or("refused")?;
     assert_eq!(rt; block.id.number(), 7);
     assert_eq!(rt; block.wants.len(), 1);
     assert_eq!(rt; first_text(&block), Some("X"));
@@ -183,7 +183,7 @@ fn blocks_at_the_ends_of_memory(rt: HostRuntime) -> Result<(), Fail> {
             job.put(place, &[(1, 5), (0, 7), PLAIN, (0o500_000, 3), (6, 2)]);
             assert_eq!(rt; job.refusal(place), refusal, "at {place:o} of {size:o}");
             let pool = job
-                .read(place, Requested)
+                .read(place, Full)
                 .ok()
                 .map(|block| block.wants.first().and_then(|want| want.pool));
             let read = refusal.is_none().then_some(Pool::new(6, 2));
@@ -211,7 +211,7 @@ fn names_by_length(rt: HostRuntime) -> Result<(), Fail> {
             "{text}"
         );
         if refusal.is_none() {
-            let block = job.read(BLOCK, Requested).ok().ok_or("refused")?;
+            let block = job.read(BLOCK, Full).ok().ok_or("refused")?;
             assert_eq!(rt; first_text(&block), Some(text));
         }
     }
@@ -269,7 +269,7 @@ fn pointers_of_names(rt: HostRuntime) -> Result<(), Fail> {
         let (left, right) = pointer;
         let refusal = job.lock_refusal([PLAIN, pointer, NO_POOL]);
         assert_eq!(rt; refusal.is_none(), text.is_some(), "{left:o},,{right:o}");
-        if let Ok(block) = job.read(BLOCK, Requested) {
+        if let Ok(block) = job.read(BLOCK, Full) {
             assert_eq!(rt; first_text(&block), text, "{left:o},,{right:o}");
         } else {
             assert_eq!(rt; refusal, Some(Refusal::BadPointer), "{left:o},,{right:o}");
@@ -299,9 +299,9 @@ fn words_of_a_lock(rt: HostRuntime) -> Result<(), Fail> {
                 NO_POOL,
             ],
         );
-        for lock_use in [Requested, Named] {
-            let full = lock_use == Requested;
-            let block = job.read(BLOCK, lock_use).ok().ok_or("refused")?;
+        for block_use in [Full, Named] {
+            let full = block_use == Full;
+            let block = job.read(BLOCK, block_use).ok().ok_or("refused")?;
             assert_eq!(rt; block.id.number(), 0o777_777);
             let want = block.wants.first().ok_or("no want")?;
             assert_eq!(rt; want.key.scope, Scope::Job(JOB));
@@ -351,6 +351,60 @@ fn pools(rt: HostRuntime) -> Result<(), Fail> {
 }
 
 #[test]
+fn groups(rt: HostRuntime) -> Result<(), Fail> {
+    let mut job = Job::new(&rt, 1024)?;
+    for (shared, share, group) in [
+        (true, (0, 0), Ok(0)),
+        (true, (0, 1), Ok(1)),
+        (true, (0, 0o777_777), Ok(0o777_777)),
+        (true, (1, 0), Err(Refusal::BadPool)),
+        (true, (1, 1), Err(Refusal::BadPool)),
+        (true, (0o777_777, 0o777_777), Err(Refusal::BadPool)),
+        (false, (0, 0), Ok(0)),
+        (false, (0, 1), Err(Refusal::BadPool)),
+        (false, (0, 0o777_777), Err(Refusal::BadPool)),
+        (false, (5, 2), Ok(0)),
+    ] {
+        let (left, right) = share;
+        let qualifier = (if shared { 0o400_000 } else { 0 }, 0o777_777);
+        job.put(BLOCK, &[(1, 5), (0, 7), qualifier, CODE, share]);
+        for (block_use, group) in [(Blocking, group), (Full, group), (Named, Ok(0))] {
+            let read = job.read(BLOCK, block_use).map(|block| block
+                .wants
+                .first()
+                .map_or(0, |want| want.group.number()));
+            assert_eq!(rt; read, group, "{shared} {left:o},,{right:o}");
+        }
+    }
+    Ok(())
+}
+
+#[test]
+fn limits(rt: HostRuntime) -> Result<(), Fail> {
+    let mut job = Job::new(&rt, 1024)?;
+    for limit in [0, 1, 5, 0o400_000, 0o777_777] {
+        job.put(BLOCK, &[(1, 5), (limit, 7), PLAIN, CODE, NO_POOL]);
+        let block = job.read(BLOCK, Blocking).ok().ok_or("refused")?;
+        assert_eq!(rt; (block.id.number(), block.limit), (7, limit));
+        // No other use of a block has a limit.
+        for block_use in [Full, Named] {
+            let read = job.read(BLOCK, block_use).map(|block| block.limit);
+            let expected = if limit == 0 {
+                Ok(0)
+            } else {
+                Err(Refusal::BadBlock)
+            };
+            assert_eq!(rt; read, expected, "{limit:o}");
+        }
+    }
+    // The limit is looked at before the number of locks.
+    job.put(BLOCK, &[(17, 53), (1, 7)]);
+    assert_eq!(rt; job.read(BLOCK, Blocking).err(), Some(Refusal::BadCount));
+    assert_eq!(rt; job.read(BLOCK, Full).err(), Some(Refusal::BadBlock));
+    Ok(())
+}
+
+#[test]
 fn numbers_of_locks(rt: HostRuntime) -> Result<(), Fail> {
     let mut job = Job::new(&rt, 1024)?;
     for n in 0..20 {
@@ -376,7 +430,7 @@ fn numbers_of_locks(rt: HostRuntime) -> Result<(), Fail> {
         let (n, size) = head;
         job.put(place, &[head, second]);
         assert_eq!(rt; job.refusal(place), refusal, "{n},,{size} at {place:o}");
-        if let Ok(block) = job.read(place, Requested) {
+        if let Ok(block) = job.read(place, Full) {
             assert_eq!(rt; block.wants.len() as u32, n, "{n},,{size}");
         }
     }

@@ -3,7 +3,7 @@ use Rattle.std.proofs.Common.{◌≡◌, ℕ, suc, zero, ◌+◌, ◌*◌, ◌<�
 use Rattle.std.specs.Prelude.{Result, Ok, Err, IsOk, is_ok, MatchResult, slice_get}
 use Rattle.lock_queue.specs.declared.want.Want.{Want}
 use Rattle.lock_queue.specs.declared.refusal.Refusal.{Refusal}
-use Rattle.lock_queue.specs.declared.terms.LockUse.{LockUse}
+use Rattle.lock_queue.specs.declared.terms.BlockUse.{BlockUse}
 use Rattle.call_block.specs.Laws.{nth_want}
 use Rattle.call_block.specs.Blocks.{lock_at, wants_at}
 use Rattle.call_block.specs.Locks.{want_of}
@@ -36,15 +36,15 @@ in_order-cons nth n (Err refusal) rest e h = (0, omega arith, e, λ k below. abs
 in_order-cons nth n (Ok want) (Ok wants) e h = (omega (arith, h.0), wants-cons nth want wants e h.1)
 in_order-cons nth n (Ok want) (Err refusal) e h = (h.0 + 1, omega (arith, h.1), h.2, passed-cons nth want h.0 e h.3)
 
-pub in_order : (ac core : List ℕ) (job : ℕ) (lock_use : LockUse) (a n : ℕ) (nth : ℕ → Result Want Refusal) → ((i : ℕ) → nth i ≡ nth_want ac core job lock_use a i)
-    → IsInOrder nth n (wants_at ac core job lock_use a n)
-in_order ac core job lock_use a zero nth is =
+pub in_order : (ac core : List ℕ) (job : ℕ) (block_use : BlockUse) (a n : ℕ) (nth : ℕ → Result Want Refusal) → ((i : ℕ) → nth i ≡ nth_want ac core job block_use a i)
+    → IsInOrder nth n (wants_at ac core job block_use a n)
+in_order ac core job block_use a zero nth is =
     let P : Result (List Want) Refusal → Type 0 = IsInOrder nth 0 in
-    subst P (sym (none_left ac core job lock_use a)) (refl, λ i want got. cc)
-in_order ac core job lock_use a (suc n) nth is =
+    subst P (sym (none_left ac core job block_use a)) (refl, λ i want got. cc)
+in_order ac core job block_use a (suc n) nth is =
     let P : Result (List Want) Refusal → Type 0 = IsInOrder nth (suc n) in
-    let from = λ (place : ℕ). want_of ac core job lock_use (lock_at ac core place) in
+    let from = λ (place : ℕ). want_of ac core job block_use (lock_at ac core place) in
     let here : a + 3 * 0 ≡ a = omega arith in
     let later : (i : ℕ) → a + 3 * (i + 1) ≡ a + 3 + 3 * i = λ i. omega arith in
-    let rest = in_order ac core job lock_use (a + 3) n (λ i. nth (i + 1)) (λ i. is (i + 1) ∙ ap from (later i)) in
-    subst P (sym (wants_at-suc ac core job lock_use a n)) (in_order-cons nth n (from a) (wants_at ac core job lock_use (a + 3) n) (is 0 ∙ ap from here) rest)
+    let rest = in_order ac core job block_use (a + 3) n (λ i. nth (i + 1)) (λ i. is (i + 1) ∙ ap from (later i)) in
+    subst P (sym (wants_at-suc ac core job block_use a n)) (in_order-cons nth n (from a) (wants_at ac core job block_use (a + 3) n) (is 0 ∙ ap from here) rest)

@@ -1,5 +1,5 @@
 -- The block of a lock call (ENQ/DEQ of the TOPS-10 Monitor Calls Manual, in this project's profile).
-use Rattle.std.specs.Prelude.{ℕ, suc, zero, ◌+◌, ◌*◌, ◌==◌, ◌&&◌, ◌||◌, nat_lt, not, if◌then◌else◌, unwrap_or, Result, Ok, Err, List, [], ◌∷◌}
+use Rattle.std.specs.Prelude.{ℕ, suc, zero, ◌+◌, ◌*◌, ◌==◌, ◌&&◌, ◌||◌, nat_lt, Bool, true, false, not, if◌then◌else◌, unwrap_or, Result, Ok, Err, List, [], ◌∷◌}
 use Rattle.arrayvec.specs.ArrayVec.{ArrayVec}
 use Rattle.word36.specs.declared.sizes.TheConstants.{LOCKS_A_CALL}
 use Rattle.word36.specs.Words.{left_half, right_half}
@@ -7,8 +7,10 @@ use Rattle.ka_cpu.specs.Places.{are_legal, word_at}
 use Rattle.lock_queue.specs.declared.want.Want.{Want}
 use Rattle.lock_queue.specs.declared.refusal.Refusal.{Refusal}
 use Rattle.lock_queue.specs.declared.refusal.Refusal.TheVariants.{BadBlock, BadCount}
-use Rattle.lock_queue.specs.declared.terms.LockUse.{LockUse}
+use Rattle.lock_queue.specs.declared.terms.BlockUse.{BlockUse}
+use Rattle.lock_queue.specs.declared.terms.BlockUse.TheVariants.{Blocking, Full, Named}
 use Rattle.call_block.specs.declared.block.Block.{Block}
+use Rattle.call_block.specs.declared.block.BlockHead.{BlockHead}
 use Rattle.call_block.specs.declared.want.Lock.{Lock}
 use Rattle.call_block.specs.Locks.{want_of}
 use Rattle.call_block.specs.Steps.{◌>>=◌}
@@ -19,15 +21,15 @@ word ac core a = unwrap_or (word_at ac core a) 0
 
 -- the lock at three legal places
 abbrev pub lock_at : List ℕ → List ℕ → ℕ → Lock
-lock_at ac core a = record { qualifier = word ac core a; name = word ac core (a + 1); pool = word ac core (a + 2) }
+lock_at ac core a = record { qualifier = word ac core a; name = word ac core (a + 1); share = word ac core (a + 2) }
 
 -- a job's wants of so many locks, one behind the other from a place on, or the first refusal, lock by
 -- lock
-unfoldable pub wants_at : List ℕ → List ℕ → ℕ → LockUse → ℕ → ℕ → Result (List Want) Refusal
-wants_at ac core job lock_use a zero = Ok []
-wants_at ac core job lock_use a (suc n) = do
-  want ← want_of ac core job lock_use (lock_at ac core a)
-  wants ← wants_at ac core job lock_use (a + 3) n
+unfoldable pub wants_at : List ℕ → List ℕ → ℕ → BlockUse → ℕ → ℕ → Result (List Want) Refusal
+wants_at ac core job block_use a zero = Ok []
+wants_at ac core job block_use a (suc n) = do
+  want ← want_of ac core job block_use (lock_at ac core a)
+  wants ← wants_at ac core job block_use (a + 3) n
   Ok (want ∷ wants)
 
 -- the wants that were filled in, or the refusal
@@ -35,20 +37,27 @@ abbrev pub wants_read_as : Result (Unit {0}) Refusal → ArrayVec Want → Resul
 wants_read_as (Ok u) wants = Ok wants.items
 wants_read_as (Err refusal) wants = Err refusal
 
--- the block of an id and of the wants that were filled in, or the refusal
-abbrev pub read_as : Result ℕ Refusal → ArrayVec Want → Result Block Refusal
-read_as (Ok id) wants = Ok (record { id = id; wants = wants })
+-- the block of a head and of the wants that were filled in, or the refusal
+abbrev pub read_as : Result BlockHead Refusal → ArrayVec Want → Result Block Refusal
+read_as (Ok head) wants = Ok (record { id = head.id; limit = head.limit; wants = wants })
 read_as (Err refusal) wants = Err refusal
 
--- the block at a place: `n,,2+3n`, `0,,request id`, and n locks; all of its words are legal, and n is
--- from 1 to 16
-unfoldable pub block_at : List ℕ → List ℕ → ℕ → ℕ → LockUse → Result Block Refusal
-block_at ac core a job lock_use =
+-- whether a block may have a limit of time, by what its call does with its locks
+abbrev pub may_have_limit : BlockUse → Bool
+may_have_limit Blocking = true
+may_have_limit Full = false
+may_have_limit Named = false
+
+-- the block at a place: `n,,2+3n`, `limit,,request id`, and n locks; all of its words are legal, the limit is 0 where the
+-- block may have none, and n is from 1 to 16
+unfoldable pub block_at : List ℕ → List ℕ → ℕ → ℕ → BlockUse → Result Block Refusal
+block_at ac core a job block_use =
     let n = left_half (word ac core a) in
     let size = 2 + 3 * n in
-    let id = word ac core (a + 1) in
-    if not (are_legal core a size && right_half (word ac core a) == size && left_half id == 0) then Err BadBlock
+    let second = word ac core (a + 1) in
+    let timed = may_have_limit block_use || left_half second == 0 in
+    if not (are_legal core a size && right_half (word ac core a) == size && timed) then Err BadBlock
     else (if n == 0 || nat_lt LOCKS_A_CALL n then Err BadCount
     else do
-      wants ← wants_at ac core job lock_use (a + 2) n
-      Ok (record { id = right_half id; wants = record { items = wants } }))
+      wants ← wants_at ac core job block_use (a + 2) n
+      Ok (record { id = right_half second; limit = left_half second; wants = record { items = wants } }))

@@ -6,7 +6,7 @@ use Rattle.ka_cpu.specs.Places.{word_at}
 use Rattle.lock_queue.specs.declared.name.Name.TheVariants.{Text}
 use Rattle.lock_queue.specs.declared.want.Want.{Want}
 use Rattle.lock_queue.specs.declared.refusal.Refusal.{Refusal}
-use Rattle.lock_queue.specs.declared.terms.LockUse.{LockUse}
+use Rattle.lock_queue.specs.declared.terms.BlockUse.{BlockUse}
 use Rattle.call_block.specs.Blocks.{lock_at, wants_at}
 use Rattle.call_block.specs.Locks.{want_of}
 use Rattle.call_block.specs.Names.{name_at}
@@ -35,13 +35,13 @@ AscizNamesAreRead =
     → name_at ac core (joined 0o440700 place) ≡ Ok (Text text)
 
 -- what a job wants by lock i of those that stand from a place on
-abbrev pub nth_want : List ℕ → List ℕ → ℕ → LockUse → ℕ → ℕ → Result Want Refusal
-nth_want ac core job lock_use a i = want_of ac core job lock_use (lock_at ac core (a + 3 * i))
+abbrev pub nth_want : List ℕ → List ℕ → ℕ → BlockUse → ℕ → ℕ → Result Want Refusal
+nth_want ac core job block_use a i = want_of ac core job block_use (lock_at ac core (a + 3 * i))
 
 -- where so many locks are read, want i is that of lock i; where they are refused, it is by the first
 -- lock that is refused
 abbrev pub LocksAreReadInOrder : Type 0
 LocksAreReadInOrder =
-    (ac core : List ℕ) (job : ℕ) (lock_use : LockUse) (a n : ℕ) → MatchResult (wants_at ac core job lock_use a n)
-    (λ wants. (length wants ≡ n) × ((i : ℕ) (want : Want) → slice_get wants i ≡ Some want → nth_want ac core job lock_use a i ≡ Ok want))
-    (λ refusal. (i : ℕ) × (i < n) × (nth_want ac core job lock_use a i ≡ Err refusal) × ((k : ℕ) → k < i → IsOk (nth_want ac core job lock_use a k)))
+    (ac core : List ℕ) (job : ℕ) (block_use : BlockUse) (a n : ℕ) → MatchResult (wants_at ac core job block_use a n)
+    (λ wants. (length wants ≡ n) × ((i : ℕ) (want : Want) → slice_get wants i ≡ Some want → nth_want ac core job block_use a i ≡ Ok want))
+    (λ refusal. (i : ℕ) × (i < n) × (nth_want ac core job block_use a i ≡ Err refusal) × ((k : ℕ) → k < i → IsOk (nth_want ac core job block_use a k)))

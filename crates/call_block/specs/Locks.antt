@@ -7,7 +7,7 @@ use Rattle.lock_queue.specs.declared.key.Scope.TheVariants.{All, Job}
 use Rattle.lock_queue.specs.declared.name.Name.{Name}
 use Rattle.lock_queue.specs.declared.refusal.Refusal.{Refusal}
 use Rattle.lock_queue.specs.declared.refusal.Refusal.TheVariants.{BadQualifier}
-use Rattle.lock_queue.specs.declared.terms.LockUse.{LockUse}
+use Rattle.lock_queue.specs.declared.terms.BlockUse.{BlockUse}
 use Rattle.lock_queue.specs.declared.terms.Terms.{Terms}
 use Rattle.lock_queue.specs.declared.want.Want.{Want}
 use Rattle.lock_queue.specs.Uses.{want_on}
@@ -30,23 +30,25 @@ scope_of job w =
     if right_half w == 0o777777 then Ok All
     else (if right_half w == 0o777776 then Ok (Job job) else Err BadQualifier)
 
--- the terms on which a lock is spelled: its level stands in bits 9 to 17 of the first word, and the third word is
--- `pool size,,amount`, or 0
+-- The terms on which a lock is spelled: its level stands in bits 9 to 17 of the first word. The third word is `0,,group` of
+-- a lock that may be shared, and of another one `pool size,,amount`, or 0. Of a lock that may be shared a left half that is
+-- not 0 counts as the size of a pool, which is refused.
 abbrev pub terms_of : Lock → Terms
 terms_of lock = record {
   shared = is_shared lock.qualifier;
+  group = if is_shared lock.qualifier then right_half lock.share else 0;
   bypass = is_bypass lock.qualifier;
   level = bits 9 17 lock.qualifier;
-  pool_size = left_half lock.pool;
-  pool_amount = right_half lock.pool;
+  pool_size = left_half lock.share;
+  pool_amount = if is_shared lock.qualifier then 0 else right_half lock.share;
 }
 
 abbrev pub key_of : Name → Scope → Key
 key_of name scope = record { scope = scope; name = name }
 
 -- a job's want of a lock, by what its call does with the lock
-abbrev pub want_of : List ℕ → List ℕ → ℕ → LockUse → Lock → Result Want Refusal
-want_of ac core job lock_use lock = do
+abbrev pub want_of : List ℕ → List ℕ → ℕ → BlockUse → Lock → Result Want Refusal
+want_of ac core job block_use lock = do
   name ← name_at ac core lock.name
   scope ← scope_of job lock.qualifier
-  want_on lock_use (key_of name scope) (terms_of lock)
+  want_on block_use (key_of name scope) (terms_of lock)

@@ -3,12 +3,12 @@ ghost use Rattle.std.specs.Prelude.{◌≡◌, ◌+◌, ◌-◌, ◌*◌, ◌^�
 ghost use Rattle.std.specs.List.{list_all};
 ghost use Rattle.arrayvec.specs.ArrayVec.{array_vec_len};
 ghost use Rattle.ka_cpu.specs.Places.{is_legal};
-ghost use Rattle.lock_queue.specs.WellFormed.{shares_no_pool};
-ghost use Rattle.call_block.specs.Blocks.{word, lock_at, wants_at, block_at, read_as, wants_read_as};
+ghost use Rattle.lock_queue.specs.WellFormed.{shares_rightly};
+ghost use Rattle.call_block.specs.Blocks.{word, lock_at, wants_at, block_at, may_have_limit, read_as, wants_read_as};
 
 use crate::want::{Lock, want_of};
 use ka_cpu::{JobMemory, Regs, are_legal, fetch};
-use lock_queue::{LockUse, Refusal, RequestId, Wants};
+use lock_queue::{BlockUse, Refusal, RequestId, Wants};
 use word36::{Address, LOCKS_A_CALL, Word};
 
 /// The words of one lock.
@@ -22,8 +22,26 @@ const REGISTERS: u32 = 0o20;
 pub struct Block {
     /// The number by which the job knows the request.
     pub id: RequestId,
+    /// For how many ticks the job waits for its grant, 0 where it has no limit.
+    pub limit: u32,
     /// The locks, in the block's order: 1 to 16.
     pub wants: Wants,
+}
+
+/// What the words of a block before its locks say.
+#[derive(Clone, Copy, Debug, PartialEq, Eq)]
+pub struct BlockHead {
+    /// The number by which the job knows the request.
+    pub id: RequestId,
+    /// For how many ticks the job waits for its grant, 0 where it has no limit.
+    pub limit: u32,
+}
+
+/// Whether a block may have a limit of time, by what its call does with its locks.
+fn may_have_limit(block_use: BlockUse) -> bool
+    ensures { result ≡ may_have_limit block_use }
+{
+    matches!(block_use, BlockUse::Blocking)
 }
 
 /// The word at a legal place.
@@ -47,7 +65,7 @@ fn lock_at<M: JobMemory>(regs: &Regs, memory: &M, place: u32) -> Lock
     Lock {
         qualifier: word(regs, memory, place),
         name: word(regs, memory, place + 1),
-        pool: word(regs, memory, place + 2),
+        share: word(regs, memory, place + 2),
     }
 }
 
@@ -58,51 +76,52 @@ fn read_wants<M: JobMemory>(
     first: u32,
     count: u32,
     job: u8,
-    lock_use: LockUse,
+    block_use: BlockUse,
     wants: &mut Wants,
 ) -> Result<(), Refusal>
     requires some { 1 ≤ count }
     requires few { count ≤ LOCKS_A_CALL }
     requires fits { first < 2 ^ 19 }
     requires legal { IsTrue (is_legal (M.words memory.now) (first + 3 * count - 1)) }
-    ensures wants { wants_read_as result wants.new ≡ wants_at regs.now.ac (M.words memory.now) job lock_use first count }
+    ensures wants { wants_read_as result wants.new ≡ wants_at regs.now.ac (M.words memory.now) job block_use first count }
     ensures counted { OnOk result (array_vec_len wants.new ≡ count) }
-    ensures unshared { OnOk result (IsTrue (list_all shares_no_pool wants.new.items)) }
+    ensures unshared { OnOk result (IsTrue (list_all shares_rightly wants.new.items)) }
 {
     wants.clear();
     for lock in 0..count {
         let lock = lock_at(regs, memory, first + LOCK_WORDS * lock);
-        wants.push(want_of(regs, memory, job, lock_use, lock)?);
+        wants.push(want_of(regs, memory, job, block_use, lock)?);
     }
     Ok(())
 }
 
 /// Reads the block of a job's call at an address, over the job's registers and core: fills in its wants
-/// and answers its id, or answers the first refusal, and then what is filled in means nothing:
-/// `BadBlock` where a word of the block is not legal, its size is not that of its n locks, or the left
-/// half of its second word is not 0; `BadCount` where there is no lock or more than 16; then, lock by
+/// and answers its id and its limit of time, or answers the first refusal, and then what is filled in
+/// means nothing: `BadBlock` where a word of the block is not legal, its size is not that of its n locks,
+/// or it has a limit and may have none; `BadCount` where there is no lock or more than 16; then, lock by
 /// lock, `BadPointer` where it has neither a user code nor a pointer to a name, or the name runs off
 /// memory, `BadName` where the name is empty or longer than 30 characters, `BadQualifier` where it is
-/// a name neither of all jobs nor of the job alone, and `BadPool` where its pool is wrong.
+/// a name neither of all jobs nor of the job alone, and `BadPool` where its pool or its group is wrong.
 ///
-/// A call that enters a request asks for its locks (`Requested`). Of a call that only names them
-/// (`Named`) levels, the bypass and pools are not looked at: its wants have level 0, no bypass and no
-/// pool. A block's address does not wrap, the pointer to a name
-/// does, as in ILDB. Nothing is changed. (ENQ/DEQ of the TOPS-10 Monitor Calls Manual; the layout and
-/// the refusals are this project's profile.)
+/// The limit, which stands in the left half of the second word, is for a call that waits for its grant
+/// (`Blocking`). Such a call asks for its locks, and so does one that does not wait (`Full`). Of a call
+/// that only names them (`Named`) levels, the bypass, groups and pools are not looked at: its wants have
+/// level 0, no bypass, group 0 and no pool. A block's address does not wrap, the pointer to a name does,
+/// as in ILDB. Nothing is changed. (ENQ/DEQ of the TOPS-10 Monitor Calls Manual; the layout and the
+/// refusals are this project's profile.)
 #[tactic(auto, unfolding(crate::specs::Blocks::block_at))]
 pub fn fill_block<M: JobMemory>(
     regs: &Regs,
     memory: &M,
     address: Address,
     job: u8,
-    lock_use: LockUse,
+    block_use: BlockUse,
     wants: &mut Wants,
-) -> Result<RequestId, Refusal>
-    ensures block { read_as result wants.new ≡ block_at regs.now.ac (M.words memory.now) address job lock_use }
+) -> Result<BlockHead, Refusal>
+    ensures block { read_as result wants.new ≡ block_at regs.now.ac (M.words memory.now) address job block_use }
     ensures least { OnOk result (1 ≤ array_vec_len wants.new) }
     ensures most { OnOk result (array_vec_len wants.new ≤ LOCKS_A_CALL) }
-    ensures unshared { OnOk result (IsTrue (list_all shares_no_pool wants.new.items)) }
+    ensures unshared { OnOk result (IsTrue (list_all shares_rightly wants.new.items)) }
 {
     let address = address.number();
     let head = fetch(regs, memory, address).ok_or(Refusal::BadBlock)?;
@@ -111,15 +130,19 @@ pub fn fill_block<M: JobMemory>(
     if head.right() != size || !are_legal(memory, address, size) {
         return Err(Refusal::BadBlock);
     }
-    let id = word(regs, memory, address + 1);
-    if id.left() != 0 {
+    let second = word(regs, memory, address + 1);
+    let limit = second.left();
+    if limit != 0 && !may_have_limit(block_use) {
         return Err(Refusal::BadBlock);
     }
     if count == 0 || count as usize > LOCKS_A_CALL {
         return Err(Refusal::BadCount);
     }
-    read_wants(regs, memory, address + 2, count, job, lock_use, wants)?;
-    Ok(RequestId::new(id.right()))
+    read_wants(regs, memory, address + 2, count, job, block_use, wants)?;
+    Ok(BlockHead {
+        id: RequestId::new(second.right()),
+        limit,
+    })
 }
 
 /// The block of a job's call at an address, or the first refusal, as `fill_block` reads it.
@@ -128,14 +151,15 @@ pub fn read_block<M: JobMemory>(
     memory: &M,
     address: Address,
     job: u8,
-    lock_use: LockUse,
+    block_use: BlockUse,
 ) -> Result<Block, Refusal>
-    ensures block { result ≡ block_at regs.now.ac (M.words memory.now) address job lock_use }
+    ensures block { result ≡ block_at regs.now.ac (M.words memory.now) address job block_use }
     ensures least { IfOk result (λ block. 1 ≤ array_vec_len block.wants) }
     ensures most { IfOk result (λ block. array_vec_len block.wants ≤ LOCKS_A_CALL) }
-    ensures unshared { IfOk result (λ block. IsTrue (list_all shares_no_pool block.wants.items)) }
+    ensures unshared { IfOk result (λ block. IsTrue (list_all shares_rightly block.wants.items)) }
 {
     let mut wants = Wants::new();
-    let id = fill_block(regs, memory, address, job, lock_use, &mut wants)?;
-    Ok(Block { id, wants })
+    let head = fill_block(regs, memory, address, job, block_use, &mut wants)?;
+    let BlockHead { id, limit } = head;
+    Ok(Block { id, limit, wants })
 }

@@ -1,5 +1,5 @@
-//! The block of a lock call, read from a job's memory: the request id and the wants, or the first
-//! refusal.
+//! The block of a lock call, read from a job's memory: the request id, the limit of time and the wants,
+//! or the first refusal.
 #![tactic(auto)]
 
 mod bits;
@@ -8,5 +8,5 @@ mod laws;
 mod name;
 mod want;
 
-pub use block::{Block, fill_block, read_block};
+pub use block::{Block, BlockHead, fill_block, read_block};
 pub use laws::{asciz_names_are_read, locks_are_read_in_order};

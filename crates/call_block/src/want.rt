@@ -1,12 +1,12 @@
 //! One lock of a block.
 ghost use Rattle.std.specs.Prelude.{◌≡◌, IsTrue, IfOk};
-ghost use Rattle.lock_queue.specs.WellFormed.{shares_no_pool};
+ghost use Rattle.lock_queue.specs.WellFormed.{shares_rightly};
 ghost use Rattle.call_block.specs.Locks.{scope_of, terms_of, want_of};
 
 use crate::bits::bits;
 use crate::name::read_name;
 use ka_cpu::{JobMemory, Regs};
-use lock_queue::{Key, Level, LockUse, Refusal, Scope, Terms, Want};
+use lock_queue::{BlockUse, Group, Key, Level, Refusal, Scope, Terms, Want};
 use word36::Word;
 
 /// Among whom the name is told apart, from a lock's first word.
@@ -27,20 +27,23 @@ pub struct Lock {
     pub qualifier: Word,
     /// A user code, or a pointer to a name.
     pub name: Word,
-    /// A pool and how much of it, or 0.
-    pub pool: Word,
+    /// How it is shared: a pool and how much of it, the group of a lock that may be shared, or 0.
+    pub share: Word,
 }
 
 /// The terms on which a lock is spelled.
 fn terms_of(lock: Lock) -> Terms
     ensures { result ≡ terms_of lock }
 {
+    let shared = bits(lock.qualifier, 0, 0) == 1;
+    let right = lock.share.right();
     Terms {
-        shared: bits(lock.qualifier, 0, 0) == 1,
+        shared,
+        group: Group::new(if shared { right } else { 0 }),
         bypass: bits(lock.qualifier, 1, 1) == 1,
         level: Level::new(bits(lock.qualifier, 9, 17) as u16),
-        pool_size: lock.pool.left(),
-        pool_amount: lock.pool.right(),
+        pool_size: lock.share.left(),
+        pool_amount: if shared { 0 } else { right },
     }
 }
 
@@ -49,13 +52,13 @@ pub fn want_of<M: JobMemory>(
     regs: &Regs,
     memory: &M,
     job: u8,
-    lock_use: LockUse,
+    block_use: BlockUse,
     lock: Lock,
 ) -> Result<Want, Refusal>
-    ensures value { result ≡ want_of regs.now.ac (M.words memory.now) job lock_use lock }
-    ensures unshared { IfOk result (λ w. IsTrue (shares_no_pool w)) }
+    ensures value { result ≡ want_of regs.now.ac (M.words memory.now) job block_use lock }
+    ensures unshared { IfOk result (λ w. IsTrue (shares_rightly w)) }
 {
     let name = read_name(regs, memory, lock.name)?;
     let scope = scope_of(job, lock.qualifier)?;
-    Want::on(lock_use, Key { scope, name }, terms_of(lock))
+    Want::on(block_use, Key { scope, name }, terms_of(lock))
 }

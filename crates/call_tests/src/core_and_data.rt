@@ -7,6 +7,7 @@ use crate::rows::Sight::{Blocks, WaitsFor, Word};
 use crate::rows::{walk, walk_on};
 use job_sched::Wait;
 use uuo_calls::CallOutcome::Done;
+use word36::{JOBS, LINES};
 
 const CORE: u32 = 0o11;
 
@@ -77,7 +78,7 @@ fn core_is_not_there(rt: HostRuntime) {
 #[test]
 fn time_number_and_sleep(rt: HostRuntime) {
     let rows = [
-        Does(Comes(31, 15)),
+        Does(Comes(JOBS, LINES - 1)),
         Does(Day(100)),
         Asks(1, MSTIME, 0, (NEXT, 0o3202)),
         Does(Day(5_183_999)),
@@ -85,7 +86,7 @@ fn time_number_and_sleep(rt: HostRuntime) {
         Does(DayGoesOn),
         Asks(1, MSTIME, 0, (NEXT, 0)),
         Asks(1, PJOB, 0, (NEXT, 1)),
-        Asks(31, PJOB, 0, (NEXT, 31)),
+        Asks(JOBS, PJOB, 0, (NEXT, u64::from(JOBS))),
         Asks(1, SLEEP, 1, (NEXT, 1)),
         Sees(WaitsFor(1, Wait::Sleep(60))),
         Asks(1, SLEEP, 0, (NEXT, 0)),

@@ -7,6 +7,8 @@ mod core_and_data;
 #[cfg(test)]
 mod interrupts;
 #[cfg(test)]
+mod limits;
+#[cfg(test)]
 mod listed;
 #[cfg(test)]
 mod locks;
@@ -14,6 +16,8 @@ mod locks;
 mod machine;
 #[cfg(test)]
 mod parts;
+#[cfg(test)]
+mod quotas;
 #[cfg(test)]
 mod rows;
 #[cfg(test)]

@@ -1,21 +1,22 @@
 //! ENQ., DEQ. and ENQC.: each function, and each refusal.
 
 use crate::machine::{Machine, NEXT, SKIPPED};
-use crate::rows::Act::{Block, Comes, PutsAc, Stores};
+use crate::rows::Act::{Block, Comes, HasQuota, PutsAc, Stores};
 use crate::rows::Row::{Asks, AsksFor, Calls, Does, Sees};
 use crate::rows::Sight::{Granted, IsReady, IsThere, Requests, WaitsFor, Word};
 use crate::rows::{Lock, Row, walk, walk_on, with_job};
 use job_sched::Wait;
 use std::process::Abort;
 use uuo_calls::CallOutcome::{Done, Gone};
+use word36::MOST_REQUESTS;
 
 pub const ENQ: u32 = 0o151;
 
 pub const DEQ: u32 = 0o152;
 
-const ENQC: u32 = 0o153;
+pub const ENQC: u32 = 0o153;
 
-const RESET: u32 = 0;
+pub const RESET: u32 = 0;
 
 const LOGOUT: u32 = 0o17;
 
@@ -31,8 +32,8 @@ const CODE: u64 = 0o500000_000001;
 /// A lock by the user code 1, of all jobs and exclusive.
 pub const EXCLUSIVE: Lock = [ALL, CODE, 0];
 
-/// A lock by the user code 1, of all jobs and shared.
-const SHARED: Lock = [0o400000_777777, CODE, 0];
+/// A lock by the user code 1, of all jobs and shared, of group 0.
+pub const SHARED: Lock = [0o400000_777777, CODE, 0];
 
 /// The code 1 at level 3.
 const LEVEL_3: Lock = [0o3_777777, CODE, 0];
@@ -93,18 +94,17 @@ fn code_2(rt: HostRuntime) {
         Asks(1, ENQ, 0o4_000300, (NEXT, 2)),
         Asks(1, ENQ, 0o777777_777777, (NEXT, 2)),
         Asks(1, DEQ, 0o3_000300, (NEXT, 2)),
-        Asks(1, ENQC, 0o1_000300, (NEXT, 2)),
+        Asks(1, ENQC, 0o3_000300, (NEXT, 2)),
+        Asks(1, ENQC, 0o777777_000000, (NEXT, 2)),
         Sees(Requests(0)),
     ];
     walk(&rt, rt.alloc(), &rows);
 }
 
-/// Blocks that a call refuses as such: for their length, their id, their place, and for no lock and 17.
+/// Blocks that a call refuses as such: for their length, their place, and for no lock and 17.
 fn expect_codes_3_and_4(rt: &impl Abort, machine: &mut Machine, call: u32) {
     let rows = [
         Does(Stores(1, 0o400, &[0o1_000004, 1])),
-        Asks(1, call, 0o400, (NEXT, 3)),
-        Does(Stores(1, 0o400, &[0o1_000005, 0o1_000001])),
         Asks(1, call, 0o400, (NEXT, 3)),
         Asks(1, call, 0o2000, (NEXT, 3)),
         Asks(1, call, 0o777777, (NEXT, 3)),
@@ -198,7 +198,7 @@ fn codes_13_and_1(rt: HostRuntime) {
 }
 
 /// Asks for a lock of this user code that bypasses the order of levels.
-fn asks_bypassing(code: u64, answer: (u32, u64), requests: usize) -> Row<'static> {
+pub fn asks_bypassing(code: u64, answer: (u32, u64), requests: usize) -> Row<'static> {
     AsksFor(
         [0o200000_777777, 0o500000_000000 | code, 0],
         answer,
@@ -206,16 +206,48 @@ fn asks_bypassing(code: u64, answer: (u32, u64), requests: usize) -> Row<'static
     )
 }
 
-/// The 257th request is refused.
+/// A full queue takes no request more; a job that has as many as it may have is told of its quota first.
 #[test]
 fn code_14(rt: HostRuntime) {
     let mut machine = with_job(&rt, rt.alloc());
-    for i in 0..256usize {
+    let full = MOST_REQUESTS as u16;
+    machine.set_quota(1, full + 1);
+    for i in 0..MOST_REQUESTS {
         let row = asks_bypassing(i as u64, (SKIPPED, 0o1_000300), i + 1);
         walk_on(&rt, &mut machine, &[row]);
     }
-    let row = asks_bypassing(0o1000, (NEXT, 14), 256);
-    walk_on(&rt, &mut machine, &[row]);
+    let rows = [
+        asks_bypassing(0o10000, (NEXT, 14), MOST_REQUESTS),
+        Does(HasQuota(1, full)),
+        asks_bypassing(0o10000, (NEXT, 16), MOST_REQUESTS),
+    ];
+    walk_on(&rt, &mut machine, &rows);
+}
+
+/// The code 1, shared and of group 1.
+const GROUP_1: Lock = [0o400000_777777, CODE, 1];
+
+/// The code 1, shared and of group 2.
+const GROUP_2: Lock = [0o400000_777777, CODE, 2];
+
+/// Jobs share a lock where they are of one group, which ENQ. 3 does not change.
+#[test]
+fn groups(rt: HostRuntime) {
+    let rows = [
+        Does(Comes(2, 1)),
+        AsksFor(GROUP_1, (SKIPPED, 0o1_000300), 1),
+        Does(Block(2, BLOCK, 1, &[GROUP_2])),
+        Asks(2, ENQ, 0o1_000300, (NEXT, 1)),
+        Does(Block(2, BLOCK, 1, &[SHARED])),
+        Asks(2, ENQ, 0o1_000300, (NEXT, 1)),
+        Does(Block(1, BLOCK, 1, &[GROUP_2])),
+        Asks(1, ENQ, 0o3_000300, (SKIPPED, 0o3_000300)),
+        Does(Block(2, BLOCK, 1, &[GROUP_1])),
+        Asks(2, ENQ, 0o1_000300, (SKIPPED, 0o1_000300)),
+        Sees(Requests(2)),
+        Sees(Granted(1, true)),
+    ];
+    walk(&rt, rt.alloc(), &rows);
 }
 
 /// ENQ. 0 sets the skip return at once, and the job waits with Queue until its request is granted. A
@@ -232,8 +264,8 @@ fn blocking_request(rt: HostRuntime) {
         Does(Block(3, BLOCK, 3, &[SHARED])),
         Asks(3, ENQ, 0o300, (SKIPPED, 0o300)),
         Sees(WaitsFor(1, Wait::None)),
-        Sees(WaitsFor(2, Wait::Queue)),
-        Sees(WaitsFor(3, Wait::Queue)),
+        Sees(WaitsFor(2, Wait::Queue(0, 1))),
+        Sees(WaitsFor(3, Wait::Queue(0, 1))),
         Sees(IsReady(3, false)),
         Calls(2, 0, LOGOUT, (Gone, 0)),
         Sees(IsThere(2, false)),

@@ -11,7 +11,7 @@ use plain_table::PlainTable;
 use std::alloc::{AllocError, Global};
 use tty_lines::{LineNumber, Lines};
 use uuo_calls::{CallOutcome, CallRoom, MonitorCall, perform, remove_job};
-use word36::{Address, DATA_WORDS, JOBS, LINES, Word};
+use word36::{Address, DATA_WORDS, JOBS, LINES, MOST_REQUESTS, Word};
 
 /// The PC of a job that makes a call at 140 octal, and after a call that does not skip.
 pub const NEXT: u32 = 0o141;
@@ -22,12 +22,15 @@ pub const SKIPPED: u32 = 0o142;
 /// The PC that is back at the call.
 pub const BACK: u32 = 0o140;
 
+/// How many requests a job may have.
+const QUOTA: u16 = 64;
+
 /// A machine's parts.
 #[derive(Drop)]
 pub struct Machine {
     pub table: JobTable,
     pub lines: Lines,
-    pub locks: PlainTable,
+    pub locks: PlainTable<MOST_REQUESTS>,
     pub cores: PlainCore,
     pub shared: [Word; DATA_WORDS],
     pub room: CallRoom,
@@ -69,7 +72,7 @@ impl Machine {
             pc: Address::new(NEXT),
             flags: NO_FLAGS,
         };
-        let mut job = Job::new(LineNumber::new(line), regs, Address::new(BACK));
+        let mut job = Job::new(LineNumber::new(line), regs, Address::new(BACK), QUOTA);
         job.stop = None;
         self.table.place(n, job);
     }
@@ -125,6 +128,24 @@ impl Machine {
             job.wait = wait;
             self.table.place(n, job);
         }
+    }
+
+    /// Lets a job have so many requests.
+    pub fn set_quota(&mut self, n: u8, quota: u16) {
+        if n > JOBS {
+            return;
+        }
+        if let Some(mut job) = self.job(n) {
+            job.quota = quota;
+            self.table.place(n, job);
+        }
+    }
+
+    /// A tick goes by: for sleeps and the quantum, and then for limits, whose jobs' requests leave together.
+    pub fn tick(&mut self) {
+        self.table.tick();
+        let expired = self.table.expire(&self.locks);
+        self.locks.withdraw_all(expired);
     }
 
     /// Lets a job be at its call again, with an interrupt in progress.

@@ -82,7 +82,7 @@ impl Machine {
             if self.step(quantum) != *job {
                 return false;
             }
-            self.table.tick();
+            self.tick();
         }
         true
     }

@@ -28,6 +28,8 @@ pub enum Act<'a> {
     DayGoesOn,
     /// A job waits.
     Waits(u8, Wait),
+    /// A job may have so many requests.
+    HasQuota(u8, u16),
     /// A job is at its call again, and an interrupt of it is in progress.
     Interrupts(u8),
     /// A text is typed at line 0.
@@ -40,7 +42,7 @@ pub enum Act<'a> {
     ClearsOutput,
     /// CTRL-C is typed at a line.
     Breaks(u8),
-    /// A tick of the table of jobs.
+    /// A tick of the jobs, and of the limits of their requests.
     Tick,
 }
 
@@ -123,13 +125,14 @@ impl Act<'_> {
             Act::Day(ticks) => machine.set_day(*ticks),
             Act::DayGoesOn => machine.time.advance(),
             Act::Waits(job, wait) => machine.set_wait(*job, *wait),
+            Act::HasQuota(job, quota) => machine.set_quota(*job, *quota),
             Act::Interrupts(job) => machine.interrupt(*job),
             Act::Types(text) => machine.type_in(text),
             Act::Outputs(count) => machine.put_out(*count),
             Act::ClearsInput => machine.clear_input(),
             Act::ClearsOutput => machine.clear_output(),
             Act::Breaks(line) => machine.break_at(*line),
-            Act::Tick => machine.table.tick(),
+            Act::Tick => machine.tick(),
         }
     }
 }

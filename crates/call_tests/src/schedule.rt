@@ -9,6 +9,7 @@ use crate::rows::Sight::{IsReady, Left, Stopped, WaitsFor};
 use crate::rows::{walk, walk_on, with_job};
 use job_sched::JobError::{NoSuchJob, NotStopped};
 use job_sched::{Stop, Wait};
+use word36::JOBS;
 
 const SLEEP: u32 = 0o31;
 
@@ -19,18 +20,18 @@ fn two_jobs_in_turn(rt: HostRuntime) {
     walk(&rt, rt.alloc(), &rows);
 }
 
-/// Without ticks a job keeps its quantum; job 31 comes round to job 1; a job that is gone has no
+/// Without ticks a job keeps its quantum; the last job comes round to job 1; a job that is gone has no
 /// quantum left.
 #[test]
 fn circle_of_jobs(rt: HostRuntime) {
     let rows = [
-        Does(Comes(31, 1)),
+        Does(Comes(JOBS, 1)),
         Runs(1, 1),
-        Turns(1, &[1, 31]),
+        Turns(1, &[1, JOBS]),
         Runs(1, 1),
         Does(Goes(1)),
         Sees(Left(0)),
-        Runs(60, 31),
+        Runs(60, JOBS),
         Does(Breaks(1)),
         Runs(60, 0),
     ];

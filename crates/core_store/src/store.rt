@@ -21,7 +21,7 @@ impl NoCore {
     }
 }
 
-/// Core for jobs 1 to 31, in blocks of 1024 words (this project's profile).
+/// Core for jobs 1 to 63, in blocks of 1024 words (this project's profile).
 ///
 /// A store keeps a list of words for each job, which is empty where the job has no core, and counts
 /// the blocks that no job has. No call changes another job's words, and only `new` takes memory.

@@ -101,7 +101,7 @@ fn next_random(x: u64) -> u64 {
 
 /// An act that is worked out from a number: jobs come, grow and go, and words are written and read.
 fn random_act(x: u64) -> Act {
-    let job = (x >> 17) % 31 + 1;
+    let job = (x >> 17) % u64::from(JOBS) + 1;
     let blocks = (x >> 24) % 6;
     let place = (x >> 27) % 6144;
     let number = (x >> 12) % 65536;

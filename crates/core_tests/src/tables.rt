@@ -2,25 +2,26 @@
 
 use crate::acts::Act::{Blocks, Free, Has, Read, Write};
 use crate::acts::Row;
+use word36::JOBS;
 
 /// All 256 blocks in one job, and one more than there are.
 pub const ALL_IN_ONE: [Row; 16] = [
     (Free, Some(256)),
-    (Blocks(31, 257), None),
-    (Blocks(31, 256), Some(0)),
-    (Has(31), Some(256)),
+    (Blocks(JOBS, 257), None),
+    (Blocks(JOBS, 256), Some(0)),
+    (Has(JOBS), Some(256)),
     (Blocks(1, 1), None),
     (Has(1), Some(0)),
-    (Blocks(31, 257), None),
-    (Has(31), Some(256)),
-    (Write(31, 262_143, 7), Some(7)),
-    (Read(31, 262_143), Some(7)),
-    (Read(31, 262_144), None),
-    (Write(31, 262_144, 7), None),
-    (Blocks(31, 0), Some(256)),
-    (Has(31), Some(0)),
-    (Read(31, 0), None),
-    (Blocks(31, 0), Some(256)),
+    (Blocks(JOBS, 257), None),
+    (Has(JOBS), Some(256)),
+    (Write(JOBS, 262_143, 7), Some(7)),
+    (Read(JOBS, 262_143), Some(7)),
+    (Read(JOBS, 262_144), None),
+    (Write(JOBS, 262_144, 7), None),
+    (Blocks(JOBS, 0), Some(256)),
+    (Has(JOBS), Some(0)),
+    (Read(JOBS, 0), None),
+    (Blocks(JOBS, 0), Some(256)),
 ];
 
 /// In 4 blocks, job 2 goes from between jobs 1 and 3 and comes back with two blocks, for which no

@@ -28,29 +28,29 @@ fn rows_are_answered(rt: HostRuntime) -> Result<(), Fail> {
     Ok(())
 }
 
-/// 31 jobs of 8 blocks each, of which one then grows to 16: the first that has not its words.
+/// All jobs with 4 blocks each, of which one then grows to 8: the first that has not its words.
 fn first_disturbed<C: CoreStore>(alloc: Global, grows: u8) -> Result<Option<u8>, AllocError> {
     let mut cores = C::new(alloc, 256)?;
     for job in 1..=JOBS {
-        answer(&mut cores, Act::Blocks(job, 8));
-        answer(&mut cores, Act::Write(job, 8191, u32::from(job)));
+        answer(&mut cores, Act::Blocks(job, 4));
+        answer(&mut cores, Act::Write(job, 4095, u32::from(job)));
     }
-    answer(&mut cores, Act::Blocks(grows, 17));
-    answer(&mut cores, Act::Blocks(grows, 16));
+    answer(&mut cores, Act::Blocks(grows, 9));
+    answer(&mut cores, Act::Blocks(grows, 8));
     for job in 1..=JOBS {
-        let last = answer(&mut cores, Act::Read(job, 8191));
-        let before = answer(&mut cores, Act::Read(job, 8190));
+        let last = answer(&mut cores, Act::Read(job, 4095));
+        let before = answer(&mut cores, Act::Read(job, 4094));
         if (last, before) != (Some(u64::from(job)), Some(0)) {
             return Ok(Some(job));
         }
     }
-    let grown = answer(&mut cores, Act::Read(grows, 8192));
+    let grown = answer(&mut cores, Act::Read(grows, 4096));
     Ok((cores.free() != 0 || grown != Some(0)).then_some(0))
 }
 
 #[test]
-fn thirty_one_jobs_share_256_blocks(rt: HostRuntime) -> Result<(), Fail> {
-    for grows in [1, 5, 31].iter() {
+fn all_jobs_share_256_blocks(rt: HostRuntime) -> Result<(), Fail> {
+    for grows in [1, 5, JOBS].iter() {
         assert_eq!(rt; first_disturbed::<PlainCore>(rt.alloc(), *grows)?, None);
         assert_eq!(rt; first_disturbed::<BlockCore>(rt.alloc(), *grows)?, None);
     }

@@ -7,7 +7,7 @@ use script_io::LINE_LENGTH;
 const NAME: &str =
     "a lock's name (letters, digits, \".\", \"-\" and \"_\", or \"#\" and 1 to 11 octal digits)";
 
-const OPTION: &str = "is no option of a lock (/S, /B, /Ln with n to 511, /Ps:a and /J are)";
+const OPTION: &str = "is no option of a lock (/S, /Gn, /B, /Ln with n to 511, /Ps:a and /J are)";
 
 fn is_name_character(c: u8) -> bool {
     c.is_ascii_alphanumeric() || c == b'.' || c == b'-' || c == b'_'
@@ -34,6 +34,7 @@ fn is_pool(text: Item<'_>) -> bool {
 fn is_option(item: Item<'_>) -> bool {
     match item.text {
         [b'S' | b'B' | b'J'] => true,
+        [b'G', group @ ..] => is_number(group, 10, 0, 262_143),
         [b'L', level @ ..] => is_number(level, 10, 0, 511),
         [b'P', pool @ ..] => is_pool(Item {
             text: pool,
@@ -69,6 +70,7 @@ pub fn check_lock(item: Item<'_>) -> Result<(), Fault<'_>> {
 #[derive(Clone, Copy, Debug, Default)]
 struct Seen {
     shared: bool,
+    group: bool,
     bypass: bool,
     own: bool,
     level: bool,
@@ -80,6 +82,7 @@ impl Seen {
     fn is_new(&mut self, option: &[u8]) -> bool {
         let place = match option.first() {
             Some(b'S') => &mut self.shared,
+            Some(b'G') => &mut self.group,
             Some(b'B') => &mut self.bypass,
             Some(b'J') => &mut self.own,
             Some(b'L') => &mut self.level,

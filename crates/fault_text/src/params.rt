@@ -4,6 +4,7 @@ use crate::fault::Fault;
 use crate::items::{Items, is_number};
 use crate::locks::check_lock;
 use script_io::LINE_LENGTH;
+use word36::JOBS;
 
 /// What a command takes in one place.
 #[derive(Clone, Copy, Debug, PartialEq, Eq)]
@@ -40,7 +41,7 @@ pub type Shape = (&'static str, [Param; 3]);
 /// Where a number has to be: its base, its least and its greatest value.
 fn range_of(param: Param) -> (u64, u64, u64) {
     match param {
-        Param::QueueJob => (10, 1, 31),
+        Param::QueueJob => (10, 1, u64::from(JOBS)),
         Param::Job | Param::Line => (10, 0, 255),
         Param::Count => (10, 0, 1_000_000),
         Param::Place => (8, 0, 0o777_777),
@@ -53,7 +54,7 @@ fn range_of(param: Param) -> (u64, u64, u64) {
 fn wanted_of(param: Param) -> &'static str {
     match param {
         Param::Nothing => "nothing",
-        Param::QueueJob => "a job, 1 to 31",
+        Param::QueueJob => "a job, 1 to 63",
         Param::Function => "a function, 0 to 262143",
         Param::Id => "an id, 0 to 262143",
         Param::Locks => "a lock",

@@ -3,9 +3,16 @@
 use crate::Finding;
 use op_script::{Config, ServeError, TestIn, TestOut, serve, serve_asm, serve_queue};
 use std::alloc::Global;
+use word36::MOST_REQUESTS;
 
 /// More calls than a port gets.
 const MANY: u64 = 1_000_000;
+
+/// Room for a script that fills the lock queue.
+const SCRIPT_ROOM: usize = 32 * MOST_REQUESTS;
+
+/// Room for what is written then.
+const TEXT_ROOM: usize = 4 * MOST_REQUESTS;
 
 /// How it went that a text was to be written.
 fn finding(answer: Result<(), ServeError>, written: &[u8], text: &[u8]) -> Finding {
@@ -55,9 +62,10 @@ fn append(room: &mut [u8], from: usize, piece: &[u8]) -> usize {
 /// up, and the one again: how many bytes of `room` this takes.
 fn put_requests(room: &mut [u8]) -> usize {
     let mut end = 0;
-    for i in 1..=256u32 {
+    for i in 1..=MOST_REQUESTS as u32 {
         let digits = [
-            b'0' + (i / 100) as u8,
+            b'0' + (i / 1000 % 10) as u8,
+            b'0' + (i / 100 % 10) as u8,
             b'0' + (i / 10 % 10) as u8,
             b'0' + (i % 10) as u8,
         ];
@@ -65,14 +73,14 @@ fn put_requests(room: &mut [u8]) -> usize {
             end = append(room, end, piece);
         }
     }
-    let rest = b"ENQ 1 1 257 N257/B\nDEQ 1 2 1\nENQ 1 1 257 N257/B\n".as_slice();
+    let rest = b"ENQ 1 1 0 N0/B\nDEQ 1 2 1\nENQ 1 1 0 N0/B\n".as_slice();
     append(room, end, rest)
 }
 
 /// What is written then: how many bytes of `room` it takes.
 fn put_answers(room: &mut [u8]) -> usize {
     let mut end = 0;
-    for _ in 0..256 {
+    for _ in 0..MOST_REQUESTS {
         end = append(room, end, b"OK\n");
     }
     append(room, end, b"CODE 14\nOK\nOK\n")
@@ -80,14 +88,14 @@ fn put_answers(room: &mut [u8]) -> usize {
 
 /// A script on the lock queue.
 pub fn queue(alloc: Global) -> Finding {
-    let mut script = [0u8; 8192];
+    let mut script = [0u8; SCRIPT_ROOM];
     let length = put_requests(&mut script);
-    let mut text = [0u8; 1024];
+    let mut text = [0u8; TEXT_ROOM];
     let text_length = put_answers(&mut text);
     let (Some(script), Some(text)) = (script.get(..length), text.get(..text_length)) else {
         return Finding::Wrong;
     };
-    let mut room = [0u8; 1024];
+    let mut room = [0u8; TEXT_ROOM];
     let mut reader = TestIn::new(script, 100, MANY);
     let mut writer = TestOut::new(&mut room, 100, MANY);
     let answer = serve_queue(alloc, &mut reader, &mut writer);

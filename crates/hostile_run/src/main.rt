@@ -1,9 +1,12 @@
 //! Runs programs and events that mean harm, and looks whether the machine keeps its rules.
 //!
 //! `words N`: sixteen jobs execute words drawn at random for N rounds, on two machines with different
-//! tables of locks and stores of core. `events N S`: N events as an operator and sixteen users might
+//! tables of locks and stores of core. `events N S`: N events as an operator and users at all lines might
 //! make them, drawn from the seed S, with a look at the whole state every 10,000.
 #![tactic(auto)]
+
+ghost use Rattle.std.specs.Prelude.{◌≤◌};
+ghost use Rattle.word36.specs.declared.sizes.TheConstants.{MOST_REQUESTS};
 
 mod generator;
 mod plain_check;
@@ -15,15 +18,15 @@ use anyhow::Result;
 use core_store::{BlockCore, CoreStore, PlainCore};
 use generator::Generator;
 use lock_queue::LockTable;
-use lock_table::IndexedTable;
 use mac_asm::assemble;
 use monitor::{Config, System};
 use plain_check::count_faults;
 use plain_table::PlainTable;
+use queue_script::ScriptTable;
 use std::alloc::Global;
 use std::env;
 use std::process::ExitCode;
-use word36::Image;
+use word36::{Image, MOST_REQUESTS};
 use words::run_words;
 
 /// The blocks of core, and the ticks of a quantum.
@@ -38,10 +41,10 @@ const BETWEEN_LOOKS: u32 = 10_000;
 const BETWEEN_LINES: u32 = 1_000_000;
 
 /// The machine that works everything out from one list, with a vector of words for each job.
-type Plain = System<PlainTable, PlainCore>;
+type Plain = System<PlainTable<MOST_REQUESTS>, PlainCore>;
 
 /// The machine that `lockmon run` holds.
-type Fast = System<IndexedTable, BlockCore>;
+type Fast = System<ScriptTable, BlockCore>;
 
 /// What is asked for.
 #[derive(Clone, Copy)]
@@ -64,7 +67,9 @@ fn asked(words: &[String]) -> Option<Load> {
 }
 
 /// A machine from a fresh boot.
-fn booted<L: LockTable, C: CoreStore>(alloc: Global) -> Result<Option<System<L, C>>> {
+fn booted<L: LockTable, C: CoreStore>(alloc: Global) -> Result<Option<System<L, C>>>
+    requires { (1 ≤ L.REQS) × (L.REQS ≤ MOST_REQUESTS) }
+{
     let Some(config) = Config::new(BLOCKS, QUANTUM) else {
         return Ok(None);
     };

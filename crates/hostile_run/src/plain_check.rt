@@ -21,11 +21,16 @@ fn amount_before<L: LockTable>(locks: &L, place: usize, want: &Want) -> u64 {
     amount
 }
 
+/// Whether two wants share their key in one group.
+fn is_of_one_group(v: &Want, w: &Want) -> bool {
+    v.shared && w.shared && v.group == w.group
+}
+
 /// Whether an earlier want of the key does not share it with this one.
 fn is_opposed<L: LockTable>(locks: &L, place: usize, want: &Want) -> bool {
     for i in 0..place.min(locks.len()) {
         for earlier in locks.request(i).wants.iter() {
-            if earlier.key.is_same(&want.key) && !(earlier.shared && want.shared) {
+            if earlier.key.is_same(&want.key) && !is_of_one_group(earlier, want) {
                 return true;
             }
         }
@@ -52,7 +57,7 @@ fn is_due<L: LockTable>(locks: &L, place: usize, request: &Request) -> bool {
 /// Whether a job has a wait for the queue that holds.
 fn waits_for_queue<L: LockTable, C: CoreStore>(system: &System<L, C>, job: u8) -> bool {
     match system.job(job) {
-        Some(view) => view.wait == Wait::Queue,
+        Some(view) => matches!(view.wait, Wait::Queue(..)),
         None => false,
     }
 }

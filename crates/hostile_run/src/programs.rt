@@ -86,5 +86,25 @@ BLK: 1,,5
  END BEGIN
 ";
 
+/// Shares the lock X in group 1 for a while, waits for it no longer than half a second, and asks anew
+/// where that was too short.
+pub const GROUPED: &str = "\
+LOOP: MOVE 1,[BLK]
+ ENQ. 1,
+ JRST REST
+ MOVEI 2,1
+ SLEEP 2,
+ MOVE 1,[1,,13]
+ DEQ. 1,
+ JFCL
+REST: AOJA 5,LOOP
+BLK: 1,,5
+ 36,,13
+ 400000,,777777
+ POINT 7,[ASCIZ /X/]
+ 1
+ END LOOP
+";
+
 /// All of them.
-pub const ALL: [&str; 4] = [COUNTER, READER, ECHO, WORKER];
+pub const ALL: [&str; 5] = [COUNTER, READER, ECHO, WORKER, GROUPED];

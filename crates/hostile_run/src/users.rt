@@ -1,4 +1,4 @@
-//! What an operator and sixteen users might do.
+//! What an operator and users at all lines might do.
 
 use crate::generator::Generator;
 use monitor::Event;
@@ -19,7 +19,7 @@ const CONTINUE: u32 = 8;
 const KILL: u32 = 3;
 
 /// How many programs there are to begin with.
-const PROGRAMS: u32 = 4;
+const PROGRAMS: u32 = 5;
 
 /// A restart comes once in so many events.
 const RESTART: u32 = 200_000;

@@ -3,14 +3,17 @@
 use crate::generator::Generator;
 use crate::plain_check::count_faults;
 use core_store::CoreStore;
-use lock_queue::{LockTable, Request};
+use lock_queue::{LockTable, Request, Want};
 use monitor::{Answer, Event, System};
 use std::alloc::{AllocError, Global};
 use tty_lines::Char7;
-use word36::{Image, JOBS, LINES};
+use word36::{Image, JOBS};
 
 /// Where the words stand, and where the jobs start.
 const START: u32 = 0o140;
+
+/// The jobs stand at the lines from 0 to one less than this.
+const PLACES: u8 = 16;
 
 /// How many words a job has.
 const WORDS: u32 = 64;
@@ -52,13 +55,16 @@ fn is_same_answer(a: &Answer, b: &Answer) -> bool {
     }
 }
 
+/// Whether two wants are the same.
+fn is_same_want(v: &Want, w: &Want) -> bool {
+    v.key.is_same(&w.key) && v.shared == w.shared && v.group == w.group && v.pool == w.pool
+}
+
 /// Whether two requests are the same.
 fn is_same_request(a: &Request, b: &Request) -> bool {
     let is_same_head = a.job == b.job && a.id == b.id && a.kind == b.kind && a.told == b.told;
     let mut pairs = a.wants.iter().zip(b.wants.iter());
-    is_same_head
-        && a.wants.len() == b.wants.len()
-        && pairs.all(|(v, w)| v.key.is_same(&w.key) && v.shared == w.shared && v.pool == w.pool)
+    is_same_head && a.wants.len() == b.wants.len() && pairs.all(|(v, w)| is_same_want(v, w))
 }
 
 /// Counts what differs between the requests of two machines.
@@ -145,7 +151,7 @@ impl<L: LockTable, C: CoreStore, M: LockTable, D: CoreStore> Pair<L, C, M, D> {
         self.happen(&Event::Step);
         self.happen(&Event::Tick);
         if round % 9 == 0 {
-            let line = (round % u32::from(LINES)) as u8;
+            let line = (round % u32::from(PLACES)) as u8;
             self.happen(&Event::Typed(line, Char7::low_bits(u64::from(round))));
         }
         if round % 100 == 0
@@ -157,7 +163,7 @@ impl<L: LockTable, C: CoreStore, M: LockTable, D: CoreStore> Pair<L, C, M, D> {
     }
 }
 
-/// A job at each line begins with words of its own, and then so many rounds go by.
+/// A job at each of so many lines begins with words of its own, and then so many rounds go by.
 pub fn run_words<L, C, M, D>(
     alloc: Global,
     first: System<L, C>,
@@ -180,7 +186,7 @@ where
         second,
         found,
     };
-    for line in 0..LINES {
+    for line in 0..PLACES {
         let image = drawn_image(alloc, u64::from(line) + 1)?;
         pair.begin(line, &image);
     }

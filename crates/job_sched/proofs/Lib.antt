@@ -1,4 +1,5 @@
 pub mod Circle
+pub mod Limits
 pub mod Quanta
 pub mod Sleepers
 pub mod Turns

@@ -107,7 +107,7 @@ ticked-wait (Sleep (suc n)) e = absurd (omega (arith, ltb-false 0 (suc n) e))
 ticked-wait Char e = refl
 ticked-wait Line e = refl
 ticked-wait (Room places) e = refl
-ticked-wait Queue e = refl
+ticked-wait (Queue limit ac) e = refl
 
 ticked-slot : (o : Option Job) → is_sleeper o ≡ false → option_map ticked_job o ≡ o
 ticked-slot None e = refl

@@ -24,7 +24,7 @@ abbrev pub table_without : Table → ℕ → Table
 table_without t n =
     record { jobs = slice_set t.jobs n None; current = t.current; left = if t.current == n then 0 else t.left }
 
--- a tick goes by: every sleep is one tick shorter, and the quantum too
+-- the first half of a tick: every sleep is one tick shorter, and the quantum too
 abbrev pub ticked_table : Table → Table
 ticked_table t = record (with_each t ticked_job) { left = t.left - 1 }
 

@@ -21,9 +21,16 @@ abbrev pub halted : Job → Stop → Job
 halted j stop = record j { stop = Some stop }
 
 -- a job that was just loaded
-abbrev pub new_job : ℕ → Regs → ℕ → Job
-new_job line regs start =
-    record { line = line; regs = regs; start = start; stop = Some Loaded; wait = Nothing; interrupts = no_interrupts }
+abbrev pub new_job : ℕ → Regs → ℕ → ℕ → Job
+new_job line regs start quota = record {
+  line = line;
+  regs = regs;
+  start = start;
+  stop = Some Loaded;
+  wait = Nothing;
+  interrupts = no_interrupts;
+  quota = quota;
+}
 
 -- a job that starts: it goes on at its start address, waits for nothing and has no vector
 abbrev pub started_job : Job → Job
@@ -54,19 +61,19 @@ ticked_wait Nothing = Nothing
 ticked_wait Char = Char
 ticked_wait Line = Line
 ticked_wait (Room places) = Room places
-ticked_wait Queue = Queue
+ticked_wait (Queue limit ac) = Queue limit ac
 
 abbrev pub ticked_job : Job → Job
 ticked_job j = record j { wait = ticked_wait j.wait }
 
--- whether a wait is a sleep that goes on
+-- whether ticks count for a wait: it is a sleep that goes on, or a wait for a request that has a limit
 abbrev pub is_sleep : Wait → Bool
 is_sleep (Sleep ticks) = nat_lt 0 ticks
 is_sleep Nothing = false
 is_sleep Char = false
 is_sleep Line = false
 is_sleep (Room places) = false
-is_sleep Queue = false
+is_sleep (Queue limit ac) = nat_lt 0 limit
 
 -- whether an interrupt can be delivered: they are on, none is in progress, and there is a vector
 abbrev pub takes_interrupts : Interrupts → Bool

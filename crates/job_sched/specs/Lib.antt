@@ -1,6 +1,7 @@
 pub mod Stops
 pub mod Jobs
 pub mod Tables
+pub mod Limits
 pub mod Ready
 pub mod Changes
 pub mod Laws

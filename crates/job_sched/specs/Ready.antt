@@ -17,7 +17,7 @@ holds lines requests n line (Sleep ticks) = nat_lt 0 ticks
 holds lines requests n line Char = not (nat_lt 0 (length (input_of lines line)))
 holds lines requests n line Line = not (holds_line (input_of lines line))
 holds lines requests n line (Room places) = nat_lt (room_of lines line) places
-holds lines requests n line Queue = is_waiting_job requests n
+holds lines requests n line (Queue limit ac) = is_waiting_job requests n
 
 -- whether what stands at place n is a job that is not stopped and whose wait does not hold
 abbrev pub is_ready_job : List Rings → List Request → ℕ → Option Job → Bool

@@ -15,7 +15,7 @@ abbrev pub is_alone : Table → ℕ → Bool
 is_alone t n = (t.current == n) && (t.left == 0)
 
 -- Nothing comes between so many rounds of the current job, with ticks or without, as long as it only computes: it takes no
--- interrupts, and where ticks go by nobody sleeps, and its quantum lasts or it is alone.
+-- interrupts, and where ticks go by nobody sleeps or has a limit, and its quantum lasts or it is alone.
 pub record Undisturbed (t : Table) (n : ℕ) (ticking alone : Bool) (rounds : ℕ) : Type 0 where
   pub current : t.current ≡ n
   pub quantum : 0 < t.left

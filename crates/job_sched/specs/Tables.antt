@@ -19,12 +19,12 @@ no_jobs = record { jobs = replicate (JOBS + 1) None; current = 0; left = 0 }
 abbrev pub job_at : List (Option Job) → ℕ → Option Job
 job_at jobs n = slice_index_or jobs n None
 
--- whether a job is there and sleeps
+-- whether a job is there, and sleeps or has a limit
 abbrev pub is_sleeper : Option Job → Bool
 is_sleeper (Some j) = is_asleep j
 is_sleeper None = false
 
--- what a table keeps: a place for each number and one before them, no sleeper unless it is said that one may be there,
+-- what a table keeps: a place for each number and one before them, nobody for whom ticks count unless it is said so,
 -- and no job from a number on
 pub record IsTable (jobs : List (Option Job)) (sleepers : Bool) (vacant_from : ℕ) : Type 0 where
   pub places : length jobs ≡ JOBS + 1

@@ -1,12 +1,18 @@
 //! A job.
 
-ghost use Rattle.std.specs.Prelude.{◌≡◌};
+ghost use Rattle.std.specs.Prelude.{◌≡◌, ◌==◌, nat_lt, slice_set};
+ghost use Rattle.lock_queue.specs.Refusals.{code_of as refusal_code};
 ghost use Rattle.job_sched.specs.Jobs.{new_job, resumed_job, broken_job, ticked_job, is_asleep, takes_interrupts};
+ghost use Rattle.job_sched.specs.Limits.{at_error_return, limit_of, limited_by};
 ghost use Rattle.job_sched.specs.Stops.{code_of};
 
 use ka_cpu::{Flags, Regs, StopReason};
+use lock_queue::Refusal;
 use tty_lines::LineNumber;
-use word36::Address;
+use word36::{Address, Word};
+
+/// What takes an address one back, counted modulo 2^18.
+const ONE_BACK: u32 = 0o777_777;
 
 /// Why a job is stopped (this project's profile).
 #[derive(Clone, Copy, Debug, PartialEq, Eq)]
@@ -52,8 +58,9 @@ pub enum Wait {
     Line,
     /// So many free places in the output of its line.
     Room(u16),
-    /// The grant of its blocking request.
-    Queue,
+    /// The grant of its blocking request: for so many ticks more, or without a limit where that is 0.
+    /// The other number is that of the accumulator of the call that asked.
+    Queue(u32, u8),
 }
 
 /// How a job takes the interrupts of its grants (this project's profile).
@@ -82,6 +89,15 @@ pub const NO_FLAGS: Flags = Flags {
     no_divide: false,
 };
 
+/// Puts a word at a place, if it is there.
+fn put_word(words: &mut [Word], place: usize, word: Word)
+    ensures { words.new ≡ slice_set words.old place word }
+{
+    if place < words.len() {
+        words[place] = word;
+    }
+}
+
 /// A job, without its core.
 #[derive(Clone, Copy, Debug)]
 pub struct Job {
@@ -97,12 +113,14 @@ pub struct Job {
     pub wait: Wait,
     /// How it takes interrupts.
     pub interrupts: Interrupts,
+    /// How many requests for locks it may have.
+    pub quota: u16,
 }
 
 impl Job {
     /// A job that was just loaded: it is stopped, waits for nothing and has no vector.
-    pub fn new(line: LineNumber, regs: Regs, start: Address) -> Job
-        ensures { result ≡ new_job line regs start }
+    pub fn new(line: LineNumber, regs: Regs, start: Address, quota: u16) -> Job
+        ensures { result ≡ new_job line regs start quota }
     {
         Job {
             line,
@@ -111,14 +129,28 @@ impl Job {
             stop: Some(Stop::Loaded),
             wait: Wait::None,
             interrupts: NO_INTERRUPTS,
+            quota,
         }
     }
 
-    /// Whether its sleep goes on.
+    /// Whether ticks count for its wait: its sleep goes on, or its wait for a request has a limit.
     pub fn is_asleep(&self) -> bool
         ensures { result ≡ is_asleep self.now }
     {
-        matches!(self.wait, Wait::Sleep(ticks) if ticks > 0)
+        match self.wait {
+            Wait::Sleep(ticks) | Wait::Queue(ticks, _) => ticks > 0,
+            Wait::None | Wait::Char | Wait::Line | Wait::Room(_) => false,
+        }
+    }
+
+    /// Whether its wait for a request has a limit.
+    pub(crate) fn has_limit(&self) -> bool
+        ensures { result ≡ nat_lt 0 (limit_of self.now.wait) }
+    {
+        match self.wait {
+            Wait::Queue(limit, _) => limit > 0,
+            _ => false,
+        }
     }
 
     /// Whether an interrupt can be delivered to it: they are on, none is in progress, and there is a
@@ -161,5 +193,35 @@ impl Job {
         if let Wait::Sleep(ticks) = self.wait {
             self.wait = Wait::Sleep(ticks.saturating_sub(1));
         }
+    }
+    /// Refuses a call that had skipped: the job goes on at the error return of the call, with the code
+    /// in the call's accumulator, and waits for nothing.
+    fn refuse_late(&mut self, refusal: Refusal, ac: u8)
+        ensures { self.new ≡ at_error_return (refusal_code refusal) ac self.old }
+    {
+        self.regs.pc = self.regs.pc.plus(ONE_BACK);
+        self.wait = Wait::None;
+        put_word(
+            &mut self.regs.ac,
+            ac as usize,
+            Word::new(u64::from(refusal.code())),
+        );
+    }
+
+    /// A tick of its wait for a request that is not granted: a limit is one tick shorter, and where it
+    /// ends the call is refused. Whether it ends.
+    pub(crate) fn tick_limit(&mut self) -> bool
+        ensures job { self.new ≡ limited_by self.old.wait self.old }
+        ensures ended { result ≡ (limit_of self.old.wait == 1) }
+    {
+        let Wait::Queue(limit, ac) = self.wait else {
+            return false;
+        };
+        if limit == 1 {
+            self.refuse_late(Refusal::TimedOut, ac);
+            return true;
+        }
+        self.wait = Wait::Queue(limit.saturating_sub(1), ac);
+        false
     }
 }

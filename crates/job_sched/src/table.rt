@@ -1,10 +1,12 @@
 //! The jobs by number, and which of them runs next.
 
-ghost use Rattle.std.specs.Prelude.{ℕ, Bool, false, ◌≡◌, ◌≢◌, ◌<◌, ◌≤◌, ◌-◌, ◌+◌, Some, None, length, map, OnOk, OnErr, IfSome};
+ghost use Rattle.std.specs.Prelude.{ℕ, Bool, false, ◌≡◌, ◌≢◌, ◌<◌, ◌≤◌, ◌-◌, ◌+◌, ◌==◌, ◌&&◌, ◌||◌, Some, None, length, map, OnOk, OnErr, IfSome};
 ghost use Rattle.std.specs.List.{list_any};
 ghost use Rattle.std.specs.Option.{option_copied, option_map};
 ghost use Rattle.word36.specs.declared.sizes.TheConstants.{JOBS};
+ghost use Rattle.lock_queue.specs.Jobs.{is_among, is_waiting_job};
 ghost use Rattle.job_sched.specs.Jobs.{broken_job, going_on, resumed_job, started_job, ticked_job};
+ghost use Rattle.job_sched.specs.Limits.{expires, is_last_tick, limited_from, limited_job, limited_table};
 ghost use Rattle.job_sched.specs.Tables.{is_sleeper, job_at, no_jobs};
 ghost use Rattle.job_sched.specs.Changes.{broken_table, chosen, free_number, is_at, left_after, spent, standing, table_without, ticked_table, with_change, with_job};
 ghost use Rattle.job_sched.specs.Spans.{Undisturbed, is_alone, is_open};
@@ -19,11 +21,11 @@ use word36::JOBS;
 /// The places of a table: one for each number, and place 0, which is no job's.
 pub const PLACES: usize = JOBS as usize + 1;
 
-/// The jobs by number, 1 to 31, the job that runs, and how many ticks are left of its quantum.
+/// The jobs by number, 1 to 63, the job that runs, and how many ticks are left of its quantum.
 ///
 /// Contracts see the jobs, the current number and the quantum. The table also keeps whether a job
-/// may be asleep, so that a tick looks at the jobs only then, and from which number on there are no
-/// jobs, so that nobody looks for one there.
+/// may be asleep or have a limit, so that a tick looks at the jobs only then, and from which number on
+/// there are no jobs, so that nobody looks for one there.
 #[derive(Drop)]
 pub struct JobTable {
     /// The job of each number, if it is there.
@@ -32,7 +34,8 @@ pub struct JobTable {
     pub current: u8,
     /// How many ticks are left of its quantum.
     pub left: u8,
-    /// Whether a job may be asleep: where it is false none is. Who lets a job sleep sets it.
+    /// Whether ticks may count for a job, which is asleep or waits with a limit: where it is false they
+    /// count for none. Who lets a job sleep, or wait with a limit, sets it.
     pub sleepers: bool,
     /// A number from which on there are no jobs.
     pub vacant_from: u8,
@@ -77,7 +80,7 @@ fn holds_here<L: LockTable>(number: u8, job: &Job, lines: &Lines, locks: &L) -> 
         Wait::Char => !lines.has_char(job.line),
         Wait::Line => !lines.has_line(job.line),
         Wait::Room(places) => lines.room(job.line) < places as usize,
-        Wait::Queue => locks.waiting(number),
+        Wait::Queue(..) => locks.waiting(number),
     }
 }
 
@@ -107,7 +110,7 @@ fn is_ready_slot<L: LockTable>(number: u8, slot: &Option<Job>, lines: &Lines, lo
     }
 }
 
-/// Whether a job is there and sleeps.
+/// Whether a job is there and ticks count for it.
 fn is_sleeper(slot: &Option<Job>) -> bool
     ensures { result ≡ is_sleeper slot.now }
 {
@@ -164,7 +167,7 @@ fn left_after(quantum: u8, left: u8, rounds: u32) -> u8
     quantum - ((rounds - first) % u32::from(quantum)) as u8
 }
 
-/// A tick goes by for all jobs. Whether one still sleeps.
+/// A tick goes by for all jobs. Whether ticks still count for one.
 fn tick_all(jobs: &mut [Option<Job>]) -> bool
     ensures jobs { jobs.new ≡ map (option_map ticked_job) jobs.old }
     ensures sleepers { result ≡ list_any is_sleeper jobs.new }
@@ -175,6 +178,45 @@ fn tick_all(jobs: &mut [Option<Job>]) -> bool
         }
     }
     jobs.iter().any(|slot| is_sleeper(slot))
+}
+
+/// A set of jobs with one job more.
+fn with_member(jobs: u64, job: u8) -> u64
+    requires { job ≤ JOBS }
+    ensures { (n : ℕ) → is_among result n ≡ (is_among jobs n || n == job) }
+{
+    jobs | 1 << job
+}
+
+/// A tick of the limit of the job at a place, if it is there and waits for its request. Whether the
+/// limit ends.
+fn expire_slot<L: LockTable>(number: u8, slot: &mut Option<Job>, locks: &L) -> bool
+    ensures slot { slot.new ≡ option_map (limited_job (is_waiting_job (L.requests locks.now) number)) slot.old }
+    ensures ended { result ≡ (is_waiting_job (L.requests locks.now) number && is_last_tick slot.old) }
+{
+    let Some(job) = slot else {
+        return false;
+    };
+    if !job.has_limit() || !locks.waiting(number) {
+        return false;
+    }
+    job.tick_limit()
+}
+
+/// A tick of all limits, out of line, since there rarely is one. The jobs whose limits end.
+#[inline(never)]
+fn expire_all<L: LockTable>(jobs: &mut [Option<Job>], locks: &L) -> u64
+    requires { length jobs.old ≤ JOBS + 1 }
+    ensures jobs { jobs.new ≡ limited_from (is_waiting_job (L.requests locks.now)) 0 jobs.old }
+    ensures ended { (n : ℕ) → is_among result n ≡ expires (L.requests locks.now) jobs.old n }
+{
+    let mut ended = 0;
+    for number in 0..jobs.len() {
+        if expire_slot(number as u8, &mut jobs[number], locks) {
+            ended = with_member(ended, number as u8);
+        }
+    }
+    ended
 }
 
 /// CTRL-C at a line, for all jobs.
@@ -314,7 +356,8 @@ impl JobTable {
         }
     }
 
-    /// A tick goes by: every sleep and the quantum that is left, where above 0, are one tick shorter.
+    /// The first half of a tick: every sleep and the quantum that is left, where above 0, are one tick
+    /// shorter.
     #[inline(always)]
     pub fn tick(&mut self)
         ensures { self.new ≡ ticked_table self.old }
@@ -322,6 +365,21 @@ impl JobTable {
         self.left = self.left.saturating_sub(1);
         if self.sleepers {
             self.sleepers = tick_all(&mut self.jobs);
+        }
+    }
+
+    /// The second half of a tick: a limit of a job, stopped or not, that has a blocking request which is
+    /// not granted is one tick shorter. Where it ends, the job goes on at the error return of its call,
+    /// with the code in its accumulator. The jobs whose limits end: bit 2^j stands for job j.
+    #[inline(always)]
+    pub fn expire<L: LockTable>(&mut self, locks: &L) -> u64
+        ensures table { self.new ≡ limited_table self.old (L.requests locks.now) }
+        ensures ended { (n : ℕ) → is_among result n ≡ expires (L.requests locks.now) self.old.jobs n }
+    {
+        if self.sleepers {
+            expire_all(&mut self.jobs, locks)
+        } else {
+            0
         }
     }
 
@@ -361,8 +419,8 @@ impl JobTable {
         }
     }
 
-    /// The current job has run for so many rounds in a row, each with its tick, in which nobody
-    /// sleeps, and is next again: where its quantum ended it has a whole one.
+    /// The current job has run for so many rounds in a row, each with its tick, which counts for nobody,
+    /// and is next again: where its quantum ended it has a whole one.
     #[inline(always)]
     pub fn spend(&mut self, rounds: u32, quantum: u8)
         ensures { self.new ≡ spent self.old quantum rounds }

@@ -60,13 +60,13 @@ fn break_in_the_middle_makes_a_line(rt: HostRuntime) -> Result<(), Fail> {
 #[test]
 fn text_is_put_whole_or_not_at_all(rt: HostRuntime) -> Result<(), Fail> {
     let mut lines = Lines::new(rt.alloc())?;
-    let line = LineNumber::new(15);
+    let line = LineNumber::new(LINES - 1);
     lines.put(line, &letters::<511>())?;
     let two = [Char7::new(b'?'), Char7::new(b'!')];
     assert_eq!(rt; lines.put(line, &two), Err(LineError::Full));
     assert_eq!(rt; lines.room(line), 1);
     assert_eq!(rt;
-        lines.taken(15, 1)?.as_slice(),
+        lines.taken(LINES - 1, 1)?.as_slice(),
         [Char7::new(b'A')].as_slice()
     );
     lines.put(line, &two)?;
@@ -105,6 +105,8 @@ fn at_most_64_characters_are_taken(rt: HostRuntime) -> Result<(), Fail> {
 fn other_lines_are_refused(rt: HostRuntime) -> Result<(), Fail> {
     let mut lines = Lines::new(rt.alloc())?;
     let c = Char7::new(b'X');
+    lines.typed(LINES - 1, c)?;
+    assert_eq!(rt; lines.get(LineNumber::new(LINES - 1)), Some(c));
     for line in [LINES, u8::MAX] {
         assert_eq!(rt; lines.typed(line, c), Err(LineError::NoLine));
         assert!(rt; matches!(lines.taken(line, 1), Err(LineError::NoLine)));

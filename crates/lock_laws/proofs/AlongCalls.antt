@@ -12,29 +12,29 @@ use Rattle.lock_laws.proofs.Keeping.{keeps_owners}
 use Rattle.lock_laws.proofs.Ranks.{no_plain_circle}
 
 -- what is kept holds after each beginning of the calls
-kept-at : (calls : List (ℕ × LockCall)) (k : ℕ) → Kept (requests_at calls k)
-kept-at calls k = kept-calls [] (take k calls) kept-none
+kept-at : (size : ℕ) (calls : List (ℕ × LockCall)) (k : ℕ) → Kept size (requests_at size calls k)
+kept-at size calls k = kept-calls size [] (take k calls) (kept-none size)
 
 -- the first law
-pub always_safe : (calls : List (ℕ × LockCall)) → AlwaysSafe calls
-always_safe calls k le = safe-kept (requests_at calls k) (kept-at calls k)
+pub always_safe : (size : ℕ) (calls : List (ℕ × LockCall)) → AlwaysSafe size calls
+always_safe size calls k le = safe-kept size (requests_at size calls k) (kept-at size calls k)
 
 -- the second law
-pub always_keeps_owners : (calls : List (ℕ × LockCall)) → AlwaysKeepsOwners calls
-always_keeps_owners calls k call at = keeps_owners (requests_at calls k) call.0 call.1
+pub always_keeps_owners : (size : ℕ) (calls : List (ℕ × LockCall)) → AlwaysKeepsOwners size calls
+always_keeps_owners size calls k call at = keeps_owners size (requests_at size calls k) call.0 call.1
 
 -- a job that waits has made no call since
-waits-calls : (requests : List Request) (calls : List (ℕ × LockCall))
-    → ((k : ℕ) (call : ℕ × LockCall) → slice_get calls k ≡ Some call → is_waiting_job (requests_after requests (take k calls)) call.0 ≡ false)
-    → WaitsLast requests → (k : ℕ) → WaitsLast (requests_after requests (take k calls))
-waits-calls requests [] free w zero = w
-waits-calls requests [] free w (suc k) = w
-waits-calls requests (c ∷ later) free w zero = w
-waits-calls requests (c ∷ later) free w (suc k) =
-    waits-calls (outcome_of requests c.0 c.1).requests later (λ n call at. free (suc n) call at)
-    (waits-step c.0 c.1 requests (outcome_of requests c.0 c.1).requests (step_of requests c.0 c.1) (free zero c refl) w) k
+waits-calls : (size : ℕ) (requests : List Request) (calls : List (ℕ × LockCall))
+    → ((k : ℕ) (call : ℕ × LockCall) → slice_get calls k ≡ Some call → is_waiting_job (requests_after size requests (take k calls)) call.0 ≡ false)
+    → WaitsLast requests → (k : ℕ) → WaitsLast (requests_after size requests (take k calls))
+waits-calls size requests [] free w zero = w
+waits-calls size requests [] free w (suc k) = w
+waits-calls size requests (c ∷ later) free w zero = w
+waits-calls size requests (c ∷ later) free w (suc k) =
+    waits-calls size (outcome_of size requests c.0 c.1).requests later (λ n call at. free (suc n) call at)
+    (waits-step c.0 c.1 requests (outcome_of size requests c.0 c.1).requests (step_of size requests c.0 c.1) (free zero c refl) w) k
 
 -- the third law
-pub never_plain_circle : (calls : List (ℕ × LockCall)) → CallersAreFree calls → NeverPlainCircle calls
-never_plain_circle calls free k le =
-    no_plain_circle (requests_at calls k) (kept-at calls k).ordered (waits-calls [] calls free waits-none k)
+pub never_plain_circle : (size : ℕ) (calls : List (ℕ × LockCall)) → CallersAreFree size calls → NeverPlainCircle size calls
+never_plain_circle size calls free k le =
+    no_plain_circle (requests_at size calls k) (kept-at size calls k).ordered (waits-calls size [] calls free waits-none k)

@@ -2,7 +2,6 @@
 use Rattle.std.proofs.Common.{◌≡◌, ◌<◌, ◌∙◌, sym, ap, subst, ℕ, Bool, true, false, not, cond, List, [], ◌∷◌, ◌++◌, length, map, Option, Some, None, inl, inr, refl, nat_le, ◌==◌}
 use Rattle.std.specs.List.{list_all, list_any}
 use Rattle.std.proofs.lemmas.Bool.{or_parts, and_cases, leb-false, not-false, eq-eqb}
-use Rattle.word36.specs.declared.sizes.TheConstants.{REQUESTS}
 use Rattle.arrayvec.specs.ArrayVec.{ArrayVec}
 use Rattle.lock_queue.specs.declared.call.Asking.{Asking}
 use Rattle.lock_queue.specs.declared.call.LockReply.TheVariants.{Granted}
@@ -76,22 +75,23 @@ pub record InCall (v w : Want) : Type 0 where
   pub apart : same_key v.key w.key ≡ false
   pub rises : w.bypass ≡ false → v.level < w.level
 
-module _ (requests : List Request) (job : ℕ) (wants : List Want) where
+module _ (size : ℕ) (requests : List Request) (job : ℕ) (wants : List Want) where
   pub record Passed : Type 0 where
     pub each : first_refusal (enqueue_fault requests job) [] wants ≡ None
     pub levels : some_too_low (wants_of requests job) wants ≡ false
-    pub room : length requests < REQUESTS
+    pub room : length requests < size
 
   -- a request that is not refused has passed
-  pub refusal-None : (asking : Asking) → enqueue_refusal REQUESTS requests job asking wants ≡ None → Passed
+  pub refusal-None : (asking : Asking) → enqueue_refusal size requests job asking wants ≡ None → Passed
   refusal-None asking h =
       let first = or_else-None _ _ h in
       let second = or_else-None _ _ first.1 in
       let third = or_else-None _ _ second.1 in
+      let fourth = or_else-None _ _ third.1 in
       record {
         each = first.0;
         levels = refuse_if-None _ _ second.0;
-        room = leb-false REQUESTS (length requests) (refuse_if-None _ _ third.1);
+        room = leb-false size (length requests) (refuse_if-None _ _ fourth.1);
       }
 
   -- what each want of the call has passed
@@ -145,33 +145,33 @@ module _ (requests : List Request) (job : ℕ) (wants : List Want) where
       } in
       subst (λ x. Ordered x d) v.2 (subst (λ y. Ordered (claim_of r.0.job v.0) y) w.2 here)
 
-module _ (requests : List Request) (job : ℕ) (asking : Asking) (wants : ArrayVec Want) where
+module _ (size : ℕ) (requests : List Request) (job : ℕ) (asking : Asking) (wants : ArrayVec Want) where
   -- a request that has passed arrives, or does not stay
-  arrived : Passed requests job wants.items → (told : Bool)
-      → Grows job requests (with_arrival requests job asking told wants)
+  arrived : Passed size requests job wants.items → (told : Bool)
+      → Grows size job requests (with_arrival requests job asking told wants)
   arrived p told =
       arrives (request_of job asking told wants) refl
-      (record { by = refl; room = p.room; own = own_claims requests job wants.items p; behind = claims_behind requests job wants.items p })
+      (record { by = refl; room = p.room; own = own_claims size requests job wants.items p; behind = claims_behind size requests job wants.items p })
 
-  step-not_granted : Passed requests job wants.items → (k : EnqueueKind)
-      → Grows job requests (not_granted requests (with_arrival requests job asking false wants) k).requests
+  step-not_granted : Passed size requests job wants.items → (k : EnqueueKind)
+      → Grows size job requests (not_granted requests (with_arrival requests job asking false wants) k).requests
   step-not_granted p Blocking = arrived p false
   step-not_granted p AtOnce = stays refl
   step-not_granted p Interrupt = arrived p false
 
-  step-arrival : Passed requests job wants.items → Grows job requests (arrival requests job asking wants).requests
+  step-arrival : Passed size requests job wants.items → Grows size job requests (arrival requests job asking wants).requests
   step-arrival p =
       elim (granted (with_arrival requests job asking false wants) (length requests)) as (λ b.
-      Grows job requests (cond b (outcome (with_arrival requests job asking (is_interrupt asking.kind) wants) Granted) (not_granted requests (with_arrival requests job asking false wants) asking.kind)).requests) [
+      Grows size job requests (cond b (outcome (with_arrival requests job asking (is_interrupt asking.kind) wants) Granted) (not_granted requests (with_arrival requests job asking false wants) asking.kind)).requests) [
         | true ↦ arrived p (is_interrupt asking.kind)
         | false ↦ step-not_granted p asking.kind
       ]
 
   -- a request that is asked for arrives or leaves the list as it is
-  pub step-enqueue : Grows job requests (enqueue REQUESTS requests job asking wants).requests
-  step-enqueue = go (enqueue_refusal REQUESTS requests job asking wants.items) refl
+  pub step-enqueue : Grows size job requests (enqueue size requests job asking wants).requests
+  step-enqueue = go (enqueue_refusal size requests job asking wants.items) refl
     where
-      go : (o : Option Refusal) → enqueue_refusal REQUESTS requests job asking wants.items ≡ o
-          → Grows job requests (unless_refused requests o (arrival requests job asking wants)).requests
+      go : (o : Option Refusal) → enqueue_refusal size requests job asking wants.items ≡ o
+          → Grows size job requests (unless_refused requests o (arrival requests job asking wants)).requests
       go (Some f) e = stays refl
-      go None e = step-arrival (refusal-None requests job wants.items asking e)
+      go None e = step-arrival (refusal-None size requests job wants.items asking e)

@@ -59,10 +59,10 @@ circles_are_told requests job well =
     (leads-circle (waits_for requests) job (for_jobs requests well), circle-leads (waits_for requests) job)
 
 pub plain_jobs_are_in_no_circle : PlainJobsAreInNoCircle
-plain_jobs_are_in_no_circle requests safe latest plain job =
+plain_jobs_are_in_no_circle size requests safe latest plain job =
     false_from_ne_true (is_in_circle (waits_for requests) job) (λ h.
     let back = circle-leads (waits_for requests) job h in
     let circle : List ℕ = job ∷ back.0 in
     let all : list_all (is_plain requests) circle ≡ true =
     list_all-each (is_plain requests) circle (λ j k. Sub-all has_one_plain_want (Sub-filter (λ (r : Request). r.job == j) requests) plain) in
-    both_ways (is_circle (waits_for requests) circle) (safe_jobs_make_no_circle requests safe latest circle all) back.1)
+    both_ways (is_circle (waits_for requests) circle) (safe_jobs_make_no_circle size requests safe latest circle all) back.1)

@@ -11,7 +11,7 @@ use Rattle.lock_queue.proofs.Fitting.{granted_behind-fewer}
 use Rattle.lock_queue.proofs.Lists.{Has, Has-cases, map-Has}
 use Rattle.lock_laws.proofs.Places.{some-split, split_at, Has-drop, Has-slice_get, slice_get-split, slice_get-behind, take-split}
 use Rattle.lock_laws.proofs.Retold.{Retold, Retold-back, Retold-place, Retold-jobs}
-use Rattle.lock_laws.proofs.Steps.{Grows, stays, arrives, changes, Releases, Releases-source, Releases-jobs}
+use Rattle.lock_laws.proofs.Steps.{Grows, stays, arrives, changes, Leaves, is_job_of, Releases-source, Releases-jobs}
 
 -- a request by which its job waits is the job's last
 unfoldable pub WaitsLast : List Request → Type 0
@@ -78,7 +78,7 @@ map-split f (x ∷ xs) (z ∷ a) y b is =
     map-split-behind f x xs z a y b same (map-split f xs a y b rest)
 
 -- a job that does not wait may add a request; changes leave jobs in their places
-waits-grows : (job : ℕ) (before after : List Request) → Grows job before after → is_waiting_job before job ≡ false
+waits-grows : {size : ℕ} (job : ℕ) (before after : List Request) → Grows size job before after → is_waiting_job before job ≡ false
     → WaitsLast before → WaitsLast after
 unfolding WaitsLast
 waits-grows job before after (stays e) free w a b r is blocking waits q h = w a b r (sym e ∙ is) blocking waits q h
@@ -112,22 +112,22 @@ waits-grows job before after (changes f e c) free w a b r is blocking waits q h 
     (sym (c.job from.0) ∙ ap (λ (u : Request). u.job) from.2 ∙ mine ∙ ap (λ (u : Request). u.job) (sym s.item_is) ∙ c.job s.item)
 
 -- what is left of a list by a dequeue keeps its order
-pub waits-releases : (job : ℕ) (before after : List Request) → Releases job before after → WaitsLast before
+pub waits-releases : (whose : ℕ → Type 0) (before after : List Request) → Leaves whose before after → WaitsLast before
     → WaitsLast after
 unfolding WaitsLast
-waits-releases job before after s w a b r is blocking waits q h =
-    let o = Releases-source job s a b r is in
+waits-releases whose before after s w a b r is blocking waits q h =
+    let o = Releases-source whose s a b r is in
     let was : granted_behind o.earlier o.request ≡ false =
     false_from_ne_true _ (λ t. both_ways (granted_behind a r) waits (granted_behind-fewer a o.earlier r o.request o.fewer o.wants t)) in
-    let from = Releases-jobs job o.rest q h in
+    let from = Releases-jobs whose o.rest q h in
     λ mine. w o.earlier o.later o.request o.is (subst (λ n. is_blocking n ≡ true) o.kind blocking) was from.0 from.1 (sym from.2 ∙ mine ∙ o.by)
 
 -- each call by a job that does not wait keeps it
-pub waits-step : (job : ℕ) (call : LockCall) (before after : List Request) → Step job call before after
+pub waits-step : {size : ℕ} (job : ℕ) (call : LockCall) (before after : List Request) → Step size job call before after
     → is_waiting_job before job ≡ false
     → WaitsLast before → WaitsLast after
 waits-step job call before after (grows g) free w = waits-grows job before after g free w
-waits-step job call before after (releases d s) free w = waits-releases job before after s w
+waits-step job call before after (releases d s) free w = waits-releases (is_job_of job) before after s w
 
 -- it holds of no requests
 pub waits-none : WaitsLast []

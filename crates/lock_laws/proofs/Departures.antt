@@ -8,11 +8,11 @@ use Rattle.lock_queue.specs.declared.refusal.Refusal.TheVariants.{NotPresent}
 use Rattle.lock_queue.specs.declared.request.Request.{Request}
 use Rattle.lock_queue.specs.declared.want.Want.{Want}
 use Rattle.lock_queue.specs.Dequeues.{dequeue_fault, has_wants, without_keys, without_named, dequeue_named, dequeue_where, is_of_job, has_id, dequeue_all, dequeue_id}
-use Rattle.lock_queue.specs.Jobs.{is_blocking, is_blocked, is_not_blocked_where, is_one, released, withdrawn}
+use Rattle.lock_queue.specs.Jobs.{is_blocking, is_blocked_where, is_not_blocked_where, released, withdrawn_where}
 use Rattle.lock_queue.specs.Outcomes.{outcome, unless_refused, first_refusal}
 use Rattle.lock_queue.specs.Queue.{names, granted_behind, chosen_behind}
 use Rattle.lock_queue.proofs.Lists.{Sub, Sub-filter, Sub-refl}
-use Rattle.lock_laws.proofs.Steps.{Releases, none, gone, kept}
+use Rattle.lock_laws.proofs.Steps.{Leaves, Releases, none, gone, kept}
 
 -- nothing leaves
 pub Releases-same : (job : ℕ) (requests : List Request) → Releases job requests requests
@@ -98,17 +98,20 @@ releases-named requests job named = go (first_refusal (dequeue_fault requests jo
 pub releases-released : (requests : List Request) (job : ℕ) → Releases job requests (released requests job)
 releases-released requests job = releases-where job (is_of_job job) (λ r t. eqb-true r.job job t) requests
 
--- a wait that is given up
-releases-blocked : (job : ℕ) (e rs : List Request) → Releases job rs (chosen_behind (is_not_blocked_where (is_one job)) e rs)
-releases-blocked job e [] = none
-releases-blocked job e (r ∷ rs) = go (releases-blocked job (e ++ r ∷ []) rs) (is_blocked job e r) refl
+-- waits that are given up
+releases-blocked : (waiters : ℕ → Bool) (e rs : List Request)
+    → Leaves (λ n. waiters n ≡ true) rs (chosen_behind (is_not_blocked_where waiters) e rs)
+releases-blocked waiters e [] = none
+releases-blocked waiters e (r ∷ rs) = go (releases-blocked waiters (e ++ r ∷ []) rs) (is_blocked_where waiters e r) refl
   where
-    go : Releases job rs (chosen_behind (is_not_blocked_where (is_one job)) (e ++ r ∷ []) rs) → (b : Bool) → is_blocked job e r ≡ b
-        → Releases job (r ∷ rs) (cond (not b) (r ∷ chosen_behind (is_not_blocked_where (is_one job)) (e ++ r ∷ []) rs) (chosen_behind (is_not_blocked_where (is_one job)) (e ++ r ∷ []) rs))
+    go : Leaves (λ n. waiters n ≡ true) rs (chosen_behind (is_not_blocked_where waiters) (e ++ r ∷ []) rs) → (b : Bool)
+        → is_blocked_where waiters e r ≡ b
+        → Leaves (λ n. waiters n ≡ true) (r ∷ rs) (cond (not b) (r ∷ chosen_behind (is_not_blocked_where waiters) (e ++ r ∷ []) rs) (chosen_behind (is_not_blocked_where waiters) (e ++ r ∷ []) rs))
     go rest true t =
-        let parts = and_parts (r.job == job && is_blocking r.kind) (not (granted_behind e r)) t in
-        gone r (inl (eqb-true r.job job (and_parts (r.job == job) (is_blocking r.kind) parts.0).0)) rest
+        let parts = and_parts (waiters r.job && is_blocking r.kind) (not (granted_behind e r)) t in
+        gone r (inl (and_parts (waiters r.job) (is_blocking r.kind) parts.0).0) rest
     go rest false t = kept r r refl refl (Sub-refl r.wants.items) (inr refl) rest
 
-pub releases-withdrawn : (requests : List Request) (job : ℕ) → Releases job requests (withdrawn requests job)
-releases-withdrawn requests job = releases-blocked job [] requests
+pub releases-withdrawn : (requests : List Request) (waiters : ℕ → Bool)
+    → Leaves (λ n. waiters n ≡ true) requests (withdrawn_where requests waiters)
+releases-withdrawn requests waiters = releases-blocked waiters [] requests

@@ -1,5 +1,5 @@
 -- What holds of grants in a list whose claims are in order.
-use Rattle.std.proofs.Common.{◌≡◌, ◌≤◌, ◌+◌, ◌∙◌, sym, ap, subst, ℕ, true, false, not, ◌==◌, List, [], ◌∷◌, ◌++◌, take, sum_by, Option, Some, None, is_some, inl, inr, refl, arith}
+use Rattle.std.proofs.Common.{◌≡◌, ◌≤◌, ◌+◌, ◌∙◌, sym, ap, subst, ℕ, true, false, not, ◌==◌, ◌&&◌, List, [], ◌∷◌, ◌++◌, take, sum_by, Option, Some, None, is_some, inl, inr, refl, arith}
 use Rattle.std.specs.List.{list_all}
 use Rattle.std.proofs.lemmas.Bool.{and_parts, and_from, both_ways, eqb-true, eq-eqb, not-true, false_from_ne_true}
 use Rattle.lock_queue.specs.declared.key.Key.{Key}
@@ -83,10 +83,14 @@ no-pool : (o : Option PoolShare) → not (is_some o) ≡ true → o ≡ None
 no-pool None h = refl
 no-pool (Some a) h = cc
 
-kin-no_pool : (o p : Option PoolShare) → same_pool_size o p ≡ true → o ≡ None → p ≡ None
+pub kin-no_pool : (o p : Option PoolShare) → same_pool_size o p ≡ true → o ≡ None → p ≡ None
 kin-no_pool None None h e = refl
 kin-no_pool None (Some b) h e = cc
 kin-no_pool (Some a) p h e = cc
+
+-- two wants that agree are both shared
+pub both-shared : (u w : Want) → agree u w ≡ true → (u.shared ≡ true) × (w.shared ≡ true)
+both-shared u w h = and_parts u.shared w.shared (and_parts (u.shared && w.shared) (u.group == w.group) h).0
 
 -- a want without a pool that fits agrees with those before it
 agrees : (a : List Request) (u w : Want) → Has (wants_at a w.key) u → w.pool ≡ None → fits a w ≡ true → agree u w ≡ true
@@ -106,15 +110,15 @@ owners_agree rs i j r s v w lt at_i at_j is has_v has_w e none =
     agrees (take j rs) v w (subst (λ l. Has (wants_at l w.key) v) (sym m.1) there) none ok
 
 -- what an owner has of the key
-record Owner (key : Key) (rs : List Request) (r : Request) : Type 0 where
-  split : Split rs r
-  want : Want
-  has : Has r.wants.items want
-  of : want.key ≡ key
-  granted : granted_behind split.before r ≡ true
+pub record Owner (key : Key) (rs : List Request) (r : Request) : Type 0 where
+  pub split : Split rs r
+  pub want : Want
+  pub has : Has r.wants.items want
+  pub of : want.key ≡ key
+  pub granted : granted_behind split.before r ≡ true
 
 -- an owner of a key stands in the list, granted there, with a want of the key
-owner : (key : Key) (rs : List Request) (r : Request) → Has (owners rs key) r → Owner key rs r
+pub owner : (key : Key) (rs : List Request) (r : Request) → Has (owners rs key) r → Owner key rs r
 owner key rs r h =
     let c = chosen-Has (is_owner key) [] rs r h in
     let parts = and_parts (names r.wants.items key) (granted_behind c.split.before r) c.passes in
@@ -139,7 +143,7 @@ alone rs p key r w has_r has_w e ex =
     let u = names-found s.wants.items key names_it.0 in
     let there : Has (wants_at a w.key) u.0 =
     rw is (Has-wants_at c d s w.key u.0 u.1 (u.2 ∙ sym e)) in
-    both_ways w.shared unshared (and_parts u.0.shared w.shared (agrees a u.0 w there unpooled mine)).1)) in
+    both_ways w.shared unshared (both-shared u.0 w (agrees a u.0 w there unpooled mine)).1)) in
     let behind : chosen_behind (is_owner key) (a ++ r ∷ []) b ≡ [] =
     chosen_none (is_owner key) (a ++ r ∷ []) b (λ c d s is. false_from_ne_true (is_owner key ((a ++ r ∷ []) ++ c) s) (λ t.
     let names_it = and_parts (names s.wants.items key) (granted_behind ((a ++ r ∷ []) ++ c) s) t in
@@ -149,7 +153,7 @@ alone rs p key r w has_r has_w e ex =
     let none : u.0.pool ≡ None = kin-no_pool w.pool u.0.pool (kin rs p r s w u.0 in_rs s_in hw u.1 same).sizes unpooled in
     let ok : fits (a ++ r ∷ c) u.0 ≡ true =
     list_all-Has (fits (a ++ r ∷ c)) s.wants.items u.0 (subst (λ l. granted_behind l s ≡ true) (push-append a r c) names_it.1) u.1 in
-    both_ways w.shared unshared (and_parts w.shared u.0.shared (agrees (a ++ r ∷ c) w u.0 (Has-wants_at a c r u.0.key w hw same) none ok)).0)) in
+    both_ways w.shared unshared (both-shared w u.0 (agrees (a ++ r ∷ c) w u.0 (Has-wants_at a c r u.0.key w hw same) none ok)).0)) in
     let whole : owners rs key ≡ chosen_behind (is_owner key) [] a ++ chosen_behind (is_owner key) a (r ∷ b) =
     ap (chosen_behind (is_owner key) []) o.split.is ∙ chosen_behind-append (is_owner key) [] a (r ∷ b) in
     let here : is_owner key a r ≡ true = and_from _ _ (list_any-Has (λ v. same_key v.key key) r.wants.items w (eq-same_key w.key key e) hw) o.granted in

@@ -1,11 +1,11 @@
 -- Who owns a key goes on owning it, but for its own dequeues.
-use Rattle.std.proofs.Common.{◌≡◌, ◌≢◌, ◌∙◌, sym, ap, subst, ℕ, true, false, not, ◌&&◌, ◌==◌, List, [], ◌∷◌, ◌++◌, map, inl, inr, refl, append_assoc}
+use Rattle.std.proofs.Common.{◌≡◌, ◌≢◌, ◌∙◌, sym, ap, subst, ℕ, Bool, true, false, not, ◌&&◌, ◌==◌, List, [], ◌∷◌, ◌++◌, map, inl, inr, refl, append_assoc}
 use Rattle.std.proofs.lemmas.Bool.{and_parts, and_from, both_ways, eqb-true, eq-eqb, cases_eq, not_from_false, and_right}
 use Rattle.std.proofs.lemmas.List.{map-append}
 use Rattle.lock_queue.specs.declared.call.LockCall.{LockCall}
 use Rattle.lock_queue.specs.declared.key.Key.{Key}
 use Rattle.lock_queue.specs.declared.request.Request.{Request}
-use Rattle.lock_queue.specs.Jobs.{is_blocking, is_not_blocked_where, is_one, is_pending, released, withdrawn, told_of}
+use Rattle.lock_queue.specs.Jobs.{is_blocking, is_not_blocked_where, is_pending, released, withdrawn_where, told_of}
 use Rattle.lock_queue.specs.Queue.{all_wants, granted_behind, names, is_owner, owners, chosen_behind}
 use Rattle.lock_laws.specs.Owning.{owns, is_dequeue, KeepsOwners}
 use Rattle.lock_laws.proofs.CallSteps.{Step, grows, releases, step_of}
@@ -15,7 +15,7 @@ use Rattle.lock_queue.proofs.Lists.{Has, list_any-Has, list_any-found, Sub, Sub-
 use Rattle.lock_queue.proofs.WellKept.{Sub-chosen}
 use Rattle.lock_laws.proofs.Places.{Split, chosen-Has, Has-chosen, chosen-place}
 use Rattle.lock_laws.proofs.Retold.{Retold-told, Retold-place}
-use Rattle.lock_laws.proofs.Steps.{Grows, stays, arrives, changes, Releases, Releases-target}
+use Rattle.lock_laws.proofs.Steps.{Grows, stays, arrives, changes, Releases, is_job_of, Releases-target}
 
 -- a granted request with a want of the key, and its place
 record Owning (requests : List Request) (job : ℕ) (key : Key) : Type 0 where
@@ -42,7 +42,7 @@ owns-at requests a b r job key is by named granted =
     (list_any-Has (λ (q : Request). q.job == job) (owners (a ++ r ∷ b) key) r (eq-eqb r.job job by) there)
 
 -- a call that is no dequeue takes nothing away
-owns-grows : (caller : ℕ) (before after : List Request) (job : ℕ) (key : Key) → Grows caller before after
+owns-grows : {size : ℕ} (caller : ℕ) (before after : List Request) (job : ℕ) (key : Key) → Grows size caller before after
     → owns before job key ≡ true → owns after job key ≡ true
 owns-grows caller before after job key (stays e) h = subst (λ l. owns l job key ≡ true) (sym e) h
 owns-grows caller before after job key (arrives r e a) h =
@@ -63,12 +63,12 @@ owns-releases caller before after job key s other h =
     let o : Owning before job key = owning before job key h in
     let some : o.request.wants.items ≢ [] =
     λ none. let w = names-found o.request.wants.items key o.named in let gone : Has [] w.0 = subst (λ l. Has l w.0) none w.1 in absurd gone in
-    let t = Releases-target caller s o.split.before o.split.after o.request o.split.is (λ e. other (sym e ∙ o.by)) some in
+    let t = Releases-target (is_job_of caller) s o.split.before o.split.after o.request o.split.is (λ e. other (sym e ∙ o.by)) some in
     owns-at after t.earlier t.later o.request job key t.is o.by o.named
     (granted_behind-fewer t.earlier o.split.before o.request o.request t.fewer (Sub-refl o.request.wants.items) o.granted)
 
 -- so only a dequeue of its own takes a key from an owner
-keeps-step : (requests after : List Request) (caller : ℕ) (call : LockCall) → Step caller call requests after
+keeps-step : {size : ℕ} (requests after : List Request) (caller : ℕ) (call : LockCall) → Step size caller call requests after
     → (job : ℕ) (key : Key)
     → owns requests job key ≡ true → owns after job key ≡ false → (is_dequeue call ≡ true) × (caller ≡ job)
 keeps-step requests after caller call (grows g) job key h lost =
@@ -81,8 +81,8 @@ keeps-step requests after caller call (releases d s) job key h lost = (
   ],
 )
 
-pub keeps_owners : (requests : List Request) (caller : ℕ) (call : LockCall) → KeepsOwners requests caller call
-keeps_owners requests caller call = keeps-step requests _ caller call (step_of requests caller call)
+pub keeps_owners : (size : ℕ) (requests : List Request) (caller : ℕ) (call : LockCall) → KeepsOwners size requests caller call
+keeps_owners size requests caller call = keeps-step requests _ caller call (step_of size requests caller call)
 
 -- a job that is gone owns nothing, and others keep what they own
 pub owns-released : (requests : List Request) (gone job : ℕ) (key : Key) → owns requests job key ≡ true
@@ -96,19 +96,19 @@ owns-released requests gone job key h lost =
     ]
 
 -- a wait that is given up is of a request that is not granted
-pub owns-withdrawn : (requests : List Request) (waiter job : ℕ) (key : Key) → owns requests job key ≡ true
-    → owns (withdrawn requests waiter) job key ≡ true
-owns-withdrawn requests waiter job key h =
+pub owns-withdrawn : (requests : List Request) (waiters : ℕ → Bool) (job : ℕ) (key : Key) → owns requests job key ≡ true
+    → owns (withdrawn_where requests waiters) job key ≡ true
+owns-withdrawn requests waiters job key h =
     let o : Owning requests job key = owning requests job key h in
     let a : List Request = o.split.before in
-    let stays : is_not_blocked_where (is_one waiter) a o.request ≡ true =
-    ap (λ b. not ((o.request.job == waiter && is_blocking o.request.kind) && not b)) o.granted ∙ not_from_false _ (and_right _ false refl) in
-    let front : Sub (all_wants (chosen_behind (is_not_blocked_where (is_one waiter)) [] a)) (all_wants a) =
-    Sub-flat_map (λ (q : Request). q.wants.items) (Sub-chosen (is_not_blocked_where (is_one waiter)) [] a) in
-    owns-at (withdrawn requests waiter) (chosen_behind (is_not_blocked_where (is_one waiter)) [] a)
-    (chosen_behind (is_not_blocked_where (is_one waiter)) (a ++ o.request ∷ []) o.split.after) o.request job key
-    (ap (chosen_behind (is_not_blocked_where (is_one waiter)) []) o.split.is ∙ chosen-place (is_not_blocked_where (is_one waiter)) [] a o.split.after o.request stays) o.by o.named
-    (granted_behind-fewer (chosen_behind (is_not_blocked_where (is_one waiter)) [] a) a o.request o.request front (Sub-refl o.request.wants.items) o.granted)
+    let stays : is_not_blocked_where waiters a o.request ≡ true =
+    ap (λ b. not ((waiters o.request.job && is_blocking o.request.kind) && not b)) o.granted ∙ not_from_false _ (and_right _ false refl) in
+    let front : Sub (all_wants (chosen_behind (is_not_blocked_where waiters) [] a)) (all_wants a) =
+    Sub-flat_map (λ (q : Request). q.wants.items) (Sub-chosen (is_not_blocked_where waiters) [] a) in
+    owns-at (withdrawn_where requests waiters) (chosen_behind (is_not_blocked_where waiters) [] a)
+    (chosen_behind (is_not_blocked_where waiters) (a ++ o.request ∷ []) o.split.after) o.request job key
+    (ap (chosen_behind (is_not_blocked_where waiters) []) o.split.is ∙ chosen-place (is_not_blocked_where waiters) [] a o.split.after o.request stays) o.by o.named
+    (granted_behind-fewer (chosen_behind (is_not_blocked_where waiters) [] a) a o.request o.request front (Sub-refl o.request.wants.items) o.granted)
 
 -- telling a job changes no grant
 pub owns-told : (requests : List Request) (told job : ℕ) (key : Key) → owns requests job key ≡ true

@@ -1,6 +1,5 @@
 -- What a call leaves.
 use Rattle.std.proofs.Common.{◌≡◌, ◌<◌, ◌∙◌, ap, ℕ, zero, suc, Bool, true, false, List, [], ◌∷◌, ◌++◌, length, take, Option, Some, None, slice_get, if◌then◌else◌, arith, refl}
-use Rattle.word36.specs.declared.sizes.TheConstants.{REQUESTS}
 use Rattle.lock_queue.specs.Enqueues.{not_granted, arrival, enqueue_refusal}
 use Rattle.lock_queue.specs.Outcomes.{Outcome, unless_refused}
 use Rattle.lock_queue.specs.Queue.{granted, is_granted}
@@ -44,9 +43,9 @@ either-kept requests i true o p h g = h
 either-kept requests i false o p h g = g
 
 pub arrivals_grant_nobody : ArrivalsGrantNobody
-arrivals_grant_nobody requests job i asking wants h =
-    unless-kept requests i (enqueue_refusal REQUESTS requests job asking wants.items) (arrival requests job asking wants)
+arrivals_grant_nobody size requests job i asking wants h =
+    unless-kept requests i (enqueue_refusal size requests job asking wants.items) (arrival requests job asking wants)
     (either-kept requests i _ _ _ (granted-front requests _ i h) (not-granted-kept requests _ i asking.kind h))
 
-pub list_is_what_is_left : ListIsWhatIsLeft
-list_is_what_is_left = record { by_calls = call-left; by_releases = released-left }
+pub list_is_what_is_left : (size : ℕ) → ListIsWhatIsLeft size
+list_is_what_is_left size = record { by_calls = call-left size; by_releases = released-left }

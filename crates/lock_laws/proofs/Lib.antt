@@ -10,6 +10,7 @@ pub mod Granting
 pub mod PoolSums
 pub mod Telling
 pub mod Invariant
+pub mod Parties
 pub mod Keeping
 pub mod Circling
 pub mod Ranks
@@ -22,3 +23,4 @@ pub mod Walks
 pub mod CirclesTold
 pub mod LeavingLaws
 pub mod WellLaws
+pub mod SimpleQueue

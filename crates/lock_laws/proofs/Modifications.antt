@@ -8,7 +8,7 @@ use Rattle.lock_queue.specs.declared.refusal.Refusal.{Refusal}
 use Rattle.lock_queue.specs.declared.refusal.Refusal.TheVariants.{WouldLose}
 use Rattle.lock_queue.specs.declared.request.Request.{Request}
 use Rattle.lock_queue.specs.declared.want.Want.{Want}
-use Rattle.lock_queue.specs.Changes.{modify_fault, changed_want, changed, with_changes, some_lost_behind, some_lost, modify}
+use Rattle.lock_queue.specs.Changes.{changed_group, modify_fault, changed_want, changed, with_changes, some_lost_behind, some_lost, modify}
 use Rattle.lock_queue.specs.Dequeues.{with_wants}
 use Rattle.lock_queue.specs.Keys.{same_key}
 use Rattle.lock_queue.specs.Outcomes.{outcome, unless_refused, refuse_if, or_else, first_refusal}
@@ -32,7 +32,7 @@ keeps-changed : (cs : List Want) (w : Want) → Keeps w (changed_want cs w)
 keeps-changed [] w = record { key = refl; bypass = refl; level = refl; pool = refl }
 keeps-changed (c ∷ cs) w =
     elim (same_key w.key c.key) as (λ b.
-    Keeps w (cond b (record { key = w.key; shared = c.shared; bypass = w.bypass; level = w.level; pool = w.pool }) (changed_want cs w))) [
+    Keeps w (cond b (record { key = w.key; shared = c.shared; group = changed_group c.shared w; bypass = w.bypass; level = w.level; pool = w.pool }) (changed_want cs w))) [
       | true ↦ record { key = refl; bypass = refl; level = refl; pool = refl }
       | false ↦ keeps-changed cs w
     ]
@@ -154,13 +154,13 @@ changes-changed requests job cs h = record {
 }
 
 -- the change is made or refused
-pub step-modify : (requests : List Request) (job : ℕ) (cs : List Want)
-    → Grows job requests (modify requests job cs).requests
-step-modify requests job cs = go _ refl
+pub step-modify : (size : ℕ) (requests : List Request) (job : ℕ) (cs : List Want)
+    → Grows size job requests (modify requests job cs).requests
+step-modify size requests job cs = go _ refl
   where
     go : (o : Option Refusal)
         → or_else (first_refusal (modify_fault requests job) [] cs) (refuse_if (some_lost requests (with_changes requests job cs)) WouldLose) ≡ o
-        → Grows job requests (unless_refused requests o (outcome (with_changes requests job cs) Done)).requests
+        → Grows size job requests (unless_refused requests o (outcome (with_changes requests job cs) Done)).requests
     go (Some f) e = stays refl
     go None e =
         changes (changed job cs) refl (changes-changed requests job cs (refuse_if-None _ _ (or_else-None _ _ e).1))

@@ -3,7 +3,6 @@ use Rattle.std.proofs.Common.{◌≡◌, ◌≢◌, ◌∙◌, sym, ap, subst, �
 use Rattle.std.proofs.lemmas.Bool.{and_parts, and_from, both_ways, eqb-true, eq-eqb, false_from_ne_true, not_from_false, or_cases}
 use Rattle.std.proofs.lemmas.Grind.{common_steps}
 use Rattle.arrayvec.specs.ArrayVec.{ArrayVec}
-use Rattle.word36.specs.declared.sizes.TheConstants.{REQUESTS}
 use Rattle.lock_queue.specs.declared.call.Asking.{Asking}
 use Rattle.lock_queue.specs.declared.call.LockCall.{LockCall}
 use Rattle.lock_queue.specs.declared.call.LockCall.TheVariants.{Enqueue, Modify, DequeueNamed, DequeueAll, DequeueId}
@@ -30,7 +29,7 @@ use Rattle.lock_queue.proofs.Fitting.{granted_behind-fewer}
 use Rattle.lock_queue.proofs.Lists.{Has, Has-cases, list_any-Has, list_any-found, filter-Has, map-Has, Has-right}
 use Rattle.lock_laws.proofs.Places.{some_found, some-split, nil-append, push-append}
 use Rattle.lock_laws.proofs.Retold.{Retold, Retold-back, Retold-place, Retold-jobs}
-use Rattle.lock_laws.proofs.Steps.{Grows, stays, arrives, changes, Changes, Releases, Releases-source, Releases-jobs}
+use Rattle.lock_laws.proofs.Steps.{Grows, stays, arrives, changes, Changes, Leaves, is_job_of, Releases-source, Releases-jobs}
 
 -- what a waiting job's request is
 pub record Waits (rs : List Request) (n : ℕ) : Type 0 where
@@ -68,11 +67,11 @@ found_waits rs n w =
     subst (λ l. is_waiting_job l n ≡ true) (sym w.is) (some-split (is_blocked n) [] w.before w.after w.request t)
 
 -- a dequeue makes no job wait
-pub waits-releases : (job : ℕ) (before after : List Request) (n : ℕ) → Releases job before after → is_waiting_job after n ≡ true
+pub waits-releases : (whose : ℕ → Type 0) (before after : List Request) (n : ℕ) → Leaves whose before after → is_waiting_job after n ≡ true
     → is_waiting_job before n ≡ true
-waits-releases job before after n s h =
+waits-releases whose before after n s h =
     let w = waits_found after n h in
-    let o = Releases-source job s w.before w.after w.request w.is in
+    let o = Releases-source whose s w.before w.after w.request w.is in
     found_waits before n (record {
       request = o.request;
       before = o.earlier;
@@ -191,7 +190,7 @@ abbrev pub Queues : List Request → ℕ → ℕ → Outcome → Type 0
 Queues requests caller n o =
     is_waiting_job o.requests n ≡ true → (is_waiting_job requests n ≡ true) ⊎ ((n ≡ caller) × (o.reply ≡ Queued))
 
-module _ (requests : List Request) (caller n : ℕ) (asking : Asking) (wants : ArrayVec Want) where
+module _ (size : ℕ) (requests : List Request) (caller n : ℕ) (asking : Asking) (wants : ArrayVec Want) where
   queues-not_granted : (k : EnqueueKind) → asking.kind ≡ k
       → Queues requests caller n (not_granted requests (with_arrival requests caller asking false wants) k)
   queues-not_granted Blocking is h =
@@ -209,8 +208,8 @@ module _ (requests : List Request) (caller n : ℕ) (asking : Asking) (wants : A
           inl (waiting-granted requests (request_of caller asking (is_interrupt asking.kind) wants) n t h)
       go false e h = queues-not_granted asking.kind refl h
 
-  queues-enqueue : Queues requests caller n (enqueue REQUESTS requests caller asking wants)
-  queues-enqueue = go (enqueue_refusal REQUESTS requests caller asking wants.items)
+  queues-enqueue : Queues requests caller n (enqueue size requests caller asking wants)
+  queues-enqueue = go (enqueue_refusal size requests caller asking wants.items)
     where
       go : (o : Option Refusal) → Queues requests caller n (unless_refused requests o (arrival requests caller asking wants))
       go (Some f) h = inl h
@@ -229,12 +228,12 @@ waits-modify requests caller n cs = go _ refl
     go None e h = waits-changes requests (changed caller cs) n (changes-changed requests caller cs (refuse_if-None _ _ (or_else-None _ _ e).1)) h
 
 -- what a call does for those who wait
-pub waits-call : (requests : List Request) (caller n : ℕ) (call : LockCall) → Queues requests caller n (outcome_of requests caller call)
-waits-call requests caller n (Enqueue asking wants) h = queues-enqueue requests caller n asking wants h
-waits-call requests caller n (Modify wants) h = inl (waits-modify requests caller n wants.items h)
-waits-call requests caller n (DequeueNamed wants) h = inl (waits-releases caller requests _ n (releases-named requests caller wants.items) h)
-waits-call requests caller n DequeueAll h = inl (waits-releases caller requests _ n (releases-all requests caller) h)
-waits-call requests caller n (DequeueId id) h = inl (waits-releases caller requests _ n (releases-id requests caller id) h)
+pub waits-call : (size : ℕ) (requests : List Request) (caller n : ℕ) (call : LockCall) → Queues requests caller n (outcome_of size requests caller call)
+waits-call size requests caller n (Enqueue asking wants) h = queues-enqueue size requests caller n asking wants h
+waits-call size requests caller n (Modify wants) h = inl (waits-modify requests caller n wants.items h)
+waits-call size requests caller n (DequeueNamed wants) h = inl (waits-releases (is_job_of caller) requests _ n (releases-named requests caller wants.items) h)
+waits-call size requests caller n DequeueAll h = inl (waits-releases (is_job_of caller) requests _ n (releases-all requests caller) h)
+waits-call size requests caller n (DequeueId id) h = inl (waits-releases (is_job_of caller) requests _ n (releases-id requests caller id) h)
 
 -- who has requests
 jobs-from : (before after : List Request) (n : ℕ)
@@ -245,13 +244,13 @@ jobs-from before after n from h =
     let o = from f.0 f.1 in
     list_any-Has (λ (r : Request). r.job == n) before o.0 (eq-eqb o.0.job n (sym o.2 ∙ eqb-true f.0.job n f.2)) o.1
 
-pub jobs-releases : (job : ℕ) (before after : List Request) (n : ℕ) → Releases job before after → has_job after n ≡ true → has_job before n ≡ true
-jobs-releases job before after n s h = jobs-from before after n (Releases-jobs job s) h
+pub jobs-releases : (whose : ℕ → Type 0) (before after : List Request) (n : ℕ) → Leaves whose before after → has_job after n ≡ true → has_job before n ≡ true
+jobs-releases whose before after n s h = jobs-from before after n (Releases-jobs whose s) h
 
 pub jobs-retold : (before after : List Request) (n : ℕ) → Retold before after → has_job after n ≡ true → has_job before n ≡ true
 jobs-retold before after n s h = jobs-from before after n (Retold-jobs s) h
 
-jobs-grows : (caller : ℕ) (before after : List Request) (n : ℕ) → Grows caller before after → has_job after n ≡ true
+jobs-grows : {size : ℕ} (caller : ℕ) (before after : List Request) (n : ℕ) → Grows size caller before after → has_job after n ≡ true
     → (has_job before n ≡ true) ⊎ (n ≡ caller)
 jobs-grows caller before after n (stays e) h = inl (subst (λ l. has_job l n ≡ true) e h)
 jobs-grows caller before after n (arrives r e a) h =
@@ -267,14 +266,14 @@ jobs-grows caller before after n (arrives r e a) h =
 jobs-grows caller before after n (changes f e c) h =
     inl (jobs-from before (map f before) n (λ q k. let from = map-Has f before q k in (from.0, from.1, ap (λ (u : Request). u.job) (sym from.2) ∙ c.job from.0)) (subst (λ l. has_job l n ≡ true) e h))
 
-jobs-step : (requests after : List Request) (caller n : ℕ) (call : LockCall) → Step caller call requests after → has_job after n ≡ true
+jobs-step : {size : ℕ} (requests after : List Request) (caller n : ℕ) (call : LockCall) → Step size caller call requests after → has_job after n ≡ true
     → (has_job requests n ≡ true) ⊎ (n ≡ caller)
 jobs-step requests after caller n call (grows g) h = jobs-grows caller requests after n g h
-jobs-step requests after caller n call (releases d s) h = inl (jobs-releases caller requests after n s h)
+jobs-step requests after caller n call (releases d s) h = inl (jobs-releases (is_job_of caller) requests after n s h)
 
-pub jobs-call : (requests : List Request) (caller n : ℕ) (call : LockCall) → has_job (outcome_of requests caller call).requests n ≡ true
+pub jobs-call : (size : ℕ) (requests : List Request) (caller n : ℕ) (call : LockCall) → has_job (outcome_of size requests caller call).requests n ≡ true
     → (has_job requests n ≡ true) ⊎ (n ≡ caller)
-jobs-call requests caller n call h = jobs-step requests _ caller n call (step_of requests caller call) h
+jobs-call size requests caller n call h = jobs-step requests _ caller n call (step_of size requests caller call) h
 
 -- one who is gone has no requests
 pub jobs-released : (requests : List Request) (gone n : ℕ) → has_job (released requests gone) n ≡ true → n ≢ gone

@@ -1,8 +1,8 @@
 -- Where the chosen requests stand.
-use Rattle.std.proofs.Common.{◌≡◌, sym, ap, subst, Bool, true, false, not, cond, List, [], ◌∷◌, ◌++◌, refl}
-use Rattle.std.proofs.lemmas.Bool.{and_from, both_ways, eq-eqb, false_from_ne_true}
+use Rattle.std.proofs.Common.{◌≡◌, ◌∙◌, sym, ap, subst, Bool, true, false, not, cond, List, [], ◌∷◌, ◌++◌, refl}
+use Rattle.std.proofs.lemmas.Bool.{and_from, both_ways, false_from_ne_true}
 use Rattle.lock_queue.specs.declared.request.Request.{Request}
-use Rattle.lock_queue.specs.Jobs.{is_blocked, is_not_blocked_where, is_one, withdrawn}
+use Rattle.lock_queue.specs.Jobs.{is_blocked_where, is_not_blocked_where, withdrawn_where}
 use Rattle.lock_queue.specs.Queue.{granted_behind, chosen_behind}
 use Rattle.lock_queue.proofs.Fitting.{granted_behind-fewer}
 use Rattle.lock_queue.proofs.Lists.{Sub, nil, skip, keep, Sub-refl, Sub-flat_map}
@@ -42,13 +42,13 @@ chosen-at test e (x ∷ rs) a b r is = go (λ a b r. chosen-at test (e ++ x ∷ 
     go rest false t a is = behind test e rs a x r (rest a b r is) a (λ l s. skip x s)
 
 pub withdrawing_ends_waits : WithdrawingEndsWaits
-withdrawing_ends_waits requests n =
+withdrawing_ends_waits requests waiters n mine =
     false_from_ne_true _ (λ h.
-    let w : Waits (withdrawn requests n) n = waits_found (withdrawn requests n) n h in
-    let o = chosen-at (is_not_blocked_where (is_one n)) [] requests w.before w.after w.request w.is in
+    let w : Waits (withdrawn_where requests waiters) n = waits_found (withdrawn_where requests waiters) n h in
+    let o = chosen-at (is_not_blocked_where waiters) [] requests w.before w.after w.request w.is in
     let late : granted_behind o.before w.request ≡ false =
     false_from_ne_true _ (λ t. both_ways (granted_behind w.before w.request) w.late
     (granted_behind-fewer w.before o.before w.request w.request (Sub-flat_map (λ (q : Request). q.wants.items) o.fewer) (Sub-refl w.request.wants.items) t)) in
-    let blocked : is_blocked n o.before w.request ≡ true =
-    and_from _ _ (and_from _ _ (eq-eqb w.request.job n w.by) w.blocking) (ap not late) in
-    both_ways (is_not_blocked_where (is_one n) o.before w.request) (ap not blocked) o.passes)
+    let blocked : is_blocked_where waiters o.before w.request ≡ true =
+    and_from _ _ (and_from _ _ (ap waiters w.by ∙ mine) w.blocking) (ap not late) in
+    both_ways (is_not_blocked_where waiters o.before w.request) (ap not blocked) o.passes)

@@ -29,7 +29,7 @@ NoPlainCircle requests =
 -- where all present requests are those of plain jobs, no job is in a circle: WAITS tells none
 abbrev pub PlainJobsAreInNoCircle : Type 0
 PlainJobsAreInNoCircle =
-    (requests : List Request) → Safe requests → WaitsByLatest requests → list_all has_one_plain_want requests ≡ true
+    (size : ℕ) (requests : List Request) → Safe size requests → WaitsByLatest requests → list_all has_one_plain_want requests ≡ true
     → (job : ℕ) → is_in_circle (waits_for requests) job ≡ false
 
 -- a job is told in a circle exactly where a walk of waits, of whatever length, leads back to it

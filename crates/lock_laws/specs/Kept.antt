@@ -8,19 +8,19 @@ use Rattle.lock_queue.specs.declared.call.LockCall.TheVariants.{Enqueue, Modify,
 use Rattle.lock_queue.specs.declared.key.Key.{Key}
 use Rattle.lock_queue.specs.declared.request.Request.{Request}
 use Rattle.lock_queue.specs.Calls.{outcome_of}
-use Rattle.lock_queue.specs.Jobs.{is_waiting_job, released, withdrawn, told_of}
+use Rattle.lock_queue.specs.Jobs.{is_waiting_job, released, withdrawn_where, told_of}
 use Rattle.lock_queue.specs.WellFormed.{is_in_range, are_well_formed, is_call}
 use Rattle.lock_laws.specs.Circles.{NoPlainCircle, WaitsByLatest}
 use Rattle.lock_laws.specs.Owning.{owns, KeepsOwners}
 use Rattle.lock_laws.specs.Safe.{Safe}
 
 -- safe requests stay safe
-pub record SafetyIsKept : Type 0 where
-  pub by_calls : (requests : List Request) (job : ℕ) (call : LockCall) → Safe requests
-      → Safe (outcome_of requests job call).requests
-  pub by_releases : (requests : List Request) (job : ℕ) → Safe requests → Safe (released requests job)
-  pub by_withdrawals : (requests : List Request) (job : ℕ) → Safe requests → Safe (withdrawn requests job)
-  pub by_telling : (requests : List Request) (job : ℕ) → Safe requests → Safe (told_of requests job)
+pub record SafetyIsKept (size : ℕ) : Type 0 where
+  pub by_calls : (requests : List Request) (job : ℕ) (call : LockCall) → Safe size requests
+      → Safe size (outcome_of size requests job call).requests
+  pub by_releases : (requests : List Request) (job : ℕ) → Safe size requests → Safe size (released requests job)
+  pub by_withdrawals : (requests : List Request) (waiters : ℕ → Bool) → Safe size requests → Safe size (withdrawn_where requests waiters)
+  pub by_telling : (requests : List Request) (job : ℕ) → Safe size requests → Safe size (told_of requests job)
 
 -- what the types of a call say of a request that it enters: at most 16 wants, with levels and pools in range
 abbrev pub is_in_range_call : LockCall → Bool
@@ -31,37 +31,37 @@ is_in_range_call DequeueAll = true
 is_in_range_call (DequeueId id) = true
 
 -- well-formed requests stay so over each call that can be made
-pub record WellFormednessIsKept : Type 0 where
+pub record WellFormednessIsKept (size : ℕ) : Type 0 where
   pub by_calls : (requests : List Request) (job : ℕ) (call : LockCall) → IsTrue (is_call job call)
       → IsTrue (is_in_range_call call)
-      → IsTrue (are_well_formed requests) → IsTrue (are_well_formed (outcome_of requests job call).requests)
+      → IsTrue (are_well_formed requests) → IsTrue (are_well_formed (outcome_of size requests job call).requests)
   pub by_releases : (requests : List Request) (job : ℕ) → IsTrue (are_well_formed requests)
       → IsTrue (are_well_formed (released requests job))
-  pub by_withdrawals : (requests : List Request) (job : ℕ) → IsTrue (are_well_formed requests)
-      → IsTrue (are_well_formed (withdrawn requests job))
+  pub by_withdrawals : (requests : List Request) (waiters : ℕ → Bool) → IsTrue (are_well_formed requests)
+      → IsTrue (are_well_formed (withdrawn_where requests waiters))
   pub by_telling : (requests : List Request) (job : ℕ) → IsTrue (are_well_formed requests)
       → IsTrue (are_well_formed (told_of requests job))
 
 -- what a job owns it loses only by its own dequeue, and when it is gone
-pub record OwnersAreKept : Type 0 where
-  pub by_calls : (requests : List Request) (caller : ℕ) (call : LockCall) → KeepsOwners requests caller call
+pub record OwnersAreKept (size : ℕ) : Type 0 where
+  pub by_calls : (requests : List Request) (caller : ℕ) (call : LockCall) → KeepsOwners size requests caller call
   pub by_releases : (requests : List Request) (gone job : ℕ) (key : Key) → owns requests job key ≡ true
       → owns (released requests gone) job key ≡ false → gone ≡ job
-  pub by_withdrawals : (requests : List Request) (waiter job : ℕ) (key : Key) → owns requests job key ≡ true
-      → owns (withdrawn requests waiter) job key ≡ true
+  pub by_withdrawals : (requests : List Request) (waiters : ℕ → Bool) (job : ℕ) (key : Key) → owns requests job key ≡ true
+      → owns (withdrawn_where requests waiters) job key ≡ true
   pub by_telling : (requests : List Request) (told job : ℕ) (key : Key) → owns requests job key ≡ true
       → owns (told_of requests told) job key ≡ true
 
 -- a job that makes no call while it waits waits by its latest request
-pub record LatestIsKept : Type 0 where
+pub record LatestIsKept (size : ℕ) : Type 0 where
   pub by_calls : (requests : List Request) (job : ℕ) (call : LockCall) → is_waiting_job requests job ≡ false
       → WaitsByLatest requests
-      → WaitsByLatest (outcome_of requests job call).requests
+      → WaitsByLatest (outcome_of size requests job call).requests
   pub by_releases : (requests : List Request) (job : ℕ) → WaitsByLatest requests → WaitsByLatest (released requests job)
-  pub by_withdrawals : (requests : List Request) (job : ℕ) → WaitsByLatest requests
-      → WaitsByLatest (withdrawn requests job)
+  pub by_withdrawals : (requests : List Request) (waiters : ℕ → Bool) → WaitsByLatest requests
+      → WaitsByLatest (withdrawn_where requests waiters)
   pub by_telling : (requests : List Request) (job : ℕ) → WaitsByLatest requests → WaitsByLatest (told_of requests job)
 
 -- where the requests are safe and jobs wait by their latest ones, plain jobs make no circle
 abbrev pub SafeJobsMakeNoCircle : Type 0
-SafeJobsMakeNoCircle = (requests : List Request) → Safe requests → WaitsByLatest requests → NoPlainCircle requests
+SafeJobsMakeNoCircle = (size : ℕ) (requests : List Request) → Safe size requests → WaitsByLatest requests → NoPlainCircle requests

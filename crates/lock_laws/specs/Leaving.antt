@@ -15,11 +15,11 @@ use Rattle.lock_queue.specs.declared.want.Want.{Want}
 -- a request that arrives changes no grant of those before it
 abbrev pub ArrivalsGrantNobody : Type 0
 ArrivalsGrantNobody =
-    (requests : List Request) (job i : ℕ) (asking : Asking) (wants : ArrayVec Want) → i < length requests
-    → granted (outcome_of requests job (Enqueue asking wants)).requests i ≡ granted requests i
+    (size : ℕ) (requests : List Request) (job i : ℕ) (asking : Asking) (wants : ArrayVec Want) → i < length requests
+    → granted (outcome_of size requests job (Enqueue asking wants)).requests i ≡ granted requests i
 
 -- where a call is done, and where all requests of a job leave, the list is what is left of each request, in order
-pub record ListIsWhatIsLeft : Type 0 where
-  pub by_calls : (requests : List Request) (job : ℕ) (call : LockCall) → (outcome_of requests job call).reply ≡ Done
-      → (outcome_of requests job call).requests ≡ filter_map (left_of job call) requests
+pub record ListIsWhatIsLeft (size : ℕ) : Type 0 where
+  pub by_calls : (requests : List Request) (job : ℕ) (call : LockCall) → (outcome_of size requests job call).reply ≡ Done
+      → (outcome_of size requests job call).requests ≡ filter_map (left_of job call) requests
   pub by_releases : (requests : List Request) (job : ℕ) → released requests job ≡ filter_map (left_of job DequeueAll) requests

@@ -7,3 +7,4 @@ pub mod Kept
 pub mod Waiting
 pub mod Leaving
 pub mod Runs
+pub mod Simple

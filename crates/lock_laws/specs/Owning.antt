@@ -20,8 +20,8 @@ is_dequeue DequeueAll = true
 is_dequeue (DequeueId id) = true
 
 -- where a job owns a key before a call and not after it, the call is a dequeue by that job
-abbrev pub KeepsOwners : List Request → ℕ → LockCall → Type 0
-KeepsOwners requests caller call =
+abbrev pub KeepsOwners : ℕ → List Request → ℕ → LockCall → Type 0
+KeepsOwners size requests caller call =
     (job : ℕ) (key : Key) → owns requests job key ≡ true
-    → owns (outcome_of requests caller call).requests job key ≡ false
+    → owns (outcome_of size requests caller call).requests job key ≡ false
     → (is_dequeue call ≡ true) × (caller ≡ job)

@@ -9,23 +9,23 @@ use Rattle.lock_laws.specs.Owning.{KeepsOwners}
 use Rattle.lock_laws.specs.Safe.{Safe}
 
 -- the requests after the first k of some calls, each with its job, on an empty queue
-abbrev pub requests_at : List (ℕ × LockCall) → ℕ → List Request
-requests_at calls k = requests_after [] (take k calls)
+abbrev pub requests_at : ℕ → List (ℕ × LockCall) → ℕ → List Request
+requests_at size calls k = requests_after size [] (take k calls)
 
 -- the requests are safe after every beginning of the calls
-abbrev pub AlwaysSafe : List (ℕ × LockCall) → Type 0
-AlwaysSafe calls = (k : ℕ) → k ≤ length calls → Safe (requests_at calls k)
+abbrev pub AlwaysSafe : ℕ → List (ℕ × LockCall) → Type 0
+AlwaysSafe size calls = (k : ℕ) → k ≤ length calls → Safe size (requests_at size calls k)
 
 -- no call but a job's own dequeue takes away what the job owns
-abbrev pub AlwaysKeepsOwners : List (ℕ × LockCall) → Type 0
-AlwaysKeepsOwners calls =
-    (k : ℕ) (call : ℕ × LockCall) → slice_get calls k ≡ Some call → KeepsOwners (requests_at calls k) call.0 call.1
+abbrev pub AlwaysKeepsOwners : ℕ → List (ℕ × LockCall) → Type 0
+AlwaysKeepsOwners size calls =
+    (k : ℕ) (call : ℕ × LockCall) → slice_get calls k ≡ Some call → KeepsOwners size (requests_at size calls k) call.0 call.1
 
 -- each call is made by a job that does not wait then
-abbrev pub CallersAreFree : List (ℕ × LockCall) → Type 0
-CallersAreFree calls =
-    (k : ℕ) (call : ℕ × LockCall) → slice_get calls k ≡ Some call → is_waiting_job (requests_at calls k) call.0 ≡ false
+abbrev pub CallersAreFree : ℕ → List (ℕ × LockCall) → Type 0
+CallersAreFree size calls =
+    (k : ℕ) (call : ℕ × LockCall) → slice_get calls k ≡ Some call → is_waiting_job (requests_at size calls k) call.0 ≡ false
 
 -- after no beginning of the calls is there a circle of plain jobs
-abbrev pub NeverPlainCircle : List (ℕ × LockCall) → Type 0
-NeverPlainCircle calls = (k : ℕ) → k ≤ length calls → NoPlainCircle (requests_at calls k)
+abbrev pub NeverPlainCircle : ℕ → List (ℕ × LockCall) → Type 0
+NeverPlainCircle size calls = (k : ℕ) → k ≤ length calls → NoPlainCircle (requests_at size calls k)

@@ -1,6 +1,5 @@
 -- What holds of the requests at every time (ENQ/DEQ of the TOPS-10 Monitor Calls Manual, in this project's profile).
-use Rattle.std.specs.Prelude.{◌≡◌, ℕ, ◌+◌, ◌^◌, ◌<◌, ◌≤◌, true, false, List, [], ◌∷◌, length, take, Some, None, slice_get, sum_by, Contains, AllPairs, IsTrue}
-use Rattle.word36.specs.declared.sizes.TheConstants.{REQUESTS}
+use Rattle.std.specs.Prelude.{◌≡◌, ℕ, ◌+◌, ◌^◌, ◌<◌, ◌≤◌, true, false, List, [], ◌∷◌, length, take, Some, None, slice_get, sum_by, Contains, AllPairs, IsTrue, ◌⊎◌}
 use Rattle.lock_queue.specs.declared.key.Key.{Key}
 use Rattle.lock_queue.specs.declared.request.Request.{Request}
 use Rattle.lock_queue.specs.declared.want.Want.{Want}
@@ -70,7 +69,7 @@ pub record ToldAlike (requests : List Request) (key : Key) : Type 0 where
 abbrev pub HoldsAtMost : ℕ → List Request → Type 0
 HoldsAtMost size requests = length requests ≤ size
 
-pub record Safe (requests : List Request) : Type 0 where
+pub record Safe (size : ℕ) (requests : List Request) : Type 0 where
   pub exclusive_alone : ExclusiveAlone requests
   pub owners_agree : OwnersAgree requests
   pub pools_suffice : PoolsSuffice requests
@@ -83,7 +82,18 @@ pub record Safe (requests : List Request) : Type 0 where
   pub apart : AllPairs AreApart (claims requests)
   -- a want without bypass has a level above every want of its job that stands before it, in its own request too
   pub rising : AllPairs Rises (claims requests)
-  -- the queue of this machine holds them
-  pub few : HoldsAtMost REQUESTS requests
+  -- the queue, which is of this size, holds them
+  pub few : HoldsAtMost size requests
   -- the status words of a key differ between askers in bits 1 and 2 of word 0 alone
   pub told_alike : (key : Key) → ToldAlike requests key
+
+-- the owners of a key that have it without a pool are one exclusive owner, or all of one group
+abbrev pub IsOneParty : List Request → Type 0
+IsOneParty requests =
+    (key : Key) (r : Request) (w : Want) → Contains (owners requests key) r → Contains r.wants.items w → w.key ≡ key
+    → w.pool ≡ None
+    → (owners requests key ≡ r ∷ []) ⊎ ((w.shared ≡ true) × ((s : Request) (v : Want) → Contains (owners requests key) s
+    → Contains s.wants.items v → v.key ≡ key → (v.shared ≡ true) × (v.group ≡ w.group)))
+
+abbrev pub OneParty : Type 0
+OneParty = (size : ℕ) (requests : List Request) → Safe size requests → IsOneParty requests

@@ -1,33 +1,35 @@
 -- Who waits, and who has requests, after each change of the list of requests (this project's profile).
-use Rattle.std.specs.Prelude.{◌≡◌, ◌≢◌, ℕ, true, false, List, ◌⊎◌}
+use Rattle.std.specs.Prelude.{◌≡◌, ◌≢◌, ℕ, Bool, true, false, List, ◌⊎◌}
 use Rattle.lock_queue.specs.declared.call.LockCall.{LockCall}
 use Rattle.lock_queue.specs.declared.call.LockReply.TheVariants.{Queued}
 use Rattle.lock_queue.specs.declared.request.Request.{Request}
 use Rattle.lock_queue.specs.Calls.{outcome_of}
-use Rattle.lock_queue.specs.Jobs.{is_waiting_job, released, withdrawn, told_of}
+use Rattle.lock_queue.specs.Jobs.{is_waiting_job, released, withdrawn_where, told_of}
 use Rattle.lock_queue.specs.StatusWords.{has_job}
 
-pub record WaitingIsKept : Type 0 where
+pub record WaitingIsKept (size : ℕ) : Type 0 where
   pub by_calls : (requests : List Request) (caller n : ℕ) (call : LockCall)
-      → is_waiting_job (outcome_of requests caller call).requests n ≡ true
-      → (is_waiting_job requests n ≡ true) ⊎ ((n ≡ caller) × ((outcome_of requests caller call).reply ≡ Queued))
+      → is_waiting_job (outcome_of size requests caller call).requests n ≡ true
+      → (is_waiting_job requests n ≡ true) ⊎ ((n ≡ caller) × ((outcome_of size requests caller call).reply ≡ Queued))
   pub by_releases : (requests : List Request) (gone n : ℕ) → is_waiting_job (released requests gone) n ≡ true
       → (is_waiting_job requests n ≡ true) × (n ≢ gone)
-  pub by_withdrawals : (requests : List Request) (waiter n : ℕ) → is_waiting_job (withdrawn requests waiter) n ≡ true
+  pub by_withdrawals : (requests : List Request) (waiters : ℕ → Bool) (n : ℕ) → is_waiting_job (withdrawn_where requests waiters) n ≡ true
       → is_waiting_job requests n ≡ true
   pub by_telling : (requests : List Request) (told n : ℕ) → is_waiting_job (told_of requests told) n ≡ true
       → is_waiting_job requests n ≡ true
 
-pub record JobsAreKept : Type 0 where
+pub record JobsAreKept (size : ℕ) : Type 0 where
   pub by_calls : (requests : List Request) (caller n : ℕ) (call : LockCall)
-      → has_job (outcome_of requests caller call).requests n ≡ true → (has_job requests n ≡ true) ⊎ (n ≡ caller)
+      → has_job (outcome_of size requests caller call).requests n ≡ true → (has_job requests n ≡ true) ⊎ (n ≡ caller)
   pub by_releases : (requests : List Request) (gone n : ℕ) → has_job (released requests gone) n ≡ true
       → (has_job requests n ≡ true) × (n ≢ gone)
-  pub by_withdrawals : (requests : List Request) (waiter n : ℕ) → has_job (withdrawn requests waiter) n ≡ true
+  pub by_withdrawals : (requests : List Request) (waiters : ℕ → Bool) (n : ℕ) → has_job (withdrawn_where requests waiters) n ≡ true
       → has_job requests n ≡ true
   pub by_telling : (requests : List Request) (told n : ℕ) → has_job (told_of requests told) n ≡ true
       → has_job requests n ≡ true
 
 -- a job whose wait is given up does not wait
 abbrev pub WithdrawingEndsWaits : Type 0
-WithdrawingEndsWaits = (requests : List Request) (n : ℕ) → is_waiting_job (withdrawn requests n) n ≡ false
+WithdrawingEndsWaits =
+    (requests : List Request) (waiters : ℕ → Bool) (n : ℕ) → waiters n ≡ true
+    → is_waiting_job (withdrawn_where requests waiters) n ≡ false

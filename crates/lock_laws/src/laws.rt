@@ -7,7 +7,8 @@ ghost use Rattle.lock_laws.specs.Circles.{CirclesAreTold, PlainJobsAreInNoCircle
 ghost use Rattle.lock_laws.specs.Kept.{LatestIsKept, OwnersAreKept, SafetyIsKept, SafeJobsMakeNoCircle, WellFormednessIsKept};
 ghost use Rattle.lock_laws.specs.Leaving.{ArrivalsGrantNobody, ListIsWhatIsLeft};
 ghost use Rattle.lock_laws.specs.Runs.{AlwaysKeepsOwners, AlwaysSafe, CallersAreFree, NeverPlainCircle};
-ghost use Rattle.lock_laws.specs.Safe.{Safe};
+ghost use Rattle.lock_laws.specs.Safe.{OneParty, Safe};
+ghost use Rattle.lock_laws.specs.Simple.{CallsAreSimple, RequestsAreSimple, SpellingIsSimple};
 ghost use Rattle.lock_laws.specs.Told.{AllAreToldTheSame};
 ghost use Rattle.lock_laws.specs.Waiting.{JobsAreKept, WaitingIsKept, WithdrawingEndsWaits};
 
@@ -17,55 +18,61 @@ use lock_queue::LockTable;
 /// owner is alone, a pool is never overdrawn, a request owns all of its locks or none, and nobody
 /// overtakes.
 pub fn calls_are_safe()
-    ensures { (calls : List (ℕ × CallView)) → AlwaysSafe calls }
+    ensures { (size : ℕ) (calls : List (ℕ × CallView)) → AlwaysSafe size calls }
 {}
 
 /// What a job owns it loses by a dequeue of its own alone.
 pub fn jobs_keep_their_locks()
-    ensures { (calls : List (ℕ × CallView)) → AlwaysKeepsOwners calls }
+    ensures { (size : ℕ) (calls : List (ℕ × CallView)) → AlwaysKeepsOwners size calls }
 {}
 
 /// Where no job makes a call while it waits, jobs that ask for one lock at a time, by rising
 /// levels, never wait for one another in a circle.
 pub fn plain_jobs_make_no_circle()
-    ensures { (calls : List (ℕ × CallView)) → CallersAreFree calls → NeverPlainCircle calls }
+    ensures { (size : ℕ) (calls : List (ℕ × CallView))
+        → CallersAreFree size calls → NeverPlainCircle size calls }
 {}
 
 /// Safe requests stay safe over each change that a table can make.
 pub fn safety_is_kept()
-    ensures { SafetyIsKept }
+    ensures { (size : ℕ) → SafetyIsKept size }
+{}
+
+/// The owners of a key without a pool are one exclusive owner, or all of one group.
+pub fn owners_are_one_party()
+    ensures { OneParty }
 {}
 
 /// Owners stay owners over each change that a table can make, but for a dequeue of the owner and
 /// the release of a job that is gone.
 pub fn owners_are_kept()
-    ensures { OwnersAreKept }
+    ensures { (size : ℕ) → OwnersAreKept size }
 {}
 
 /// Each change that a table can make keeps that a job waits by its latest request, and where the
 /// requests are safe that rules out circles of plain jobs.
 pub fn waits_are_by_latest()
-    ensures latest { LatestIsKept }
+    ensures latest { (size : ℕ) → LatestIsKept size }
     ensures circles { SafeJobsMakeNoCircle }
 {}
 
 /// No requests are safe and well-formed, and nobody waits by one.
 pub fn no_requests_are_safe()
-    ensures safe { Safe [] }
+    ensures safe { (size : ℕ) → Safe size [] }
     ensures latest { WaitsByLatest [] }
     ensures well { IsTrue (are_well_formed []) }
 {}
 
 /// Well-formed requests stay so over each change that a table can make.
 pub fn well_formedness_is_kept()
-    ensures { WellFormednessIsKept }
+    ensures { (size : ℕ) → WellFormednessIsKept size }
 {}
 
 /// Nobody begins to wait but by a call of its own, nobody has requests that had none but by a call of
 /// its own, and a job whose wait is given up does not wait.
 pub fn waits_are_kept()
-    ensures waiting { WaitingIsKept }
-    ensures jobs { JobsAreKept }
+    ensures waiting { (size : ℕ) → WaitingIsKept size }
+    ensures jobs { (size : ℕ) → JobsAreKept size }
     ensures withdrawals { WithdrawingEndsWaits }
 {}
 
@@ -73,7 +80,7 @@ pub fn waits_are_kept()
 /// is what is left of each request, which is what the grants of a call are worked out from.
 pub fn calls_leave_the_rest()
     ensures arrivals { ArrivalsGrantNobody }
-    ensures left { ListIsWhatIsLeft }
+    ensures left { (size : ℕ) → ListIsWhatIsLeft size }
 {}
 
 /// Exactly those jobs are told in a circle from which a walk of waits, of whatever length, leads back;
@@ -81,6 +88,15 @@ pub fn calls_leave_the_rest()
 pub fn circles_are_told()
     ensures told { CirclesAreTold }
     ensures plain { PlainJobsAreInNoCircle }
+{}
+
+/// Where no want has a group and each quota is above the size of the queue, the queue is that in which
+/// all who share agree and no job has a quota: it has the same owners, waiters and waits, calls leave and
+/// answer the same, and a lock that is spelled without a group means the same.
+pub fn queue_without_groups_is_simple()
+    ensures requests { RequestsAreSimple }
+    ensures calls { CallsAreSimple }
+    ensures spelling { SpellingIsSimple }
 {}
 
 /// All jobs are told the same of a key of any table, but for the two bits that speak of the asker.

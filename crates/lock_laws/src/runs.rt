@@ -11,11 +11,11 @@ use lock_queue::{LockCall, LockReply, LockTable, run_calls};
 pub fn run_safely<L: LockTable>(table: &mut L, calls: &[(u8, LockCall)], replies: &mut [LockReply])
     requires places { length calls.now ≡ length replies.old }
     requires calls { IsTrue (list_all (λ c. is_call c.0 c.1) calls.now) }
-    ensures requests { L.requests table.new ≡ requests_after [] calls.now }
-    ensures replies { replies.new ≡ replies_to [] calls.now }
-    ensures safe { AlwaysSafe calls.now }
-    ensures owners { AlwaysKeepsOwners calls.now }
-    ensures circles { CallersAreFree calls.now → NeverPlainCircle calls.now }
+    ensures requests { L.requests table.new ≡ requests_after L.REQS [] calls.now }
+    ensures replies { replies.new ≡ replies_to L.REQS [] calls.now }
+    ensures safe { AlwaysSafe L.REQS calls.now }
+    ensures owners { AlwaysKeepsOwners L.REQS calls.now }
+    ensures circles { CallersAreFree L.REQS calls.now → NeverPlainCircle L.REQS calls.now }
 {
     table.clear();
     run_calls(table, calls, replies);

@@ -8,7 +8,7 @@ use Rattle.lock_picture.specs.declared.holds.Hold.{Hold}
 
 -- that a job owns a lock, or waits for it, by this want
 abbrev pub hold_of : ℕ → Bool → Want → Hold
-hold_of job owns w = record { job = job; key = w.key; shared = w.shared; amount = amount_of w; owns = owns }
+hold_of job owns w = record { job = job; key = w.key; shared = w.shared; group = w.group; amount = amount_of w; owns = owns }
 
 -- those of the requests from the place i on
 abbrev pub holds_from : List Request → ℕ → List Request → List Hold
@@ -27,4 +27,4 @@ same_truth false b = not b
 -- two tell the same: the same job has the same part of the same lock in the same way
 abbrev pub same_hold : Hold → Hold → Bool
 same_hold a b =
-    (a.job == b.job && same_key a.key b.key) && ((a.amount == b.amount && same_truth a.shared b.shared) && same_truth a.owns b.owns)
+    (a.job == b.job && same_key a.key b.key) && ((a.amount == b.amount && same_truth a.shared b.shared) && (a.group == b.group && same_truth a.owns b.owns))

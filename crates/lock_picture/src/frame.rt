@@ -15,7 +15,7 @@ pub const TOP: usize = 70;
 
 pub const GAP: usize = 8;
 
-/// The left margin, and the room for `job 31`.
+/// The left margin, and the room for `job 63`.
 pub const MARGIN: usize = 24;
 
 pub const JOB: usize = 56;

@@ -10,7 +10,7 @@ use crate::copies::requests_in;
 use crate::hard_waits::does_wait_hard_for;
 use lock_queue::{LockTable, Request};
 use queue_script::circles::{NUMBERS, PAIRS, PairTable};
-use queue_script::pair_table;
+use queue_script::{pair_table, waiting_jobs};
 use std::alloc::{AllocError, Global};
 
 /// Who waits for whom: for an owner, or for one that only stands in front, and in a circle or not.
@@ -53,9 +53,10 @@ impl Graph {
         ensures circles { IfOk result (λ graph. Tells graph.circles (closes_circle (pair_in graph.waits))) }
     {
         let requests = requests_in(alloc, table)?;
-        let waits = pair_table(table);
+        let waiting = waiting_jobs(table);
+        let waits = pair_table(table, &waiting);
         let hard = hard_table(requests.as_slice());
-        let circles = circle_table(&waits);
+        let circles = circle_table(&waits, &waiting);
         Ok(Graph {
             waits,
             hard,
@@ -63,7 +64,7 @@ impl Graph {
         })
     }
 
-    /// The wait of one job for another, if there is one. Jobs are numbered 1 to 31.
+    /// The wait of one job for another, if there is one. Jobs are numbered 1 to 63.
     pub fn wait(&self, job: usize, other: usize) -> Option<Wait> {
         let i = job.saturating_mul(NUMBERS).saturating_add(other);
         if i >= PAIRS || !self.waits[i] {

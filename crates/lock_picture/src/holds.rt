@@ -3,18 +3,20 @@ ghost use Rattle.std.specs.Prelude.{◌≡◌, ◌++◌, map, OnOk, IfOk};
 ghost use Rattle.lock_queue.specs.Queue.{amount_of};
 ghost use Rattle.lock_picture.specs.Holds.{hold_of, holds_of, same_hold};
 
-use lock_queue::{Key, LockTable, Request, Want};
+use lock_queue::{Group, Key, LockTable, Request, Want};
 use std::alloc::{AllocError, Global};
 
 /// A job that owns a lock or waits for it.
 #[derive(Drop)]
 pub struct Hold {
-    /// The job, 1 to 31.
+    /// The job, 1 to 63.
     pub job: u8,
     /// The lock.
     pub key: Key,
     /// Whether others who share may own it at the same time.
     pub shared: bool,
+    /// Among which group of those who share, where it is shared, and else 0.
+    pub group: Group,
     /// How much of a pool, or 0 where the lock is none.
     pub amount: u32,
     /// Whether the job owns it, and does not wait for it.
@@ -40,6 +42,7 @@ impl Hold {
             job,
             key: want.key.copied(),
             shared: want.shared,
+            group: want.group,
             amount: amount_of(want),
             owns,
         }
@@ -53,6 +56,7 @@ impl Hold {
             && self.key == other.key
             && self.amount == other.amount
             && self.shared == other.shared
+            && self.group == other.group
             && self.owns == other.owns
     }
 
@@ -64,6 +68,7 @@ impl Hold {
             job: self.job,
             key: self.key.copied(),
             shared: self.shared,
+            group: self.group,
             amount: self.amount,
             owns: self.owns,
         }

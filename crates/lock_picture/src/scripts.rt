@@ -6,9 +6,8 @@ use crate::drawing::Drawing;
 use crate::graph::Graph;
 use crate::lanes::lanes_of;
 use lock_queue::LockTable;
-use lock_table::IndexedTable;
 use op_script::{Config, RunService};
-use queue_script::{Ending, LineService, Parts, QueueService, number};
+use queue_script::{Ending, LineService, Parts, QueueService, ScriptTable, number};
 use std::alloc::{AllocError, Global};
 
 /// The most lines of a script that is drawn.
@@ -66,9 +65,9 @@ impl<L: LockTable> Watched for QueueService<L> {
 }
 
 impl Watched for RunService {
-    type Table = IndexedTable;
+    type Table = ScriptTable;
 
-    fn locks(&self) -> &IndexedTable {
+    fn locks(&self) -> &ScriptTable {
         self.machine().locks()
     }
 }
@@ -227,7 +226,7 @@ pub fn draw_script(
     script: &[u8],
     at: Option<usize>,
 ) -> Result<Drawing, ScriptError> {
-    let mut service = QueueService::new(IndexedTable::new(alloc)?);
+    let mut service = QueueService::new(ScriptTable::new(alloc)?);
     draw(alloc, &mut service, script, at)
 }
 

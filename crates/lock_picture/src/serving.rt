@@ -17,7 +17,7 @@ pub const DONE: u8 = 0;
 /// The script was refused.
 pub const REFUSED: u8 = 1;
 
-/// The words of the command line were refused, or asked for help.
+/// The words of the command line were refused.
 pub const USAGE: u8 = 2;
 
 /// The reader, the writer or memory failed.
@@ -165,6 +165,17 @@ fn told<E: ByteOut>(errors: &mut E, text: &[u8], status: u8) -> u8
     status
 }
 
+/// Writes a text to the output, and gives the exit status.
+fn written<W: ByteOut, E: ByteOut>(writer: &mut W, text: &[u8], errors: &mut E) -> u8
+    requires writer_sound { W.has_failed writer.old ≡ false }
+    requires errors_sound { E.has_failed errors.old ≡ false }
+{
+    match write_all(writer, text) {
+        Ok(()) => DONE,
+        Err(_) => told(errors, b"lockview: write\n", FAILED),
+    }
+}
+
 /// Draws what the words ask for.
 fn draw<R: ByteIn, W: ByteOut, E: ByteOut>(
     alloc: Global,
@@ -183,10 +194,7 @@ fn draw<R: ByteIn, W: ByteOut, E: ByteOut>(
         Err(Failure::Script(error)) => return refused(alloc, wanted, b"", error, errors),
     };
     match picture_of(alloc, script.as_slice(), wanted) {
-        Ok(picture) => match write_all(writer, picture.as_str().as_bytes()) {
-            Ok(()) => DONE,
-            Err(_) => told(errors, b"lockview: write\n", FAILED),
-        },
+        Ok(picture) => written(writer, picture.as_str().as_bytes(), errors),
         Err(error) => refused(alloc, wanted, script.as_slice(), error, errors),
     }
 }
@@ -208,10 +216,10 @@ fn refused<E: ByteOut>(
 }
 
 /// Reads a script of `lockmon queue`, and writes the picture that the words, which begin with the
-/// program's name, ask for. It gives the exit status: 0 where the picture was written; 1 where the
-/// script is refused, and 2 where the words are, or ask for help, which `errors` is told of; 3 where
-/// the reader, the writer or memory failed. Where it is not 0 nothing was written, but for a
-/// beginning where the writer failed.
+/// program's name, ask for, or the help or the version where they ask for that, and then the reader is
+/// not asked. It gives the exit status: 0 where all was written; 1 where the script is refused, and 2
+/// where the words are, which `errors` is told of; 3 where the reader, the writer or memory failed.
+/// Where it is not 0 nothing was written, but for a beginning where the writer failed.
 pub fn program<S: AsStr, R: ByteIn, W: ByteOut, E: ByteOut>(
     alloc: Global,
     words: &[S],
@@ -227,7 +235,8 @@ pub fn program<S: AsStr, R: ByteIn, W: ByteOut, E: ByteOut>(
         Ok(wanted) => draw(alloc, wanted, reader, writer, errors),
         Err(Refusal::Memory) => told(errors, b"lockview: memory\n", FAILED),
         Err(Refusal::Usage(error)) => match error.to_string(alloc) {
-            Ok(text) => told(errors, text.as_str().as_bytes(), USAGE),
+            Ok(text) if error.use_stderr() => told(errors, text.as_str().as_bytes(), USAGE),
+            Ok(text) => written(writer, text.as_str().as_bytes(), errors),
             Err(_) => told(errors, b"lockview: memory\n", FAILED),
         },
     }

@@ -95,6 +95,10 @@ fn write_title<W: fmt::Write>(f: &mut fmt::Formatter<W>, bar: &Bar, label: &str)
     if bar.hold.shared {
         f.write_str(", shared")?;
     }
+    let group = bar.hold.group.number();
+    if group > 0 {
+        write!(f, " in group {group}")?;
+    }
     if bar.hold.amount > 0 {
         let amount = bar.hold.amount;
         write!(f, ", {amount} of a pool")?;

@@ -5,42 +5,8 @@ use crate::graph::{Graph, Wait};
 use queue_script::circles::NUMBERS;
 use std::fmt;
 
-/// The places round a middle, from the top on: how far right and how far down of the corner of the
-/// square round them, whose side is 2,000.
-const PLACES: [(usize, usize); 32] = [
-    (1000, 0),
-    (1195, 19),
-    (1383, 76),
-    (1556, 169),
-    (1707, 293),
-    (1831, 444),
-    (1924, 617),
-    (1981, 805),
-    (2000, 1000),
-    (1981, 1195),
-    (1924, 1383),
-    (1831, 1556),
-    (1707, 1707),
-    (1556, 1831),
-    (1383, 1924),
-    (1195, 1981),
-    (1000, 2000),
-    (805, 1981),
-    (617, 1924),
-    (444, 1831),
-    (293, 1707),
-    (169, 1556),
-    (76, 1383),
-    (19, 1195),
-    (0, 1000),
-    (19, 805),
-    (76, 617),
-    (169, 444),
-    (293, 293),
-    (444, 169),
-    (617, 76),
-    (805, 19),
-];
+/// How many parts the radius of a circle has.
+const RADIUS: usize = 1000;
 
 /// A point, in pixels.
 #[derive(Clone, Copy, Debug)]
@@ -71,21 +37,45 @@ fn index_of(graph: &Graph, job: usize) -> usize {
     index
 }
 
-/// Where a job stands.
+/// The sine of an angle of less than half a turn, in thousandths, where half a turn has so many
+/// parts: by the formula of Bhaskara, which is wrong by less than three thousandths.
+fn sine(part: usize, half: usize) -> usize {
+    let square = part.saturating_mul(half.saturating_sub(part));
+    let whole = half.saturating_mul(half).saturating_mul(5);
+    let below = whole.saturating_sub(square.saturating_mul(4)).max(1);
+    square.saturating_mul(16).saturating_mul(RADIUS) / below
+}
+
+/// How far behind the left edge of a circle a point of its rim stands, in thousandths of the radius,
+/// where it is so many parts of the whole turn on from the top, and half a turn has so many.
+fn across(part: usize, half: usize) -> usize {
+    let part = part % half.saturating_mul(2).max(1);
+    if part < half {
+        RADIUS.saturating_add(sine(part, half))
+    } else {
+        RADIUS.saturating_sub(sine(part.saturating_sub(half), half))
+    }
+}
+
+/// Where a job stands: the jobs stand round a circle at equal distances, the first at the top.
 fn point_of(graph: &Graph, frame: &Frame, job: usize) -> Point {
     let jobs = jobs_in(graph).max(1);
-    let slot = index_of(graph, job).saturating_mul(32) / jobs;
-    let (right, down) = PLACES[slot % 32];
+    let (half, turned) = (
+        jobs.saturating_mul(2),
+        index_of(graph, job).saturating_mul(4),
+    );
+    let right = across(turned, half);
+    let down = across(turned.saturating_add(jobs.saturating_mul(3)), half);
     let radius = radius_of(jobs);
     let (edge, head) = (60usize, 24usize);
     Point {
         x: frame
             .graph_left
             .saturating_add(edge)
-            .saturating_add(right.saturating_mul(radius) / 1000),
+            .saturating_add(right.saturating_mul(radius) / RADIUS),
         y: TOP
             .saturating_add(head)
-            .saturating_add(down.saturating_mul(radius) / 1000),
+            .saturating_add(down.saturating_mul(radius) / RADIUS),
     }
 }
 

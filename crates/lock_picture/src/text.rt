@@ -11,7 +11,7 @@ use word36::JOBS;
 #[derive(Clone, Copy)]
 pub struct AsText<'a>(pub &'a Drawing);
 
-/// The columns of `job 31` and what stands behind it.
+/// The columns of `job 63` and what stands behind it.
 const JOB_WIDTH: usize = 8;
 
 /// What shows a lock that is owned, one that is waited for, a grant, and none.

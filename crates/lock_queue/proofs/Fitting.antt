@@ -1,5 +1,5 @@
 -- Which wants fit, behind more, fewer or the same earlier wants.
-use Rattle.std.proofs.Common.{◌≡◌, ◌≢◌, ◌≤◌, ◌<◌, ◌+◌, ◌∙◌, sym, ap, subst, ◌&&◌, true, false, List, [], ◌∷◌, ◌++◌, filter, sum_by, Option, Some, None, inl, inr, refl, arith}
+use Rattle.std.proofs.Common.{◌≡◌, ◌≢◌, ◌≤◌, ◌<◌, ◌+◌, ◌∙◌, sym, ap, subst, ◌&&◌, ◌==◌, true, false, List, [], ◌∷◌, ◌++◌, filter, sum_by, Option, Some, None, inl, inr, refl, arith}
 use Rattle.std.specs.List.{list_all}
 use Rattle.std.proofs.lemmas.Bool.{and_parts, and_from, both_ways, eqb-true, eq-eqb, leb-true, leb-false, le-leb, lt-leb, false_from_ne_true}
 use Rattle.std.proofs.lemmas.List.Elements.{filter-append}
@@ -101,7 +101,12 @@ granted_behind-fewer a b q r s f t =
 
 -- wants that agree with one agree with each other
 pub agree-joined : (u v w : Want) → agree u w ≡ true → agree v w ≡ true → agree u v ≡ true
-agree-joined u v w a b = and_from u.shared v.shared (and_parts u.shared w.shared a).0 (and_parts v.shared w.shared b).0
+agree-joined u v w a b =
+    let p = and_parts (u.shared && w.shared) (u.group == w.group) a in
+    let q = and_parts (v.shared && w.shared) (v.group == w.group) b in
+    and_from (u.shared && v.shared) (u.group == v.group)
+    (and_from u.shared v.shared (and_parts u.shared w.shared p.0).0 (and_parts v.shared w.shared q.0).0)
+    (eq-eqb u.group v.group (eqb-true u.group w.group p.1 ∙ sym (eqb-true v.group w.group q.1)))
 
 -- where a want does not fit, no later one of its key does
 pub overtaken : (xs ys : List Want) (v w : Want) (o p : Option PoolShare) → v.pool ≡ o → same_pool_size o p ≡ true

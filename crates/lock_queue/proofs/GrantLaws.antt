@@ -3,7 +3,6 @@ use Rattle.std.proofs.Common.{◌≡◌, ◌∙◌, sym, ap, append-nil, ℕ, Bo
 use Rattle.std.specs.List.{cons_option}
 use Rattle.std.proofs.lemmas.Bool.{and_left, and_right}
 use Rattle.arrayvec.specs.ArrayVec.{ArrayVec}
-use Rattle.word36.specs.declared.sizes.TheConstants.{REQUESTS}
 use Rattle.lock_queue.specs.declared.call.Asking.{Asking}
 use Rattle.lock_queue.specs.declared.call.LockCall.{LockCall}
 use Rattle.lock_queue.specs.declared.call.LockCall.TheVariants.{Enqueue, Modify, DequeueNamed, DequeueAll, DequeueId}
@@ -123,18 +122,18 @@ arrival-not_done requests x y Blocking false e = absurd (cc)
 arrival-not_done requests x y AtOnce false e = absurd (cc)
 arrival-not_done requests x y Interrupt false e = absurd (cc)
 
-pub call-left : (requests : List Request) (job : ℕ) (call : LockCall) → (outcome_of requests job call).reply ≡ Done
-    → (outcome_of requests job call).requests ≡ filter_map (left_of job call) requests
-call-left requests job (Enqueue asking wants) e =
-    not-stayed requests (arrival requests job asking wants) _ (enqueue_refusal REQUESTS requests job asking wants.items)
+pub call-left : (size : ℕ) (requests : List Request) (job : ℕ) (call : LockCall) → (outcome_of size requests job call).reply ≡ Done
+    → (outcome_of size requests job call).requests ≡ filter_map (left_of job call) requests
+call-left size requests job (Enqueue asking wants) e =
+    not-stayed requests (arrival requests job asking wants) _ (enqueue_refusal size requests job asking wants.items)
     (arrival-not_done requests _ _ asking.kind _) e
-call-left requests job (Modify changes) e =
+call-left size requests job (Modify changes) e =
     done-left (with_changes requests job changes.items) requests _ e ∙ map-left (changed job changes.items) requests
-call-left requests job (DequeueNamed named) e =
+call-left size requests job (DequeueNamed named) e =
     done-left (without_named requests job named.items) requests _ e
     ∙ filter-map-left has_wants (without_keys_of job named.items) requests
-call-left requests job DequeueAll e = where-left requests (is_of_job job) _ e ∙ filter-left (λ r. not (is_of_job job r)) requests
-call-left requests job (DequeueId id) e = where-left requests (has_id job id) _ e ∙ filter-left (λ r. not (has_id job id r)) requests
+call-left size requests job DequeueAll e = where-left requests (is_of_job job) _ e ∙ filter-left (λ r. not (is_of_job job r)) requests
+call-left size requests job (DequeueId id) e = where-left requests (has_id job id) _ e ∙ filter-left (λ r. not (has_id job id r)) requests
 
 -- ---- what is woken
 
@@ -162,8 +161,8 @@ none-woken e (r ∷ rs) =
     ∙ none-woken (e ++ r ∷ []) rs
 
 -- a request that is asked for wakes nobody
-pub woken-enqueue : (requests : List Request) (job : ℕ) (asking : Asking) (wants : ArrayVec Want)
-    → woken_by requests job (Enqueue asking wants) ≡ []
-woken-enqueue requests job asking wants =
-    let reply : LockReply = (outcome_of requests job (Enqueue asking wants)).reply in
+pub woken-enqueue : (size : ℕ) (requests : List Request) (job : ℕ) (asking : Asking) (wants : ArrayVec Want)
+    → woken_by size requests job (Enqueue asking wants) ≡ []
+woken-enqueue size requests job asking wants =
+    let reply : LockReply = (outcome_of size requests job (Enqueue asking wants)).reply in
     ap (λ l. unless_refused_grants reply (map grant_of l)) (none-woken [] requests) ∙ grants-none reply

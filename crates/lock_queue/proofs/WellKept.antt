@@ -14,14 +14,14 @@ use Rattle.lock_queue.specs.declared.refusal.Refusal.TheVariants.{NotPresent}
 use Rattle.lock_queue.specs.declared.request.Request.{Request}
 use Rattle.lock_queue.specs.declared.want.Want.{Want}
 use Rattle.lock_queue.specs.Calls.{outcome_of}
-use Rattle.lock_queue.specs.Changes.{modify_fault, changed_want, changed, with_changes}
+use Rattle.lock_queue.specs.Changes.{modify_fault, changed_group, changed_want, changed, with_changes}
 use Rattle.lock_queue.specs.Dequeues.{has_wants, with_wants, without_keys, without_keys_of, without_named, dequeue_where, is_of_job, has_id}
 use Rattle.lock_queue.specs.Enqueues.{enqueue_fault, request_of}
-use Rattle.lock_queue.specs.Jobs.{as_told, is_not_blocked_where, is_one, is_pending, released, told_behind, told_of, withdrawn}
+use Rattle.lock_queue.specs.Jobs.{as_told, is_not_blocked_where, is_pending, released, told_behind, told_of, withdrawn_where}
 use Rattle.lock_queue.specs.Keys.{same_key}
 use Rattle.lock_queue.specs.Outcomes.{outcome, unless_refused, first_refusal}
 use Rattle.lock_queue.specs.Queue.{all_wants, chosen_behind, is_pooled, names, requests_of, wants_at, wants_of}
-use Rattle.lock_queue.specs.WellFormed.{is_job, is_in_range, shares_no_pool, are_apart, are_right_wants, is_well_formed, are_well_formed}
+use Rattle.lock_queue.specs.WellFormed.{is_job, is_in_range, shares_rightly, are_apart, are_right_wants, is_well_formed, are_well_formed}
 use Rattle.lock_queue.proofs.Lists.{Has, Has-filter, Has-flat_map, filter-Has, map-Has, list_all-Has, list_all-each, list_any-Has, Sub, nil, skip, keep, Sub-all, Sub-filter, Sub-length}
 use Rattle.lock_queue.proofs.Refusing.{refuse_if-None, or_else-None}
 
@@ -35,7 +35,7 @@ record Parts (r : Request) : Type 0 where
   some : has_wants r ≡ true
   few : nat_le (length r.wants.items) LOCKS_A_CALL ≡ true
   range : list_all is_in_range r.wants.items ≡ true
-  unshared : list_all shares_no_pool r.wants.items ≡ true
+  unshared : list_all shares_rightly r.wants.items ≡ true
   apart : are_apart r.wants.items ≡ true
 
 parts_of : (r : Request) → is_well_formed r ≡ true → Parts r
@@ -43,8 +43,8 @@ parts_of r h =
     let both = and_parts (is_job r.job && (has_wants r && nat_le (length r.wants.items) LOCKS_A_CALL)) (are_right_wants r.wants.items) h in
     let front = and_parts (is_job r.job) (has_wants r && nat_le (length r.wants.items) LOCKS_A_CALL) both.0 in
     let number = and_parts (has_wants r) (nat_le (length r.wants.items) LOCKS_A_CALL) front.1 in
-    let wants = and_parts (list_all is_in_range r.wants.items && list_all shares_no_pool r.wants.items) (are_apart r.wants.items) both.1 in
-    let each = and_parts (list_all is_in_range r.wants.items) (list_all shares_no_pool r.wants.items) wants.0 in
+    let wants = and_parts (list_all is_in_range r.wants.items && list_all shares_rightly r.wants.items) (are_apart r.wants.items) both.1 in
+    let each = and_parts (list_all is_in_range r.wants.items) (list_all shares_rightly r.wants.items) wants.0 in
     record { job = front.0; some = number.0; few = number.1; range = each.0; unshared = each.1; apart = wants.1 }
 
 -- its job has a number, and its wants are in range
@@ -87,9 +87,9 @@ pub well-released : (requests : List Request) (job : ℕ) → are_well_formed re
     → are_well_formed (released requests job) ≡ true
 well-released requests job h = well-sub requests _ (Sub-filter (λ r. not (r.job == job)) requests) h
 
-pub well-withdrawn : (requests : List Request) (job : ℕ) → are_well_formed requests ≡ true
-    → are_well_formed (withdrawn requests job) ≡ true
-well-withdrawn requests job h = well-sub requests _ (Sub-chosen (is_not_blocked_where (is_one job)) [] requests) h
+pub well-withdrawn : (requests : List Request) (waiters : ℕ → Bool) → are_well_formed requests ≡ true
+    → are_well_formed (withdrawn_where requests waiters) ≡ true
+well-withdrawn requests waiters h = well-sub requests _ (Sub-chosen (is_not_blocked_where waiters) [] requests) h
 
 -- ---- who is told
 
@@ -119,7 +119,7 @@ without-parts true named r p some =
       some = some;
       few = fewer _ _ (Sub-length s) p.few;
       range = Sub-all is_in_range s p.range;
-      unshared = Sub-all shares_no_pool s p.unshared;
+      unshared = Sub-all shares_rightly s p.unshared;
       apart = apart-sub s p.apart;
     }
 without-parts false named r p some = p
@@ -141,7 +141,7 @@ well-without requests job named h =
 changed-key : (cs : List Want) (w : Want) → (changed_want cs w).key ≡ w.key
 changed-key [] w = refl
 changed-key (c ∷ cs) w =
-    elim (same_key w.key c.key) as (λ b. (cond b (record w { shared = c.shared }) (changed_want cs w)).key ≡ w.key) [
+    elim (same_key w.key c.key) as (λ b. (cond b (record w { shared = c.shared; group = changed_group c.shared w }) (changed_want cs w)).key ≡ w.key) [
       | true ↦ refl
       | false ↦ changed-key cs w
     ]
@@ -149,21 +149,27 @@ changed-key (c ∷ cs) w =
 changed-range : (cs : List Want) (w : Want) → is_in_range (changed_want cs w) ≡ is_in_range w
 changed-range [] w = refl
 changed-range (c ∷ cs) w =
-    elim (same_key w.key c.key) as (λ b. is_in_range (cond b (record w { shared = c.shared }) (changed_want cs w)) ≡ is_in_range w) [
+    elim (same_key w.key c.key) as (λ b. is_in_range (cond b (record w { shared = c.shared; group = changed_group c.shared w }) (changed_want cs w)) ≡ is_in_range w) [
       | true ↦ refl
       | false ↦ changed-range cs w
     ]
 
--- it shares no pool where each change of the want's key leaves a pool unshared
-changed-unshared : (cs : List Want) (w : Want) → shares_no_pool w ≡ true
+-- it shares no pool, and has group 0 where it is not shared, where each change of the want's key leaves a pool unshared
+changed-unshared : (cs : List Want) (w : Want) → shares_rightly w ≡ true
     → ((c : Want) → Has cs c → same_key w.key c.key ≡ true → (c.shared && is_pooled w) ≡ false)
-    → shares_no_pool (changed_want cs w) ≡ true
+    → shares_rightly (changed_want cs w) ≡ true
 changed-unshared [] w h f = h
 changed-unshared (c ∷ cs) w h f = go (same_key w.key c.key) refl (changed-unshared cs w h (λ d k e. f d (inr k) e))
   where
-    go : (b : Bool) → same_key w.key c.key ≡ b → shares_no_pool (changed_want cs w) ≡ true
-        → shares_no_pool (cond b (record w { shared = c.shared }) (changed_want cs w)) ≡ true
-    go true e rest = not_from_false _ (f c (inl refl) e)
+    group : (b s : Bool) → w.shared ≡ s → (s || w.group == 0) ≡ true → (b || changed_group b w == 0) ≡ true
+    group true s e own = refl
+    group false true e own = ap (λ x. cond x 0 w.group == 0) e
+    group false false e own = ap (λ x. cond x 0 w.group == 0) e ∙ own
+
+    go : (b : Bool) → same_key w.key c.key ≡ b → shares_rightly (changed_want cs w) ≡ true
+        → shares_rightly (cond b (record w { shared = c.shared; group = changed_group c.shared w }) (changed_want cs w)) ≡ true
+    go true e rest = and_from _ _ (not_from_false _ (f c (inl refl) e))
+        (group c.shared w.shared refl (and_parts (not (w.shared && is_pooled w)) (w.shared || w.group == 0) h).1)
     go false e rest = rest
 
 all-same : {X : Type 0} (p q : X → Bool) → ((x : X) → p x ≡ q x) → (xs : List X) → list_all p xs ≡ list_all q xs
@@ -227,10 +233,10 @@ module _ (requests : List Request) (job : ℕ) where
         few = ap (λ n. nat_le n LOCKS_A_CALL) same ∙ p.few;
         range = all-map is_in_range (changed_want cs) r.wants.items
             ∙ all-same (λ w. is_in_range (changed_want cs w)) is_in_range (changed-range cs) r.wants.items ∙ p.range;
-        unshared = list_all-each shares_no_pool (map (changed_want cs) r.wants.items) (λ v k.
+        unshared = list_all-each shares_rightly (map (changed_want cs) r.wants.items) (λ v k.
             let from = map-Has (changed_want cs) r.wants.items v k in
-            subst (λ u. shares_no_pool u ≡ true) from.2
-            (changed-unshared cs from.0 (list_all-Has shares_no_pool r.wants.items from.0 p.unshared from.1)
+            subst (λ u. shares_rightly u ≡ true) from.2
+            (changed-unshared cs from.0 (list_all-Has shares_rightly r.wants.items from.0 p.unshared from.1)
             (λ c d e. pool_kept cs h r in_rs mine from.0 from.1 c d e)));
         apart = changed-apart cs r.wants.items ∙ p.apart;
       }
@@ -286,7 +292,7 @@ module _ (requests : List Request) (job : ℕ) where
       record { behind = and_from _ _ (not-named e w named.0) q.0; among = and_from _ _ q.1 rest.among }
 
   pub well-arrival : (asking : Asking) (told : Bool) (wants : ArrayVec Want) → is_job job ≡ true
-      → nat_le 1 (length wants.items) ≡ true → list_all shares_no_pool wants.items ≡ true
+      → nat_le 1 (length wants.items) ≡ true → list_all shares_rightly wants.items ≡ true
       → first_refusal (enqueue_fault requests job) [] wants.items ≡ None
       → length wants.items ≤ LOCKS_A_CALL → list_all is_in_range wants.items ≡ true → are_well_formed requests ≡ true
       → are_well_formed (requests ++ request_of job asking told wants ∷ []) ≡ true
@@ -308,7 +314,7 @@ module _ (requests : List Request) (job : ℕ) where
 -- ---- calls
 
 -- a call that enters no request keeps requests well-formed
-module _ (requests : List Request) (job : ℕ) (well : are_well_formed requests ≡ true) where
+module _ (size : ℕ) (requests : List Request) (job : ℕ) (well : are_well_formed requests ≡ true) where
   unless : (l : List Request) (o : Option Refusal) → (o ≡ None → are_well_formed l ≡ true)
       → are_well_formed (unless_refused requests o (outcome l Done)).requests ≡ true
   unless l None h = h refl
@@ -321,15 +327,15 @@ module _ (requests : List Request) (job : ℕ) (well : are_well_formed requests 
         | false ↦ well
       ]
 
-  pub well-modify : (wants : ArrayVec Want) → are_well_formed (outcome_of requests job (Modify wants)).requests ≡ true
+  pub well-modify : (wants : ArrayVec Want) → are_well_formed (outcome_of size requests job (Modify wants)).requests ≡ true
   well-modify wants =
       unless (with_changes requests job wants.items) _ (λ none. well-changed requests job wants.items (or_else-None _ _ none).0 well)
 
-  pub well-named : (wants : ArrayVec Want) → are_well_formed (outcome_of requests job (DequeueNamed wants)).requests ≡ true
+  pub well-named : (wants : ArrayVec Want) → are_well_formed (outcome_of size requests job (DequeueNamed wants)).requests ≡ true
   well-named wants = unless (without_named requests job wants.items) _ (λ none. well-without requests job wants.items well)
 
-  pub well-all : are_well_formed (outcome_of requests job DequeueAll).requests ≡ true
+  pub well-all : are_well_formed (outcome_of size requests job DequeueAll).requests ≡ true
   well-all = well-where (is_of_job job)
 
-  pub well-id : (id : ℕ) → are_well_formed (outcome_of requests job (DequeueId id)).requests ≡ true
+  pub well-id : (id : ℕ) → are_well_formed (outcome_of size requests job (DequeueId id)).requests ≡ true
   well-id id = well-where (has_id job id)

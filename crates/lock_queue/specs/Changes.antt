@@ -1,6 +1,6 @@
 -- Wants that are made shared or exclusive: ENQ. function 3 (ENQ/DEQ of the TOPS-10 Monitor Calls Manual, in this
 -- project's profile).
-use Rattle.std.specs.Prelude.{ℕ, Bool, false, not, ◌==◌, ◌&&◌, ◌||◌, if◌then◌else◌, List, [], ◌∷◌, ◌++◌, map, Option}
+use Rattle.std.specs.Prelude.{ℕ, Bool, true, false, not, ◌==◌, ◌&&◌, ◌||◌, if◌then◌else◌, List, [], ◌∷◌, ◌++◌, map, Option}
 use Rattle.std.specs.List.{list_any}
 use Rattle.lock_queue.specs.declared.call.LockReply.TheVariants.{Done}
 use Rattle.lock_queue.specs.declared.refusal.Refusal.{Refusal}
@@ -20,12 +20,18 @@ modify_fault requests job earlier c =
     (or_else (refuse_if (not (names (wants_of requests job) c.key)) NotPresent)
     (refuse_if (c.shared && list_any is_pooled (wants_at (requests_of requests job) c.key)) BadPool))
 
+-- the group of a want that is to be shared or not: one that becomes shared or exclusive gets group 0, and one that stays as
+-- it was keeps its group
+abbrev pub changed_group : Bool → Want → ℕ
+changed_group true w = if w.shared then w.group else 0
+changed_group false w = if w.shared then 0 else w.group
+
 -- a want, shared or exclusive as the change of its key says, if there is one
 abbrev pub changed_want : List Want → Want → Want
 changed_want [] w = w
 changed_want (c ∷ later) w =
     if same_key w.key c.key
-    then record w { shared = c.shared }
+    then record w { shared = c.shared; group = changed_group c.shared w }
     else changed_want later w
 
 -- a request of the job with its wants changed, and another's as it is

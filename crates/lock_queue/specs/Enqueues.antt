@@ -6,7 +6,7 @@ use Rattle.arrayvec.specs.ArrayVec.{ArrayVec}
 use Rattle.lock_queue.specs.declared.call.Asking.{Asking}
 use Rattle.lock_queue.specs.declared.call.LockReply.TheVariants.{Granted, Queued, Refused}
 use Rattle.lock_queue.specs.declared.refusal.Refusal.{Refusal}
-use Rattle.lock_queue.specs.declared.refusal.Refusal.TheVariants.{NotGranted, Differs, LevelOrder, NamedAlready, QueueFull, NoVector}
+use Rattle.lock_queue.specs.declared.refusal.Refusal.TheVariants.{NotGranted, Differs, LevelOrder, NamedAlready, QueueFull, NoVector, OverQuota}
 use Rattle.lock_queue.specs.declared.request.EnqueueKind.{EnqueueKind}
 use Rattle.lock_queue.specs.declared.request.EnqueueKind.TheVariants.{Blocking, AtOnce, Interrupt}
 use Rattle.lock_queue.specs.declared.request.Request.{Request}
@@ -14,7 +14,7 @@ use Rattle.lock_queue.specs.declared.want.Want.{Want}
 use Rattle.lock_queue.specs.Jobs.{is_interrupt}
 use Rattle.lock_queue.specs.Outcomes.{Outcome, outcome, unless_refused, refuse_if, or_else, first_refusal}
 use Rattle.lock_queue.specs.Pools.{PoolShare}
-use Rattle.lock_queue.specs.Queue.{names, wants_at, wants_of, granted}
+use Rattle.lock_queue.specs.Queue.{names, wants_at, requests_of, wants_of, granted}
 
 -- both are pools of one size, or neither is a pool
 abbrev pub same_pool_size : Option PoolShare → Option PoolShare → Bool
@@ -44,13 +44,15 @@ some_too_low before [] = false
 some_too_low before (w ∷ later) = is_too_low before w || some_too_low (before ++ w ∷ []) later
 
 -- why a request is not taken in, if it is not: lock by lock; then its levels, behind all present wants of the job; then
--- for want of a vector for the interrupt, and of room in a queue of this size
+-- for want of a vector for the interrupt; then where the job has as many requests as it may have; and for want of room in
+-- a queue of this size
 abbrev pub enqueue_refusal : ℕ → List Request → ℕ → Asking → List Want → Option Refusal
 enqueue_refusal size requests job asking wants =
     or_else (first_refusal (enqueue_fault requests job) [] wants)
     (or_else (refuse_if (some_too_low (wants_of requests job) wants) LevelOrder)
     (or_else (refuse_if (is_interrupt asking.kind && not asking.armed) NoVector)
-    (refuse_if (nat_le size (length requests)) QueueFull)))
+    (or_else (refuse_if (nat_le asking.quota (length (requests_of requests job))) OverQuota)
+    (refuse_if (nat_le size (length requests)) QueueFull))))
 
 abbrev pub request_of : ℕ → Asking → Bool → ArrayVec Want → Request
 request_of job asking told wants = record { job = job; id = asking.id; kind = asking.kind; told = told; wants = wants }

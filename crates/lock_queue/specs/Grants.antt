@@ -55,8 +55,9 @@ unless_refused_grants Done grants = grants
 unless_refused_grants (Refused refusal) grants = []
 
 -- the grants that a job's call makes of requests that were present before it
-abbrev pub woken_by : List Request → ℕ → LockCall → List Grant
-woken_by requests job call = unless_refused_grants (outcome_of requests job call).reply (woken (left_of job call) requests)
+abbrev pub woken_by : ℕ → List Request → ℕ → LockCall → List Grant
+woken_by size requests job call =
+    unless_refused_grants (outcome_of size requests job call).reply (woken (left_of job call) requests)
 
 -- the grants that are made when all requests of a job leave
 abbrev pub woken_by_release : List Request → ℕ → List Grant

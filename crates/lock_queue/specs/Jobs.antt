@@ -1,6 +1,6 @@
 -- What concerns the requests of one job: which leave, which wait, which are told (ENQ/DEQ of the TOPS-10 Monitor Calls
 -- Manual, in this project's profile).
-use Rattle.std.specs.Prelude.{ℕ, Bool, true, false, not, ◌==◌, ◌&&◌, ◌||◌, if◌then◌else◌, List, [], ◌∷◌, ◌++◌, Option, Some, None, filter}
+use Rattle.std.specs.Prelude.{ℕ, ◌/◌, ◌%◌, ◌^◌, Bool, true, false, not, ◌==◌, ◌&&◌, ◌||◌, if◌then◌else◌, List, [], ◌∷◌, ◌++◌, Option, Some, None, filter}
 use Rattle.std.specs.List.{list_any}
 use Rattle.lock_queue.specs.declared.request.EnqueueKind.{EnqueueKind}
 use Rattle.lock_queue.specs.declared.request.EnqueueKind.TheVariants.{Blocking, AtOnce, Interrupt}
@@ -21,6 +21,10 @@ is_interrupt AtOnce = false
 -- whether a job is this one
 abbrev pub is_one : ℕ → ℕ → Bool
 is_one job j = j == job
+
+-- whether a job is in a set of jobs, which has bit 2 ^ j for each job j
+abbrev pub is_among : ℕ → ℕ → Bool
+is_among jobs j = (jobs / 2 ^ j) % 2 == 1
 
 -- the list without the requests of some jobs, and of one
 abbrev pub released_where : List Request → (ℕ → Bool) → List Request
@@ -48,6 +52,10 @@ withdrawn_where requests waiters = chosen (is_not_blocked_where waiters) request
 
 abbrev pub withdrawn : List Request → ℕ → List Request
 withdrawn requests job = withdrawn_where requests (is_one job)
+
+-- the list without the requests by which the jobs of a set wait, all judged by the list before any of them left
+abbrev pub withdrawn_all : List Request → ℕ → List Request
+withdrawn_all requests jobs = withdrawn_where requests (is_among jobs)
 
 -- a job's granted interrupt request of which it was not told yet
 abbrev pub is_pending : ℕ → List Request → Request → Bool

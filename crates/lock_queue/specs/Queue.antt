@@ -27,9 +27,9 @@ wants_of requests job = all_wants (requests_of requests job)
 abbrev pub names : List Want → Key → Bool
 names wants key = list_any (λ w. same_key w.key key) wants
 
--- two wants of one key agree where both are shared
+-- two wants of one key agree where both are shared and of one group
 abbrev pub agree : Want → Want → Bool
-agree v w = v.shared && w.shared
+agree v w = (v.shared && w.shared) && v.group == w.group
 
 abbrev pub is_pooled : Want → Bool
 is_pooled w = is_some w.pool

@@ -1,7 +1,7 @@
 -- The codes of refusals (this project's profile).
 use Rattle.std.specs.Prelude.{ℕ}
 use Rattle.lock_queue.specs.declared.refusal.Refusal.{Refusal}
-use Rattle.lock_queue.specs.declared.refusal.Refusal.TheVariants.{NotGranted, NoFunction, BadBlock, BadCount, BadPointer, BadName, BadQualifier, BadPool, Differs, LevelOrder, NamedAlready, NotPresent, WouldLose, QueueFull, NoVector}
+use Rattle.lock_queue.specs.declared.refusal.Refusal.TheVariants.{NotGranted, NoFunction, BadBlock, BadCount, BadPointer, BadName, BadQualifier, BadPool, Differs, LevelOrder, NamedAlready, NotPresent, WouldLose, QueueFull, NoVector, OverQuota, TimedOut, NoSuchQuota}
 
 abbrev pub code_of : Refusal → ℕ
 code_of NotGranted = 1
@@ -19,3 +19,6 @@ code_of NotPresent = 12
 code_of WouldLose = 13
 code_of QueueFull = 14
 code_of NoVector = 15
+code_of OverQuota = 16
+code_of TimedOut = 17
+code_of NoSuchQuota = 18

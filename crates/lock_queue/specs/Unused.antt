@@ -8,7 +8,7 @@ use Rattle.lock_queue.specs.declared.want.Want.{Want}
 
 -- an exclusive want of the user code 0
 abbrev pub unused_want : Want
-unused_want = record { key = record { scope = All; name = Code 0 }; shared = false; bypass = false; level = 0; pool = None }
+unused_want = record { key = record { scope = All; name = Code 0 }; shared = false; group = 0; bypass = false; level = 0; pool = None }
 
 -- a request of job 0 without wants
 abbrev pub unused_request : Request

@@ -1,5 +1,5 @@
 -- What holds of every request and of every call (ENQ/DEQ of the TOPS-10 Monitor Calls Manual, in this project's profile).
-use Rattle.std.specs.Prelude.{ℕ, ◌^◌, Bool, true, not, ◌&&◌, List, [], ◌∷◌, length, Option, Some, None, nat_le, nat_lt}
+use Rattle.std.specs.Prelude.{ℕ, ◌^◌, Bool, true, not, ◌==◌, ◌&&◌, ◌||◌, List, [], ◌∷◌, length, Option, Some, None, nat_le, nat_lt}
 use Rattle.std.specs.List.{list_all}
 use Rattle.word36.specs.declared.sizes.TheConstants.{JOBS, LOCKS_A_CALL}
 use Rattle.lock_queue.specs.declared.call.LockCall.{LockCall}
@@ -23,9 +23,9 @@ is_right_pool None = true
 abbrev pub is_in_range : Want → Bool
 is_in_range w = nat_lt w.level (2 ^ 9) && is_right_pool w.pool
 
--- a pool is not shared
-abbrev pub shares_no_pool : Want → Bool
-shares_no_pool w = not (w.shared && is_pooled w)
+-- a pool is not shared, and a want that is not shared has group 0
+abbrev pub shares_rightly : Want → Bool
+shares_rightly w = not (w.shared && is_pooled w) && (w.shared || w.group == 0)
 
 -- no key is named twice
 abbrev pub are_apart : List Want → Bool
@@ -34,7 +34,7 @@ are_apart (w ∷ later) = list_all (λ v. not (same_key w.key v.key)) later && a
 
 -- the wants of a request, of whatever number
 abbrev pub are_right_wants : List Want → Bool
-are_right_wants wants = (list_all is_in_range wants && list_all shares_no_pool wants) && are_apart wants
+are_right_wants wants = (list_all is_in_range wants && list_all shares_rightly wants) && are_apart wants
 
 -- a request is a job's, and has 1 to 16 wants
 abbrev pub is_well_formed : Request → Bool
@@ -52,14 +52,14 @@ names_locks (DequeueNamed wants) = nat_le 1 (length wants.items)
 names_locks DequeueAll = true
 names_locks (DequeueId id) = true
 
--- a call asks for no pool that is shared
-abbrev pub shares_no_pools : LockCall → Bool
-shares_no_pools (Enqueue asking wants) = list_all shares_no_pool wants.items
-shares_no_pools (Modify wants) = true
-shares_no_pools (DequeueNamed wants) = true
-shares_no_pools DequeueAll = true
-shares_no_pools (DequeueId id) = true
+-- what a call asks for is shared rightly: no pool is, and what is not shared has group 0
+abbrev pub all_share_rightly : LockCall → Bool
+all_share_rightly (Enqueue asking wants) = list_all shares_rightly wants.items
+all_share_rightly (Modify wants) = true
+all_share_rightly (DequeueNamed wants) = true
+all_share_rightly DequeueAll = true
+all_share_rightly (DequeueId id) = true
 
 -- a job's call that can be made
 abbrev pub is_call : ℕ → LockCall → Bool
-is_call job call = is_job job && (names_locks call && shares_no_pools call)
+is_call job call = is_job job && (names_locks call && all_share_rightly call)

@@ -16,11 +16,11 @@ pub fn names_key(wants: &[Want], key: &Key) -> bool
     wants.iter().any(|w| w.key == *key)
 }
 
-/// Whether two wants of one key agree: both are shared.
+/// Whether two wants of one key agree: both are shared, and of one group.
 pub fn do_agree(v: &Want, w: &Want) -> bool
     ensures { result ≡ agree v.now w.now }
 {
-    v.shared && w.shared
+    v.shared && w.shared && v.group == w.group
 }
 
 /// Whether a want is of a pool.

@@ -11,6 +11,8 @@ pub struct Asking {
     pub id: RequestId,
     /// Whether the job can be interrupted, which a request of that kind needs.
     pub armed: bool,
+    /// How many requests the job may have.
+    pub quota: u16,
 }
 
 /// A call on the queue.

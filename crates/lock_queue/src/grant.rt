@@ -4,7 +4,7 @@ ghost use Rattle.lock_queue.specs.Grants.{is_told_of, grant_of};
 
 use crate::{EnqueueKind, Request, RequestId};
 use arrayvec::ArrayVec;
-use word36::REQUESTS;
+use word36::MOST_REQUESTS;
 
 /// A request that was not granted before a call and is granted after it.
 #[derive(Clone, Copy, Debug, PartialEq, Eq)]
@@ -16,7 +16,7 @@ pub struct Grant {
 }
 
 /// The grants that a call makes, in order of arrival of their requests.
-pub type Woken = ArrayVec<Grant, REQUESTS>;
+pub type Woken = ArrayVec<Grant, MOST_REQUESTS>;
 
 /// A grant to job 0, which fills unused places.
 impl Default for Grant {

@@ -1,7 +1,7 @@
 //! Which wants fit behind earlier requests, and which requests are granted there.
 ghost use Rattle.std.specs.Prelude.{◌≡◌, ◌+◌, nat_le, sum_by};
 ghost use Rattle.std.specs.List.{list_all};
-ghost use Rattle.lock_queue.specs.Jobs.{is_blocked};
+ghost use Rattle.lock_queue.specs.Jobs.{is_among, is_blocked, is_blocked_where};
 ghost use Rattle.lock_queue.specs.Queue.{wants_at, agree, amount_of, fits, granted_behind};
 
 use crate::among_wants::{all_agree_in, room_beside};
@@ -64,4 +64,18 @@ pub fn is_blocked(earlier: &[Request], r: &Request, job: u8) -> bool
     ensures { result ≡ is_blocked job earlier.now r.now }
 {
     r.job == job && matches!(r.kind, EnqueueKind::Blocking) && !is_granted(earlier, r)
+}
+
+/// Whether a job is in a set of jobs, which has bit 2^j for each job `j`.
+pub fn is_among(jobs: u64, job: u8) -> bool
+    ensures { result ≡ is_among jobs job }
+{
+    job < 64 && (jobs >> job) & 1 == 1
+}
+
+/// Whether one of some jobs waits by this request.
+pub fn is_blocked_among(earlier: &[Request], r: &Request, jobs: u64) -> bool
+    ensures { result ≡ is_blocked_where (is_among jobs) earlier.now r.now }
+{
+    is_among(jobs, r.job) && matches!(r.kind, EnqueueKind::Blocking) && !is_granted(earlier, r)
 }

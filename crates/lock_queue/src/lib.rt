@@ -27,5 +27,5 @@ pub use refusal::Refusal;
 pub use request::{EnqueueKind, Request, RequestId};
 pub use status::Status;
 pub use table::{LockTable, run_calls};
-pub use terms::{LockUse, Terms};
-pub use want::{Level, Want, Wants};
+pub use terms::{BlockUse, Terms};
+pub use want::{Group, Level, Want, Wants};

@@ -19,7 +19,8 @@ pub enum Refusal {
     BadName,
     /// 7: no such qualifier.
     BadQualifier,
-    /// 8: a pool of no size, an amount of 0 or above the size, or a pool that is shared.
+    /// 8: a pool of no size, an amount of 0 or above the size, a pool that is shared, or a group other
+    /// than 0 of a lock that is not shared.
     BadPool,
     /// 9: a present want of the key has another level, or another pool.
     Differs,
@@ -35,10 +36,16 @@ pub enum Refusal {
     QueueFull,
     /// 15: the job has no interrupt vector.
     NoVector,
+    /// 16: the job has as many requests as it may have.
+    OverQuota,
+    /// 17: the request was not granted within its limit of time.
+    TimedOut,
+    /// 18: the job whose quota is asked for is not there, or the quota would become greater.
+    NoSuchQuota,
 }
 
 impl Refusal {
-    /// The code, 1 to 15, that a refused call leaves in the accumulator.
+    /// The code, 1 to 18, that a refused call leaves in the accumulator.
     pub fn code(self) -> u8
         ensures { result ≡ code_of self }
     {
@@ -58,6 +65,9 @@ impl Refusal {
             Refusal::WouldLose => 13,
             Refusal::QueueFull => 14,
             Refusal::NoVector => 15,
+            Refusal::OverQuota => 16,
+            Refusal::TimedOut => 17,
+            Refusal::NoSuchQuota => 18,
         }
     }
 }

@@ -2,13 +2,13 @@
 ghost use Rattle.std.specs.Prelude.{◌≡◌, ◌≤◌, IsTrue, length, map};
 ghost use Rattle.std.specs.List.{list_all};
 ghost use Rattle.word36.specs.declared.sizes.TheConstants.{LOCKS_A_CALL};
-ghost use Rattle.lock_queue.specs.Changes.{changed_want};
+ghost use Rattle.lock_queue.specs.Changes.{changed_group, changed_want};
 ghost use Rattle.lock_queue.specs.Dequeues.{with_wants, without_keys};
 ghost use Rattle.lock_queue.specs.Enqueues.{request_of};
 ghost use Rattle.lock_queue.specs.WellFormed.{is_in_range};
 
 use crate::among_wants::names_key;
-use crate::{Asking, Request, Want, Wants};
+use crate::{Asking, Group, Request, Want, Wants};
 
 /// Writes wants over others.
 fn write_wants(place: &mut Wants, wants: &Wants)
@@ -46,6 +46,17 @@ pub fn write_like(place: &mut Request, r: &Request, wants: &Wants)
     write_wants(&mut place.wants, wants);
 }
 
+/// The group of a want that is to be shared or not: one that becomes shared or exclusive gets group 0,
+/// and one that stays as it was keeps its group.
+pub fn changed_group(shared: bool, w: &Want) -> Group
+    ensures { result ≡ changed_group shared w.now }
+{
+    match (shared, w.shared) {
+        (true, true) | (false, false) => w.group,
+        (true, false) | (false, true) => Group::new(0),
+    }
+}
+
 /// A want, shared or exclusive as the change of its key says, if there is one.
 fn changed_want(changes: &[Want], w: &Want) -> Want
     ensures { result ≡ changed_want changes.now w.now }
@@ -53,6 +64,7 @@ fn changed_want(changes: &[Want], w: &Want) -> Want
     for c in changes {
         if w.key == c.key {
             let mut changed = w.copied();
+            changed.group = changed_group(c.shared, w);
             changed.shared = c.shared;
             return changed;
         }

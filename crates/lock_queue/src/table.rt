@@ -1,37 +1,45 @@
 //! What a lock table does, however it keeps its requests.
-ghost use Rattle.std.specs.Prelude.{◌≡◌, ◌<◌, ◌≤◌, List, [], length, slice_get, Some, IfOk, IsTrue};
+ghost use Rattle.std.specs.Prelude.{◌≡◌, ◌<◌, ◌≤◌, ◌^◌, ℕ, List, [], length, slice_get, Some, IfOk, IsTrue};
 ghost use Rattle.std.specs.List.{list_all};
-ghost use Rattle.word36.specs.declared.sizes.TheConstants.{JOBS, REQUESTS};
+ghost use Rattle.word36.specs.declared.sizes.TheConstants.{JOBS, MOST_REQUESTS};
 ghost use Rattle.lock_queue.specs.declared.request.Request.{Request as RequestView};
 ghost use Rattle.lock_queue.specs.Calls.{outcome_of, requests_after, replies_to};
 ghost use Rattle.lock_queue.specs.Grants.{woken_by, woken_by_release};
-ghost use Rattle.lock_queue.specs.Jobs.{released, withdrawn, is_waiting_job, pending, told_of, waits_for};
+ghost use Rattle.lock_queue.specs.Jobs.{released, withdrawn, withdrawn_all, is_waiting_job, pending, told_of, waits_for};
 ghost use Rattle.lock_queue.specs.Queue.{granted};
 ghost use Rattle.lock_queue.specs.StatusWords.{status_of};
-ghost use Rattle.lock_queue.specs.WellFormed.{are_well_formed, is_call, names_locks, shares_no_pools};
+ghost use Rattle.lock_queue.specs.WellFormed.{are_well_formed, is_call, names_locks, all_share_rightly};
 
 use crate::{Key, LockCall, LockReply, Request, RequestId, Status, Woken};
 use std::alloc::{AllocError, Global};
 
 /// The requests for locks, in order of arrival. After `new` no call takes memory.
 pub trait LockTable: Drop {
+    /// The most requests that may be present.
+    ghost REQS: { ℕ };
+
+    /// The most requests that may be present.
+    const REQS: usize;
+
     /// The requests, in order of arrival.
     ghost requests: { Self → List RequestView };
 
-    /// A table with no request.
+    /// A table with no request, for 1 to 1,024 of them.
     fn new(alloc: Global) -> Result<Self, AllocError>
+        requires { (1 ≤ REQS) × (REQS ≤ MOST_REQUESTS) }
         ensures { IfOk result (λ table. requests table ≡ []) };
 
-    /// Makes one call of a job, whose number is from 1 to 31, and which asks for 1 to 16 locks where it
-    /// asks for locks or names them, and for no pool that is shared. A refused call changes no request;
-    /// the only exception is an interrupt request that is not granted at once, which stays.
+    /// Makes one call of a job, whose number is from 1 to 63, and which asks for 1 to 16 locks where it
+    /// asks for locks or names them, and for no pool that is shared and no group other than 0 of a lock
+    /// that is not shared. A refused call changes no request; the only exception is an interrupt request
+    /// that is not granted at once, which stays.
     fn call(&mut self, job: u8, call: &LockCall) -> LockReply
         requires job { (1 ≤ job) × (job ≤ JOBS) }
         requires named { IsTrue (names_locks call.now) }
-        requires unshared { IsTrue (shares_no_pools call.now) }
+        requires unshared { IsTrue (all_share_rightly call.now) }
         ensures requests { requests self.new ≡
-            (outcome_of (requests self.old) job call.now).requests }
-        ensures reply { result ≡ (outcome_of (requests self.old) job call.now).reply };
+            (outcome_of REQS (requests self.old) job call.now).requests }
+        ensures reply { result ≡ (outcome_of REQS (requests self.old) job call.now).reply };
 
     /// Makes one call in the same way, and fills in the grants that it makes: those of requests that
     /// were present and not granted before it, and are granted after it, in order of arrival. Requests
@@ -40,11 +48,11 @@ pub trait LockTable: Drop {
     fn call_waking(&mut self, job: u8, call: &LockCall, woken: &mut Woken) -> LockReply
         requires job { (1 ≤ job) × (job ≤ JOBS) }
         requires named { IsTrue (names_locks call.now) }
-        requires unshared { IsTrue (shares_no_pools call.now) }
+        requires unshared { IsTrue (all_share_rightly call.now) }
         ensures requests { requests self.new ≡
-            (outcome_of (requests self.old) job call.now).requests }
-        ensures reply { result ≡ (outcome_of (requests self.old) job call.now).reply }
-        ensures woken { woken.new.items ≡ woken_by (requests self.old) job call.now };
+            (outcome_of REQS (requests self.old) job call.now).requests }
+        ensures reply { result ≡ (outcome_of REQS (requests self.old) job call.now).reply }
+        ensures woken { woken.new.items ≡ woken_by REQS (requests self.old) job call.now };
 
     /// Takes out all requests of a job, as when it is gone.
     fn release(&mut self, job: u8)
@@ -58,6 +66,11 @@ pub trait LockTable: Drop {
     /// Takes out the requests by which a job waits.
     fn withdraw(&mut self, job: u8)
         ensures { requests self.new ≡ withdrawn (requests self.old) job };
+
+    /// Takes out the requests by which some jobs wait: job `j` where bit 2^j of `jobs` is set. All are
+    /// judged by the list before any of them left.
+    fn withdraw_all(&mut self, jobs: u64)
+        ensures { requests self.new ≡ withdrawn_all (requests self.old) jobs };
 
     /// Whether a job waits: it has a blocking request that is not granted.
     fn waiting(&self, job: u8) -> bool
@@ -97,11 +110,14 @@ pub trait LockTable: Drop {
     fn clear(&mut self)
         ensures { requests self.new ≡ [] };
 
-    /// No more requests are present than the queue can hold.
-    ghost few: { (table : Self) → length (requests table) ≤ REQUESTS };
+    /// A table is made for 1 to 1,024 requests.
+    ghost sized: { (table : Self) → (1 ≤ REQS) × (REQS ≤ MOST_REQUESTS) };
+
+    /// No more requests are present than the table is made for.
+    ghost few: { (table : Self) → length (requests table) ≤ REQS };
 
     /// Each request is a job's, and has 1 to 16 wants of as many keys; levels have 9 bits, and a pool's
-    /// amount is from 1 to its size, of 18 bits, and not shared.
+    /// amount is from 1 to its size, of 18 bits, and not shared; a want that is not shared has group 0.
     ghost well: { (table : Self) → IsTrue (are_well_formed (requests table)) };
 }
 
@@ -109,8 +125,8 @@ pub trait LockTable: Drop {
 pub fn run_calls<L: LockTable>(table: &mut L, calls: &[(u8, LockCall)], replies: &mut [LockReply])
     requires places { length calls.now ≡ length replies.old }
     requires calls { IsTrue (list_all (λ c. is_call c.0 c.1) calls.now) }
-    ensures requests { L.requests table.new ≡ requests_after (L.requests table.old) calls.now }
-    ensures replies { replies.new ≡ replies_to (L.requests table.old) calls.now }
+    ensures requests { L.requests table.new ≡ requests_after L.REQS (L.requests table.old) calls.now }
+    ensures replies { replies.new ≡ replies_to L.REQS (L.requests table.old) calls.now }
 {
     for (i, (job, call)) in calls.iter().enumerate() {
         replies[i] = table.call(*job, call);

@@ -1,15 +1,18 @@
 //! What a call wants of a lock that it spells, in a block or in a line of a script.
 ghost use Rattle.std.specs.Prelude.{◌≡◌, IsTrue, IfOk};
 ghost use Rattle.lock_queue.specs.Uses.{pool_on, want_on};
-ghost use Rattle.lock_queue.specs.WellFormed.{shares_no_pool};
+ghost use Rattle.lock_queue.specs.WellFormed.{shares_rightly};
 
-use crate::{Key, Level, Pool, Refusal, Want};
+use crate::{Group, Key, Level, Pool, Refusal, Want};
 
-/// What a call does with its locks.
+/// What a call does with the locks of its block, or of its line in a script.
 #[derive(Clone, Copy, Debug, PartialEq, Eq)]
-pub enum LockUse {
-    /// It asks for them: all of their terms count (ENQ. functions 0 to 2).
-    Requested,
+pub enum BlockUse {
+    /// It asks for them and waits for its grant: all of their terms count, and its block may have a time
+    /// limit (ENQ. function 0).
+    Blocking,
+    /// It asks for them and does not wait: all of their terms count (ENQ. functions 1 and 2).
+    Full,
     /// It names them: of their terms the bit for sharing alone counts (the other lock calls).
     Named,
 }
@@ -19,6 +22,8 @@ pub enum LockUse {
 pub struct Terms {
     /// Whether others who share may own it at the same time.
     pub shared: bool,
+    /// Its group, where it is shared.
+    pub group: Group,
     /// Whether the rule of rising levels is not asked of it.
     pub bypass: bool,
     /// Its level.
@@ -30,11 +35,16 @@ pub struct Terms {
 }
 
 impl Terms {
-    /// The pool, if there is one: size 0 and amount 0 are none. `BadPool` where the size is 0 or has more
-    /// than 18 bits, the amount is 0 or above the size, or the lock is shared.
+    /// The pool, if there is one: size 0 and amount 0 are none. `BadPool` where a lock that is not shared
+    /// has a group other than 0, where a pool is shared, and where its size is 0 or has more than 18 bits,
+    /// or its amount is 0 or above the size.
     fn pool(self) -> Result<Option<Pool>, Refusal>
-        ensures { result ≡ pool_on self.shared self.pool_size self.pool_amount }
+        ensures { result ≡ pool_on self.shared self.group self.pool_size self.pool_amount }
     {
+        let group = self.group.number();
+        if !self.shared && group != 0 {
+            return Err(Refusal::BadPool);
+        }
         if self.pool_size == 0 && self.pool_amount == 0 {
             return Ok(None);
         }
@@ -49,15 +59,17 @@ impl Terms {
 impl Want {
     /// What a call wants of the lock of this key on these terms: all of them where it asks for the lock,
     /// and sharing alone where it names the lock. `BadPool` where it asks for a pool of size 0, an amount
-    /// of 0 or above the size, or a pool that is shared (this project's profile).
-    pub fn on(lock_use: LockUse, key: Key, terms: Terms) -> Result<Want, Refusal>
-        ensures value { result ≡ want_on lock_use key terms }
-        ensures unshared { IfOk result (λ w. IsTrue (shares_no_pool w)) }
+    /// of 0 or above the size, a pool that is shared, or a group other than 0 of a lock that is not shared
+    /// (this project's profile).
+    pub fn on(block_use: BlockUse, key: Key, terms: Terms) -> Result<Want, Refusal>
+        ensures value { result ≡ want_on block_use key terms }
+        ensures unshared { IfOk result (λ w. IsTrue (shares_rightly w)) }
     {
-        match lock_use {
-            LockUse::Requested => {
+        match block_use {
+            BlockUse::Blocking | BlockUse::Full => {
                 let Terms {
                     shared,
+                    group,
                     bypass,
                     level,
                     ..
@@ -66,15 +78,17 @@ impl Want {
                 Ok(Want {
                     key,
                     shared,
+                    group,
                     bypass,
                     level,
                     pool,
                 })
             }
-            LockUse::Named => {
+            BlockUse::Named => {
                 Ok(Want {
                     key,
                     shared: terms.shared,
+                    group: Group::new(0),
                     bypass: false,
                     level: Level::new(0),
                     pool: None,

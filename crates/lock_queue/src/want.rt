@@ -54,6 +54,52 @@ impl Level {
     }
 }
 
+/// A group of those who share a lock: a number of 18 bits.
+#[derive(Clone, Copy, Debug, PartialEq, Eq)]
+pub struct Group {
+    number: u32,
+}
+
+impl Model for Group {
+    ghost use Rattle.std.specs.Prelude.{ℕ, ◌<◌, ◌^◌};
+
+    ghost Value = { ℕ };
+
+    ghost view = { λ g. g.number };
+
+    ghost inverse = { λ n. record { number = n } };
+
+    ghost invariant = { λ g. g.number < 2 ^ 18 };
+}
+
+impl Group {
+    /// The group of this number.
+    pub fn new(number: u32) -> Self
+        requires { number < 2 ^ 18 }
+        ensures { result ≡ number }
+    {
+        Group { number }
+    }
+
+    /// The number.
+    pub fn number(self) -> u32
+        ensures value { result ≡ self }
+        ensures below { result < 2 ^ 18 }
+    {
+        self.number
+    }
+
+    /// A copy of the group.
+    pub fn copied(&self) -> Self
+        ensures value { result ≡ self.now }
+        ensures below { self.now < 2 ^ 18 }
+    {
+        Group {
+            number: self.number,
+        }
+    }
+}
+
 /// One lock of a request.
 #[derive(Drop)]
 pub struct Want {
@@ -61,6 +107,8 @@ pub struct Want {
     pub key: Key,
     /// Whether others who share may own it at the same time.
     pub shared: bool,
+    /// Among which group of those who share, where it is shared, and else 0.
+    pub group: Group,
     /// Whether the rule of rising levels is not asked of this want.
     pub bypass: bool,
     /// Its level.
@@ -85,6 +133,7 @@ impl Want {
         Want {
             key: self.key.copied(),
             shared: self.shared,
+            group: self.group,
             bypass: self.bypass,
             level: self.level.copied(),
             pool,
@@ -106,6 +155,7 @@ impl Default for Want {
                 name: Name::Code(UserCode::new(0)),
             },
             shared: false,
+            group: Group::new(0),
             bypass: false,
             level: Level::new(0),
             pool: None,

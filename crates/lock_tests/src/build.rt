@@ -1,11 +1,16 @@
 //! Calls on the queue from plain data.
 ghost use Rattle.std.specs.Prelude.{length, nat_le, IsTrue};
 ghost use Rattle.std.specs.List.{list_all};
-ghost use Rattle.lock_queue.specs.WellFormed.{names_locks, shares_no_pool, shares_no_pools};
+ghost use Rattle.lock_queue.specs.WellFormed.{names_locks, shares_rightly, all_share_rightly};
 
 use lock_queue::{
-    Asking, EnqueueKind, Key, Level, LockCall, Name, Pool, RequestId, Scope, UserCode, Want, Wants,
+    Asking, EnqueueKind, Group, Key, Level, LockCall, Name, Pool, RequestId, Scope, UserCode, Want,
+    Wants,
 };
+use word36::MOST_REQUESTS;
+
+/// A quota that no table can hold more requests than.
+pub const ANY_QUOTA: u16 = MOST_REQUESTS as u16 + 1;
 
 /// A lock that is asked for: a user code of all jobs, and its level.
 #[derive(Clone, Copy, Debug)]
@@ -14,6 +19,8 @@ pub enum Lock {
     Alone(u32, u8),
     /// With others who share.
     Shared(u32, u8),
+    /// With others who share in the same group: its code, and the group. Its level is 0.
+    Grouped(u32, u16),
     /// For oneself, and the rule of rising levels is not asked of it.
     Bypassing(u32, u8),
     /// Of a pool: its code, its size, and how much of it. Its level is 0.
@@ -34,6 +41,8 @@ pub enum Call {
     Asks(EnqueueKind, u16, Locks),
     /// ENQ. function 2 with an id, of a job that cannot be interrupted.
     AsksUnarmed(u16, Locks),
+    /// ENQ. of this kind with an id, of a job that has this quota, and cannot be interrupted.
+    AsksWithin(u16, EnqueueKind, u16, Locks),
     /// ENQ. function 3.
     Changes(Locks),
     /// DEQ. function 0.
@@ -54,11 +63,12 @@ pub fn key(code: u32) -> Key {
 
 /// A want for oneself.
 pub fn alone(code: u32, level: u8) -> Want
-    ensures { IsTrue (shares_no_pool result) }
+    ensures { IsTrue (shares_rightly result) }
 {
     Want {
         key: key(code),
         shared: false,
+        group: Group::new(0),
         bypass: false,
         level: Level::new(u16::from(level)),
         pool: None,
@@ -67,20 +77,30 @@ pub fn alone(code: u32, level: u8) -> Want
 
 /// The want of a lock.
 fn want(lock: Lock) -> Want
-    ensures { IsTrue (shares_no_pool result) }
+    ensures { IsTrue (shares_rightly result) }
 {
     match lock {
         Lock::Alone(code, level) => alone(code, level),
         Lock::Shared(code, level) => Want {
             key: key(code),
             shared: true,
+            group: Group::new(0),
             bypass: false,
             level: Level::new(u16::from(level)),
+            pool: None,
+        },
+        Lock::Grouped(code, group) => Want {
+            key: key(code),
+            shared: true,
+            group: Group::new(u32::from(group)),
+            bypass: false,
+            level: Level::new(0),
             pool: None,
         },
         Lock::Bypassing(code, level) => Want {
             key: key(code),
             shared: false,
+            group: Group::new(0),
             bypass: true,
             level: Level::new(u16::from(level)),
             pool: None,
@@ -88,6 +108,7 @@ fn want(lock: Lock) -> Want
         Lock::OfPool(code, size, amount) => Want {
             key: key(code),
             shared: false,
+            group: Group::new(0),
             bypass: false,
             level: Level::new(0),
             pool: Pool::new(size, amount),
@@ -97,9 +118,9 @@ fn want(lock: Lock) -> Want
 
 /// The wants of one lock.
 pub fn one(want: Want) -> Wants
-    requires { IsTrue (shares_no_pool want) }
+    requires { IsTrue (shares_rightly want) }
     ensures some { IsTrue (nat_le 1 (length result.items)) }
-    ensures right { IsTrue (list_all shares_no_pool result.items) }
+    ensures right { IsTrue (list_all shares_rightly result.items) }
 {
     let mut wants = Wants::new();
     wants.push(want);
@@ -109,7 +130,7 @@ pub fn one(want: Want) -> Wants
 /// The wants of a call.
 fn wants(locks: Locks) -> Wants
     ensures some { IsTrue (nat_le 1 (length result.items)) }
-    ensures right { IsTrue (list_all shares_no_pool result.items) }
+    ensures right { IsTrue (list_all shares_rightly result.items) }
 {
     match locks {
         Locks::One(lock) => one(want(lock)),
@@ -125,7 +146,7 @@ fn wants(locks: Locks) -> Wants
 /// The call.
 pub fn lock_call(call: Call) -> LockCall
     ensures named { IsTrue (names_locks result) }
-    ensures unshared { IsTrue (shares_no_pools result) }
+    ensures unshared { IsTrue (all_share_rightly result) }
 {
     match call {
         Call::Asks(kind, id, locks) => LockCall::Enqueue {
@@ -133,6 +154,7 @@ pub fn lock_call(call: Call) -> LockCall
                 kind,
                 id: RequestId::new(u32::from(id)),
                 armed: true,
+                quota: ANY_QUOTA,
             },
             wants: wants(locks),
         },
@@ -141,6 +163,16 @@ pub fn lock_call(call: Call) -> LockCall
                 kind: EnqueueKind::Interrupt,
                 id: RequestId::new(u32::from(id)),
                 armed: false,
+                quota: ANY_QUOTA,
+            },
+            wants: wants(locks),
+        },
+        Call::AsksWithin(quota, kind, id, locks) => LockCall::Enqueue {
+            asking: Asking {
+                kind,
+                id: RequestId::new(u32::from(id)),
+                armed: false,
+                quota,
             },
             wants: wants(locks),
         },

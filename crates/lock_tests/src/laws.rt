@@ -2,16 +2,18 @@
 
 ghost use Rattle.std.specs.Prelude.{length, nat_le, IsTrue};
 ghost use Rattle.std.specs.List.{list_all};
-ghost use Rattle.lock_queue.specs.WellFormed.{names_locks, shares_no_pool, shares_no_pools};
+ghost use Rattle.lock_queue.specs.WellFormed.{names_locks, shares_rightly, all_share_rightly};
 
+use crate::build::ANY_QUOTA;
 use lock_laws::{
     askers_are_told_alike, calls_are_safe, calls_leave_the_rest, circles_are_told,
-    jobs_keep_their_locks, no_requests_are_safe, owners_are_kept, plain_jobs_make_no_circle,
-    run_safely, safety_is_kept, waits_are_by_latest, waits_are_kept, well_formedness_is_kept,
+    jobs_keep_their_locks, no_requests_are_safe, owners_are_kept, owners_are_one_party,
+    plain_jobs_make_no_circle, queue_without_groups_is_simple, run_safely, safety_is_kept,
+    waits_are_by_latest, waits_are_kept, well_formedness_is_kept,
 };
 use lock_queue::{
-    Asking, EnqueueKind, Key, Level, LockCall, LockReply, LockTable, Name, Pool, RequestId, Scope,
-    UserCode, Want, Wants,
+    Asking, EnqueueKind, Group, Key, Level, LockCall, LockReply, LockTable, Name, Pool, RequestId,
+    Scope, UserCode, Want, Wants,
 };
 use plain_table::PlainTable;
 use std::test::Fail;
@@ -19,7 +21,7 @@ use std::test::Fail;
 /// So many of the five tape drives.
 fn drives(amount: u32) -> Wants
     ensures some { IsTrue (nat_le 1 (length result.items)) }
-    ensures unshared { IsTrue (list_all shares_no_pool result.items) }
+    ensures unshared { IsTrue (list_all shares_rightly result.items) }
 {
     let mut wants = Wants::new();
     wants.push(Want {
@@ -28,6 +30,7 @@ fn drives(amount: u32) -> Wants
             name: Name::Code(UserCode::new(1)),
         },
         shared: false,
+        group: Group::new(0),
         bypass: false,
         level: Level::new(0),
         pool: Pool::new(5, amount),
@@ -37,13 +40,14 @@ fn drives(amount: u32) -> Wants
 
 fn ask(amount: u32) -> LockCall
     ensures named { IsTrue (names_locks result) }
-    ensures unshared { IsTrue (shares_no_pools result) }
+    ensures unshared { IsTrue (all_share_rightly result) }
 {
     LockCall::Enqueue {
         asking: Asking {
             kind: EnqueueKind::Blocking,
             id: RequestId::new(1),
             armed: false,
+            quota: ANY_QUOTA,
         },
         wants: drives(amount),
     }
@@ -51,7 +55,7 @@ fn ask(amount: u32) -> LockCall
 
 #[test]
 fn small_request_does_not_pass_a_large_one(rt: HostRuntime) -> Result<(), Fail> {
-    let mut table = PlainTable::new(rt.alloc())?;
+    let mut table: PlainTable<4> = PlainTable::new(rt.alloc())?;
     let calls = [(1, ask(2)), (2, ask(4)), (3, ask(1))];
     let mut replies = [LockReply::Done; 3];
     run_safely(&mut table, &calls, &mut replies);
@@ -85,12 +89,15 @@ fn small_request_does_not_pass_a_large_one(rt: HostRuntime) -> Result<(), Fail> 
 
 #[test]
 fn laws_hold(rt: HostRuntime) -> Result<(), Fail> {
-    askers_are_told_alike(&PlainTable::new(rt.alloc())?);
+    let table: PlainTable<4> = PlainTable::new(rt.alloc())?;
+    askers_are_told_alike(&table);
     calls_are_safe();
     jobs_keep_their_locks();
     plain_jobs_make_no_circle();
     safety_is_kept();
     owners_are_kept();
+    owners_are_one_party();
+    queue_without_groups_is_simple();
     waits_are_by_latest();
     no_requests_are_safe();
     well_formedness_is_kept();

@@ -3,7 +3,7 @@
 use crate::build::Call::{Asks, GivesUpAll, GivesUpId};
 use crate::build::Lock::{Alone, Bypassing};
 use crate::build::Locks::{One, Two};
-use crate::build::{alone, one};
+use crate::build::{ANY_QUOTA, alone, one};
 use crate::walk::Row::{
     Calls, Clears, Granted as GrantedIds, Pending, Requests, Status, Tells, Withdraws,
 };
@@ -81,6 +81,7 @@ fn names_are_told_apart_by_scope(rt: HostRuntime) {
                 kind: EnqueueKind::AtOnce,
                 id: RequestId::new(1),
                 armed: true,
+                quota: ANY_QUOTA,
             },
             wants: one(tape),
         };

@@ -23,6 +23,8 @@ pub enum Row<'a> {
     ReleaseGrants(u8, &'a [(u8, u32)]),
     /// The requests by which a job waits are taken out.
     Withdraws(u8),
+    /// The requests by which the jobs of a set wait are taken out: job `j` where bit 2^j is set.
+    WithdrawsAll(u64),
     /// A job is told of its pending grant.
     Tells(u8),
     /// All requests are taken out.
@@ -133,6 +135,10 @@ impl Row<'_> {
                 table.withdraw(*job);
                 true
             }
+            Row::WithdrawsAll(jobs) => {
+                table.withdraw_all(*jobs);
+                true
+            }
             Row::Tells(job) => {
                 table.told(*job);
                 true
@@ -152,14 +158,17 @@ impl Row<'_> {
 }
 
 /// Walks the rows on a table.
-pub fn walk_on(rt: &impl Abort, table: &mut PlainTable, rows: &[Row]) {
+pub fn walk_on<L: LockTable>(rt: &impl Abort, table: &mut L, rows: &[Row]) {
     for (i, row) in rows.iter().enumerate() {
         assert!(rt; row.holds(table), "row {i}: {row:?}");
     }
 }
 
+/// The size of the tables that most rows are walked on.
+pub const ROOM: usize = 256;
+
 /// A table without requests.
-pub fn empty_table(rt: &impl Abort, alloc: Global) -> PlainTable {
+pub fn empty_table(rt: &impl Abort, alloc: Global) -> PlainTable<ROOM> {
     PlainTable::new(alloc).expect(rt, "memory for the table")
 }
 

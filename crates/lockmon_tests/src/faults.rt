@@ -2,7 +2,7 @@
 
 use fault_text::{Refused, explain};
 
-const QUEUE: [(&str, &str); 22] = [
+const QUEUE: [(&str, &str); 24] = [
     ("show", "no command \"show\" (commands are upper case)"),
     (
         "FLY",
@@ -29,10 +29,10 @@ const QUEUE: [(&str, &str); 22] = [
         "SHOW ALL",
         "column 6: expected the end of the line, not \"ALL\"",
     ),
-    ("ENQ", "column 4: expected a job, 1 to 31"),
+    ("ENQ", "column 4: expected a job, 1 to 63"),
     (
-        "ENQ 32 0 1 X",
-        "column 5: expected a job, 1 to 31, not \"32\"",
+        "ENQ 64 0 1 X",
+        "column 5: expected a job, 1 to 63, not \"64\"",
     ),
     (
         "ENQ 1 -1 1 X",
@@ -44,17 +44,22 @@ const QUEUE: [(&str, &str); 22] = [
     ),
     (
         "ENQ 1 0 1 X/Q",
-        "column 13: \"Q\" is no option of a lock (/S, /B, /Ln with n to 511, /Ps:a and /J are)",
+        "column 13: \"Q\" is no option of a lock (/S, /Gn, /B, /Ln with n to 511, /Ps:a and /J are)",
     ),
     (
         "ENQ 1 0 1 X/L512",
-        "column 13: \"L512\" is no option of a lock (/S, /B, /Ln with n to 511, /Ps:a and /J are)",
+        "column 13: \"L512\" is no option of a lock (/S, /Gn, /B, /Ln with n to 511, /Ps:a and /J are)",
     ),
     (
         "ENQ 1 0 1 X/P5",
-        "column 13: \"P5\" is no option of a lock (/S, /B, /Ln with n to 511, /Ps:a and /J are)",
+        "column 13: \"P5\" is no option of a lock (/S, /Gn, /B, /Ln with n to 511, /Ps:a and /J are)",
+    ),
+    (
+        "ENQ 1 0 1 X/S/G262144",
+        "column 15: \"G262144\" is no option of a lock (/S, /Gn, /B, /Ln with n to 511, /Ps:a and /J are)",
     ),
     ("ENQ 1 0 1 X/S/L1/S", "column 18: \"S\" stands here twice"),
+    ("ENQ 1 0 1 X/S/G1/G2", "column 18: \"G2\" stands here twice"),
     (
         "ENQ 1 0 1 A,B",
         "column 11: expected a lock's name (letters, digits, \".\", \"-\" and \"_\", or \"#\" and 1 to 11 octal digits), not \"A,B\"",
@@ -70,7 +75,7 @@ const QUEUE: [(&str, &str); 22] = [
     ("DEQ 1 2", "column 8: expected an id, 0 to 262143"),
     (
         "DEQ 1 0 X/",
-        "column 11: \"\" is no option of a lock (/S, /B, /Ln with n to 511, /Ps:a and /J are)",
+        "column 11: \"\" is no option of a lock (/S, /Gn, /B, /Ln with n to 511, /Ps:a and /J are)",
     ),
     ("SHÖW", "column 3: a byte that is not ASCII"),
 ];

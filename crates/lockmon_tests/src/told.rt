@@ -12,8 +12,8 @@ const ROWS: [(&str, &str, &str); 7] = [
     ),
     (
         "queue",
-        "SHOW\nENQ 32 0 1 X",
-        "lockmon: line 2: column 5: expected a job, 1 to 31, not \"32\"\n",
+        "SHOW\nENQ 64 0 1 X",
+        "lockmon: line 2: column 5: expected a job, 1 to 63, not \"64\"\n",
     ),
     (
         "asm",

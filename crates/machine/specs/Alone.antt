@@ -10,6 +10,7 @@ use Rattle.ka_cpu.specs.declared.outcome.Outcome.TheVariants as outcome
 use Rattle.ka_cpu.specs.declared.registers.Regs.{Regs}
 use Rattle.core_store.specs.Cores.{core_of}
 use Rattle.tty_lines.specs.Rings.{output_of}
+use Rattle.job_sched.specs.Limits.{limit_of}
 use Rattle.job_sched.specs.Tables.{job_at}
 use Rattle.job_sched.specs.declared.job.Job.{Job}
 use Rattle.job_sched.specs.declared.job.Wait.{Wait}
@@ -102,7 +103,7 @@ is_for_terminal Line = true
 is_for_terminal (Room places) = true
 is_for_terminal Nothing = false
 is_for_terminal (Sleep ticks) = false
-is_for_terminal Queue = false
+is_for_terminal (Queue limit ac) = false
 
 -- whether an event was a step of the job, and no empty one
 abbrev pub advances : ℕ → Made → Bool
@@ -153,11 +154,11 @@ pub record IsAsAlone (w : World) (n line : ℕ) (first taken : List ℕ) (x : So
 abbrev pub solo_of : World → ℕ → Job → Solo
 solo_of w n j = record { regs = j.regs; core = core_of w.cores n; output = [] }
 
--- A job that is there when a run begins, with its interrupts off, and that nobody starts or kills: where it calls the
--- monitor for output only in its first k steps alone, k being its steps in the run without the empty ones, it is as it is
--- alone after k steps, whatever the other jobs do.
+-- A job that is there when a run begins, with its interrupts off and no limit on its wait, and that nobody starts or
+-- kills: where it calls the monitor for output only in its first k steps alone, k being its steps in the run without the
+-- empty ones, it is as it is alone after k steps, whatever the other jobs do.
 abbrev pub RunsAlone : S → List Event → Type 0
 RunsAlone s es =
-    (n : ℕ) (j : Job) → job_at s.world.table.jobs n ≡ Some j → j.interrupts.on ≡ false → Spares n es
+    (n : ℕ) (j : Job) → job_at s.world.table.jobs n ≡ Some j → j.interrupts.on ≡ false → limit_of j.wait ≡ 0 → Spares n es
     → OnlyPrints (solo_of s.world n j) (steps_of n s es)
     → IsAsAlone (after es s).world n j.line (output_of s.world.lines j.line) (taken_from j.line s es) (solo (solo_of s.world n j) (steps_of n s es))

@@ -10,4 +10,5 @@ pub mod Along
 pub mod Safe
 pub mod Owners
 pub mod Alone
+pub mod Limits
 pub mod Stretches

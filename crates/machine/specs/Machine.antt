@@ -3,10 +3,11 @@ use Rattle.std.specs.List.{list_any}
 use Rattle.std.specs.Prelude.{ℕ, ◌+◌, ◌%◌, ◌==◌, nat_le, min, ◌++◌, take, drop, length, if◌then◌else◌, List, [], ◌∷◌, replicate, Option, Some, None, Result, Ok, Err}
 use Rattle.word36.specs.declared.sizes.TheConstants.{LINES, INPUT_RING, TAKEN_AT_ONCE, DATA_WORDS}
 use Rattle.core_store.specs.Cores.{all_free, taken as taken_core, with_core}
-use Rattle.lock_queue.specs.Jobs.{withdrawn}
+use Rattle.lock_queue.specs.Jobs.{withdrawn, withdrawn_where}
 use Rattle.tty_lines.specs.Rings.{all_clear, input_of, output_of, with_input, with_output}
 use Rattle.job_sched.specs.Changes.{with_job, with_change, ticked_table, broken_table, standing, is_at, free_number, chosen}
 use Rattle.job_sched.specs.Jobs.{new_job, started_job, going_on}
+use Rattle.job_sched.specs.Limits.{expires, limited_table}
 use Rattle.job_sched.specs.Ready.{next_job}
 use Rattle.job_sched.specs.Tables.{job_at, no_jobs}
 use Rattle.job_sched.specs.declared.job.Job.{Job}
@@ -22,7 +23,7 @@ use Rattle.machine.specs.declared.event.Event.{Event}
 use Rattle.machine.specs.declared.event.Event.TheVariants.{Step, Tick, Typed, Take, Login, Start, Continue, Kill, Restart}
 use Rattle.machine.specs.declared.event.RefusedEvent.{RefusedEvent}
 use Rattle.machine.specs.declared.event.RefusedEvent.TheVariants.{NoLine, LineBusy, NoJobNumber, NoCore, NoSuchJob, NotStopped, Full, BadImage}
-use Rattle.machine.specs.declared.sizes.TheConstants.{INTERRUPT_CHARACTER}
+use Rattle.machine.specs.declared.sizes.TheConstants.{INTERRUPT_CHARACTER, LOGIN_QUOTA}
 use Rattle.machine.specs.Images.{image_top, blocks_for, image_places}
 use Rattle.machine.specs.Turns.{Turn, turn_of}
 
@@ -78,10 +79,18 @@ stepped s (Some n) =
     record { state = record s { world = ran (record s.world { table = chosen s.world.table n s.quantum }) s.time n (job_at s.world.table.jobs n) }; answer = Ran n }
 stepped s None = unchanged s Idle
 
--- a tick: every sleep and the quantum are one tick shorter, and the time of day goes on
+-- a tick of the limits: each is one tick shorter, and the requests by which the jobs wait whose limits end leave together,
+-- all judged by the list before any of them left; what they kept others from is granted then
+abbrev pub limited : World → World
+limited w = record w {
+  table = limited_table w.table w.requests;
+  requests = withdrawn_where w.requests (expires w.requests w.table.jobs);
+}
+
+-- a tick: every sleep and the quantum are one tick shorter, the time of day goes on, and then the limits are looked at
 abbrev pub ticked : S → Made
 ticked s = record {
-  state = record s { world = record s.world { table = ticked_table s.world.table }; time = (s.time + 1) % TICKS_A_DAY };
+  state = record s { world = limited (record s.world { table = ticked_table s.world.table }); time = (s.time + 1) % TICKS_A_DAY };
   answer = Done;
 }
 
@@ -114,7 +123,7 @@ continued s n =
 
 -- all is gone but the shared words
 abbrev pub restarted : S → Made
-restarted s = made s (record { table = no_jobs; lines = all_clear; requests = []; cores = all_free s.blocks; shared = s.world.shared })
+restarted s = made s (record s.world { table = no_jobs; lines = all_clear; requests = []; cores = all_free s.blocks })
 
 -- CTRL-C at a line
 abbrev pub broken : World → ℕ → World
@@ -137,12 +146,16 @@ taken s line n =
       answer = Text (take (min n TAKEN_AT_ONCE) (output_of s.world.lines line));
     }
 
+-- how many requests a job may have when it begins: all that the lock table holds, if these are fewer
+abbrev pub first_quota : ℕ → ℕ
+first_quota size = min LOGIN_QUOTA size
+
 -- the world with a job that began with an image
 abbrev pub with_image : World → ℕ → ℕ → List (ℕ × ℕ) → ℕ → ℕ → World
 with_image w n line words start blocks =
     let p = image_places words start blocks in
     record w {
-      table = with_job w.table n (Some (new_job line p.regs start));
+      table = with_job w.table n (Some (new_job line p.regs start (first_quota w.size)));
       cores = with_core (taken_core w.cores n blocks) n p.core;
     }
 
@@ -188,10 +201,10 @@ abbrev pub answers : List Event → S → List Answer
 answers [] s = []
 answers (e ∷ es) s = (happens s e).answer ∷ answers es (happens s e).state
 
--- a machine that was just made
-abbrev pub at_boot : ℕ → ℕ → S
-at_boot blocks quantum = record {
-  world = record { table = no_jobs; lines = all_clear; requests = []; cores = all_free blocks; shared = replicate DATA_WORDS 0 };
+-- a machine that was just made, whose lock table holds so many requests
+abbrev pub at_boot : ℕ → ℕ → ℕ → S
+at_boot size blocks quantum = record {
+  world = record { size = size; table = no_jobs; lines = all_clear; requests = []; cores = all_free blocks; shared = replicate DATA_WORDS 0 };
   time = 0;
   quantum = quantum;
   blocks = blocks;

@@ -66,7 +66,8 @@ GivesUp s Step job =
     ((happens s Step).answer ≡ Ran job)
     × (turn_releases s.world job (job_at s.world.table.jobs job) ≡ true)
 
--- where a job owned a key before an event and not after it, the event gives it up
+-- where a job owned a key before an event and not after it, the event gives it up: the requests that leave at a tick or a
+-- start are granted to nobody, so no owner loses by these
 abbrev pub KeepsOwners : S → Event → Type 0
 KeepsOwners s e =
     (job : ℕ) (key : Key) → owns s.world.requests job key ≡ true

@@ -7,10 +7,11 @@ use Rattle.lock_queue.specs.Jobs.{is_waiting_job}
 use Rattle.lock_queue.specs.StatusWords.{has_job}
 use Rattle.lock_laws.specs.Circles.{WaitsByLatest}
 use Rattle.lock_laws.specs.Safe.{Safe as SafeRequests}
+use Rattle.job_sched.specs.Limits.{is_queue}
 use Rattle.job_sched.specs.Tables.{job_at}
 use Rattle.job_sched.specs.declared.job.Job.{Job}
 use Rattle.job_sched.specs.declared.job.Wait.{Wait}
-use Rattle.job_sched.specs.declared.job.Wait.TheVariants.{None as Nothing, Queue}
+use Rattle.job_sched.specs.declared.job.Wait.TheVariants.{None as Nothing}
 use Rattle.machine.specs.Machine.{S}
 
 -- what a job waits for
@@ -28,14 +29,14 @@ pub record Housed (jobs : List (Option Job)) (cores : Cores) : Type 0 where
   pub core : (n : ℕ) → is_some (job_at jobs n) ≡ true → core_of cores n ≢ []
   pub bare : (n : ℕ) → job_at jobs n ≡ None → core_of cores n ≡ []
 
--- the jobs and the requests
-pub record Queued (jobs : List (Option Job)) (requests : List Request) : Type 0 where
+-- the jobs and the requests of a lock table that holds so many
+pub record Queued (size : ℕ) (jobs : List (Option Job)) (requests : List Request) : Type 0 where
   -- an exclusive owner is alone, a pool is never overdrawn, nobody overtakes, and more
-  pub safe : SafeRequests requests
+  pub safe : SafeRequests size requests
   -- the job of each request is there
   pub live : (n : ℕ) → has_job requests n ≡ true → is_some (job_at jobs n) ≡ true
   -- a job that has a blocking request that is not granted waits for it, by its latest request
-  pub waiting : (n : ℕ) → is_waiting_job requests n ≡ true → wait_of (job_at jobs n) ≡ Queue
+  pub waiting : (n : ℕ) → is_waiting_job requests n ≡ true → is_queue (wait_of (job_at jobs n)) ≡ true
   pub latest : WaitsByLatest requests
 
 -- the line of a job
@@ -62,7 +63,7 @@ all_words cores = sum_by (λ words. length words) cores.cores + cores.free * BLO
 
 pub record Safe (s : S) : Type 0 where
   pub housed : Housed s.world.table.jobs s.world.cores
-  pub queued : Queued s.world.table.jobs s.world.requests
+  pub queued : Queued s.world.size s.world.table.jobs s.world.requests
   pub apart : LinesApart s.world.table.jobs
   -- the free blocks are those of the machine less those of all jobs
   pub total : all_words s.world.cores ≡ s.blocks * BLOCK_WORDS

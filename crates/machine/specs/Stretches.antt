@@ -29,7 +29,7 @@ stretched n k j cores requests None = stretch_by n j cores requests (ran k j.reg
 abbrev pub stretch_of : ℕ → ℕ → Job → Cores → List Request → Stretch
 stretch_of n k j cores requests = stretched n k j cores requests (due j.interrupts (pending requests n))
 
--- the table after so many rounds of the current job, where ticks go by, in which nobody sleeps
+-- the table after so many rounds of the current job, where ticks go by, in which nobody sleeps and no limit runs
 abbrev pub table_after : Table → ℕ → Bool → ℕ → Table
 table_after t quantum true k = spent t quantum k
 table_after t quantum false k = t
@@ -45,7 +45,7 @@ pub record Stretched : Type 0 where
   pub time : ℕ
   pub rounds : ℕ
 
--- the world after so many rounds of the current job, in which nobody sleeps
+-- the world after so many rounds of the current job, in which nobody sleeps and no limit runs
 abbrev pub passed : World → ℕ → Bool → ℕ → World
 passed w quantum ticking k = record w { table = table_after w.table quantum ticking k }
 

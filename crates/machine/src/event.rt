@@ -12,9 +12,10 @@ pub enum Event<'a> {
     /// The job that is next takes its turn: it is interrupted, or it executes one instruction and
     /// the monitor call that this makes.
     Step,
-    /// A sixtieth of a second goes by.
+    /// A sixtieth of a second goes by. Jobs whose waits for a request had a limit that ends now are told
+    /// so, and their requests leave together.
     Tick,
-    /// A character is typed at a line, 0 to 15. CTRL-C, character 3, is never stored: it stops the
+    /// A character is typed at a line, 0 to 63. CTRL-C, character 3, is never stored: it stops the
     /// line's job.
     Typed(u8, Char7),
     /// So many characters at most, and no more than 64, leave the front of a line's output.

@@ -8,5 +8,5 @@ mod view;
 
 pub use config::Config;
 pub use event::{Answer, Event, RefusedEvent};
-pub use sizes::{HIGHEST_PLACE, INTERRUPT_CHARACTER, MOST_QUANTUM, VECTOR_WORDS};
+pub use sizes::{HIGHEST_PLACE, INTERRUPT_CHARACTER, LOGIN_QUOTA, MOST_QUANTUM, VECTOR_WORDS};
 pub use view::JobView;

@@ -1,11 +1,11 @@
 //! The parts of the machine, seen as one state, and what each event does to them.
 ghost use Rattle.std.specs.Prelude.{◌≡◌, ◌<◌, ◌≤◌, ◌^◌, ◌+◌, if◌then◌else◌, is_some, [], Some, IfOk, slice_get};
-ghost use Rattle.word36.specs.declared.sizes.TheConstants.{MOST_BLOCKS};
+ghost use Rattle.word36.specs.declared.sizes.TheConstants.{MOST_BLOCKS, MOST_REQUESTS};
 ghost use Rattle.core_store.specs.Cores.{IsJob, core_of};
 ghost use Rattle.job_sched.specs.Ready.{next_job};
 ghost use Rattle.job_sched.specs.Tables.{job_at};
 ghost use Rattle.machine.specs.Images.{blocks_for};
-ghost use Rattle.machine.specs.Machine.{S, after, answers, refusal_of, stepped, ticked, killed, happens, at_boot, started, continued, restarted, typed, taken, admitted, logged_in};
+ghost use Rattle.machine.specs.Machine.{S, after, answers, refusal_of, stepped, ticked, killed, happens, at_boot, started, continued, restarted, typed, taken, admitted, first_quota, logged_in};
 ghost use Rattle.machine.specs.Rounds.{rounds, runs_in};
 ghost use Rattle.machine.specs.Safe.{Safe};
 ghost use Rattle.machine.specs.Stretches.{ticked_if};
@@ -17,7 +17,7 @@ use crate::step::run_job;
 use core_store::CoreStore;
 use job_sched::{Job, JobError, JobTable, TimeOfDay, Wait};
 use lock_queue::LockTable;
-use machine::{Answer, Config, Event, INTERRUPT_CHARACTER, JobView, RefusedEvent};
+use machine::{Answer, Config, Event, INTERRUPT_CHARACTER, JobView, LOGIN_QUOTA, RefusedEvent};
 use std::alloc::{AllocError, Global};
 use std::marker::Model;
 use tty_lines::{Char7, LineNumber, Lines};
@@ -52,7 +52,7 @@ impl<L: LockTable, C: CoreStore> Model for Parts<L, C> {
 
     ghost Value = { S };
 
-    ghost view = { λ p. record { world = record { table = p.table; lines = p.lines; requests = L.requests p.locks; cores = C.meaning p.cores; shared = p.shared }; time = p.time; quantum = p.quantum; blocks = p.blocks } };
+    ghost view = { λ p. record { world = record { size = L.REQS; table = p.table; lines = p.lines; requests = L.requests p.locks; cores = C.meaning p.cores; shared = p.shared }; time = p.time; quantum = p.quantum; blocks = p.blocks } };
 }
 
 /// Rounds that were made.
@@ -77,6 +77,13 @@ impl Rounds {
     }
 }
 
+/// How many requests a job may have when it begins, where the lock table holds so many.
+fn first_quota(size: usize) -> u16
+    ensures { result ≡ first_quota size }
+{
+    (LOGIN_QUOTA as usize).min(size) as u16
+}
+
 /// Why a job can not start or go on, as the event says it.
 fn refusal_of(error: JobError) -> RefusedEvent
     ensures { result ≡ refusal_of error }
@@ -90,7 +97,8 @@ fn refusal_of(error: JobError) -> RefusedEvent
 impl<L: LockTable, C: CoreStore> Parts<L, C> {
     /// The parts at boot.
     pub fn boot(alloc: Global, config: Config) -> Result<Self, AllocError>
-        ensures state { IfOk result (λ p. p ≡ at_boot config.blocks config.quantum) }
+        requires { (1 ≤ L.REQS) × (L.REQS ≤ MOST_REQUESTS) }
+        ensures state { IfOk result (λ p. p ≡ at_boot L.REQS config.blocks config.quantum) }
         ensures few { config.blocks ≤ MOST_BLOCKS }
     {
         let cores = C::new(alloc, config.blocks())?;
@@ -182,13 +190,17 @@ impl<L: LockTable, C: CoreStore> Parts<L, C> {
         }
     }
 
-    /// A tick.
+    /// A tick. Where nobody sleeps and no limit runs it looks at no job.
     #[inline(always)]
     pub fn tick(&mut self)
         ensures { self.new ≡ (ticked self.old).state }
     {
         self.table.tick();
         self.time.advance();
+        let ended = self.table.expire(&self.locks);
+        if ended != 0 {
+            self.locks.withdraw_all(ended);
+        }
     }
 
     /// A job is gone.
@@ -294,7 +306,8 @@ impl<L: LockTable, C: CoreStore> Parts<L, C> {
         let start = Address::new(image.start);
         match settle(n, &mut self.cores, image.words.as_slice(), start, blocks) {
             Ok(regs) => {
-                self.table.place(n, Job::new(line, regs, start));
+                self.table
+                    .place(n, Job::new(line, regs, start, first_quota(L::REQS)));
                 Answer::JobNumber(n)
             }
             Err(_) => Answer::Refused(RefusedEvent::NoCore),
@@ -359,7 +372,7 @@ impl<L: LockTable, C: CoreStore> Parts<L, C> {
             Wait::Char => !self.lines.has_char(job.line),
             Wait::Line => !self.lines.has_line(job.line),
             Wait::Room(places) => self.lines.room(job.line) < places as usize,
-            Wait::Queue => self.locks.waiting(n),
+            Wait::Queue(..) => self.locks.waiting(n),
         };
         if holds { job.wait } else { Wait::None }
     }

@@ -1,8 +1,10 @@
 //! The machine, which is safe at all times.
 ghost use Rattle.std.specs.Prelude.{◌≡◌, ◌≤◌, length, IfOk, slice_get};
+ghost use Rattle.word36.specs.declared.sizes.TheConstants.{MOST_REQUESTS};
 ghost use Rattle.lock_laws.specs.Circles.{NoPlainCircle};
 ghost use Rattle.machine.specs.Alone.{RunsAlone};
 ghost use Rattle.machine.specs.Along.{Along, Always};
+ghost use Rattle.machine.specs.Limits.{LimitsAreKept};
 ghost use Rattle.machine.specs.Machine.{happens, after, answers, at_boot};
 ghost use Rattle.machine.specs.Owners.{KeepsOwners};
 ghost use Rattle.machine.specs.Rounds.{rounds, runs_in};
@@ -18,7 +20,7 @@ use std::alloc::{AllocError, Global};
 use std::marker::Model;
 use word36::Word;
 
-/// A DECsystem-10 with up to 31 jobs and 16 terminal lines (this project's profile).
+/// A DECsystem-10 with up to 63 jobs and 64 terminal lines (this project's profile).
 ///
 /// Only `boot` takes memory. Every other call returns what is defined for it, whatever the jobs'
 /// programs are and in whatever order events come.
@@ -39,9 +41,11 @@ impl<L: LockTable, C: CoreStore> Model for System<L, C> {
 }
 
 impl<L: LockTable, C: CoreStore> System<L, C> {
-    /// A machine without jobs, with the blocks and the quantum of a `Config`.
+    /// A machine without jobs, with the blocks and the quantum of a `Config`, and with a lock table that
+    /// holds 1 to 1,024 requests.
     pub fn boot(alloc: Global, config: Config) -> Result<Self, AllocError>
-        ensures { IfOk result (λ s. s ≡ at_boot config.blocks config.quantum) }
+        requires { (1 ≤ L.REQS) × (L.REQS ≤ MOST_REQUESTS) }
+        ensures { IfOk result (λ s. s ≡ at_boot L.REQS config.blocks config.quantum) }
     {
         let parts = Parts::boot(alloc, config)?;
         Ok(System { parts })
@@ -87,9 +91,11 @@ impl<L: LockTable, C: CoreStore> System<L, C> {
         ensures state { self.new ≡ after events.now self.old }
         ensures answers { replies.new ≡ answers events.now self.old }
         ensures safe { Always Safe self.old events.now }
+        ensures waits { Always (λ s. WaitsForGrants s.world) self.old events.now }
         ensures owners { Along KeepsOwners self.old events.now }
         ensures circles { Always (λ s. NoPlainCircle s.world.requests) self.old events.now }
         ensures alone { RunsAlone self.old events.now }
+        ensures limits { LimitsAreKept self.old events.now }
     {
         let _ = &self.parts;
         for i in 0..events.len() {

@@ -18,16 +18,17 @@ use Rattle.uuo_calls.specs.declared.service.Awaited.{Awaited}
 use Rattle.uuo_calls.specs.declared.service.Service.{Service}
 use Rattle.uuo_calls.specs.declared.service.Service.TheVariants.{Reset, Core, Exit, Monrt, Logout, Mstime, Pjob, Sleep, Piini, Pisys, Debrk, Enq, Deq, Enqc, Datrd, Datwr, Input, Outchr, Outstr, Clrbfi, Clrbfo, Skpin, Unlisted}
 use Rattle.uuo_calls.specs.Around.{Around, ac_of, put_back}
-use Rattle.uuo_calls.specs.CoreRow.{grown, blocks_asked, core_done}
+use Rattle.uuo_calls.specs.CoreRow.{JobCores, grown, blocks_asked, core_done}
 use Rattle.uuo_calls.specs.DataRows.{JobData}
 use Rattle.uuo_calls.specs.InterruptRows.{dismissed, dismissed_at, vector_in_progress}
-use Rattle.uuo_calls.specs.LockRows.{asked, answered, enq_asks, deq_asks}
+use Rattle.uuo_calls.specs.LockRows.{asked, answered, enq_asks, enq_limit, deq_asks}
 use Rattle.uuo_calls.specs.Performed.{row_of}
 use Rattle.uuo_calls.specs.StatusRow.{told, answers_at, with_room, enqc_asks}
 use Rattle.ka_cpu.specs.Places.{word_below}
 use Rattle.uuo_calls.specs.TerminalRows.{JobLines, JobInput, put_text, low_character, text_from, input_called, has_input, stored_input, no_input, skipping_if}
 use Rattle.machine.specs.Alone.{is_for_terminal}
 use Rattle.ka_cpu.proofs.ExecLaws.{by_test}
+use Rattle.monitor_laws.proofs.Enquiring.{by_enqc}
 
 -- a job does not wait for its terminal
 abbrev pub Calm : Job → Type 0
@@ -37,11 +38,11 @@ calm-done : (ac : ℕ) (o : Option Cores) (j : Job) (cores : Cores) → Calm j �
 calm-done ac None j cores h = h
 calm-done ac (Some new) j cores h = h
 
-calm-answered : (j : Job) (ac : ℕ) (r : LockReply) → Calm j → Calm (answered j ac r)
-calm-answered j ac Granted h = h
-calm-answered j ac Queued h = refl
-calm-answered j ac DoneReply h = h
-calm-answered j ac (Refused refusal) h = h
+calm-answered : (j : Job) (ac limit : ℕ) (r : LockReply) → Calm j → Calm (answered j ac limit r)
+calm-answered j ac limit Granted h = h
+calm-answered j ac limit Queued h = refl
+calm-answered j ac limit DoneReply h = h
+calm-answered j ac limit (Refused refusal) h = h
 
 calm-told : (requests : List Request) (n ac to : ℕ) (j : Job) (core : List ℕ) (r : Result (List Want) Refusal) → Calm j → Calm (told requests n ac to j core r).job
 calm-told requests n ac to j core (Err refusal) h = h
@@ -126,11 +127,13 @@ empty-row Pisys time n ac e a low d h =
 empty-row Debrk time n ac e a low d h =
     absurd (both_ways _ (calm-dismissed_at (core_of a.cores n) a.job (vector_in_progress a.job.interrupts) d) h)
 empty-row Enq time n ac e a low d h =
-    absurd (both_ways _ (calm-answered a.job ac (asked a.requests n (enq_asks a.job.regs.ac (core_of a.cores n) n (ac_of a.job ac) (is_some a.job.interrupts.vector))).reply d) h)
+    absurd (both_ways _ (calm-answered a.job ac (enq_limit a.job.regs.ac (core_of a.cores n) n (ac_of a.job ac))
+    (asked a.size a.requests n (enq_asks a.job.regs.ac (core_of a.cores n) n (ac_of a.job ac) (is_some a.job.interrupts.vector) a.job.quota)).reply d) h)
 empty-row Deq time n ac e a low d h =
-    absurd (both_ways _ (calm-answered a.job ac (asked a.requests n (deq_asks a.job.regs.ac (core_of a.cores n) n (ac_of a.job ac))).reply d) h)
+    absurd (both_ways _ (calm-answered a.job ac 0 (asked a.size a.requests n (deq_asks a.job.regs.ac (core_of a.cores n) n (ac_of a.job ac))).reply d) h)
 empty-row Enqc time n ac e a low d h =
-    absurd (both_ways _ (calm-told a.requests n ac (answers_at a.job ac) a.job (core_of a.cores n) (with_room (core_of a.cores n) (answers_at a.job ac) (enqc_asks a.job.regs.ac (core_of a.cores n) n (ac_of a.job ac))) d) h)
+    absurd (both_ways _ (by_enqc (λ (o : JobCores). Calm o.job) a.jobs a.requests n ac a.job a.cores (λ w. d) (λ code. d) (λ quota. d)
+    (calm-told a.requests n ac (answers_at a.job ac) a.job (core_of a.cores n) (with_room (core_of a.cores n) (answers_at a.job ac) (enqc_asks a.job.regs.ac (core_of a.cores n) n (ac_of a.job ac))) d)) h)
 empty-row Datrd time n ac e a low d h =
     absurd (both_ways _ (by_test Calm (nat_lt (right_half (ac_of a.job ac)) DATA_WORDS) _ _ (λ _. d) (λ _. d)) h)
 empty-row Datwr time n ac e a low d h =

@@ -1,12 +1,16 @@
 -- What keeps the jobs and their core in order.
-use Rattle.std.proofs.Common.{◌≡◌, ◌≢◌, ◌≤◌, ◌<◌, ◌∙◌, sym, ap, subst, ℕ, zero, suc, ◌+◌, ◌-◌, ◌*◌, ◌==◌, true, false, List, [], ◌∷◌, length, map, Option, Some, None, is_some, is_none, ◌&&◌, replicate, inl, inr, refl, arith, slice_set}
+use Rattle.std.proofs.Common.{◌≡◌, ◌≢◌, ◌≤◌, ◌<◌, ◌∙◌, sym, ap, subst, ℕ, zero, suc, ◌+◌, ◌-◌, ◌*◌, ◌==◌, Bool, true, false, List, [], ◌∷◌, length, map, Option, Some, None, is_some, is_none, ◌&&◌, replicate, inl, inr, refl, arith, slice_set}
 use Rattle.std.proofs.lemmas.Grind.{common_steps}
 use Rattle.std.proofs.lemmas.List.{get_or-set_other, get_or-set_same, length-set, length-map}
 use Rattle.std.specs.Option.{option_map}
 use Rattle.word36.specs.declared.sizes.TheConstants.{BLOCK_WORDS}
 use Rattle.core_store.specs.Cores.{Cores, IsJob, core_of, blocks_of, with_core, taken, resized, resized_words, given}
 use Rattle.core_store.proofs.StoreLemmas.{IsStore-with_core, IsStore-taken, IsStore-resized, IsStore-given}
-use Rattle.job_sched.specs.Tables.{job_at}
+use Rattle.lock_queue.specs.declared.request.Request.{Request}
+use Rattle.lock_queue.specs.Jobs.{is_waiting_job}
+use Rattle.job_sched.specs.Limits.{is_queue, limited_job, limited_table}
+use Rattle.job_sched.specs.Tables.{Table, job_at}
+use Rattle.job_sched.proofs.Limits.{job-limited, length-limited, limited-kept, there-limited}
 use Rattle.job_sched.specs.declared.job.Job.{Job}
 use Rattle.uuo_calls.specs.CoreRow.{with_highest}
 use Rattle.machine.specs.Safe.{Housed, wait_of, line_of}
@@ -14,7 +18,8 @@ use Rattle.job_sched.specs.Jobs.{ticked_job, ticked_wait, broken_job, halted}
 use Rattle.job_sched.specs.declared.job.Stop.TheVariants.{Typed}
 use Rattle.ka_cpu.proofs.ExecLaws.{by_test}
 use Rattle.std.proofs.lemmas.Bool.{cases_eq}
-use Rattle.job_sched.specs.declared.job.Wait.TheVariants.{Queue}
+use Rattle.job_sched.specs.declared.job.Wait.{Wait}
+use Rattle.job_sched.specs.declared.job.Wait.TheVariants.{None as Nothing, Sleep, Char, Line, Room, Queue}
 
 pub there-below : (jobs : List (Option Job)) (n : ℕ) → is_some (job_at jobs n) ≡ true → n < length jobs
 there-below [] n h = grind (arith, common_steps)
@@ -141,7 +146,7 @@ housed-taken jobs cores n blocks j words number none some room long h =
 pub record Mild (f : Option Job → Option Job) : Type 0 where
   pub none : f None ≡ None
   pub some : (o : Option Job) → is_some (f o) ≡ is_some o
-  pub wait : (o : Option Job) → wait_of o ≡ Queue → wait_of (f o) ≡ Queue
+  pub wait : (o : Option Job) → is_queue (wait_of o) ≡ true → is_queue (wait_of (f o)) ≡ true
   pub line : (o : Option Job) → line_of (f o) ≡ line_of o
 
 pub at-mapped : (f : Option Job → Option Job) (jobs : List (Option Job)) (k : ℕ) → f None ≡ None → job_at (map f jobs) k ≡ f (job_at jobs k)
@@ -153,13 +158,26 @@ some-none : (o : Option Job) → is_some o ≡ false → o ≡ None
 some-none (Some j) e = cc
 some-none None e = refl
 
-pub housed-mapped : (f : Option Job → Option Job) (jobs : List (Option Job)) (cores : Cores) → Mild f → Housed jobs cores → Housed (map f jobs) cores
-housed-mapped f jobs cores m h = record {
-  places = length-map jobs f ∙ h.places;
-  none_0 = at-mapped f jobs 0 m.none ∙ ap f h.none_0 ∙ m.none;
+-- jobs of which each is there or not, and has its line, as before
+pub record SameJobs (old new : List (Option Job)) : Type 0 where
+  pub places : length new ≡ length old
+  pub some : (k : ℕ) → is_some (job_at new k) ≡ is_some (job_at old k)
+  pub line : (k : ℕ) → line_of (job_at new k) ≡ line_of (job_at old k)
+
+pub same-mapped : (f : Option Job → Option Job) (jobs : List (Option Job)) → Mild f → SameJobs jobs (map f jobs)
+same-mapped f jobs m = record {
+  places = length-map jobs f;
+  some = λ k. ap is_some (at-mapped f jobs k m.none) ∙ m.some (job_at jobs k);
+  line = λ k. ap line_of (at-mapped f jobs k m.none) ∙ m.line (job_at jobs k);
+}
+
+pub housed-same : (old new : List (Option Job)) (cores : Cores) → SameJobs old new → Housed old cores → Housed new cores
+housed-same old new cores m h = record {
+  places = m.places ∙ h.places;
+  none_0 = some-none (job_at new 0) (m.some 0 ∙ ap is_some h.none_0);
   store = h.store;
-  core = λ k e. h.core k (sym (m.some (job_at jobs k)) ∙ ap is_some (sym (at-mapped f jobs k m.none)) ∙ e);
-  bare = λ k e. h.bare k (some-none (job_at jobs k) (sym (m.some (job_at jobs k)) ∙ ap is_some (sym (at-mapped f jobs k m.none) ∙ e)));
+  core = λ k e. h.core k (sym (m.some k) ∙ e);
+  bare = λ k e. h.bare k (some-none (job_at old k) (sym (m.some k) ∙ ap is_some e));
 }
 
 -- ticks, and CTRL-C
@@ -170,9 +188,17 @@ mild-ticked = record { none = refl; some = some-ticked; wait = wait-ticked; line
     some-ticked (Some j) = refl
     some-ticked None = refl
 
-    wait-ticked : (o : Option Job) → wait_of o ≡ Queue → wait_of (option_map ticked_job o) ≡ Queue
-    wait-ticked (Some j) e = ap ticked_wait e
-    wait-ticked None e = cc
+    grant-ticked : (v : Wait) → is_queue (ticked_wait v) ≡ is_queue v
+    grant-ticked (Queue limit ac) = refl
+    grant-ticked Nothing = refl
+    grant-ticked (Sleep ticks) = refl
+    grant-ticked Char = refl
+    grant-ticked Line = refl
+    grant-ticked (Room places) = refl
+
+    wait-ticked : (o : Option Job) → is_queue (wait_of o) ≡ true → is_queue (wait_of (option_map ticked_job o)) ≡ true
+    wait-ticked (Some j) e = grant-ticked j.wait ∙ e
+    wait-ticked None e = e
 
     line-ticked : (o : Option Job) → line_of (option_map ticked_job o) ≡ line_of o
     line-ticked (Some j) = refl
@@ -190,9 +216,9 @@ mild-broken line = record {
     some-broken line (Some j) = by_test (λ (k : Job). is_some (Some k) ≡ true) ((j.line == line) && is_none j.stop) (halted j Typed) j (λ _. refl) (λ _. refl)
     some-broken line None = refl
 
-    wait-broken : (line : ℕ) (o : Option Job) → wait_of o ≡ Queue → wait_of (option_map (broken_job line) o) ≡ Queue
-    wait-broken line (Some j) e = by_test (λ (k : Job). wait_of (Some k) ≡ Queue) ((j.line == line) && is_none j.stop) (halted j Typed) j (λ _. e) (λ _. e)
-    wait-broken line None e = cc
+    wait-broken : (line : ℕ) (o : Option Job) → is_queue (wait_of o) ≡ true → is_queue (wait_of (option_map (broken_job line) o)) ≡ true
+    wait-broken line (Some j) e = by_test (λ (k : Job). is_queue k.wait ≡ true) ((j.line == line) && is_none j.stop) (halted j Typed) j (λ _. e) (λ _. e)
+    wait-broken line None e = e
 
     line-broken : (line : ℕ) (o : Option Job) → line_of (option_map (broken_job line) o) ≡ line_of o
     line-broken line (Some j) = by_test (λ (k : Job). line_of (Some k) ≡ Some j.line) ((j.line == line) && is_none j.stop) (halted j Typed) j (λ _. refl) (λ _. refl)
@@ -200,3 +226,15 @@ mild-broken line = record {
 
 pub at-ticked : (jobs : List (Option Job)) (k : ℕ) → job_at (map (option_map ticked_job) jobs) k ≡ option_map ticked_job (job_at jobs k)
 at-ticked jobs k = at-mapped (option_map ticked_job) jobs k refl
+
+-- limits
+line_of-limited : (b : Bool) (o : Option Job) → line_of (option_map (limited_job b) o) ≡ line_of o
+line_of-limited b (Some j) = ap Some (limited-kept b j).line
+line_of-limited b None = refl
+
+pub same-limited : (t : Table) (requests : List Request) → SameJobs t.jobs (limited_table t requests).jobs
+same-limited t requests = record {
+  places = length-limited (is_waiting_job requests) 0 t.jobs;
+  some = there-limited t requests;
+  line = λ k. ap line_of (job-limited t requests k) ∙ line_of-limited (is_waiting_job requests k) (job_at t.jobs k);
+}

@@ -1,5 +1,5 @@
 -- No event but a login gives a job a line, and all words stay as many.
-use Rattle.std.proofs.Common.{◌≡◌, ◌≢◌, ◌≤◌, ◌<◌, ◌∙◌, sym, ap, subst, ℕ, ◌+◌, ◌-◌, ◌*◌, nat_lt, nat_le, Bool, true, false, List, [], length, map, Option, Some, None, is_some, is_none, Result, Ok, Err, refl, arith, slice_set, replicate, sum_by, inl, inr}
+use Rattle.std.proofs.Common.{◌≡◌, ◌≢◌, ◌≤◌, ◌<◌, ◌∙◌, sym, ap, subst, ℕ, ◌+◌, ◌-◌, ◌*◌, nat_lt, nat_le, Bool, true, false, List, [], length, Option, Some, None, is_some, is_none, Result, Ok, Err, refl, arith, slice_set, replicate, sum_by, inl, inr}
 use Rattle.std.proofs.lemmas.Grind.{common_steps}
 use Rattle.std.proofs.lemmas.Bool.{cases_eq}
 use Rattle.std.proofs.lemmas.List.{get_or-set_same, get_or-set_other, length-set}
@@ -30,22 +30,23 @@ use Rattle.uuo_calls.specs.declared.service.Awaited.{Awaited}
 use Rattle.uuo_calls.specs.declared.service.Service.{Service}
 use Rattle.uuo_calls.specs.declared.service.Service.TheVariants.{Reset, Core, Exit, Monrt, Logout, Mstime, Pjob, Sleep, Piini, Pisys, Debrk, Enq, Deq, Enqc, Datrd, Datwr, Input, Outchr, Outstr, Clrbfi, Clrbfo, Skpin, Unlisted}
 use Rattle.uuo_calls.specs.Around.{Around, ac_of, stopped}
-use Rattle.uuo_calls.specs.CoreRow.{grown, blocks_asked, core_done, with_highest}
+use Rattle.uuo_calls.specs.CoreRow.{JobCores, grown, blocks_asked, core_done, with_highest}
 use Rattle.uuo_calls.specs.DataRows.{JobData}
 use Rattle.uuo_calls.specs.InterruptRows.{dismissed, dismissed_at, vector_in_progress}
-use Rattle.uuo_calls.specs.LockRows.{asked, answered, enq_asks, deq_asks}
+use Rattle.uuo_calls.specs.LockRows.{asked, answered, enq_asks, enq_limit, deq_asks}
 use Rattle.uuo_calls.specs.Performed.{World, row_of, around, with_around, left_by}
-use Rattle.uuo_calls.specs.StatusRow.{told, answers_at, with_room, enqc_asks, enqc}
+use Rattle.uuo_calls.specs.StatusRow.{told, answers_at, with_room, enqc_asks, status_told}
 use Rattle.ka_cpu.specs.Places.{word_below}
 use Rattle.uuo_calls.specs.TerminalRows.{JobLines, JobInput, put_text, text_from, low_character, has_input, stored_input, no_input, input_called, skipping_if}
 use Rattle.machine.specs.Machine.{with_turn, awake}
 use Rattle.machine.specs.Safe.{Placed, Housed, line_of, LinesApart, LinesBelow, all_words}
 use Rattle.machine.specs.Turns.{Turn, turn_of, turned, due, concluded, done, told_at, interrupted_at}
-use Rattle.monitor_laws.proofs.Housing.{Mild, at-mapped, there-below, is_job}
+use Rattle.monitor_laws.proofs.Housing.{SameJobs, there-below, is_job}
 use Rattle.monitor_laws.proofs.Placing.{placed-set, fits-row, fits-turned}
 use Rattle.ka_cpu.proofs.ExecLaws.{by_test, length-exec}
 use Rattle.monitor_laws.proofs.Turning.{length-noted}
-use Rattle.monitor_laws.proofs.Stored.{length-told, length-input}
+use Rattle.monitor_laws.proofs.Enquiring.{by_enqc}
+use Rattle.monitor_laws.proofs.Stored.{length-status, length-input}
 
 -- a job has a line only if it had it
 abbrev pub KeepsLines : List (Option Job) → List (Option Job) → Type 0
@@ -83,8 +84,8 @@ lines-gone jobs n there k line e = elim (cases_eq k n) [
   | inr other ↦ sym (ap line_of (get_or-set_other jobs n k None None other)) ∙ e
 ]
 
-pub lines-mapped : (f : Option Job → Option Job) (jobs : List (Option Job)) → Mild f → KeepsLines jobs (map f jobs)
-lines-mapped f jobs m k line e = sym (m.line (job_at jobs k)) ∙ ap line_of (sym (at-mapped f jobs k m.none)) ∙ e
+pub lines-same : (old new : List (Option Job)) → SameJobs old new → KeepsLines old new
+lines-same old new m k line e = sym (m.line k) ∙ e
 
 -- a job that begins at a line that no job has
 pub apart-new : (jobs : List (Option Job)) (n : ℕ) (j : Job) → n < length jobs → ((k : ℕ) → line_of (job_at jobs k) ≡ Some j.line → ⊥)
@@ -181,7 +182,8 @@ words-row Debrk time n ac e a store number = refl
 words-row Enq time n ac e a store number = refl
 words-row Deq time n ac e a store number = refl
 words-row Enqc time n ac e a store number =
-    words-core a.cores n (enqc a.requests n ac a.job (core_of a.cores n)).core (omega (arith, store.jobs, number.1)) (length-told a.requests n ac (answers_at a.job ac) a.job (core_of a.cores n) (with_room (core_of a.cores n) (answers_at a.job ac) (enqc_asks a.job.regs.ac (core_of a.cores n) n (ac_of a.job ac))))
+    by_enqc (λ (o : JobCores). all_words o.cores ≡ all_words a.cores) a.jobs a.requests n ac a.job a.cores (λ w. refl) (λ code. refl) (λ quota. refl)
+    (words-core a.cores n (status_told a.requests n ac a.job (core_of a.cores n)).core (omega (arith, store.jobs, number.1)) (length-status a.requests n ac a.job (core_of a.cores n)))
 words-row Datrd time n ac e a store number = refl
 words-row Datwr time n ac e a store number = refl
 words-row (Input unit skips) time n ac e a store number =
@@ -198,11 +200,11 @@ line-done : (ac : ℕ) (o : Option Cores) (j : Job) (cores : Cores) → (core_do
 line-done ac None j cores = refl
 line-done ac (Some new) j cores = refl
 
-line-answered : (j : Job) (ac : ℕ) (r : LockReply) → (answered j ac r).line ≡ j.line
-line-answered j ac Granted = refl
-line-answered j ac QueuedReply = refl
-line-answered j ac DoneReply = refl
-line-answered j ac (RefusedReply refusal) = refl
+line-answered : (j : Job) (ac limit : ℕ) (r : LockReply) → (answered j ac limit r).line ≡ j.line
+line-answered j ac limit Granted = refl
+line-answered j ac limit QueuedReply = refl
+line-answered j ac limit DoneReply = refl
+line-answered j ac limit (RefusedReply refusal) = refl
 
 line-told : (requests : List Request) (n ac to : ℕ) (j : Job) (core : List ℕ) (r : Result (List Want) Refusal) → (told requests n ac to j core r).job.line ≡ j.line
 line-told requests n ac to j core (Err refusal) = refl
@@ -247,9 +249,13 @@ line-row Sleep time n ac e a = refl
 line-row Piini time n ac e a = by_test (λ (j : Job). j.line ≡ a.job.line) (are_legal (core_of a.cores n) (right_half (ac_of a.job ac)) 4) _ _ (λ _. refl) (λ _. refl)
 line-row Pisys time n ac e a = by_test (λ (j : Job). j.line ≡ a.job.line) (nat_le 2 (ac_of a.job ac)) _ _ (λ _. refl) (λ _. by_test (λ (j : Job). j.line ≡ a.job.line) (is_none a.job.interrupts.vector) _ _ (λ _. refl) (λ _. refl))
 line-row Debrk time n ac e a = line-dismissed_at (core_of a.cores n) a.job (vector_in_progress a.job.interrupts)
-line-row Enq time n ac e a = line-answered a.job ac (asked a.requests n (enq_asks a.job.regs.ac (core_of a.cores n) n (ac_of a.job ac) (is_some a.job.interrupts.vector))).reply
-line-row Deq time n ac e a = line-answered a.job ac (asked a.requests n (deq_asks a.job.regs.ac (core_of a.cores n) n (ac_of a.job ac))).reply
-line-row Enqc time n ac e a = line-told a.requests n ac (answers_at a.job ac) a.job (core_of a.cores n) (with_room (core_of a.cores n) (answers_at a.job ac) (enqc_asks a.job.regs.ac (core_of a.cores n) n (ac_of a.job ac)))
+line-row Enq time n ac e a =
+    line-answered a.job ac (enq_limit a.job.regs.ac (core_of a.cores n) n (ac_of a.job ac))
+    (asked a.size a.requests n (enq_asks a.job.regs.ac (core_of a.cores n) n (ac_of a.job ac) (is_some a.job.interrupts.vector) a.job.quota)).reply
+line-row Deq time n ac e a = line-answered a.job ac 0 (asked a.size a.requests n (deq_asks a.job.regs.ac (core_of a.cores n) n (ac_of a.job ac))).reply
+line-row Enqc time n ac e a =
+    by_enqc (λ (o : JobCores). o.job.line ≡ a.job.line) a.jobs a.requests n ac a.job a.cores (λ w. refl) (λ code. refl) (λ quota. refl)
+    (line-told a.requests n ac (answers_at a.job ac) a.job (core_of a.cores n) (with_room (core_of a.cores n) (answers_at a.job ac) (enqc_asks a.job.regs.ac (core_of a.cores n) n (ac_of a.job ac))))
 line-row Datrd time n ac e a = by_test (λ (j : Job). j.line ≡ a.job.line) (nat_lt (right_half (ac_of a.job ac)) DATA_WORDS) _ _ (λ _. refl) (λ _. refl)
 line-row Datwr time n ac e a = by_test (λ (o : JobData). o.job.line ≡ a.job.line) (nat_lt (right_half (ac_of a.job ac)) DATA_WORDS) _ _ (λ _. refl) (λ _. refl)
 line-row (Input unit skips) time n ac e a = line-input unit skips e (core_of a.cores n) a.job a.lines

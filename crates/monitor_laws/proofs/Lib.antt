@@ -2,6 +2,7 @@ pub mod Turning
 pub mod Housing
 pub mod Queueing
 pub mod Stored
+pub mod Enquiring
 pub mod Placing
 pub mod Keeping
 pub mod Safety
@@ -16,3 +17,4 @@ pub mod Printing
 pub mod Solitude
 pub mod Rounding
 pub mod Stretching
+pub mod Limiting

@@ -14,10 +14,10 @@ use Rattle.lock_queue.specs.declared.refusal.Refusal.TheVariants.{NoFunction}
 use Rattle.lock_queue.specs.declared.request.EnqueueKind.{EnqueueKind}
 use Rattle.lock_queue.specs.declared.request.EnqueueKind.TheVariants.{Blocking, AtOnce, Interrupt}
 use Rattle.lock_queue.specs.declared.request.Request.{Request}
-use Rattle.lock_queue.specs.Jobs.{pending, withdrawn}
+use Rattle.lock_queue.specs.Jobs.{is_one, pending, withdrawn, withdrawn_where}
 use Rattle.call_block.specs.declared.block.Block.{Block}
 use Rattle.ka_cpu.specs.Places.{are_legal}
-use Rattle.lock_queue.specs.declared.terms.LockUse.TheVariants.{Requested, Named}
+use Rattle.lock_queue.specs.declared.terms.BlockUse.TheVariants.{Blocking as ForWaiting, Full, Named}
 use Rattle.call_block.specs.Blocks.{block_at}
 use Rattle.lock_laws.specs.Owning.{owns, is_dequeue}
 use Rattle.lock_laws.proofs.EveryChange.{owners_are_kept}
@@ -46,7 +46,8 @@ use Rattle.machine.specs.declared.event.Answer.TheVariants.{Ran}
 use Rattle.machine.specs.declared.event.Event.{Event}
 use Rattle.machine.specs.declared.event.Event.TheVariants.{Step, Tick, Typed, Take, Login, Start, Continue, Kill, Restart}
 use Rattle.uuo_calls.specs.declared.call.MonitorCall.{MonitorCall}
-use Rattle.job_sched.specs.Changes.{standing, chosen, free_number, is_at}
+use Rattle.job_sched.specs.Changes.{standing, chosen, free_number, is_at, ticked_table}
+use Rattle.job_sched.specs.Limits.{expires}
 use Rattle.machine.specs.Machine.{S, Made, made, made_if, started, continued, with_turn, called, awake, ran, stepped, killed, happens, typed, taken, admitted, examined, logged_in}
 use Rattle.machine.specs.Along.{Along}
 use Rattle.machine.specs.Owners.{is_release, releases, turn_releases, KeepsOwners}
@@ -58,38 +59,38 @@ abbrev AsksNoDequeue : Result LockCall Refusal → Type 0
 AsksNoDequeue (Ok call) = is_dequeue call ≡ false
 AsksNoDequeue (Err refusal) = Unit {0}
 
-entering-no : (kind : EnqueueKind) (armed : Bool) (b : Result Block Refusal) → AsksNoDequeue (entering kind armed b)
-entering-no kind armed (Ok block) = refl
-entering-no kind armed (Err refusal) = tt
+entering-no : (kind : EnqueueKind) (armed : Bool) (quota : ℕ) (b : Result Block Refusal) → AsksNoDequeue (entering kind armed quota b)
+entering-no kind armed quota (Ok block) = refl
+entering-no kind armed quota (Err refusal) = tt
 
 changing-no : (b : Result Block Refusal) → AsksNoDequeue (changing b)
 changing-no (Ok block) = refl
 changing-no (Err refusal) = tt
 
-enq-no : (regs core : List ℕ) (n w : ℕ) (armed : Bool) → AsksNoDequeue (enq_asks regs core n w armed)
-enq-no regs core n w armed =
-    by_test AsksNoDequeue (left_half w == 0) _ _ (λ _. entering-no Blocking armed (block_at regs core (right_half w) n Requested))
-    (λ _. by_test AsksNoDequeue (left_half w == 1) _ _ (λ _. entering-no AtOnce armed (block_at regs core (right_half w) n Requested))
-    (λ _. by_test AsksNoDequeue (left_half w == 2) _ _ (λ _. entering-no Interrupt armed (block_at regs core (right_half w) n Requested))
+enq-no : (regs core : List ℕ) (n w : ℕ) (armed : Bool) (quota : ℕ) → AsksNoDequeue (enq_asks regs core n w armed quota)
+enq-no regs core n w armed quota =
+    by_test AsksNoDequeue (left_half w == 0) _ _ (λ _. entering-no Blocking armed quota (block_at regs core (right_half w) n ForWaiting))
+    (λ _. by_test AsksNoDequeue (left_half w == 1) _ _ (λ _. entering-no AtOnce armed quota (block_at regs core (right_half w) n Full))
+    (λ _. by_test AsksNoDequeue (left_half w == 2) _ _ (λ _. entering-no Interrupt armed quota (block_at regs core (right_half w) n Full))
     (λ _. by_test AsksNoDequeue (left_half w == 3) (changing (block_at regs core (right_half w) n Named)) (Err NoFunction) (λ _. changing-no (block_at regs core (right_half w) n Named))
     (λ _. tt))))
 
 -- a job loses a key by what it asks for
-owns-asked : (requests : List Request) (n job : ℕ) (key : Key) (r : Result LockCall Refusal) → owns requests job key ≡ true
-    → owns (asked requests n r).requests job key ≡ false → n ≡ job
-owns-asked requests n job key (Err refusal) h lost = absurd (both_ways (owns requests job key) lost h)
-owns-asked requests n job key (Ok call) h lost = (owners_are_kept.by_calls requests n call job key h lost).1
+owns-asked : (size : ℕ) (requests : List Request) (n job : ℕ) (key : Key) (r : Result LockCall Refusal) → owns requests job key ≡ true
+    → owns (asked size requests n r).requests job key ≡ false → n ≡ job
+owns-asked size requests n job key (Err refusal) h lost = absurd (both_ways (owns requests job key) lost h)
+owns-asked size requests n job key (Ok call) h lost = ((owners_are_kept size).by_calls requests n call job key h lost).1
 
-owns-asked-no : (requests : List Request) (n job : ℕ) (key : Key) (r : Result LockCall Refusal) → AsksNoDequeue r → owns requests job key ≡ true
-    → owns (asked requests n r).requests job key ≡ false → ⊥
-owns-asked-no requests n job key (Err refusal) free h lost = both_ways (owns requests job key) lost h
-owns-asked-no requests n job key (Ok call) free h lost = both_ways (is_dequeue call) free (owners_are_kept.by_calls requests n call job key h lost).0
+owns-asked-no : (size : ℕ) (requests : List Request) (n job : ℕ) (key : Key) (r : Result LockCall Refusal) → AsksNoDequeue r → owns requests job key ≡ true
+    → owns (asked size requests n r).requests job key ≡ false → ⊥
+owns-asked-no size requests n job key (Err refusal) free h lost = both_ways (owns requests job key) lost h
+owns-asked-no size requests n job key (Ok call) free h lost = both_ways (is_dequeue call) free ((owners_are_kept size).by_calls requests n call job key h lost).0
 
 owns-row : (service : Service) (time n ac e job : ℕ) (key : Key) (a : Around) → owns a.requests job key ≡ true
     → owns (row_of service time n ac e a).requests job key ≡ false → (n ≡ job) × (is_release service ≡ true)
-owns-row Reset time n ac e job key a h lost = (owners_are_kept.by_releases a.requests n job key h lost, refl)
+owns-row Reset time n ac e job key a h lost = ((owners_are_kept a.size).by_releases a.requests n job key h lost, refl)
 owns-row Core time n ac e job key a h lost = absurd (both_ways (owns a.requests job key) lost h)
-owns-row Exit time n ac e job key a h lost = (owners_are_kept.by_releases a.requests n job key h lost, refl)
+owns-row Exit time n ac e job key a h lost = ((owners_are_kept a.size).by_releases a.requests n job key h lost, refl)
 owns-row Monrt time n ac e job key a h lost = absurd (both_ways (owns a.requests job key) lost h)
 owns-row Logout time n ac e job key a h lost = absurd (both_ways (owns a.requests job key) lost h)
 owns-row Mstime time n ac e job key a h lost = absurd (both_ways (owns a.requests job key) lost h)
@@ -99,10 +100,10 @@ owns-row Piini time n ac e job key a h lost = absurd (both_ways (owns a.requests
 owns-row Pisys time n ac e job key a h lost = absurd (both_ways (owns a.requests job key) lost h)
 owns-row Debrk time n ac e job key a h lost = absurd (both_ways (owns a.requests job key) lost h)
 owns-row Enq time n ac e job key a h lost =
-    let r : Result LockCall Refusal = enq_asks a.job.regs.ac (core_of a.cores n) n (ac_of a.job ac) (is_some a.job.interrupts.vector) in
-    absurd (owns-asked-no a.requests n job key r (enq-no a.job.regs.ac (core_of a.cores n) n (ac_of a.job ac) (is_some a.job.interrupts.vector)) h lost)
+    let r : Result LockCall Refusal = enq_asks a.job.regs.ac (core_of a.cores n) n (ac_of a.job ac) (is_some a.job.interrupts.vector) a.job.quota in
+    absurd (owns-asked-no a.size a.requests n job key r (enq-no a.job.regs.ac (core_of a.cores n) n (ac_of a.job ac) (is_some a.job.interrupts.vector) a.job.quota) h lost)
 owns-row Deq time n ac e job key a h lost =
-    (owns-asked a.requests n job key (deq_asks a.job.regs.ac (core_of a.cores n) n (ac_of a.job ac)) h lost, refl)
+    (owns-asked a.size a.requests n job key (deq_asks a.job.regs.ac (core_of a.cores n) n (ac_of a.job ac)) h lost, refl)
 owns-row Enqc time n ac e job key a h lost = absurd (both_ways (owns a.requests job key) lost h)
 owns-row Datrd time n ac e job key a h lost = absurd (both_ways (owns a.requests job key) lost h)
 owns-row Datwr time n ac e job key a h lost = absurd (both_ways (owns a.requests job key) lost h)
@@ -168,7 +169,7 @@ owns-left : (o : CallOutcome) (w : World) (n job : ℕ) (key : Key) → owns w.r
     → (n ≡ job) × (leaves o ≡ true)
 owns-left ending.Done w n job key h lost = absurd (both_ways (owns w.requests job key) lost h)
 owns-left ending.Empty w n job key h lost = absurd (both_ways (owns w.requests job key) lost h)
-owns-left ending.Gone w n job key h lost = (owners_are_kept.by_releases w.requests n job key h lost, refl)
+owns-left ending.Gone w n job key h lost = ((owners_are_kept w.size).by_releases w.requests n job key h lost, refl)
 
 owns-performed : (w : World) (time n : ℕ) (o : Option Job) (service : Service) (ac e job : ℕ) (key : Key) → owns w.requests job key ≡ true
     → owns (performed_by w time n o service ac e).world.requests job key ≡ false → (n ≡ job) × (is_release service ≡ true)
@@ -202,7 +203,7 @@ owns-turned n j cores requests None job key h =
 owns-turned n j cores requests (Some x) job key h =
     by_test (λ (t : Turn). owns t.requests job key ≡ true) (are_legal (core_of cores n) x.0 4)
     (told_at n cores requests (interrupted_at j (core_of cores n) x.0 x.1)) (done (stopped j IllegalAddress) cores requests)
-    (λ _. owners_are_kept.by_telling requests n job key h)
+    (λ _. (owners_are_kept 0).by_telling requests n job key h)
     (λ _. h)
 
 owns-ran : (w : World) (time n : ℕ) (o : Option Job) (job : ℕ) (key : Key) → owns w.requests job key ≡ true
@@ -229,7 +230,7 @@ owns-stepped s (Some n) job key h lost =
 owns-killed : (s : S) (n : ℕ) (o : Option Job) (job : ℕ) (key : Key) → owns s.world.requests job key ≡ true
     → owns (killed s n o).state.world.requests job key ≡ false → n ≡ job
 owns-killed s n None job key h lost = absurd (both_ways (owns s.world.requests job key) lost h)
-owns-killed s n (Some j) job key h lost = owners_are_kept.by_releases s.world.requests n job key h lost
+owns-killed s n (Some j) job key h lost = (owners_are_kept s.world.size).by_releases s.world.requests n job key h lost
 
 -- events that give up nothing
 abbrev Loses : S → ℕ → Key → Made → Type 0
@@ -269,14 +270,16 @@ same-made_if s w (Err e) job key same = nothing s job key
 same-started : (s : S) (n job : ℕ) (key : Key) → Loses s job key (started s n)
 same-started s n job key =
     same-made_if s _ (standing (job_at s.world.table.jobs n)) job key
-    (λ h lost. both_ways (owns (withdrawn s.world.requests n) job key) lost (owners_are_kept.by_withdrawals s.world.requests n job key h))
+    (λ h lost. both_ways (owns (withdrawn s.world.requests n) job key) lost ((owners_are_kept s.world.size).by_withdrawals s.world.requests (is_one n) job key h))
 
 same-continued : (s : S) (n job : ℕ) (key : Key) → Loses s job key (continued s n)
 same-continued s n job key = same-made_if s _ (standing (job_at s.world.table.jobs n)) job key (nothing s job key)
 
 pub keeps_owners : (s : S) (e : Event) → KeepsOwners s e
 keeps_owners s Step job key h lost = owns-stepped s (next_job s.world.table s.world.lines s.world.requests) job key h lost
-keeps_owners s Tick job key h lost = both_ways (owns s.world.requests job key) lost h
+keeps_owners s Tick job key h lost =
+    let gone : ℕ → Bool = expires s.world.requests (ticked_table s.world.table).jobs in
+    both_ways (owns (withdrawn_where s.world.requests gone) job key) lost ((owners_are_kept s.world.size).by_withdrawals s.world.requests gone job key h)
 keeps_owners s (Typed line c) job key h lost = same-typed s line c job key h lost
 keeps_owners s (Take line n) job key h lost = same-taken s line n job key h lost
 keeps_owners s (Login line image) job key h lost = same-login s line image.now.words.items image.now.start job key h lost

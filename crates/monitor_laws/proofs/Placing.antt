@@ -1,5 +1,5 @@
 -- Every call and every turn leaves a job's PC and start places of memory.
-use Rattle.std.proofs.Common.{◌<◌, ℕ, zero, suc, ◌%◌, ◌^◌, nat_le, nat_lt, ◌==◌, ◌&&◌, Bool, true, false, is_none, is_some, List, [], ◌∷◌, length, map, Option, Some, None, Result, Ok, Err, arith, slice_set}
+use Rattle.std.proofs.Common.{◌<◌, ℕ, zero, suc, ◌%◌, ◌^◌, nat_le, nat_lt, ◌==◌, ◌&&◌, Bool, true, false, is_none, is_some, List, [], ◌∷◌, length, map, Option, Some, None, Result, Ok, Err, arith, slice_set, subst, sym}
 use Rattle.word36.specs.declared.sizes.TheConstants.{DATA_WORDS, OUTPUT_RING}
 use Rattle.std.specs.Option.{option_map}
 use Rattle.word36.specs.Words.{right_half}
@@ -16,16 +16,19 @@ use Rattle.lock_queue.specs.declared.refusal.Refusal.{Refusal}
 use Rattle.lock_queue.specs.declared.request.Request.{Request}
 use Rattle.lock_queue.specs.declared.want.Want.{Want}
 use Rattle.tty_lines.specs.Rings.{Rings, input_of, room_of}
-use Rattle.job_sched.specs.Tables.{job_at}
+use Rattle.lock_queue.specs.Jobs.{is_waiting_job}
+use Rattle.job_sched.specs.Limits.{limited_job, limited_table}
+use Rattle.job_sched.specs.Tables.{Table, job_at}
+use Rattle.job_sched.proofs.Limits.{job-limited, limited-kept}
 use Rattle.job_sched.specs.declared.job.Job.{Job}
 use Rattle.uuo_calls.specs.declared.service.Awaited.{Awaited}
 use Rattle.uuo_calls.specs.declared.service.Service.{Service}
 use Rattle.uuo_calls.specs.declared.service.Service.TheVariants.{Reset, Core, Exit, Monrt, Logout, Mstime, Pjob, Sleep, Piini, Pisys, Debrk, Enq, Deq, Enqc, Datrd, Datwr, Input, Outchr, Outstr, Clrbfi, Clrbfo, Skpin, Unlisted}
 use Rattle.uuo_calls.specs.Around.{Around, ac_of, stopped}
-use Rattle.uuo_calls.specs.CoreRow.{grown, blocks_asked, core_done}
+use Rattle.uuo_calls.specs.CoreRow.{JobCores, grown, blocks_asked, core_done}
 use Rattle.uuo_calls.specs.DataRows.{JobData}
 use Rattle.uuo_calls.specs.InterruptRows.{dismissed, dismissed_at, vector_in_progress}
-use Rattle.uuo_calls.specs.LockRows.{asked, answered, enq_asks, deq_asks}
+use Rattle.uuo_calls.specs.LockRows.{asked, answered, enq_asks, enq_limit, deq_asks}
 use Rattle.uuo_calls.specs.Performed.{row_of}
 use Rattle.uuo_calls.specs.StatusRow.{told, answers_at, with_room, enqc_asks}
 use Rattle.ka_cpu.specs.Places.{word_below}
@@ -34,6 +37,7 @@ use Rattle.job_sched.specs.Jobs.{ticked_job, broken_job}
 use Rattle.machine.specs.Safe.{Placed}
 use Rattle.machine.specs.Turns.{Turn, turned, concluded, told_at, interrupted_at, done}
 use Rattle.ka_cpu.proofs.ExecLaws.{by_test, pc-exec}
+use Rattle.monitor_laws.proofs.Enquiring.{by_enqc}
 
 -- a job's PC and start
 abbrev pub Fits : Job → Type 0
@@ -59,11 +63,11 @@ fits-done : (ac : ℕ) (o : Option Cores) (j : Job) (cores : Cores) → Fits j �
 fits-done ac None j cores h = h
 fits-done ac (Some new) j cores h = (below _, h.1)
 
-fits-answered : (j : Job) (ac : ℕ) (r : LockReply) → Fits j → Fits (answered j ac r)
-fits-answered j ac Granted h = (below _, h.1)
-fits-answered j ac Queued h = (below _, h.1)
-fits-answered j ac DoneReply h = (below _, h.1)
-fits-answered j ac (Refused refusal) h = h
+fits-answered : (j : Job) (ac limit : ℕ) (r : LockReply) → Fits j → Fits (answered j ac limit r)
+fits-answered j ac limit Granted h = (below _, h.1)
+fits-answered j ac limit Queued h = (below _, h.1)
+fits-answered j ac limit DoneReply h = (below _, h.1)
+fits-answered j ac limit (Refused refusal) h = h
 
 fits-told : (requests : List Request) (n ac to : ℕ) (j : Job) (core : List ℕ) (r : Result (List Want) Refusal) → Fits j → Fits (told requests n ac to j core r).job
 fits-told requests n ac to j core (Err refusal) h = h
@@ -112,10 +116,12 @@ fits-row Pisys time n ac e a h =
 fits-row Debrk time n ac e a h =
     fits-dismissed_at (core_of a.cores n) a.job (vector_in_progress a.job.interrupts) h
 fits-row Enq time n ac e a h =
-    fits-answered a.job ac (asked a.requests n (enq_asks a.job.regs.ac (core_of a.cores n) n (ac_of a.job ac) (is_some a.job.interrupts.vector))).reply h
-fits-row Deq time n ac e a h = fits-answered a.job ac (asked a.requests n (deq_asks a.job.regs.ac (core_of a.cores n) n (ac_of a.job ac))).reply h
+    fits-answered a.job ac (enq_limit a.job.regs.ac (core_of a.cores n) n (ac_of a.job ac))
+    (asked a.size a.requests n (enq_asks a.job.regs.ac (core_of a.cores n) n (ac_of a.job ac) (is_some a.job.interrupts.vector) a.job.quota)).reply h
+fits-row Deq time n ac e a h = fits-answered a.job ac 0 (asked a.size a.requests n (deq_asks a.job.regs.ac (core_of a.cores n) n (ac_of a.job ac))).reply h
 fits-row Enqc time n ac e a h =
-    fits-told a.requests n ac (answers_at a.job ac) a.job (core_of a.cores n) (with_room (core_of a.cores n) (answers_at a.job ac) (enqc_asks a.job.regs.ac (core_of a.cores n) n (ac_of a.job ac))) h
+    by_enqc (λ (o : JobCores). Fits o.job) a.jobs a.requests n ac a.job a.cores (λ w. (below _, h.1)) (λ code. h) (λ quota. (below _, h.1))
+    (fits-told a.requests n ac (answers_at a.job ac) a.job (core_of a.cores n) (with_room (core_of a.cores n) (answers_at a.job ac) (enqc_asks a.job.regs.ac (core_of a.cores n) n (ac_of a.job ac))) h)
 fits-row Datrd time n ac e a h = by_test Fits (nat_lt (right_half (ac_of a.job ac)) DATA_WORDS) _ _ (λ _. (below _, h.1)) (λ _. h)
 fits-row Datwr time n ac e a h = by_test (λ (o : JobData). Fits o.job) (nat_lt (right_half (ac_of a.job ac)) DATA_WORDS) _ _ (λ _. (below _, h.1)) (λ _. h)
 fits-row (Input unit skips) time n ac e a h = fits-input unit skips e (core_of a.cores n) a.job a.lines h
@@ -148,3 +154,11 @@ placed-ticked None h = h
 pub placed-broken : (line : ℕ) (o : Option Job) → Placed o → Placed (option_map (broken_job line) o)
 placed-broken line (Some j) h = by_test Fits ((j.line == line) && is_none j.stop) _ _ (λ _. h) (λ _. h)
 placed-broken line None h = h
+
+-- limits
+fits-limited : (b : Bool) (o : Option Job) → Placed o → Placed (option_map (limited_job b) o)
+fits-limited b (Some j) h = let k = limited-kept b j in (k.below h.0, subst (λ a. a < 2 ^ 18) (sym k.start) h.1)
+fits-limited b None h = h
+
+pub placed-limited : (t : Table) (requests : List Request) → ((k : ℕ) → Placed (job_at t.jobs k)) → (k : ℕ) → Placed (job_at (limited_table t requests).jobs k)
+placed-limited t requests p k = subst Placed (sym (job-limited t requests k)) (fits-limited (is_waiting_job requests k) (job_at t.jobs k) (p k))

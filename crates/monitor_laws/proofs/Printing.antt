@@ -12,7 +12,10 @@ use Rattle.ka_cpu.specs.declared.outcome.Outcome.TheVariants as outcome
 use Rattle.ka_cpu.specs.declared.registers.Regs.{Regs}
 use Rattle.core_store.specs.Cores.{core_of, with_core}
 use Rattle.tty_lines.specs.Rings.{Rings, no_characters, output_of, with_output, room_of}
+use Rattle.job_sched.specs.Limits.{limit_of}
 use Rattle.job_sched.specs.Tables.{job_at}
+use Rattle.job_sched.specs.declared.job.Wait.{Wait}
+use Rattle.job_sched.specs.declared.job.Wait.TheVariants.{None as Nothing, Sleep, Char, Line, Room, Queue}
 use Rattle.job_sched.specs.declared.job.Interrupts.{Interrupts}
 use Rattle.job_sched.specs.declared.job.Job.{Job}
 use Rattle.uuo_calls.specs.declared.call.CallOutcome.{CallOutcome}
@@ -63,18 +66,19 @@ with_text w n j o =
 
 stands-text : (w : World) (n line : ℕ) (j : Job) (o : Option (List ℕ)) (first taken : List ℕ) (x : Solo) → Before w n line first taken x
     → j.line ≡ line → j.interrupts.on ≡ false → core_of w.cores n ≡ x.core → j.regs ≡ record x.regs { pc = next_pc x.regs }
-    → is_for_terminal (put_text o j w.lines).job.wait ≡ false
+    → limit_of j.wait ≡ 0 → is_for_terminal (put_text o j w.lines).job.wait ≡ false
     → Stands (with_text w n j o) n line first taken (printed x j.regs x.core o)
-stands-text w n line j None first taken x b at off core moved = λ r. record {
+stands-text w n line j None first taken x b at off core moved endless = λ r. record {
   job = _;
   there = get_or-set_same w.table.jobs n _ None b.low;
   at = at;
   off = off;
+  endless = endless;
   regs = put-back j x.regs b.small moved;
   core = core;
   output = b.output;
 }
-stands-text w n line j (Some text) first taken x b at off core moved =
+stands-text w n line j (Some text) first taken x b at off core moved endless =
     by_test (λ (p : JobLines). is_for_terminal p.job.wait ≡ false
     → Stands (with_around w n (record (around w j) { job = p.job; lines = p.lines; ending = p.ending })) n line first taken (record { regs = j.regs; core = x.core; output = x.output ++ text }))
     (nat_le (length text) (room_of w.lines j.line)) _ _
@@ -83,6 +87,7 @@ stands-text w n line j (Some text) first taken x b at off core moved =
       there = get_or-set_same w.table.jobs n _ None b.low;
       at = at;
       off = off;
+      endless = endless;
       regs = refl;
       core = core;
       output = pushed first x.output taken (output_of w.lines line) text _ b.output
@@ -102,13 +107,13 @@ wait-set w n j low = ap wait_of (get_or-set_same w.table.jobs n (Some j) None lo
 -- OUTCHR or OUTSTR
 stands-put : (w : World) (n line : ℕ) (j : Job) (o : Option (List ℕ)) (first taken : List ℕ) (x : Solo) → Before w n line first taken x
     → j.line ≡ line → j.interrupts.on ≡ false → core_of w.cores n ≡ x.core → j.regs ≡ record x.regs { pc = next_pc x.regs }
-    → is_empty (left_by (put_text o j w.lines).ending (with_text w n j o) n) n ≡ false
+    → limit_of j.wait ≡ 0 → is_empty (left_by (put_text o j w.lines).ending (with_text w n j o) n) n ≡ false
     → Stands (left_by (put_text o j w.lines).ending (with_text w n j o) n) n line first taken (printed x j.regs x.core o)
-stands-put w n line j o first taken x b at off core moved full =
+stands-put w n line j o first taken x b at off core moved endless full =
     let same = put-left o j w.lines (with_text w n j o) n in
     let stays : is_empty (with_text w n j o) n ≡ false = subst (λ v. is_empty v n ≡ false) same full in
     subst (λ v. Stands v n line first taken (printed x j.regs x.core o)) (sym same)
-    (stands-text w n line j o first taken x b at off core moved (sym (ap is_for_terminal (wait-set w n (put_text o j w.lines).job b.low)) ∙ stays))
+    (stands-text w n line j o first taken x b at off core moved endless (sym (ap is_for_terminal (wait-set w n (put_text o j w.lines).job b.low)) ∙ stays))
 
 -- the functions of TTCALL that put out
 abbrev IsOutput : ℕ → Type 0
@@ -127,18 +132,18 @@ Advanced w n line first taken x v = is_empty v n ≡ false → Stands v n line f
 
 advanced-row : (w : World) (time n line : ℕ) (j : Job) (kind : CallKind) (ac e : ℕ) (first taken : List ℕ) (x : Solo) → Before w n line first taken x
     → j.line ≡ line → j.interrupts.on ≡ false → core_of w.cores n ≡ x.core → j.regs ≡ record x.regs { pc = next_pc x.regs }
-    → is_output kind ac ≡ true
+    → limit_of j.wait ≡ 0 → is_output kind ac ≡ true
     → Advanced w n line first taken (printed x j.regs x.core (text_of ac j.regs x.core e)) (ended w n (row_of (service_of kind ac e) time n ac e (around w j))).world
-advanced-row w time n line j kind ac e first taken x b at off core moved prints =
+advanced-row w time n line j kind ac e first taken x b at off core moved endless prints =
     let c = output-cases kind ac prints in
     subst (λ k. Advanced w n line first taken (printed x j.regs x.core (text_of ac j.regs x.core e)) (ended w n (row_of (service_of k ac e) time n ac e (around w j))).world) (sym c.0)
     (elim c.1 [
       | inl one ↦ subst (λ a. Advanced w n line first taken (printed x j.regs x.core (text_of a j.regs x.core e)) (ended w n (row_of (service_of Ttcall a e) time n a e (around w j))).world) (sym one)
           (subst (λ l. Advanced w n line first taken (printed x j.regs x.core (low_character (word_below j.regs.ac l e))) (ended w n (row_of Outchr time n 1 e (around w j))).world) core
-          (λ full. stands-put w n line j (low_character (word_below j.regs.ac (core_of w.cores n) e)) first taken x b at off core moved full))
+          (λ full. stands-put w n line j (low_character (word_below j.regs.ac (core_of w.cores n) e)) first taken x b at off core moved endless full))
       | inr three ↦ subst (λ a. Advanced w n line first taken (printed x j.regs x.core (text_of a j.regs x.core e)) (ended w n (row_of (service_of Ttcall a e) time n a e (around w j))).world) (sym three)
           (subst (λ l. Advanced w n line first taken (printed x j.regs x.core (text_from j.regs.ac l e [] OUTPUT_RING)) (ended w n (row_of Outstr time n 3 e (around w j))).world) core
-          (λ full. stands-put w n line j (text_from j.regs.ac (core_of w.cores n) e [] OUTPUT_RING) first taken x b at off core moved full))
+          (λ full. stands-put w n line j (text_from j.regs.ac (core_of w.cores n) e [] OUTPUT_RING) first taken x b at off core moved endless full))
     ])
 
 -- the world after an instruction of job n whose outcome this is
@@ -166,34 +171,36 @@ performed-is w time n t kind ac e low =
 
 -- a step that is not empty is the step alone
 pub advanced : (w : World) (time n line : ℕ) (j : Job) (core : List ℕ) (o : Outcome) (first taken : List ℕ) (x : Solo) → Before w n line first taken x
-    → j.line ≡ line → j.interrupts.on ≡ false → EndsAs o x.regs x.core j.regs core → is_allowed o ≡ true
+    → j.line ≡ line → j.interrupts.on ≡ false → limit_of j.wait ≡ 0 → EndsAs o x.regs x.core j.regs core → is_allowed o ≡ true
     → is_empty (after_outcome w time n j core o) n ≡ false
     → Stands (after_outcome w time n j core o) n line first taken (solo_after x j.regs core o)
-advanced w time n line j core outcome.Done first taken x b at off ends allowed full = record {
+advanced w time n line j core outcome.Done first taken x b at off endless ends allowed full = record {
   job = j;
   there = get_or-set_same w.table.jobs n (Some j) None b.low;
   at = at;
   off = off;
+  endless = endless;
   regs = refl;
   core = get_or-set_same w.cores.cores n core [] b.house;
   output = b.output;
 }
-advanced w time n line j core (outcome.Stop reason) first taken x b at off ends allowed full = record {
+advanced w time n line j core (outcome.Stop reason) first taken x b at off endless ends allowed full = record {
   job = _;
   there = get_or-set_same w.table.jobs n _ None b.low;
   at = at;
   off = off;
+  endless = endless;
   regs = refl;
   core = get_or-set_same w.cores.cores n core [] b.house;
   output = b.output;
 }
-advanced w time n line j core (outcome.Call kind ac e) first taken x b at off ends allowed full =
+advanced w time n line j core (outcome.Call kind ac e) first taken x b at off endless ends allowed full =
     let t : Turn = concluded j (with_core w.cores n core) w.requests (outcome.Call kind ac e) in
     let is = performed-is w time n t kind ac e b.low in
     let stored : core_of (with_turn w n t).cores n ≡ x.core = get_or-set_same w.cores.cores n core [] b.house ∙ ends.3 in
     subst (λ (p : Performed). Stands p.world n line first taken (printed x j.regs core (text_of ac j.regs core e))) (sym is)
     (subst (λ l. Stands (ended (with_turn w n t) n (row_of (service_of kind ac e) time n ac e (around (with_turn w n t) j))).world n line first taken (printed x j.regs l (text_of ac j.regs l e))) (sym ends.3)
-    (advanced-row (with_turn w n t) time n line j kind ac e first taken x (before-turn w n line t core first taken x refl b) at off stored ends.2 allowed
+    (advanced-row (with_turn w n t) time n line j kind ac e first taken x (before-turn w n line t core first taken x refl b) at off stored ends.2 endless allowed
     (subst (λ (p : Performed). is_empty p.world n ≡ false) is full)))
 
 -- an empty step leaves the job as it was
@@ -206,6 +213,14 @@ emptied-left ending.Gone w n line a first taken x low stands waits =
     let low2 : n < length (slice_set w.table.jobs n (Some a.job)) = grind (arith, common_steps, low) in
     absurd (both_ways false refl (sym (ap (λ o. is_for_terminal (wait_of o)) (get_or-set_same (slice_set w.table.jobs n (Some a.job)) n None None low2)) ∙ waits))
 
+terminal-endless : (v : Wait) → is_for_terminal v ≡ true → limit_of v ≡ 0
+terminal-endless (Queue limit ac) e = absurd (both_ways false refl e)
+terminal-endless Nothing e = refl
+terminal-endless (Sleep ticks) e = refl
+terminal-endless Char e = refl
+terminal-endless Line e = refl
+terminal-endless (Room places) e = refl
+
 emptied-row : (w : World) (time n line : ℕ) (j : Job) (service : Service) (ac e : ℕ) (first taken : List ℕ) (x : Solo) → Before w n line first taken x
     → j.line ≡ line → j.interrupts.on ≡ false → Calm j → core_of w.cores n ≡ x.core → j.regs ≡ record x.regs { pc = next_pc x.regs }
     → is_for_terminal (row_of service time n ac e (around w j)).job.wait ≡ true
@@ -217,6 +232,7 @@ emptied-row w time n line j service ac e first taken x b at off calm core moved 
       there = get_or-set_same w.table.jobs n _ None b.low;
       at = l.line ∙ at;
       off = ap (λ (i : Interrupts). i.on) l.off ∙ off;
+      endless = terminal-endless (row_of service time n ac e (around w j)).job.wait waits;
       regs = l.regs ∙ put-back j x.regs b.small moved;
       core = l.core ∙ core;
       output = b.output ∙ ap (λ r. taken ++ output_of r line) (sym l.lines);

@@ -1,7 +1,7 @@
 -- Every event keeps the state safe.
 use Rattle.machine.specs.declared.sizes.TheConstants.{INTERRUPT_CHARACTER}
 use Rattle.job_sched.specs.declared.job_error.JobError.{JobError}
-use Rattle.std.proofs.Common.{◌^◌, ◌≡◌, ◌≢◌, ◌≤◌, ◌<◌, ◌∙◌, sym, ap, subst, ℕ, zero, suc, ◌+◌, ◌-◌, ◌*◌, ◌/◌, ◌==◌, ◌&&◌, nat_lt, nat_le, not, Bool, true, false, List, [], ◌∷◌, length, map, Option, Some, None, is_some, is_none, Result, Ok, Err, is_ok, refl, arith, slice_set, slice_index_or, replicate, IsSome, rules, sum_by}
+use Rattle.std.proofs.Common.{◌^◌, ◌≡◌, ◌≢◌, ◌≤◌, ◌<◌, ◌∙◌, sym, ap, subst, ℕ, zero, suc, ◌+◌, ◌-◌, ◌*◌, ◌/◌, ◌%◌, ◌==◌, ◌&&◌, nat_lt, nat_le, not, Bool, true, false, List, [], ◌∷◌, length, Option, Some, None, is_some, is_none, Result, Ok, Err, is_ok, refl, arith, slice_set, slice_index_or, replicate, IsSome, rules, sum_by}
 use Rattle.std.proofs.lemmas.Grind.{common_steps}
 use Rattle.std.proofs.lemmas.Bool.{both_ways, and_parts, false_from_ne_true}
 use Rattle.word36.specs.declared.sizes.TheConstants.{JOBS, BLOCK_WORDS, MOST_BLOCKS, LINES, INPUT_RING, DATA_WORDS}
@@ -16,22 +16,22 @@ use Rattle.lock_queue.specs.declared.refusal.Refusal.{Refusal}
 use Rattle.lock_queue.specs.declared.request.Request.{Request}
 use Rattle.lock_queue.specs.Jobs.{is_waiting_job, told_of}
 use Rattle.tty_lines.specs.Rings.{Rings, all_clear}
+use Rattle.job_sched.specs.Limits.{is_queue}
 use Rattle.job_sched.specs.Ready.{holds, is_ready, is_ready_job, first_from, next_job, after}
 use Rattle.job_sched.specs.Tables.{job_at, no_jobs}
 use Rattle.job_sched.specs.declared.job.Job.{Job}
-use Rattle.job_sched.specs.declared.job.Wait.TheVariants.{Queue}
 use Rattle.job_sched.specs.Tables.{Table}
 use Rattle.uuo_calls.specs.declared.service.Service.{Service}
 use Rattle.uuo_calls.specs.declared.service.Service.TheVariants.{Reset, Core, Exit, Monrt, Logout, Mstime, Pjob, Sleep, Piini, Pisys, Debrk, Enq, Deq, Enqc, Datrd, Datwr, Input, Outchr, Outstr, Clrbfi, Clrbfo, Skpin, Unlisted}
 use Rattle.ka_cpu.specs.declared.outcome.StopReason.TheVariants.{IllegalAddress}
 use Rattle.ka_cpu.specs.Places.{are_legal}
 use Rattle.uuo_calls.specs.Around.{Around, ac_of, stopped}
-use Rattle.uuo_calls.specs.CoreRow.{grown, blocks_asked, core_done, with_highest}
-use Rattle.uuo_calls.specs.LockRows.{asked, answered, replied, enq_asks, deq_asks}
+use Rattle.uuo_calls.specs.CoreRow.{JobCores, grown, blocks_asked, core_done, with_highest}
+use Rattle.uuo_calls.specs.LockRows.{asked, answered, replied, enq_asks, enq_limit, deq_asks}
 use Rattle.job_sched.specs.Changes.{standing, with_job}
 use Rattle.uuo_calls.specs.Performed.{World, row_of, around, performed_by, with_around, left_by, without_job}
 use Rattle.uuo_calls.specs.Services.{service_of}
-use Rattle.uuo_calls.specs.StatusRow.{Places, stored_at, answers_at, with_room, enqc_asks, enqc}
+use Rattle.uuo_calls.specs.StatusRow.{Places, stored_at, status_told, enqc}
 use Rattle.uuo_calls.specs.TerminalRows.{input_called}
 use Rattle.uuo_calls.specs.declared.call.CallOutcome.{CallOutcome}
 use Rattle.uuo_calls.specs.declared.call.CallOutcome.TheVariants as ending
@@ -42,7 +42,7 @@ use Rattle.machine.specs.declared.event.Event.TheVariants.{Step, Tick, Typed, Ta
 use Rattle.uuo_calls.specs.declared.call.MonitorCall.{MonitorCall}
 use Rattle.job_sched.specs.Changes.{chosen, free_number, first_free, is_at}
 use Rattle.job_sched.specs.Jobs.{broken_job, started_job, going_on, ticked_job}
-use Rattle.machine.specs.Machine.{S, made_if, with_turn, called, awake, ran, stepped, ticked, killed, happens, at_boot, Made, made, typed, broken, taken, started, continued, with_image, admitted, examined, logged_in}
+use Rattle.machine.specs.Machine.{S, made_if, with_turn, called, awake, ran, stepped, limited, ticked, first_quota, killed, happens, at_boot, Made, made, typed, broken, taken, started, continued, with_image, admitted, examined, logged_in}
 use Rattle.job_sched.specs.Jobs.{new_job}
 use Rattle.machine.specs.Images.{blocks_for, image_top, top_of, image_places, loaded, fresh_regs}
 use Rattle.machine.specs.Safe.{Safe, Placed, Housed, Queued, wait_of, line_of, LinesApart, LinesBelow}
@@ -51,49 +51,53 @@ use Rattle.lock_laws.specs.Circles.{NoPlainCircle}
 use Rattle.lock_laws.proofs.EveryChange.{safe_jobs_make_no_circle}
 use Rattle.lock_laws.proofs.AlongCalls.{always_safe}
 use Rattle.lock_laws.proofs.Circling.{by_latest, waits-none}
-use Rattle.monitor_laws.proofs.Housing.{there-set, is_job, housed-job, housed-core, housed-resized, housed-highest, housed-gone, housed-taken, housed-mapped, mild-ticked, mild-broken}
-use Rattle.monitor_laws.proofs.Placing.{placed-set, placed-map, placed-ticked, placed-broken}
+use Rattle.monitor_laws.proofs.Housing.{there-set, is_job, housed-job, housed-core, housed-resized, housed-highest, housed-gone, housed-taken, housed-same, mild-ticked, mild-broken, same-limited, same-mapped}
+use Rattle.monitor_laws.proofs.Placing.{placed-set, placed-map, placed-ticked, placed-broken, placed-limited}
 use Rattle.ka_cpu.proofs.ExecLaws.{by_test, length-core_with, length-exec}
 use Rattle.monitor_laws.proofs.Turning.{length-noted}
-use Rattle.monitor_laws.proofs.Stored.{length-told, length-input}
-use Rattle.monitor_laws.proofs.Queueing.{queued-job, queued-call, queued-told, free-told, queued-gone, queued-released, queued-started, queued-going_on, queued-new, queued-mapped}
+use Rattle.monitor_laws.proofs.Enquiring.{by_enqc}
+use Rattle.monitor_laws.proofs.Stored.{length-status, length-input}
+use Rattle.monitor_laws.proofs.Queueing.{queued-job, queued-call, queued-told, free-told, queued-gone, queued-released, queued-started, queued-going_on, queued-new, queued-mapped, queued-limited}
 use Rattle.std.proofs.lemmas.List.{length-set}
 use Rattle.std.specs.List.{list_any}
 use Rattle.std.specs.Option.{option_map}
-use Rattle.monitor_laws.proofs.Keeping.{Kept, kept-refl, kept-row, kept-turned, kept-left, lines-set, apart-kept, words-taken, lines-mapped, apart-new, below-kept, below-new}
+use Rattle.monitor_laws.proofs.Waiting.{holds-grant}
+use Rattle.job_sched.specs.declared.time_of_day.TheConstants.{TICKS_A_DAY}
+use Rattle.job_sched.specs.Changes.{ticked_table}
+use Rattle.monitor_laws.proofs.Keeping.{Kept, kept-refl, kept-row, kept-turned, kept-left, lines-set, apart-kept, words-taken, lines-same, apart-new, below-kept, below-new}
 
 -- a job that is there and does not wait, in a safe state
-pub record Free (jobs : List (Option Job)) (n : ℕ) (cores : Cores) (requests : List Request) : Type 0 where
+pub record Free (size : ℕ) (jobs : List (Option Job)) (n : ℕ) (cores : Cores) (requests : List Request) : Type 0 where
   pub there : is_some (job_at jobs n) ≡ true
   pub free : is_waiting_job requests n ≡ false
   pub housed : Housed jobs cores
-  pub queued : Queued jobs requests
+  pub queued : Queued size jobs requests
 
 -- a safe state in which this is the job's
-record Fine (jobs : List (Option Job)) (n : ℕ) (j : Job) (cores : Cores) (requests : List Request) : Type 0 where
+record Fine (size : ℕ) (jobs : List (Option Job)) (n : ℕ) (j : Job) (cores : Cores) (requests : List Request) : Type 0 where
   housed : Housed (slice_set jobs n (Some j)) cores
-  queued : Queued (slice_set jobs n (Some j)) requests
+  queued : Queued size (slice_set jobs n (Some j)) requests
 
-fine-job : (jobs : List (Option Job)) (n : ℕ) (j : Job) (cores : Cores) (requests : List Request) → Free jobs n cores requests → Fine jobs n j cores requests
-fine-job jobs n j cores requests f = record {
+fine-job : (size : ℕ) (jobs : List (Option Job)) (n : ℕ) (j : Job) (cores : Cores) (requests : List Request) → Free size jobs n cores requests → Fine size jobs n j cores requests
+fine-job size jobs n j cores requests f = record {
   housed = housed-job jobs cores n j f.there f.housed;
-  queued = queued-job jobs requests n j f.there f.free f.queued;
+  queued = queued-job size jobs requests n j f.there f.free f.queued;
 }
 
-fine-core : (jobs : List (Option Job)) (n : ℕ) (j : Job) (cores : Cores) (requests : List Request) (words : List ℕ)
-    → length words ≡ length (core_of cores n) → Free jobs n cores requests → Fine jobs n j (with_core cores n words) requests
-fine-core jobs n j cores requests words same f = record {
+fine-core : (size : ℕ) (jobs : List (Option Job)) (n : ℕ) (j : Job) (cores : Cores) (requests : List Request) (words : List ℕ)
+    → length words ≡ length (core_of cores n) → Free size jobs n cores requests → Fine size jobs n j (with_core cores n words) requests
+fine-core size jobs n j cores requests words same f = record {
   housed = housed-job jobs _ n j f.there (housed-core jobs cores n words f.there same f.housed);
-  queued = queued-job jobs requests n j f.there f.free f.queued;
+  queued = queued-job size jobs requests n j f.there f.free f.queued;
 }
 
 -- a lock call
-fine-asked : (jobs : List (Option Job)) (n ac : ℕ) (a : Around) (r : Result LockCall Refusal) → Free jobs n a.cores a.requests
-    → Fine jobs n (replied a ac (asked a.requests n r)).job a.cores (asked a.requests n r).requests
-fine-asked jobs n ac a (Err refusal) f = fine-job jobs n _ a.cores a.requests f
-fine-asked jobs n ac a (Ok call) f = record {
+fine-asked : (size : ℕ) (jobs : List (Option Job)) (n ac limit : ℕ) (a : Around) (r : Result LockCall Refusal) → Free size jobs n a.cores a.requests
+    → Fine size jobs n (replied a ac limit (asked size a.requests n r)).job a.cores (asked size a.requests n r).requests
+fine-asked size jobs n ac limit a (Err refusal) f = fine-job size jobs n _ a.cores a.requests f
+fine-asked size jobs n ac limit a (Ok call) f = record {
   housed = housed-job jobs a.cores n _ f.there f.housed;
-  queued = queued-call jobs a.requests n _ call f.there f.free (λ e. ap (λ r. (answered a.job ac r).wait) e) f.queued;
+  queued = queued-call size jobs a.requests n _ call f.there f.free (λ e. ap (λ r. is_queue (answered a.job ac limit r).wait) e) f.queued;
 }
 
 -- CORE
@@ -113,96 +117,105 @@ housed-grown jobs cores n (Some blocks) new there some h =
     subst (λ c. Housed jobs c) same (housed-highest jobs _ n blocks there (housed-resized jobs cores n blocks there (some blocks refl) room h)))
     (λ _ e. cc)
 
-fine-grown : (jobs : List (Option Job)) (n ac : ℕ) (j : Job) (cores : Cores) (requests : List Request) (o : Option Cores) → Free jobs n cores requests
+fine-grown : (size : ℕ) (jobs : List (Option Job)) (n ac : ℕ) (j : Job) (cores : Cores) (requests : List Request) (o : Option Cores) → Free size jobs n cores requests
     → ((new : Cores) → o ≡ Some new → Housed jobs new)
-    → Fine jobs n (core_done ac o j cores).job (core_done ac o j cores).cores requests
-fine-grown jobs n ac j cores requests None f h = fine-job jobs n _ cores requests f
-fine-grown jobs n ac j cores requests (Some new) f h = record {
+    → Fine size jobs n (core_done ac o j cores).job (core_done ac o j cores).cores requests
+fine-grown size jobs n ac j cores requests None f h = fine-job size jobs n _ cores requests f
+fine-grown size jobs n ac j cores requests (Some new) f h = record {
   housed = housed-job jobs new n _ f.there (h new refl);
-  queued = queued-job jobs requests n _ f.there f.free f.queued;
+  queued = queued-job size jobs requests n _ f.there f.free f.queued;
 }
 
+-- ENQC.
+fine-enqc : (size : ℕ) (jobs all : List (Option Job)) (n ac : ℕ) (j : Job) (cores : Cores) (requests : List Request) → Free size jobs n cores requests
+    → Fine size jobs n (enqc all requests n ac j cores).job (enqc all requests n ac j cores).cores requests
+fine-enqc size jobs all n ac j cores requests f =
+    by_enqc (λ (o : JobCores). Fine size jobs n o.job o.cores requests) all requests n ac j cores
+    (λ w. fine-job size jobs n _ cores requests f) (λ code. fine-job size jobs n _ cores requests f) (λ quota. fine-job size jobs n _ cores requests f)
+    (fine-core size jobs n _ cores requests (status_told requests n ac j (core_of cores n)).core (length-status requests n ac j (core_of cores n)) f)
+
 -- RESET
-fine-released : (jobs : List (Option Job)) (n : ℕ) (j : Job) (cores : Cores) (requests : List Request) → Free jobs n cores requests
-    → Fine jobs n j cores (released requests n)
-fine-released jobs n j cores requests f = record {
+fine-released : (size : ℕ) (jobs : List (Option Job)) (n : ℕ) (j : Job) (cores : Cores) (requests : List Request) → Free size jobs n cores requests
+    → Fine size jobs n j cores (released requests n)
+fine-released size jobs n j cores requests f = record {
   housed = housed-job jobs cores n j f.there f.housed;
-  queued = queued-released jobs requests n j f.there f.queued;
+  queued = queued-released size jobs requests n j f.there f.queued;
 }
 
 -- every row of the table
-fine-row : (service : Service) (jobs : List (Option Job)) (time n ac e : ℕ) (a : Around) → Free jobs n a.cores a.requests
-    → Fine jobs n (row_of service time n ac e a).job (row_of service time n ac e a).cores (row_of service time n ac e a).requests
-fine-row Reset jobs time n ac e a f = fine-released jobs n _ a.cores a.requests f
+fine-row : (service : Service) (jobs : List (Option Job)) (time n ac e : ℕ) (a : Around) → Free a.size jobs n a.cores a.requests
+    → Fine a.size jobs n (row_of service time n ac e a).job (row_of service time n ac e a).cores (row_of service time n ac e a).requests
+fine-row Reset jobs time n ac e a f = fine-released a.size jobs n _ a.cores a.requests f
 fine-row Core jobs time n ac e a f =
-    fine-grown jobs n ac a.job a.cores a.requests (grown a.cores n (blocks_asked (ac_of a.job ac))) f
+    fine-grown a.size jobs n ac a.job a.cores a.requests (grown a.cores n (blocks_asked (ac_of a.job ac))) f
     (λ new is. housed-grown jobs a.cores n _ new f.there (some_blocks (ac_of a.job ac)) f.housed is)
-fine-row Exit jobs time n ac e a f = fine-released jobs n _ a.cores a.requests f
-fine-row Monrt jobs time n ac e a f = fine-job jobs n _ a.cores a.requests f
-fine-row Logout jobs time n ac e a f = fine-job jobs n _ a.cores a.requests f
-fine-row Mstime jobs time n ac e a f = fine-job jobs n _ a.cores a.requests f
-fine-row Pjob jobs time n ac e a f = fine-job jobs n _ a.cores a.requests f
-fine-row Sleep jobs time n ac e a f = fine-job jobs n _ a.cores a.requests f
-fine-row Piini jobs time n ac e a f = fine-job jobs n _ a.cores a.requests f
-fine-row Pisys jobs time n ac e a f = fine-job jobs n _ a.cores a.requests f
-fine-row Debrk jobs time n ac e a f = fine-job jobs n _ a.cores a.requests f
-fine-row Enq jobs time n ac e a f = fine-asked jobs n ac a (enq_asks a.job.regs.ac (core_of a.cores n) n (ac_of a.job ac) (is_some a.job.interrupts.vector)) f
-fine-row Deq jobs time n ac e a f = fine-asked jobs n ac a (deq_asks a.job.regs.ac (core_of a.cores n) n (ac_of a.job ac)) f
-fine-row Enqc jobs time n ac e a f =
-    fine-core jobs n _ a.cores a.requests (enqc a.requests n ac a.job (core_of a.cores n)).core (length-told a.requests n ac (answers_at a.job ac) a.job (core_of a.cores n) (with_room (core_of a.cores n) (answers_at a.job ac) (enqc_asks a.job.regs.ac (core_of a.cores n) n (ac_of a.job ac)))) f
-fine-row Datrd jobs time n ac e a f = fine-job jobs n _ a.cores a.requests f
-fine-row Datwr jobs time n ac e a f = fine-job jobs n _ a.cores a.requests f
+fine-row Exit jobs time n ac e a f = fine-released a.size jobs n _ a.cores a.requests f
+fine-row Monrt jobs time n ac e a f = fine-job a.size jobs n _ a.cores a.requests f
+fine-row Logout jobs time n ac e a f = fine-job a.size jobs n _ a.cores a.requests f
+fine-row Mstime jobs time n ac e a f = fine-job a.size jobs n _ a.cores a.requests f
+fine-row Pjob jobs time n ac e a f = fine-job a.size jobs n _ a.cores a.requests f
+fine-row Sleep jobs time n ac e a f = fine-job a.size jobs n _ a.cores a.requests f
+fine-row Piini jobs time n ac e a f = fine-job a.size jobs n _ a.cores a.requests f
+fine-row Pisys jobs time n ac e a f = fine-job a.size jobs n _ a.cores a.requests f
+fine-row Debrk jobs time n ac e a f = fine-job a.size jobs n _ a.cores a.requests f
+fine-row Enq jobs time n ac e a f =
+    fine-asked a.size jobs n ac (enq_limit a.job.regs.ac (core_of a.cores n) n (ac_of a.job ac)) a
+    (enq_asks a.job.regs.ac (core_of a.cores n) n (ac_of a.job ac) (is_some a.job.interrupts.vector) a.job.quota) f
+fine-row Deq jobs time n ac e a f = fine-asked a.size jobs n ac 0 a (deq_asks a.job.regs.ac (core_of a.cores n) n (ac_of a.job ac)) f
+fine-row Enqc jobs time n ac e a f = fine-enqc a.size jobs a.jobs n ac a.job a.cores a.requests f
+fine-row Datrd jobs time n ac e a f = fine-job a.size jobs n _ a.cores a.requests f
+fine-row Datwr jobs time n ac e a f = fine-job a.size jobs n _ a.cores a.requests f
 fine-row (Input unit skips) jobs time n ac e a f =
-    fine-core jobs n _ a.cores a.requests (input_called unit skips e (core_of a.cores n) a.job a.lines).core (length-input unit skips e (core_of a.cores n) a.job a.lines) f
-fine-row Outchr jobs time n ac e a f = fine-job jobs n _ a.cores a.requests f
-fine-row Outstr jobs time n ac e a f = fine-job jobs n _ a.cores a.requests f
-fine-row Clrbfi jobs time n ac e a f = fine-job jobs n _ a.cores a.requests f
-fine-row Clrbfo jobs time n ac e a f = fine-job jobs n _ a.cores a.requests f
-fine-row (Skpin unit) jobs time n ac e a f = fine-job jobs n _ a.cores a.requests f
-fine-row Unlisted jobs time n ac e a f = fine-job jobs n _ a.cores a.requests f
+    fine-core a.size jobs n _ a.cores a.requests (input_called unit skips e (core_of a.cores n) a.job a.lines).core (length-input unit skips e (core_of a.cores n) a.job a.lines) f
+fine-row Outchr jobs time n ac e a f = fine-job a.size jobs n _ a.cores a.requests f
+fine-row Outstr jobs time n ac e a f = fine-job a.size jobs n _ a.cores a.requests f
+fine-row Clrbfi jobs time n ac e a f = fine-job a.size jobs n _ a.cores a.requests f
+fine-row Clrbfo jobs time n ac e a f = fine-job a.size jobs n _ a.cores a.requests f
+fine-row (Skpin unit) jobs time n ac e a f = fine-job a.size jobs n _ a.cores a.requests f
+fine-row Unlisted jobs time n ac e a f = fine-job a.size jobs n _ a.cores a.requests f
 
 -- a turn
-record Turned (jobs : List (Option Job)) (n : ℕ) (t : Turn) : Type 0 where
-  fine : Fine jobs n t.job t.cores t.requests
+record Turned (size : ℕ) (jobs : List (Option Job)) (n : ℕ) (t : Turn) : Type 0 where
+  fine : Fine size jobs n t.job t.cores t.requests
   free : is_waiting_job t.requests n ≡ false
 
-turned-concluded : (jobs : List (Option Job)) (n : ℕ) (j : Job) (cores : Cores) (requests : List Request) (words : List ℕ) (o : Outcome)
-    → length words ≡ length (core_of cores n) → Free jobs n cores requests
-    → Turned jobs n (concluded j (with_core cores n words) requests o)
-turned-concluded jobs n j cores requests words outcome.Done same f = record { fine = fine-core jobs n _ cores requests words same f; free = f.free }
-turned-concluded jobs n j cores requests words (outcome.Stop reason) same f = record { fine = fine-core jobs n _ cores requests words same f; free = f.free }
-turned-concluded jobs n j cores requests words (outcome.Call kind ac e) same f = record { fine = fine-core jobs n _ cores requests words same f; free = f.free }
+turned-concluded : (size : ℕ) (jobs : List (Option Job)) (n : ℕ) (j : Job) (cores : Cores) (requests : List Request) (words : List ℕ) (o : Outcome)
+    → length words ≡ length (core_of cores n) → Free size jobs n cores requests
+    → Turned size jobs n (concluded j (with_core cores n words) requests o)
+turned-concluded size jobs n j cores requests words outcome.Done same f = record { fine = fine-core size jobs n _ cores requests words same f; free = f.free }
+turned-concluded size jobs n j cores requests words (outcome.Stop reason) same f = record { fine = fine-core size jobs n _ cores requests words same f; free = f.free }
+turned-concluded size jobs n j cores requests words (outcome.Call kind ac e) same f = record { fine = fine-core size jobs n _ cores requests words same f; free = f.free }
 
-turned-delivered : (jobs : List (Option Job)) (n : ℕ) (j : Job) (cores : Cores) (requests : List Request) (vector id : ℕ) → Free jobs n cores requests
-    → Turned jobs n (delivered n j cores requests vector id)
-turned-delivered jobs n j cores requests vector id f =
-    by_test (Turned jobs n) (are_legal (core_of cores n) vector 4) (told_at n cores requests (interrupted_at j (core_of cores n) vector id)) (done (stopped j IllegalAddress) cores requests)
+turned-delivered : (size : ℕ) (jobs : List (Option Job)) (n : ℕ) (j : Job) (cores : Cores) (requests : List Request) (vector id : ℕ) → Free size jobs n cores requests
+    → Turned size jobs n (delivered n j cores requests vector id)
+turned-delivered size jobs n j cores requests vector id f =
+    by_test (Turned size jobs n) (are_legal (core_of cores n) vector 4) (told_at n cores requests (interrupted_at j (core_of cores n) vector id)) (done (stopped j IllegalAddress) cores requests)
     (λ _. record {
       fine = record {
         housed = housed-job jobs _ n _ f.there (housed-core jobs cores n _ f.there (length-noted j.regs (core_of cores n) vector id) f.housed);
-        queued = queued-job jobs (told_of requests n) n _ f.there (free-told requests n n f.free) (queued-told jobs requests n f.queued);
+        queued = queued-job size jobs (told_of requests n) n _ f.there (free-told requests n n f.free) (queued-told size jobs requests n f.queued);
       };
       free = free-told requests n n f.free;
     })
-    (λ _. record { fine = fine-job jobs n (stopped j IllegalAddress) cores requests f; free = f.free })
+    (λ _. record { fine = fine-job size jobs n (stopped j IllegalAddress) cores requests f; free = f.free })
 
-turned-turned : (jobs : List (Option Job)) (n : ℕ) (j : Job) (cores : Cores) (requests : List Request) (o : Option (ℕ × ℕ)) → Free jobs n cores requests
-    → Turned jobs n (turned n j cores requests o)
-turned-turned jobs n j cores requests (Some x) f = turned-delivered jobs n j cores requests x.0 x.1 f
-turned-turned jobs n j cores requests None f =
+turned-turned : (size : ℕ) (jobs : List (Option Job)) (n : ℕ) (j : Job) (cores : Cores) (requests : List Request) (o : Option (ℕ × ℕ)) → Free size jobs n cores requests
+    → Turned size jobs n (turned n j cores requests o)
+turned-turned size jobs n j cores requests (Some x) f = turned-delivered size jobs n j cores requests x.0 x.1 f
+turned-turned size jobs n j cores requests None f =
     let r : After = exec j.regs (core_of cores n) in
-    turned-concluded jobs n (record j { regs = r.regs }) cores requests r.core r.outcome (length-exec j.regs (core_of cores n)) f
+    turned-concluded size jobs n (record j { regs = r.regs }) cores requests r.core r.outcome (length-exec j.regs (core_of cores n)) f
 
 -- the jobs, core and requests of a world
 record Sound (w : World) : Type 0 where
   housed : Housed w.table.jobs w.cores
-  queued : Queued w.table.jobs w.requests
+  queued : Queued w.size w.table.jobs w.requests
 
 -- a job that is gone
 sound-gone : (w : World) (n : ℕ) → is_some (job_at w.table.jobs n) ≡ true → Sound w → Sound (without_job w n)
 sound-gone w n there h = record {
   housed = housed-gone w.table.jobs w.cores n there h.housed;
-  queued = queued-gone w.table.jobs w.requests n h.queued;
+  queued = queued-gone w.size w.table.jobs w.requests n h.queued;
 }
 
 sound-left : (o : CallOutcome) (w : World) (n : ℕ) → is_some (job_at w.table.jobs n) ≡ true → Sound w → Sound (left_by o w n)
@@ -210,7 +223,7 @@ sound-left ending.Done w n there h = h
 sound-left ending.Empty w n there h = h
 sound-left ending.Gone w n there h = sound-gone w n there h
 
-sound-performed : (w : World) (time n : ℕ) (o : Option Job) (service : Service) (ac e : ℕ) → Free w.table.jobs n w.cores w.requests
+sound-performed : (w : World) (time n : ℕ) (o : Option Job) (service : Service) (ac e : ℕ) → Free w.size w.table.jobs n w.cores w.requests
     → Sound (performed_by w time n o service ac e).world
 sound-performed w time n None service ac e f = record { housed = f.housed; queued = f.queued }
 sound-performed w time n (Some j) service ac e f =
@@ -218,12 +231,12 @@ sound-performed w time n (Some j) service ac e f =
     let r = fine-row service w.table.jobs time n ac e (around w j) f in
     sound-left a.ending (with_around w n a) n (there-set w.table.jobs n n a.job f.there ∙ f.there) (record { housed = r.housed; queued = r.queued })
 
-sound-called : (w : World) (time n : ℕ) (c : Option MonitorCall) → Free w.table.jobs n w.cores w.requests → Sound (called w time n c)
+sound-called : (w : World) (time n : ℕ) (c : Option MonitorCall) → Free w.size w.table.jobs n w.cores w.requests → Sound (called w time n c)
 sound-called w time n None f = record { housed = f.housed; queued = f.queued }
 sound-called w time n (Some c) f = sound-performed w time n (job_at w.table.jobs n) (service_of c.kind c.ac c.e) c.ac c.e f
 
-free-turn : (w : World) (n : ℕ) (t : Turn) → is_some (job_at w.table.jobs n) ≡ true → Turned w.table.jobs n t
-    → Free (with_turn w n t).table.jobs n (with_turn w n t).cores (with_turn w n t).requests
+free-turn : (w : World) (n : ℕ) (t : Turn) → is_some (job_at w.table.jobs n) ≡ true → Turned w.size w.table.jobs n t
+    → Free w.size (with_turn w n t).table.jobs n (with_turn w n t).cores (with_turn w n t).requests
 free-turn w n t there h = record {
   there = there-set w.table.jobs n n t.job there ∙ there;
   free = h.free;
@@ -231,14 +244,14 @@ free-turn w n t there h = record {
   queued = h.fine.queued;
 }
 
-sound-ran : (w : World) (time n : ℕ) (o : Option Job) → Free w.table.jobs n w.cores w.requests → Sound (ran w time n o)
+sound-ran : (w : World) (time n : ℕ) (o : Option Job) → Free w.size w.table.jobs n w.cores w.requests → Sound (ran w time n o)
 sound-ran w time n None f = record { housed = f.housed; queued = f.queued }
 sound-ran w time n (Some j) f =
     let t : Turn = turn_of n (awake j) w.cores w.requests in
-    sound-called (with_turn w n t) time n t.call (free-turn w n t f.there (turned-turned w.table.jobs n (awake j) w.cores w.requests (due j.interrupts _) f))
+    sound-called (with_turn w n t) time n t.call (free-turn w n t f.there (turned-turned w.size w.table.jobs n (awake j) w.cores w.requests (due j.interrupts _) f))
 
 -- lines and all words
-kept-performed : (w : World) (time n : ℕ) (o : Option Job) (service : Service) (ac e : ℕ) → job_at w.table.jobs n ≡ o → Free w.table.jobs n w.cores w.requests
+kept-performed : (w : World) (time n : ℕ) (o : Option Job) (service : Service) (ac e : ℕ) → job_at w.table.jobs n ≡ o → Free w.size w.table.jobs n w.cores w.requests
     → Kept w (performed_by w time n o service ac e).world
 kept-performed w time n None service ac e is f = kept-refl w
 kept-performed w time n (Some j) service ac e is f =
@@ -247,15 +260,15 @@ kept-performed w time n (Some j) service ac e is f =
     kept-left a.ending w (with_around w n a) n (there-set w.table.jobs n n a.job f.there ∙ f.there) r.housed
     (kept-row service w time n ac e j is f.there f.housed)
 
-kept-called : (w : World) (time n : ℕ) (c : Option MonitorCall) → Free w.table.jobs n w.cores w.requests → Kept w (called w time n c)
+kept-called : (w : World) (time n : ℕ) (c : Option MonitorCall) → Free w.size w.table.jobs n w.cores w.requests → Kept w (called w time n c)
 kept-called w time n None f = kept-refl w
 kept-called w time n (Some c) f = kept-performed w time n (job_at w.table.jobs n) (service_of c.kind c.ac c.e) c.ac c.e refl f
 
-kept-ran : (w : World) (time n : ℕ) (o : Option Job) → job_at w.table.jobs n ≡ o → Free w.table.jobs n w.cores w.requests → Kept w (ran w time n o)
+kept-ran : (w : World) (time n : ℕ) (o : Option Job) → job_at w.table.jobs n ≡ o → Free w.size w.table.jobs n w.cores w.requests → Kept w (ran w time n o)
 kept-ran w time n None is f = kept-refl w
 kept-ran w time n (Some j) is f =
     let t : Turn = turn_of n (awake j) w.cores w.requests in
-    let g = free-turn w n t f.there (turned-turned w.table.jobs n (awake j) w.cores w.requests (due j.interrupts _) f) in
+    let g = free-turn w n t f.there (turned-turned w.size w.table.jobs n (awake j) w.cores w.requests (due j.interrupts _) f) in
     let before = kept-turned w n j is f.there f.housed in
     let later = kept-called (with_turn w n t) time n t.call g in
     record { lines = λ k line e. before.lines k line (later.lines k line e); words = later.words ∙ before.words; rings = later.rings ∙ before.rings; placed = λ p. later.placed (before.placed p) }
@@ -282,16 +295,16 @@ ready-there lines requests n None h = cc
 ready-there lines requests n (Some j) h = refl
 
 ready-free : (lines : List Rings) (requests : List Request) (n : ℕ) (o : Option Job) → is_ready_job lines requests n o ≡ true
-    → (is_waiting_job requests n ≡ true → wait_of o ≡ Queue) → is_waiting_job requests n ≡ false
+    → (is_waiting_job requests n ≡ true → is_queue (wait_of o) ≡ true) → is_waiting_job requests n ≡ false
 ready-free lines requests n None h q = cc
 ready-free lines requests n (Some j) h q =
     false_from_ne_true _ (λ waits.
     let held : not (holds lines requests n j.line j.wait) ≡ true = (and_parts (is_none j.stop) _ h).1 in
-    let is : holds lines requests n j.line j.wait ≡ true = ap (holds lines requests n j.line) (q waits) ∙ waits in
+    let is : holds lines requests n j.line j.wait ≡ true = holds-grant lines requests n j.line j.wait (q waits) ∙ waits in
     both_ways (not (holds lines requests n j.line j.wait)) (ap not is) held)
 
 pub free-next : (s : S) (n : ℕ) → Safe s → is_ready s.world.table.jobs s.world.lines s.world.requests n ≡ true
-    → Free s.world.table.jobs n s.world.cores s.world.requests
+    → Free s.world.size s.world.table.jobs n s.world.cores s.world.requests
 free-next s n h ready = record {
   there = ready-there s.world.lines s.world.requests n (job_at s.world.table.jobs n) ready;
   free = ready-free s.world.lines s.world.requests n (job_at s.world.table.jobs n) ready (h.queued.waiting n);
@@ -309,7 +322,7 @@ safe-stepped s (Some n) h ready =
     let f = free-next s n h (ready n refl) in
     let w : World = record s.world { table = chosen s.world.table n s.quantum } in
     let jobs = jobs-chosen s.world.table n s.quantum in
-    let g : Free w.table.jobs n w.cores w.requests = subst (λ jobs. Free jobs n s.world.cores s.world.requests) (sym jobs) f in
+    let g : Free w.size w.table.jobs n w.cores w.requests = subst (λ jobs. Free s.world.size jobs n s.world.cores s.world.requests) (sym jobs) f in
     let r = sound-ran w s.time n (job_at s.world.table.jobs n) g in
     let k = kept-ran w s.time n (job_at s.world.table.jobs n) (ap (λ l. job_at l n) jobs) g in
     record {
@@ -343,29 +356,51 @@ safe-killed s n (Some j) h e =
     safe-made s (without_job s.world n) h (sound-gone s.world n there (record { housed = h.housed; queued = h.queued }))
     (kept-left ending.Gone s.world s.world n there h.housed (kept-refl s.world))
 
+-- a tick: first sleeps and the quantum, and then limits
+safe-slept : (s : S) → Safe s → Safe (record s { world = record s.world { table = ticked_table s.world.table } })
+safe-slept s h =
+    let same = same-mapped (option_map ticked_job) s.world.table.jobs mild-ticked in
+    record {
+      housed = housed-same s.world.table.jobs _ s.world.cores same h.housed;
+      queued = queued-mapped s.world.size (option_map ticked_job) s.world.table.jobs s.world.requests mild-ticked h.queued;
+      apart = apart-kept s.world.table.jobs _ (lines-same s.world.table.jobs _ same) h.apart;
+      total = h.total;
+      most = h.most;
+      rings = h.rings;
+      numbers = below-kept s.world.table.jobs _ (lines-same s.world.table.jobs _ same) h.numbers;
+      placed = placed-map (option_map ticked_job) s.world.table.jobs placed-ticked h.placed;
+    }
+
+safe-limited : (s : S) (time : ℕ) → Safe s → Safe (record s { world = limited s.world; time = time })
+safe-limited s time h =
+    let same = same-limited s.world.table s.world.requests in
+    record {
+      housed = housed-same s.world.table.jobs _ s.world.cores same h.housed;
+      queued = queued-limited s.world.size s.world.table s.world.requests h.queued;
+      apart = apart-kept s.world.table.jobs _ (lines-same s.world.table.jobs _ same) h.apart;
+      total = h.total;
+      most = h.most;
+      rings = h.rings;
+      numbers = below-kept s.world.table.jobs _ (lines-same s.world.table.jobs _ same) h.numbers;
+      placed = placed-limited s.world.table s.world.requests h.placed;
+    }
+
 safe-ticked : (s : S) → Safe s → Safe (ticked s).state
-safe-ticked s h = record {
-  housed = housed-mapped (option_map ticked_job) s.world.table.jobs s.world.cores mild-ticked h.housed;
-  queued = queued-mapped (option_map ticked_job) s.world.table.jobs s.world.requests mild-ticked h.queued;
-  apart = apart-kept s.world.table.jobs (map (option_map ticked_job) s.world.table.jobs) (lines-mapped (option_map ticked_job) s.world.table.jobs mild-ticked) h.apart;
-  total = h.total;
-  most = h.most;
-  rings = h.rings;
-  numbers = below-kept s.world.table.jobs (map (option_map ticked_job) s.world.table.jobs) (lines-mapped (option_map ticked_job) s.world.table.jobs mild-ticked) h.numbers;
-  placed = placed-map (option_map ticked_job) s.world.table.jobs placed-ticked h.placed;
-}
+safe-ticked s h = safe-limited (record s { world = record s.world { table = ticked_table s.world.table } }) ((s.time + 1) % TICKS_A_DAY) (safe-slept s h)
 
 safe-broken : (s : S) (line : ℕ) → Safe s → Safe (made s (broken s.world line)).state
-safe-broken s line h = record {
-  housed = housed-mapped (option_map (broken_job line)) s.world.table.jobs s.world.cores (mild-broken line) h.housed;
-  queued = queued-mapped (option_map (broken_job line)) s.world.table.jobs s.world.requests (mild-broken line) h.queued;
-  apart = apart-kept s.world.table.jobs (map (option_map (broken_job line)) s.world.table.jobs) (lines-mapped (option_map (broken_job line)) s.world.table.jobs (mild-broken line)) h.apart;
-  total = h.total;
-  most = h.most;
-  rings = h.rings;
-  numbers = below-kept s.world.table.jobs (map (option_map (broken_job line)) s.world.table.jobs) (lines-mapped (option_map (broken_job line)) s.world.table.jobs (mild-broken line)) h.numbers;
-  placed = placed-map (option_map (broken_job line)) s.world.table.jobs (placed-broken line) h.placed;
-}
+safe-broken s line h =
+    let same = same-mapped (option_map (broken_job line)) s.world.table.jobs (mild-broken line) in
+    record {
+      housed = housed-same s.world.table.jobs _ s.world.cores same h.housed;
+      queued = queued-mapped s.world.size (option_map (broken_job line)) s.world.table.jobs s.world.requests (mild-broken line) h.queued;
+      apart = apart-kept s.world.table.jobs _ (lines-same s.world.table.jobs _ same) h.apart;
+      total = h.total;
+      most = h.most;
+      rings = h.rings;
+      numbers = below-kept s.world.table.jobs _ (lines-same s.world.table.jobs _ same) h.numbers;
+      placed = placed-map (option_map (broken_job line)) s.world.table.jobs (placed-broken line) h.placed;
+    }
 
 -- lines alone
 safe-lines : (s : S) (lines : List Rings) → length lines ≡ length s.world.lines → Safe s → Safe (record s { world = record s.world { lines = lines } })
@@ -383,7 +418,7 @@ safe-taken s line n h = by_test (λ (m : Made). Safe m.state) (nat_le LINES line
 
 -- a job starts or goes on
 safe-set : (s : S) (n : ℕ) (j k : Job) (requests : List Request) → Safe s → job_at s.world.table.jobs n ≡ Some j → k.line ≡ j.line
-    → Placed (Some k) → Queued (slice_set s.world.table.jobs n (Some k)) requests
+    → Placed (Some k) → Queued s.world.size (slice_set s.world.table.jobs n (Some k)) requests
     → Safe (made s (record s.world { table = with_job s.world.table n (Some k); requests = requests })).state
 safe-set s n j k requests h is same fits q = record {
   housed = housed-job s.world.table.jobs s.world.cores n k (ap is_some is) h.housed;
@@ -414,7 +449,7 @@ safe-started s n h =
     let p = standing-there (job_at s.world.table.jobs n) ok in
     subst (λ o. Safe (made s (record s.world { table = with_job s.world.table n (option_map started_job o); requests = withdrawn s.world.requests n })).state) (sym p.1)
     (safe-set s n p.0 (started_job p.0) (withdrawn s.world.requests n) h p.1 refl (start-fits p.0 (subst Placed p.1 (h.placed n)))
-    (queued-started s.world.table.jobs s.world.requests n (started_job p.0) (ap is_some p.1) h.queued)))
+    (queued-started s.world.size s.world.table.jobs s.world.requests n (started_job p.0) (ap is_some p.1) h.queued)))
 
 safe-continued : (s : S) (n : ℕ) → Safe s → Safe (continued s n).state
 safe-continued s n h =
@@ -422,7 +457,7 @@ safe-continued s n h =
     let p = standing-there (job_at s.world.table.jobs n) ok in
     subst (λ o. Safe (made s (record s.world { table = with_job s.world.table n (option_map going_on o) })).state) (sym p.1)
     (safe-set s n p.0 (going_on p.0) s.world.requests h p.1 refl (subst Placed p.1 (h.placed n))
-    (queued-going_on s.world.table.jobs s.world.requests n (going_on p.0) (ap is_some p.1) (ap wait_of p.1) h.queued)))
+    (queued-going_on s.world.size s.world.table.jobs s.world.requests n (going_on p.0) (ap is_some p.1) (ap wait_of p.1) h.queued)))
 
 -- a job begins
 length-loaded : (p : Places) (ws : List (ℕ × ℕ)) → length (loaded p ws).core ≡ length p.core
@@ -473,14 +508,14 @@ safe-image s n line ws start blocks low some room free fits none h =
     let number : IsJob n = (free.least, omega (arith, h.housed.places, free.below)) in
     let p : Places = image_places ws start blocks in
     record {
-      housed = housed-taken s.world.table.jobs s.world.cores n blocks (new_job line p.regs start) p.core number free.none some room (length-image ws start blocks) h.housed;
-      queued = queued-new s.world.table.jobs s.world.requests n (new_job line p.regs start) free.none h.queued;
-      apart = apart-new s.world.table.jobs n (new_job line p.regs start) free.below (λ k e. free-line s.world.table.jobs line k none e) h.apart;
+      housed = housed-taken s.world.table.jobs s.world.cores n blocks (new_job line p.regs start (first_quota s.world.size)) p.core number free.none some room (length-image ws start blocks) h.housed;
+      queued = queued-new s.world.size s.world.table.jobs s.world.requests n (new_job line p.regs start (first_quota s.world.size)) free.none h.queued;
+      apart = apart-new s.world.table.jobs n (new_job line p.regs start (first_quota s.world.size)) free.below (λ k e. free-line s.world.table.jobs line k none e) h.apart;
       total = words-taken s.world.cores n blocks p.core number room h.housed.store (h.housed.bare n free.none) (length-image ws start blocks) ∙ h.total;
       most = h.most;
       rings = h.rings;
-      numbers = below-new s.world.table.jobs n (new_job line p.regs start) free.below fits h.numbers;
-      placed = placed-set s.world.table.jobs n (Some (new_job line p.regs start)) (subst (λ pc. pc < 2 ^ 18) (sym (pc-loaded (record { regs = fresh_regs start; core = replicate (blocks * BLOCK_WORDS) 0 }) ws)) low, low) h.placed;
+      numbers = below-new s.world.table.jobs n (new_job line p.regs start (first_quota s.world.size)) free.below fits h.numbers;
+      placed = placed-set s.world.table.jobs n (Some (new_job line p.regs start (first_quota s.world.size))) (subst (λ pc. pc < 2 ^ 18) (sym (pc-loaded (record { regs = fresh_regs start; core = replicate (blocks * BLOCK_WORDS) 0 }) ws)) low, low) h.placed;
     }
 
 safe-admitted : (s : S) (line : ℕ) (ws : List (ℕ × ℕ)) (start blocks : ℕ) (o : Option ℕ) → start < 2 ^ 18 → 1 ≤ blocks → ((n : ℕ) → o ≡ Some n → IsFree s.world.table.jobs n)
@@ -527,9 +562,9 @@ sum-replicate : (k : ℕ) → sum_by (λ (words : List ℕ). length words) (repl
 sum-replicate zero = refl
 sum-replicate (suc k) = sum-replicate k
 
-safe-empty : (blocks : ℕ) (shared : List ℕ) (time quantum : ℕ) → blocks ≤ MOST_BLOCKS
-    → Safe (record { world = record { table = no_jobs; lines = all_clear; requests = []; cores = all_free blocks; shared = shared }; time = time; quantum = quantum; blocks = blocks })
-safe-empty blocks shared time quantum few =
+safe-empty : (size blocks : ℕ) (shared : List ℕ) (time quantum : ℕ) → blocks ≤ MOST_BLOCKS
+    → Safe (record { world = record { size = size; table = no_jobs; lines = all_clear; requests = []; cores = all_free blocks; shared = shared }; time = time; quantum = quantum; blocks = blocks })
+safe-empty size blocks shared time quantum few =
     let none = sum-replicate (JOBS + 1) in
     record {
       housed = record {
@@ -544,7 +579,7 @@ safe-empty blocks shared time quantum few =
         bare = λ n h. no-core (JOBS + 1) n blocks;
       };
       queued = record {
-        safe = always_safe [] 0 (omega arith);
+        safe = always_safe size [] 0 (omega arith);
         live = λ n h. cc;
         waiting = λ n h. cc;
         latest = by_latest [] waits-none;
@@ -560,8 +595,8 @@ safe-empty blocks shared time quantum few =
     no-line : (a line : ℕ) → line_of None ≡ Some line → ⊥
     no-line a line e = cc
 
-pub safe-at_boot : (blocks quantum : ℕ) → blocks ≤ MOST_BLOCKS → Safe (at_boot blocks quantum)
-safe-at_boot blocks quantum few = safe-empty blocks (replicate DATA_WORDS 0) 0 quantum few
+pub safe-at_boot : (size blocks quantum : ℕ) → blocks ≤ MOST_BLOCKS → Safe (at_boot size blocks quantum)
+safe-at_boot size blocks quantum few = safe-empty size blocks (replicate DATA_WORDS 0) 0 quantum few
 
 pub safe-happens : (s : S) (e : Event) → Safe s → Safe (happens s e).state
 safe-happens s Step h = safe-stepped s _ h (λ n e. next-ready s.world.table s.world.lines s.world.requests n e)
@@ -572,7 +607,7 @@ safe-happens s (Login line image) h = safe-logged_in s line image.now.words.item
 safe-happens s (Start n) h = safe-started s n h
 safe-happens s (Continue n) h = safe-continued s n h
 safe-happens s (Kill n) h = safe-killed s n _ h refl
-safe-happens s Restart h = safe-empty s.blocks s.world.shared s.time s.quantum h.most
+safe-happens s Restart h = safe-empty s.world.size s.blocks s.world.shared s.time s.quantum h.most
 
 -- the job that is next may run
 pub record Runs (s : S) (n : ℕ) : Type 0 where
@@ -596,4 +631,4 @@ runs-next s n h e =
     }
 
 pub no-circle : (s : S) → Safe s → NoPlainCircle s.world.requests
-no-circle s h = safe_jobs_make_no_circle s.world.requests h.queued.safe h.queued.latest
+no-circle s h = safe_jobs_make_no_circle s.world.size s.world.requests h.queued.safe h.queued.latest

@@ -42,7 +42,7 @@ moves-turned w time n line j first taken x None none b at off regs core =
     let r : After = exec x.regs x.core in
     let k : Job = record (awake j) { regs = r.regs } in
     let m : Moves n line first taken x (after_outcome w time n k r.core r.outcome) = record {
-      full = λ e allowed. advanced w time n line k r.core r.outcome first taken x b at off (ends-exec x.regs x.core) allowed e;
+      full = λ e allowed. advanced w time n line k r.core r.outcome first taken x b at off refl (ends-exec x.regs x.core) allowed e;
       empty = λ e. emptied w time n line k r.core r.outcome first taken x b at off refl (ends-exec x.regs x.core) e;
     } in
     rw (regs, core) m
@@ -79,7 +79,7 @@ moves-stepped s (Some m) n line first taken x h small a r =
       small = small;
       output = a.output;
     })
-    (record { job = a.job; there = at ∙ a.there; at = a.at; off = a.off; regs = a.regs; core = a.core; output = a.output }))
+    (record { job = a.job; there = at ∙ a.there; at = a.at; off = a.off; endless = a.endless; regs = a.regs; core = a.core; output = a.output }))
 
 -- only a step is answered Ran
 moves : (s : S) (e : Event) (n line : ℕ) (first taken : List ℕ) (x : Solo) → Safe s → x.regs.pc < 2 ^ 18 → Stands s.world n line first taken x
@@ -158,7 +158,7 @@ runs s (e ∷ es) n line first taken x h a spared prints =
     (is_ran n (happens s e).answer) refl (is_empty (happens s e).state.world n) refl prints
 
 pub runs_alone : (s : S) (es : List Event) → Safe s → RunsAlone s es
-runs_alone s es h n j there off spared prints =
+runs_alone s es h n j there off endless spared prints =
     let a = runs s es n j.line (output_of s.world.lines j.line) [] (solo_of s.world n j) h
-    (record { job = j; there = there; at = refl; off = off; regs = refl; core = refl; output = append-none (output_of s.world.lines j.line) }) spared prints in
+    (record { job = j; there = there; at = refl; off = off; endless = endless; regs = refl; core = refl; output = append-none (output_of s.world.lines j.line) }) spared prints in
     record { job = a.job; there = a.there; regs = a.regs; core = a.core; output = a.output }

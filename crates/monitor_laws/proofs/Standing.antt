@@ -1,5 +1,5 @@
 -- What is known of a job at each time of a run, and that an event in which it does not run leaves that.
-use Rattle.std.proofs.Common.{◌≡◌, ◌≢◌, ◌<◌, ◌∙◌, sym, ap, subst, ℕ, true, false, not, ◌&&◌, ◌==◌, nat_le, min, List, [], ◌++◌, length, take, drop, Option, Some, None, Result, Ok, Err, is_some, is_none, inl, inr, refl, arith, append_assoc}
+use Rattle.std.proofs.Common.{◌≡◌, ◌≢◌, ◌<◌, ◌∙◌, sym, ap, subst, ℕ, Bool, true, false, not, ◌&&◌, ◌==◌, nat_le, min, List, [], ◌++◌, length, take, drop, Option, Some, None, Result, Ok, Err, is_some, is_none, inl, inr, refl, arith, append_assoc}
 use Rattle.std.proofs.lemmas.Grind.{common_steps}
 use Rattle.std.proofs.lemmas.Bool.{both_ways, cases_eq, eqb-true, eq-eqb}
 use Rattle.std.proofs.lemmas.List.{get_or-set_other, get_or-set_same}
@@ -7,7 +7,7 @@ use Rattle.std.specs.List.{list_any}
 use Rattle.std.specs.Option.{option_map}
 use Rattle.word36.specs.declared.sizes.TheConstants.{LINES, INPUT_RING, TAKEN_AT_ONCE}
 use Rattle.core_store.specs.Cores.{core_of, taken as taken_core}
-use Rattle.lock_queue.specs.Jobs.{pending}
+use Rattle.lock_queue.specs.Jobs.{is_waiting_job, pending}
 use Rattle.tty_lines.specs.Rings.{Rings, no_characters, input_of, output_of}
 use Rattle.job_sched.specs.Ready.{next_job}
 use Rattle.job_sched.specs.Tables.{job_at}
@@ -26,8 +26,12 @@ use Rattle.job_sched.specs.declared.job_error.JobError.{JobError}
 use Rattle.machine.specs.Alone.{Solo, spares, is_ran, taken_by}
 use Rattle.machine.specs.Images.{image_top, blocks_for}
 use Rattle.job_sched.specs.Changes.{standing, with_change, ticked_table, chosen, free_number, is_at}
-use Rattle.job_sched.specs.Jobs.{ticked_job, broken_job, going_on}
-use Rattle.machine.specs.Machine.{S, Made, made_if, started, continued, with_turn, called, awake, ran, stepped, killed, happens, typed, broken, taken, admitted, examined, logged_in, with_image, after}
+use Rattle.job_sched.specs.Jobs.{ticked_job, ticked_wait, broken_job, going_on}
+use Rattle.job_sched.specs.Limits.{limit_of, limited_job}
+use Rattle.job_sched.specs.declared.job.Wait.{Wait}
+use Rattle.job_sched.specs.declared.job.Wait.TheVariants.{None as Nothing, Sleep, Char, Line, Room, Queue}
+use Rattle.job_sched.proofs.Limits.{job-limited, limited-none}
+use Rattle.machine.specs.Machine.{S, Made, limited, made_if, started, continued, with_turn, called, awake, ran, stepped, killed, happens, typed, broken, taken, admitted, examined, logged_in, with_image, after}
 use Rattle.machine.specs.Safe.{Safe, Housed, line_of, LinesApart}
 use Rattle.machine.specs.Turns.{Turn, turn_of, due}
 use Rattle.monitor_laws.proofs.Housing.{at-ticked, at-mapped, there-below}
@@ -43,13 +47,14 @@ pub record Stands (w : World) (n line : ℕ) (first taken : List ℕ) (x : Solo)
   pub there : job_at w.table.jobs n ≡ Some job
   pub at : job.line ≡ line
   pub off : job.interrupts.on ≡ false
+  pub endless : limit_of job.wait ≡ 0
   pub regs : job.regs ≡ x.regs
   pub core : core_of w.cores n ≡ x.core
   pub output : first ++ x.output ≡ taken ++ output_of w.lines line
 
 -- what another's event leaves of it
-record Same (v w : World) (n line : ℕ) : Type 0 where
-  jobs : job_at w.table.jobs n ≡ job_at v.table.jobs n
+pub record Same (v w : World) (n line : ℕ) : Type 0 where
+  pub jobs : job_at w.table.jobs n ≡ job_at v.table.jobs n
   core : core_of w.cores n ≡ core_of v.cores n
   output : output_of w.lines line ≡ output_of v.lines line
 
@@ -59,6 +64,7 @@ stands-same v w n line first taken x e a = record {
   there = e.jobs ∙ a.there;
   at = a.at;
   off = a.off;
+  endless = a.endless;
   regs = a.regs;
   core = e.core ∙ a.core;
   output = a.output ∙ ap (λ l. taken ++ l) (sym e.output);
@@ -101,7 +107,7 @@ same-ran w time m n line (Some j) is h apart at ne =
       output = later.output;
     }
 
-same-stepped : (s : S) (o : Option ℕ) (n line : ℕ) → Safe s → line_of (job_at s.world.table.jobs n) ≡ Some line → is_ran n (stepped s o).answer ≡ false
+pub same-stepped : (s : S) (o : Option ℕ) (n line : ℕ) → Safe s → line_of (job_at s.world.table.jobs n) ≡ Some line → is_ran n (stepped s o).answer ≡ false
     → Same s.world (stepped s o).state.world n line
 same-stepped s None n line h at no_run = same-world s.world n line
 same-stepped s (Some m) n line h at no_run =
@@ -119,23 +125,39 @@ append-none l = grind (arith, common_steps)
 pub nothing-taken : (w : World) (n line : ℕ) (first taken : List ℕ) (x : Solo) → Stands w n line first taken x → Stands w n line first (taken ++ []) x
 nothing-taken w n line first taken x a = subst (λ l. Stands w n line first l x) (sym (append-none taken)) a
 
+-- a sleep becomes shorter, and a wait without a limit stays so
+endless-ticked : (v : Wait) → limit_of (ticked_wait v) ≡ limit_of v
+endless-ticked (Queue limit ac) = refl
+endless-ticked Nothing = refl
+endless-ticked (Sleep ticks) = refl
+endless-ticked Char = refl
+endless-ticked Line = refl
+endless-ticked (Room places) = refl
+
 kept-tick : (w : World) (n line : ℕ) (first taken : List ℕ) (x : Solo) → Stands w n line first taken x
-    → Stands (record w { table = ticked_table w.table }) n line first taken x
-kept-tick w n line first taken x a = record {
-  job = record a.job { wait = _ };
-  there = at-ticked w.table.jobs n ∙ ap (option_map ticked_job) a.there;
-  at = a.at;
-  off = a.off;
-  regs = a.regs;
-  core = a.core;
-  output = a.output;
-}
+    → Stands (limited (record w { table = ticked_table w.table })) n line first taken x
+kept-tick w n line first taken x a =
+    let waits : Bool = is_waiting_job w.requests n in
+    let endless : limit_of (ticked_job a.job).wait ≡ 0 = endless-ticked a.job.wait ∙ a.endless in
+    record {
+      job = ticked_job a.job;
+      there = job-limited (ticked_table w.table) w.requests n
+          ∙ ap (option_map (limited_job waits)) (at-ticked w.table.jobs n ∙ ap (option_map ticked_job) a.there)
+          ∙ ap Some (limited-none waits (ticked_job a.job) endless);
+      at = a.at;
+      off = a.off;
+      endless = endless;
+      regs = a.regs;
+      core = a.core;
+      output = a.output;
+    }
 
 -- CTRL-C
-same-broken : (l : ℕ) (j : Job) → ((broken_job l j).line ≡ j.line) × ((broken_job l j).regs ≡ j.regs) × ((broken_job l j).interrupts ≡ j.interrupts)
+pub same-broken : (l : ℕ) (j : Job)
+    → ((broken_job l j).line ≡ j.line) × ((broken_job l j).regs ≡ j.regs) × ((broken_job l j).interrupts ≡ j.interrupts) × ((broken_job l j).wait ≡ j.wait)
 same-broken l j =
-    by_test (λ (k : Job). (k.line ≡ j.line) × (k.regs ≡ j.regs) × (k.interrupts ≡ j.interrupts)) ((j.line == l) && is_none j.stop) _ _
-    (λ _. (refl, refl, refl)) (λ _. (refl, refl, refl))
+    by_test (λ (k : Job). (k.line ≡ j.line) × (k.regs ≡ j.regs) × (k.interrupts ≡ j.interrupts) × (k.wait ≡ j.wait)) ((j.line == l) && is_none j.stop) _ _
+    (λ _. (refl, refl, refl, refl)) (λ _. (refl, refl, refl, refl))
 
 kept-broken : (w : World) (l n line : ℕ) (first taken : List ℕ) (x : Solo) → Stands w n line first taken x → Stands (broken w l) n line first taken x
 kept-broken w l n line first taken x a =
@@ -145,6 +167,7 @@ kept-broken w l n line first taken x a =
       there = at-mapped (option_map (broken_job l)) w.table.jobs n refl ∙ ap (option_map (broken_job l)) a.there;
       at = same.0 ∙ a.at;
       off = ap (λ (i : Interrupts). i.on) same.2 ∙ a.off;
+      endless = ap limit_of same.3 ∙ a.endless;
       regs = same.1 ∙ a.regs;
       core = a.core;
       output = a.output;
@@ -158,6 +181,7 @@ kept-lines w lines n line first taken x same a = record {
   there = a.there;
   at = a.at;
   off = a.off;
+  endless = a.endless;
   regs = a.regs;
   core = a.core;
   output = a.output ∙ ap (λ l. taken ++ l) (sym same);
@@ -192,6 +216,7 @@ kept-here s k n line first taken_before x within a =
       there = a.there;
       at = a.at;
       off = a.off;
+      endless = a.endless;
       regs = a.regs;
       core = a.core;
       output = over first x.output taken_before (output_of s.world.lines line) (take (min k TAKEN_AT_ONCE) (output_of s.world.lines line)) (drop (min k TAKEN_AT_ONCE) (output_of s.world.lines line)) _
@@ -265,6 +290,7 @@ kept-going_on w m n line first taken x a = elim (cases_eq n m) [
     there = get_or-set_same w.table.jobs n (option_map going_on (job_at w.table.jobs n)) None (there-below w.table.jobs n (ap is_some a.there)) ∙ ap (option_map going_on) a.there;
     at = a.at;
     off = a.off;
+    endless = a.endless;
     regs = a.regs;
     core = a.core;
     output = a.output;
@@ -286,7 +312,7 @@ same-killed s m n line (Some j) ne = record {
   output = refl;
 }
 
-other-number : (m n : ℕ) → not (m == n) ≡ true → n ≢ m
+pub other-number : (m n : ℕ) → not (m == n) ≡ true → n ≢ m
 other-number m n h e = both_ways (not (m == n)) (ap not (eq-eqb m n (sym e))) h
 
 -- the job's line is there

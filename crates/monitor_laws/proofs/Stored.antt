@@ -7,7 +7,8 @@ use Rattle.lock_queue.specs.declared.request.Request.{Request}
 use Rattle.lock_queue.specs.declared.want.Want.{Want}
 use Rattle.tty_lines.specs.Rings.{Rings, input_of}
 use Rattle.job_sched.specs.declared.job.Job.{Job}
-use Rattle.uuo_calls.specs.StatusRow.{Places, stored, stored_at, status_words, told}
+use Rattle.uuo_calls.specs.Around.{ac_of}
+use Rattle.uuo_calls.specs.StatusRow.{Places, answers_at, enqc_asks, status_told, status_words, stored, stored_at, told, with_room}
 use Rattle.uuo_calls.specs.TerminalRows.{JobInput, input_called, has_input, stored_input, no_input, first_of}
 use Rattle.ka_cpu.proofs.ExecLaws.{by_test, length-core_with}
 
@@ -16,10 +17,14 @@ length-stored : (p : Places) (a : ℕ) (ws : List ℕ) → length (stored p a ws
 length-stored p a [] = refl
 length-stored p a (w ∷ ws) = length-stored (stored_at p a w) (a + 1) ws ∙ length-core_with p.core a w
 
-pub length-told : (requests : List Request) (n ac to : ℕ) (j : Job) (core : List ℕ) (r : Result (List Want) Refusal)
+length-told : (requests : List Request) (n ac to : ℕ) (j : Job) (core : List ℕ) (r : Result (List Want) Refusal)
     → length (told requests n ac to j core r).core ≡ length core
 length-told requests n ac to j core (Err refusal) = refl
 length-told requests n ac to j core (Ok wants) = length-stored (record { regs = j.regs; core = core }) to (status_words requests n wants)
+
+pub length-status : (requests : List Request) (n ac : ℕ) (j : Job) (core : List ℕ) → length (status_told requests n ac j core).core ≡ length core
+length-status requests n ac j core =
+    length-told requests n ac (answers_at j ac) j core (with_room core (answers_at j ac) (enqc_asks j.regs.ac core n (ac_of j ac)))
 
 -- a character
 pub length-input : (unit : Awaited) (skips : Bool) (e : ℕ) (core : List ℕ) (j : Job) (lines : List Rings)

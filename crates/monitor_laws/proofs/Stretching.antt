@@ -12,7 +12,7 @@ use Rattle.ka_cpu.specs.declared.registers.Regs.{Regs}
 use Rattle.ka_cpu.proofs.ExecLaws.{by_test, ends-exec, length-exec}
 use Rattle.core_store.specs.Cores.{Cores, core_of, with_core}
 use Rattle.lock_queue.specs.declared.request.Request.{Request}
-use Rattle.lock_queue.specs.Jobs.{pending}
+use Rattle.lock_queue.specs.Jobs.{pending, withdrawn_where}
 use Rattle.job_sched.specs.Changes.{chosen, left_after, renewed, with_job}
 use Rattle.job_sched.specs.Jobs.{takes_interrupts}
 use Rattle.job_sched.specs.Ready.{first_from, is_ready, is_ready_job, next_job, after as after_number}
@@ -21,6 +21,8 @@ use Rattle.job_sched.specs.Tables.{Table, is_sleeper, job_at}
 use Rattle.job_sched.specs.Times.{later}
 use Rattle.job_sched.specs.declared.job.Interrupts.{Interrupts}
 use Rattle.job_sched.specs.declared.job.Job.{Job}
+use Rattle.job_sched.specs.Limits.{expires}
+use Rattle.job_sched.proofs.Limits.{expires-awake, table-awake, withdrawn-none}
 use Rattle.job_sched.proofs.Quanta.{left-before}
 use Rattle.job_sched.proofs.Turns.{after-itself, same-found}
 use Rattle.job_sched.proofs.Sleepers.{awake-set, ticked-awake}
@@ -28,7 +30,7 @@ use Rattle.word36.specs.declared.sizes.TheConstants.{JOBS}
 use Rattle.uuo_calls.specs.Performed.{World}
 use Rattle.machine.specs.declared.event.Answer.TheVariants.{Ran as RanAnswer}
 use Rattle.machine.specs.declared.event.Event.TheVariants.{Step}
-use Rattle.machine.specs.Machine.{S, Made, after, after_turn, answers, awake, called, happens, stepped, with_turn, ran as ran_job}
+use Rattle.machine.specs.Machine.{S, Made, after, after_turn, answers, awake, called, happens, limited, stepped, with_turn, ran as ran_job}
 use Rattle.machine.specs.Rounds.{rounds, runs_in}
 use Rattle.machine.specs.Safe.{Safe}
 use Rattle.machine.specs.Stretches.{Stretch, Stretched, ended, run_out, runs_on, stretch_of, stretched, table_after, ticked_if, time_after}
@@ -210,6 +212,12 @@ abbrev state_of : S → ℕ → List (Option Job) → ℕ → List ℕ → ℕ �
 state_of s n jobs left core time =
     record s { world = record s.world { table = record { jobs = jobs; current = s.world.table.current; left = left }; cores = with_core s.world.cores n core }; time = time }
 
+-- a tick of the limits where nobody sleeps and no limit runs
+quiet-limited : (w : World) → list_any is_sleeper w.table.jobs ≡ false → limited w ≡ w
+quiet-limited w none =
+    ap (λ (t : Table). record w { table = t; requests = withdrawn_where w.requests (expires w.requests w.table.jobs) }) (table-awake w.table w.requests none)
+    ∙ ap (λ (l : List Request). record w { requests = l }) (withdrawn-none w.requests (expires w.requests w.table.jobs) (expires-awake w.requests w.table.jobs none))
+
 -- a tick after a step that is done
 tick-done : (s : S) (n : ℕ) (j : Job) (ticking : Bool) (i : ℕ) (g : Regs) (core : List ℕ) → (ticking ≡ true → list_any is_sleeper s.world.table.jobs ≡ false)
     → ticked_if ticking (ended_by s n j ticking i (record { regs = g; core = core; outcome = outcome.Done })) ≡ going s n j ticking i g core
@@ -217,7 +225,10 @@ tick-done s n j false i g core awake = refl
 tick-done s n j true i g core awake =
     let jobs = slice_set s.world.table.jobs n (Some (with_regs j g)) in
     let none : list_any is_sleeper jobs ≡ false = awake-set s.world.table.jobs n (Some (with_regs j g)) (awake refl) refl in
-    ap (λ (l : List (Option Job)). state_of s n l (left_after s.quantum s.world.table.left i - 1) core (later s.time (suc i))) (ticked-awake jobs none)
+    let left : ℕ = left_after s.quantum s.world.table.left i - 1 in
+    let time : ℕ = later s.time (suc i) in
+    ap (λ (l : List (Option Job)). record s { world = limited (state_of s n l left core time).world; time = time }) (ticked-awake jobs none)
+    ∙ ap (λ (w : World). record s { world = w; time = time }) (quiet-limited (state_of s n jobs left core time).world none)
 
 -- a step whose job is known, and takes no interrupt
 step-known : (t : S) (n : ℕ) (j : Job) → next_job t.world.table t.world.lines t.world.requests ≡ Some n → job_at t.world.table.jobs n ≡ Some j → takes_interrupts j.interrupts ≡ false

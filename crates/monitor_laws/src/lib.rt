@@ -6,6 +6,7 @@ ghost use Rattle.std.specs.Prelude.{ℕ, ◌≤◌, List};
 ghost use Rattle.word36.specs.declared.sizes.TheConstants.{MOST_BLOCKS};
 ghost use Rattle.lock_laws.specs.Circles.{NoPlainCircle};
 ghost use Rattle.machine.specs.Alone.{RunsAlone};
+ghost use Rattle.machine.specs.Limits.{GrantsStopLimits, LimitsAreKept, LimitsCount};
 ghost use Rattle.machine.specs.Machine.{S, at_boot, happens};
 ghost use Rattle.machine.specs.Owners.{KeepsOwners};
 ghost use Rattle.machine.specs.Safe.{Safe};
@@ -14,7 +15,7 @@ ghost use Rattle.machine.specs.declared.event.Event.{Event as EventView};
 
 /// The state at boot is safe, and each event keeps a safe state safe.
 pub fn states_are_safe()
-    ensures boot { (blocks quantum : ℕ) → blocks ≤ MOST_BLOCKS → Safe (at_boot blocks quantum) }
+    ensures boot { (size blocks quantum : ℕ) → blocks ≤ MOST_BLOCKS → Safe (at_boot size blocks quantum) }
     ensures events { (s : S) (e : EventView) → Safe s → Safe (happens s e).state }
 {}
 
@@ -36,4 +37,13 @@ pub fn owners_are_kept()
 /// From a safe state a job among others runs as it does alone.
 pub fn jobs_run_alone()
     ensures { (s : S) (events : List EventView) → Safe s → RunsAlone s events }
+{}
+
+/// A limit of a wait counts the ticks while the wait holds, and at its last tick the job is told. From
+/// a safe state, where nobody starts or kills the job or restarts the machine, the job's request is
+/// granted before, or it is told.
+pub fn limits_are_kept()
+    ensures ticks { (s : S) → LimitsCount s }
+    ensures grants { (s : S) → GrantsStopLimits s }
+    ensures runs { (s : S) (events : List EventView) → Safe s → LimitsAreKept s events }
 {}

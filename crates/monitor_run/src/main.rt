@@ -2,7 +2,7 @@
 //!
 //! Arguments: what is run (`bare` bare instructions, `steps` steps of the machine, `ticked` steps
 //! with a tick behind each, `pairs` the same as lists of two events, `ticks` ticks alone), how many,
-//! the jobs (1 to 16) and the quantum.
+//! the jobs (1 to 63) and the quantum.
 #![tactic(auto)]
 
 use core_store::{CoreStore, PlainCore};
@@ -12,7 +12,7 @@ use monitor::{Answer, Config, Event, System};
 use plain_table::PlainTable;
 use std::process::ExitCode;
 use std::{env, io};
-use word36::{Address, Image, Word};
+use word36::{Address, Image, MOST_REQUESTS, Word};
 
 /// Counts up in AC 1 and down in AC 2.
 const LOOP: [(u32, u64); 4] = [
@@ -23,7 +23,7 @@ const LOOP: [(u32, u64); 4] = [
 ];
 
 /// The machine at its plain types.
-type Plain = System<PlainTable, PlainCore>;
+type Plain = System<PlainTable<MOST_REQUESTS>, PlainCore>;
 
 /// What is run.
 #[derive(Clone, Copy)]

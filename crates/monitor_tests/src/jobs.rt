@@ -4,13 +4,16 @@ use crate::rows::Reply::{Done, Idle, JobNumber, Ran, Refused};
 use crate::rows::Row::{
     Begins, Happens, Job, Loads, Locks, NoJob, Repeats, Rounds, Shared, Steps, Turns, Word,
 };
-use crate::rows::{CTRL_C, machine, walk, walk_on};
+use crate::rows::{CTRL_C, machine, walk, walk_on, walk_rows};
 use job_sched::{Stop, Wait};
 use lock_queue::EnqueueKind::AtOnce;
 use monitor::Answer;
 use monitor::Event::{Continue, Kill, Restart, Start, Step, Take, Tick, Typed};
-use monitor::RefusedEvent::{BadImage, LineBusy, NoCore, NoLine, NoSuchJob, NotStopped};
+use monitor::RefusedEvent::{
+    BadImage, LineBusy, NoCore, NoJobNumber, NoLine, NoSuchJob, NotStopped,
+};
 use tty_lines::Char7;
+use word36::{JOBS, LINES};
 
 /// ENQ. 1 of a user code, and EXIT: four words at 140 octal, and a block behind a place left out.
 const ONE_JOB: [(u32, u64); 10] = [
@@ -59,7 +62,7 @@ fn refusals_come_in_order(rt: HostRuntime) {
     let twice = [(0o140, 0), (0o140, 0)].as_slice();
     let high = [(0o140, 0), (0o1000000, 0)].as_slice();
     let rows = [
-        Loads(16, &[], Refused(NoLine)),
+        Loads(LINES, &[], Refused(NoLine)),
         Loads(255, small, Refused(NoLine)),
         Loads(0, &[], Refused(BadImage)),
         Loads(0, falling, Refused(BadImage)),
@@ -76,11 +79,36 @@ fn refusals_come_in_order(rt: HostRuntime) {
         Happens(Start(1), Done),
         Happens(Start(1), Refused(NotStopped)),
         Happens(Continue(1), Refused(NotStopped)),
-        Happens(Take(16, 1), Refused(NoLine)),
-        Happens(Typed(16, Char7::new(CTRL_C)), Refused(NoLine)),
-        Happens(Typed(16, Char7::new(b'A')), Refused(NoLine)),
+        Happens(Take(LINES, 1), Refused(NoLine)),
+        Happens(Typed(LINES, Char7::new(CTRL_C)), Refused(NoLine)),
+        Happens(Typed(LINES, Char7::new(b'A')), Refused(NoLine)),
     ];
     walk_on(&rt, rt.alloc(), 1, 1, &rows);
+}
+
+#[test]
+fn sizes(rt: HostRuntime) {
+    // There are more lines than jobs, and more blocks.
+    let small = [(0o140, 0o254000_000140)].as_slice();
+    let mut system = machine(&rt, rt.alloc(), 256, 1);
+    for line in 0..JOBS {
+        let rows = [Loads(line, small, JobNumber(line + 1))];
+        walk_rows(&rt, rt.alloc(), &mut system, &rows);
+    }
+    let rows = [
+        Loads(LINES - 1, small, Refused(NoJobNumber)),
+        Loads(LINES, small, Refused(NoLine)),
+        Happens(Kill(JOBS + 1), Refused(NoSuchJob)),
+        // The first number that is free is given, at any line.
+        Happens(Kill(JOBS), Done),
+        Happens(Kill(7), Done),
+        Loads(LINES - 1, small, JobNumber(7)),
+        Loads(6, small, JobNumber(JOBS)),
+        Happens(Start(JOBS), Done),
+        Happens(Start(7), Done),
+        Turns(&[7, JOBS, 7]),
+    ];
+    walk_rows(&rt, rt.alloc(), &mut system, &rows);
 }
 
 /// A job that does nothing else.
@@ -232,7 +260,7 @@ fn restart_keeps_the_data_words(rt: HostRuntime) {
 #[test]
 fn answers_stand_in_their_places(rt: HostRuntime) {
     let mut system = machine(&rt, rt.alloc(), 64, 1);
-    let events = [Typed(0, Char7::new(b'A')), Kill(2), Step, Take(16, 1)];
+    let events = [Typed(0, Char7::new(b'A')), Kill(2), Step, Take(LINES, 1)];
     let mut answers = [Answer::Idle, Answer::Idle, Answer::Done, Answer::Done];
     system.run(&events, &mut answers);
     for (answer, reply) in answers

@@ -13,7 +13,11 @@ mod interrupts;
 #[cfg(test)]
 mod jobs;
 #[cfg(test)]
+mod limits;
+#[cfg(test)]
 mod locks;
+#[cfg(test)]
+mod quotas;
 #[cfg(test)]
 mod rows;
 #[cfg(test)]

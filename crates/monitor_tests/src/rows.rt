@@ -8,10 +8,10 @@ use monitor::{Answer, Config, Event, RefusedEvent, System};
 use plain_table::PlainTable;
 use std::alloc::Global;
 use std::process::Abort;
-use word36::{Image, Word};
+use word36::{Image, MOST_REQUESTS, Word};
 
-/// The machine that the rows are walked on.
-pub type Plain = System<PlainTable, PlainCore>;
+/// The machine that most rows are walked on.
+pub type Plain = System<PlainTable<MOST_REQUESTS>, PlainCore>;
 
 /// The character that stops a line's job.
 pub const CTRL_C: u8 = 3;
@@ -57,6 +57,8 @@ pub enum Row<'a> {
     Shared(usize, Option<u64>),
     /// The requests, in order of arrival.
     Locks(&'a [Entry]),
+    /// How many requests there are.
+    Requests(usize),
 }
 
 impl Reply<'_> {
@@ -78,12 +80,17 @@ impl Reply<'_> {
 }
 
 /// Whether an event answers so.
-fn answers(system: &mut Plain, event: &Event, reply: &Reply) -> bool {
+fn answers<L: LockTable>(system: &mut System<L, PlainCore>, event: &Event, reply: &Reply) -> bool {
     reply.is(&system.event(event))
 }
 
 /// Whether an image begins at a line as the job of that number, and starts.
-pub fn begins(system: &mut Plain, line: u8, image: &Image, number: u8) -> bool {
+pub fn begins<L: LockTable>(
+    system: &mut System<L, PlainCore>,
+    line: u8,
+    image: &Image,
+    number: u8,
+) -> bool {
     answers(
         system,
         &Event::Login(line, image),
@@ -92,7 +99,13 @@ pub fn begins(system: &mut Plain, line: u8, image: &Image, number: u8) -> bool {
 }
 
 /// Whether a source is assembled, and its image begins at a line as the job of that number and starts.
-fn begins_source(system: &mut Plain, alloc: Global, line: u8, source: &str, number: u8) -> bool {
+fn begins_source<L: LockTable>(
+    system: &mut System<L, PlainCore>,
+    alloc: Global,
+    line: u8,
+    source: &str,
+    number: u8,
+) -> bool {
     match assemble(alloc, source.as_bytes()) {
         Ok(image) => begins(system, line, &image, number),
         Err(_) => false,
@@ -100,7 +113,13 @@ fn begins_source(system: &mut Plain, alloc: Global, line: u8, source: &str, numb
 }
 
 /// Whether an image of these words is answered so.
-fn loads(system: &mut Plain, alloc: Global, line: u8, words: &[(u32, u64)], reply: &Reply) -> bool {
+fn loads<L: LockTable>(
+    system: &mut System<L, PlainCore>,
+    alloc: Global,
+    line: u8,
+    words: &[(u32, u64)],
+    reply: &Reply,
+) -> bool {
     let mut image = Image {
         words: Vec::new(alloc),
         start: words.first().map_or(0, |word| word.0),
@@ -117,7 +136,7 @@ fn loads(system: &mut Plain, alloc: Global, line: u8, words: &[(u32, u64)], repl
 const ROUND: [Event<'static>; 2] = [Event::Step, Event::Tick];
 
 /// The number of the job that runs in a step, behind which comes a tick; 0 where none does.
-pub fn turn(system: &mut Plain) -> u8 {
+pub fn turn<L: LockTable>(system: &mut System<L, PlainCore>) -> u8 {
     let answer = system.event(&ROUND[0]);
     system.event(&ROUND[1]);
     match answer {
@@ -127,7 +146,7 @@ pub fn turn(system: &mut Plain) -> u8 {
 }
 
 /// Whether the jobs of these numbers run in so many steps, with a tick behind each.
-fn turns(system: &mut Plain, numbers: &[u8]) -> bool {
+fn turns<L: LockTable>(system: &mut System<L, PlainCore>, numbers: &[u8]) -> bool {
     for number in numbers {
         if turn(system) != *number {
             return false;
@@ -137,7 +156,12 @@ fn turns(system: &mut Plain, numbers: &[u8]) -> bool {
 }
 
 /// Whether an event is answered so, so many times.
-fn repeats(system: &mut Plain, times: u32, event: &Event, reply: &Reply) -> bool {
+fn repeats<L: LockTable>(
+    system: &mut System<L, PlainCore>,
+    times: u32,
+    event: &Event,
+    reply: &Reply,
+) -> bool {
     for _ in 0..times {
         if !answers(system, event, reply) {
             return false;
@@ -147,7 +171,13 @@ fn repeats(system: &mut Plain, times: u32, event: &Event, reply: &Reply) -> bool
 }
 
 /// Whether a job is at that PC, stopped so, and waits so.
-fn is_at(system: &Plain, number: u8, pc: u32, stop: Option<Stop>, wait: Wait) -> bool {
+fn is_at<L: LockTable>(
+    system: &System<L, PlainCore>,
+    number: u8,
+    pc: u32,
+    stop: Option<Stop>,
+    wait: Wait,
+) -> bool {
     match system.job(number) {
         Some(job) => job.pc.number() == pc && job.stop == stop && job.wait == wait,
         None => false,
@@ -155,7 +185,7 @@ fn is_at(system: &Plain, number: u8, pc: u32, stop: Option<Stop>, wait: Wait) ->
 }
 
 /// Whether the request at a place of the table is that one.
-fn is_entry(locks: &PlainTable, i: usize, entry: &Entry) -> bool {
+fn is_entry<L: LockTable>(locks: &L, i: usize, entry: &Entry) -> bool {
     if i >= locks.len() {
         return false;
     }
@@ -169,7 +199,7 @@ fn is_entry(locks: &PlainTable, i: usize, entry: &Entry) -> bool {
 }
 
 /// Whether the requests are these.
-fn are_locks(locks: &PlainTable, entries: &[Entry]) -> bool {
+fn are_locks<L: LockTable>(locks: &L, entries: &[Entry]) -> bool {
     locks.len() == entries.len()
         && entries
             .iter()
@@ -184,7 +214,7 @@ fn is_word(word: Option<Word>, number: Option<u64>) -> bool {
 
 impl Row<'_> {
     /// Whether the row holds of the machine.
-    fn holds(&self, system: &mut Plain, alloc: Global) -> bool {
+    fn holds<L: LockTable>(&self, system: &mut System<L, PlainCore>, alloc: Global) -> bool {
         match self {
             Row::Begins(line, source, number) => {
                 begins_source(system, alloc, *line, source, *number)
@@ -200,6 +230,7 @@ impl Row<'_> {
             Row::Word(number, place, word) => is_word(system.peek(*number, *place), *word),
             Row::Shared(i, word) => is_word(system.data_word(*i), *word),
             Row::Locks(entries) => are_locks(system.locks(), entries),
+            Row::Requests(count) => system.locks().len() == *count,
         }
     }
 }
@@ -218,7 +249,17 @@ pub fn walk(rt: &impl Abort, alloc: Global, rows: &[Row]) {
 /// Walks the rows on a machine of so many blocks with a quantum of so many ticks.
 pub fn walk_on(rt: &impl Abort, alloc: Global, blocks: u32, quantum: u8, rows: &[Row]) {
     let mut system = machine(rt, alloc, blocks, quantum);
+    walk_rows(rt, alloc, &mut system, rows);
+}
+
+/// Walks the rows on a machine that is there.
+pub fn walk_rows<L: LockTable>(
+    rt: &impl Abort,
+    alloc: Global,
+    system: &mut System<L, PlainCore>,
+    rows: &[Row],
+) {
     for (i, row) in rows.iter().enumerate() {
-        assert!(rt; row.holds(&mut system, alloc), "row {i}: {row:?}");
+        assert!(rt; row.holds(system, alloc), "row {i}: {row:?}");
     }
 }

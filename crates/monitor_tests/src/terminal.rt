@@ -7,6 +7,7 @@ use job_sched::{Stop, Wait};
 use monitor::Event::{Continue, Step, Take, Typed};
 use monitor::RefusedEvent::{Full, NoLine};
 use tty_lines::Char7;
+use word36::LINES;
 
 #[test]
 fn a_text_goes_out(rt: HostRuntime) {
@@ -17,7 +18,7 @@ fn a_text_goes_out(rt: HostRuntime) {
         Steps(1, 1),
         Happens(Take(0, 64), Text(b"HI")),
         Happens(Take(0, 64), Text(b"")),
-        Happens(Take(16, 64), Refused(NoLine)),
+        Happens(Take(LINES, 64), Refused(NoLine)),
     ];
     walk(&rt, rt.alloc(), &rows);
 }

@@ -1,5 +1,5 @@
 -- The lines that a script on the machine writes (this project's profile). A text is the list of its ASCII codes.
-use Rattle.std.specs.Prelude.{ℕ, List, [], ◌∷◌, ◌++◌, Option, Some, None, codes, decimal}
+use Rattle.std.specs.Prelude.{ℕ, ◌==◌, if◌then◌else◌, List, [], ◌∷◌, ◌++◌, Option, Some, None, codes, decimal}
 use Rattle.word36.specs.Octal.{octal, word_text}
 use Rattle.ka_isa.specs.Text.{text_of_word}
 use Rattle.job_sched.specs.Stops.{code_of as stop_code}
@@ -57,6 +57,10 @@ image_line name words = codes "IMAGE " ++ name ++ codes " " ++ decimal words ++ 
 
 -- ---- jobs
 
+-- a wait for a request, and the ticks that are left of its limit, 0 where it has none
+abbrev pub limit_text : ℕ → List ℕ
+limit_text limit = codes "QUEUE" ++ (if limit == 0 then [] else codes " " ++ decimal limit)
+
 -- the wait that holds
 abbrev pub wait_text : Wait → List ℕ
 wait_text wait.None = codes "RUN"
@@ -64,7 +68,7 @@ wait_text (wait.Sleep ticks) = codes "SLEEP " ++ decimal ticks
 wait_text wait.Char = codes "CHAR"
 wait_text wait.Line = codes "LINE"
 wait_text (wait.Room places) = codes "ROOM"
-wait_text wait.Queue = codes "QUEUE"
+wait_text (wait.Queue limit ac) = limit_text limit
 
 -- why a job stands still, or what it waits for
 abbrev pub standing_text : Option Stop → Wait → List ℕ

@@ -5,7 +5,7 @@ use Rattle.std.specs.Str.Lines.{lines}
 use Rattle.mac_asm.specs.Assembly.{Assembled}
 use Rattle.mac_layout.specs.Faults.{Fault}
 use Rattle.mac_asm.specs.Outcome.{outcome_of}
-use Rattle.word36.specs.declared.sizes.TheConstants.{TAKEN_AT_ONCE}
+use Rattle.word36.specs.declared.sizes.TheConstants.{MOST_REQUESTS, TAKEN_AT_ONCE}
 use Rattle.machine.specs.Machine.{S, Made, happens, after as after_all, logged_in, at_boot}
 use Rattle.machine.specs.Views.{job_view, word_in}
 use Rattle.machine.specs.declared.event.Event.TheVariants as event
@@ -164,9 +164,9 @@ transcript_of d n [] = at_end n d.source
 transcript_of d n (line ∷ more) =
     continued (line_effect (n + 1) d line) (λ next. transcript_of next (n + 1) more)
 
--- a machine from a fresh boot, without images
+-- a machine from a fresh boot, whose lock table is of the largest size, without images
 abbrev pub fresh : ℕ → ℕ → Desk
-fresh blocks quantum = record { machine = at_boot blocks quantum; images = []; source = None }
+fresh blocks quantum = record { machine = at_boot MOST_REQUESTS blocks quantum; images = []; source = None }
 
 -- what a script writes on a machine of so many blocks and a quantum of so many ticks, and how it ends
 unfoldable pub transcript : ℕ → ℕ → List ℕ → Transcript Ending

@@ -3,11 +3,11 @@
 use crate::images::Images;
 use crate::sources::Source;
 use core_store::BlockCore;
-use lock_table::IndexedTable;
 use monitor::System;
+use queue_script::ScriptTable;
 
 /// The machine, with the tables that it keeps its locks and its core in.
-pub type Machine = System<IndexedTable, BlockCore>;
+pub type Machine = System<ScriptTable, BlockCore>;
 
 /// What a script works on.
 #[derive(Drop)]

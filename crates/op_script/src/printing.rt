@@ -1,7 +1,7 @@
 //! The lines that a script on the machine writes.
 ghost use Rattle.std.specs.Prelude.{◌≡◌, ◌++◌, ◌<◌, ◌^◌, OnOk};
 ghost use Rattle.word36.specs.Octal.{octal};
-ghost use Rattle.op_script.specs.Printing.{refused_line, number_line, text_line, answer_line, ran_line, done_line, taken_line, image_line, wait_text, standing_text, job_line, place_line, word_line};
+ghost use Rattle.op_script.specs.Printing.{refused_line, number_line, text_line, answer_line, ran_line, done_line, taken_line, image_line, limit_text, wait_text, standing_text, job_line, place_line, word_line};
 
 use crate::names::ImageName;
 use crate::texts::push_text;
@@ -116,6 +116,19 @@ pub fn push_image(out: &mut Vec<u8>, name: &ImageName, words: usize) -> Result<(
     Ok(())
 }
 
+/// Adds that a job waits for its request, and the ticks that are left of its limit, if it has one.
+#[tactic(auto, using(std::proofs::Common::append_assoc))]
+fn push_limit(out: &mut Vec<u8>, limit: u32) -> Result<(), AllocError>
+    ensures { OnOk result (out.new.items ≡ out.old.items ++ limit_text limit) }
+{
+    out.extend_from_slice(b"QUEUE")?;
+    if limit != 0 {
+        out.push(b' ')?;
+        push_decimal(out, limit)?;
+    }
+    Ok(())
+}
+
 /// Adds what a job waits for.
 #[tactic(auto, using(std::proofs::Common::append_assoc))]
 fn push_wait(out: &mut Vec<u8>, wait: Wait) -> Result<(), AllocError>
@@ -130,7 +143,7 @@ fn push_wait(out: &mut Vec<u8>, wait: Wait) -> Result<(), AllocError>
         Wait::Char => out.extend_from_slice(b"CHAR")?,
         Wait::Line => out.extend_from_slice(b"LINE")?,
         Wait::Room(_) => out.extend_from_slice(b"ROOM")?,
-        Wait::Queue => out.extend_from_slice(b"QUEUE")?,
+        Wait::Queue(limit, _) => push_limit(out, limit)?,
     }
     Ok(())
 }

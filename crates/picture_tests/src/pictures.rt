@@ -2,7 +2,7 @@
 
 use crate::rows::{MANY, Row, answers};
 
-const ROWS: [Row; 8] = [
+const ROWS: [Row; 9] = [
     // Two jobs wait for one another, and one gives up.
     Row {
         words: &["lockview", "--text", "--at", "4"],
@@ -26,6 +26,31 @@ job 2   B  .###.
 After line 4:
   job 1 waits for job 2, hard, in a circle
   job 2 waits for job 1, hard, in a circle
+",
+        told: "",
+    },
+    // Two groups of sharers: one waits for the other, and a third of the first group behind it.
+    Row {
+        words: &["lockview", "--text", "--at", "3"],
+        script: "ENQ 1 0 1 F/S/G1
+ENQ 2 0 1 F/S/G2
+ENQ 3 0 1 F/S/G1
+DEQ 1 0 F
+DEQ 2 0 F
+",
+        calls: (MANY, MANY),
+        status: 0,
+        written: "line
+           12345
+job 1   F  ###..
+job 2   F  .//*.
+job 3   F  ..//*
+
+# owns  / waits  * is granted  . has no request
+
+After line 3:
+  job 2 waits for job 1, hard
+  job 3 waits for job 2, soft
 ",
         told: "",
     },
@@ -159,13 +184,13 @@ After line 0:
 
 
 
-ENQ 31 1 1 X
+ENQ 63 1 1 X
 ",
         calls: (MANY, MANY),
         status: 0,
         written: "line               10
            123456789012
-job 31  X  ...........#
+job 63  X  ...........#
 
 # owns  / waits  * is granted  . has no request
 

@@ -39,10 +39,10 @@ fn refusals(rt: HostRuntime) {
         ),
         row_of(
             TEXT,
-            "ENQ 1 0 1 X\nENQ 32 0 1 X\r\n",
+            "ENQ 1 0 1 X\nENQ 64 0 1 X\r\n",
             (MANY, MANY),
             1,
-            "lockview: line 2: column 5: expected a job, 1 to 31, not \"32\"\n",
+            "lockview: line 2: column 5: expected a job, 1 to 63, not \"64\"\n",
         ),
         row_of(
             AT_NINE,
@@ -86,4 +86,25 @@ fn refusals(rt: HostRuntime) {
     for row in &rows {
         assert!(rt; answers(rt.alloc(), row));
     }
+}
+
+#[test]
+fn version(rt: HostRuntime) {
+    let row = Row {
+        words: &["lockview", "--version"],
+        script: "",
+        calls: (0, MANY),
+        status: 0,
+        written: "lockview 0.1.0\n",
+        told: "",
+    };
+    assert!(rt; answers(rt.alloc(), &row));
+    let row = Row {
+        calls: (0, 0),
+        status: 3,
+        written: "",
+        told: "lockview: write\n",
+        ..row
+    };
+    assert!(rt; answers(rt.alloc(), &row));
 }

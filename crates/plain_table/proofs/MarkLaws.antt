@@ -94,11 +94,11 @@ module _ (left : Request → Option Request) where
 -- ---- what is woken
 
 -- what the marks raise behind a call that is done, and behind a release
-pub woken-done : (requests after : List Request) (job : ℕ) (call : LockCall) → (outcome_of requests job call).reply ≡ Done
-    → after ≡ (outcome_of requests job call).requests
-    → raised_behind [] (marks_behind (left_of job call) [] requests) after ≡ woken_by requests job call
-woken-done requests after job call done is =
-    ap (raised_behind [] (marks_behind (left_of job call) [] requests)) (is ∙ call-left requests job call done)
+pub woken-done : (size : ℕ) (requests after : List Request) (job : ℕ) (call : LockCall) → (outcome_of size requests job call).reply ≡ Done
+    → after ≡ (outcome_of size requests job call).requests
+    → raised_behind [] (marks_behind (left_of job call) [] requests) after ≡ woken_by size requests job call
+woken-done size requests after job call done is =
+    ap (raised_behind [] (marks_behind (left_of job call) [] requests)) (is ∙ call-left size requests job call done)
     ∙ raised-all (left_of job call) (left-labels job call) requests
     ∙ sym (ap (λ reply. unless_refused_grants reply (woken (left_of job call) requests)) done)
 
@@ -109,11 +109,11 @@ woken-released requests after job is =
     ∙ raised-all (left_of job DequeueAll) (left-labels job DequeueAll) requests
 
 -- there is a mark for each request after the call
-pub marks-done : (requests after : List Request) (job : ℕ) (call : LockCall) → (outcome_of requests job call).reply ≡ Done
-    → after ≡ (outcome_of requests job call).requests
+pub marks-done : (size : ℕ) (requests after : List Request) (job : ℕ) (call : LockCall) → (outcome_of size requests job call).reply ≡ Done
+    → after ≡ (outcome_of size requests job call).requests
     → length (marks_behind (left_of job call) [] requests) ≡ length after
-marks-done requests after job call done is =
-    marks-length (left_of job call) [] requests ∙ sym (ap length (is ∙ call-left requests job call done))
+marks-done size requests after job call done is =
+    marks-length (left_of job call) [] requests ∙ sym (ap length (is ∙ call-left size requests job call done))
 
 pub marks-released : (requests after : List Request) (job : ℕ) → after ≡ released requests job
     → length (marks_behind (left_of job DequeueAll) [] requests) ≡ length after

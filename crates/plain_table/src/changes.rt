@@ -1,7 +1,6 @@
 //! Wants that are made shared or exclusive.
 ghost use Rattle.std.specs.Prelude.{◌≡◌, ◌≤◌, [], length};
 ghost use Rattle.std.specs.List.{list_any};
-ghost use Rattle.word36.specs.declared.sizes.TheConstants.{REQUESTS};
 ghost use Rattle.lock_queue.specs.Changes.{modify_fault, with_changes, some_lost};
 ghost use Rattle.lock_queue.specs.Outcomes.{first_refusal};
 ghost use Rattle.lock_queue.specs.Queue.{is_pooled, wants_at, requests_of};
@@ -51,8 +50,13 @@ pub fn refusal_of_modify(requests: &[Request], job: u8, changes: &[Want]) -> Opt
 }
 
 /// Writes the requests over others, those of the job being changed.
-pub fn write_changed(later: &mut Row, requests: &[Request], job: u8, changes: &[Want])
-    requires { length requests.now ≤ REQUESTS }
+pub fn write_changed<const REQS: usize>(
+    later: &mut Row<REQS>,
+    requests: &[Request],
+    job: u8,
+    changes: &[Want],
+)
+    requires { length requests.now ≤ REQS }
     ensures { later.new ≡ with_changes requests.now job changes.now }
 {
     later.clear();

@@ -1,7 +1,6 @@
 //! Why wants are not given up, and how they leave.
 ghost use Rattle.std.specs.Prelude.{◌≡◌, ◌≤◌, [], not, filter, length, map};
 ghost use Rattle.std.specs.List.{list_any};
-ghost use Rattle.word36.specs.declared.sizes.TheConstants.{REQUESTS};
 ghost use Rattle.lock_queue.specs.Dequeues.{dequeue_fault, has_wants, without_keys_of, without_named, is_of_job, has_id};
 ghost use Rattle.lock_queue.specs.Jobs.{released};
 ghost use Rattle.lock_queue.specs.Outcomes.{first_refusal};
@@ -47,9 +46,9 @@ pub fn remove_keys_of(requests: &mut [Request], job: u8, named: &[Want])
     }
 }
 
-fn remove_empty(row: &mut Row)
+fn remove_empty<const REQS: usize>(row: &mut Row<REQS>)
     ensures value { row.new ≡ filter has_wants row.old }
-    ensures few { length row.new ≤ REQUESTS }
+    ensures few { length row.new ≤ REQS }
 {
     for i in (0..row.as_slice().len()).rev() {
         if row.as_slice()[i].wants.is_empty() {
@@ -59,9 +58,9 @@ fn remove_empty(row: &mut Row)
 }
 
 /// Takes the named wants out of the job's requests, and the requests that are left without wants.
-pub fn remove_named(row: &mut Row, job: u8, named: &[Want])
+pub fn remove_named<const REQS: usize>(row: &mut Row<REQS>, job: u8, named: &[Want])
     ensures value { row.new ≡ without_named row.old job named.now }
-    ensures few { length row.new ≤ REQUESTS }
+    ensures few { length row.new ≤ REQS }
 {
     row.remove_keys_of(job, named);
     remove_empty(row);
@@ -75,9 +74,9 @@ pub fn has_request(requests: &[Request], job: u8) -> bool
 }
 
 /// Takes out the requests of the job.
-pub fn remove_job(row: &mut Row, job: u8)
+pub fn remove_job<const REQS: usize>(row: &mut Row<REQS>, job: u8)
     ensures value { row.new ≡ released row.old job }
-    ensures few { length row.new ≤ REQUESTS }
+    ensures few { length row.new ≤ REQS }
 {
     for i in (0..row.as_slice().len()).rev() {
         if row.as_slice()[i].job == job {
@@ -100,9 +99,9 @@ pub fn has_request_id(requests: &[Request], job: u8, id: RequestId) -> bool
 }
 
 /// Takes out the requests of the job with that id.
-pub fn remove_id(row: &mut Row, job: u8, id: RequestId)
+pub fn remove_id<const REQS: usize>(row: &mut Row<REQS>, job: u8, id: RequestId)
     ensures value { row.new ≡ filter (λ r. not (has_id job id r)) row.old }
-    ensures few { length row.new ≤ REQUESTS }
+    ensures few { length row.new ≤ REQS }
 {
     for i in (0..row.as_slice().len()).rev() {
         if has_id(&row.as_slice()[i], job, id) {

@@ -1,15 +1,13 @@
 //! Why a request that arrives is refused.
-ghost use Rattle.std.specs.Prelude.{◌≡◌, [], nat_le};
+ghost use Rattle.std.specs.Prelude.{◌≡◌, [], length, nat_le};
 ghost use Rattle.std.specs.List.{list_all, list_any};
-ghost use Rattle.word36.specs.declared.sizes.TheConstants.{REQUESTS};
 ghost use Rattle.lock_queue.specs.Enqueues.{are_alike, enqueue_fault, some_too_low, enqueue_refusal};
 ghost use Rattle.lock_queue.specs.Outcomes.{first_refusal};
-ghost use Rattle.lock_queue.specs.Queue.{wants_at, wants_of};
+ghost use Rattle.lock_queue.specs.Queue.{wants_at, requests_of, wants_of};
 
 use crate::jobs::has_want;
 use lock_queue::steps::{are_alike_in, names_key, reach_level};
 use lock_queue::{Asking, EnqueueKind, Level, Refusal, Request, Want};
-use word36::REQUESTS;
 
 /// Whether the present wants of a want's key have its level and its pool's size.
 fn are_all_alike(requests: &[Request], w: &Want) -> bool
@@ -75,15 +73,29 @@ fn are_out_of_order(requests: &[Request], job: u8, wants: &[Want]) -> bool
     false
 }
 
+/// How many requests the job has.
+fn count_of(requests: &[Request], job: u8) -> usize
+    ensures { result ≡ length (requests_of requests.now job) }
+{
+    let mut count = 0;
+    for r in requests {
+        if r.job == job {
+            count += 1;
+        }
+    }
+    count
+}
+
 /// Why a request is not taken in, if it is not: first lock by lock, then by its levels, then for want
-/// of a vector, then for want of room.
+/// of a vector, then where the job has as many requests as it may have, then for want of room.
 pub fn refusal_of_enqueue(
     requests: &[Request],
+    size: usize,
     job: u8,
     asking: &Asking,
     wants: &[Want],
 ) -> Option<Refusal>
-    ensures { result ≡ enqueue_refusal REQUESTS requests.now job asking.now wants.now }
+    ensures { result ≡ enqueue_refusal size requests.now job asking.now wants.now }
 {
     let fault = first_fault(requests, job, wants);
     if fault.is_some() {
@@ -92,7 +104,9 @@ pub fn refusal_of_enqueue(
         Some(Refusal::LevelOrder)
     } else if matches!(asking.kind, EnqueueKind::Interrupt) && !asking.armed {
         Some(Refusal::NoVector)
-    } else if requests.len() >= REQUESTS {
+    } else if count_of(requests, job) >= asking.quota as usize {
+        Some(Refusal::OverQuota)
+    } else if requests.len() >= size {
         Some(Refusal::QueueFull)
     } else {
         None

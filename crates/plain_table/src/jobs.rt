@@ -1,12 +1,13 @@
 //! What concerns the requests of one job: what it wants, which wait, which are told, which leave.
 ghost use Rattle.std.specs.Prelude.{◌≡◌, ◌≤◌, length};
 ghost use Rattle.std.specs.List.{list_any};
-ghost use Rattle.word36.specs.declared.sizes.TheConstants.{REQUESTS};
-ghost use Rattle.lock_queue.specs.Jobs.{is_waiting_job, withdrawn, is_pending, pending, as_told, told_of, is_in_the_way, is_kept_by, is_blocked_by, waits_for};
+ghost use Rattle.lock_queue.specs.Jobs.{is_waiting_job, withdrawn, withdrawn_all, is_pending, pending, as_told, told_of, is_in_the_way, is_kept_by, is_blocked_by, waits_for};
 ghost use Rattle.lock_queue.specs.Queue.{names, wants_at, wants_of, requests_of};
 
 use crate::row::Row;
-use lock_queue::steps::{is_blocked, is_fitting, is_granted, names_key, some_in_the_way};
+use lock_queue::steps::{
+    is_blocked, is_blocked_among, is_fitting, is_granted, names_key, some_in_the_way,
+};
 use lock_queue::{EnqueueKind, Key, Request, RequestId, Want};
 
 /// Whether the job has a want of the key.
@@ -35,13 +36,27 @@ pub fn is_waiting(requests: &[Request], job: u8) -> bool
 
 /// Takes out the requests by which the job waits. A request is judged by those before it, so the
 /// last may leave first.
-pub fn remove_blocked(row: &mut Row, job: u8)
+pub fn remove_blocked<const REQS: usize>(row: &mut Row<REQS>, job: u8)
     ensures value { row.new ≡ withdrawn row.old job }
-    ensures few { length row.new ≤ REQUESTS }
+    ensures few { length row.new ≤ REQS }
 {
     for i in (0..row.as_slice().len()).rev() {
         let all = row.as_slice();
         if is_blocked(&all[..i], &all[i], job) {
+            row.remove(i);
+        }
+    }
+}
+
+/// Takes out the requests by which some jobs wait. A request is judged by those before it, so the
+/// last may leave first.
+pub fn remove_blocked_among<const REQS: usize>(row: &mut Row<REQS>, jobs: u64)
+    ensures value { row.new ≡ withdrawn_all row.old jobs }
+    ensures few { length row.new ≤ REQS }
+{
+    for i in (0..row.as_slice().len()).rev() {
+        let all = row.as_slice();
+        if is_blocked_among(&all[..i], &all[i], jobs) {
             row.remove(i);
         }
     }

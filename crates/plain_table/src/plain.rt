@@ -1,26 +1,49 @@
 //! The plain table: one row of requests, and each answer worked out from it.
-ghost use Rattle.std.specs.Prelude.{◌≡◌, IsTrue};
-ghost use Rattle.lock_queue.specs.WellFormed.{are_well_formed};
+ghost use Rattle.std.specs.Prelude.{◌≡◌, ◌≤◌, ◌<◌, ◌++◌, ◌∷◌, [], IsTrue, length};
+ghost use Rattle.lock_queue.specs.Enqueues.{request_of};
+ghost use Rattle.word36.specs.declared.sizes.TheConstants.{MOST_REQUESTS};
+ghost use Rattle.lock_queue.specs.WellFormed.{are_well_formed, is_well_formed};
 
 use crate::jobs::{does_wait_for, is_waiting, pending_of};
 use crate::rows::Rows;
 use crate::standing::status_at;
 use crate::waking::{Marks, fill_woken, mark};
 use lock_queue::steps::is_granted;
-use lock_queue::{Key, LockCall, LockReply, LockTable, Request, RequestId, Status, Woken};
+use lock_queue::{
+    Asking, Key, LockCall, LockReply, LockTable, Request, RequestId, Status, Wants, Woken,
+};
 use std::alloc::{AllocError, Global};
 
 /// A table that keeps its requests in one row, in order of arrival, and works owners and waiters out
 /// from it each time.
 #[derive(Drop)]
-pub struct PlainTable {
-    rows: Rows,
-    marks: Marks,
+pub struct PlainTable<const REQS: usize> {
+    rows: Rows<REQS>,
+    marks: Marks<REQS>,
+    ghost sized: { (1 ≤ REQS) × (REQS ≤ MOST_REQUESTS) },
     ghost well: { IsTrue (are_well_formed rows.present) },
 }
 
-impl LockTable for PlainTable {
+impl<const REQS: usize> PlainTable<REQS> {
+    /// Takes in a request as it is, behind the others, whether a call would be refused it or not. So a
+    /// table can be made that has given requests.
+    pub fn append(&mut self, job: u8, asking: &Asking, told: bool, wants: &Wants)
+        requires room { length self.old.rows.present < REQS }
+        requires well { IsTrue (is_well_formed (request_of job asking.now told wants.now)) }
+        ensures { self.new.rows.present ≡ self.old.rows.present ++ request_of job asking.now told wants.now ∷ [] }
+    {
+        self.rows.append(job, asking, told, wants);
+    }
+}
+
+impl<const REQS: usize> LockTable for PlainTable<REQS> {
+    ghost REQS = { REQS };
+
+    const REQS: usize = REQS;
+
     ghost requests = { λ t. t.rows.present };
+
+    ghost sized = { λ t. t.sized };
 
     ghost few = { λ t. t.rows.few };
 
@@ -67,6 +90,10 @@ impl LockTable for PlainTable {
 
     fn withdraw(&mut self, job: u8) {
         self.rows.withdraw(job);
+    }
+
+    fn withdraw_all(&mut self, jobs: u64) {
+        self.rows.withdraw_all(jobs);
     }
 
     fn waiting(&self, job: u8) -> bool {

@@ -1,7 +1,7 @@
 //! A row of requests, in places that are all made at the start.
 ghost use Rattle.std.specs.Prelude.{◌≡◌, ◌<◌, ◌≤◌, [], ◌∷◌, ◌++◌, ◌-◌, length, IfOk, IsTrue, map, take, remove};
 ghost use Rattle.std.specs.List.{list_all};
-ghost use Rattle.word36.specs.declared.sizes.TheConstants.{LOCKS_A_CALL, REQUESTS};
+ghost use Rattle.word36.specs.declared.sizes.TheConstants.{LOCKS_A_CALL};
 ghost use Rattle.lock_queue.specs.Dequeues.{with_wants, without_keys_of};
 ghost use Rattle.lock_queue.specs.Enqueues.{request_of};
 ghost use Rattle.lock_queue.specs.Jobs.{told_of};
@@ -13,36 +13,34 @@ use lock_queue::steps::{write_like, write_request};
 use lock_queue::{Asking, Request, Want, Wants};
 use std::alloc::{AllocError, Global};
 use std::marker::Model;
-use word36::REQUESTS;
 
 /// Requests in order of arrival, with a place for each that may be present. The places are made at
 /// the start and written over, want by want, so that nothing large is filled or copied for a request
 /// of few locks.
 #[derive(Drop)]
-pub struct Row {
+pub struct Row<const REQS: usize> {
     places: Vec<Request>,
     count: usize,
 }
 
-impl Model for Row {
+impl<const REQS: usize> Model for Row<REQS> {
     ghost use Rattle.std.specs.Prelude.{◌≡◌, ◌≤◌, List, length, take};
-    ghost use Rattle.word36.specs.declared.sizes.TheConstants.{REQUESTS};
     ghost use Rattle.lock_queue.specs.declared.request.Request.{Request as RequestView};
 
     ghost Value = { List RequestView };
 
     ghost view = { λ r. take r.count r.places.items };
 
-    ghost invariant = { λ r. (length r.places.items ≡ REQUESTS) × (r.count ≤ REQUESTS) };
+    ghost invariant = { λ r. (length r.places.items ≡ REQS) × (r.count ≤ REQS) };
 }
 
-impl Row {
+impl<const REQS: usize> Row<REQS> {
     /// An empty row.
     pub fn new(alloc: Global) -> Result<Self, AllocError>
         ensures { IfOk result (λ row. row ≡ []) }
     {
-        let mut places = Vec::with_capacity(alloc, REQUESTS)?;
-        for _ in 0..REQUESTS {
+        let mut places = Vec::with_capacity(alloc, REQS)?;
+        for _ in 0..REQS {
             places.push(Request::default())?;
         }
         Ok(Row { places, count: 0 })
@@ -51,7 +49,7 @@ impl Row {
     /// The requests.
     pub fn as_slice(&self) -> &[Request]
         ensures value { result.now ≡ self.now }
-        ensures few { length result.now ≤ REQUESTS }
+        ensures few { length result.now ≤ REQS }
     {
         &self.places.as_slice()[..self.count]
     }
@@ -65,7 +63,7 @@ impl Row {
 
     /// Appends a request of these wants.
     pub fn push(&mut self, job: u8, asking: &Asking, told: bool, wants: &Wants)
-        requires { length self.old < REQUESTS }
+        requires { length self.old < REQS }
         ensures value { self.new ≡ self.old ++ request_of job asking.now told wants.now ∷ [] }
         ensures few { length wants.now.items ≤ LOCKS_A_CALL }
         ensures range { IsTrue (list_all is_in_range wants.now.items) }
@@ -76,7 +74,7 @@ impl Row {
 
     /// Appends a request like another, but with these wants.
     pub fn push_like(&mut self, r: &Request, wants: &Wants)
-        requires { length self.old < REQUESTS }
+        requires { length self.old < REQS }
         ensures { self.new ≡ self.old ++ with_wants r.now wants.now.items ∷ [] }
     {
         write_like(&mut self.places[self.count], r, wants);
@@ -87,7 +85,7 @@ impl Row {
     pub fn remove(&mut self, i: usize)
         requires { i < length self.old }
         ensures value { self.new ≡ remove self.old i }
-        ensures few { length self.new ≤ REQUESTS }
+        ensures few { length self.new ≤ REQS }
     {
         close_gap(self.places.as_mut_slice(), self.count, i);
         self.count -= 1;
@@ -103,7 +101,7 @@ impl Row {
     /// Marks the pending request of a job as told.
     pub fn tell(&mut self, job: u8)
         ensures value { self.new ≡ told_of self.old job }
-        ensures few { length self.new ≤ REQUESTS }
+        ensures few { length self.new ≤ REQS }
     {
         tell_front(self.places.as_mut_slice(), self.count, job);
     }

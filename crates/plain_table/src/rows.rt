@@ -1,21 +1,21 @@
 //! The requests in one row, and another row in which a change is made and judged.
-ghost use Rattle.std.specs.Prelude.{◌≡◌, ◌≤◌, ◌<◌, [], length, nat_le, IfOk, IsTrue, None};
+ghost use Rattle.std.specs.Prelude.{◌≡◌, ◌≤◌, ◌<◌, ◌++◌, ◌∷◌, [], length, nat_le, IfOk, IsTrue, None};
 ghost use Rattle.std.specs.List.{list_all};
-ghost use Rattle.word36.specs.declared.sizes.TheConstants.{JOBS, REQUESTS};
+ghost use Rattle.word36.specs.declared.sizes.TheConstants.{JOBS};
 ghost use Rattle.lock_queue.specs.Calls.{outcome_of};
 ghost use Rattle.lock_queue.specs.Changes.{modify};
 ghost use Rattle.lock_queue.specs.Dequeues.{dequeue_named, dequeue_all, dequeue_id};
-ghost use Rattle.lock_queue.specs.Enqueues.{arrival, enqueue, enqueue_fault};
-ghost use Rattle.lock_queue.specs.Jobs.{released, withdrawn, told_of};
+ghost use Rattle.lock_queue.specs.Enqueues.{arrival, enqueue, enqueue_fault, request_of};
+ghost use Rattle.lock_queue.specs.Jobs.{released, withdrawn, withdrawn_all, told_of};
 ghost use Rattle.lock_queue.specs.Outcomes.{first_refusal};
-ghost use Rattle.lock_queue.specs.WellFormed.{are_well_formed, names_locks, shares_no_pool, shares_no_pools};
+ghost use Rattle.lock_queue.specs.WellFormed.{are_well_formed, names_locks, shares_rightly, all_share_rightly};
 
 use crate::changes::{is_some_lost, refusal_of_modify, write_changed};
 use crate::dequeues::{
     has_request, has_request_id, refusal_of_dequeue, remove_id, remove_job, remove_named,
 };
 use crate::enqueues::refusal_of_enqueue;
-use crate::jobs::remove_blocked;
+use crate::jobs::{remove_blocked, remove_blocked_among};
 use crate::row::Row;
 use lock_queue::steps::are_fitting;
 use lock_queue::{Asking, EnqueueKind, LockCall, LockReply, Refusal, Request, RequestId, Wants};
@@ -24,13 +24,13 @@ use std::mem;
 
 /// The requests that are present, in order of arrival, and a second row for changes.
 #[derive(Drop)]
-pub struct Rows {
-    present: Row,
-    changed: Row,
-    ghost few: { length present ≤ REQUESTS },
+pub struct Rows<const REQS: usize> {
+    present: Row<REQS>,
+    changed: Row<REQS>,
+    ghost few: { length present ≤ REQS },
 }
 
-impl Rows {
+impl<const REQS: usize> Rows<REQS> {
     /// Rows without a request.
     pub fn new(alloc: Global) -> Result<Self, AllocError>
         ensures { IfOk result (λ rows. rows.present ≡ []) }
@@ -44,18 +44,26 @@ impl Rows {
     /// The requests.
     pub fn as_slice(&self) -> &[Request]
         ensures value { result.now ≡ self.now.present }
-        ensures few { length result.now ≤ REQUESTS }
+        ensures few { length result.now ≤ REQS }
     {
         self.present.as_slice()
+    }
+
+    /// Takes in a request as it is, behind the others.
+    pub fn append(&mut self, job: u8, asking: &Asking, told: bool, wants: &Wants)
+        requires { length self.old.present < REQS }
+        ensures { self.new.present ≡ self.old.present ++ request_of job asking.now told wants.now ∷ [] }
+    {
+        self.present.push(job, asking, told, wants);
     }
 
     /// Takes in a request that is not refused.
     #[tactic(auto, using(lock_queue::proofs::Granted::arrival_granted, lock_queue::proofs::Granted::arrival_waiting))]
     fn arrive(&mut self, job: u8, asking: &Asking, wants: &Wants) -> LockReply
-        requires room { length self.old.present < REQUESTS }
+        requires room { length self.old.present < REQS }
         requires job { (1 ≤ job) × (job ≤ JOBS) }
         requires some { IsTrue (nat_le 1 (length wants.now.items)) }
-        requires unshared { IsTrue (list_all shares_no_pool wants.now.items) }
+        requires unshared { IsTrue (list_all shares_rightly wants.now.items) }
         requires passed { first_refusal (enqueue_fault self.old.present job) [] wants.now.items ≡ None }
         ensures requests { self.new.present ≡
             (arrival self.old.present job asking.now wants.now).requests }
@@ -83,13 +91,13 @@ impl Rows {
     fn enqueue(&mut self, job: u8, asking: &Asking, wants: &Wants) -> LockReply
         requires job { (1 ≤ job) × (job ≤ JOBS) }
         requires some { IsTrue (nat_le 1 (length wants.now.items)) }
-        requires unshared { IsTrue (list_all shares_no_pool wants.now.items) }
+        requires unshared { IsTrue (list_all shares_rightly wants.now.items) }
         ensures requests { self.new.present ≡
-            (enqueue REQUESTS self.old.present job asking.now wants.now).requests }
-        ensures reply { result ≡ (enqueue REQUESTS self.old.present job asking.now wants.now).reply }
+            (enqueue REQS self.old.present job asking.now wants.now).requests }
+        ensures reply { result ≡ (enqueue REQS self.old.present job asking.now wants.now).reply }
         ensures well { IsTrue (are_well_formed self.old.present) → IsTrue (are_well_formed self.new.present) }
     {
-        match refusal_of_enqueue(self.present.as_slice(), job, asking, wants.as_slice()) {
+        match refusal_of_enqueue(self.present.as_slice(), REQS, job, asking, wants.as_slice()) {
             Some(refusal) => LockReply::Refused(refusal),
             None => self.arrive(job, asking, wants),
         }
@@ -150,9 +158,9 @@ impl Rows {
     pub fn call(&mut self, job: u8, call: &LockCall) -> LockReply
         requires job { (1 ≤ job) × (job ≤ JOBS) }
         requires named { IsTrue (names_locks call.now) }
-        requires unshared { IsTrue (shares_no_pools call.now) }
-        ensures requests { self.new.present ≡ (outcome_of self.old.present job call.now).requests }
-        ensures reply { result ≡ (outcome_of self.old.present job call.now).reply }
+        requires unshared { IsTrue (all_share_rightly call.now) }
+        ensures requests { self.new.present ≡ (outcome_of REQS self.old.present job call.now).requests }
+        ensures reply { result ≡ (outcome_of REQS self.old.present job call.now).reply }
         ensures well { IsTrue (are_well_formed self.old.present) → IsTrue (are_well_formed self.new.present) }
     {
         match call {
@@ -176,6 +184,13 @@ impl Rows {
         ensures { self.new.present ≡ withdrawn self.old.present job }
     {
         remove_blocked(&mut self.present, job);
+    }
+
+    /// Takes out the requests by which some jobs wait.
+    pub fn withdraw_all(&mut self, jobs: u64)
+        ensures { self.new.present ≡ withdrawn_all self.old.present jobs }
+    {
+        remove_blocked_among(&mut self.present, jobs);
     }
 
     /// Marks the pending request of a job as told.

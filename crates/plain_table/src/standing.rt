@@ -1,6 +1,6 @@
 //! What a job is told of a key, over the list of requests.
 ghost use Rattle.std.specs.Prelude.{◌≡◌, ◌≤◌, length};
-ghost use Rattle.word36.specs.declared.sizes.TheConstants.{REQUESTS};
+ghost use Rattle.word36.specs.declared.sizes.TheConstants.{MOST_REQUESTS};
 ghost use Rattle.lock_queue.specs.Queue.{wants_at};
 ghost use Rattle.lock_queue.specs.StatusWords.{first_level, status_of};
 
@@ -23,7 +23,7 @@ fn level_at(requests: &[Request], key: &Key) -> Option<Level>
 /// last.
 #[tactic(auto, using(lock_queue::proofs::StatusLaws::standing_owner, lock_queue::proofs::StatusLaws::standing_waiter))]
 pub fn status_at(requests: &[Request], key: &Key, job: u8) -> Status
-    requires { length requests.now ≤ REQUESTS }
+    requires { length requests.now ≤ MOST_REQUESTS }
     ensures { result ≡ status_of requests.now key.now job }
 {
     let mut status = Status {

@@ -1,7 +1,7 @@
 //! Which requests a change of the list grants: those that wait are marked before it, and looked at after it.
 ghost use Rattle.std.specs.Prelude.{◌≡◌, ◌≤◌, ◌==◌, ◌&&◌, [], not, length, is_some};
 ghost use Rattle.std.specs.List.{list_any};
-ghost use Rattle.word36.specs.declared.sizes.TheConstants.{REQUESTS};
+ghost use Rattle.word36.specs.declared.sizes.TheConstants.{MOST_REQUESTS};
 ghost use Rattle.lock_queue.specs.Grants.{left_of};
 ghost use Rattle.lock_queue.specs.Queue.{names};
 ghost use Rattle.plain_table.specs.GrantSteps.{awaits_grant, marks_behind, raised_behind};
@@ -9,10 +9,9 @@ ghost use Rattle.plain_table.specs.GrantSteps.{awaits_grant, marks_behind, raise
 use arrayvec::ArrayVec;
 use lock_queue::steps::{grant_of, is_granted, is_told_of, names_key};
 use lock_queue::{LockCall, Request, Want, Woken};
-use word36::REQUESTS;
 
 /// For each request that stays, whether its job awaits its grant.
-pub type Marks = ArrayVec<bool, REQUESTS>;
+pub type Marks<const REQS: usize> = ArrayVec<bool, REQS>;
 
 /// Whether a request keeps a want where the job gives up the named keys.
 fn keeps_want(r: &Request, job: u8, named: &[Want]) -> bool
@@ -43,8 +42,13 @@ fn does_await_grant(earlier: &[Request], r: &Request) -> bool
 }
 
 /// Marks, of the requests that stay where a job's call is made, those whose jobs await their grants.
-pub fn mark(marks: &mut Marks, requests: &[Request], job: u8, call: &LockCall)
-    requires { length requests.now ≤ REQUESTS }
+pub fn mark<const REQS: usize>(
+    marks: &mut Marks<REQS>,
+    requests: &[Request],
+    job: u8,
+    call: &LockCall,
+)
+    requires { length requests.now ≤ REQS }
     ensures { marks.new.items ≡ marks_behind (left_of job call.now) [] requests.now }
 {
     marks.clear();
@@ -58,7 +62,7 @@ pub fn mark(marks: &mut Marks, requests: &[Request], job: u8, call: &LockCall)
 /// Fills in the grants of the marked requests that are granted.
 pub fn fill_woken(woken: &mut Woken, marks: &[bool], requests: &[Request])
     requires marks { length marks.now ≡ length requests.now }
-    requires few { length requests.now ≤ REQUESTS }
+    requires few { length requests.now ≤ MOST_REQUESTS }
     ensures { woken.new.items ≡ raised_behind [] marks.now requests.now }
 {
     woken.clear();

@@ -1,5 +1,5 @@
 -- Each call that a line asks for can be made.
-use Rattle.std.proofs.Common.{◌≡◌, ◌&&◌, ◌==◌, ◌∙◌, ap, sym, subst, refl, cond, ℕ, suc, Bool, true, false, not, List, [], ◌∷◌, length, Option, Some, None, Result, Ok, Err, is_some, nat_le, nat_lt, arith}
+use Rattle.std.proofs.Common.{◌≡◌, ◌&&◌, ◌||◌, ◌==◌, ◌∙◌, ap, sym, subst, refl, cond, ℕ, suc, Bool, true, false, not, List, [], ◌∷◌, length, Option, Some, None, Result, Ok, Err, is_some, nat_le, nat_lt, arith}
 use Rattle.std.specs.Prelude.{option_map, option_and_then, bytes_eq, codes}
 use Rattle.std.specs.List.{list_all}
 use Rattle.std.proofs.lemmas.Bool.Decides.{nat_tests}
@@ -7,7 +7,7 @@ use Rattle.arrayvec.specs.ArrayVec.{ArrayVec}
 use Rattle.word36.specs.declared.sizes.TheConstants.{JOBS, LOCKS_A_CALL, NAME_LENGTH}
 use Rattle.lock_queue.specs.Pools.{PoolShare, share_of, is_right_share}
 use Rattle.lock_queue.specs.Uses.{pool_on, requested_want, want_on}
-use Rattle.lock_queue.specs.WellFormed.{is_job, names_locks, shares_no_pool, shares_no_pools}
+use Rattle.lock_queue.specs.WellFormed.{is_job, names_locks, shares_rightly, all_share_rightly}
 use Rattle.lock_queue.specs.declared.call.LockCall.{LockCall}
 use Rattle.lock_queue.specs.declared.call.LockCall.TheVariants.{Enqueue, Modify, DequeueNamed, DequeueAll, DequeueId}
 use Rattle.lock_queue.specs.declared.key.Key.{Key}
@@ -16,8 +16,8 @@ use Rattle.lock_queue.specs.declared.refusal.Refusal.{Refusal}
 use Rattle.lock_queue.specs.declared.refusal.Refusal.TheVariants.{BadCount, BadName, BadPool}
 use Rattle.lock_queue.specs.declared.request.EnqueueKind.{EnqueueKind}
 use Rattle.lock_queue.specs.declared.request.EnqueueKind.TheVariants.{Blocking, AtOnce, Interrupt}
-use Rattle.lock_queue.specs.declared.terms.LockUse.{LockUse}
-use Rattle.lock_queue.specs.declared.terms.LockUse.TheVariants.{Requested, Named}
+use Rattle.lock_queue.specs.declared.terms.BlockUse.{BlockUse}
+use Rattle.lock_queue.specs.declared.terms.BlockUse.TheVariants.{Full, Named}
 use Rattle.lock_queue.specs.declared.terms.Terms.{Terms}
 use Rattle.lock_queue.specs.declared.want.Want.{Want}
 use Rattle.queue_script.specs.Asks.{asks_right}
@@ -25,6 +25,7 @@ use Rattle.queue_script.specs.Commands.{Asked, show, waits, quit, free, not_zero
 use Rattle.queue_script.specs.Locks.{key_of, terms_of, locks_of, want_of, want_of_name, onto_wants, wants_of, stored, call_wants}
 use Rattle.queue_script.specs.Numbers.{number, is_digit, value_onto, parts}
 use Rattle.queue_script.specs.Options.{half_of}
+use Rattle.queue_script.specs.declared.call_room.TheConstants.{QUOTA}
 use Rattle.queue_script.specs.declared.locks.Lock.{Lock}
 use Rattle.queue_script.specs.declared.locks.LockName.{LockName}
 use Rattle.queue_script.specs.declared.locks.LockName.TheVariants.{Spelled, Coded}
@@ -68,46 +69,49 @@ onto-ok (Ok v) (Ok vs) all h = (v, vs, refl, refl, cc)
 onto-ok (Ok v) (Err r) all h = absurd (cc)
 onto-ok (Err r) ws all h = absurd (cc)
 
-wants-length : (job : ℕ) (use_ : LockUse) (locks : List Lock) (all : List Want) → wants_of job use_ locks ≡ Ok all → length all ≡ length locks
+wants-length : (job : ℕ) (use_ : BlockUse) (locks : List Lock) (all : List Want) → wants_of job use_ locks ≡ Ok all → length all ≡ length locks
 wants-length job use_ [] all h = let e : all ≡ [] = cc in ap length e
 wants-length job use_ (l ∷ ls) all h =
     let p = onto-ok (want_of job use_ l) (wants_of job use_ ls) all h in
     ap length p.4 ∙ ap suc (wants-length job use_ ls p.1 p.3)
 
-pool-unshared : (a shared b : Bool) (share : PoolShare) (pool : Option PoolShare)
-    → cond a (Ok None) (cond (not shared && b) (Ok (Some share)) (Err BadPool)) ≡ Ok pool → (shared && is_some pool) ≡ false
-pool-unshared true true b share pool h = let e : pool ≡ None = cc in ap is_some e
-pool-unshared true false b share pool h = refl
-pool-unshared false true b share pool h = absurd (cc)
-pool-unshared false false b share pool h = refl
+pool-rightly : (shared ungrouped a b : Bool) (share : PoolShare) (pool : Option PoolShare)
+    → cond (not shared && not ungrouped) (Err BadPool) (cond a (Ok None) (cond (not shared && b) (Ok (Some share)) (Err BadPool))) ≡ Ok pool
+    → (not (shared && is_some pool) && (shared || ungrouped)) ≡ true
+pool-rightly true ungrouped true b share pool h = let e : None ≡ pool = cc in ap (λ p. not (is_some p) && true) (sym e)
+pool-rightly true ungrouped false b share pool h = absurd (cc)
+pool-rightly false false a b share pool h = absurd (cc)
+pool-rightly false true a b share pool h = refl
 
 requested-pool : (key : Key) (terms : Terms) (p : Result (Option PoolShare) Refusal) (v : Want) → requested_want key terms p ≡ Ok v
-    → (pool : Option PoolShare) × (p ≡ Ok pool) × (shares_no_pool v ≡ not (terms.shared && is_some pool))
+    → (pool : Option PoolShare) × (p ≡ Ok pool) × (shares_rightly v ≡ (not (terms.shared && is_some pool) && (terms.shared || terms.group == 0)))
 requested-pool key terms (Ok pool) v h =
-    let e : v ≡ record { key = key; shared = terms.shared; bypass = terms.bypass; level = terms.level; pool = pool } = cc in
-    (pool, refl, ap shares_no_pool e)
+    let e : v ≡ record { key = key; shared = terms.shared; group = terms.group; bypass = terms.bypass; level = terms.level; pool = pool } = cc in
+    (pool, refl, ap shares_rightly e)
 requested-pool key terms (Err r) v h = absurd (cc)
 
-requested-unshared : (key : Key) (terms : Terms) (v : Want) → want_on Requested key terms ≡ Ok v → shares_no_pool v ≡ true
+requested-unshared : (key : Key) (terms : Terms) (v : Want) → want_on Full key terms ≡ Ok v → shares_rightly v ≡ true
 requested-unshared key terms v h =
-    let p = requested-pool key terms (pool_on terms.shared terms.pool_size terms.pool_amount) v h in
-    p.2 ∙ ap not (pool-unshared (terms.pool_size == 0 && terms.pool_amount == 0) terms.shared (is_right_share (share_of terms.pool_size terms.pool_amount)) (share_of terms.pool_size terms.pool_amount) p.0 p.1)
+    let p = requested-pool key terms (pool_on terms.shared terms.group terms.pool_size terms.pool_amount) v h in
+    p.2
+    ∙ pool-rightly terms.shared (terms.group == 0) (terms.pool_size == 0 && terms.pool_amount == 0)
+    (is_right_share (share_of terms.pool_size terms.pool_amount)) (share_of terms.pool_size terms.pool_amount) p.0 p.1
 
-fitting-unshared : (fits : Bool) (key : Key) (terms : Terms) (v : Want) → cond fits (want_on Requested key terms) (Err BadName) ≡ Ok v → shares_no_pool v ≡ true
+fitting-unshared : (fits : Bool) (key : Key) (terms : Terms) (v : Want) → cond fits (want_on Full key terms) (Err BadName) ≡ Ok v → shares_rightly v ≡ true
 fitting-unshared true key terms v h = requested-unshared key terms v h
 fitting-unshared false key terms v h = absurd (cc)
 
-want-unshared : (job : ℕ) (name : LockName) (lock : Lock) (v : Want) → want_of_name job Requested name lock.options ≡ Ok v → shares_no_pool v ≡ true
+want-unshared : (job : ℕ) (name : LockName) (lock : Lock) (v : Want) → want_of_name job Full name lock.options ≡ Ok v → shares_rightly v ≡ true
 want-unshared job (Coded code) lock v h = requested-unshared (key_of job (Code code) lock.options.own) (terms_of lock.options) v h
 want-unshared job (Spelled text) lock v h =
     fitting-unshared (nat_le (length text) NAME_LENGTH) (key_of job (Text text) lock.options.own) (terms_of lock.options) v h
 
-wants-unshared : (job : ℕ) (locks : List Lock) (all : List Want) → wants_of job Requested locks ≡ Ok all → list_all shares_no_pool all ≡ true
-wants-unshared job [] all h = let e : all ≡ [] = cc in ap (list_all shares_no_pool) e
+wants-unshared : (job : ℕ) (locks : List Lock) (all : List Want) → wants_of job Full locks ≡ Ok all → list_all shares_rightly all ≡ true
+wants-unshared job [] all h = let e : all ≡ [] = cc in ap (list_all shares_rightly) e
 wants-unshared job (l ∷ ls) all h =
-    let p = onto-ok (want_of job Requested l) (wants_of job Requested ls) all h in
-    ap (list_all shares_no_pool) p.4
-    ∙ both (shares_no_pool p.0) (list_all shares_no_pool p.1) (want-unshared job l.name l p.0 p.2) (wants-unshared job ls p.1 p.3)
+    let p = onto-ok (want_of job Full l) (wants_of job Full ls) all h in
+    ap (list_all shares_rightly) p.4
+    ∙ both (shares_rightly p.0) (list_all shares_rightly p.1) (want-unshared job l.name l p.0 p.2) (wants-unshared job ls p.1 p.3)
 
 counted : (a b : Bool) (r : Result (List Want) Refusal) (w : ArrayVec Want) → cond (a && b) (stored r) (Err BadCount) ≡ Ok w → (a ≡ true) × (r ≡ Ok w.items)
 counted true true (Ok ws) w h = let e : record { items = ws } ≡ w = cc in (refl, ap (λ (x : ArrayVec Want). Ok x.items) e)
@@ -116,12 +120,12 @@ counted true false r w h = absurd (cc)
 counted false b r w h = absurd (cc)
 
 -- what is known of the wants of a call
-pub record Wanted (job : ℕ) (use_ : LockUse) (w : ArrayVec Want) : Type 0 where
+pub record Wanted (job : ℕ) (use_ : BlockUse) (w : ArrayVec Want) : Type 0 where
   pub locks : List Lock
   pub some : nat_le 1 (length w.items) ≡ true
   pub read : wants_of job use_ locks ≡ Ok w.items
 
-wanted : (job : ℕ) (use_ : LockUse) (locks : List Lock) (w : ArrayVec Want) → call_wants job use_ locks ≡ Ok w → Wanted job use_ w
+wanted : (job : ℕ) (use_ : BlockUse) (locks : List Lock) (w : ArrayVec Want) → call_wants job use_ locks ≡ Ok w → Wanted job use_ w
 wanted job use_ locks w h =
     let p = counted (nat_le 1 (length locks)) (nat_le (length locks) LOCKS_A_CALL) (wants_of job use_ locks) w h in
     record { locks = locks; some = ap (nat_le 1) (wants-length job use_ locks w.items p.1) ∙ p.0; read = p.1 }
@@ -129,16 +133,16 @@ wanted job use_ locks w h =
 -- ---- calls
 
 abbrev IsRight : Option (Result LockCall Refusal) → Type 0
-IsRight o = (c : LockCall) → o ≡ Some (Ok c) → (names_locks c && shares_no_pools c) ≡ true
+IsRight o = (c : LockCall) → o ≡ Some (Ok c) → (names_locks c && all_share_rightly c) ≡ true
 
-made : (make : ArrayVec Want → LockCall) (job : ℕ) (use_ : LockUse) (r : Result (ArrayVec Want) Refusal) (c : LockCall)
-    → ((w : ArrayVec Want) → r ≡ Ok w → (names_locks (make w) && shares_no_pools (make w)) ≡ true)
-    → call_with make r ≡ Ok c → (names_locks c && shares_no_pools c) ≡ true
-made make job use_ (Ok w) c right h = let e : make w ≡ c = cc in subst (λ x. (names_locks x && shares_no_pools x) ≡ true) e (right w refl)
+made : (make : ArrayVec Want → LockCall) (job : ℕ) (use_ : BlockUse) (r : Result (ArrayVec Want) Refusal) (c : LockCall)
+    → ((w : ArrayVec Want) → r ≡ Ok w → (names_locks (make w) && all_share_rightly (make w)) ≡ true)
+    → call_with make r ≡ Ok c → (names_locks c && all_share_rightly c) ≡ true
+made make job use_ (Ok w) c right h = let e : make w ≡ c = cc in subst (λ x. (names_locks x && all_share_rightly x) ≡ true) e (right w refl)
 made make job use_ (Err r) c right h = absurd (cc)
 
-for_locks : (make : ArrayVec Want → LockCall) (job : ℕ) (use_ : LockUse) (o : Option (List Lock))
-    → ((w : ArrayVec Want) → Wanted job use_ w → (names_locks (make w) && shares_no_pools (make w)) ≡ true)
+for_locks : (make : ArrayVec Want → LockCall) (job : ℕ) (use_ : BlockUse) (o : Option (List Lock))
+    → ((w : ArrayVec Want) → Wanted job use_ w → (names_locks (make w) && all_share_rightly (make w)) ≡ true)
     → IsRight (option_map (λ locks. call_with make (call_wants job use_ locks)) o)
 for_locks make job use_ None right c h = absurd (cc)
 for_locks make job use_ (Some locks) right c h =
@@ -147,8 +151,8 @@ for_locks make job use_ (Some locks) right c h =
 
 request-right : (kind : EnqueueKind) (id job : ℕ) (items : List (List ℕ)) → IsRight (request_call kind id job items)
 request-right kind id job items =
-    for_locks (Enqueue (record { kind = kind; id = id; armed = true })) job Requested (locks_of items)
-    (λ w k. both (nat_le 1 (length w.items)) (list_all shares_no_pool w.items) k.some (wants-unshared job k.locks w.items k.read))
+    for_locks (Enqueue (record { kind = kind; id = id; armed = true; quota = QUOTA })) job Full (locks_of items)
+    (λ w k. both (nat_le 1 (length w.items)) (list_all shares_rightly w.items) k.some (wants-unshared job k.locks w.items k.read))
 
 change-right : (job : ℕ) (items : List (List ℕ)) → IsRight (change_call job items)
 change-right job items = for_locks Modify job Named (locks_of items) (λ w k. both (nat_le 1 (length w.items)) true k.some refl)
@@ -164,12 +168,12 @@ unknown-right : (items : List (List ℕ)) → IsRight (unknown_call items)
 unknown-right items = unknown-right-at (locks_of items) _
 
 release_all-right : (items : List (List ℕ)) → IsRight (release_all_call items)
-release_all-right [] c h = let e : DequeueAll ≡ c = cc in ap (λ x. names_locks x && shares_no_pools x) (sym e)
+release_all-right [] c h = let e : DequeueAll ≡ c = cc in ap (λ x. names_locks x && all_share_rightly x) (sym e)
 release_all-right (i ∷ is) c h = absurd (cc)
 
 id-right : (o : Option ℕ) → IsRight (option_map (λ i. Ok (DequeueId i)) o)
 id-right None c h = absurd (cc)
-id-right (Some i) c h = let e : DequeueId i ≡ c = cc in ap (λ x. names_locks x && shares_no_pools x) (sym e)
+id-right (Some i) c h = let e : DequeueId i ≡ c = cc in ap (λ x. names_locks x && all_share_rightly x) (sym e)
 
 release_id-right : (items : List (List ℕ)) → IsRight (release_id_call items)
 release_id-right [] c h = absurd (cc)
@@ -197,7 +201,7 @@ dequeue-right function job items =
 
 asked-right : (job : ℕ) (o : Option (Result LockCall Refusal)) → is_job job ≡ true → IsRight o → asks_right (asked_call job o) ≡ true
 asked-right job None is right = refl
-asked-right job (Some (Ok c)) is right = both (is_job job) (names_locks c && shares_no_pools c) is (right c refl)
+asked-right job (Some (Ok c)) is right = both (is_job job) (names_locks c && all_share_rightly c) is (right c refl)
 asked-right job (Some (Err r)) is right = refl
 
 then-right : (o : Option ℕ) (f : ℕ → Option Asked) → ((n : ℕ) → o ≡ Some n → asks_right (f n) ≡ true) → asks_right (option_and_then f o) ≡ true

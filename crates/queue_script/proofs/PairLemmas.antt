@@ -11,7 +11,7 @@ use Rattle.lock_queue.specs.Waits.{numbers_from, jobs, leads_to}
 use Rattle.lock_queue.specs.declared.request.Request.{Request}
 use Rattle.queue_script.specs.declared.circles.TheConstants.{NUMBERS, PAIRS}
 use Rattle.word36.specs.declared.sizes.TheConstants.{JOBS}
-use Rattle.queue_script.specs.WaitPairs.{pair_in, pair_line, circle_job, circle_jobs}
+use Rattle.queue_script.specs.WaitPairs.{MarksWaiters, pair_in, pair_line, pairs_text, circle_job, circle_jobs}
 
 -- what is left of the jobs at a job
 rest-at : (j : ℕ) → j < NUMBERS → numbers_from j (NUMBERS - j) ≡ j ∷ numbers_from (j + 1) (NUMBERS - (j + 1))
@@ -100,6 +100,11 @@ pub circle-same : (v w : ℕ → ℕ → Bool) → ((a b : ℕ) → a < NUMBERS 
 circle-same v w same =
     texts-same (circle_job v) (circle_job w) (λ m hm. ap (λ b. cond b (codes " " ++ decimal m) []) (leads-same v w JOBS m m same hm hm))
 
+pub pairs-same : (v w : ℕ → ℕ → Bool) → ((a b : ℕ) → a < NUMBERS → b < NUMBERS → v a b ≡ w a b) → pairs_text v ≡ pairs_text w
+pairs-same v w same =
+    texts-same (λ j. flat_map (pair_line v j) jobs) (λ j. flat_map (pair_line w j) jobs)
+    (λ j hj. texts-same (pair_line v j) (pair_line w j) (λ k hk. ap (λ b. cond b (decimal j ++ codes " FOR " ++ decimal k ++ codes "\n") []) (same j k hj hk)))
+
 -- ---- who waits for nobody
 
 blocked-nowhere : (j k : ℕ) (e rs : List Request) → some_behind (is_blocked j) e rs ≡ false → some_behind (is_blocked_by j k) e rs ≡ false
@@ -113,13 +118,32 @@ blocked-nowhere j k e (r ∷ rs) h =
 pub no_waits : (rs : List Request) (j k : ℕ) → is_waiting_job rs j ≡ false → waits_for rs j k ≡ false
 no_waits rs j k h = blocked-nowhere j k [] rs h
 
-nobody-lines : (rs : List Request) (j : ℕ) (others : List ℕ) → is_waiting_job rs j ≡ false → flat_map (pair_line rs j) others ≡ []
-nobody-lines rs j [] h = refl
-nobody-lines rs j (k ∷ ks) h =
-    ap (λ b. cond b (decimal j ++ codes " FOR " ++ decimal k ++ codes "\n") [] ++ flat_map (pair_line rs j) ks) (no_waits rs j k h) ∙ nobody-lines rs j ks h
+never : (xs : List ℕ) → list_any (λ m. false) xs ≡ false
+never [] = refl
+never (x ∷ xs) = never xs
 
-pub no_lines : (rs : List Request) (j : ℕ) (out : List ℕ) → is_waiting_job rs j ≡ false → out ≡ out ++ flat_map (pair_line rs j) jobs
-no_lines rs j out h = sym (ap (λ l. out ++ l) (nobody-lines rs j jobs h) ∙ append-nil out)
+abbrev no_text : ℕ → List ℕ
+no_text m = []
+
+no_texts : (xs : List ℕ) → flat_map no_text xs ≡ []
+no_texts [] = refl
+no_texts (x ∷ xs) = no_texts xs
+
+-- a job that is not marked as one that waits
+resting : (waiting : List Bool) (w : ℕ → ℕ → Bool) (j : ℕ) → MarksWaiters waiting w → j < NUMBERS → slice_index_or waiting j false ≡ false → list_any (w j) jobs ≡ false
+resting waiting w j marks hj h = any-same (w j) (λ m. false) (λ m hm. marks j m hj hm h) ∙ never jobs
+
+pub no_lines : (waiting : List Bool) (w : ℕ → ℕ → Bool) (j : ℕ) (out : List ℕ) → MarksWaiters waiting w → j < NUMBERS → slice_index_or waiting j false ≡ false
+    → out ≡ out ++ flat_map (pair_line w j) jobs
+no_lines waiting w j out marks hj h =
+    sym (ap (λ l. out ++ l)
+    (texts-same (pair_line w j) no_text (λ m hm. ap (λ b. cond b (decimal j ++ codes " FOR " ++ decimal m ++ codes "\n") []) (marks j m hj hm h)) ∙ no_texts jobs)
+    ∙ append-nil out)
+
+-- who waits is marked rightly
+pub marked : (rs : List Request) (waiting : List Bool) (w : ℕ → ℕ → Bool) → ((j : ℕ) → j < NUMBERS → slice_index_or waiting j false ≡ is_waiting_job rs j)
+    → ((j k : ℕ) → j < NUMBERS → k < NUMBERS → w j k ≡ waits_for rs j k) → MarksWaiters waiting w
+marked rs waiting w known same j k hj hk h = same j k hj hk ∙ no_waits rs j k (sym (known j hj) ∙ h)
 
 -- ---- tables
 
@@ -180,9 +204,17 @@ no_walk w (suc steps) j least most h =
     ap (λ b. b || list_any (λ m. w j m && leads_to w steps m j) jobs) (none-at (w j) JOBS 1 j h least (omega arith))
     ∙ any-less (w j) (λ m. leads_to w steps m j) jobs h
 
-pub no_circle : (w : ℕ → ℕ → Bool) (j : ℕ) (out : List ℕ) → 1 ≤ j → j < NUMBERS → list_any (w j) jobs ≡ false → out ≡ out ++ circle_job w j
-no_circle w j out least most h =
-    sym (ap (λ b. out ++ cond b (codes " " ++ decimal j) []) (no_walk w JOBS j least most h) ∙ append-nil out)
+pub no_circle : (waiting : List Bool) (w : ℕ → ℕ → Bool) (j : ℕ) (out : List ℕ) → MarksWaiters waiting w → 1 ≤ j → j < NUMBERS → slice_index_or waiting j false ≡ false
+    → out ≡ out ++ circle_job w j
+no_circle waiting w j out marks least most h =
+    sym (ap (λ b. out ++ cond b (codes " " ++ decimal j) []) (no_walk w JOBS j least most (resting waiting w j marks most h)) ∙ append-nil out)
+
+-- no walk leads on from a job that does not wait
+pub leads_nowhere : (waiting reached : List Bool) (w : ℕ → ℕ → Bool) (j k : ℕ) → MarksWaiters waiting w → j < NUMBERS → k < NUMBERS → slice_index_or waiting j false ≡ false
+    → false ≡ (w j k || list_any (λ m. w j m && slice_index_or reached m false) jobs)
+leads_nowhere waiting reached w j k marks hj hk h =
+    sym (ap (λ b. b || list_any (λ m. w j m && slice_index_or reached m false) jobs) (marks j k hj hk h)
+    ∙ any-less (w j) (λ m. slice_index_or reached m false) jobs (resting waiting w j marks hj h))
 
 pub leads-start : (w : ℕ → ℕ → Bool) (j k : ℕ) → leads_to w 0 j k ≡ false
 unfolding leads_to

@@ -7,11 +7,11 @@ use Rattle.lock_queue.specs.declared.refusal.Refusal.{Refusal}
 use Rattle.lock_queue.specs.declared.refusal.Refusal.TheVariants.{BadCount}
 use Rattle.lock_queue.specs.declared.want.Want.{Want}
 use Rattle.queue_script.specs.declared.locks.Lock.{Lock}
-use Rattle.lock_queue.specs.declared.terms.LockUse.{LockUse}
+use Rattle.lock_queue.specs.declared.terms.BlockUse.{BlockUse}
 use Rattle.queue_script.specs.Borrowed.{filled}
 use Rattle.queue_script.specs.Options.{no_options}
 use Rattle.queue_script.specs.declared.locks.LockName.TheVariants.{Spelled}
-use Rattle.lock_queue.specs.declared.terms.LockUse.TheVariants.{Requested, Named}
+use Rattle.lock_queue.specs.declared.terms.BlockUse.TheVariants.{Blocking, Full, Named}
 use Rattle.queue_script.specs.Locks.{lock_of, locks_of, want_of, plain_want, with_want, refused_by, refused_with, onto_wants, wants_of, stored, call_wants}
 
 -- the wants so far, or the first refusal
@@ -20,7 +20,7 @@ told_by None wants = Ok wants
 told_by (Some refusal) wants = Err refusal
 
 -- the items before the rest spell locks, and these are what was gathered
-pub record Gathers (job : ℕ) (use_ : LockUse) (all rest : List (List ℕ)) (count : ℕ) (wants : List Want) (refusal : Option Refusal) : Type 0 where
+pub record Gathers (job : ℕ) (use_ : BlockUse) (all rest : List (List ℕ)) (count : ℕ) (wants : List Want) (refusal : Option Refusal) : Type 0 where
   pub seen : List Lock
   pub read : locks_of all ≡ option_map (λ ls. seen ++ ls) (locks_of rest)
   pub counted : count ≡ min (length seen) 17
@@ -42,14 +42,15 @@ onto-join (Ok w) (Err r) v = refl
 onto-join (Ok w) (Ok ws) (Ok v) = refl
 onto-join (Ok w) (Ok ws) (Err r) = refl
 
-wants_of-push : (job : ℕ) (use_ : LockUse) (locks : List Lock) (lock : Lock) → wants_of job use_ (locks ++ lock ∷ []) ≡ join (wants_of job use_ locks) (want_of job use_ lock)
+wants_of-push : (job : ℕ) (use_ : BlockUse) (locks : List Lock) (lock : Lock) → wants_of job use_ (locks ++ lock ∷ []) ≡ join (wants_of job use_ locks) (want_of job use_ lock)
 wants_of-push job use_ [] lock = join-first (want_of job use_ lock)
 wants_of-push job use_ (l ∷ ls) lock =
     ap (onto_wants (want_of job use_ l)) (wants_of-push job use_ ls lock) ∙ onto-join (want_of job use_ l) (wants_of job use_ ls) (want_of job use_ lock)
 
 -- a name alone is wanted on the same terms by every call
-pub want_of_plain : (job : ℕ) (use_ : LockUse) (text : List ℕ) → want_of job use_ (record { name = Spelled text; options = no_options }) ≡ plain_want text
-want_of_plain job Requested text = refl
+pub want_of_plain : (job : ℕ) (use_ : BlockUse) (text : List ℕ) → want_of job use_ (record { name = Spelled text; options = no_options }) ≡ plain_want text
+want_of_plain job Blocking text = refl
+want_of_plain job Full text = refl
 want_of_plain job Named text = refl
 
 pub pushed : (ws ws' : List Want) (w : Result Want Refusal) (u : Unit {0}) → Ok u ≡ refused_by w → ws' ≡ with_want ws w → (want : Want) × (w ≡ Ok want) × (ws' ≡ ws ++ want ∷ [])
@@ -77,7 +78,7 @@ join-told : (refusal : Option Refusal) (wants : List Want) (want : Want) → joi
 join-told None wants want = refl
 join-told (Some r) wants want = refl
 
-pub gathers-want : (job : ℕ) (use_ : LockUse) (all old rest : List (List ℕ)) (item : List ℕ) (lock : Lock) (count next : ℕ) (wants wants' : List Want) (want : Want) (refusal : Option Refusal)
+pub gathers-want : (job : ℕ) (use_ : BlockUse) (all old rest : List (List ℕ)) (item : List ℕ) (lock : Lock) (count next : ℕ) (wants wants' : List Want) (want : Want) (refusal : Option Refusal)
     → Gathers job use_ all old count wants refusal → old ≡ item ∷ rest → lock_of item ≡ Some lock → next ≡ min 16 count + 1
     → want_of job use_ lock ≡ Ok want → wants' ≡ wants ++ want ∷ [] → Gathers job use_ all rest next wants' refusal
 gathers-want job use_ all old rest item lock count next wants wants' want refusal g taken is counted wanted pushed = record {
@@ -96,7 +97,7 @@ few_or_many n x y h = grind (arith, nat_tests)
 
 -- ---- a call that is refused
 
-wants_of-refused : (job : ℕ) (use_ : LockUse) (locks more : List Lock) (why : Refusal) → wants_of job use_ locks ≡ Err why → wants_of job use_ (locks ++ more) ≡ Err why
+wants_of-refused : (job : ℕ) (use_ : BlockUse) (locks more : List Lock) (why : Refusal) → wants_of job use_ locks ≡ Err why → wants_of job use_ (locks ++ more) ≡ Err why
 wants_of-refused job use_ [] more why h = absurd (cc)
 wants_of-refused job use_ (l ∷ ls) more why h = first (want_of job use_ l) (wants_of job use_ ls) (wants_of job use_ (ls ++ more)) h (λ e. wants_of-refused job use_ ls more why e)
   where
@@ -112,7 +113,7 @@ filled_refused : (b : Bool) (why : Refusal) (wants : ArrayVec Want) → filled (
 filled_refused true why wants = refl
 filled_refused false why wants = refl
 
-pub gathers-refused : (job : ℕ) (use_ : LockUse) (all old rest : List (List ℕ)) (item : List ℕ) (lock : Lock) (count : ℕ) (wants : List Want) (after : ArrayVec Want) (why : Refusal) (r : Option (Result (Unit {0}) Refusal))
+pub gathers-refused : (job : ℕ) (use_ : BlockUse) (all old rest : List (List ℕ)) (item : List ℕ) (lock : Lock) (count : ℕ) (wants : List Want) (after : ArrayVec Want) (why : Refusal) (r : Option (Result (Unit {0}) Refusal))
     → Gathers job use_ all old count wants None → count ≤ 16 → old ≡ item ∷ rest → lock_of item ≡ Some lock → want_of job use_ lock ≡ Err why
     → r ≡ option_map (refused_with (count + 1) why) (locks_of rest) → filled r after ≡ option_map (call_wants job use_) (locks_of all)
 gathers-refused job use_ all old rest item lock count wants after why r g few taken is wrong result =
@@ -136,7 +137,7 @@ gathers-refused job use_ all old rest item lock count wants after why r g few ta
         filled_refused (nat_le (count + 1 + length ls) 16) why after
         ∙ ap Some (sym (few_refused (length (seen ++ ls)) (count + 1 + length ls) _ _ _ (omega arith) (omega (arith, few)) (ap stored (wants_of-refused job use_ seen ls why refused-so))))
 
-pub gathers-full : (job : ℕ) (use_ : LockUse) (all old rest : List (List ℕ)) (item : List ℕ) (lock : Lock) (count : ℕ) (wants : List Want) (after : ArrayVec Want) (r : Option (Result (Unit {0}) Refusal))
+pub gathers-full : (job : ℕ) (use_ : BlockUse) (all old rest : List (List ℕ)) (item : List ℕ) (lock : Lock) (count : ℕ) (wants : List Want) (after : ArrayVec Want) (r : Option (Result (Unit {0}) Refusal))
     → Gathers job use_ all old count wants None → 16 ≤ count → old ≡ item ∷ rest → lock_of item ≡ Some lock
     → r ≡ option_map (refused_with 17 BadCount) (locks_of rest) → filled r after ≡ option_map (call_wants job use_) (locks_of all)
 gathers-full job use_ all old rest item lock count wants after r g many taken is result =

@@ -14,8 +14,9 @@ use Rattle.script_io.specs.declared.line_sessions.TheConstants.{LINE_LENGTH}
 use Rattle.queue_script.specs.Numbers.{number, parts}
 use Rattle.queue_script.specs.Options.{half_of}
 use Rattle.queue_script.specs.Locks.{locks_of, call_wants}
-use Rattle.lock_queue.specs.declared.terms.LockUse.{LockUse}
-use Rattle.lock_queue.specs.declared.terms.LockUse.TheVariants.{Requested, Named}
+use Rattle.queue_script.specs.declared.call_room.TheConstants.{QUOTA}
+use Rattle.lock_queue.specs.declared.terms.BlockUse.{BlockUse}
+use Rattle.lock_queue.specs.declared.terms.BlockUse.TheVariants.{Full, Named}
 
 -- ---- numbers
 
@@ -24,7 +25,7 @@ abbrev pub not_zero : Option ℕ → Option ℕ
 not_zero None = None
 not_zero (Some n) = if n == 0 then None else Some n
 
--- a job's number, 1 to 31
+-- a job's number, 1 to 63
 abbrev pub job_of : List ℕ → Option ℕ
 job_of text = not_zero (number 10 JOBS text)
 
@@ -57,13 +58,14 @@ call_with make (Ok wants) = Ok (make wants)
 call_with make (Err refusal) = Err refusal
 
 -- the call for the locks that some items spell
-abbrev pub call_for : (ArrayVec Want → LockCall) → ℕ → LockUse → List (List ℕ) → Option (Result LockCall Refusal)
+abbrev pub call_for : (ArrayVec Want → LockCall) → ℕ → BlockUse → List (List ℕ) → Option (Result LockCall Refusal)
 call_for make job use_ items = option_map (λ locks. call_with make (call_wants job use_ locks)) (locks_of items)
 
--- ENQ 0 to 2: a request
+-- ENQ 0 to 2: a request. A script sets no bound to the requests of a job: its quota is one more than the most requests
+-- that a table is made for, so that no job ever has so many. And it sets no time limits
 abbrev pub request_call : EnqueueKind → ℕ → ℕ → List (List ℕ) → Option (Result LockCall Refusal)
 request_call kind id job items =
-    call_for (Enqueue (record { kind = kind; id = id; armed = true })) job Requested items
+    call_for (Enqueue (record { kind = kind; id = id; armed = true; quota = QUOTA })) job Full items
 
 -- ENQ 3: a change; DEQ 0: wants that are given up
 abbrev pub change_call : ℕ → List (List ℕ) → Option (Result LockCall Refusal)

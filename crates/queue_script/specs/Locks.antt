@@ -10,7 +10,7 @@ use Rattle.lock_queue.specs.declared.name.Name.{Name}
 use Rattle.lock_queue.specs.declared.name.Name.TheVariants.{Text, Code}
 use Rattle.lock_queue.specs.declared.refusal.Refusal.{Refusal}
 use Rattle.lock_queue.specs.declared.refusal.Refusal.TheVariants.{BadCount, BadName}
-use Rattle.lock_queue.specs.declared.terms.LockUse.{LockUse}
+use Rattle.lock_queue.specs.declared.terms.BlockUse.{BlockUse}
 use Rattle.lock_queue.specs.declared.terms.Terms.{Terms}
 use Rattle.lock_queue.specs.declared.want.Want.{Want}
 use Rattle.queue_script.specs.Numbers.{number, parts}
@@ -84,25 +84,32 @@ abbrev pub amount_in : Option PoolOption → ℕ
 amount_in None = 0
 amount_in (Some pool) = pool.amount
 
--- the terms that options spell; level 0 where none is given
+-- the terms that options spell; group 0 and level 0 where none is given
 abbrev pub terms_of : Options → Terms
 terms_of o =
-    record { shared = o.shared; bypass = o.bypass; level = unwrap_or o.level 0; pool_size = size_in o.pool; pool_amount = amount_in o.pool }
+    record {
+      shared = o.shared;
+      group = unwrap_or o.group 0;
+      bypass = o.bypass;
+      level = unwrap_or o.level 0;
+      pool_size = size_in o.pool;
+      pool_amount = amount_in o.pool;
+    }
 
 -- what a job's call wants of a lock, or why that is refused: a name in characters has at most 30
-abbrev pub want_of_name : ℕ → LockUse → LockName → Options → Result Want Refusal
+abbrev pub want_of_name : ℕ → BlockUse → LockName → Options → Result Want Refusal
 want_of_name job use_ (Spelled text) o =
     if nat_le (length text) NAME_LENGTH then want_on use_ (key_of job (Text text) o.own) (terms_of o) else Err BadName
 want_of_name job use_ (Coded code) o = want_on use_ (key_of job (Code code) o.own) (terms_of o)
 
-abbrev pub want_of : ℕ → LockUse → Lock → Result Want Refusal
+abbrev pub want_of : ℕ → BlockUse → Lock → Result Want Refusal
 want_of job use_ lock = want_of_name job use_ lock.name lock.options
 
 -- what any call wants of the lock of a name alone
 abbrev pub plain_want : List ℕ → Result Want Refusal
 plain_want text =
     if nat_le (length text) NAME_LENGTH
-    then Ok (record { key = record { scope = All; name = Text text }; shared = false; bypass = false; level = 0; pool = None })
+    then Ok (record { key = record { scope = All; name = Text text }; shared = false; group = 0; bypass = false; level = 0; pool = None })
     else Err BadName
 
 -- some wants and one more, where it is not refused
@@ -122,7 +129,7 @@ onto_wants (Ok want) (Err refusal) = Err refusal
 onto_wants (Err refusal) later = Err refusal
 
 -- the wants of all locks, or the first refusal, lock by lock
-abbrev pub wants_of : ℕ → LockUse → List Lock → Result (List Want) Refusal
+abbrev pub wants_of : ℕ → BlockUse → List Lock → Result (List Want) Refusal
 wants_of job use_ [] = Ok []
 wants_of job use_ (lock ∷ more) = onto_wants (want_of job use_ lock) (wants_of job use_ more)
 
@@ -131,7 +138,7 @@ stored (Ok wants) = Ok (record { items = wants })
 stored (Err refusal) = Err refusal
 
 -- the wants of a call: their number is looked at first
-abbrev pub call_wants : ℕ → LockUse → List Lock → Result (ArrayVec Want) Refusal
+abbrev pub call_wants : ℕ → BlockUse → List Lock → Result (ArrayVec Want) Refusal
 call_wants job use_ locks =
     if nat_le 1 (length locks) && nat_le (length locks) LOCKS_A_CALL then stored (wants_of job use_ locks) else Err BadCount
 

@@ -1,8 +1,8 @@
--- The options of a lock: `/S`, `/B`, `/Ln`, `/Ps:a` and `/J` (this project's profile).
+-- The options of a lock: `/S`, `/Gn`, `/B`, `/Ln`, `/Ps:a` and `/J` (this project's profile).
 use Rattle.std.specs.Prelude.{◌≡◌, ◌==◌, ◌&&◌, not, ℕ, Bool, true, false, List, [], ◌∷◌, Option, Some, None, if◌then◌else◌, option_and_then, option_map}
 use Rattle.queue_script.specs.Numbers.{number, parts}
 use Rattle.queue_script.specs.declared.options.LockOption.{LockOption}
-use Rattle.queue_script.specs.declared.options.LockOption.TheVariants.{Shared, Bypass, Level, Pool, Own}
+use Rattle.queue_script.specs.declared.options.LockOption.TheVariants.{Shared, Group, Bypass, Level, Pool, Own}
 use Rattle.queue_script.specs.declared.options.Options.{Options}
 use Rattle.queue_script.specs.declared.options.TheConstants.{MOST_HALF, MOST_LEVEL}
 use Rattle.queue_script.specs.declared.options.PoolOption.{PoolOption}
@@ -22,7 +22,7 @@ abbrev pub alone : LockOption → List ℕ → Option LockOption
 alone option [] = Some option
 alone option (c ∷ more) = None
 
--- the option that a text behind a `/` spells: its letter, S, B, J, L or P, and what follows
+-- the option that a text behind a `/` spells: its letter, S, B, J, L, P or G, and what follows
 abbrev pub option_of : List ℕ → Option LockOption
 option_of [] = None
 option_of (letter ∷ rest) =
@@ -31,15 +31,17 @@ option_of (letter ∷ rest) =
     else (if letter == 74 then alone Own rest
     else (if letter == 76 then option_map Level (number 10 MOST_LEVEL rest)
     else (if letter == 80 then option_map Pool (pool_of (parts 58 rest))
-    else None))))
+    else (if letter == 71 then option_map Group (half_of rest)
+    else None)))))
 
 -- no option
 abbrev pub no_options : Options
-no_options = record { shared = false; bypass = false; level = None; pool = None; own = false }
+no_options = record { shared = false; group = None; bypass = false; level = None; pool = None; own = false }
 
 -- some options and one more, which is not among them
 abbrev pub with_option : Options → LockOption → Option Options
 with_option o Shared = if o.shared then None else Some (record o { shared = true })
+with_option o (Group group) = elim o.group [ None ↦ Some (record o { group = Some group }) | Some other ↦ None ]
 with_option o Bypass = if o.bypass then None else Some (record o { bypass = true })
 with_option o (Level level) = elim o.level [ None ↦ Some (record o { level = Some level }) | Some other ↦ None ]
 with_option o (Pool pool) = elim o.pool [ None ↦ Some (record o { pool = Some pool }) | Some other ↦ None ]

@@ -55,6 +55,9 @@ abbrev pub name_text : Name → List ℕ
 name_text (Text name) = flat_map name_character name
 name_text (Code code) = codes "#" ++ octal_text code
 
+abbrev pub group_text : ℕ → List ℕ
+group_text group = if group == 0 then [] else codes "/G" ++ decimal group
+
 abbrev pub level_text : ℕ → List ℕ
 level_text level = if level == 0 then [] else codes "/L" ++ decimal level
 
@@ -69,8 +72,8 @@ scope_text (Job job) = codes "/J"
 -- a lock of a request: its name, and its options in one order
 abbrev pub want_text : Want → List ℕ
 want_text w =
-    name_text w.key.name ++ (if w.shared then codes "/S" else []) ++ (if w.bypass then codes "/B" else [])
-    ++ level_text w.level ++ pool_text w.pool ++ scope_text w.key.scope
+    name_text w.key.name ++ (if w.shared then codes "/S" else []) ++ group_text w.group
+    ++ (if w.bypass then codes "/B" else []) ++ level_text w.level ++ pool_text w.pool ++ scope_text w.key.scope
 
 abbrev pub kind_number : EnqueueKind → ℕ
 kind_number Blocking = 0

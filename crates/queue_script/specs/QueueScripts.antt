@@ -15,6 +15,7 @@ use Rattle.lock_queue.specs.declared.want.Want.{Want}
 use Rattle.queue_script.specs.Commands.{Asked, nothing, call, status, free, show, waits, quit, command_of}
 use Rattle.queue_script.specs.Printing.{code_line, grant_line, reply_line, status_line, request_line}
 use Rattle.script_io.specs.Transcripts.{Transcript, after, closed, unless_ended}
+use Rattle.word36.specs.declared.sizes.TheConstants.{MOST_REQUESTS}
 use Rattle.queue_script.specs.WaitPairs.{waits_text}
 use Rattle.queue_script.specs.Endings.{script_fault}
 use Rattle.queue_script.specs.declared.endings.Ending.{Ending}
@@ -32,12 +33,13 @@ goes requests text = record { requests = requests; text = text; ending = None }
 
 -- ---- calls
 
--- a job's call on the queue, where it was not refused before: its answer, and the grants that it makes
-abbrev pub call_effect : List Request → ℕ → Result LockCall Refusal → Effect
-call_effect requests job (Err refusal) = goes requests (code_line refusal)
-call_effect requests job (Ok asked) =
-    goes (outcome_of requests job asked).requests
-    (reply_line (outcome_of requests job asked).reply ++ flat_map grant_line (woken_by requests job asked))
+-- a job's call on the queue, which holds so many requests, where it was not refused before: its answer, and the grants that
+-- it makes
+abbrev pub call_effect : ℕ → List Request → ℕ → Result LockCall Refusal → Effect
+call_effect size requests job (Err refusal) = goes requests (code_line refusal)
+call_effect size requests job (Ok asked) =
+    goes (outcome_of size requests job asked).requests
+    (reply_line (outcome_of size requests job asked).reply ++ flat_map grant_line (woken_by size requests job asked))
 
 -- a job that waits does nothing
 abbrev pub unless_busy : List Request → ℕ → Effect → Effect
@@ -69,28 +71,28 @@ show_text requests = shown_from requests 0 requests ++ codes "END\n"
 
 -- ---- lines
 
--- what line n does, which asks for this; one that is not in the grammar ends the script
-abbrev pub effect_of : ℕ → List Request → Option Asked → Effect
-effect_of n requests None =
+-- what line n does on a queue of some size, which asks for this; one that is not in the grammar ends the script
+abbrev pub effect_of : ℕ → ℕ → List Request → Option Asked → Effect
+effect_of size n requests None =
     record { requests = requests; text = (script_fault n).text; ending = Some ending.Script }
-effect_of n requests (Some nothing) = goes requests []
-effect_of n requests (Some (call job c)) = unless_busy requests job (call_effect requests job c)
-effect_of n requests (Some (status job wants)) = goes requests (status_text requests job wants)
-effect_of n requests (Some (free job)) = free_effect requests job
-effect_of n requests (Some show) = goes requests (show_text requests)
-effect_of n requests (Some waits) = goes requests (waits_text requests)
-effect_of n requests (Some quit) = record { requests = requests; text = []; ending = Some ending.Done }
+effect_of size n requests (Some nothing) = goes requests []
+effect_of size n requests (Some (call job c)) = unless_busy requests job (call_effect size requests job c)
+effect_of size n requests (Some (status job wants)) = goes requests (status_text requests job wants)
+effect_of size n requests (Some (free job)) = free_effect requests job
+effect_of size n requests (Some show) = goes requests (show_text requests)
+effect_of size n requests (Some waits) = goes requests (waits_text requests)
+effect_of size n requests (Some quit) = record { requests = requests; text = []; ending = Some ending.Done }
 
 -- the line's text, and then what follows, unless the script ends
 abbrev pub continued : Effect → (List Request → Transcript Ending) → Transcript Ending
 continued e rest = after e.text (unless_ended e.ending (rest e.requests))
 
--- what lines write, where n lines have come and left these requests
-abbrev pub transcript_of : List Request → ℕ → List (List ℕ) → Transcript Ending
-transcript_of requests n [] = closed [] ending.Done
-transcript_of requests n (line ∷ more) =
-    continued (effect_of (n + 1) requests (command_of line)) (λ next. transcript_of next (n + 1) more)
+-- what lines write on a queue of some size, where n lines have come and left these requests
+abbrev pub transcript_of : ℕ → List Request → ℕ → List (List ℕ) → Transcript Ending
+transcript_of size requests n [] = closed [] ending.Done
+transcript_of size requests n (line ∷ more) =
+    continued (effect_of size (n + 1) requests (command_of line)) (λ next. transcript_of size next (n + 1) more)
 
--- what a script writes, and how it ends
+-- what a script writes on a queue of the largest size, which is empty at first, and how it ends
 unfoldable pub transcript : List ℕ → Transcript Ending
-transcript bytes = transcript_of [] 0 (lines bytes)
+transcript bytes = transcript_of MOST_REQUESTS [] 0 (lines bytes)

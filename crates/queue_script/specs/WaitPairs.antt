@@ -1,5 +1,5 @@
 -- Who waits for whom (this project's profile).
-use Rattle.std.specs.Prelude.{◌+◌, ℕ, Bool, false, List, [], ◌∷◌, ◌++◌, if◌then◌else◌, codes, decimal, slice_index_or, ◌*◌}
+use Rattle.std.specs.Prelude.{◌≡◌, ◌<◌, ◌+◌, ℕ, Bool, false, List, [], ◌∷◌, ◌++◌, if◌then◌else◌, codes, decimal, slice_index_or, ◌*◌}
 use Rattle.std.specs.List.{flat_map}
 use Rattle.lock_queue.specs.Jobs.{waits_for}
 use Rattle.lock_queue.specs.Waits.{jobs, is_in_circle}
@@ -7,13 +7,12 @@ use Rattle.lock_queue.specs.declared.request.Request.{Request}
 use Rattle.queue_script.specs.declared.circles.TheConstants.{NUMBERS}
 
 -- `j FOR k`, where the job j waits for the job k
-abbrev pub pair_line : List Request → ℕ → ℕ → List ℕ
-pair_line requests j k =
-    if waits_for requests j k then decimal j ++ codes " FOR " ++ decimal k ++ codes "\n" else []
+abbrev pub pair_line : (ℕ → ℕ → Bool) → ℕ → ℕ → List ℕ
+pair_line waits j k = if waits j k then decimal j ++ codes " FOR " ++ decimal k ++ codes "\n" else []
 
 -- the lines of all pairs, rising
-abbrev pub pairs_text : List Request → List ℕ
-pairs_text requests = flat_map (λ j. flat_map (pair_line requests j) jobs) jobs
+abbrev pub pairs_text : (ℕ → ℕ → Bool) → List ℕ
+pairs_text waits = flat_map (λ j. flat_map (pair_line waits j) jobs) jobs
 
 -- a job in a circle, behind a space
 abbrev pub circle_job : (ℕ → ℕ → Bool) → ℕ → List ℕ
@@ -29,9 +28,15 @@ or_none (c ∷ more) = c ∷ more
 
 -- the pairs, and then the jobs from which a walk leads back
 abbrev pub waits_text : List Request → List ℕ
-waits_text requests = pairs_text requests ++ codes "CIRCLE" ++ or_none (circle_jobs (waits_for requests)) ++ codes "\n"
+waits_text requests =
+    pairs_text (waits_for requests) ++ codes "CIRCLE" ++ or_none (circle_jobs (waits_for requests)) ++ codes "\n"
 
 -- the pairs in a table whose rows are the jobs from 0 on: the place k of the row j says whether the job j waits for
 -- the job k
 abbrev pub pair_in : List Bool → ℕ → ℕ → Bool
 pair_in pairs j k = slice_index_or pairs (NUMBERS * j + k) false
+
+-- no job waits for another that is not marked as one that waits
+abbrev pub MarksWaiters : List Bool → (ℕ → ℕ → Bool) → Type 0
+MarksWaiters waiting waits =
+    (j k : ℕ) → j < NUMBERS → k < NUMBERS → slice_index_or waiting j false ≡ false → waits j k ≡ false

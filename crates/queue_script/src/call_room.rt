@@ -5,12 +5,17 @@ ghost use Rattle.queue_script.specs.Borrowed.{filled, lent_by};
 ghost use Rattle.queue_script.specs.Commands.{request_call, change_call, release_call, release_all_call, release_id_call};
 ghost use Rattle.queue_script.specs.Locks.{locks_of, call_wants};
 ghost use Rattle.lock_queue.specs.declared.call.LockCall.TheVariants.{DequeueId};
-ghost use Rattle.lock_queue.specs.declared.terms.LockUse.TheVariants.{Named};
+ghost use Rattle.lock_queue.specs.declared.terms.BlockUse.TheVariants.{Named};
 
 use crate::call_wants::read_wants;
 use crate::options::read_half;
 use crate::parts::Parts;
-use lock_queue::{Asking, EnqueueKind, LockCall, LockUse, Refusal, RequestId, Wants};
+use lock_queue::{Asking, BlockUse, EnqueueKind, LockCall, Refusal, RequestId, Wants};
+use word36::MOST_REQUESTS;
+
+/// How many requests a job of a script may have: more than any table holds, so that a script is never
+/// refused for that.
+pub const QUOTA: u16 = MOST_REQUESTS as u16 + 1;
 
 /// A call of each kind that names locks, one that names none, and the locks whose status is asked.
 #[derive(Drop)]
@@ -106,7 +111,7 @@ impl CallRoom {
     pub fn keys(&mut self, job: u8, items: Parts<'_>) -> Option<Result<&Wants, Refusal>>
         ensures { lent_by result ≡ option_map (call_wants job Named) (locks_of items.entry) }
     {
-        match read_wants(items, job, LockUse::Named, &mut self.keys) {
+        match read_wants(items, job, BlockUse::Named, &mut self.keys) {
             None => None,
             Some(Ok(())) => Some(Ok(&self.keys)),
             Some(Err(refusal)) => Some(Err(refusal)),
@@ -136,12 +141,13 @@ fn replace_by_request(
     ensures { filled result call.new ≡ request_call kind id job items.entry }
 {
     let mut wants = Wants::new();
-    let answer = read_wants(items, job, LockUse::Requested, &mut wants);
+    let answer = read_wants(items, job, BlockUse::Full, &mut wants);
     *call = LockCall::Enqueue {
         asking: Asking {
             kind,
             id,
             armed: true,
+            quota: QUOTA,
         },
         wants,
     };
@@ -154,7 +160,7 @@ fn replace_by_change(call: &mut LockCall, job: u8, items: Parts<'_>) -> Option<R
     ensures { filled result call.new ≡ change_call job items.entry }
 {
     let mut wants = Wants::new();
-    let answer = read_wants(items, job, LockUse::Named, &mut wants);
+    let answer = read_wants(items, job, BlockUse::Named, &mut wants);
     *call = LockCall::Modify(wants);
     answer
 }
@@ -165,7 +171,7 @@ fn replace_by_release(call: &mut LockCall, job: u8, items: Parts<'_>) -> Option<
     ensures { filled result call.new ≡ release_call job items.entry }
 {
     let mut wants = Wants::new();
-    let answer = read_wants(items, job, LockUse::Named, &mut wants);
+    let answer = read_wants(items, job, BlockUse::Named, &mut wants);
     *call = LockCall::DequeueNamed(wants);
     answer
 }
@@ -187,7 +193,8 @@ fn fill_request(
             asking.kind = kind;
             asking.id = id;
             asking.armed = true;
-            read_wants(items, job, LockUse::Requested, wants)
+            asking.quota = QUOTA;
+            read_wants(items, job, BlockUse::Full, wants)
         }
         _ => replace_by_request(call, kind, id, job, items),
     }
@@ -199,7 +206,7 @@ fn fill_change(call: &mut LockCall, job: u8, items: Parts<'_>) -> Option<Result<
     ensures { filled result call.new ≡ change_call job items.entry }
 {
     match call {
-        LockCall::Modify(wants) => read_wants(items, job, LockUse::Named, wants),
+        LockCall::Modify(wants) => read_wants(items, job, BlockUse::Named, wants),
         _ => replace_by_change(call, job, items),
     }
 }
@@ -211,7 +218,7 @@ fn fill_release(call: &mut LockCall, job: u8, items: Parts<'_>) -> Option<Result
     ensures { filled result call.new ≡ release_call job items.entry }
 {
     match call {
-        LockCall::DequeueNamed(wants) => read_wants(items, job, LockUse::Named, wants),
+        LockCall::DequeueNamed(wants) => read_wants(items, job, BlockUse::Named, wants),
         _ => replace_by_release(call, job, items),
     }
 }

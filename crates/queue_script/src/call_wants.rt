@@ -5,7 +5,7 @@ ghost use Rattle.queue_script.specs.Locks.{locks_of, call_wants, refused_with};
 
 use crate::locks::{next_lock, read_lock};
 use crate::parts::Parts;
-use lock_queue::{LockUse, Refusal, Wants};
+use lock_queue::{BlockUse, Refusal, Wants};
 use word36::LOCKS_A_CALL;
 
 /// Takes out all wants. Mostly there is one, which `pop` takes out in fewer steps.
@@ -46,10 +46,10 @@ fn refuse(mut items: Parts<'_>, first: usize, why: Refusal) -> Option<Result<(),
 pub fn read_wants(
     mut items: Parts<'_>,
     job: u8,
-    lock_use: LockUse,
+    block_use: BlockUse,
     wants: &mut Wants,
 ) -> Option<Result<(), Refusal>>
-    ensures { filled result wants.new ≡ option_map (call_wants job lock_use) (locks_of items.entry) }
+    ensures { filled result wants.new ≡ option_map (call_wants job block_use) (locks_of items.entry) }
 {
     clear(wants);
     while let Some(item) = next_lock(&mut items) {
@@ -58,7 +58,7 @@ pub fn read_wants(
             return refuse(items, LOCKS_A_CALL + 1, Refusal::BadCount);
         }
         let count = wants.len();
-        match lock.push_want(job, lock_use, wants) {
+        match lock.push_want(job, block_use, wants) {
             Ok(()) => {}
             Err(why) => return refuse(items, count + 1, why),
         }

@@ -2,7 +2,7 @@
 ghost use Rattle.std.specs.Prelude.{◌≡◌, ◌<◌, ◌&&◌, ◌||◌, ℕ, false, slice_index_or};
 ghost use Rattle.std.specs.List.{list_any};
 ghost use Rattle.lock_queue.specs.Waits.{leads_to, jobs};
-ghost use Rattle.queue_script.specs.WaitPairs.{pair_in};
+ghost use Rattle.queue_script.specs.WaitPairs.{MarksWaiters, pair_in};
 
 use word36::JOBS;
 
@@ -16,21 +16,11 @@ pub const PAIRS: usize = NUMBERS * NUMBERS;
 /// it of the jobs j and k.
 pub type PairTable = [bool; PAIRS];
 
-/// Whether a job waits for some job.
-pub fn has_pair(pairs: &PairTable, job: usize) -> bool
-    requires { job < NUMBERS }
-    ensures { result ≡ list_any (pair_in pairs.now job) jobs }
-{
-    for other in 1..NUMBERS {
-        if pairs[NUMBERS * job + other] {
-            return true;
-        }
-    }
-    false
-}
+/// A mark of each job's number, such as whether the job waits.
+pub type JobMarks = [bool; NUMBERS];
 
 /// Whether a job waits for one that is reached.
-fn is_step(pairs: &PairTable, reached: &[bool; NUMBERS], job: usize, other: usize) -> bool
+fn is_step(pairs: &PairTable, reached: &JobMarks, job: usize, other: usize) -> bool
     requires job { job < NUMBERS }
     requires other { other < NUMBERS }
     ensures { result ≡ (pair_in pairs.now job other && slice_index_or reached.now other false) }
@@ -39,7 +29,7 @@ fn is_step(pairs: &PairTable, reached: &[bool; NUMBERS], job: usize, other: usiz
 }
 
 /// Whether a job waits for one of those that are reached.
-fn has_step(pairs: &PairTable, reached: &[bool; NUMBERS], job: usize) -> bool
+fn has_step(pairs: &PairTable, reached: &JobMarks, job: usize) -> bool
     requires { job < NUMBERS }
     ensures { result ≡ list_any (λ m. pair_in pairs.now job m && slice_index_or reached.now m false) jobs }
 {
@@ -51,36 +41,55 @@ fn has_step(pairs: &PairTable, reached: &[bool; NUMBERS], job: usize) -> bool
     false
 }
 
-/// Whether a job waits for the target, or for a job from which a walk leads there.
-fn leads_on(pairs: &PairTable, reached: &[bool; NUMBERS], job: usize, target: usize) -> bool
+/// Whether a job waits for the target, or for a job from which a walk leads there. Of a job that does
+/// not wait no pair is looked at.
+fn leads_on(
+    pairs: &PairTable,
+    waiting: &JobMarks,
+    reached: &JobMarks,
+    job: usize,
+    target: usize,
+) -> bool
+    requires marked { MarksWaiters waiting.now (pair_in pairs.now) }
     requires job { job < NUMBERS }
     requires target { target < NUMBERS }
     ensures { result ≡ (pair_in pairs.now job target || list_any (λ m. pair_in pairs.now job m && slice_index_or reached.now m false) jobs) }
 {
+    if !waiting[job] {
+        return false;
+    }
     pairs[NUMBERS * job + target] || has_step(pairs, reached, job)
 }
 
 /// From which jobs a walk of one pair more leads to the target.
-fn lead_further(pairs: &PairTable, reached: &[bool; NUMBERS], target: usize) -> [bool; NUMBERS]
-    requires { target < NUMBERS }
+fn lead_further(
+    pairs: &PairTable,
+    waiting: &JobMarks,
+    reached: &JobMarks,
+    target: usize,
+) -> JobMarks
+    requires marked { MarksWaiters waiting.now (pair_in pairs.now) }
+    requires target { target < NUMBERS }
     ensures { (j : ℕ) → j < NUMBERS → slice_index_or result j false
         ≡ (pair_in pairs.now j target || list_any (λ m. pair_in pairs.now j m && slice_index_or reached.now m false) jobs) }
 {
     let mut further = [false; NUMBERS];
     for job in 0..NUMBERS {
-        further[job] = leads_on(pairs, reached, job, target);
+        further[job] = leads_on(pairs, waiting, reached, job, target);
     }
     further
 }
 
-/// From which jobs a walk leads to the target.
-pub fn leading_to(pairs: &PairTable, target: usize) -> [bool; NUMBERS]
-    requires { target < NUMBERS }
+/// From which jobs a walk leads to the target. The jobs that wait are marked, and of the others no
+/// pair is looked at.
+pub fn leading_to(pairs: &PairTable, waiting: &JobMarks, target: usize) -> JobMarks
+    requires marked { MarksWaiters waiting.now (pair_in pairs.now) }
+    requires target { target < NUMBERS }
     ensures { (j : ℕ) → j < NUMBERS → slice_index_or result j false ≡ leads_to (pair_in pairs.now) JOBS j target }
 {
     let mut reached = [false; NUMBERS];
     for steps in 0..JOBS {
-        let further = lead_further(pairs, &reached, target);
+        let further = lead_further(pairs, waiting, &reached, target);
         if further == reached {
             return reached;
         }

@@ -34,7 +34,7 @@ pub enum Command<'a> {
     Quit,
 }
 
-/// Takes a job's number, 1 to 31, from the front of the items.
+/// Takes a job's number, 1 to 63, from the front of the items.
 #[inline(always)]
 fn next_job(items: &mut Parts<'_>) -> Option<u8>
     ensures { MatchOption result (front job_of items.old ≡ None) (λ job. IsFront job_of job items.old items.new) }

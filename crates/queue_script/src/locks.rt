@@ -11,7 +11,9 @@ ghost use Rattle.word36.specs.declared.sizes.TheConstants.{LOCKS_A_CALL};
 use crate::numbers::number;
 use crate::options::{Options, front_options, read_options};
 use crate::parts::Parts;
-use lock_queue::{Key, Level, LockUse, Name, NameText, Refusal, Scope, UserCode, Want, Wants};
+use lock_queue::{
+    BlockUse, Group, Key, Level, Name, NameText, Refusal, Scope, UserCode, Want, Wants,
+};
 use std::marker::Model;
 use std::str;
 
@@ -231,15 +233,15 @@ fn push_named(
     name: Name,
     options: Options,
     job: u8,
-    lock_use: LockUse,
+    block_use: BlockUse,
     wants: &mut Wants,
 ) -> Result<(), Refusal>
     requires { array_vec_len wants.old < LOCKS_A_CALL }
-    ensures answer { result ≡ refused_by (want_on lock_use (key_of job name options.own) (terms_of options)) }
-    ensures items { wants.new.items ≡ with_want wants.old.items (want_on lock_use (key_of job name options.own) (terms_of options)) }
+    ensures answer { result ≡ refused_by (want_on block_use (key_of job name options.own) (terms_of options)) }
+    ensures items { wants.new.items ≡ with_want wants.old.items (want_on block_use (key_of job name options.own) (terms_of options)) }
 {
     let key = key_of(job, name, options.own);
-    match Want::on(lock_use, key, options.terms()) {
+    match Want::on(block_use, key, options.terms()) {
         Ok(want) => {
             wants.push(want);
             Ok(())
@@ -264,6 +266,7 @@ fn push_plain(name: Characters<'_>, wants: &mut Wants) -> Result<(), Refusal>
                     name: Name::Text(text),
                 },
                 shared: false,
+                group: Group::new(0),
                 bypass: false,
                 level: Level::new(0),
                 pool: None,
@@ -279,19 +282,19 @@ impl FirstLock<'_> {
     /// the name is copied.
     #[inline(always)]
     #[tactic(auto, using(crate::proofs::WantLemmas::want_of_plain))]
-    pub fn push_want(self, job: u8, lock_use: LockUse, wants: &mut Wants) -> Result<(), Refusal>
+    pub fn push_want(self, job: u8, block_use: BlockUse, wants: &mut Wants) -> Result<(), Refusal>
         requires { array_vec_len wants.old < LOCKS_A_CALL }
-        ensures answer { result ≡ refused_by (want_of job lock_use (any_lock self.entry)) }
-        ensures items { wants.new.items ≡ with_want wants.old.items (want_of job lock_use (any_lock self.entry)) }
+        ensures answer { result ≡ refused_by (want_of job block_use (any_lock self.entry)) }
+        ensures items { wants.new.items ≡ with_want wants.old.items (want_of job block_use (any_lock self.entry)) }
     {
         let Lock { name, options } = match self {
             FirstLock::Name(name) => return push_plain(name, wants),
             FirstLock::Lock(lock) => lock,
         };
         match name {
-            LockName::Coded(code) => push_named(Name::Code(code), options, job, lock_use, wants),
+            LockName::Coded(code) => push_named(Name::Code(code), options, job, block_use, wants),
             LockName::Spelled(name) => match NameText::new(name.text) {
-                Some(text) => push_named(Name::Text(text), options, job, lock_use, wants),
+                Some(text) => push_named(Name::Text(text), options, job, block_use, wants),
                 None => Err(Refusal::BadName),
             },
         }

@@ -7,7 +7,7 @@ ghost use Rattle.queue_script.specs.Options.{half_of, option_of, pool_of, with_o
 
 use crate::numbers::number;
 use crate::parts::Parts;
-use lock_queue::{Level, Terms};
+use lock_queue::{Group, Level, Terms};
 
 /// The largest level.
 const MOST_LEVEL: u64 = 0o777;
@@ -29,6 +29,8 @@ pub struct PoolOption {
 pub enum LockOption {
     /// `/S`: others may share the lock.
     Shared,
+    /// `/Gn`: of those who share, it goes with this group.
+    Group(Group),
     /// `/B`: the rule of rising levels is not asked of it.
     Bypass,
     /// `/Ln`: its level.
@@ -44,6 +46,8 @@ pub enum LockOption {
 pub struct Options {
     /// Whether others may share the lock.
     pub shared: bool,
+    /// Its group among those who share, if it is given.
+    pub group: Option<Group>,
     /// Whether the rule of rising levels is not asked of it.
     pub bypass: bool,
     /// Its level, if it is given.
@@ -93,6 +97,7 @@ fn read_option(text: &[u8]) -> Option<LockOption>
         b'J' if rest.is_empty() => Some(LockOption::Own),
         b'L' => Some(LockOption::Level(Level::new(number(10, MOST_LEVEL, rest)? as u16))),
         b'P' => Some(LockOption::Pool(read_pool(rest)?)),
+        b'G' => Some(LockOption::Group(Group::new(read_half(rest)?))),
         _ => None,
     }
 }
@@ -104,6 +109,7 @@ impl Options {
     {
         Options {
             shared: false,
+            group: None,
             bypass: false,
             level: None,
             pool: None,
@@ -111,7 +117,7 @@ impl Options {
         }
     }
 
-    /// The terms that they spell: a level or a pool that is not given is 0.
+    /// The terms that they spell: a group, a level or a pool that is not given is 0.
     pub fn terms(self) -> Terms
         ensures { result ≡ terms_of self }
     {
@@ -121,6 +127,7 @@ impl Options {
         };
         Terms {
             shared: self.shared,
+            group: self.group.unwrap_or(Group::new(0)),
             bypass: self.bypass,
             level: self.level.unwrap_or(Level::new(0)),
             pool_size,
@@ -137,6 +144,12 @@ impl Options {
                 shared: true,
                 ..self
             }),
+            LockOption::Group(group) if self.group.is_none() => {
+                Some(Options {
+                    group: Some(group),
+                    ..self
+                })
+            }
             LockOption::Bypass if !self.bypass => Some(Options {
                 bypass: true,
                 ..self

@@ -2,11 +2,11 @@
 ghost use Rattle.std.specs.Prelude.{◌≡◌, ◌++◌, [], if◌then◌else◌, OnOk};
 ghost use Rattle.std.specs.List.{flat_map};
 ghost use Rattle.word36.specs.Octal.{word_text};
-ghost use Rattle.queue_script.specs.Printing.{code_line, reply_line, grant_line, status_line, escaped, name_character, name_text, level_text, pool_text, scope_text, want_text, kind_number, wants_text, request_line};
+ghost use Rattle.queue_script.specs.Printing.{code_line, reply_line, grant_line, status_line, escaped, name_character, name_text, group_text, level_text, pool_text, scope_text, want_text, kind_number, wants_text, request_line};
 
 use crate::locks::is_name_character;
 use lock_queue::{
-    EnqueueKind, Grant, Level, LockReply, Name, Pool, Refusal, Request, Scope, Status, Want,
+    EnqueueKind, Grant, Group, Level, LockReply, Name, Pool, Refusal, Request, Scope, Status, Want,
 };
 use script_io::push_decimal;
 use std::alloc::AllocError;
@@ -140,6 +140,19 @@ fn push_name(out: &mut Vec<u8>, name: &Name) -> Result<(), AllocError>
     }
 }
 
+/// Adds a group that is not 0.
+#[tactic(auto, using(std::proofs::Common::append_assoc))]
+fn push_group(out: &mut Vec<u8>, group: Group) -> Result<(), AllocError>
+    ensures { OnOk result (out.new.items ≡ out.old.items ++ group_text group) }
+{
+    if group.number() == 0 {
+        return Ok(());
+    }
+    out.extend_from_slice(b"/G")?;
+    push_decimal(out, group.number())?;
+    Ok(())
+}
+
 /// Adds a level that is not 0.
 #[tactic(auto, using(std::proofs::Common::append_assoc))]
 fn push_level(out: &mut Vec<u8>, level: Level) -> Result<(), AllocError>
@@ -200,6 +213,7 @@ fn push_want(out: &mut Vec<u8>, want: &Want) -> Result<(), AllocError>
 {
     push_name(out, &want.key.name)?;
     push_flag(out, want.shared, b"/S")?;
+    push_group(out, want.group)?;
     push_flag(out, want.bypass, b"/B")?;
     push_level(out, want.level)?;
     push_pool(out, want.pool)?;

@@ -14,9 +14,14 @@ use crate::endings::{Ending, ServeError, push_fault, serve_script};
 use crate::printing::{push_code, push_grants, push_reply, push_request, push_status};
 use crate::wait_pairs::push_waits;
 use lock_queue::{LockCall, LockTable, Refusal, Want, Wants, Woken};
-use lock_table::IndexedTable;
+use plain_table::PlainTable;
 use script_io::{ByteIn, ByteOut, LineService, LineSession};
 use std::alloc::{AllocError, Global};
+use word36::MOST_REQUESTS;
+
+/// The lock table of the programs. Each of them names it by this name, so that another table is put
+/// in here alone.
+pub type ScriptTable = PlainTable<MOST_REQUESTS>;
 
 /// Makes a call of a job that does not wait, and adds its answer and the grants that it makes.
 #[tactic(auto, using(std::proofs::Common::append_assoc))]
@@ -28,8 +33,8 @@ fn make_call<L: LockTable>(
     out: &mut Vec<u8>,
 ) -> Result<(), AllocError>
     requires { IsTrue (is_call job call.now) }
-    ensures requests { OnOk result (L.requests table.new ≡ (call_effect (L.requests table.old) job (Ok call.now)).requests) }
-    ensures text { OnOk result (out.new.items ≡ out.old.items ++ (call_effect (L.requests table.old) job (Ok call.now)).text) }
+    ensures requests { OnOk result (L.requests table.new ≡ (call_effect L.REQS (L.requests table.old) job (Ok call.now)).requests) }
+    ensures text { OnOk result (out.new.items ≡ out.old.items ++ (call_effect L.REQS (L.requests table.old) job (Ok call.now)).text) }
 {
     let reply = table.call_waking(job, call, woken);
     push_reply(out, reply)?;
@@ -46,9 +51,9 @@ fn call_unless_busy<L: LockTable>(
 ) -> Result<(), AllocError>
     requires { IfOk (lent asked) (λ call. IsTrue (is_call job call)) }
     ensures requests { OnOk result (L.requests table.new
-        ≡ (unless_busy (L.requests table.old) job (call_effect (L.requests table.old) job (lent asked.entry))).requests) }
+        ≡ (unless_busy (L.requests table.old) job (call_effect L.REQS (L.requests table.old) job (lent asked.entry))).requests) }
     ensures text { OnOk result (out.new.items
-        ≡ out.old.items ++ (unless_busy (L.requests table.old) job (call_effect (L.requests table.old) job (lent asked.entry))).text) }
+        ≡ out.old.items ++ (unless_busy (L.requests table.old) job (call_effect L.REQS (L.requests table.old) job (lent asked.entry))).text) }
 {
     if table.waiting(job) {
         out.extend_from_slice(b"BUSY\n")?;
@@ -130,11 +135,11 @@ fn perform<L: LockTable>(
 ) -> Result<Option<Ending>, AllocError>
     requires { IsTrue (asks_right (asked_by_line command)) }
     ensures requests { OnOk result (L.requests table.new
-        ≡ (effect_of number (L.requests table.old) (asked_by_line command.entry)).requests) }
+        ≡ (effect_of L.REQS number (L.requests table.old) (asked_by_line command.entry)).requests) }
     ensures text { OnOk result (out.new.items
-        ≡ out.old.items ++ (effect_of number (L.requests table.old) (asked_by_line command.entry)).text) }
+        ≡ out.old.items ++ (effect_of L.REQS number (L.requests table.old) (asked_by_line command.entry)).text) }
     ensures ending { IfOk result (λ ending. ending
-        ≡ (effect_of number (L.requests table.old) (asked_by_line command.entry)).ending) }
+        ≡ (effect_of L.REQS number (L.requests table.old) (asked_by_line command.entry)).ending) }
 {
     match command {
         None => {
@@ -163,7 +168,7 @@ pub struct QueueService<L: LockTable> {
 impl<L: LockTable> QueueService<L> {
     /// The service over this table.
     pub fn new(table: L) -> Self
-        ensures { (n : ℕ) (lines : List (List ℕ)) → ⟦<QueueService<L> as LineService>⟧.follow_lines result n lines ≡ transcript_of (L.requests table) n lines }
+        ensures { (n : ℕ) (lines : List (List ℕ)) → ⟦<QueueService<L> as LineService>⟧.follow_lines result n lines ≡ transcript_of L.REQS (L.requests table) n lines }
     {
         QueueService {
             table,
@@ -183,7 +188,7 @@ impl<L: LockTable> QueueService<L> {
 impl<L: LockTable> LineService for QueueService<L> {
     type Ending = Ending;
 
-    ghost follow_lines = { λ s n lines. transcript_of (L.requests s.table) n lines };
+    ghost follow_lines = { λ s n lines. transcript_of L.REQS (L.requests s.table) n lines };
 
     fn take_line(
         &mut self,
@@ -218,7 +223,7 @@ pub fn serve_queue<R: ByteIn, W: ByteOut>(
     ensures serves { Serves transcript (R.to_come reader.old) (R.to_come reader.new) (W.written writer.old) (W.written writer.new) (served_as result) }
     ensures blames { IfErr (served_as result) (λ e. Blames e (R.has_failed reader.new) (W.has_failed writer.new)) }
 {
-    let table = match IndexedTable::new(alloc) {
+    let table = match ScriptTable::new(alloc) {
         Ok(table) => table,
         Err(_) => return Err(ServeError::Memory),
     };

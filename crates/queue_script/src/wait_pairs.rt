@@ -1,56 +1,24 @@
 //! Who waits for whom.
 ghost use Rattle.std.specs.Prelude.{◌≡◌, ◌++◌, ◌<◌, ◌≤◌, ◌+◌, ◌*◌, ◌/◌, ◌%◌, OnOk, ℕ, false, length, slice_index_or};
 ghost use Rattle.lock_queue.specs.Waits.{jobs};
-ghost use Rattle.queue_script.specs.WaitPairs.{pair_line, waits_text, pairs_text, pair_in, circle_job, circle_jobs, or_none};
+ghost use Rattle.queue_script.specs.WaitPairs.{MarksWaiters, pair_line, waits_text, pairs_text, pair_in, circle_job, circle_jobs, or_none};
 ghost use Rattle.std.specs.List.{flat_map};
 ghost use Rattle.lock_queue.specs.Jobs.{is_waiting_job, waits_for};
 
-use crate::circles::{NUMBERS, PAIRS, PairTable, has_pair, leading_to};
+use crate::circles::{JobMarks, NUMBERS, PAIRS, PairTable, leading_to};
 use lock_queue::LockTable;
 use script_io::push_decimal;
 use std::alloc::AllocError;
-use word36::JOBS;
 
-/// Adds `j FOR k`, where the job j waits for the job k.
-#[tactic(auto, using(std::proofs::Common::append_assoc))]
-fn push_pair<L: LockTable>(
-    out: &mut Vec<u8>,
-    table: &L,
-    job: u8,
-    other: u8,
-) -> Result<(), AllocError>
-    ensures { OnOk result (out.new.items ≡ out.old.items ++ pair_line (L.requests table.now) job other) }
+/// Which jobs wait.
+pub fn waiting_jobs<L: LockTable>(table: &L) -> JobMarks
+    ensures { (j : ℕ) → j < NUMBERS → slice_index_or result j false ≡ is_waiting_job (L.requests table.now) j }
 {
-    if table.waits_for(job, other) {
-        push_decimal(out, job)?;
-        out.extend_from_slice(b" FOR ")?;
-        push_decimal(out, other)?;
-        out.push(b'\n')?;
+    let mut waiting = [false; NUMBERS];
+    for job in 0..NUMBERS {
+        waiting[job] = table.waiting(job as u8);
     }
-    Ok(())
-}
-
-/// Adds the lines of the jobs that a job waits for. Of a job that does not wait nothing is asked.
-fn push_pairs_of<L: LockTable>(out: &mut Vec<u8>, table: &L, job: u8) -> Result<(), AllocError>
-    ensures { OnOk result (out.new.items ≡ out.old.items ++ flat_map (pair_line (L.requests table.now) job) jobs) }
-{
-    if !table.waiting(job) {
-        return Ok(());
-    }
-    for other in 1..JOBS + 1 {
-        push_pair(out, table, job, other)?;
-    }
-    Ok(())
-}
-
-/// Adds the lines of all pairs.
-fn push_pairs<L: LockTable>(out: &mut Vec<u8>, table: &L) -> Result<(), AllocError>
-    ensures { OnOk result (out.new.items ≡ out.old.items ++ pairs_text (L.requests table.now)) }
-{
-    for job in 1..JOBS + 1 {
-        push_pairs_of(out, table, job)?;
-    }
-    Ok(())
+    waiting
 }
 
 /// Fills in the row of a job: for which jobs it waits.
@@ -66,30 +34,90 @@ fn fill_row<L: LockTable>(pairs: &mut PairTable, table: &L, job: usize)
     }
 }
 
-/// The table of who waits for whom. Of a job that does not wait nothing is asked.
-pub fn pair_table<L: LockTable>(table: &L) -> PairTable
-    ensures { (i : ℕ) → i < PAIRS → slice_index_or result i false ≡ waits_for (L.requests table.now) (i / NUMBERS) (i % NUMBERS) }
+/// The table of who waits for whom. The jobs that wait are marked, and of the others nothing is asked.
+pub fn pair_table<L: LockTable>(table: &L, waiting: &JobMarks) -> PairTable
+    requires { (j : ℕ) → j < NUMBERS → slice_index_or waiting.now j false ≡ is_waiting_job (L.requests table.now) j }
+    ensures marked { MarksWaiters waiting.now (pair_in result) }
+    ensures pairs { (i : ℕ) → i < PAIRS → slice_index_or result i false ≡ waits_for (L.requests table.now) (i / NUMBERS) (i % NUMBERS) }
 {
     let mut pairs = [false; PAIRS];
     for job in 0..NUMBERS {
-        if table.waiting(job as u8) {
+        if waiting[job] {
             fill_row(&mut pairs, table, job);
         }
     }
     pairs
 }
 
-/// Adds a job from which a walk leads back. None does from a job that waits for nobody.
+/// Adds `j FOR k`, where the job j waits for the job k.
 #[tactic(auto, using(std::proofs::Common::append_assoc))]
-fn push_circle_job(out: &mut Vec<u8>, pairs: &PairTable, job: u8) -> Result<(), AllocError>
-    requires { (1 ≤ job) × (job < NUMBERS) }
-    ensures { OnOk result (out.new.items ≡ out.old.items ++ circle_job (pair_in pairs.now) job) }
+fn push_pair(
+    out: &mut Vec<u8>,
+    pairs: &PairTable,
+    job: usize,
+    other: usize,
+) -> Result<(), AllocError>
+    requires job { job < NUMBERS }
+    requires other { other < NUMBERS }
+    ensures { OnOk result (out.new.items ≡ out.old.items ++ pair_line (pair_in pairs.now) job other) }
 {
-    if !has_pair(pairs, usize::from(job)) {
+    if pairs[NUMBERS * job + other] {
+        push_decimal(out, job)?;
+        out.extend_from_slice(b" FOR ")?;
+        push_decimal(out, other)?;
+        out.push(b'\n')?;
+    }
+    Ok(())
+}
+
+/// Adds the lines of the jobs that a job waits for. Of a job that does not wait no pair is looked at.
+fn push_pairs_of(
+    out: &mut Vec<u8>,
+    pairs: &PairTable,
+    waiting: &JobMarks,
+    job: usize,
+) -> Result<(), AllocError>
+    requires marked { MarksWaiters waiting.now (pair_in pairs.now) }
+    requires job { job < NUMBERS }
+    ensures { OnOk result (out.new.items ≡ out.old.items ++ flat_map (pair_line (pair_in pairs.now) job) jobs) }
+{
+    if !waiting[job] {
         return Ok(());
     }
-    let leading = leading_to(pairs, usize::from(job));
-    if leading[usize::from(job)] {
+    for other in 1..NUMBERS {
+        push_pair(out, pairs, job, other)?;
+    }
+    Ok(())
+}
+
+/// Adds the lines of all pairs.
+fn push_pairs(out: &mut Vec<u8>, pairs: &PairTable, waiting: &JobMarks) -> Result<(), AllocError>
+    requires { MarksWaiters waiting.now (pair_in pairs.now) }
+    ensures { OnOk result (out.new.items ≡ out.old.items ++ pairs_text (pair_in pairs.now)) }
+{
+    for job in 1..NUMBERS {
+        push_pairs_of(out, pairs, waiting, job)?;
+    }
+    Ok(())
+}
+
+/// Adds a job from which a walk leads back. None does from a job that does not wait.
+#[tactic(auto, using(std::proofs::Common::append_assoc))]
+fn push_circle_job(
+    out: &mut Vec<u8>,
+    pairs: &PairTable,
+    waiting: &JobMarks,
+    job: usize,
+) -> Result<(), AllocError>
+    requires marked { MarksWaiters waiting.now (pair_in pairs.now) }
+    requires job { (1 ≤ job) × (job < NUMBERS) }
+    ensures { OnOk result (out.new.items ≡ out.old.items ++ circle_job (pair_in pairs.now) job) }
+{
+    if !waiting[job] {
+        return Ok(());
+    }
+    let leading = leading_to(pairs, waiting, job);
+    if leading[job] {
         out.push(b' ')?;
         push_decimal(out, job)?;
     }
@@ -97,36 +125,43 @@ fn push_circle_job(out: &mut Vec<u8>, pairs: &PairTable, job: u8) -> Result<(), 
 }
 
 /// Adds the jobs from which a walk leads back.
-fn push_circle_jobs(out: &mut Vec<u8>, pairs: &PairTable) -> Result<(), AllocError>
+fn push_circle_jobs(
+    out: &mut Vec<u8>,
+    pairs: &PairTable,
+    waiting: &JobMarks,
+) -> Result<(), AllocError>
+    requires { MarksWaiters waiting.now (pair_in pairs.now) }
     ensures { OnOk result (out.new.items ≡ out.old.items ++ circle_jobs (pair_in pairs.now)) }
 {
-    for job in 1..JOBS + 1 {
-        push_circle_job(out, pairs, job)?;
+    for job in 1..NUMBERS {
+        push_circle_job(out, pairs, waiting, job)?;
     }
     Ok(())
 }
 
 /// Adds the jobs from which a walk leads back, or that there are none.
-fn push_circle(out: &mut Vec<u8>, pairs: &PairTable) -> Result<(), AllocError>
+fn push_circle(out: &mut Vec<u8>, pairs: &PairTable, waiting: &JobMarks) -> Result<(), AllocError>
+    requires { MarksWaiters waiting.now (pair_in pairs.now) }
     ensures { OnOk result (out.new.items ≡ out.old.items ++ or_none (circle_jobs (pair_in pairs.now))) }
 {
     let before = out.len();
-    push_circle_jobs(out, pairs)?;
+    push_circle_jobs(out, pairs, waiting)?;
     if out.len() == before {
         out.extend_from_slice(b" NONE")?;
     }
     Ok(())
 }
 
-/// Adds who waits for whom, and the jobs from which a walk leads back.
+/// Adds who waits for whom, and the jobs from which a walk leads back. Who waits is asked once.
 #[tactic(auto, using(std::proofs::Common::append_assoc))]
 pub fn push_waits<L: LockTable>(out: &mut Vec<u8>, table: &L) -> Result<(), AllocError>
     ensures { OnOk result (out.new.items ≡ out.old.items ++ waits_text (L.requests table.now)) }
 {
-    push_pairs(out, table)?;
+    let waiting = waiting_jobs(table);
+    let pairs = pair_table(table, &waiting);
+    push_pairs(out, &pairs, &waiting)?;
     out.extend_from_slice(b"CIRCLE")?;
-    let pairs = pair_table(table);
-    push_circle(out, &pairs)?;
+    push_circle(out, &pairs, &waiting)?;
     out.push(b'\n')?;
     Ok(())
 }

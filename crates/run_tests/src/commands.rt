@@ -59,11 +59,11 @@ fn jobs_that_stop_and_go_on(rt: HostRuntime) -> Result<(), Fail> {
 #[test]
 fn logins(rt: HostRuntime) -> Result<(), Fail> {
     let lines =
-        b"LOGIN 0 L\nLOGIN 16 L\nLOGIN 255 L\nLOGIN 15 L\nSHOW JOBS\nKILL 1\nLOGIN 3 L\nSHOW JOBS\n".as_slice();
+        b"LOGIN 0 L\nLOGIN 64 L\nLOGIN 255 L\nLOGIN 63 L\nSHOW JOBS\nKILL 1\nLOGIN 3 L\nSHOW JOBS\n".as_slice();
     let text =
         b"?REFUSED 2\n?REFUSED 1\n?REFUSED 1\nJOB 2\nJOB 1 LINE 0 BLOCKS 1 PC 000140 STOP 0\n\
-        JOB 2 LINE 15 BLOCKS 1 PC 000140 STOP 0\nEND\nDONE\nJOB 1\nJOB 1 LINE 3 BLOCKS 1 PC 000140 STOP 0\n\
-        JOB 2 LINE 15 BLOCKS 1 PC 000140 STOP 0\nEND\n"
+        JOB 2 LINE 63 BLOCKS 1 PC 000140 STOP 0\nEND\nDONE\nJOB 1\nJOB 1 LINE 3 BLOCKS 1 PC 000140 STOP 0\n\
+        JOB 2 LINE 63 BLOCKS 1 PC 000140 STOP 0\nEND\n"
             .as_slice();
     expect_of_loop(&rt, rt.alloc(), lines, text)
 }
@@ -126,7 +126,7 @@ fn texts(rt: HostRuntime) {
     // A job that echoes: what is typed comes back as a script writes it.
     let script =
         b"ASSEMBLE E\nL: INCHRW 1\n OUTCHR 1\n JRST L\n END\nENDASM\nLOGIN 0 E\nSTART 1\nTYPE 0  a\\n\\r\\e\\\\\\177\\001 ~\n\
-        RUN 40\nTAKE 0\nTAKE 0\nTYPE 0 \\101\nRUN 9\nTAKE 0\nTAKE 15\nTAKE 16\nTYPE 16 A\nTYPE 15 A\nSHOW JOBS\n"
+        RUN 40\nTAKE 0\nTAKE 0\nTYPE 0 \\101\nRUN 9\nTAKE 0\nTAKE 63\nTAKE 64\nTYPE 64 A\nTYPE 63 A\nSHOW JOBS\n"
             .as_slice();
     let text =
         b"IMAGE E 3\nJOB 1\nDONE\nDONE\nRAN 31 IDLE 9\nTEXT  a\\n\\r\\e\\\\\\177\\001 ~\nTEXT\nDONE\nRAN 4 IDLE 5\n\

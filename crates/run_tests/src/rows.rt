@@ -76,6 +76,45 @@ fn a_text_that_is_taken_once(rt: HostRuntime) {
     expect(&rt, rt.alloc(), script, text);
 }
 
+/// The first job owns X and halts; the others ask for it, the one for five ticks at most and in group 3,
+/// the other for as long as it takes.
+const WAITERS: &[u8] =
+    b"ASSEMBLE H\n MOVE 1,[1,,BLK]\n ENQ. 1,\n HALT\n HALT 0\nBLK: 1,,5\n 0,,7\n 777777\n POINT 7,[ASCIZ /X/]\n 0\n\
+     END 140\nENDASM\nASSEMBLE W\n MOVE 1,[BLK]\n ENQ. 1,\n HALT\n JRST .\nBLK: 1,,5\n 5,,10\n 400000,,777777\n\
+     POINT 7,[ASCIZ /X/]\n 3\n END 140\nENDASM\nASSEMBLE V\n MOVE 1,[BLK]\n ENQ. 1,\n HALT\n JRST .\nBLK: 1,,5\n\
+     0,,11\n 777777\n POINT 7,[ASCIZ /X/]\n 0\n END 140\nENDASM\nLOGIN 0 H\nSTART 1\nSTEP 3\nLOGIN 1 W\nLOGIN 2 V\n\
+     START 2\nSTEP 2\nSTART 3\nSTEP 2\n";
+
+/// What its lines write.
+const WAITERS_TEXT: &[u8] =
+    b"IMAGE H 11\nIMAGE W 11\nIMAGE V 11\nJOB 1\nDONE\nRAN 3 IDLE 0\nJOB 2\nJOB 3\nDONE\nRAN 2 IDLE 0\nDONE\n\
+    RAN 2 IDLE 0\n";
+
+#[test]
+fn limits(rt: HostRuntime) -> Result<(), Fail> {
+    let alloc = rt.alloc();
+    let mut script = Vec::from_slice(alloc, WAITERS)?;
+    script.extend_from_slice(
+        b"SHOW JOBS\nSHOW LOCKS\nTICK 4\nSHOW JOBS\nTICK 1\nSHOW JOBS\nSHOW LOCKS\nEXAMINE 2 1\n",
+    )?;
+    let mut text = Vec::from_slice(alloc, WAITERS_TEXT)?;
+    text.extend_from_slice(
+        b"JOB 1 LINE 0 BLOCKS 1 PC 000000 STOP 3\nJOB 2 LINE 1 BLOCKS 1 PC 000143 QUEUE 5\n\
+        JOB 3 LINE 2 BLOCKS 1 PC 000143 QUEUE\nEND\n1 1 7 OWN X\n2 0 8 WAIT X/S/G3\n3 0 9 WAIT X\nEND\n",
+    )?;
+    text.extend_from_slice(
+        b"DONE\nJOB 1 LINE 0 BLOCKS 1 PC 000000 STOP 3\nJOB 2 LINE 1 BLOCKS 1 PC 000143 QUEUE 1\n\
+        JOB 3 LINE 2 BLOCKS 1 PC 000143 QUEUE\nEND\n",
+    )?;
+    text.extend_from_slice(
+        b"DONE\nJOB 1 LINE 0 BLOCKS 1 PC 000000 STOP 3\nJOB 2 LINE 1 BLOCKS 1 PC 000142 RUN\n\
+        JOB 3 LINE 2 BLOCKS 1 PC 000143 QUEUE\nEND\n1 1 7 OWN X\n3 0 9 WAIT X\nEND\n\
+        000001/ 000000,,000021 XWD 0,21\n",
+    )?;
+    expect(&rt, alloc, script.as_slice(), text.as_slice());
+    Ok(())
+}
+
 #[test]
 fn a_source_without_its_end(rt: HostRuntime) {
     expect_fault(&rt, rt.alloc(), b"ASSEMBLE A\n MOVEI 1,5", b"?SCRIPT 3\n");

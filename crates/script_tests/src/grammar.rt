@@ -23,7 +23,7 @@ fn lines(rt: HostRuntime) {
         b"ENQ\t1 1 1 X",
         b"ENQ 1 1",
         b"ENQ 0 1 1 X",
-        b"ENQ 32 1 1 X",
+        b"ENQ 64 1 1 X",
         b"ENQ +1 1 1 X",
         b"ENQ 1 262144 1 X",
         b"ENQ 1 1 262144 X",
@@ -59,6 +59,12 @@ fn locks(rt: HostRuntime) {
         b"ENQ 1 1 1 X/P1",
         b"ENQ 1 1 1 X/P1:1:1",
         b"ENQ 1 1 1 X/P262144:1",
+        b"ENQ 1 1 1 X/G",
+        b"ENQ 1 1 1 X/S/G-1",
+        b"ENQ 1 1 1 X/S/G262144",
+        b"ENQ 1 1 1 X/S/G1/G1",
+        b"ENQ 1 1 1 X/G0/S/G0",
+        b"DEQ 1 0 X/G262144",
         b"ENQ 1 1 1 X*",
         b"ENQ 1 1 1 #",
         b"ENQ 1 1 1 #8",
@@ -67,6 +73,12 @@ fn locks(rt: HostRuntime) {
     ] {
         expect_fault(&rt, rt.alloc(), line, b"?SCRIPT 1\n");
     }
+    expect_fault(
+        &rt,
+        rt.alloc(),
+        b"ENQ 63 1 1 X\nENQ 64 1 1 X\n",
+        b"OK\n?SCRIPT 2\n",
+    );
     let script =
         b"ENQ 1 1 01 #07/J/P5:2/L009/B a.b-c_9/B/S\nSHOW\nENQ 1 1 1 #77777777777/B\nDEQ 1 0 #7/J\nSHOW\n".as_slice();
     let text = b"OK\n1 1 1 OWN #7/B/L9/P5:2/J a.b-c_9/S/B\nEND\nOK\nOK\n1 1 1 OWN a.b-c_9/S/B\n\

@@ -1,8 +1,9 @@
 //! What commands answer.
 
 use crate::scripts::{expect, expect_end};
-use queue_script::{TestIn, TestOut, serve_queue};
+use std::alloc::Global;
 use std::test::Fail;
+use word36::{JOBS, MOST_REQUESTS};
 
 #[test]
 fn first_run(rt: HostRuntime) {
@@ -145,22 +146,103 @@ fn interrupts(rt: HostRuntime) {
 }
 
 #[test]
-fn a_full_queue(rt: HostRuntime) -> Result<(), Fail> {
-    let mut script = Vec::new(rt.alloc());
-    for i in 1..257 {
-        let line = format!(in rt.alloc(); "ENQ 1 1 {i} N{i}/B\n")?;
-        script.extend_from_slice(line.as_bytes())?;
+fn groups(rt: HostRuntime) {
+    let script =
+        b"ENQ 1 0 1 X/S/G1\nENQ 2 0 2 X/S/G2\nENQ 3 0 3 X/S/G1\nDEQ 1 0 X\nDEQ 2 0 X\n".as_slice();
+    let text = b"OK\nWAIT\nWAIT\nOK\nGRANT 2 2\nOK\nGRANT 3 3\n".as_slice();
+    expect(&rt, rt.alloc(), script, text);
+    // A group stands in any place among the options; group 0 is no group, and is not printed.
+    let script = b"ENQ 1 1 1 X/G262143/S\nENQ 2 1 2 X/S/B/G262143/L0\nENQ 3 1 3 X/S/G262142\n\
+        ENQ 3 1 3 X/S\nENQ 3 1 3 Y/G0\nENQ 4 1 4 Z/S/G0\nENQ 5 1 5 Z/S\nSHOW\n"
+        .as_slice();
+    let text = b"OK\nOK\nCODE 1\nCODE 1\nOK\nOK\nOK\n1 1 1 OWN X/S/G262143\n\
+        2 1 2 OWN X/S/G262143/B\n3 1 3 OWN Y\n4 1 4 OWN Z/S\n5 1 5 OWN Z/S\nEND\n"
+        .as_slice();
+    expect(&rt, rt.alloc(), script, text);
+    // A group of a lock that is not shared, and a pool that is shared, are wrong where a lock is asked for.
+    let script = b"ENQ 1 0 1 X/G1\nENQ 1 1 1 X/G1\nENQ 1 2 1 X/G1\nENQ 1 1 1 X/G1/P5:1\n\
+        ENQ 1 1 1 X/S/G1/P5:1\nENQ 1 1 1 X/S/G0/P5:1\nENQ 1 1 1 X/S/G1/P0:0\nSTAT 2 X/G5\nDEQ 1 0 X/G2\n"
+        .as_slice();
+    let text = b"CODE 8\nCODE 8\nCODE 8\nCODE 8\nCODE 8\nCODE 8\nOK\n\
+        000000,,000001 000001,,000000 000000,,000000\nOK\n"
+        .as_slice();
+    expect(&rt, rt.alloc(), script, text);
+    // A change keeps the group of a lock that stays shared, and takes away that of any other.
+    let script =
+        b"ENQ 1 1 1 X/S/G3\nENQ 1 3 0 X/S/G7\nSHOW\nENQ 1 3 0 X\nSHOW\nENQ 1 3 0 X/S/G7\nSHOW\n".as_slice();
+    let text =
+        b"OK\nOK\n1 1 1 OWN X/S/G3\nEND\nOK\n1 1 1 OWN X\nEND\nOK\n1 1 1 OWN X/S\nEND\n".as_slice();
+    expect(&rt, rt.alloc(), script, text);
+}
+
+/// Adds so many lines of one job, each of which asks for another lock.
+fn push_requests(out: &mut Vec<u8>, alloc: Global, count: usize) -> Result<(), Fail> {
+    for i in 0..count {
+        let line = format!(in alloc; "ENQ 1 1 {i} N{i}/B\n")?;
+        out.extend_from_slice(line.as_bytes())?;
     }
-    script.extend_from_slice(b"ENQ 1 1 257 N257/B\nDEQ 1 2 1\nENQ 1 1 257 N257/B\n")?;
-    let mut room = [0u8; 2048];
-    let mut reader = TestIn::new(script.as_slice(), 1000, 1000);
-    let mut writer = TestOut::new(&mut room, 1000, 1000);
-    let answer = serve_queue(rt.alloc(), &mut reader, &mut writer);
-    assert_eq!(rt; answer, Ok(()));
-    let text = writer.as_slice();
-    assert_eq!(rt; text.len(), 782);
-    assert!(rt; text.starts_with(b"OK\n".repeat(rt.alloc(), 256)?.as_slice()));
-    assert!(rt; text.ends_with(b"OK\nCODE 14\nOK\nOK\n"));
+    Ok(())
+}
+
+/// A script sets no bound to the requests of one job, as the machine does.
+#[test]
+fn quotas(rt: HostRuntime) -> Result<(), Fail> {
+    let alloc = rt.alloc();
+    let mut script = Vec::new(alloc);
+    push_requests(&mut script, alloc, 200)?;
+    let text = b"OK\n".repeat(alloc, 200)?;
+    expect(&rt, alloc, script.as_slice(), text.as_slice());
+    Ok(())
+}
+
+#[test]
+fn a_full_queue(rt: HostRuntime) -> Result<(), Fail> {
+    let alloc = rt.alloc();
+    let mut script = Vec::new(alloc);
+    push_requests(&mut script, alloc, MOST_REQUESTS)?;
+    script.extend_from_slice(b"ENQ 1 1 0 Z/B\nENQ 63 1 0 Z\nDEQ 1 2 1\nENQ 63 1 0 Z\n")?;
+    let mut text = b"OK\n".repeat(alloc, MOST_REQUESTS)?;
+    text.extend_from_slice(b"CODE 14\nCODE 14\nOK\nOK\n")?;
+    expect(&rt, alloc, script.as_slice(), text.as_slice());
+    Ok(())
+}
+
+/// Each job owns a lock, and waits for the next job's, the last one for the first one's.
+#[test]
+fn a_circle_of_all(rt: HostRuntime) -> Result<(), Fail> {
+    let alloc = rt.alloc();
+    let mut script = Vec::new(alloc);
+    let mut text = Vec::new(alloc);
+    for job in 1..JOBS + 1 {
+        let line = format!(in alloc; "ENQ {job} 0 1 N{job}\n")?;
+        script.extend_from_slice(line.as_bytes())?;
+        text.extend_from_slice(b"OK\n")?;
+    }
+    let mut pairs = Vec::new(alloc);
+    let mut circle = Vec::from_slice(alloc, b"CIRCLE")?;
+    for job in 1..JOBS + 1 {
+        let next = if job == JOBS { 1 } else { job + 1 };
+        let line = format!(in alloc; "ENQ {job} 0 2 N{next}/B\n")?;
+        script.extend_from_slice(line.as_bytes())?;
+        text.extend_from_slice(b"WAIT\n")?;
+        let pair = format!(in alloc; "{job} FOR {next}\n")?;
+        pairs.extend_from_slice(pair.as_bytes())?;
+        let one = format!(in alloc; " {job}")?;
+        circle.extend_from_slice(one.as_bytes())?;
+    }
+    script.extend_from_slice(b"WAITS\nFREE 1\nWAITS\n")?;
+    text.extend_from_slice(pairs.as_slice())?;
+    text.extend_from_slice(circle.as_slice())?;
+    // The last job gets the lock of the first, and keeps its own, for which the one before it waits.
+    let grant = format!(in alloc; "\nOK\nGRANT {JOBS} 2\n")?;
+    text.extend_from_slice(grant.as_bytes())?;
+    for job in 2..JOBS {
+        let next = job + 1;
+        let pair = format!(in alloc; "{job} FOR {next}\n")?;
+        text.extend_from_slice(pair.as_bytes())?;
+    }
+    text.extend_from_slice(b"CIRCLE NONE\n")?;
+    expect(&rt, alloc, script.as_slice(), text.as_slice());
     Ok(())
 }
 

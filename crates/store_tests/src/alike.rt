@@ -7,7 +7,7 @@ use plain_table::PlainTable;
 use std::alloc::{AllocError, Global};
 use std::process::Abort;
 use std::test::Fail;
-use word36::{Image, JOBS};
+use word36::{Image, JOBS, LINES, MOST_REQUESTS};
 
 /// Grows by a block at a time up to five blocks, with a count in the last word of each, and is cut to one.
 const STAIRS: &str = "\
@@ -60,8 +60,8 @@ const ROUND: [Event<'static>; 2] = [Event::Step, Event::Tick];
 /// Two machines to which the same happens.
 #[derive(Drop)]
 struct Pair {
-    plain: System<PlainTable, PlainCore>,
-    block: System<PlainTable, BlockCore>,
+    plain: System<PlainTable<MOST_REQUESTS>, PlainCore>,
+    block: System<PlainTable<MOST_REQUESTS>, BlockCore>,
 }
 
 /// Whether two answers are the same.
@@ -120,10 +120,10 @@ impl Pair {
 
     /// Makes what a number stands for happen to both, and tells whether they answer alike. Of 128, four
     /// begin a job at a line, two kill one, and one of 1,024 is a restart; the others are a step and a
-    /// tick. Now and then there is no such line or job.
+    /// tick. Now and then there is no such line or job: there are no more jobs than blocks.
     fn act(&mut self, x: u64, images: &[Image]) -> bool {
-        let line = (x >> 20) % 17;
-        let job = (x >> 27) % 18;
+        let line = (x >> 20) % (u64::from(LINES) + 1);
+        let job = (x >> 27) % (u64::from(BLOCKS) + 2);
         match (x >> 38) % 1024 {
             0 => self.happens(&Event::Restart),
             1..=16 => self.happens(&Event::Kill(job as u8)),

@@ -6,7 +6,7 @@ use monitor::{Answer, Event, System};
 use plain_table::PlainTable;
 use std::alloc::Global;
 use std::process::Abort;
-use word36::Image;
+use word36::{Image, MOST_REQUESTS};
 
 /// Two blocks: a stack in the second, numbers that are added up at its end, bytes that are put and
 /// read, and a list by way of an indirect word. A round has twelve instructions.
@@ -50,7 +50,7 @@ struct Images {
 /// A machine on which the job that is looked at runs, and its number.
 #[derive(Drop)]
 struct Place<C: CoreStore> {
-    system: System<PlainTable, C>,
+    system: System<PlainTable<MOST_REQUESTS>, C>,
     number: u8,
 }
 

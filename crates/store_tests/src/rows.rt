@@ -7,7 +7,7 @@ use monitor::{Answer, Config, Event, RefusedEvent, System};
 use plain_table::PlainTable;
 use std::alloc::Global;
 use std::process::Abort;
-use word36::Image;
+use word36::{Image, MOST_REQUESTS};
 
 /// What an event must answer.
 #[derive(Clone, Copy, Debug)]
@@ -52,7 +52,7 @@ impl Reply {
 
 /// Whether an event answers so.
 pub fn answers<C: CoreStore>(
-    system: &mut System<PlainTable, C>,
+    system: &mut System<PlainTable<MOST_REQUESTS>, C>,
     event: &Event,
     reply: Reply,
 ) -> bool {
@@ -61,7 +61,7 @@ pub fn answers<C: CoreStore>(
 
 /// Whether an image is answered so at a line.
 fn logs_in<C: CoreStore>(
-    system: &mut System<PlainTable, C>,
+    system: &mut System<PlainTable<MOST_REQUESTS>, C>,
     line: u8,
     image: &Image,
     reply: Reply,
@@ -71,7 +71,7 @@ fn logs_in<C: CoreStore>(
 
 /// Whether an image begins at a line as the job of that number, and starts.
 pub fn begins<C: CoreStore>(
-    system: &mut System<PlainTable, C>,
+    system: &mut System<PlainTable<MOST_REQUESTS>, C>,
     line: u8,
     image: &Image,
     number: u8,
@@ -87,7 +87,7 @@ pub fn assembled(alloc: Global, source: &str) -> Option<Image> {
 
 /// Whether a source is assembled, and its image is answered so.
 fn logs_in_source<C: CoreStore>(
-    system: &mut System<PlainTable, C>,
+    system: &mut System<PlainTable<MOST_REQUESTS>, C>,
     alloc: Global,
     line: u8,
     source: &str,
@@ -101,7 +101,7 @@ fn logs_in_source<C: CoreStore>(
 
 /// Whether a source begins at a line as the job of that number, and starts.
 fn begins_source<C: CoreStore>(
-    system: &mut System<PlainTable, C>,
+    system: &mut System<PlainTable<MOST_REQUESTS>, C>,
     alloc: Global,
     line: u8,
     source: &str,
@@ -115,7 +115,7 @@ fn begins_source<C: CoreStore>(
 const ROUND: [Event<'static>; 2] = [Event::Step, Event::Tick];
 
 /// The number of the job that runs in a step, behind which comes a tick; 0 where none does.
-pub fn turn<C: CoreStore>(system: &mut System<PlainTable, C>) -> u8 {
+pub fn turn<C: CoreStore>(system: &mut System<PlainTable<MOST_REQUESTS>, C>) -> u8 {
     let answer = system.event(&ROUND[0]);
     system.event(&ROUND[1]);
     match answer {
@@ -125,7 +125,7 @@ pub fn turn<C: CoreStore>(system: &mut System<PlainTable, C>) -> u8 {
 }
 
 /// Whether the jobs of these numbers run in so many steps, with a tick behind each.
-fn turns<C: CoreStore>(system: &mut System<PlainTable, C>, numbers: &[u8]) -> bool {
+fn turns<C: CoreStore>(system: &mut System<PlainTable<MOST_REQUESTS>, C>, numbers: &[u8]) -> bool {
     for number in numbers {
         if turn(system) != *number {
             return false;
@@ -136,7 +136,7 @@ fn turns<C: CoreStore>(system: &mut System<PlainTable, C>, numbers: &[u8]) -> bo
 
 /// Whether a job is at that PC, stopped so, and waits so.
 fn is_at<C: CoreStore>(
-    system: &System<PlainTable, C>,
+    system: &System<PlainTable<MOST_REQUESTS>, C>,
     number: u8,
     pc: u32,
     stop: Option<Stop>,
@@ -150,7 +150,7 @@ fn is_at<C: CoreStore>(
 
 /// Whether the word at a place of a job is this one, or there is none.
 fn is_word<C: CoreStore>(
-    system: &System<PlainTable, C>,
+    system: &System<PlainTable<MOST_REQUESTS>, C>,
     number: u8,
     place: u32,
     word: Option<u64>,
@@ -160,7 +160,7 @@ fn is_word<C: CoreStore>(
 
 /// Whether all words of a job from a place on and below another are this one.
 fn are_words<C: CoreStore>(
-    system: &System<PlainTable, C>,
+    system: &System<PlainTable<MOST_REQUESTS>, C>,
     number: u8,
     from: u32,
     until: u32,
@@ -171,7 +171,11 @@ fn are_words<C: CoreStore>(
 
 impl Row<'_> {
     /// Whether the row holds of the machine.
-    fn holds<C: CoreStore>(&self, system: &mut System<PlainTable, C>, alloc: Global) -> bool {
+    fn holds<C: CoreStore>(
+        &self,
+        system: &mut System<PlainTable<MOST_REQUESTS>, C>,
+        alloc: Global,
+    ) -> bool {
         match self {
             Row::Begins(line, source, number) => {
                 begins_source(system, alloc, *line, source, *number)
@@ -192,14 +196,18 @@ impl Row<'_> {
 }
 
 /// A machine of so many blocks with a quantum of one tick.
-pub fn machine<C: CoreStore>(rt: &impl Abort, alloc: Global, blocks: u32) -> System<PlainTable, C> {
+pub fn machine<C: CoreStore>(
+    rt: &impl Abort,
+    alloc: Global,
+    blocks: u32,
+) -> System<PlainTable<MOST_REQUESTS>, C> {
     let config = Config::new(blocks, 1).expect(rt, "no machine is of that size");
     System::boot(alloc, config).expect(rt, "memory for the machine")
 }
 
 /// Walks the rows on a machine of so many blocks with one of the stores, which the message names.
 fn walk_on<C: CoreStore>(rt: &impl Abort, alloc: Global, store: &str, blocks: u32, rows: &[Row]) {
-    let mut system: System<PlainTable, C> = machine(rt, alloc, blocks);
+    let mut system: System<PlainTable<MOST_REQUESTS>, C> = machine(rt, alloc, blocks);
     for (i, row) in rows.iter().enumerate() {
         assert!(rt; row.holds(&mut system, alloc), "{store}, row {i}: {row:?}");
     }

@@ -17,7 +17,7 @@ pub struct Asked<'a> {
     pub trace: bool,
     /// Whether each lock call and grant is told.
     pub locks: bool,
-    /// The names of the sources' files, 1 to 16.
+    /// The names of the sources' files, 1 to 63.
     pub files: Vec<&'a str>,
     ghost right: { IsSetup blocks quantum },
 }

@@ -8,18 +8,18 @@ use crate::waits::lock_wait;
 use core_store::BlockCore;
 use job_sched::{Stop, Wait};
 use ka_cpu::StopReason;
-use lock_table::IndexedTable;
 use monitor::System;
+use queue_script::ScriptTable;
 use std::alloc::{AllocError, Global};
 use word36::Address;
 
 /// The machine, with the tables that it keeps its locks and its core in.
-pub type Machine = System<IndexedTable, BlockCore>;
+pub type Machine = System<ScriptTable, BlockCore>;
 
 /// A job of a run.
 #[derive(Drop)]
 pub struct RunningJob<'a> {
-    /// Its number, 1 to 16.
+    /// Its number, 1 to 63.
     pub number: u8,
     /// The name of its source's file.
     pub file: &'a str,
@@ -78,7 +78,11 @@ fn wait_text(
         Wait::Char => String::from_str(alloc, "waits for a character"),
         Wait::Line => String::from_str(alloc, "waits for a line"),
         Wait::Room(_) => String::from_str(alloc, "waits for its output to be taken"),
-        Wait::Queue => lock_wait(alloc, machine.locks(), number),
+        Wait::Queue(0, _) => lock_wait(alloc, machine.locks(), number),
+        Wait::Queue(limit, _) => {
+            let text = lock_wait(alloc, machine.locks(), number)?;
+            format!(in alloc; "{}, for {limit} ticks more", text.as_str())
+        }
     }
 }
 

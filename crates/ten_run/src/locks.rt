@@ -4,7 +4,7 @@ use lock_queue::{Name, Scope, Want};
 use std::fmt;
 
 /// A lock as scripts of `lockmon queue` spell it: its name, or its user code in octal behind `#`, and
-/// what is special about the want: `/S` shared, `/B` out of level order, `/Ln` the level, `/Pn:m` m of
+/// what is special about the want: `/S` shared, `/Gn` in the group n of those who share, `/B` out of level order, `/Ln` the level, `/Pn:m` m of
 /// a pool of n, `/J` a name of the job's own.
 #[derive(Drop)]
 pub struct LockText<'a> {
@@ -36,6 +36,10 @@ fn write_name<W: fmt::Write>(f: &mut fmt::Formatter<W>, name: &Name) -> fmt::Res
 fn write_options<W: fmt::Write>(f: &mut fmt::Formatter<W>, want: &Want) -> fmt::Result {
     if want.shared {
         f.write_str("/S")?;
+    }
+    let group = want.group.number();
+    if group > 0 {
+        write!(f, "/G{group}")?;
     }
     if want.bypass {
         f.write_str("/B")?;

@@ -2,10 +2,11 @@
 
 use crate::failure::Failure;
 use crate::jobs::{Machine, RunningJob};
-use crate::lock_notes::{Entry, call_line, entries_of, grant_lines, lock_call_of};
+use crate::lock_notes::{Entry, call_line, entries_of, grant_lines, limit_line, lock_call_of};
 use crate::outlet::Outlet;
 use crate::snapshot::{Snapshot, snapshot_of};
-use crate::tracing::step_line;
+use crate::tracing;
+use monitor::JobView;
 use script_io::ByteOut;
 use std::alloc::Global;
 
@@ -52,7 +53,7 @@ impl Notes {
             return Ok(());
         };
         if self.trace {
-            let line = step_line(alloc, machine, job, before)?;
+            let line = tracing::step_line(alloc, machine, job, before)?;
             errors.write(line.as_str().as_bytes())?;
         }
         if self.locks {
@@ -73,9 +74,43 @@ impl Notes {
     ) -> Result<(), Failure> {
         if !before.is_interrupted(machine, number) {
             if let Some(call) = lock_call_of(before) {
-                let line = call_line(alloc, machine, tick, number, before, call)?;
+                let line = call_line(alloc, machine, tick, number, before, &call)?;
                 errors.write(line.as_str().as_bytes())?;
             }
+        }
+        self.tell_grants(alloc, machine, tick, errors)
+    }
+
+    /// Tells of a job whose wait for locks has ended with its limit of time: how it stands now.
+    pub fn tell_limit<E: ByteOut + Drop>(
+        &self,
+        alloc: Global,
+        tick: u64,
+        job: &RunningJob<'_>,
+        after: &JobView,
+        errors: &mut Outlet<E>,
+    ) -> Result<(), Failure> {
+        if self.trace {
+            let line = tracing::limit_line(alloc, job, after)?;
+            errors.write(line.as_str().as_bytes())?;
+        }
+        if self.locks {
+            let line = limit_line(alloc, tick, job.number, self.entries.as_slice())?;
+            errors.write(line.as_str().as_bytes())?;
+        }
+        Ok(())
+    }
+
+    /// Tells of the grants that were made since the requests were told last.
+    pub fn tell_grants<E: ByteOut + Drop>(
+        &mut self,
+        alloc: Global,
+        machine: &Machine,
+        tick: u64,
+        errors: &mut Outlet<E>,
+    ) -> Result<(), Failure> {
+        if !self.locks {
+            return Ok(());
         }
         let lines = grant_lines(alloc, tick, self.entries.as_slice(), machine.locks())?;
         if !lines.is_empty() {

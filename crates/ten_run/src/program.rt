@@ -6,7 +6,7 @@ use crate::failure::Failure;
 use crate::outlet::Outlet;
 use crate::running::run_sources;
 use crate::sources::Source;
-use crate::statuses::{FAILED, USAGE};
+use crate::statuses::{DONE, FAILED, USAGE};
 use crate::words::read_words;
 use script_io::{ByteIn, ByteOut};
 use std::alloc::{AllocError, Global};
@@ -57,18 +57,27 @@ fn open_all<'a, F: Files + AllocGlobal, E: ByteOut + Drop>(
     Ok(Some(sources))
 }
 
-/// Says why the words were refused, or what they asked to be told.
-fn tell_refusal<E: ByteOut + Drop>(
+/// Says on `errors` why the words were refused, or on `writer` the help or the version that they asked
+/// for.
+fn tell_refusal<W: ByteOut + Drop, E: ByteOut + Drop>(
     alloc: Global,
     refusal: Refusal,
+    writer: W,
     errors: &mut Outlet<E>,
-) -> Result<u8, Failure> {
+) -> Result<u8, Failure>
+    requires { W.has_failed writer ≡ false }
+{
     match refusal {
         Refusal::Memory => Err(Failure::Memory),
         Refusal::Usage(error) => {
             let text = error.to_string(alloc)?;
-            errors.write(text.as_str().as_bytes())?;
-            Ok(USAGE)
+            if error.use_stderr() {
+                errors.write(text.as_str().as_bytes())?;
+                return Ok(USAGE);
+            }
+            let mut output = Outlet::new(writer);
+            output.write(text.as_str().as_bytes())?;
+            Ok(DONE)
         }
     }
 }
@@ -87,7 +96,7 @@ fn serve<F: Files + AllocGlobal, S: AsStr, R: ByteIn + Drop, W: ByteOut + Drop, 
     let alloc = rt.alloc();
     let asked = match read_words(alloc, words) {
         Ok(asked) => asked,
-        Err(refusal) => return tell_refusal(alloc, refusal, errors),
+        Err(refusal) => return tell_refusal(alloc, refusal, writer, errors),
     };
     match open_all(rt, alloc, asked.files.as_slice(), errors)? {
         Some(sources) => run_sources(alloc, &asked, sources.as_slice(), reader, writer, errors),
@@ -96,7 +105,8 @@ fn serve<F: Files + AllocGlobal, S: AsStr, R: ByteIn + Drop, W: ByteOut + Drop, 
 }
 
 /// Does what the words, which begin with the program's name, ask for, and gives the exit status:
-/// reads files, assembles them and runs them. Input is read only when a job waits for it.
+/// reads files, assembles them and runs them. Input is read only when a job waits for it. The help and
+/// the version go to the output, and then nothing is run.
 pub fn ten<
     F: Files + AllocGlobal,
     S: AsStr,

@@ -161,6 +161,7 @@ pub fn run_sources<R: ByteIn + Drop, W: ByteOut + Drop, E: ByteOut + Drop>(
         line: 0,
         typed: 0,
         is_awaited: false,
+        is_limited: false,
         ticks: 0,
         notes: Notes::new(alloc, asked.trace, asked.locks),
     };

@@ -11,7 +11,7 @@ use monitor::{Answer, Event, RefusedEvent};
 use script_io::{ByteIn, ByteOut};
 use std::alloc::Global;
 use tty_lines::Char7;
-use word36::{Image, OUTPUT_RING, TAKEN_AT_ONCE};
+use word36::{Image, JOBS, OUTPUT_RING, TAKEN_AT_ONCE};
 
 /// A step, and the tick behind it.
 const ROUND: [Event<'static>; 2] = [Event::Step, Event::Tick];
@@ -40,6 +40,8 @@ pub struct Session<'a, R: ByteIn + Drop, W: ByteOut + Drop> {
     pub typed: usize,
     /// Whether a job may wait for characters.
     pub is_awaited: bool,
+    /// Whether a job may wait for locks with a limit of time.
+    pub is_limited: bool,
     /// How many ticks went by.
     pub ticks: u64,
     /// What is told of the run while it goes on.
@@ -64,6 +66,14 @@ fn type_byte(machine: &mut Machine, line: u8, byte: u8) -> bool {
 fn waits_for_input(machine: &Machine, number: u8) -> bool {
     match machine.job(number) {
         Some(job) => job.stop.is_none() && matches!(job.wait, Wait::Char | Wait::Line),
+        None => false,
+    }
+}
+
+/// Whether a job waits for locks with a limit of time. That goes down while the job is stopped, too.
+fn is_limited(machine: &Machine, number: u8) -> bool {
+    match machine.job(number) {
+        Some(job) => matches!(job.wait, Wait::Queue(limit, _) if limit > 0),
         None => false,
     }
 }
@@ -114,7 +124,35 @@ impl<R: ByteIn + Drop, W: ByteOut + Drop> Session<'_, R, W> {
         }
         self.machine.event(&ROUND[1]);
         self.ticks = self.ticks.saturating_add(1);
+        if self.is_limited {
+            self.note_limits(errors)?;
+        }
         Ok(true)
+    }
+
+    /// A tick went by while jobs wait for locks with limits of time: tells of those whose limit ended,
+    /// which a tick sets back to the error return of their call, and looks at what they do next.
+    fn note_limits<E: ByteOut + Drop>(&mut self, errors: &mut Outlet<E>) -> Result<(), Failure> {
+        let tick = self.ticks;
+        let (mut are_limited, mut has_ended) = (false, false);
+        for job in self.jobs.as_mut_slice().iter_mut() {
+            let Some(view) = self.machine.job(job.number) else {
+                continue;
+            };
+            are_limited |= is_limited(&self.machine, job.number);
+            if view.pc != job.next {
+                has_ended = true;
+                job.next = view.pc;
+                self.notes.tell_limit(self.alloc, tick, job, &view, errors)?;
+                job.before = self.notes.look(&self.machine, job);
+            }
+        }
+        self.is_limited = are_limited;
+        if has_ended {
+            self.notes
+                .tell_grants(self.alloc, &self.machine, tick, errors)?;
+        }
+        Ok(())
     }
 
     /// Tells of a job's step, and looks at what it does next.
@@ -137,6 +175,7 @@ impl<R: ByteIn + Drop, W: ByteOut + Drop> Session<'_, R, W> {
     fn note_step(&mut self, number: u8) -> Result<(), Failure> {
         let waits = waits_for_input(&self.machine, number);
         self.is_awaited |= waits;
+        self.is_limited |= is_limited(&self.machine, number);
         let Some(job) = self.jobs.get_mut(usize::from(number).saturating_sub(1)) else {
             return Ok(());
         };
@@ -188,7 +227,10 @@ impl<R: ByteIn + Drop, W: ByteOut + Drop> Session<'_, R, W> {
             return Ok(false);
         }
         line.push(b'\n')?;
-        let target = target_of(self.jobs.len().min(16) as u8, line.as_slice());
+        let target = target_of(
+            self.jobs.len().min(usize::from(JOBS)) as u8,
+            line.as_slice(),
+        );
         self.line = target.line;
         self.text.clear();
         self.text.extend_from_slice(target.text)?;
@@ -217,12 +259,12 @@ impl<R: ByteIn + Drop, W: ByteOut + Drop> Session<'_, R, W> {
         Ok(())
     }
 
-    /// Whether the machine, of which no job is ready, can go on: a job sleeps, or waits for characters
-    /// of which more may come. Where what was typed elsewhere finds no room, the rest of it is lost.
+    /// Whether the machine, of which no job is ready, can go on: a job sleeps, or waits for locks with a
+    /// limit of time, or waits for characters of which more may come. Where what was typed elsewhere finds no room, the rest of it is lost.
     fn can_go_on(&mut self) -> bool {
         let machine = &self.machine;
         let jobs = self.jobs.as_slice();
-        if jobs.iter().any(|job| sleeps(machine, job.number)) {
+        if jobs.iter().any(|job| sleeps(machine, job.number) || is_limited(machine, job.number)) {
             return true;
         }
         let is_awaited = jobs.iter().any(|job| waits_for_input(machine, job.number));

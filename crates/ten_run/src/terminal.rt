@@ -13,7 +13,7 @@ const WIDTH: usize = 256;
 /// What a job has typed out at its terminal line, and was not yet written.
 #[derive(Drop)]
 pub struct Terminal {
-    /// Its number, 0 to 15.
+    /// Its number, 0 to 62.
     pub line: u8,
     /// Whether each line of the output has this number in front.
     is_numbered: bool,

@@ -11,6 +11,8 @@ pub const PROGRAM: &str =
 pub const PROGRAM_END: &str = "As in:  ten examples/counter.mac\n\
     Lines of standard input are typed at line 0; with several files, those that begin with n: at line n.\n\
     What jobs type out goes to standard output, how each ended to standard error.\n\
+    Jobs, ticks, steps, levels, groups and amounts are told in decimal, ids of requests too, with a\n\
+    point behind (27. is 33 in a source); places, words, registers and user codes are told in octal.\n\
     Status: 0 all jobs ended by EXIT, LOGOUT or HALT, 1 a source was refused or a job ended otherwise,\n\
     2 wrong words, 3 reading, writing or memory failed.";
 
@@ -28,7 +30,8 @@ pub const STEPS: &str = "ends the run after so many steps";
 pub const TRACE: &str = "tells each step on standard error: job, place, instruction, what changed";
 
 /// `--locks`.
-pub const LOCKS: &str = "tells each ENQ., DEQ., ENQC. and grant on standard error";
+pub const LOCKS: &str =
+    "tells each ENQ., DEQ., ENQC., grant and time limit that ends on standard error";
 
 /// `FILE`.
-pub const FILES: &str = "sources, 1 to 16: job n runs the n-th of them, at terminal line n - 1";
+pub const FILES: &str = "sources, 1 to 63: job n runs the n-th of them, at terminal line n - 1";

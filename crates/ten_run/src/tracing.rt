@@ -15,6 +15,9 @@ const FIRST_PLACE: u32 = 0o140;
 /// What is told of a step begins behind so many columns.
 const HEAD_WIDTH: usize = 30;
 
+/// DEBRK., which goes back to where its job was interrupted.
+const DEBRK: u32 = 0o137;
+
 /// An address, told by a label where it is a place of the program, and else in octal.
 #[derive(Drop)]
 struct Reference<'a> {
@@ -69,7 +72,7 @@ fn call_name(number: u32) -> Option<&'static str> {
         0o31 => "SLEEP",
         0o135 => "PIINI.",
         0o136 => "PISYS.",
-        0o137 => "DEBRK.",
+        DEBRK => "DEBRK.",
         0o151 => "ENQ.",
         0o152 => "DEQ.",
         0o153 => "ENQC.",
@@ -162,6 +165,15 @@ fn push_changes(
     Ok(())
 }
 
+/// Whether what a job executes is of those operations that skip, and no jump.
+fn may_skip(before: &Snapshot) -> bool {
+    match classify(decode(before.executed).op) {
+        Family::Compare | Family::SkipOn(_) | Family::Test | Family::Ttcall => true,
+        Family::Calli => before.address != Some(DEBRK),
+        _ => false,
+    }
+}
+
 /// Where a job goes from a place, and that it waits or stops.
 fn way_text(
     alloc: Global,
@@ -177,7 +189,7 @@ fn way_text(
     }
     let way = if after.pc == before.place.plus(1) {
         String::new(alloc)
-    } else if after.pc == before.place.plus(2) {
+    } else if after.pc == before.place.plus(2) && may_skip(before) {
         String::from_str(alloc, "  skips")?
     } else {
         let place = job.spot(after.pc);
@@ -221,6 +233,19 @@ fn interrupt_line(
     let place = job.spot(before.place);
     let next = job.spot(after.pc);
     format!(in alloc; "{number} {place}: interrupt  to {next}\n")
+}
+
+/// The line on a job whose wait for locks has ended with its limit of time, and that goes on at the error
+/// return of its call.
+pub fn limit_line(
+    alloc: Global,
+    job: &RunningJob<'_>,
+    after: &JobView,
+) -> Result<String, AllocError> {
+    let number = job.number;
+    let place = job.spot(job.last);
+    let next = job.spot(after.pc);
+    format!(in alloc; "{number} {place}: time limit ended  to {next}\n")
 }
 
 /// The line on a step: `1 LOOP+1: MOVE 1,BLK  E 150  1/ 000001,,000005`, with the job, the place, the

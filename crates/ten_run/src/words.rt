@@ -9,7 +9,7 @@ use machine::MOST_QUANTUM;
 use queue_script::number;
 use std::alloc::{AllocError, Global};
 use std::convert::AsStr;
-use word36::{LINES, MOST_BLOCKS};
+use word36::{JOBS, MOST_BLOCKS};
 
 /// The blocks of a machine where no number is given.
 const DEFAULT_BLOCKS: u64 = 64;
@@ -81,7 +81,7 @@ enum Wrong<'a> {
     Memory,
     /// An option's number is not in its range.
     Number(&'static str, &'a str, u64),
-    /// There are more files than terminal lines.
+    /// There are more files than jobs.
     Files,
 }
 
@@ -99,7 +99,9 @@ fn refused(alloc: Global, command: &mut Command<'_>, wrong: Wrong<'_>) -> Refusa
                 "invalid value '{written}' for '--{option} <N>': a number from 1 to {most} is wanted"
             )
         }
-        Wrong::Files => format!(in alloc; "there are {LINES} terminal lines, and more files"),
+        Wrong::Files => format!(in alloc;
+            "a machine has at most {JOBS} jobs, and there are more files"
+        ),
     };
     let Ok(text) = text else {
         return Refusal::Memory;
@@ -116,7 +118,7 @@ fn read<'a>(alloc: Global, matches: &ArgMatches<'a>) -> Result<Asked<'a>, Wrong<
     let quantum = number_of(matches, "quantum", u64::from(MOST_QUANTUM))?.unwrap_or(1);
     let steps = number_of(matches, "steps", MOST_STEPS)?.unwrap_or(u64::MAX);
     let given = matches.get_strs("FILE").unwrap_or(&[]);
-    if given.len() > usize::from(LINES) {
+    if given.len() > usize::from(JOBS) {
         return Err(Wrong::Files);
     }
     let mut files = Vec::new(alloc);

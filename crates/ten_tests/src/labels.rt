@@ -42,6 +42,8 @@ fn targets(rt: HostRuntime) {
         (2, ":A", 0, ":A"),
         (2, "A", 0, "A"),
         (16, "015:", 15, ""),
+        (63, "62:A", 62, "A"),
+        (63, "63:A", 0, "63:A"),
     ] {
         let target = target_of(lines, text.as_bytes());
         assert_eq!(rt; target.line, line);

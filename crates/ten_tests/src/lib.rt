@@ -2,6 +2,8 @@
 #![tactic(auto)]
 
 #[cfg(test)]
+mod helps;
+#[cfg(test)]
 mod labels;
 #[cfg(test)]
 mod notes;
@@ -13,5 +15,9 @@ mod programs;
 mod rows;
 #[cfg(test)]
 mod runs;
+#[cfg(test)]
+mod sharers;
+#[cfg(test)]
+mod waits;
 #[cfg(test)]
 mod wrong_words;

@@ -82,6 +82,7 @@ pub fn walk(rt: &impl Abort, alloc: Global, row: &Row) {
     assert_eq!(rt; status, Some(row.status));
 }
 
-fn text(room: &[u8]) -> &str {
+/// What was written to room that had zeros, as text.
+pub fn text(room: &[u8]) -> &str {
     str::from_utf8(written(room)).unwrap_or("(no text)")
 }

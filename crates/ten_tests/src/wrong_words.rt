@@ -36,13 +36,7 @@ const ROWS: [(&[&str], &str); 6] = [
     ),
     (&["ten", "--speed", "a"], "unexpected argument"),
     (&["ten", "--version"], "ten 0.1.0"),
-    (
-        &[
-            "ten", "a", "a", "a", "a", "a", "a", "a", "a", "a", "a", "a", "a", "a", "a", "a", "a",
-            "a",
-        ],
-        "16 terminal lines",
-    ),
+    (&["a"; 65], "at most 63 jobs"),
 ];
 
 /// Why words are refused, where they are.

@@ -6,7 +6,7 @@ ghost use Rattle.word36.specs.declared.sizes.TheConstants.{LINES};
 use std::marker::Model;
 use word36::LINES;
 
-/// The number of a terminal line, 0 to 15, which contracts see as that number.
+/// The number of a terminal line, 0 to 63, which contracts see as that number.
 #[derive(Clone, Copy, Debug, PartialEq, Eq)]
 pub struct LineNumber {
     number: u8,
@@ -34,7 +34,7 @@ impl LineNumber {
         LineNumber { number }
     }
 
-    /// The line of this number, where there is one: below 16.
+    /// The line of this number, where there is one: below 64.
     pub fn try_new(number: u8) -> Option<LineNumber>
         ensures variant { IsSome result ↔ (number < LINES) }
         ensures value { IfSome result (λ line. line ≡ number) }

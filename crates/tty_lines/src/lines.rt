@@ -9,7 +9,7 @@ use std::alloc::{AllocError, Global};
 use std::marker::Model;
 use word36::{INPUT_RING, LINES, OUTPUT_RING, TAKEN_AT_ONCE};
 
-/// The terminal lines 0 to 15, each with the characters that were typed at it and not yet read, at
+/// The terminal lines 0 to 63, each with the characters that were typed at it and not yet read, at
 /// most 128, and those that were put out at it and not yet taken, at most 512.
 ///
 /// Only `new` takes memory. A call that is refused changes nothing.

@@ -1,10 +1,12 @@
 -- What a call leaves of what is not its own.
-use Rattle.std.proofs.Common.{◌≡◌, ◌≢◌, ◌∙◌, sym, ap, subst, ℕ, ◌+◌, Bool, true, false, List, [], length, Option, Some, None, slice_index_or, slice_set, refl, nat_le}
+use Rattle.std.proofs.Common.{◌≡◌, ◌≢◌, ◌∙◌, sym, ap, subst, ℕ, ◌+◌, ◌==◌, Bool, true, false, List, [], length, Option, Some, None, slice_index_or, slice_set, refl, nat_le}
 use Rattle.std.proofs.lemmas.List.{get_or-set_other}
 use Rattle.ka_cpu.specs.Places.{is_legal, word_below}
 use Rattle.core_store.specs.Cores.{Cores, blocks_of, core_of, resized, with_core}
 use Rattle.tty_lines.specs.Rings.{Rings, input_of, no_characters, room_of}
 use Rattle.word36.specs.declared.sizes.TheConstants.{OUTPUT_RING}
+use Rattle.word36.specs.Words.{left_half}
+use Rattle.lock_queue.specs.declared.request.Request.{Request}
 use Rattle.job_sched.specs.declared.job.Job.{Job}
 use Rattle.uuo_calls.specs.declared.call.CallOutcome.{CallOutcome}
 use Rattle.uuo_calls.specs.declared.call.CallOutcome.TheVariants.{Done, Empty, Gone}
@@ -12,9 +14,10 @@ use Rattle.uuo_calls.specs.declared.service.Awaited.{Awaited}
 use Rattle.uuo_calls.specs.declared.service.Service.{Service}
 use Rattle.uuo_calls.specs.declared.service.Service.TheVariants.{Reset, Core, Exit, Monrt, Logout, Mstime, Pjob, Sleep, Piini, Pisys, Debrk, Enq, Deq, Enqc, Datrd, Datwr, Input, Outchr, Outstr, Clrbfi, Clrbfo, Skpin, Unlisted}
 use Rattle.uuo_calls.specs.Around.{Around, ac_of}
-use Rattle.uuo_calls.specs.CoreRow.{blocks_asked, core_done, grown, with_highest}
+use Rattle.uuo_calls.specs.CoreRow.{JobCores, blocks_asked, core_done, grown, with_highest}
 use Rattle.uuo_calls.specs.Laws.{IsSpared, OthersAreSpared, service_in}
 use Rattle.uuo_calls.specs.Performed.{Performed, World, around, left_by, row_of, with_around}
+use Rattle.uuo_calls.specs.StatusRow.{enqc}
 use Rattle.uuo_calls.specs.TerminalRows.{JobInput, JobLines, has_input, input_called, low_character, no_input, put_text, stored_input, text_from}
 use Rattle.uuo_calls.proofs.Rows.{performs}
 use Rattle.uuo_calls.proofs.Tests.{by_test}
@@ -36,6 +39,12 @@ core-done : (ac k : ℕ) (o : Option Cores) (j : Job) (s : Cores) → ((new : Co
 core-done ac k None j s h = refl
 core-done ac k (Some new) j s h = h new refl
 
+core-enqc : (jobs : List (Option Job)) (requests : List Request) (n ac k : ℕ) (j : Job) (s : Cores) → k ≢ n → core_of (enqc jobs requests n ac j s).cores k ≡ core_of s k
+core-enqc jobs requests n ac k j s ne =
+    let P : JobCores → Type 0 = λ o. core_of o.cores k ≡ core_of s k in
+    by_test P (left_half (ac_of j ac) == 1) _ _ (λ _. refl)
+    (λ _. by_test P (left_half (ac_of j ac) == 2) _ _ (λ _. refl) (λ _. core-other s n k _ ne))
+
 core-row : (s : Service) (time n ac e k : ℕ) (a : Around) → k ≢ n → core_of (row_of s time n ac e a).cores k ≡ core_of a.cores k
 core-row Reset time n ac e k a ne = refl
 core-row Core time n ac e k a ne = core-done ac k (grown a.cores n (blocks_asked (ac_of a.job ac))) a.job a.cores (λ new is. core-grown a.cores new n k (blocks_asked (ac_of a.job ac)) ne is)
@@ -50,7 +59,7 @@ core-row Pisys time n ac e k a ne = refl
 core-row Debrk time n ac e k a ne = refl
 core-row Enq time n ac e k a ne = refl
 core-row Deq time n ac e k a ne = refl
-core-row Enqc time n ac e k a ne = core-other a.cores n k _ ne
+core-row Enqc time n ac e k a ne = core-enqc a.jobs a.requests n ac k a.job a.cores ne
 core-row Datrd time n ac e k a ne = refl
 core-row Datwr time n ac e k a ne = refl
 core-row (Input unit skips) time n ac e k a ne = core-other a.cores n k _ ne

@@ -10,13 +10,13 @@ use Rattle.word36.specs.declared.sizes.TheConstants.{DATA_WORDS}
 use Rattle.word36.specs.Words.{left_half, right_half}
 use Rattle.core_store.specs.Cores.{Cores, core_of, with_core}
 use Rattle.call_block.specs.declared.block.Block.{Block}
-use Rattle.word36.specs.declared.sizes.TheConstants.{REQUESTS}
 use Rattle.lock_queue.specs.declared.call.Asking.{Asking}
 use Rattle.lock_queue.specs.declared.call.LockCall.{LockCall}
 use Rattle.lock_queue.specs.declared.call.LockCall.TheVariants.{Enqueue, Modify, DequeueNamed, DequeueAll, DequeueId}
 use Rattle.lock_queue.specs.declared.call.LockReply.{LockReply}
 use Rattle.lock_queue.specs.declared.call.LockReply.TheVariants.{Granted, Queued, Done as DoneReply, Refused}
 use Rattle.lock_queue.specs.declared.refusal.Refusal.{Refusal}
+use Rattle.lock_queue.specs.declared.refusal.Refusal.TheVariants.{NoSuchQuota}
 use Rattle.lock_queue.specs.declared.request.EnqueueKind.{EnqueueKind}
 use Rattle.lock_queue.specs.declared.request.EnqueueKind.TheVariants.{Blocking, AtOnce, Interrupt}
 use Rattle.lock_queue.specs.declared.request.Request.{Request}
@@ -34,13 +34,14 @@ use Rattle.job_sched.specs.Tables.{job_at}
 use Rattle.uuo_calls.specs.declared.service.Service.{Service}
 use Rattle.uuo_calls.specs.declared.service.Service.TheVariants.{Reset, Core, Exit, Monrt, Logout, Mstime, Pjob, Sleep, Piini, Pisys, Debrk, Enq, Deq, Enqc, Datrd, Datwr, Input, Outchr, Outstr, Clrbfi, Clrbfo, Skpin, Unlisted}
 use Rattle.uuo_calls.specs.Around.{ac_of, skipping, with_ac}
-use Rattle.uuo_calls.specs.CoreRow.{blocks_asked, core_done, grown}
+use Rattle.uuo_calls.specs.CoreRow.{JobCores, blocks_asked, core_done, grown}
 use Rattle.uuo_calls.specs.DataRows.{JobData}
 use Rattle.uuo_calls.specs.InterruptRows.{armed_at}
 use Rattle.uuo_calls.specs.Laws.{CoreAnswersFreeBlocks, HasSkipped, MstimeAnswersMilliseconds, RefusalsChangeAcAlone, service_in, skips_when_done, with_new_job}
-use Rattle.uuo_calls.specs.LockRows.{answered, asked, changing, deq_asks, enq_asks, entering, naming, replied}
+use Rattle.uuo_calls.specs.LockRows.{answered, asked, changing, deq_asks, enq_asks, enq_limit, entering, naming, replied}
 use Rattle.uuo_calls.specs.Performed.{Performed, World, around, ended, row_of, with_around}
-use Rattle.uuo_calls.specs.StatusRow.{Places, answers_at, enqc_asks, status_words, stored, stored_at, told, with_room}
+use Rattle.uuo_calls.specs.QuotaRows.{named_job, quota_at, told_quota}
+use Rattle.uuo_calls.specs.StatusRow.{Places, answers_at, enqc, enqc_asks, status_words, stored, stored_at, told, with_room}
 use Rattle.uuo_calls.proofs.Rows.{core-same, performs}
 use Rattle.uuo_calls.proofs.Tests.{by_test}
 
@@ -151,21 +152,21 @@ is_interrupting (DequeueNamed wants) = false
 is_interrupting DequeueAll = false
 is_interrupting (DequeueId id) = false
 
-keeps-call : (requests : List Request) (n : ℕ) (call : LockCall) (Two : Type 0) → (is_interrupting call ≡ true → Two) → KeepsRequests requests Two (outcome_of requests n call)
-keeps-call requests n (Enqueue asking wants) Two two =
-    keeps-unless requests (enqueue_refusal REQUESTS requests n asking wants.items) (arrival requests n asking wants) Two (keeps-arrival requests n asking wants Two two)
-keeps-call requests n (Modify wants) Two two = keeps-unless requests _ (outcome (with_changes requests n wants.items) DoneReply) Two (λ r e. cc)
-keeps-call requests n (DequeueNamed wants) Two two = keeps-unless requests _ (outcome (without_named requests n wants.items) DoneReply) Two (λ r e. cc)
-keeps-call requests n DequeueAll Two two = keeps-where requests (is_of_job n) Two
-keeps-call requests n (DequeueId id) Two two = keeps-where requests (has_id n id) Two
+keeps-call : (size : ℕ) (requests : List Request) (n : ℕ) (call : LockCall) (Two : Type 0) → (is_interrupting call ≡ true → Two) → KeepsRequests requests Two (outcome_of size requests n call)
+keeps-call size requests n (Enqueue asking wants) Two two =
+    keeps-unless requests (enqueue_refusal size requests n asking wants.items) (arrival requests n asking wants) Two (keeps-arrival requests n asking wants Two two)
+keeps-call size requests n (Modify wants) Two two = keeps-unless requests _ (outcome (with_changes requests n wants.items) DoneReply) Two (λ r e. cc)
+keeps-call size requests n (DequeueNamed wants) Two two = keeps-unless requests _ (outcome (without_named requests n wants.items) DoneReply) Two (λ r e. cc)
+keeps-call size requests n DequeueAll Two two = keeps-where requests (is_of_job n) Two
+keeps-call size requests n (DequeueId id) Two two = keeps-where requests (has_id n id) Two
 
 abbrev pub is_interrupting_ask : Result LockCall Refusal → Bool
 is_interrupting_ask (Ok call) = is_interrupting call
 is_interrupting_ask (Err refusal) = false
 
-keeps-asked : (requests : List Request) (n : ℕ) (asks : Result LockCall Refusal) (Two : Type 0) → (is_interrupting_ask asks ≡ true → Two) → KeepsRequests requests Two (asked requests n asks)
-keeps-asked requests n (Ok call) Two two = keeps-call requests n call Two two
-keeps-asked requests n (Err refusal) Two two = λ r e. inl refl
+keeps-asked : (size : ℕ) (requests : List Request) (n : ℕ) (asks : Result LockCall Refusal) (Two : Type 0) → (is_interrupting_ask asks ≡ true → Two) → KeepsRequests requests Two (asked size requests n asks)
+keeps-asked size requests n (Ok call) Two two = keeps-call size requests n call Two two
+keeps-asked size requests n (Err refusal) Two two = λ r e. inl refl
 
 comes-refused : (w : World) (n ac : ℕ) (j : Job) (r : Refusal) (requests : List Request) (Two : Type 0)
     → (requests ≡ w.requests) ⊎ (Two × (code_of r ≡ 1) × ((request : Request) × (requests ≡ w.requests ++ request ∷ [])))
@@ -174,22 +175,22 @@ comes-refused w n ac j r requests Two (inl same) = inr (inl (code_of r, ap (λ l
 comes-refused w n ac j r requests Two (inr (two, one, kept)) =
     inr (inr (two, (kept.0, rw (one, kept.1) refl)))
 
-comes-replied : (w : World) (n ac : ℕ) (j : Job) (reply : LockReply) (requests : List Request) (Two : Type 0) → n < length w.table.jobs → KeepsRequests w.requests Two (outcome requests reply)
-    → Comes w n ac j Two (with_around w n (replied (around w j) ac (outcome requests reply)))
-comes-replied w n ac j Granted requests Two low keeps = inl (skipped w n j (skipping j) low refl)
-comes-replied w n ac j Queued requests Two low keeps = inl (skipped w n j (answered j ac Queued) low refl)
-comes-replied w n ac j DoneReply requests Two low keeps = inl (skipped w n j (skipping j) low refl)
-comes-replied w n ac j (Refused r) requests Two low keeps = comes-refused w n ac j r requests Two (keeps r refl)
+comes-replied : (w : World) (n ac limit : ℕ) (j : Job) (reply : LockReply) (requests : List Request) (Two : Type 0) → n < length w.table.jobs → KeepsRequests w.requests Two (outcome requests reply)
+    → Comes w n ac j Two (with_around w n (replied (around w j) ac limit (outcome requests reply)))
+comes-replied w n ac limit j Granted requests Two low keeps = inl (skipped w n j (skipping j) low refl)
+comes-replied w n ac limit j Queued requests Two low keeps = inl (skipped w n j (answered j ac limit Queued) low refl)
+comes-replied w n ac limit j DoneReply requests Two low keeps = inl (skipped w n j (skipping j) low refl)
+comes-replied w n ac limit j (Refused r) requests Two low keeps = comes-refused w n ac j r requests Two (keeps r refl)
 
-comes-asked : (w : World) (n ac : ℕ) (j : Job) (asks : Result LockCall Refusal) (Two : Type 0) → n < length w.table.jobs → (is_interrupting_ask asks ≡ true → Two)
-    → Comes w n ac j Two (with_around w n (replied (around w j) ac (asked w.requests n asks)))
-comes-asked w n ac j asks Two low two =
-    let o = asked w.requests n asks in
-    comes-replied w n ac j o.reply o.requests Two low (keeps-asked w.requests n asks Two two)
+comes-asked : (w : World) (n ac limit : ℕ) (j : Job) (asks : Result LockCall Refusal) (Two : Type 0) → n < length w.table.jobs → (is_interrupting_ask asks ≡ true → Two)
+    → Comes w n ac j Two (with_around w n (replied (around w j) ac limit (asked w.size w.requests n asks)))
+comes-asked w n ac limit j asks Two low two =
+    let o = asked w.size w.requests n asks in
+    comes-replied w n ac limit j o.reply o.requests Two low (keeps-asked w.size w.requests n asks Two two)
 
-no-interrupt : (kind : EnqueueKind) (armed : Bool) (r : Result Block Refusal) → is_interrupt kind ≡ false → is_interrupting_ask (entering kind armed r) ≡ false
-no-interrupt kind armed (Ok block) e = e
-no-interrupt kind armed (Err refusal) e = refl
+no-interrupt : (kind : EnqueueKind) (armed : Bool) (quota : ℕ) (r : Result Block Refusal) → is_interrupt kind ≡ false → is_interrupting_ask (entering kind armed quota r) ≡ false
+no-interrupt kind armed quota (Ok block) e = e
+no-interrupt kind armed quota (Err refusal) e = refl
 
 no-change : (r : Result Block Refusal) → is_interrupting_ask (changing r) ≡ false
 no-change (Ok block) = refl
@@ -203,11 +204,11 @@ never : (b : Bool) (Two : Type 0) → b ≡ false → b ≡ true → Two
 never b Two f t = absurd (cc)
 
 -- ENQ. asks for an interrupt by its function 2 alone
-asks-two : (regs core : List ℕ) (n word : ℕ) (armed : Bool) → is_interrupting_ask (enq_asks regs core n word armed) ≡ true → left_half word ≡ 2
-asks-two regs core n word armed =
+asks-two : (regs core : List ℕ) (n word : ℕ) (armed : Bool) (quota : ℕ) → is_interrupting_ask (enq_asks regs core n word armed quota) ≡ true → left_half word ≡ 2
+asks-two regs core n word armed quota =
     let P : Result LockCall Refusal → Type 0 = λ asks. is_interrupting_ask asks ≡ true → left_half word ≡ 2 in
-    by_test P (left_half word == 0) _ _ (λ _. never _ _ (no-interrupt Blocking armed _ refl))
-    (λ _. by_test P (left_half word == 1) _ _ (λ _. never _ _ (no-interrupt AtOnce armed _ refl))
+    by_test P (left_half word == 0) _ _ (λ _. never _ _ (no-interrupt Blocking armed quota _ refl))
+    (λ _. by_test P (left_half word == 1) _ _ (λ _. never _ _ (no-interrupt AtOnce armed quota _ refl))
     (λ _. by_test P (left_half word == 2) _ _ (λ is _. grind (arith, nat_tests))
     (λ _. by_test P (left_half word == 3) _ _ (λ _. never _ _ (no-change _)) (λ _ e. cc))))
 
@@ -216,18 +217,33 @@ asks-none regs core n word =
     let P : Result LockCall Refusal → Type 0 = λ asks. is_interrupting_ask asks ≡ false in
     by_test P (left_half word == 0) _ _ (λ _. no-naming _) (λ _. by_test P (left_half word == 1) _ _ (λ _. refl) (λ _. by_test P (left_half word == 2) _ _ (λ _. refl) (λ _. refl)))
 
+comes-quota : (w : World) (n ac k : ℕ) (j : Job) (quota : Option ℕ) (Two : Type 0) → n < length w.table.jobs
+    → Comes w n ac j Two (with_job_of w n (told_quota w.requests k ac j quota))
+comes-quota w n ac k j (Some quota) Two low = inl (skipped w n j (told_quota w.requests k ac j (Some quota)) low refl)
+comes-quota w n ac k j None Two low = inr (inl (code_of NoSuchQuota, refl))
+
+comes-enqc : (w : World) (n ac : ℕ) (j : Job) (Two : Type 0) → n < length w.table.jobs
+    → Comes w n ac j Two (with_around w n (record (around w j) { job = (enqc w.table.jobs w.requests n ac j w.cores).job; cores = (enqc w.table.jobs w.requests n ac j w.cores).cores }))
+comes-enqc w n ac j Two low =
+    let P : JobCores → Type 0 = λ o. Comes w n ac j Two (with_around w n (record (around w j) { job = o.job; cores = o.cores })) in
+    let word = ac_of j ac in
+    let k = named_job n (right_half word) in
+    by_test P (left_half word == 1) _ _ (λ _. comes-quota w n ac k j (quota_at w.table.jobs k) Two low)
+    (λ _. by_test P (left_half word == 2) _ _
+    (λ _. comes-job w n ac j (nat_le (right_half word) j.quota) (skipping (record j { quota = right_half word })) (code_of NoSuchQuota) Two low refl)
+    (λ _. comes-told w n ac (answers_at j ac) j (with_room (core_of w.cores n) (answers_at j ac) (enqc_asks j.regs.ac (core_of w.cores n) n word)) Two low))
+
 comes-row : (s : Service) (w : World) (time n ac e : ℕ) (j : Job) → n < length w.table.jobs → skips_when_done s ≡ true
     → Comes w n ac j ((left_half (ac_of j ac) ≡ 2) × (s ≡ Enq)) (ended w n (row_of s time n ac e (around w j))).world
 comes-row Core w time n ac e j low done = comes-core w n ac j (grown w.cores n (blocks_asked (ac_of j ac))) _ low
 comes-row Piini w time n ac e j low done = comes-job w n ac j (are_legal (core_of w.cores n) (right_half (ac_of j ac)) 4) (skipping (armed_at j (right_half (ac_of j ac)))) 1 _ low refl
 comes-row Pisys w time n ac e j low done = comes-switch w n ac j (nat_le 2 (ac_of j ac)) (is_none j.interrupts.vector) _ _ low refl
 comes-row Enq w time n ac e j low done =
-    comes-asked w n ac j (enq_asks j.regs.ac (core_of w.cores n) n (ac_of j ac) (is_some j.interrupts.vector)) _ low
-    (λ i. (asks-two j.regs.ac (core_of w.cores n) n (ac_of j ac) (is_some j.interrupts.vector) i, refl))
+    comes-asked w n ac (enq_limit j.regs.ac (core_of w.cores n) n (ac_of j ac)) j (enq_asks j.regs.ac (core_of w.cores n) n (ac_of j ac) (is_some j.interrupts.vector) j.quota) _ low
+    (λ i. (asks-two j.regs.ac (core_of w.cores n) n (ac_of j ac) (is_some j.interrupts.vector) j.quota i, refl))
 comes-row Deq w time n ac e j low done =
-    comes-asked w n ac j (deq_asks j.regs.ac (core_of w.cores n) n (ac_of j ac)) _ low (never _ _ (asks-none j.regs.ac (core_of w.cores n) n (ac_of j ac)))
-comes-row Enqc w time n ac e j low done =
-    comes-told w n ac (answers_at j ac) j (with_room (core_of w.cores n) (answers_at j ac) (enqc_asks j.regs.ac (core_of w.cores n) n (ac_of j ac))) _ low
+    comes-asked w n ac 0 j (deq_asks j.regs.ac (core_of w.cores n) n (ac_of j ac)) _ low (never _ _ (asks-none j.regs.ac (core_of w.cores n) n (ac_of j ac)))
+comes-row Enqc w time n ac e j low done = comes-enqc w n ac j _ low
 comes-row Datrd w time n ac e j low done =
     comes-job w n ac j (nat_lt (right_half (ac_of j ac)) DATA_WORDS) (skipping (with_ac j ac (slice_index w.shared (right_half (ac_of j ac))))) 1 _ low refl
 comes-row Datwr w time n ac e j low done = comes-write w n ac j (nat_lt (right_half (ac_of j ac)) DATA_WORDS) _ _ low

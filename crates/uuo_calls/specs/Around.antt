@@ -1,5 +1,5 @@
 -- What a call of one job reads and changes, and the words that its rows are written in (this project's profile).
-use Rattle.std.specs.Prelude.{ℕ, ◌+◌, ◌%◌, ◌^◌, List, Some, slice_index, slice_set}
+use Rattle.std.specs.Prelude.{ℕ, ◌+◌, ◌%◌, ◌^◌, List, Option, Some, slice_index, slice_set}
 use Rattle.core_store.specs.Cores.{Cores}
 use Rattle.ka_cpu.specs.declared.outcome.StopReason.{StopReason}
 use Rattle.lock_queue.specs.declared.request.Request.{Request}
@@ -9,9 +9,12 @@ use Rattle.job_sched.specs.declared.job.Stop.TheVariants.{Fault}
 use Rattle.job_sched.specs.declared.job.Wait.{Wait}
 use Rattle.uuo_calls.specs.declared.call.CallOutcome.{CallOutcome}
 
--- the job, the lines, the requests, the core of all jobs and the shared words, and how the call ends
+-- how many requests the lock table holds at most, the job, all jobs as they were before the call, the lines, the requests,
+-- the core of all jobs and the shared words, and how the call ends
 pub record Around : Type 0 where
+  pub size : ℕ
   pub job : Job
+  pub jobs : List (Option Job)
   pub lines : List Rings
   pub requests : List Request
   pub cores : Cores

@@ -35,7 +35,7 @@ is_terminal_wait (Sleep ticks) = false
 is_terminal_wait Char = true
 is_terminal_wait Line = true
 is_terminal_wait (Room places) = true
-is_terminal_wait Queue = false
+is_terminal_wait (Queue limit ac) = false
 
 -- an empty step leaves all as it was, but that the job's PC is back at the call and that the job waits for its line
 abbrev pub EmptyStepsWait : Type 0

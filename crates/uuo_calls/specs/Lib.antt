@@ -1,6 +1,7 @@
 pub mod Services
 pub mod Around
 pub mod LockRows
+pub mod QuotaRows
 pub mod StatusRow
 pub mod CoreRow
 pub mod TerminalRows

@@ -51,6 +51,8 @@ row_of Unlisted time n ac e a = record a { job = stopped_at a.job IllegalInstruc
 
 -- the parts of the system that calls work on
 pub record World : Type 0 where
+  -- how many requests the lock table holds at most
+  pub size : ℕ
   pub table : Table
   pub lines : List Rings
   pub requests : List Request
@@ -65,12 +67,26 @@ pub record Performed : Type 0 where
 
 -- what is around one job
 abbrev pub around : World → Job → Around
-around w j = record { job = j; lines = w.lines; requests = w.requests; cores = w.cores; shared = w.shared; ending = Done }
+around w j = record {
+  size = w.size;
+  job = j;
+  jobs = w.table.jobs;
+  lines = w.lines;
+  requests = w.requests;
+  cores = w.cores;
+  shared = w.shared;
+  ending = Done;
+}
 
 -- the world with what a call left around its job
 abbrev pub with_around : World → ℕ → Around → World
-with_around w n a =
-    record { table = with_job w.table n (Some a.job); lines = a.lines; requests = a.requests; cores = a.cores; shared = a.shared }
+with_around w n a = record w {
+  table = with_job w.table n (Some a.job);
+  lines = a.lines;
+  requests = a.requests;
+  cores = a.cores;
+  shared = a.shared;
+}
 
 -- a job that is gone: its requests and its core are free, and no quantum is left where it was current
 abbrev pub without_job : World → ℕ → World

@@ -1,8 +1,8 @@
--- ENQC. (TOPS-10 Monitor Calls Manual, in this project's profile).
-use Rattle.std.specs.Prelude.{ℕ, ◌+◌, ◌*◌, ◌%◌, ◌==◌, if◌then◌else◌, List, [], ◌∷◌, length, Result, Ok, Err}
+-- ENQC. (TOPS-10 Monitor Calls Manual, in this project's profile; functions 1 and 2 are the profile's own).
+use Rattle.std.specs.Prelude.{ℕ, ◌+◌, ◌*◌, ◌%◌, ◌==◌, if◌then◌else◌, List, [], ◌∷◌, length, Option, Result, Ok, Err}
 use Rattle.std.specs.List.{flat_map}
 use Rattle.word36.specs.Words.{left_half, right_half}
-use Rattle.core_store.specs.Cores.{core_of, with_core}
+use Rattle.core_store.specs.Cores.{Cores, core_of, with_core}
 use Rattle.ka_cpu.specs.Places.{ac_with, are_legal, core_with}
 use Rattle.ka_cpu.specs.declared.registers.Regs.{Regs}
 use Rattle.lock_queue.specs.declared.refusal.Refusal.{Refusal}
@@ -12,10 +12,12 @@ use Rattle.lock_queue.specs.declared.want.Want.{Want}
 use Rattle.lock_queue.specs.Refusals.{code_of}
 use Rattle.lock_queue.specs.StatusWords.{status_of, words_of}
 use Rattle.call_block.specs.declared.block.Block.{Block}
-use Rattle.lock_queue.specs.declared.terms.LockUse.TheVariants.{Named}
+use Rattle.lock_queue.specs.declared.terms.BlockUse.TheVariants.{Named}
 use Rattle.call_block.specs.Blocks.{block_at}
 use Rattle.job_sched.specs.declared.job.Job.{Job}
 use Rattle.uuo_calls.specs.Around.{Around, ac_of, skipping, refusing}
+use Rattle.uuo_calls.specs.CoreRow.{JobCores}
+use Rattle.uuo_calls.specs.QuotaRows.{quota_told, quota_lowered}
 
 -- registers and core
 pub record Places : Type 0 where
@@ -35,7 +37,7 @@ stored p a (w ∷ ws) = stored (stored_at p a w) (a + 1) ws
 abbrev pub status_words : List Request → ℕ → List Want → List ℕ
 status_words requests n wants = flat_map (λ w. words_of (status_of requests w.key n)) wants
 
--- the wants that ENQC. names: its AC is `0,,address`
+-- the wants that ENQC. 0 names: its AC is `0,,address`; what has another function is none of ENQC.
 abbrev pub wants_in : Result Block Refusal → Result (List Want) Refusal
 wants_in (Ok block) = Ok block.wants.items
 wants_in (Err refusal) = Err refusal
@@ -64,12 +66,24 @@ told requests n ac to j core (Ok wants) =
 abbrev pub answers_at : Job → ℕ → ℕ
 answers_at j ac = right_half (ac_of j ((ac + 1) % 16))
 
-abbrev pub enqc : List Request → ℕ → ℕ → Job → List ℕ → JobCore
-enqc requests n ac j core =
+-- ENQC. 0, and what is no function of ENQC.
+abbrev pub status_told : List Request → ℕ → ℕ → Job → List ℕ → JobCore
+status_told requests n ac j core =
     told requests n ac (answers_at j ac) j core
     (with_room core (answers_at j ac) (enqc_asks j.regs.ac core n (ac_of j ac)))
 
+-- the job's core is what is left of it
+abbrev pub with_job_core : Cores → ℕ → JobCore → JobCores
+with_job_core cores n o = record { job = o.job; cores = with_core cores n o.core }
+
+-- ENQC. by its function, in the left half of AC: functions 1 and 2 look at no block, and store nothing
+abbrev pub enqc : List (Option Job) → List Request → ℕ → ℕ → Job → Cores → JobCores
+enqc jobs requests n ac j cores =
+    if left_half (ac_of j ac) == 1 then record { job = quota_told jobs requests n ac j; cores = cores } else
+    if left_half (ac_of j ac) == 2 then record { job = quota_lowered ac j; cores = cores } else
+    with_job_core cores n (status_told requests n ac j (core_of cores n))
+
 abbrev pub enqc_row : ℕ → ℕ → Around → Around
 enqc_row n ac a =
-    let o = enqc a.requests n ac a.job (core_of a.cores n) in
-    record a { job = o.job; cores = with_core a.cores n o.core }
+    let o = enqc a.jobs a.requests n ac a.job a.cores in
+    record a { job = o.job; cores = o.cores }

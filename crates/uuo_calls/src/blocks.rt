@@ -7,24 +7,25 @@ ghost use Rattle.word36.specs.declared.sizes.TheConstants.{LOCKS_A_CALL};
 ghost use Rattle.call_block.specs.Blocks.{block_at, read_as};
 ghost use Rattle.uuo_calls.specs.LockRows.{AreAskable};
 
-use call_block::fill_block;
+use call_block::{BlockHead, fill_block};
 use ka_cpu::{JobMemory, Regs};
-use lock_queue::{LockUse, Refusal, RequestId, Wants};
+use lock_queue::{BlockUse, Refusal, Wants};
 use word36::Address;
 
-/// Fills in the wants of the block at an address and answers its id, or answers the first refusal.
+/// Fills in the wants of the block at an address and answers its id and its limit, or answers the first
+/// refusal.
 pub(crate) fn block_kept<M: JobMemory>(
     regs: &Regs,
     memory: &mut M,
     address: Address,
     job: u8,
-    lock_use: LockUse,
+    block_use: BlockUse,
     wants: &mut Wants,
-) -> Result<RequestId, Refusal>
-    ensures block { read_as result wants.new ≡ block_at regs.now.ac (M.words memory.old) address job lock_use }
+) -> Result<BlockHead, Refusal>
+    ensures block { read_as result wants.new ≡ block_at regs.now.ac (M.words memory.old) address job block_use }
     ensures most { OnOk result (array_vec_len wants.new ≤ LOCKS_A_CALL) }
     ensures askable { OnOk result (AreAskable wants.new) }
     ensures same { memory.new ≡ memory.old }
 {
-    fill_block(regs, memory, address, job, lock_use, wants)
+    fill_block(regs, memory, address, job, block_use, wants)
 }

@@ -1,13 +1,17 @@
 //! Any monitor call.
 
-ghost use Rattle.std.specs.Prelude.{◌≡◌, ◌≢◌, ◌<◌, ◌^◌, [], IsSome};
+ghost use Rattle.std.specs.Prelude.{◌≡◌, ◌≢◌, ◌<◌, ◌^◌, [], List, Option, IsSome};
 ghost use Rattle.core_store.specs.Cores.{IsJob, core_of, given};
 ghost use Rattle.lock_queue.specs.Jobs.{released};
 ghost use Rattle.job_sched.specs.Changes.{table_without};
 ghost use Rattle.job_sched.specs.Tables.{job_at};
-ghost use Rattle.uuo_calls.specs.Around.{Around};
+ghost use Rattle.job_sched.specs.declared.job.Job.{Job as JobView};
+ghost use Rattle.word36.specs.Words.{right_half};
+ghost use Rattle.uuo_calls.specs.Around.{Around, ac_of};
 ghost use Rattle.uuo_calls.specs.Performed.{World, Performed, performed, row_of, around};
+ghost use Rattle.uuo_calls.specs.QuotaRows.{named_job, quota_at};
 ghost use Rattle.uuo_calls.specs.declared.call.CallOutcome.TheVariants.{Done};
+ghost use Rattle.uuo_calls.specs.declared.service.Service.TheVariants.{Enqc};
 
 use crate::call::{CallOutcome, MonitorCall};
 use crate::core_call::resize_core;
@@ -17,10 +21,10 @@ use crate::interrupts::{debrk, piini, pisys};
 use crate::jobs::{exit, mstime, pjob, reset, sleep};
 use crate::locks::{deq, enq};
 use crate::output::{outchr, outstr};
+use crate::quotas::{enqc, quota_asked};
 use crate::returns::stop_at;
 use crate::room::CallRoom;
 use crate::service::{Service, service_of};
-use crate::status::enqc;
 use core_store::CoreStore;
 use job_sched::{Job, JobTable, Stop, TimeOfDay};
 use ka_cpu::{Accumulator, StopReason};
@@ -28,13 +32,15 @@ use lock_queue::LockTable;
 use tty_lines::Lines;
 use word36::{Address, DATA_WORDS, Word};
 
-/// A call of a job, by its row of the table of calls.
+/// A call of a job, by its row of the table of calls; `quota` is that of the job that a call of ENQC. names,
+/// if it is there.
 fn carry_out<L: LockTable, C: CoreStore>(
     service: Service,
     time: TimeOfDay,
     number: u8,
     ac: Accumulator,
     e: Address,
+    quota: Option<u16>,
     job: &mut Job,
     lines: &mut Lines,
     locks: &mut L,
@@ -44,8 +50,9 @@ fn carry_out<L: LockTable, C: CoreStore>(
 ) -> CallOutcome
     requires number { IsJob number }
     requires core { core_of (C.meaning cores.old) number ≢ [] }
-    ensures row { record { job = job.new; lines = lines.new; requests = L.requests locks.new; cores = C.meaning cores.new; shared = shared.new; ending = result }
-        ≡ row_of service time number ac e (record { job = job.old; lines = lines.old; requests = L.requests locks.old; cores = C.meaning cores.old; shared = shared.old; ending = Done }) }
+    ensures row { (jobs : List (Option JobView)) → (service ≡ Enqc → quota_at jobs (named_job number (right_half (ac_of job.old ac))) ≡ quota)
+        → record { size = L.REQS; job = job.new; jobs = jobs; lines = lines.new; requests = L.requests locks.new; cores = C.meaning cores.new; shared = shared.new; ending = result }
+        ≡ row_of service time number ac e (record { size = L.REQS; job = job.old; jobs = jobs; lines = lines.old; requests = L.requests locks.old; cores = C.meaning cores.old; shared = shared.old; ending = Done }) }
 {
     match service {
         Service::Reset => reset(number, job, locks),
@@ -61,7 +68,7 @@ fn carry_out<L: LockTable, C: CoreStore>(
         Service::Debrk => debrk(number, job, cores),
         Service::Enq => enq(number, job, ac, locks, cores, room),
         Service::Deq => deq(number, job, ac, locks, cores, room),
-        Service::Enqc => enqc(number, job, ac, locks, cores, room),
+        Service::Enqc => enqc(number, quota, job, ac, locks, cores, room),
         Service::Datrd => datrd(job, ac, shared),
         Service::Datwr => datwr(job, ac, shared),
         Service::Input(awaited, skips) => {
@@ -121,15 +128,16 @@ pub fn perform<L: LockTable, C: CoreStore>(
     requires number { IsJob number }
     requires there { IsSome (job_at table.old.jobs number) }
     requires core { core_of (C.meaning cores.old) number ≢ [] }
-    ensures performed { record { world = record { table = table.new; lines = lines.new; requests = L.requests locks.new; cores = C.meaning cores.new; shared = shared.new }; outcome = result }
-        ≡ performed (record { table = table.old; lines = lines.old; requests = L.requests locks.old; cores = C.meaning cores.old; shared = shared.old }) time number call }
+    ensures performed { record { world = record { size = L.REQS; table = table.new; lines = lines.new; requests = L.requests locks.new; cores = C.meaning cores.new; shared = shared.new }; outcome = result }
+        ≡ performed (record { size = L.REQS; table = table.old; lines = lines.old; requests = L.requests locks.old; cores = C.meaning cores.old; shared = shared.old }) time number call }
 {
     let MonitorCall { kind, ac, e } = call;
     let service = service_of(kind, ac, e);
+    let quota = quota_asked(service, number, ac, &table.jobs);
     let outcome = match &mut table.jobs[number as usize] {
         Some(job) => {
             let outcome = carry_out(
-                service, time, number, ac, e, job, lines, locks, cores, shared, room,
+                service, time, number, ac, e, quota, job, lines, locks, cores, shared, room,
             );
             table.sleepers |= job.is_asleep();
             outcome

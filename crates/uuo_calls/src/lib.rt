@@ -12,6 +12,7 @@ mod jobs;
 mod laws;
 mod locks;
 mod output;
+mod quotas;
 mod returns;
 mod room;
 mod service;

@@ -3,7 +3,7 @@
 ghost use Rattle.std.specs.Prelude.{◌≡◌, Result};
 ghost use Rattle.lock_queue.specs.declared.refusal.Refusal.{Refusal as RefusalView};
 ghost use Rattle.call_block.specs.declared.block.Block.{Block};
-ghost use Rattle.uuo_calls.specs.LockRows.{with_block, entering, changing, naming};
+ghost use Rattle.uuo_calls.specs.LockRows.{with_block, limit_with, limit_in, entering, changing, naming};
 
 use lock_queue::{Asking, EnqueueKind, LockCall, RequestId, Wants};
 
@@ -28,6 +28,7 @@ impl CallRoom {
                     kind: EnqueueKind::Blocking,
                     id: RequestId::new(0),
                     armed: false,
+                    quota: 0,
                 },
                 wants: Wants::new(),
             },
@@ -40,13 +41,15 @@ impl CallRoom {
 /// Makes a call one that enters a request, whose locks a block will say: those that it has stay where
 /// it is one already.
 #[inline(always)]
-pub(crate) fn be_entering(call: &mut LockCall, kind: EnqueueKind, armed: bool)
-    ensures { (block : Result Block RefusalView) → with_block call.new block ≡ entering kind armed block }
+pub(crate) fn be_entering(call: &mut LockCall, kind: EnqueueKind, armed: bool, quota: u16)
+    ensures call { (block : Result Block RefusalView) → with_block call.new block ≡ entering kind armed quota block }
+    ensures limit { (block : Result Block RefusalView) → limit_with call.new block ≡ limit_in block }
 {
     match call {
         LockCall::Enqueue { asking, .. } => {
             asking.kind = kind;
             asking.armed = armed;
+            asking.quota = quota;
         }
         _ => {
             *call = LockCall::Enqueue {
@@ -54,6 +57,7 @@ pub(crate) fn be_entering(call: &mut LockCall, kind: EnqueueKind, armed: bool)
                     kind,
                     id: RequestId::new(0),
                     armed,
+                    quota,
                 },
                 wants: Wants::new(),
             };

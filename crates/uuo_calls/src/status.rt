@@ -1,4 +1,4 @@
-//! ENQC.
+//! ENQC. 0, and what is no function of ENQC.
 
 ghost use Rattle.std.specs.Prelude.{◌≡◌, ◌<◌, ◌≤◌, ◌+◌, ◌*◌, ◌%◌, ◌^◌, length, Ok, Err, OnOk};
 ghost use Rattle.core_store.specs.Cores.{IsJob, core_of, with_core};
@@ -7,7 +7,7 @@ ghost use Rattle.word36.specs.declared.sizes.TheConstants.{LOCKS_A_CALL};
 ghost use Rattle.word36.specs.Words.{right_half};
 ghost use Rattle.uuo_calls.specs.Around.{ac_of};
 ghost use Rattle.call_block.specs.Blocks.{wants_read_as};
-ghost use Rattle.uuo_calls.specs.StatusRow.{Places, stored, status_words, enqc_asks, with_room, told, enqc};
+ghost use Rattle.uuo_calls.specs.StatusRow.{Places, stored, status_words, enqc_asks, with_room, told, status_told};
 
 use crate::blocks::block_kept;
 use crate::returns::{refuse, skip};
@@ -15,7 +15,7 @@ use crate::room::CallRoom;
 use core_store::CoreStore;
 use job_sched::Job;
 use ka_cpu::{Accumulator, CoreWords, JobMemory, Regs, are_legal_kept, store};
-use lock_queue::{Key, LockTable, LockUse, Refusal, Want, Wants};
+use lock_queue::{BlockUse, LockTable, Refusal, Want, Wants};
 use word36::{Address, Word};
 
 /// The words that tell of one lock.
@@ -54,7 +54,7 @@ fn store_status<L: LockTable, M: JobMemory>(
     }
 }
 
-/// Fills in the wants that ENQC. names, where the answers' places are legal too.
+/// Fills in the wants that ENQC. 0 names, where the answers' places are legal too.
 fn enqc_asks<M: JobMemory>(
     regs: &Regs,
     memory: &mut M,
@@ -72,7 +72,7 @@ fn enqc_asks<M: JobMemory>(
         return Err(Refusal::NoFunction);
     }
     let place = Address::new(word.right());
-    block_kept(regs, memory, place, number, LockUse::Named, wants)?;
+    block_kept(regs, memory, place, number, BlockUse::Named, wants)?;
     let count = STATUS_WORDS * wants.len() as u32;
     if !are_legal_kept(memory, to, count) {
         return Err(Refusal::BadBlock);
@@ -105,8 +105,9 @@ fn tell<L: LockTable, M: JobMemory>(
     }
 }
 
-/// ENQC.
-pub(crate) fn enqc<L: LockTable, C: CoreStore>(
+/// ENQC. 0: the status of the locks of a block goes to the address in the right half of AC+1, three words
+/// each. Any other function is refused here.
+pub(crate) fn tell_status<L: LockTable, C: CoreStore>(
     number: u8,
     job: &mut Job,
     ac: Accumulator,
@@ -115,8 +116,8 @@ pub(crate) fn enqc<L: LockTable, C: CoreStore>(
     room: &mut CallRoom,
 )
     requires number { IsJob number }
-    ensures job { job.new ≡ (enqc (L.requests locks.now) number ac job.old (core_of (C.meaning cores.old) number)).job }
-    ensures cores { C.meaning cores.new ≡ with_core (C.meaning cores.old) number (enqc (L.requests locks.now) number ac job.old (core_of (C.meaning cores.old) number)).core }
+    ensures job { job.new ≡ (status_told (L.requests locks.now) number ac job.old (core_of (C.meaning cores.old) number)).job }
+    ensures cores { C.meaning cores.new ≡ with_core (C.meaning cores.old) number (status_told (L.requests locks.now) number ac job.old (core_of (C.meaning cores.old) number)).core }
 {
     let word = job.regs.ac[ac.index()];
     let to = job.regs.ac[ac.next().index()].right();

@@ -14,6 +14,6 @@ pub use octal::{octal_digits, octal_half, octal_text};
 pub use sixbit_text::sixbit;
 pub use sizes::{
     ADDRESSES, BLOCK_WORDS, DATA_WORDS, INPUT_RING, JOBS, LINES, LOCKS_A_CALL, MOST_BLOCKS,
-    NAME_LENGTH, OUTPUT_RING, REQUESTS, TAKEN_AT_ONCE,
+    MOST_REQUESTS, NAME_LENGTH, OUTPUT_RING, TAKEN_AT_ONCE,
 };
 pub use word::{MODULUS, SIGN, Word};

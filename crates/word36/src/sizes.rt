@@ -1,10 +1,10 @@
 //! The sizes of the machine's parts, each named here once (this project's profile).
 
 /// Jobs are numbered from 1 to this number.
-pub const JOBS: u8 = 31;
+pub const JOBS: u8 = 63;
 
 /// Terminal lines are numbered from 0 to one less than this.
-pub const LINES: u8 = 16;
+pub const LINES: u8 = 64;
 
 /// The places that an address can name: they are numbered from 0 to one less than this, 777777 octal.
 pub const ADDRESSES: u32 = 0o1_000_000;
@@ -15,8 +15,8 @@ pub const BLOCK_WORDS: usize = 1024;
 /// The most blocks of core that a machine has.
 pub const MOST_BLOCKS: u32 = 256;
 
-/// The most requests that may be present in the lock queue.
-pub const REQUESTS: usize = 256;
+/// The most requests that a lock table can be made for.
+pub const MOST_REQUESTS: usize = 1024;
 
 /// The most locks that one call names.
 pub const LOCKS_A_CALL: usize = 16;

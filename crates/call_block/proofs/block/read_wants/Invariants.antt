@@ -2,7 +2,7 @@
 use Rattle.std.proofs.Common.{◌≡◌, ◌+◌, ◌-◌, ◌*◌, true}
 use Rattle.std.specs.List.{list_all}
 use Rattle.arrayvec.specs.ArrayVec.{array_vec_len}
-use Rattle.lock_queue.specs.WellFormed.{shares_no_pool}
+use Rattle.lock_queue.specs.WellFormed.{shares_rightly}
 use Rattle.call_block.specs.Blocks.{wants_at}
 use Rattle.call_block.proofs.WantLemmas.{behind}
 use Rattle.call_block.proofs.block.read_wants.Given as goal
@@ -11,9 +11,9 @@ abbrev pub invariant-loop-lock : goal.invariant-loop-lock
 invariant-loop-lock g l =
     record {
       read :
-          wants_at l.fn.regs.ac (g.M.JobMemory.words l.fn.memory) l.fn.job l.fn.lock_use l.fn.first l.fn.count
+          wants_at l.fn.regs.ac (g.M.JobMemory.words l.fn.memory) l.fn.job l.fn.block_use l.fn.first l.fn.count
           ≡ behind l.wants.items
-          (wants_at l.fn.regs.ac (g.M.JobMemory.words l.fn.memory) l.fn.job l.fn.lock_use (l.fn.first + 3 * l.lock) (l.fn.count - l.lock));
+          (wants_at l.fn.regs.ac (g.M.JobMemory.words l.fn.memory) l.fn.job l.fn.block_use (l.fn.first + 3 * l.lock) (l.fn.count - l.lock));
       counted : array_vec_len l.wants ≡ l.lock;
-      unshared : list_all shares_no_pool l.wants.items ≡ true;
+      unshared : list_all shares_rightly l.wants.items ≡ true;
     }

@@ -4,4 +4,4 @@ use Rattle.call_block.proofs.LockLemmas.{in_order}
 use Rattle.call_block.proofs.laws.locks_are_read_in_order.Goals as goal
 
 pub returns : goal.returns
-returns c = λ ac core job lock_use a n. in_order ac core job lock_use a n (nth_want ac core job lock_use a) (λ i. refl)
+returns c = λ ac core job block_use a n. in_order ac core job block_use a n (nth_want ac core job block_use a) (λ i. refl)

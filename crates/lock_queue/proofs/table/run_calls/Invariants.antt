@@ -6,7 +6,8 @@ use Rattle.lock_queue.proofs.table.run_calls.Given as goal
 abbrev pub invariant-loop-i : goal.invariant-loop-i
 invariant-loop-i g l =
     let requests = g.L.LockTable.requests in
+    let size = g.L.LockTable.REQS in
     record {
-      answered : take l.i l.replies ++ replies_to (requests l.table) (drop l.i l.calls) ≡ replies_to (requests l.fn.table) l.calls;
-      performed : requests_after (requests l.table) (drop l.i l.calls) ≡ requests_after (requests l.fn.table) l.calls;
+      answered : take l.i l.replies ++ replies_to size (requests l.table) (drop l.i l.calls) ≡ replies_to size (requests l.fn.table) l.calls;
+      performed : requests_after size (requests l.table) (drop l.i l.calls) ≡ requests_after size (requests l.fn.table) l.calls;
     }

@@ -2,9 +2,10 @@ use Rattle.std.proofs.Common.{◌≡◌, ◌++◌, ◌-◌}
 use Rattle.std.specs.List.{flat_map}
 use Rattle.machine.specs.Views.{job_view}
 use Rattle.lock_queue.specs.Waits.{jobs, numbers_from}
+use Rattle.queue_script.specs.declared.circles.TheConstants.{NUMBERS}
 use Rattle.op_script.specs.Printing.{job_line}
 use Rattle.op_script.proofs.looking.push_jobs.Given as goal
 
 abbrev pub invariant-loop-n : goal.invariant-loop-n
 invariant-loop-n l =
-    l.out.items ++ flat_map (λ n. job_line n (job_view l.machine.world n)) (numbers_from l.n (32 - l.n)) ≡ l.initial.out.items ++ flat_map (λ n. job_line n (job_view l.machine.world n)) jobs
+    l.out.items ++ flat_map (λ n. job_line n (job_view l.machine.world n)) (numbers_from l.n (NUMBERS - l.n)) ≡ l.initial.out.items ++ flat_map (λ n. job_line n (job_view l.machine.world n)) jobs

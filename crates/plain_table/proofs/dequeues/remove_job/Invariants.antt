@@ -1,13 +1,12 @@
 -- The requests before the index are as they were, and of the others those stay that are to stay.
 use Rattle.std.proofs.Common.{◌≡◌, ◌≤◌, ◌++◌, take, drop, filter, length, ◌==◌, not}
-use Rattle.word36.specs.declared.sizes.TheConstants.{REQUESTS}
 use Rattle.plain_table.proofs.dequeues.remove_job.Given as goal
 
 abbrev pub invariant-loop-i : goal.invariant-loop-i
-invariant-loop-i l =
+invariant-loop-i g l =
     record {
       items : l.row ≡ take l.i l.initial.row ++ filter (λ r. not (r.job == l.job)) (drop l.i l.initial.row);
       there : l.i ≤ length l.initial.row;
       front : l.i ≤ length l.row;
-      few : length l.row ≤ REQUESTS;
+      few : length l.row ≤ g.row.REQS;
     }

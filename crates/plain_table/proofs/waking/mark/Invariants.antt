@@ -5,7 +5,7 @@ use Rattle.plain_table.specs.GrantSteps.{marks_behind}
 use Rattle.plain_table.proofs.waking.mark.Given as goal
 
 abbrev pub invariant-loop-i : goal.invariant-loop-i
-invariant-loop-i l =
+invariant-loop-i g l =
     record {
       marked :
           l.marks.items ++ marks_behind (left_of l.job l.call) (take l.i l.requests) (drop l.i l.requests)

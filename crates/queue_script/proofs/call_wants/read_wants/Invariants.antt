@@ -4,7 +4,7 @@ use Rattle.queue_script.proofs.call_wants.read_wants.Given as goal
 
 abbrev pub invariant-loop-item : goal.invariant-loop-item
 invariant-loop-item l = record {
-  gathers : Gathers l.job l.lock_use l.initial.items l.items (length l.wants.items) l.wants.items None;
+  gathers : Gathers l.job l.block_use l.initial.items l.items (length l.wants.items) l.wants.items None;
   room : length l.wants.items ≤ 16;
 }
 

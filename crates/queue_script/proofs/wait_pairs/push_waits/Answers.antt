@@ -2,16 +2,19 @@ use Rattle.std.proofs.Common.{◌++◌, ◌∙◌, ap}
 use Rattle.std.specs.Prelude.{codes}
 use Rattle.lock_queue.specs.Jobs.{waits_for}
 use Rattle.queue_script.specs.WaitPairs.{pair_in, circle_jobs, or_none, pairs_text}
-use Rattle.queue_script.proofs.PairLemmas.{circle-same, table-pairs, four_texts}
+use Rattle.queue_script.proofs.PairLemmas.{circle-same, four_texts, pairs-same, table-pairs}
 use Rattle.queue_script.proofs.wait_pairs.push_waits.Goals as goal
 
 pub returns : goal.returns
 returns g c =
     let requests = g.L.LockTable.requests c.args.table.now in
     let pairs = c.pair_table-pairs.result in
-    let same = circle-same (pair_in pairs) (waits_for requests) (table-pairs pairs (waits_for requests) c.pair_table-pairs.ensures) in
+    let alike = table-pairs pairs (waits_for requests) c.pair_table-pairs.ensures.pairs in
+    let lines = pairs-same (pair_in pairs) (waits_for requests) alike in
+    let same = circle-same (pair_in pairs) (waits_for requests) alike in
+    let o0 = c.args.out.now.items in
     let o2 = c.extend_from_slice.new.self.items in
-    four_texts c.args.out.now.items c.push_pairs.new.out.items o2 c.push_circle.new.out.items c.push.new.self.items
-    (pairs_text requests) (codes "CIRCLE") (or_none (circle_jobs (waits_for requests))) (codes "\n")
-    c.in_ok-push_pairs.ensures c.in_ok-extend_from_slice.ensures.items
+    four_texts o0 c.push_pairs.new.out.items o2 c.push_circle.new.out.items c.push.new.self.items
+    (pairs_text (waits_for requests)) (codes "CIRCLE") (or_none (circle_jobs (waits_for requests))) (codes "\n")
+    (c.in_ok-push_pairs.ensures ∙ ap (λ t. o0 ++ t) lines) c.in_ok-extend_from_slice.ensures.items
     (c.in_ok-push_circle.ensures ∙ ap (λ t. o2 ++ or_none t) same) c.in_ok-push.ensures.items

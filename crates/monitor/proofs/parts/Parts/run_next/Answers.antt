@@ -34,6 +34,7 @@ returns g c =
     let s : S =
     record {
       world = record {
+        size = g.L.LockTable.REQS;
         table = c.self.inside.table;
         lines = c.self.inside.lines;
         requests = g.L.LockTable.requests c.self.inside.locks;

@@ -4,6 +4,7 @@ use Rattle.lock_queue.proofs.WellKept.{well-released}
 use Rattle.plain_table.proofs.plain.PlainTableLockTable.release.Goals as goal
 
 pub invariant_of-self : goal.invariant_of-self
-invariant_of-self c = record {
+invariant_of-self g c = record {
+  sized = c.args.self.now.sized;
   well = subst (λ l. are_well_formed l ≡ true) (sym c.release.ensures) (well-released c.args.self.now.rows.present c.args.job c.args.self.now.well);
 }

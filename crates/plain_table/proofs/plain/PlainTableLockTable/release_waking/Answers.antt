@@ -8,12 +8,13 @@ use Rattle.lock_queue.proofs.WellKept.{well-released}
 use Rattle.plain_table.proofs.plain.PlainTableLockTable.release_waking.Goals as goal
 
 pub invariant_of-self : goal.invariant_of-self
-invariant_of-self c = record {
+invariant_of-self g c = record {
+  sized = c.args.self.now.sized;
   well = subst (λ l. are_well_formed l ≡ true) (sym c.release.ensures) (well-released c.args.self.now.rows.present c.args.job c.args.self.now.well);
 }
 
 pub fill_woken-requires-clause-marks : goal.fill_woken-requires-clause-marks
-fill_woken-requires-clause-marks c =
+fill_woken-requires-clause-marks g c =
     let present = c.args.self.now.rows.present in
     let left = left_of c.args.job DequeueAll in
     let marks : c.as_slice-2.result.now ≡ marks_behind left [] present =
@@ -21,7 +22,7 @@ fill_woken-requires-clause-marks c =
     ap length marks ∙ marks-released present c.as_slice-3.result.now c.args.job (c.as_slice-3.ensures.value ∙ c.release.ensures)
 
 pub returns-clause-woken : goal.returns-clause-woken
-returns-clause-woken c =
+returns-clause-woken g c =
     let present = c.args.self.now.rows.present in
     let left = left_of c.args.job DequeueAll in
     let marks : c.as_slice-2.result.now ≡ marks_behind left [] present =

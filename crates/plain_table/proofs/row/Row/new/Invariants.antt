@@ -1,5 +1,5 @@
-use Rattle.std.proofs.Common.{◌≡◌, vec_len}
+use Rattle.std.proofs.Common.{◌≡◌, ◌≤◌, vec_len}
 use Rattle.plain_table.proofs.row.Row.new.Given as goal
 
 abbrev pub invariant-loop : goal.invariant-loop
-invariant-loop l = vec_len l.places ≡ l.counter
+invariant-loop g l = (vec_len l.places ≡ l.counter) × (l.counter ≤ l.end)

@@ -1,0 +1,14 @@
+-- The requests before the index are as they were, and of the others those stay by which the job does not wait.
+use Rattle.std.proofs.Common.{◌≡◌, ◌≤◌, ◌++◌, take, drop, length}
+use Rattle.lock_queue.specs.Jobs.{is_among, is_not_blocked_where}
+use Rattle.lock_queue.specs.Queue.{chosen_behind}
+use Rattle.plain_table.proofs.jobs.remove_blocked_among.Given as goal
+
+abbrev pub invariant-loop-i : goal.invariant-loop-i
+invariant-loop-i g l =
+    record {
+      items : l.row ≡ take l.i l.initial.row ++ chosen_behind (is_not_blocked_where (is_among l.jobs)) (take l.i l.initial.row) (drop l.i l.initial.row);
+      there : l.i ≤ length l.initial.row;
+      front : l.i ≤ length l.row;
+      few : length l.row ≤ g.row.REQS;
+    }
