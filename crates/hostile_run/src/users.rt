@@ -41,7 +41,7 @@ fn line(generator: &mut Generator) -> u8 {
 
 /// A job, or now and then a number that is none.
 fn job(generator: &mut Generator) -> u8 {
-    u8::try_from(generator.below(u32::from(JOBS) / 2 + 2)).unwrap_or(JOBS)
+    u8::try_from(generator.below(u32::from(JOBS) + 2)).unwrap_or(JOBS)
 }
 
 /// A login at a line with one of the images; a tick where there is none.

@@ -94,7 +94,7 @@ job 3, late.mac: EXIT at TAKE+3, 5 steps
 tick 1, job 1: ENQC. 1 (quota), job 1: done, quota 64, requests 0
 tick 3, job 1: ENQC. 2 (lower the quota), to 1: done
 tick 5, job 1: ENQ. 0 (wait), request 7., X/S/G3: granted
-tick 7, job 1: ENQ. 1 (at once), request 8., Y: refused, code 16: the job has as many requests as it may have
+tick 7, job 1: ENQ. 1 (at once), request 8., Y/B: refused, code 16: the job has as many requests as it may have
 tick 10, job 1: ENQC. 1 (quota), job 63: refused, code 18: no such job, or the quota would be greater
 tick 13, job 1: ENQC. 2 (lower the quota), to 2: refused, code 18: no such job, or the quota would be greater
 job 1, quotas.mac: EXIT at 000161, 15 steps
