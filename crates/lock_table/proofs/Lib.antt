@@ -18,3 +18,4 @@ pub mod Wholes
 pub mod Named
 pub mod Admitting
 pub mod Knowing
+pub mod Holding

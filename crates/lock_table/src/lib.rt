@@ -2,16 +2,18 @@
 #![tactic(auto)]
 
 mod arrive;
-pub mod calls;
+mod calls;
 mod change;
 mod depart;
 mod dequeues;
 mod enqueues;
-pub mod leaving;
-pub mod releases;
+mod leaving;
+mod parts;
+mod releases;
 mod steps;
-pub mod told;
+mod table;
+mod told;
 mod turns;
-pub mod waking;
+mod waking;
 
-pub use turns::Turns;
+pub use table::IndexedTable;

@@ -1,0 +1,6 @@
+use Rattle.std.proofs.Common.{lit<}
+use Rattle.table_reads.proofs.Telling.{marks_grants}
+use Rattle.lock_table.proofs.parts.Parts.waiting.Goals as goal
+
+pub is_waiting-requires : goal.is_waiting-requires
+is_waiting-requires g c = (lit< tt, (c.self.invariant.whole.right, marks_grants c.self.inside.store c.self.inside.locks.items c.self.invariant.whole.table))

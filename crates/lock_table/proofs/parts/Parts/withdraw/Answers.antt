@@ -1,0 +1,15 @@
+use Rattle.std.proofs.Common.{◌∙◌, ap, List}
+use Rattle.lock_queue.specs.declared.request.Request.{Request}
+use Rattle.lock_queue.specs.Jobs.{is_one, withdrawn}
+use Rattle.table_reads.proofs.Telling.{marks_grants}
+use Rattle.lock_table.proofs.Holding.{withdrawn_is}
+use Rattle.lock_table.proofs.Wholes.{well_from_right}
+use Rattle.lock_table.proofs.parts.Parts.withdraw.Goals as goal
+
+pub returns-clause-requests : goal.returns-clause-requests
+returns-clause-requests g c =
+    withdrawn_is c.self.inside.store c.withdraw.new.store (is_one c.args.job) (marks_grants c.self.inside.store c.self.inside.locks.items c.self.invariant.whole.table) c.withdraw.ensures.left
+    ∙ ap (λ (l : List Request). withdrawn l c.args.job) c.self.view_is
+
+pub returns-clause-well : goal.returns-clause-well
+returns-clause-well g c = well_from_right c.withdraw.new.store c.withdraw.ensures.whole.right
