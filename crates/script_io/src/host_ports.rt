@@ -1,86 +1,103 @@
-//! Ports over std's readers and writers.
-ghost use Rattle.std.specs.Prelude.{◌≡◌, ◌^◌, ◌<◌, IsErr, IfErr, IsTrue, ◌↔◌, IsErrAnd, false, length};
+//! Ports over hosts: std's readers and writers, or any other.
+ghost use Rattle.std.specs.Prelude.{◌≡◌, ◌^◌, ◌<◌, ◌↔◌, IsTrue, IsErr, false, length};
 ghost use Rattle.std.specs.Io.{ReadsAtMost, WritesAtMost};
 ghost use Rattle.std.specs.Io.KnownBytes.{ReadConsumes, WriteAppends};
-ghost use Rattle.std.specs.IoError.{error_kind};
+ghost use Rattle.script_io.specs.Hosts.{AsksForBytes, AsksToTake, ReadsAgain, WritesAgain};
 ghost use Rattle.script_io.specs.Ports.{Reads, Writes};
 
+use crate::host_fault::HostFault;
+use crate::hosts::{ReadOnce, StdReader, StdWriter, WriteOnce};
 use crate::ports::{ByteIn, ByteOut, Failed};
-use std::io;
-use std::io::{ErrorKind, Read, Write};
+use std::io::{Read, Write};
 
 /// How often the reader is asked, and the writer at each write, at most.
 const MOST_TRIES: u64 = 1 << 63;
 
-/// Whether a read or a write was interrupted, so that it is to be made again.
-fn is_interrupted(answer: &io::Result<usize>) -> bool
-    ensures { IsTrue result ↔ IsErrAnd answer.now (λ e. error_kind e ≡ ErrorKind.Interrupted) }
+/// Whether a call was interrupted, so that it is to be made again.
+fn is_interrupted(answer: &Result<usize, HostFault>) -> bool
+    ensures { IsTrue result ↔ (answer.now ≡ Err HostFault.Interrupted) }
 {
-    match answer {
-        Ok(_) => false,
-        Err(error) => error.kind() == ErrorKind::Interrupted,
-    }
+    matches!(answer, Err(HostFault::Interrupted))
 }
 
-/// Reads, and reads again where the reader was interrupted, as long as tries are left.
-fn read_retrying<R: Read>(inner: &mut R, tries: &mut u64, piece: &mut [u8]) -> io::Result<usize>
+/// Reads, and reads again where the host was interrupted, as long as tries are left.
+fn read_retrying<H: ReadOnce>(
+    host: &mut H,
+    tries: &mut u64,
+    piece: &mut [u8],
+) -> Result<usize, HostFault>
     requires { 0 < tries.old }
     ensures bound { ReadsAtMost result piece.new }
-    ensures bytes { ReadConsumes (R.remaining inner.old) (R.remaining inner.new) result piece.new }
-    ensures fewer { tries.new < tries.old }
-    ensures retried { IfErr result (λ e. error_kind e ≡ ErrorKind.Interrupted → tries.new ≡ 0) }
+    ensures bytes { ReadConsumes (H.to_come host.old) (H.to_come host.new) result piece.new }
+    ensures again { ReadsAgain H.answers host.old host.new tries.old tries.new result piece.new }
 {
     'tries: loop {
         *tries -= 1;
-        let answer = inner.read(piece);
+        let answer = host.read_once(piece);
         if *tries == 0 || !is_interrupted(&answer) {
             return answer;
         }
     }
 }
 
-/// Writes, and writes again where the writer was interrupted, as long as tries are left.
-fn write_retrying<W: Write>(inner: &mut W, tries: &mut u64, piece: &[u8]) -> io::Result<usize>
-    requires { 0 < tries.old }
+/// Writes, and writes again where the host was interrupted, as long as tries are left.
+fn write_retrying<H: WriteOnce>(host: &mut H, most: u64, piece: &[u8]) -> Result<usize, HostFault>
+    requires { 0 < most }
     ensures bound { WritesAtMost result piece.now }
-    ensures bytes { WriteAppends (W.contents inner.old) (W.contents inner.new) result piece.now }
-    ensures retried { IfErr result (λ e. error_kind e ≡ ErrorKind.Interrupted → tries.new ≡ 0) }
+    ensures bytes { WriteAppends (H.written host.old) (H.written host.new) result piece.now }
+    ensures again { WritesAgain H.answers host.old host.new most result piece.now }
 {
+    let mut tries = most;
     'tries: loop {
-        *tries -= 1;
-        let answer = inner.write(piece);
-        if *tries == 0 || !is_interrupted(&answer) {
+        tries -= 1;
+        let answer = host.write_once(piece);
+        if tries == 0 || !is_interrupted(&answer) {
             return answer;
         }
     }
 }
 
-/// The bytes of a reader. A read that was interrupted is made again; any read after the first 2^63
+/// The bytes of a host. A read that was interrupted is made again; any read after the first 2^63
 /// fails.
 #[derive(Drop)]
-pub struct HostIn<R: Drop> {
-    inner: R,
-    reads_left: u64,
+pub struct HostIn<H: Drop> {
+    /// The host.
+    pub host: H,
+    /// How often it may still be asked.
+    pub reads_left: u64,
     failed: bool,
 }
 
-impl<R: Read + Drop> HostIn<R> {
+impl<R: Read + Drop> HostIn<StdReader<R>> {
     /// The bytes that this reader gives.
     pub fn new(inner: R) -> Self
-        ensures bytes { ⟦<HostIn<R> as ByteIn>⟧.to_come result ≡ R.remaining inner }
-        ensures few { ⟦<HostIn<R> as ByteIn>⟧.reads_left result ≡ 2 ^ 63 }
-        ensures sound { ⟦<HostIn<R> as ByteIn>⟧.has_failed result ≡ false }
+        ensures bytes { ⟦<HostIn<StdReader<R>> as ByteIn>⟧.to_come result ≡ R.remaining inner }
+        ensures few { ⟦<HostIn<StdReader<R>> as ByteIn>⟧.reads_left result ≡ 2 ^ 63 }
+        ensures sound { ⟦<HostIn<StdReader<R>> as ByteIn>⟧.has_failed result ≡ false }
+    {
+        HostIn::over(StdReader { inner })
+    }
+}
+
+impl<H: ReadOnce + Drop> HostIn<H> {
+    /// The bytes that this host gives.
+    pub fn over(host: H) -> Self
+        ensures bytes { ⟦<HostIn<H> as ByteIn>⟧.to_come result ≡ H.to_come host }
+        ensures few { ⟦<HostIn<H> as ByteIn>⟧.reads_left result ≡ 2 ^ 63 }
+        ensures sound { ⟦<HostIn<H> as ByteIn>⟧.has_failed result ≡ false }
+        ensures host { result.host ≡ host }
+        ensures reads { result.reads_left ≡ 2 ^ 63 }
     {
         HostIn {
-            inner,
+            host,
             reads_left: MOST_TRIES,
             failed: false,
         }
     }
 }
 
-impl<R: Read + Drop> ByteIn for HostIn<R> {
-    ghost to_come = { λ s. R.remaining s.inner };
+impl<H: ReadOnce + Drop> ByteIn for HostIn<H> {
+    ghost to_come = { λ s. H.to_come s.host };
 
     ghost reads_left = { λ s. s.reads_left };
 
@@ -88,14 +105,16 @@ impl<R: Read + Drop> ByteIn for HostIn<R> {
 
     fn read(&mut self, piece: &mut [u8]) -> Result<usize, Failed>
         requires room { 0 < length piece.old }
-        requires sound { ⟦<HostIn<R> as ByteIn>⟧.has_failed self.old ≡ false }
-        ensures reads { Reads (⟦<HostIn<R> as ByteIn>⟧.to_come self.old) (⟦<HostIn<R> as ByteIn>⟧.to_come self.new)
-            (⟦<HostIn<R> as ByteIn>⟧.reads_left self.old) (⟦<HostIn<R> as ByteIn>⟧.reads_left self.new)
-            (⟦<HostIn<R> as ByteIn>⟧.has_failed self.new) result piece.new }
-        ensures spent { ⟦<HostIn<R> as ByteIn>⟧.reads_left self.old ≡ 0 → IsErr result }
+        requires sound { ⟦<HostIn<H> as ByteIn>⟧.has_failed self.old ≡ false }
+        ensures reads { Reads (⟦<HostIn<H> as ByteIn>⟧.to_come self.old) (⟦<HostIn<H> as ByteIn>⟧.to_come self.new)
+            (⟦<HostIn<H> as ByteIn>⟧.reads_left self.old) (⟦<HostIn<H> as ByteIn>⟧.reads_left self.new)
+            (⟦<HostIn<H> as ByteIn>⟧.has_failed self.new) result piece.new }
+        ensures asks { 0 < self.old.reads_left → AsksForBytes H.answers self.old.host self.new.host
+            self.old.reads_left self.new.reads_left result piece.new }
+        ensures spent { self.old.reads_left ≡ 0 → IsErr result × (self.new.host ≡ self.old.host) }
     {
         if self.reads_left > 0 {
-            match read_retrying(&mut self.inner, &mut self.reads_left, piece) {
+            match read_retrying(&mut self.host, &mut self.reads_left, piece) {
                 Ok(count) => return Ok(count),
                 Err(_) => {}
             }
@@ -105,35 +124,52 @@ impl<R: Read + Drop> ByteIn for HostIn<R> {
     }
 }
 
-/// The bytes given to a writer. A write that was interrupted is made again; one that takes no byte
+/// The bytes given to a host. A write that was interrupted is made again; one that takes no byte
 /// fails.
 #[derive(Drop)]
-pub struct HostOut<W: Drop> {
-    inner: W,
+pub struct HostOut<H: Drop> {
+    /// The host.
+    pub host: H,
     failed: bool,
 }
 
-impl<W: Write + Drop> HostOut<W> {
+impl<W: Write + Drop> HostOut<StdWriter<W>> {
     /// Gives bytes to this writer.
     pub fn new(inner: W) -> Self
-        ensures bytes { ⟦<HostOut<W> as ByteOut>⟧.written result ≡ W.contents inner }
-        ensures sound { ⟦<HostOut<W> as ByteOut>⟧.has_failed result ≡ false }
+        ensures bytes { ⟦<HostOut<StdWriter<W>> as ByteOut>⟧.written result ≡ W.contents inner }
+        ensures sound { ⟦<HostOut<StdWriter<W>> as ByteOut>⟧.has_failed result ≡ false }
+    {
+        HostOut::over(StdWriter { inner })
+    }
+}
+
+impl<H: WriteOnce + Drop> HostOut<H> {
+    /// Gives bytes to this host.
+    pub fn over(host: H) -> Self
+        ensures bytes { ⟦<HostOut<H> as ByteOut>⟧.written result ≡ H.written host }
+        ensures sound { ⟦<HostOut<H> as ByteOut>⟧.has_failed result ≡ false }
+        ensures host { result.host ≡ host }
     {
         HostOut {
-            inner,
+            host,
             failed: false,
         }
     }
 }
 
-impl<W: Write + Drop> ByteOut for HostOut<W> {
-    ghost written = { λ s. W.contents s.inner };
+impl<H: WriteOnce + Drop> ByteOut for HostOut<H> {
+    ghost written = { λ s. H.written s.host };
 
     ghost has_failed = { λ s. s.failed };
 
-    fn write(&mut self, piece: &[u8]) -> Result<usize, Failed> {
-        let mut tries = MOST_TRIES;
-        match write_retrying(&mut self.inner, &mut tries, piece) {
+    fn write(&mut self, piece: &[u8]) -> Result<usize, Failed>
+        requires some { 0 < length piece.now }
+        requires sound { ⟦<HostOut<H> as ByteOut>⟧.has_failed self.old ≡ false }
+        ensures writes { Writes (⟦<HostOut<H> as ByteOut>⟧.written self.old) (⟦<HostOut<H> as ByteOut>⟧.written self.new)
+            (⟦<HostOut<H> as ByteOut>⟧.has_failed self.new) result piece.now }
+        ensures asks { AsksToTake H.answers self.old.host self.new.host (2 ^ 63) result piece.now }
+    {
+        match write_retrying(&mut self.host, MOST_TRIES, piece) {
             Ok(count) if count > 0 => Ok(count),
             _ => {
                 self.failed = true;

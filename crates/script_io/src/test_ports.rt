@@ -138,7 +138,7 @@ impl<'a> ByteOut for TestOut<'a> {
 }
 
 /// Copies the bytes to a place.
-fn put(room: &mut [u8], at: usize, bytes: &[u8])
+pub fn put(room: &mut [u8], at: usize, bytes: &[u8])
     requires { at + length bytes.now ≤ length room.old }
     ensures { take (at + length bytes.now) room.new ≡ take at room.old ++ bytes.now }
 {

@@ -1,12 +1,13 @@
-use Rattle.std.proofs.Common.{◌<◌, ◌≤◌}
+use Rattle.std.proofs.Common.{◌≡◌, ℕ, ◌+◌, ◌<◌}
 use Rattle.std.specs.Io.KnownBytes.{Keeps}
+use Rattle.script_io.specs.Hosts.{Leads, ReadIsInterrupted}
 use Rattle.script_io.proofs.host_ports.read_retrying.Given as goal
 
 abbrev pub invariant-tries : goal.invariant-tries
 invariant-tries g l = record {
-  kept : Keeps (g.R.Read.remaining l.initial.inner) (g.R.Read.remaining l.inner);
+  kept : Keeps (g.H.ReadOnce.to_come l.initial.host) (g.H.ReadOnce.to_come l.host);
   some : 0 < l.tries;
-  fewer : l.tries ≤ l.initial.tries;
+  made : (count : ℕ) × (Leads (ReadIsInterrupted g.H.ReadOnce.answers) count l.initial.host l.host × (l.initial.tries ≡ l.tries + count));
 }
 
 abbrev pub decreases-tries : goal.decreases-tries
