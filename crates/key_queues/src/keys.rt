@@ -67,30 +67,35 @@ fn no_buckets(alloc: Global, count: usize) -> Result<Vec<Bucket>, AllocError>
     Ok(buckets)
 }
 
-/// So many numbers, the lowest last.
-fn falling(alloc: Global, count: usize) -> Result<Vec<u16>, AllocError>
-    requires { count ≤ 2 ^ 16 }
-{
-    let mut free = Vec::with_capacity(alloc, count)?;
-    let mut left = count;
-    while left > 0 {
-        left -= 1;
-        free.push(left as u16)?;
-    }
-    Ok(free)
-}
-
 impl Keys {
-    /// The numbers of so many locks, none of which is open.
+    /// No numbers, and memory for so many.
     pub fn new(alloc: Global, count: usize) -> Result<Self, AllocError>
-        requires { count ≤ 2 ^ 16 }
         ensures long { IfOk result (λ keys. length keys.buckets.items ≡ HASHES) }
         ensures none { IfOk result (λ keys. (h : ℕ) → bucket_at keys.buckets.items h ≡ no_bucket) }
     {
         Ok(Keys {
             buckets: no_buckets(alloc, HASHES)?,
-            free: falling(alloc, count)?,
+            free: Vec::with_capacity(alloc, count)?,
         })
+    }
+
+    /// Numbers from one on, up to so many, may be free.
+    pub fn offer(&mut self, from: usize, count: usize)
+        requires { count ≤ 2 ^ 16 }
+        ensures { self.new.buckets.items ≡ self.old.buckets.items }
+    {
+        for n in from..count {
+            self.free_if_room(n as u16);
+        }
+    }
+
+    /// A number may be free.
+    fn free_if_room(&mut self, n: u16)
+        ensures { self.new.buckets.items ≡ self.old.buckets.items }
+    {
+        if self.free.len() < self.free.capacity() {
+            let _ = self.free.push(n);
+        }
     }
 
     /// The number of the open lock of a key that has this hash.
@@ -157,9 +162,7 @@ impl Keys {
         ensures { self.new.buckets.items ≡ slice_set self.old.buckets.items hash (without_number (bucket_at self.old.buckets.items hash) n) }
     {
         take_out(&mut self.buckets[hash as usize], n);
-        if self.free.len() < self.free.capacity() {
-            let _ = self.free.push(n);
-        }
+        self.free_if_room(n);
     }
 
     /// Closes a lock where no want stands in its queue.

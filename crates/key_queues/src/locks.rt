@@ -1,5 +1,5 @@
 //! Locks by their numbers.
-ghost use Rattle.std.specs.Prelude.{IfOk, ◌≡◌, ◌<◌, ◌≤◌, ◌^◌, ◌&&◌, ℕ, true, false, not, IfSome, length, slice_set};
+ghost use Rattle.std.specs.Prelude.{IfOk, ◌≡◌, ◌<◌, ◌≤◌, ◌^◌, ◌&&◌, [], ℕ, true, false, not, IfSome, length, max, slice_set, vec_capacity};
 ghost use Rattle.std.specs.List.{All, find, list_any, position_or_len};
 ghost use Rattle.key_queues.specs.Locks.{lock_at, unused_lock};
 ghost use Rattle.key_queues.specs.Opened.{fresh_lock, is_closed, is_open_for, size_of};
@@ -76,11 +76,10 @@ pub fn begin(locks: &mut [Lock], n: u16, w: &Want)
     requires { n < length locks.old }
     ensures { locks.new ≡ slice_set locks.old n (fresh_lock w.now) }
 {
-    locks[n as usize] = Lock {
-        key: w.key.copied(),
-        size: size_of(&w.pool),
-        queue: Queue::new(),
-    };
+    let lock = &mut locks[n as usize];
+    lock.key = w.key.copied();
+    lock.size = size_of(&w.pool);
+    lock.queue.clear();
 }
 
 /// A lock that is not open.
@@ -97,14 +96,24 @@ fn unused() -> Lock
     }
 }
 
-/// So many locks, none of which is open.
+/// No locks, and memory for so many.
 pub fn no_locks(alloc: Global, count: usize) -> Result<Vec<Lock>, AllocError>
-    ensures long { IfOk result (λ locks. length locks.items ≡ count) }
-    ensures unused { IfOk result (λ locks. (n : ℕ) → lock_at locks.items n ≡ unused_lock) }
+    ensures none { IfOk result (λ locks. locks.items ≡ []) }
+    ensures room { IfOk result (λ locks. count ≤ vec_capacity locks) }
 {
-    let mut locks = Vec::with_capacity(alloc, count)?;
-    for _ in 0..count {
-        locks.push(unused())?;
+    Vec::with_capacity(alloc, count)
+}
+
+/// Sees to it that there are so many locks: those that come are not open.
+pub fn more_locks(locks: &mut Vec<Lock>, count: usize)
+    requires { count ≤ vec_capacity locks.old }
+    ensures same { (n : ℕ) → lock_at locks.new.items n ≡ lock_at locks.old.items n }
+    ensures long { count ≤ length locks.new.items }
+    ensures kept { length locks.old.items ≤ length locks.new.items }
+    ensures most { length locks.new.items ≤ max count (length locks.old.items) }
+    ensures room { vec_capacity locks.new ≡ vec_capacity locks.old }
+{
+    while locks.len() < count {
+        locks.push_reserved(unused());
     }
-    Ok(locks)
 }

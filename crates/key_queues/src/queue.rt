@@ -77,6 +77,17 @@ impl Queue {
         }
     }
 
+    /// Becomes the queue of no wants.
+    pub fn clear(&mut self)
+        ensures { self.new ≡ no_queue }
+    {
+        self.places.clear();
+        self.fitting = 0;
+        self.taken = 0;
+        self.shared = false;
+        self.group = Group::new(0);
+    }
+
     /// How many wants there are.
     pub fn len(&self) -> usize
         ensures { result ≡ length self.now.places }

@@ -42,7 +42,7 @@ use Rattle.lock_table.specs.Departures.{request_at}
 use Rattle.lock_table.proofs.Named.{passes_at}
 use Rattle.lock_table.proofs.Wholes.{well_from_right}
 
-there_Has : (xs : List ℕ) (x : ℕ) → is_there x xs ≡ true → Has xs x
+pub there_Has : (xs : List ℕ) (x : ℕ) → is_there x xs ≡ true → Has xs x
 there_Has xs x h =
     let found = list_any-found (λ y. y == x) xs h in subst (λ y. Has xs y) (eqb-true found.0 x found.2) found.1
 
@@ -99,6 +99,16 @@ fresh s job e (v ∷ ws) w h (inl same) =
     subst (λ (u : Want). names (wants_of (requests_in s) job) u.key ≡ false) same passed.new
 fresh s job e (v ∷ ws) w h (inr has) =
     fresh s job (e ++ v ∷ []) ws w (or_else-None (enqueue_fault (requests_in s) job e v) (first_refusal (enqueue_fault (requests_in s) job) (e ++ v ∷ []) ws) h).1 has
+
+-- each want is like the present ones of its key
+pub alike_of : (s : Stored) (job : ℕ) (e ws : List Want) (w : Want) → first_refusal (enqueue_fault (requests_in s) job) e ws ≡ None → Has ws w
+    → list_all (λ v. are_alike v w) (wants_at (requests_in s) w.key) ≡ true
+alike_of s job e [] w h has = absurd has
+alike_of s job e (v ∷ ws) w h (inl same) =
+    let passed = passed_one s job e v (or_else-None (enqueue_fault (requests_in s) job e v) (first_refusal (enqueue_fault (requests_in s) job) (e ++ v ∷ []) ws) h).0 in
+    subst (λ (u : Want). list_all (λ x. are_alike x u) (wants_at (requests_in s) u.key) ≡ true) same passed.alike
+alike_of s job e (v ∷ ws) w h (inr has) =
+    alike_of s job (e ++ v ∷ []) ws w (or_else-None (enqueue_fault (requests_in s) job e v) (first_refusal (enqueue_fault (requests_in s) job) (e ++ v ∷ []) ws) h).1 has
 
 module _ (size : ℕ) (s : Stored) (locks : List Lock) (buckets : List Bucket) (job : ℕ) where
   admits_one : (w : Want) → IsWhole size s locks buckets → is_job job ≡ true → Passed s job w → Admits locks w

@@ -23,7 +23,7 @@ use Rattle.request_store.specs.Filing.{with_told}
 use Rattle.request_store.specs.Stores.{Stored, filed_at, places_of, with_filed}
 use Rattle.table_reads.specs.Filing.{state_of}
 use Rattle.table_reads.specs.Reads.{is_pending_filed}
-use Rattle.table_reads.specs.Whole.{IsWhole, requests_in}
+use Rattle.table_reads.specs.Whole.{IsWhole, requests_in, level_at}
 use Rattle.lock_table.specs.Departures.{is_of, request_at}
 use Rattle.lock_table.proofs.Filing.{filed_with}
 use Rattle.lock_table.proofs.Wholes.{whole_by}
@@ -107,7 +107,13 @@ module _ (s t : Stored) (p : ℕ) (lt : p < length s.filed) (is : t ≡ with_fil
       (ap (λ l. names l key) (sym (like (λ (g : Filed). g.request.wants.items) refl x)) ∙ nx)
       (ap (λ l. names l key) (sym (like (λ (g : Filed). g.request.wants.items) refl y)) ∙ ny)
       (sym (like (λ (g : Filed). g.request.job) refl x) ∙ e ∙ like (λ (g : Filed). g.request.job) refl y))
-      (subst (λ l. length l ≤ size) (sym told_order) w.few) refl
+      (λ x y key hx hy nx ny.
+      like (λ (g : Filed). level_at g.request key) refl x
+      ∙ w.levels x y key (subst (λ l. is_there x l ≡ true) told_order hx) (subst (λ l. is_there y l ≡ true) told_order hy)
+      (ap (λ l. names l key) (sym (like (λ (g : Filed). g.request.wants.items) refl x)) ∙ nx)
+      (ap (λ l. names l key) (sym (like (λ (g : Filed). g.request.wants.items) refl y)) ∙ ny)
+      ∙ sym (like (λ (g : Filed). level_at g.request key) refl y))
+      (subst (λ l. length l ≤ size) (sym told_order) w.few)
     where
       same_state : state_of t locks ≡ record (state_of s locks) { at = request_at t }
       same_state = λ i. record {

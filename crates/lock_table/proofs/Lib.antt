@@ -16,6 +16,8 @@ pub mod Lost
 pub mod Choosing
 pub mod Wholes
 pub mod Named
+pub mod Sole
 pub mod Admitting
+pub mod Agreeing
 pub mod Knowing
 pub mod Holding

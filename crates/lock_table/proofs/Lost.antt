@@ -1,7 +1,7 @@
 -- Wants are found by their keys and leave.
-use Rattle.std.proofs.Common.{◌≡◌, ◌<◌, ◌∙◌, sym, ap, subst, ℕ, zero, suc, Bool, true, false, ◌==◌, not, List, [], ◌∷◌, length, get_or, filter, slice_get, Some, refl, arith}
+use Rattle.std.proofs.Common.{◌≡◌, ◌<◌, ◌∙◌, sym, ap, subst, ℕ, zero, suc, Bool, true, false, ◌==◌, ◌||◌, not, List, [], ◌∷◌, length, get_or, filter, slice_get, Some, refl, arith}
 use Rattle.std.specs.List.{list_all, position_or_len, remove}
-use Rattle.std.proofs.lemmas.Bool.{both_ways, false_from_ne_true, and_parts, ne_eqb}
+use Rattle.std.proofs.lemmas.Bool.{both_ways, false_from_ne_true, false≢true, and_parts, ne_eqb}
 use Rattle.lock_queue.specs.declared.key.Key.{Key}
 use Rattle.lock_queue.specs.declared.want.Want.{Want}
 use Rattle.lock_queue.specs.Dequeues.{has_wants, with_wants}
@@ -9,7 +9,7 @@ use Rattle.lock_queue.specs.Keys.{same_key}
 use Rattle.lock_queue.specs.Queue.{names}
 use Rattle.lock_queue.specs.Unused.{unused_want}
 use Rattle.lock_queue.specs.WellFormed.{are_apart}
-use Rattle.lock_queue.proofs.Fitting.{eq-same_key, names-found, same_key-swap}
+use Rattle.lock_queue.proofs.Fitting.{eq-same_key, names-found, same_key-eq, same_key-swap}
 use Rattle.key_queues.specs.declared.lock.Lock.{Lock}
 use Rattle.key_queues.specs.Locks.{lock_at}
 use Rattle.request_store.specs.Stores.{Stored, filed_at}
@@ -60,6 +60,16 @@ key_at key (w ∷ ws) (m ∷ ns) (suc k) n q e = key_at key ws ns k n q.1 e
 key_at key [] (m ∷ ns) k n q e = absurd q
 key_at key (w ∷ ws) [] k n q e = absurd q
 
+named_first : (b : Bool) → (b || false) ≡ true → b ≡ true
+named_first true h = refl
+named_first false h = absurd (false≢true h)
+
+-- the only want is that of the key which is named
+only_named : (ws : List Want) (key : Key) → names ws key ≡ true → length ws ≡ 1 → (get_or ws 0 unused_want).key ≡ key
+only_named [] key h e = absurd (false≢true h)
+only_named (w ∷ []) key h e = same_key-eq w.key key (named_first (same_key w.key key) h)
+only_named (w ∷ v ∷ ws) key h e = absurd (omega (arith, e))
+
 module _ (store : Stored) (locks : List Lock) (p : ℕ) (key : Key) where
   -- the queue of a key that a request names
   own_of_key : IsTable (state_of store locks) → is_there p store.order ≡ true
@@ -86,6 +96,18 @@ module _ (store : Stored) (locks : List Lock) (p : ℕ) (key : Key) where
       record {
         within = found.0;
         of = key_at s.key (s.at p).wants.items (s.own p) (position_or_len (λ j. j == n) (s.own p)) n (table.kept.queues p present) found.1 ∙ parts.1;
+      }
+
+  pub only_want : IsTable (state_of store locks) → is_there p store.order ≡ true
+      → names (filed_at store p).request.wants.items key ≡ true
+      → length (filed_at store p).queues.items ≡ 1
+      → IsWantOf store p key 0
+  only_want table present named one =
+      let s : State = state_of store locks in
+      let few = as_many_queues (λ w n. s.key n ≡ w.key) (s.at p).wants.items (s.own p) (table.kept.queues p present) in
+      record {
+        within = omega (arith, one);
+        of = only_named (filed_at store p).request.wants.items key named (few ∙ one);
       }
 
   pub key_lost : IsTable (state_of store locks) → is_there p store.order ≡ true

@@ -1,6 +1,6 @@
 -- A job gives up keys.
-use Rattle.std.proofs.Common.{◌≡◌, ◌≢◌, ◌<◌, ◌+◌, ◌∙◌, sym, ap, subst, ℕ, zero, suc, Bool, true, false, not, ◌&&◌, ◌||◌, ◌==◌, cond, List, [], ◌∷◌, ◌++◌, length, filter, take, get_or, Option, None, inl, inr, refl, arith, append_assoc, append-nil, nat_le}
-use Rattle.std.proofs.lemmas.Bool.{and_parts, both_ways, cases_eq, eq-eqb, eqb-true, false_from_ne_true, not-false, or_left, or_parts, or_right}
+use Rattle.std.proofs.Common.{◌≡◌, ◌≢◌, ◌<◌, ◌+◌, ◌∙◌, sym, ap, subst, ℕ, zero, suc, Bool, true, false, not, ◌&&◌, ◌||◌, ◌==◌, cond, List, [], ◌∷◌, ◌++◌, length, filter, take, get_or, Option, None, inl, inr, refl, arith, append_assoc, append-nil, nat_le, unwrap_or}
+use Rattle.std.proofs.lemmas.Bool.{and_parts, both_ways, cases_eq, eq-eqb, eqb-true, false_from_ne_true, not-false, not-true, or_left, or_parts, or_right}
 use Rattle.std.proofs.lemmas.List.Folds.{list_any-append}
 use Rattle.std.proofs.lemmas.Option.{slice_get-get_or}
 use Rattle.word36.specs.declared.sizes.TheConstants.{LOCKS_A_CALL}
@@ -14,8 +14,9 @@ use Rattle.lock_queue.specs.Keys.{same_key}
 use Rattle.lock_queue.specs.Outcomes.{first_refusal, refuse_if}
 use Rattle.lock_queue.specs.Queue.{names, requests_of, wants_of}
 use Rattle.lock_queue.specs.WellFormed.{are_right_wants, is_job, is_well_formed}
+use Rattle.lock_queue.specs.StatusWords.{first_level}
 use Rattle.lock_queue.specs.Unused.{unused_want}
-use Rattle.lock_queue.proofs.Fitting.{names-Has, names-found, same_key-swap}
+use Rattle.lock_queue.proofs.Fitting.{names-Has, names-found, same_key-eq, same_key-swap}
 use Rattle.lock_queue.proofs.Lists.{Has-filter, filter-Has, flat_map-Has, map-Has}
 use Rattle.key_queues.proofs.Keeping.{Has-there}
 use Rattle.lock_queue.proofs.Refusing.{or_else-None, refuse_if-None}
@@ -24,7 +25,7 @@ use Rattle.key_queues.proofs.Places.{take_next}
 use Rattle.key_queues.proofs.Using.{kept_there, there_kept}
 use Rattle.request_store.specs.Stores.{Stored, filed_at, without_place}
 use Rattle.request_store.proofs.Orders.{filter_same}
-use Rattle.table_reads.specs.Whole.{AreRight, JobsAreApart, requests_in}
+use Rattle.table_reads.specs.Whole.{AreRight, JobsAreApart, level_at, requests_in}
 use Rattle.lock_table.specs.Departures.{IsLeft, left_named, request_at, without_key}
 use Rattle.lock_table.proofs.Choosing.{has_where_named, order_step}
 
@@ -103,6 +104,51 @@ job_named s job named x = go ((request_at s x).job == job)
     go : (b : Bool) → (cond b (with_wants (request_at s x) (filter (λ w. not (names named w.key)) (request_at s x).wants.items)) (request_at s x)).job ≡ (request_at s x).job
     go true = refl
     go false = refl
+
+-- the wants of a key that is not given up stay
+own_left : (ws named : List Want) (key : Key) → names named key ≡ false
+    → filter (λ w. same_key w.key key) (filter (λ w. not (names named w.key)) ws) ≡ filter (λ w. same_key w.key key) ws
+own_left [] named key new = refl
+own_left (w ∷ ws) named key new = go (same_key w.key key) (names named w.key) refl refl (own_left ws named key new)
+  where
+    t : Want → Bool
+    t v = same_key v.key key
+
+    rest : List Want
+    rest = filter (λ v. not (names named v.key)) ws
+
+    go : (b c : Bool) → t w ≡ b → names named w.key ≡ c → filter t rest ≡ filter t ws
+        → filter t (cond (not c) (w ∷ rest) rest) ≡ cond b (w ∷ filter t ws) (filter t ws)
+    go true true e f h = absurd (both_ways (names named w.key) (ap (names named) (same_key-eq w.key key e) ∙ new) f)
+    go true false e f h = ap (λ b. cond b (w ∷ filter t rest) (filter t rest)) e ∙ ap (λ l. w ∷ l) h
+    go false true e f h = h
+    go false false e f h = ap (λ b. cond b (w ∷ filter t rest) (filter t rest)) e ∙ h
+
+pub level_named : (s : Stored) (job : ℕ) (named : List Want) (x : ℕ) (key : Key) → names (left_named s job named x).wants.items key ≡ true
+    → level_at (left_named s job named x) key ≡ level_at (request_at s x) key
+level_named s job named x key h = go ((request_at s x).job == job) h
+  where
+    r : Request
+    r = request_at s x
+
+    q : Want → Bool
+    q w = not (names named w.key)
+
+    of : List Want → ℕ
+    of l = unwrap_or (first_level l) 0
+
+    t : Want → Bool
+    t v = same_key v.key key
+
+    go : (b : Bool) → names (cond b (with_wants r (filter q r.wants.items)) r).wants.items key ≡ true
+        → level_at (cond b (with_wants r (filter q r.wants.items)) r) key ≡ level_at r key
+    go false h = refl
+    go true h =
+        let found = names-found (filter q r.wants.items) key h in
+        let passes : not (names named key) ≡ true = subst (λ k. not (names named k) ≡ true) found.2 (filter-Has q r.wants.items found.0 found.1).0 in
+        ap (λ l. of (filter t l)) (append-nil (filter q r.wants.items))
+        ∙ ap of (own_left r.wants.items named key (not-true (names named key) passes))
+        ∙ sym (ap (λ l. of (filter t l)) (append-nil r.wants.items))
 
 pub still_named : (s : Stored) (job : ℕ) (named : List Want) (x : ℕ) (key : Key) → names (request_at s x).wants.items key ≡ true → names named key ≡ false
     → names (left_named s job named x).wants.items key ≡ true
@@ -296,6 +342,13 @@ module _ (s t u : Stored) (job i : ℕ) (named : List Want) (p : ℕ) where
           (ap (λ b. b && t1 p) there.0 ∙ there.1) same_test
           ∙ sym (within u2)
 
+-- a request that is right has wants
+pub some_wants : (r : Request) → is_well_formed r ≡ true → has_wants r ≡ true
+some_wants r h =
+    let both = and_parts (is_job r.job && (has_wants r && nat_le (length r.wants.items) LOCKS_A_CALL)) (are_right_wants r.wants.items) h in
+    let front = and_parts (is_job r.job) (has_wants r && nat_le (length r.wants.items) LOCKS_A_CALL) both.0 in
+    (and_parts (has_wants r) (nat_le (length r.wants.items) LOCKS_A_CALL) front.1).0
+
 -- where nothing was given up yet
 pub left_start : (s : Stored) (job : ℕ) → AreRight s → IsLeft s s (left_named s job []) (λ x. has_wants (left_named s job [] x))
 left_start s job right = record {
@@ -313,12 +366,6 @@ left_start s job right = record {
         go : (b : Bool) → cond b (with_wants (request_at s x) (filter (λ w. not (names [] w.key)) (request_at s x).wants.items)) (request_at s x) ≡ request_at s x
         go true = ap (with_wants (request_at s x)) (keep (request_at s x).wants.items)
         go false = refl
-
-    some_wants : (r : Request) → is_well_formed r ≡ true → has_wants r ≡ true
-    some_wants r h =
-        let both = and_parts (is_job r.job && (has_wants r && nat_le (length r.wants.items) LOCKS_A_CALL)) (are_right_wants r.wants.items) h in
-        let front = and_parts (is_job r.job) (has_wants r && nat_le (length r.wants.items) LOCKS_A_CALL) both.0 in
-        (and_parts (has_wants r) (nat_le (length r.wants.items) LOCKS_A_CALL) front.1).0
 
     all_kept : (xs : List ℕ) → ((x : ℕ) → is_there x xs ≡ true → has_wants (left_named s job [] x) ≡ true)
         → filter (λ x. has_wants (left_named s job [] x)) xs ≡ xs

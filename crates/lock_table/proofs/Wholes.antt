@@ -15,7 +15,7 @@ use Rattle.key_queues.proofs.Using.{kept_there, there_kept}
 use Rattle.request_store.specs.Stores.{Stored, filed_at}
 use Rattle.request_store.proofs.Orders.{filter_same, filter_short}
 use Rattle.table_reads.specs.Filing.{state_of}
-use Rattle.table_reads.specs.Whole.{AreRight, IsWhole, JobsAreApart, requests_in}
+use Rattle.table_reads.specs.Whole.{AreRight, IsWhole, JobsAreApart, LevelsAgree, level_at, requests_in}
 use Rattle.lock_queue.specs.declared.want.Want.{Want}
 use Rattle.lock_queue.specs.Dequeues.{has_wants, without_keys_of, without_named}
 use Rattle.arrayvec.specs.ArrayVec.{ArrayVec}
@@ -65,36 +65,52 @@ jobs_left s t then stays apart left fewer same x y key hx hy nx ny job =
     (fewer y key (subst (λ (r : Request). names r.wants.items key ≡ true) is_y ny))
     (sym (same x) ∙ sym (ap (λ (r : Request). r.job) is_x) ∙ job ∙ ap (λ (r : Request). r.job) is_y ∙ same y)
 
+-- and a key is still wanted at one level where the requests have fewer wants
+pub levels_left : (s t : Stored) (then : ℕ → Request) (stays : ℕ → Bool) → LevelsAgree s → IsLeft s t then stays
+    → ((x : ℕ) (key : Key) → names (then x).wants.items key ≡ true → names (request_at s x).wants.items key ≡ true)
+    → ((x : ℕ) (key : Key) → names (then x).wants.items key ≡ true → level_at (then x) key ≡ level_at (request_at s x) key)
+    → LevelsAgree t
+levels_left s t then stays agree left fewer same x y key hx hy nx ny =
+    let was_x = there_kept stays x s.order (subst (λ l. is_there x l ≡ true) left.order hx) in
+    let was_y = there_kept stays y s.order (subst (λ l. is_there y l ≡ true) left.order hy) in
+    let is_x : request_at t x ≡ then x = left.left x hx in
+    let is_y : request_at t y ≡ then y = left.left y hy in
+    let has_x : names (then x).wants.items key ≡ true = subst (λ (r : Request). names r.wants.items key ≡ true) is_x nx in
+    let has_y : names (then y).wants.items key ≡ true = subst (λ (r : Request). names r.wants.items key ≡ true) is_y ny in
+    ap (λ (r : Request). level_at r key) is_x ∙ same x key has_x
+    ∙ agree x y key was_x.0 was_y.0 (fewer x key has_x) (fewer y key has_y)
+    ∙ sym (same y key has_y) ∙ sym (ap (λ (r : Request). level_at r key) is_y)
+
 pub whole_by : (size : ℕ) (s t : Stored) (locks more : List Lock) (buckets then : List Bucket) → IsWhole size s locks buckets
     → IsTable (state_of t more)
     → IsIndex then more
     → AreRight t
     → JobsAreApart t
+    → LevelsAgree t
     → length t.order ≤ size
-    → length more ≡ length locks
     → IsWhole size t more then
-whole_by size s t locks more buckets then w table index right jobs few long = record {
+whole_by size s t locks more buckets then w table index right jobs levels few = record {
   table = table;
   index = index;
   right = right;
   jobs = jobs;
+  levels = levels;
   few = few;
-  room = omega (arith, w.room, long);
 }
 
 pub whole_left : (size : ℕ) (s t : Stored) (locks more : List Lock) (buckets then : List Bucket) (stays : ℕ → Bool) → IsWhole size s locks buckets
     → IsTable (state_of t more)
     → IsIndex then more
     → IsLeft s t (request_at s) stays
-    → length more ≡ length locks
     → IsWhole size t more then
-whole_left size s t locks more buckets then stays w table index left long =
+whole_left size s t locks more buckets then stays w table index left =
     whole_by size s t locks more buckets then w table index
     (λ x h.
     let was = there_kept stays x s.order (subst (λ l. is_there x l ≡ true) left.order h) in
     subst (λ (r : Request). is_well_formed r ≡ true) (sym (left.left x h)) (w.right x was.0))
     (jobs_left s t (request_at s) stays w.jobs left (λ x key h. h) (λ x. refl))
-    (omega (arith, ap length left.order, filter_short stays s.order, w.few)) long
+    (levels_left s t (request_at s) stays w.levels left (λ x key h. h) (λ x key h. refl))
+    (omega (arith, ap length left.order, filter_short stays s.order, w.few))
 
 -- who stays beside those that a test chooses
 pub beside_chosen : (test : ℕ → Bool) (xs places : List ℕ) (x : ℕ) → places ≡ filter test xs → is_there x xs ≡ true

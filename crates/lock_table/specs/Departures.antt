@@ -1,5 +1,5 @@
 -- Wants are given up, and requests leave (this project's profile).
-use Rattle.std.specs.Prelude.{◌≡◌, ◌<◌, ◌==◌, ◌&&◌, ℕ, Bool, true, not, List, length, filter, Option}
+use Rattle.std.specs.Prelude.{◌≡◌, ◌<◌, ◌==◌, ◌&&◌, ℕ, Bool, true, not, List, [], ◌∷◌, length, filter, Option}
 use Rattle.lock_queue.specs.declared.key.Key.{Key}
 use Rattle.lock_queue.specs.declared.request.Request.{Request}
 use Rattle.lock_queue.specs.declared.want.Want.{Want}
@@ -9,6 +9,7 @@ use Rattle.lock_queue.specs.Keys.{same_key}
 use Rattle.key_queues.specs.Tables.{is_there}
 use Rattle.request_store.specs.Stores.{Stored, filed_at, is_blocked}
 use Rattle.table_reads.specs.Filing.{want_at}
+use Rattle.table_reads.specs.Reads.{IsSole}
 
 -- a request without its want of a key
 abbrev pub without_key : Key → Request → Request
@@ -40,6 +41,12 @@ pub record LeavesBy (left : Request → Option Request) (s t : Stored) : Type 0 
 -- what is left of a request of a job that gives up the first of some keys
 abbrev pub left_named : Stored → ℕ → List Want → ℕ → Request
 left_named s job named x = without_keys_of job named (request_at s x)
+
+-- one key is named, and a job has one request alone, whose only want is of it
+pub record IsSoleNamed (s : Stored) (job : ℕ) (named : List Want) (p : ℕ) : Type 0 where
+  pub want : Want
+  pub named_is : named ≡ want ∷ []
+  pub sole : IsSole s job want.key p
 
 -- which requests of a job have an id, block it, or block one of some jobs
 abbrev pub is_of : Stored → ℕ → ℕ → Bool

@@ -1,6 +1,6 @@
 //! The calls of a job.
-ghost use Rattle.std.specs.Prelude.{◌≡◌, ◌≤◌, ℕ, List, IsTrue};
-ghost use Rattle.word36.specs.declared.sizes.TheConstants.{JOBS, MOST_REQUESTS};
+ghost use Rattle.std.specs.Prelude.{◌≡◌, ◌≤◌, ◌+◌, ◌*◌, ℕ, List, IsTrue, length, min};
+ghost use Rattle.word36.specs.declared.sizes.TheConstants.{JOBS, LOCKS_A_CALL, MOST_REQUESTS};
 ghost use Rattle.lock_queue.specs.declared.call.LockReply.TheVariants.{Done};
 ghost use Rattle.lock_queue.specs.Calls.{outcome_of};
 ghost use Rattle.lock_queue.specs.Grants.{left_of};
@@ -33,6 +33,7 @@ pub fn make<const REQS: usize>(
     requires job { (1 ≤ job) × (job ≤ JOBS) }
     requires named { IsTrue (names_locks call.now) }
     requires unshared { IsTrue (all_share_rightly call.now) }
+    requires room { LOCKS_A_CALL * min (length store.old.order + 1) REQS ≤ length locks.old }
     ensures whole { IsWhole REQS store.new locks.new keys.new.buckets.items }
     ensures requests { requests_in store.new ≡ (outcome_of REQS (requests_in store.old) job call.now).requests }
     ensures reply { result ≡ (outcome_of REQS (requests_in store.old) job call.now).reply }

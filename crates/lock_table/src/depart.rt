@@ -1,5 +1,5 @@
 //! Wants and requests leave.
-ghost use Rattle.std.specs.Prelude.{◌≡◌, ◌<◌, ℕ, true, false, if◌then◌else◌, length};
+ghost use Rattle.std.specs.Prelude.{◌≡◌, ◌<◌, ◌==◌, ℕ, true, false, if◌then◌else◌, length};
 ghost use Rattle.lock_queue.specs.Dequeues.{has_wants};
 ghost use Rattle.lock_queue.specs.Queue.{names};
 ghost use Rattle.key_queues.specs.Found.{IsIndex};
@@ -135,8 +135,8 @@ pub fn leave_all<const REQS: usize>(
     }
 }
 
-/// Which want of a request is that of a key.
-fn want_of_key<const REQS: usize>(
+/// Which want of a request is that of a key, by the number of its lock.
+fn want_found<const REQS: usize>(
     store: &Store<REQS>,
     keys: &Keys,
     locks: &[Lock],
@@ -152,6 +152,35 @@ fn want_of_key<const REQS: usize>(
     match keys.find(locks, key, hash_of(key)) {
         Some(n) => index_of(store.get(p).queues.as_slice(), n),
         None => 0,
+    }
+}
+
+/// Whether a request has one want alone.
+fn has_one_want<const REQS: usize>(store: &Store<REQS>, p: u16) -> bool
+    requires { is_there p store.now.order ≡ true }
+    ensures { result ≡ (length (filed_at store.now p).queues.items == 1) }
+{
+    wants_left(store, p) == 1
+}
+
+/// Which want of a request is that of a key. Where it has only one, nothing is looked up.
+fn want_of_key<const REQS: usize>(
+    store: &Store<REQS>,
+    keys: &Keys,
+    locks: &[Lock],
+    p: u16,
+    key: &Key,
+) -> usize
+    requires table { IsTable (state_of store.now locks.now) }
+    requires index { IsIndex keys.now.buckets.items locks.now }
+    requires present { is_there p store.now.order ≡ true }
+    requires named { names (filed_at store.now p).request.wants.items key.now ≡ true }
+    ensures { IsWantOf store.now p key.now result }
+{
+    if has_one_want(store, p) {
+        0
+    } else {
+        want_found(store, keys, locks, p, key)
     }
 }
 

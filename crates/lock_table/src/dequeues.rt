@@ -1,5 +1,5 @@
 //! Keys are given up.
-ghost use Rattle.std.specs.Prelude.{◌≡◌, ◌≤◌, ℕ, true, [], None};
+ghost use Rattle.std.specs.Prelude.{◌≡◌, ◌≤◌, ℕ, IfSome, true, [], None};
 ghost use Rattle.word36.specs.declared.sizes.TheConstants.{MOST_REQUESTS};
 ghost use Rattle.lock_queue.specs.declared.call.LockCall.TheVariants.{DequeueAll, DequeueId, DequeueNamed};
 ghost use Rattle.lock_queue.specs.declared.call.LockReply.TheVariants.{Done};
@@ -12,18 +12,18 @@ ghost use Rattle.key_queues.specs.States.{IsTable};
 ghost use Rattle.key_queues.specs.Tables.{is_there};
 ghost use Rattle.request_store.specs.Stores.{filed_at};
 ghost use Rattle.table_reads.specs.Filing.{state_of};
-ghost use Rattle.table_reads.specs.Whole.{IsWhole, JobsAreApart, requests_in};
-ghost use Rattle.lock_table.specs.Departures.{IsLeft, LeavesBy, left_named};
+ghost use Rattle.table_reads.specs.Whole.{AreRight, IsWhole, JobsAreApart, requests_in};
+ghost use Rattle.lock_table.specs.Departures.{IsLeft, IsSoleNamed, LeavesBy, left_named};
 ghost use Rattle.lock_table.specs.Turns.{Turned};
 
-use crate::depart::give_up_key;
+use crate::depart::{give_up_key, leave};
 use crate::leaving::Leaving;
 use crate::releases::{release, release_id};
 use crate::turns::Turns;
 use key_queues::{Keys, Lock};
 use lock_queue::{Key, LockReply, Refusal, RequestId, Want, Wants};
 use request_store::Store;
-use table_reads::{has_request, has_request_id, places_of, refusal_of_dequeue};
+use table_reads::{has_request, has_request_id, places_of, refusal_of_dequeue, sole_of};
 
 /// The place of a job's request with a want of a key, where it has one.
 fn place_of_job<const REQS: usize>(
@@ -69,8 +69,20 @@ pub fn give_up_named<const REQS: usize>(
     }
 }
 
-/// A job gives up the wants of named keys.
-pub fn dequeue_named<const REQS: usize>(
+/// The place of a job's only request, where its only want is the only one that is named. Nothing is looked
+/// up for it.
+fn sole_named<const REQS: usize>(store: &Store<REQS>, job: u8, named: &[Want]) -> Option<u16>
+    requires { AreRight store.now }
+    ensures { IfSome result (IsSoleNamed store.now job named.now) }
+{
+    match named {
+        [w] => sole_of(store, job, &w.key),
+        _ => None,
+    }
+}
+
+/// A job gives up the wants of named keys, whichever requests have them.
+fn dequeue_some<const REQS: usize>(
     store: &mut Store<REQS>,
     turns: &mut Turns<REQS>,
     keys: &mut Keys,
@@ -89,6 +101,29 @@ pub fn dequeue_named<const REQS: usize>(
         return LockReply::Refused(refusal);
     }
     give_up_named(store, turns, keys, locks, job, named.as_slice());
+    LockReply::Done
+}
+
+/// A job gives up the wants of named keys.
+pub fn dequeue_named<const REQS: usize>(
+    store: &mut Store<REQS>,
+    turns: &mut Turns<REQS>,
+    keys: &mut Keys,
+    locks: &mut [Lock],
+    job: u8,
+    named: &Wants,
+) -> LockReply
+    requires { IsWhole REQS store.old locks.old keys.old.buckets.items }
+    ensures whole { IsWhole REQS store.new locks.new keys.new.buckets.items }
+    ensures requests { requests_in store.new ≡ (dequeue_named (requests_in store.old) job named.now.items).requests }
+    ensures reply { result ≡ (dequeue_named (requests_in store.old) job named.now.items).reply }
+    ensures left { result ≡ Done → LeavesBy (left_of job (DequeueNamed named.now)) store.old store.new }
+    ensures turns { result ≡ Done → Turned store.old store.new turns.old turns.new }
+{
+    let Some(p) = sole_named(store, job, named.as_slice()) else {
+        return dequeue_some(store, turns, keys, locks, job, named);
+    };
+    leave(store, turns, keys, locks, p);
     LockReply::Done
 }
 

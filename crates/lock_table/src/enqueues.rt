@@ -1,7 +1,7 @@
 //! A request is taken in.
-ghost use Rattle.std.specs.Prelude.{◌≡◌, ◌≤◌, ◌<◌, ◌++◌, ◌∷◌, if◌then◌else◌, List, ℕ, true, false, [], None, IsTrue, length, nat_le};
+ghost use Rattle.std.specs.Prelude.{◌≡◌, ◌≤◌, ◌<◌, ◌+◌, ◌*◌, ◌++◌, ◌∷◌, if◌then◌else◌, List, ℕ, true, false, [], None, IsTrue, length, min, nat_le};
 ghost use Rattle.std.specs.List.{list_all};
-ghost use Rattle.word36.specs.declared.sizes.TheConstants.{JOBS};
+ghost use Rattle.word36.specs.declared.sizes.TheConstants.{JOBS, LOCKS_A_CALL};
 ghost use Rattle.lock_queue.specs.Enqueues.{arrival, enqueue, enqueue_fault, request_of, with_arrival};
 ghost use Rattle.lock_queue.specs.Outcomes.{first_refusal};
 ghost use Rattle.lock_queue.specs.Queue.{granted};
@@ -56,6 +56,7 @@ fn come<const REQS: usize>(
     requires unshared { IsTrue (list_all shares_rightly wants.now.items) }
     requires passed { first_refusal (enqueue_fault (requests_in store.old) job) [] wants.now.items ≡ None }
     requires few { length store.old.order < REQS }
+    requires room { LOCKS_A_CALL * (length store.old.order + 1) ≤ length locks.old }
     ensures whole { IsWhole REQS store.new locks.new keys.new.buckets.items }
     ensures requests { requests_in store.new ≡ with_arrival (requests_in store.old) job asking.now false wants.now }
     ensures granted { (filed_at store.new result).granted
@@ -118,6 +119,7 @@ fn take_in<const REQS: usize>(
     requires unshared { IsTrue (list_all shares_rightly wants.now.items) }
     requires passed { first_refusal (enqueue_fault (requests_in store.old) job) [] wants.now.items ≡ None }
     requires few { length store.old.order < REQS }
+    requires room { LOCKS_A_CALL * (length store.old.order + 1) ≤ length locks.old }
     ensures whole { IsWhole REQS store.new locks.new keys.new.buckets.items }
     ensures requests { requests_in store.new ≡ (arrival (requests_in store.old) job asking.now wants.now).requests }
     ensures reply { result ≡ (arrival (requests_in store.old) job asking.now wants.now).reply }
@@ -151,6 +153,7 @@ pub fn enqueue<const REQS: usize>(
     requires job { (1 ≤ job) × (job ≤ JOBS) }
     requires some { IsTrue (nat_le 1 (length wants.now.items)) }
     requires unshared { IsTrue (list_all shares_rightly wants.now.items) }
+    requires room { LOCKS_A_CALL * min (length store.old.order + 1) REQS ≤ length locks.old }
     ensures whole { IsWhole REQS store.new locks.new keys.new.buckets.items }
     ensures requests { requests_in store.new ≡ (enqueue REQS (requests_in store.old) job asking.now wants.now).requests }
     ensures reply { result ≡ (enqueue REQS (requests_in store.old) job asking.now wants.now).reply }

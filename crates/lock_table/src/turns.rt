@@ -41,8 +41,9 @@ fn clear_turned(marks: &mut [bool], turned: u8, last: u16)
     requires { MarksAre marks.old turned last }
     ensures { (x : ℕ) → mark_at marks.new x ≡ false }
 {
-    let _ = last;
-    if turned != 0 {
+    if turned == 1 && (last as usize) < marks.len() {
+        marks[last as usize] = false;
+    } else if turned != 0 {
         clear_all(marks);
     }
 }

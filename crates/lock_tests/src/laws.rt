@@ -1,10 +1,9 @@
-//! One list of calls on the plain table.
+//! Lists of calls on the plain table, and each law once.
 
 ghost use Rattle.std.specs.Prelude.{length, nat_le, IsTrue};
 ghost use Rattle.std.specs.List.{list_all};
 ghost use Rattle.lock_queue.specs.WellFormed.{names_locks, shares_rightly, all_share_rightly};
 
-use crate::build::ANY_QUOTA;
 use lock_laws::{
     askers_are_told_alike, calls_are_safe, calls_leave_the_rest, circles_are_told,
     jobs_keep_their_locks, no_requests_are_safe, owners_are_kept, owners_are_one_party,
@@ -17,6 +16,9 @@ use lock_queue::{
 };
 use plain_table::PlainTable;
 use std::test::Fail;
+
+/// A quota that no table can hold more requests than.
+const ANY_QUOTA: u16 = 1025;
 
 /// So many of the five tape drives.
 fn drives(amount: u32) -> Wants

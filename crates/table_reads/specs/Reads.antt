@@ -1,17 +1,17 @@
 -- What is read of a table (this project's profile).
-use Rattle.std.specs.Prelude.{◌≡◌, ◌==◌, ◌&&◌, ℕ, Bool, true, not, List, Option, Some, None, filter, map, take}
+use Rattle.std.specs.Prelude.{◌≡◌, ◌==◌, ◌&&◌, ℕ, Bool, true, not, List, [], ◌∷◌, Option, Some, None, filter, length, map, take}
 use Rattle.std.specs.List.{list_any, position_or_len}
 use Rattle.lock_queue.specs.declared.key.Key.{Key}
 use Rattle.lock_queue.specs.declared.request.Request.{Request}
 use Rattle.lock_queue.specs.declared.status.Status.{Status}
 use Rattle.lock_queue.specs.declared.want.Want.{Want}
 use Rattle.lock_queue.specs.Jobs.{is_in_the_way, is_interrupt, is_kept_by}
-use Rattle.lock_queue.specs.Queue.{granted_behind, requests_of, wants_at}
+use Rattle.lock_queue.specs.Queue.{granted_behind, names, requests_of, wants_at}
 use Rattle.lock_queue.specs.StatusWords.{level_of, standing}
 use Rattle.key_queues.specs.Kept.{KeptQueue}
 use Rattle.key_queues.specs.Tables.{StandsOnce, is_counted, is_there}
 use Rattle.request_store.specs.declared.filed.Filed.{Filed}
-use Rattle.request_store.specs.Stores.{Stored, filed_at, is_blocked}
+use Rattle.request_store.specs.Stores.{Stored, filed_at, is_blocked, places_of}
 
 abbrev pub request_at : Stored → ℕ → Request
 request_at s x = (filed_at s x).request
@@ -29,6 +29,12 @@ pub record MarksGrants (s : Stored) : Type 0 where
   pub once : StandsOnce s.order
   pub marks : (p : ℕ) → is_there p s.order ≡ true
       → (filed_at s p).granted ≡ granted_behind (requests_at s (before_of s.order p)) (request_at s p)
+
+-- a job has one request alone, whose only want is of a key
+pub record IsSole (s : Stored) (job : ℕ) (key : Key) (p : ℕ) : Type 0 where
+  pub own : places_of s job ≡ p ∷ []
+  pub one : length (request_at s p).wants.items ≡ 1
+  pub named : names (request_at s p).wants.items key ≡ true
 
 -- a granted interrupt request of which its job was not told
 abbrev pub is_pending_filed : Filed → Bool

@@ -1,9 +1,9 @@
 -- What holds of a table between two calls (this project's profile).
-use Rattle.std.specs.Prelude.{◌≡◌, ◌≤◌, ◌*◌, ℕ, true, List, length, map}
-use Rattle.word36.specs.declared.sizes.TheConstants.{LOCKS_A_CALL}
+use Rattle.std.specs.Prelude.{◌≡◌, ◌≤◌, ℕ, true, List, [], ◌∷◌, length, map}
 use Rattle.lock_queue.specs.declared.key.Key.{Key}
 use Rattle.lock_queue.specs.declared.request.Request.{Request}
 use Rattle.lock_queue.specs.Queue.{names}
+use Rattle.lock_queue.specs.StatusWords.{level_of}
 use Rattle.lock_queue.specs.WellFormed.{is_well_formed}
 use Rattle.key_queues.specs.declared.keys.Bucket.{Bucket}
 use Rattle.key_queues.specs.declared.lock.Lock.{Lock}
@@ -30,12 +30,23 @@ JobsAreApart s =
     → (filed_at s x).request.job ≡ (filed_at s y).request.job
     → x ≡ y
 
--- the queues count what fits, the flags tell who is granted, and open locks are found; requests are right; there is a lock for
--- each want that may come
+-- the level at which a request wants a key
+abbrev pub level_at : Request → Key → ℕ
+level_at r key = level_of (r ∷ []) key
+
+-- a key is wanted at one level
+abbrev pub LevelsAgree : Stored → Type 0
+LevelsAgree s =
+    (x y : ℕ) (key : Key) → is_there x s.order ≡ true → is_there y s.order ≡ true
+    → names (filed_at s x).request.wants.items key ≡ true
+    → names (filed_at s y).request.wants.items key ≡ true
+    → level_at (filed_at s x).request key ≡ level_at (filed_at s y).request key
+
+-- the queues count what fits, the flags tell who is granted, and open locks are found; requests are right
 pub record IsWhole (size : ℕ) (s : Stored) (locks : List Lock) (buckets : List Bucket) : Type 0 where
   pub table : IsTable (state_of s locks)
   pub index : IsIndex buckets locks
   pub right : AreRight s
   pub jobs : JobsAreApart s
+  pub levels : LevelsAgree s
   pub few : length s.order ≤ size
-  pub room : LOCKS_A_CALL * size ≤ length locks

@@ -1,21 +1,21 @@
 //! What is told of requests, and of the jobs that wait by them.
-ghost use Rattle.std.specs.Prelude.{◌≡◌, ◌<◌, ◌==◌, Some, length, slice_get, true};
+ghost use Rattle.std.specs.Prelude.{◌≡◌, ◌<◌, ◌==◌, IfSome, Some, length, slice_get, true};
 ghost use Rattle.std.specs.List.{All, find, list_any};
 ghost use Rattle.key_queues.specs.Kept.{KeptQueue};
 ghost use Rattle.key_queues.specs.Locks.{lock_at};
 ghost use Rattle.key_queues.specs.States.{IsTable};
 ghost use Rattle.lock_queue.specs.Dequeues.{has_id, is_of_job};
 ghost use Rattle.lock_queue.specs.Jobs.{is_interrupt, is_kept_by, is_waiting_job, pending, waits_for};
-ghost use Rattle.lock_queue.specs.Queue.{granted};
+ghost use Rattle.lock_queue.specs.Queue.{granted, names};
 ghost use Rattle.request_store.specs.Stores.{blocked_of, filed_at, is_there, places_of};
 ghost use Rattle.table_reads.specs.Filing.{own_at, state_of, want_at};
-ghost use Rattle.table_reads.specs.Reads.{MarksGrants, before_of, is_blocked_from, is_kept_from, is_kept_in, is_pending_filed, request_at, requests_at};
+ghost use Rattle.table_reads.specs.Reads.{IsSole, MarksGrants, before_of, is_blocked_from, is_kept_from, is_kept_in, is_pending_filed, request_at, requests_at};
 ghost use Rattle.table_reads.specs.Whole.{AreRight, requests_in};
 
 use crate::queues::places_before;
 use crate::wanted::is_in_the_way_at;
 use key_queues::Lock;
-use lock_queue::{EnqueueKind, Request, RequestId, Want};
+use lock_queue::{EnqueueKind, Key, Request, RequestId, Want};
 use request_store::Store;
 use word36::JOBS;
 
@@ -122,6 +122,29 @@ pub fn has_request_id<const REQS: usize>(store: &Store<REQS>, job: u8, id: Reque
     ensures { result ≡ list_any (has_id job id) (requests_in store.now) }
 {
     has_own_id(store, job, id)
+}
+
+/// Whether a request has one want alone, which is of a key.
+fn is_alone<const REQS: usize>(store: &Store<REQS>, p: u16, key: &Key) -> bool
+    requires { is_there p store.now.order ≡ true }
+    ensures one { result ≡ true → length (request_at store.now p).wants.items ≡ 1 }
+    ensures named { result ≡ true → names (request_at store.now p).wants.items key.now ≡ true }
+{
+    let wants = store.get(p).request.wants.as_slice();
+    wants.len() == 1 && wants[0].key.is_same(key)
+}
+
+/// The place of a job's only request, where its only want is of a key.
+pub fn sole_of<const REQS: usize>(store: &Store<REQS>, job: u8, key: &Key) -> Option<u16>
+    requires { AreRight store.now }
+    ensures { IfSome result (IsSole store.now job key.now) }
+{
+    let own = own_places(store, job);
+    if own.len() == 1 && is_alone(store, own[0], key) {
+        Some(own[0])
+    } else {
+        None
+    }
 }
 
 /// Whether the want of a place in a queue does not fit, and an earlier want of a job stands in its

@@ -1,9 +1,10 @@
 //! Why calls are refused.
-ghost use Rattle.std.specs.Prelude.{◌≡◌, ◌≤◌, [], length, true};
+ghost use Rattle.std.specs.Prelude.{◌≡◌, ◌≤◌, [], length, take, true};
 ghost use Rattle.std.specs.List.{All, list_all, list_any};
 ghost use Rattle.word36.specs.declared.sizes.TheConstants.{JOBS};
 ghost use Rattle.key_queues.specs.Found.{IsIndex};
 ghost use Rattle.key_queues.specs.States.{IsTable};
+ghost use Rattle.key_queues.specs.Tables.{places_at};
 ghost use Rattle.lock_queue.specs.Changes.{modify_fault};
 ghost use Rattle.lock_queue.specs.Dequeues.{dequeue_fault};
 ghost use Rattle.lock_queue.specs.Enqueues.{are_alike, enqueue_fault, enqueue_refusal, some_too_low};
@@ -11,8 +12,8 @@ ghost use Rattle.lock_queue.specs.Outcomes.{first_refusal};
 ghost use Rattle.lock_queue.specs.Queue.{all_wants, is_pooled, names, requests_of, wants_at, wants_of};
 ghost use Rattle.table_reads.specs.Filing.{state_of};
 ghost use Rattle.request_store.specs.Stores.{is_there};
-ghost use Rattle.table_reads.specs.Reads.{requests_at};
-ghost use Rattle.table_reads.specs.Whole.{requests_in};
+ghost use Rattle.table_reads.specs.Reads.{request_at, requests_at};
+ghost use Rattle.table_reads.specs.Whole.{LevelsAgree, requests_in};
 
 use crate::queues::places_of;
 use crate::wanted::{are_alike_at, has_pooled_at, has_want_at, reach_level_at};
@@ -21,18 +22,55 @@ use lock_queue::steps::{names_key, reach_level};
 use lock_queue::{Asking, EnqueueKind, Key, Refusal, Want};
 use request_store::Store;
 
-/// Whether the present wants of a want's key have its level and its pool's size.
+/// The first place, if there is one.
+fn first_of(places: &[u16]) -> &[u16]
+    ensures { result.now ≡ take 1 places.now }
+{
+    &places[..places.len().min(1)]
+}
+
+/// Whether the present wants of a want's key, at these places, have its level and its pool's size. They are
+/// alike, so the first is looked at.
 fn are_all_alike<const REQS: usize>(
     store: &Store<REQS>,
-    keys: &Keys,
     locks: &[Lock],
+    places: &[u16],
     w: &Want,
 ) -> bool
     requires table { IsTable (state_of store.now locks.now) }
-    requires index { IsIndex keys.now.buckets.items locks.now }
+    requires levels { LevelsAgree store.now }
+    requires places { places.now ≡ places_at (request_at store.now) store.now.order w.now.key }
     ensures { result ≡ list_all (λ v. are_alike v w.now) (wants_at (requests_in store.now) w.now.key) }
 {
-    are_alike_at(store, places_of(keys, locks, &w.key), w)
+    let _ = locks;
+    are_alike_at(store, first_of(places), w)
+}
+
+/// Whether a job has a want of a key, which is wanted at these places.
+fn is_wanted_by<const REQS: usize>(store: &Store<REQS>, places: &[u16], job: u8, key: &Key) -> bool
+    requires { places.now ≡ places_at (request_at store.now) store.now.order key.now }
+    ensures { result ≡ names (wants_of (requests_in store.now) job) key.now }
+{
+    has_want_at(store, places, job, key)
+}
+
+/// The same, by the shorter of the two lists: that of the key's places, and that of the job's.
+fn is_wanted_already<const REQS: usize>(
+    store: &Store<REQS>,
+    places: &[u16],
+    job: u8,
+    key: &Key,
+) -> bool
+    requires places { places.now ≡ places_at (request_at store.now) store.now.order key.now }
+    requires job { job ≤ JOBS }
+    ensures { result ≡ names (wants_of (requests_in store.now) job) key.now }
+{
+    let own = store.of_job(job);
+    if own.len() < places.len() {
+        has_want_at(store, own, job, key)
+    } else {
+        is_wanted_by(store, places, job, key)
+    }
 }
 
 /// Whether a job has a want of a key.
@@ -47,7 +85,7 @@ fn has_want<const REQS: usize>(
     requires index { IsIndex keys.now.buckets.items locks.now }
     ensures { result ≡ names (wants_of (requests_in store.now) job) key.now }
 {
-    has_want_at(store, places_of(keys, locks, key), job, key)
+    is_wanted_by(store, places_of(keys, locks, key), job, key)
 }
 
 /// Whether a want of a job of a key is of a pool.
@@ -76,11 +114,14 @@ fn enqueue_fault<const REQS: usize>(
 ) -> Option<Refusal>
     requires table { IsTable (state_of store.now locks.now) }
     requires index { IsIndex keys.now.buckets.items locks.now }
+    requires levels { LevelsAgree store.now }
+    requires job { job ≤ JOBS }
     ensures { result ≡ enqueue_fault (requests_in store.now) job earlier.now w.now }
 {
-    if !are_all_alike(store, keys, locks, w) {
+    let places = places_of(keys, locks, &w.key);
+    if !are_all_alike(store, locks, places, w) {
         Some(Refusal::Differs)
-    } else if names_key(earlier, &w.key) || has_want(store, keys, locks, job, &w.key) {
+    } else if names_key(earlier, &w.key) || is_wanted_already(store, places, job, &w.key) {
         Some(Refusal::NamedAlready)
     } else {
         None
@@ -96,6 +137,8 @@ fn first_enqueue_fault<const REQS: usize>(
 ) -> Option<Refusal>
     requires table { IsTable (state_of store.now locks.now) }
     requires index { IsIndex keys.now.buckets.items locks.now }
+    requires levels { LevelsAgree store.now }
+    requires job { job ≤ JOBS }
     ensures { result ≡ first_refusal (enqueue_fault (requests_in store.now) job) [] wants.now }
 {
     for (i, w) in wants.iter().enumerate() {
@@ -149,6 +192,7 @@ pub fn refusal_of_enqueue<const REQS: usize>(
 ) -> Option<Refusal>
     requires table { IsTable (state_of store.now locks.now) }
     requires index { IsIndex keys.now.buckets.items locks.now }
+    requires levels { LevelsAgree store.now }
     requires job { job ≤ JOBS }
     ensures { result ≡ enqueue_refusal REQS (requests_in store.now) job asking.now wants.now }
 {

@@ -8,6 +8,7 @@ use Rattle.lock_queue.proofs.WellKept.{well-modify}
 use Rattle.table_reads.specs.Filing.{state_of}
 use Rattle.table_reads.specs.Whole.{requests_in}
 use Rattle.lock_table.specs.Changing.{AreSound, IsChanged, SparesPools, loses_by}
+use Rattle.lock_table.proofs.Agreeing.{levels_changed}
 use Rattle.lock_table.proofs.Finishing.{changed_all, full_but_changed, modified, requests_changed, right_of, well_of}
 use Rattle.lock_table.proofs.Losing.{changes_tell}
 use Rattle.lock_table.proofs.Sounding.{all_from_Has, changes_apart, changes_named, changes_spare, is_sound}
@@ -79,6 +80,6 @@ returns-clause-whole g c =
       index = b.index;
       right = right_of t (subst (λ l. are_well_formed l ≡ true) (sym requests) (well-modify g.row.REQS (requests_in s) c.args.job (well_of s whole.right) (record { items = changes })));
       jobs = b.jobs;
+      levels = levels_changed s t c.args.job changes whole.levels is;
       few = omega (arith, whole.few, ap length is.order);
-      room = omega (arith, whole.room, c.alter_all.auto.locks, c.extend_all.auto.locks);
     }

@@ -9,6 +9,7 @@ use Rattle.key_queues.specs.Tables.{is_there}
 use Rattle.key_queues.proofs.Keeping.{there_split}
 use Rattle.table_reads.specs.Whole.{requests_in}
 use Rattle.lock_table.proofs.Admitting.{admits_from, apart_after, jobs_after, requests_after, short_of, well_after}
+use Rattle.lock_table.proofs.Agreeing.{levels_after}
 use Rattle.lock_table.proofs.Wholes.{right_from_well, whole_by}
 use Rattle.lock_table.proofs.enqueues.come.Goals as goal
 
@@ -28,7 +29,7 @@ arrive-requires g c =
             (
               c.requires.few,
               (
-                omega (arith, w.room, c.requires.few),
+                c.requires.room,
                 (
                   c.requires.job.1,
                   (
@@ -62,8 +63,10 @@ returns-clause-whole g c =
     (right_from_well c.arrive.new.store (subst (λ l. are_well_formed l ≡ true) (sym after) well))
     (jobs_after c.args.store.now c.arrive.new.store c.arrive.result c.args.job (request_of c.args.job c.args.asking.now false c.args.wants.now)
     w.jobs c.arrive.ensures.out c.arrive.ensures.order c.arrive.ensures.request refl c.arrive.ensures.others c.requires.passed)
+    (levels_after c.args.store.now c.arrive.new.store c.arrive.result c.args.job (request_of c.args.job c.args.asking.now false c.args.wants.now) w.table.kept.apart
+    w.levels c.arrive.ensures.order c.arrive.ensures.request c.arrive.ensures.others
+    (apart_after c.args.store.now c.args.job c.args.asking.now c.args.wants.now well) c.requires.passed)
     (omega (arith, ap length c.arrive.ensures.order, length-append c.args.store.now.order (c.arrive.result ∷ []), c.requires.few))
-    (omega arith)
 
 pub returns-clause-granted : goal.returns-clause-granted
 returns-clause-granted g c =

@@ -1,4 +1,4 @@
-use Rattle.std.proofs.Common.{◌∙◌, arith}
+use Rattle.std.proofs.Common.{◌∙◌}
 use Rattle.lock_queue.specs.Jobs.{is_among}
 use Rattle.lock_table.specs.Departures.{is_blocking_at, stays_beside}
 use Rattle.lock_table.proofs.Wholes.{leaves_where, whole_left}
@@ -7,7 +7,7 @@ use Rattle.lock_table.proofs.releases.withdraw_all.Goals as goal
 pub returns-clause-whole : goal.returns-clause-whole
 returns-clause-whole g c =
     whole_left g.row.REQS c.args.store.now c.leave_all.new.store c.args.locks.now c.leave_all.new.locks c.args.keys.now.buckets.items c.leave_all.new.keys.buckets.items
-    (stays_beside c.as_slice.result.now) c.requires.whole c.leave_all.ensures.table c.leave_all.ensures.index c.leave_all.ensures.left (omega arith)
+    (stays_beside c.as_slice.result.now) c.requires.whole c.leave_all.ensures.table c.leave_all.ensures.index c.leave_all.ensures.left
 
 pub returns-clause-left : goal.returns-clause-left
 returns-clause-left g c =

@@ -10,6 +10,7 @@ invariant_of-self g c = record {
   least = c.self.invariant.least;
   small = c.self.invariant.small;
   whole = c.tell.ensures.whole g.row.REQS c.self.inside.locks.items c.self.inside.keys.buckets.items c.self.invariant.whole;
+  room = c.self.invariant.room;
 }
 
 pub returns-clause-requests : goal.returns-clause-requests

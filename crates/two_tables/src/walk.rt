@@ -1,7 +1,9 @@
-//! The rows of a test, and how they are walked on a table.
+//! The rows of a test, and how they are walked on both tables.
 
+use crate::alike::are_alike;
 use crate::build::{Call, key, lock_call};
 use lock_queue::{Grant, LockReply, LockTable, Woken};
+use lock_table::IndexedTable;
 use plain_table::PlainTable;
 use std::alloc::Global;
 use std::process::Abort;
@@ -121,7 +123,7 @@ fn words<L: LockTable>(table: &L, job: u8, code: u32) -> [u64; 3] {
 impl Row<'_> {
     /// Does what the row does to a table, and tells whether it is answered so; whether it is seen, where
     /// it only looks.
-    fn holds<L: LockTable>(&self, table: &mut L) -> bool {
+    pub fn holds<L: LockTable>(&self, table: &mut L) -> bool {
         match self {
             Row::Calls(job, call, answer) => reply(table, *job, *call) == Some(*answer),
             Row::Code(job, call, number) => code(table, *job, *call) == Some(*number),
@@ -157,23 +159,36 @@ impl Row<'_> {
     }
 }
 
-/// Walks the rows on a table.
-pub fn walk_on<L: LockTable>(rt: &impl Abort, table: &mut L, rows: &[Row]) {
+/// Walks the rows on two tables: each row holds of both, and after it both are alike.
+pub fn walk_on<L: LockTable, M: LockTable>(
+    rt: &impl Abort,
+    plain: &mut L,
+    indexed: &mut M,
+    rows: &[Row],
+) {
     for (i, row) in rows.iter().enumerate() {
-        assert!(rt; row.holds(table), "row {i}: {row:?}");
+        assert!(rt; row.holds(plain), "row {i} on the plain table: {row:?}");
+        assert!(rt; row.holds(indexed), "row {i} on the indexed table: {row:?}");
+        assert!(rt; are_alike(plain, indexed), "behind row {i}: {row:?}");
     }
 }
 
 /// The size of the tables that most rows are walked on.
-pub const ROOM: usize = 256;
+const ROOM: usize = 256;
 
-/// A table without requests.
-pub fn empty_table(rt: &impl Abort, alloc: Global) -> PlainTable<ROOM> {
-    PlainTable::new(alloc).expect(rt, "memory for the table")
+/// A plain table without requests.
+pub fn plain_table(rt: &impl Abort, alloc: Global) -> PlainTable<ROOM> {
+    PlainTable::new(alloc).expect(rt, "memory for the plain table")
 }
 
-/// Walks the rows on a table without requests.
+/// An indexed table without requests.
+pub fn indexed_table(rt: &impl Abort, alloc: Global) -> IndexedTable<ROOM> {
+    IndexedTable::new(alloc).expect(rt, "memory for the indexed table")
+}
+
+/// Walks the rows on both tables without requests.
 pub fn walk(rt: &impl Abort, alloc: Global, rows: &[Row]) {
-    let mut table = empty_table(rt, alloc);
-    walk_on(rt, &mut table, rows);
+    let mut plain = plain_table(rt, alloc);
+    let mut indexed = indexed_table(rt, alloc);
+    walk_on(rt, &mut plain, &mut indexed, rows);
 }

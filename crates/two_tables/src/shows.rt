@@ -1,5 +1,8 @@
 //! Requests that interrupt, and calls that leave or show requests.
+ghost use Rattle.std.specs.Prelude.{IsTrue};
+ghost use Rattle.lock_queue.specs.WellFormed.{names_locks, all_share_rightly};
 
+use crate::alike::are_alike;
 use crate::build::Call::{Asks, GivesUpAll, GivesUpId};
 use crate::build::Lock::{Alone, Bypassing};
 use crate::build::Locks::{One, Two};
@@ -7,13 +10,14 @@ use crate::build::{ANY_QUOTA, alone, one};
 use crate::walk::Row::{
     Calls, Clears, Granted as GrantedIds, Pending, Requests, Status, Tells, Withdraws,
 };
-use crate::walk::{empty_table, walk};
+use crate::walk::{indexed_table, plain_table, walk};
 use lock_queue::EnqueueKind::{AtOnce, Blocking, Interrupt};
 use lock_queue::LockReply::{Done, Granted, Queued};
 use lock_queue::{
     Asking, EnqueueKind, Key, LockCall, LockReply, LockTable, Name, NameText, Refusal, RequestId,
     Scope,
 };
+use std::process::Abort;
 
 #[test]
 fn grants_are_told_in_order(rt: HostRuntime) {
@@ -66,25 +70,36 @@ fn requests_of_an_id_leave_together(rt: HostRuntime) {
     walk(&rt, rt.alloc(), &rows);
 }
 
+/// Job 1 asks for a lock of the name TAPE, that of all jobs or its own.
+fn ask_for_tape(rt: &impl Abort, scope: Scope) -> LockCall
+    ensures named { IsTrue (names_locks result) }
+    ensures unshared { IsTrue (all_share_rightly result) }
+{
+    let name = NameText::new("TAPE").expect(rt, "a name");
+    let mut tape = alone(0, 0);
+    tape.key = Key {
+        scope,
+        name: Name::Text(name),
+    };
+    LockCall::Enqueue {
+        asking: Asking {
+            kind: EnqueueKind::AtOnce,
+            id: RequestId::new(1),
+            armed: true,
+            quota: ANY_QUOTA,
+        },
+        wants: one(tape),
+    }
+}
+
 #[test]
 fn names_are_told_apart_by_scope(rt: HostRuntime) {
-    let mut table = empty_table(&rt, rt.alloc());
+    let mut plain = plain_table(&rt, rt.alloc());
+    let mut indexed = indexed_table(&rt, rt.alloc());
     for (job, scope) in [(1, Scope::Job(1)), (2, Scope::Job(2)), (3, Scope::All)] {
-        let name = NameText::new("TAPE").expect(&rt, "a name");
-        let mut tape = alone(0, 0);
-        tape.key = Key {
-            scope,
-            name: Name::Text(name),
-        };
-        let call = LockCall::Enqueue {
-            asking: Asking {
-                kind: EnqueueKind::AtOnce,
-                id: RequestId::new(1),
-                armed: true,
-                quota: ANY_QUOTA,
-            },
-            wants: one(tape),
-        };
-        assert_eq!(rt; table.call(job, &call), LockReply::Granted);
+        let call = ask_for_tape(&rt, scope);
+        assert_eq!(rt; plain.call(job, &call), LockReply::Granted);
+        assert_eq!(rt; indexed.call(job, &call), LockReply::Granted);
     }
+    assert!(rt; are_alike(&plain, &indexed));
 }

@@ -1,0 +1,25 @@
+//! Tests of the two lock tables: the same calls on both, whose answers were worked out by hand.
+#![tactic(auto)]
+
+#[cfg(test)]
+mod alike;
+#[cfg(test)]
+mod build;
+#[cfg(test)]
+mod changes;
+#[cfg(test)]
+mod generated;
+#[cfg(test)]
+mod grants;
+#[cfg(test)]
+mod limits;
+#[cfg(test)]
+mod refusals;
+#[cfg(test)]
+mod rows;
+#[cfg(test)]
+mod shows;
+#[cfg(test)]
+mod told_apart;
+#[cfg(test)]
+mod walk;
