@@ -100,6 +100,7 @@ impl<L: LockTable, C: CoreStore> Parts<L, C> {
         requires { (1 ≤ L.REQS) × (L.REQS ≤ MOST_REQUESTS) }
         ensures state { IfOk result (λ p. p ≡ at_boot L.REQS config.blocks config.quantum) }
         ensures few { config.blocks ≤ MOST_BLOCKS }
+        ensures some_ticks { 1 ≤ config.quantum }
     {
         let cores = C::new(alloc, config.blocks())?;
         let locks = L::new(alloc)?;
@@ -124,13 +125,14 @@ impl<L: LockTable, C: CoreStore> Parts<L, C> {
         ensures state { self.new ≡ (stepped self.old (next_job self.old.world.table self.old.world.lines self.old.world.requests)).state }
         ensures job { result ≡ next_job self.old.world.table self.old.world.lines self.old.world.requests }
     {
-        self.run_next(1, false).job
+        self.run_next::<false>(1, false).job
     }
 
     /// The job that is next runs for some rounds, each a step with a tick behind it where `ticking`,
-    /// but for the last one's tick; where no job is ready an idle round goes by.
+    /// but for the last one's tick; where no job is ready an idle round goes by. `IN_PLACE` is that of
+    /// `run_job`.
     #[inline(always)]
-    fn run_next(&mut self, most: u32, ticking: bool) -> Rounds
+    fn run_next<const IN_PLACE: bool>(&mut self, most: u32, ticking: bool) -> Rounds
         requires safe { Safe self.old }
         requires some { 1 ≤ most }
         ensures state { ticked_if ticking self.new ≡ after (rounds result.made ticking) self.old }
@@ -145,7 +147,7 @@ impl<L: LockTable, C: CoreStore> Parts<L, C> {
         let alone = self.table.is_alone(n);
         self.table.choose(n, self.quantum);
         let span = self.table.span(n, most, ticking, alone);
-        let made = run_job(
+        let made = run_job::<L, C, IN_PLACE>(
             n,
             span,
             ticking,
@@ -162,9 +164,10 @@ impl<L: LockTable, C: CoreStore> Parts<L, C> {
     }
 
     /// So many rounds, steps that have each a tick behind it where `ticking`, and in how many of them a
-    /// job ran.
+    /// job ran. Where `IN_PLACE`, a round of one instruction is made in the loop itself, which one loop of a
+    /// program can have.
     #[inline(always)]
-    pub fn run_rounds(&mut self, most: u32, ticking: bool) -> u32
+    pub fn run_rounds<const IN_PLACE: bool>(&mut self, most: u32, ticking: bool) -> u32
         requires { Safe self.old }
         ensures state { self.new ≡ after (rounds most ticking) self.old }
         ensures count { result ≡ runs_in (answers (rounds most ticking) self.old) }
@@ -172,7 +175,7 @@ impl<L: LockTable, C: CoreStore> Parts<L, C> {
         let mut idle = 0;
         let mut left = most;
         while left > 0 {
-            let some = self.run_next(left, ticking);
+            let some = self.run_next::<IN_PLACE>(left, ticking);
             idle += some.idle();
             left -= some.made;
             self.tick_if(ticking);
@@ -195,8 +198,8 @@ impl<L: LockTable, C: CoreStore> Parts<L, C> {
     pub fn tick(&mut self)
         ensures { self.new ≡ (ticked self.old).state }
     {
-        self.table.tick();
         self.time.advance();
+        self.table.tick();
         let ended = self.table.expire(&self.locks);
         if ended != 0 {
             self.locks.withdraw_all(ended);
@@ -261,7 +264,7 @@ impl<L: LockTable, C: CoreStore> Parts<L, C> {
     }
 
     /// A character is typed at a line; CTRL-C stops the line's job.
-    #[inline(never)]
+    #[inline(always)]
     pub fn typed(&mut self, line: u8, c: Char7) -> Answer
         requires { Safe self.old }
         ensures state { self.new ≡ (typed self.old line c).state }

@@ -28,9 +28,9 @@ fn pass(ticking: bool, rounds: u32, quantum: u8, table: &mut JobTable, time: &mu
 
 /// A job runs for at most so many rounds, and in how many: its wait is over, it takes its turn, and the
 /// call that it makes is performed. The quantum is read where it is needed, behind the turn, and so is
-/// not kept over it.
+/// not kept over it. `IN_PLACE` is that of `execute`.
 #[inline(always)]
-pub(crate) fn run_job<L: LockTable, C: CoreStore>(
+pub(crate) fn run_job<L: LockTable, C: CoreStore, const IN_PLACE: bool>(
     n: u8,
     most: u32,
     ticking: bool,
@@ -54,7 +54,7 @@ pub(crate) fn run_job<L: LockTable, C: CoreStore>(
         return 1;
     };
     job.wait = Wait::None;
-    let (rounds, call) = run_turn(n, job, locks, cores, most);
+    let (rounds, call) = run_turn::<L, C, IN_PLACE>(n, job, locks, cores, most);
     match call {
         None => {
             pass(ticking, rounds, *quantum, table, time);

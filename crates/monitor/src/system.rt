@@ -4,13 +4,19 @@ ghost use Rattle.word36.specs.declared.sizes.TheConstants.{MOST_REQUESTS};
 ghost use Rattle.lock_laws.specs.Circles.{NoPlainCircle};
 ghost use Rattle.machine.specs.Alone.{RunsAlone};
 ghost use Rattle.machine.specs.Along.{Along, Always};
-ghost use Rattle.machine.specs.Limits.{LimitsAreKept};
 ghost use Rattle.machine.specs.Machine.{happens, after, answers, at_boot};
 ghost use Rattle.machine.specs.Owners.{KeepsOwners};
 ghost use Rattle.machine.specs.Rounds.{rounds, runs_in};
 ghost use Rattle.machine.specs.Safe.{Safe};
 ghost use Rattle.machine.specs.Waits.{WaitsForGrants};
 ghost use Rattle.machine.specs.Views.{job_view, word_in};
+ghost use Rattle.progress_laws.specs.Arrivals.{FrontThinsAlong, FrontThinsOver};
+ghost use Rattle.progress_laws.specs.Kept.{IsSound};
+ghost use Rattle.progress_laws.specs.Levels.{IsGrantedByLevels};
+ghost use Rattle.progress_laws.specs.OneRequest.{IsGrantedByOneRequest};
+ghost use Rattle.progress_laws.specs.Rounds.{RunsInTime, RunsInTimeAmongLines};
+ghost use Rattle.progress_laws.specs.Together.{IsGrantedInTime};
+ghost use Rattle.progress_laws.specs.Wakes.{FirstIsGranted, NobodyWaitsPastALimit, WaitersWaitForOthers, WhoHasRoomIsGranted};
 
 use crate::parts::Parts;
 use core_store::CoreStore;
@@ -31,13 +37,13 @@ pub struct System<L: LockTable, C: CoreStore> {
 
 impl<L: LockTable, C: CoreStore> Model for System<L, C> {
     ghost use Rattle.machine.specs.Machine.{S};
-    ghost use Rattle.machine.specs.Safe.{Safe};
+    ghost use Rattle.progress_laws.specs.Kept.{IsSound};
 
     ghost Value = { S };
 
     ghost view = { λ s. s.parts };
 
-    ghost invariant = { λ s. Safe s.parts };
+    ghost invariant = { λ s. IsSound s.parts };
 }
 
 impl<L: LockTable, C: CoreStore> System<L, C> {
@@ -60,17 +66,21 @@ impl<L: LockTable, C: CoreStore> System<L, C> {
         ensures waits { WaitsForGrants self.new.world }
         ensures owners { KeepsOwners self.old event.now }
         ensures circles { NoPlainCircle self.new.world.requests }
+        ensures front { FrontThinsOver self.old event.now }
+        ensures first { FirstIsGranted self.new.world.requests }
+        ensures room { WhoHasRoomIsGranted self.new.world.requests }
+        ensures others { WaitersWaitForOthers self.new.world.requests }
     {
         self.happen(event)
     }
 
-    /// The event. A step and a tick are made here, where the caller is, so that they are short: no place
-    /// for the answers of other events is cleared and copied.
+    /// The event. A step, a tick and a typed character are made here, where the caller is, so that they
+    /// are short: no place for the answers of other events is cleared and copied.
     #[inline(always)]
     fn happen(&mut self, event: &Event) -> Answer
         ensures state { self.new ≡ (happens self.old event.now).state }
         ensures answer { result ≡ (happens self.old event.now).answer }
-        ensures safe { Safe self.new }
+        ensures sound { IsSound self.old × IsSound self.new }
     {
         match event {
             Event::Step => match self.parts.step() {
@@ -81,6 +91,7 @@ impl<L: LockTable, C: CoreStore> System<L, C> {
                 self.parts.tick();
                 Answer::Done
             }
+            Event::Typed(line, character) => self.parts.typed(*line, *character),
             _ => self.parts.event(event),
         }
     }
@@ -95,7 +106,13 @@ impl<L: LockTable, C: CoreStore> System<L, C> {
         ensures owners { Along KeepsOwners self.old events.now }
         ensures circles { Always (λ s. NoPlainCircle s.world.requests) self.old events.now }
         ensures alone { RunsAlone self.old events.now }
-        ensures limits { LimitsAreKept self.old events.now }
+        ensures limits { NobodyWaitsPastALimit self.old events.now }
+        ensures front { FrontThinsAlong self.old events.now }
+        ensures turns { RunsInTime self.old events.now }
+        ensures lines { RunsInTimeAmongLines self.old events.now }
+        ensures granted { IsGrantedInTime self.old events.now }
+        ensures levels { IsGrantedByLevels self.old events.now }
+        ensures one_request { IsGrantedByOneRequest self.old events.now }
     {
         let _ = &self.parts;
         for i in 0..events.len() {
@@ -104,15 +121,16 @@ impl<L: LockTable, C: CoreStore> System<L, C> {
     }
 
     /// Makes so many steps, each followed by a tick where `ticking`, and counts those in which a
-    /// job ran. Each way has a copy of the loop, in which `ticking` is not looked at again.
+    /// job ran. Each way has a copy of the loop, in which `ticking` is not looked at again; the one with
+    /// ticks, which most programs are run by, executes a round of one instruction in place.
     pub fn steps(&mut self, most: u32, ticking: bool) -> u32
         ensures state { self.new ≡ after (rounds most ticking) self.old }
         ensures count { result ≡ runs_in (answers (rounds most ticking) self.old) }
     {
         if ticking {
-            self.parts.run_rounds(most, true)
+            self.parts.run_rounds::<true>(most, true)
         } else {
-            self.parts.run_rounds(most, false)
+            self.parts.run_rounds::<false>(most, false)
         }
     }
 

@@ -12,7 +12,7 @@ use core_store::CoreStore;
 use job_sched::{Job, NO_FLAGS, Stop};
 use ka_cpu::{
     Accumulator, CoreWords, JobMemory, Outcome, Regs, StopReason, are_legal_kept, pc_word,
-    run_steps, store, word_kept,
+    run_steps_from, store, word_kept,
 };
 use lock_queue::{LockTable, RequestId};
 use machine::VECTOR_WORDS;
@@ -20,9 +20,9 @@ use uuo_calls::MonitorCall;
 use word36::{Address, Word};
 
 /// Executes at most so many instructions of a job in its core, until one stops the job or calls the
-/// monitor, and counts them.
+/// monitor, and counts them. `IN_PLACE` is that of `run_steps_from`.
 #[inline(always)]
-fn execute<C: CoreStore>(
+fn execute<C: CoreStore, const IN_PLACE: bool>(
     number: u8,
     job: &mut Job,
     cores: &mut C,
@@ -32,7 +32,7 @@ fn execute<C: CoreStore>(
     ensures turn { record { turn = record { job = job.new; cores = C.meaning cores.new; requests = []; call = result.1 }; rounds = result.0 } ≡ stretch_by number job.old (C.meaning cores.old) [] (ran most job.old.regs (core_of (C.meaning cores.old) number)) }
 {
     let words = cores.window(number);
-    let (steps, outcome) = run_steps(&mut job.regs, words, u64::from(most));
+    let (steps, outcome) = run_steps_from::<IN_PLACE>(&mut job.regs, words, u64::from(most));
     let rounds = steps as u32;
     match outcome {
         Outcome::Done => (rounds, None),
@@ -93,7 +93,7 @@ fn deliver<L: LockTable, C: CoreStore>(
 
 /// A job's turn, whose wait is over, over at most so many rounds, and in how many.
 #[inline(always)]
-fn take_turn<L: LockTable, C: CoreStore>(
+fn take_turn<L: LockTable, C: CoreStore, const IN_PLACE: bool>(
     number: u8,
     job: &mut Job,
     locks: &mut L,
@@ -113,12 +113,12 @@ fn take_turn<L: LockTable, C: CoreStore>(
             }
         }
     }
-    execute(number, job, cores, most)
+    execute::<C, IN_PLACE>(number, job, cores, most)
 }
 
 /// The turn of a job that has core, and keeps some.
 #[inline(always)]
-pub(crate) fn run_turn<L: LockTable, C: CoreStore>(
+pub(crate) fn run_turn<L: LockTable, C: CoreStore, const IN_PLACE: bool>(
     number: u8,
     job: &mut Job,
     locks: &mut L,
@@ -132,5 +132,5 @@ pub(crate) fn run_turn<L: LockTable, C: CoreStore>(
     ensures core { core_of (C.meaning cores.new) number ≢ [] }
     ensures wait { job.new.wait ≡ job.old.wait }
 {
-    take_turn(number, job, locks, cores, most)
+    take_turn::<L, C, IN_PLACE>(number, job, locks, cores, most)
 }

@@ -75,17 +75,17 @@ grants_stop s n limit ac j there wait over = after-tick s n limit ac j false the
 -- runs
 
 -- what an event leaves of a job that waits
-record Left (w : World) (n : ℕ) (j : Job) : Type 0 where
-  job : Job
-  there : job_at w.table.jobs n ≡ Some job
-  regs : job.regs ≡ j.regs
-  wait : job.wait ≡ j.wait
+pub record Left (w : World) (n : ℕ) (j : Job) : Type 0 where
+  pub job : Job
+  pub there : job_at w.table.jobs n ≡ Some job
+  pub regs : job.regs ≡ j.regs
+  pub wait : job.wait ≡ j.wait
 
-left-same : (w : World) (n : ℕ) (j : Job) → job_at w.table.jobs n ≡ Some j → Left w n j
+pub left-same : (w : World) (n : ℕ) (j : Job) → job_at w.table.jobs n ≡ Some j → Left w n j
 left-same w n j there = record { job = j; there = there; regs = refl; wait = refl }
 
 -- it is not the job that runs
-no-run : (s : S) (o : Option ℕ) (n : ℕ) → ((m : ℕ) → o ≡ Some m → m ≢ n) → is_ran n (stepped s o).answer ≡ false
+pub no-run : (s : S) (o : Option ℕ) (n : ℕ) → ((m : ℕ) → o ≡ Some m → m ≢ n) → is_ran n (stepped s o).answer ≡ false
 no-run s None n other = refl
 no-run s (Some m) n other = false_from_ne_true _ (λ e. other m refl (eqb-true m n e))
 
@@ -97,7 +97,7 @@ left-stepped s n limit ac j h w =
     (subst (λ k. is_waiting_job s.world.requests k ≡ false) is (free-next s m h (next-ready s.world.table s.world.lines s.world.requests m e)).free) w.holds)) in
     left-same _ n j (same.jobs ∙ w.there)
 
-left-typed : (s : S) (l c n : ℕ) (j : Job) → job_at s.world.table.jobs n ≡ Some j → Left (typed s l c).state.world n j
+pub left-typed : (s : S) (l c n : ℕ) (j : Job) → job_at s.world.table.jobs n ≡ Some j → Left (typed s l c).state.world n j
 left-typed s l c n j there =
     let broken = same-broken l j in
     by_test (λ (m : Made). Left m.state.world n j) (nat_le LINES l) _ _ (λ _. left-same _ n j there)
@@ -111,7 +111,7 @@ left-typed s l c n j there =
     (λ _. by_test (λ (m : Made). Left m.state.world n j) (nat_le INPUT_RING (length (input_of s.world.lines l))) _ _
     (λ _. left-same _ n j there) (λ _. left-same _ n j there)))
 
-left-taken : (s : S) (l k n : ℕ) (j : Job) → job_at s.world.table.jobs n ≡ Some j → Left (taken s l k).state.world n j
+pub left-taken : (s : S) (l k n : ℕ) (j : Job) → job_at s.world.table.jobs n ≡ Some j → Left (taken s l k).state.world n j
 left-taken s l k n j there =
     by_test (λ (m : Made). Left m.state.world n j) (nat_le LINES l) _ _ (λ _. left-same _ n j there) (λ _. left-same _ n j there)
 
@@ -133,7 +133,7 @@ left-examined s l ws start None n j there = left-same _ n j there
 left-examined s l ws start (Some top) n j there =
     left-admitted s l ws start (blocks_for top) (free_number s.world.table.jobs) n j (free-number s.world.table.jobs) there
 
-left-login : (s : S) (l : ℕ) (ws : List (ℕ × ℕ)) (start n : ℕ) (j : Job) → job_at s.world.table.jobs n ≡ Some j → Left (logged_in s l ws start).state.world n j
+pub left-login : (s : S) (l : ℕ) (ws : List (ℕ × ℕ)) (start n : ℕ) (j : Job) → job_at s.world.table.jobs n ≡ Some j → Left (logged_in s l ws start).state.world n j
 left-login s l ws start n j there =
     by_test (λ (m : Made). Left m.state.world n j) (nat_le LINES l) _ _ (λ _. left-same _ n j there)
     (λ _. by_test (λ (m : Made). Left m.state.world n j) (list_any (is_at l) s.world.table.jobs) _ _ (λ _. left-same _ n j there)
@@ -144,7 +144,7 @@ left-made_if : (s : S) (w : World) (r : Result (Unit {0}) JobError) (n : ℕ) (j
 left-made_if s w (Ok y) n j before later = later
 left-made_if s w (Err e) n j before later = before
 
-left-started : (s : S) (m n : ℕ) (j : Job) → n ≢ m → job_at s.world.table.jobs n ≡ Some j → Left (started s m).state.world n j
+pub left-started : (s : S) (m n : ℕ) (j : Job) → n ≢ m → job_at s.world.table.jobs n ≡ Some j → Left (started s m).state.world n j
 left-started s m n j ne there =
     left-made_if s _ (standing (job_at s.world.table.jobs m)) n j (left-same _ n j there)
     (left-same _ n j (get_or-set_other s.world.table.jobs m n (option_map started_job (job_at s.world.table.jobs m)) None ne ∙ there))
@@ -160,11 +160,11 @@ left-going_on w m n j there = elim (cases_eq n m) [
   | inr other ↦ left-same _ n j (get_or-set_other w.table.jobs m n (option_map going_on (job_at w.table.jobs m)) None other ∙ there)
 ]
 
-left-continued : (s : S) (m n : ℕ) (j : Job) → job_at s.world.table.jobs n ≡ Some j → Left (continued s m).state.world n j
+pub left-continued : (s : S) (m n : ℕ) (j : Job) → job_at s.world.table.jobs n ≡ Some j → Left (continued s m).state.world n j
 left-continued s m n j there =
     left-made_if s _ (standing (job_at s.world.table.jobs m)) n j (left-same _ n j there) (left-going_on s.world m n j there)
 
-left-killed : (s : S) (m n : ℕ) (o : Option Job) (j : Job) → n ≢ m → job_at s.world.table.jobs n ≡ Some j → Left (killed s m o).state.world n j
+pub left-killed : (s : S) (m n : ℕ) (o : Option Job) (j : Job) → n ≢ m → job_at s.world.table.jobs n ≡ Some j → Left (killed s m o).state.world n j
 left-killed s m n None j ne there = left-same _ n j there
 left-killed s m n (Some k) j ne there = left-same _ n j (get_or-set_other s.world.table.jobs m n None None ne ∙ there)
 
@@ -182,7 +182,7 @@ left-by s (Kill m) n limit ac j h w spared other = left-killed s m n (job_at s.w
 left-by s Restart n limit ac j h w spared other = absurd (both_ways false refl spared)
 
 -- ticks among events
-ticks-cons : (e : Event) (es : List Event) → ticks_in (e ∷ es) ≡ one_if (is_tick e) + ticks_in es
+pub ticks-cons : (e : Event) (es : List Event) → ticks_in (e ∷ es) ≡ one_if (is_tick e) + ticks_in es
 ticks-cons e es = sum_by-cons (λ x. one_if (is_tick x)) e es
 
 ticks-first : (e : Event) (es : List Event) → ticks_in (take (suc zero) (e ∷ es)) ≡ one_if (is_tick e)

@@ -74,8 +74,9 @@ const WATCHER: &str =
     " MOVEI 1,200\n PIINI. 1,\n HALT\n MOVEI 1,1\n PISYS. 1,\n HALT\n MOVE 1,[2,,BLK]\n ENQ. 1,\n JFCL\n \
     JRST .\n JRST .\nBLK: 1,,5\n 0,,7\n 777777\n 500000,,1\n 0\n LOC 174\n DEBRK.\n LOC 200\n 174\n BLOCK 3\n END\n";
 
+/// A grant stores the flags, the PC and the id of its request, and the job goes on at its vector.
 #[test]
-fn a_grant_interrupts(rt: HostRuntime) {
+fn interrupts(rt: HostRuntime) {
     let rows = [
         Begins(0, HOLDER, 1),
         Rounds(3, 3),

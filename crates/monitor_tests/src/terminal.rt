@@ -9,16 +9,25 @@ use monitor::RefusedEvent::{Full, NoLine};
 use tty_lines::Char7;
 use word36::LINES;
 
+/// A text goes out once. CTRL-C is not stored: it stops the line's job, and does nothing where there is none.
 #[test]
-fn a_text_goes_out(rt: HostRuntime) {
+fn terminal(rt: HostRuntime) {
     // 051140,,000143 is OUTSTR 143, and 442220,,000000 the characters HI and a zero.
-    let hi = " 51140,,143\n LOC 143\n 442220,,0\n END\n";
+    let hi = " 51140,,143\n INCHRW 150\n LOC 143\n 442220,,0\n END\n";
     let rows = [
+        Happens(Typed(0, Char7::new(CTRL_C)), Done),
         Begins(0, hi, 1),
         Steps(1, 1),
         Happens(Take(0, 64), Text(b"HI")),
         Happens(Take(0, 64), Text(b"")),
         Happens(Take(LINES, 64), Refused(NoLine)),
+        Happens(Typed(1, Char7::new(CTRL_C)), Done),
+        Job(1, 0o141, None, Wait::None),
+        Happens(Typed(0, Char7::new(CTRL_C)), Done),
+        Job(1, 0o141, Some(Stop::Typed), Wait::None),
+        Happens(Continue(1), Done),
+        Happens(Step, Ran(1)),
+        Job(1, 0o141, None, Wait::Char),
     ];
     walk(&rt, rt.alloc(), &rows);
 }

@@ -1,7 +1,6 @@
 -- Jobs that ask for one lock at a time by rising levels are granted in time.
-use Rattle.std.proofs.Common.{◌≡◌, ◌≢◌, ◌≤◌, ◌<◌, ◌∙◌, ◌⊎◌, sym, ap, subst, ℕ, zero, suc, ◌+◌, ◌-◌, ◌*◌, ◌==◌, nat_lt, ◌&&◌, Bool, true, false, cond, List, [], ◌∷◌, length, filter, Option, Some, None, refl, arith, inl, inr}
-use Rattle.std.proofs.lemmas.Bool.{both_ways, and_parts, and_from, eqb-true, eq-eqb, lt-ltb, ltb-true, not-true, not_from_false}
-use Rattle.word36.specs.declared.sizes.TheConstants.{JOBS}
+use Rattle.std.proofs.Common.{◌≡◌, ◌≤◌, ◌<◌, ◌∙◌, ◌⊎◌, sym, ap, subst, ℕ, zero, suc, ◌+◌, ◌-◌, ◌*◌, ◌==◌, nat_lt, ◌&&◌, Bool, true, false, cond, List, [], ◌∷◌, length, filter, Option, Some, None, refl, arith, inl, inr}
+use Rattle.std.proofs.lemmas.Bool.{and_parts, and_from, eqb-true, eq-eqb, lt-ltb, ltb-true, not-true, not_from_false}
 use Rattle.lock_queue.specs.declared.key.Key.{Key}
 use Rattle.lock_queue.specs.declared.request.Request.{Request}
 use Rattle.lock_queue.specs.declared.want.Want.{Want}
@@ -15,14 +14,10 @@ use Rattle.lock_laws.proofs.Invariant.{kept-safe}
 use Rattle.lock_laws.proofs.Places.{Has-middle, chosen-Has, Has-chosen}
 use Rattle.lock_laws.proofs.WaitSteps.{Waits, waits_found}
 use Rattle.lock_laws.proofs.Words.{Contains-Has, Has-Contains}
-use Rattle.job_sched.specs.Ready.{next_job}
-use Rattle.job_sched.specs.Tables.{job_at}
-use Rattle.job_sched.proofs.Turns.{idle-none}
 use Rattle.machine.specs.declared.event.Event.{Event}
-use Rattle.machine.specs.declared.event.Event.TheVariants.{Step, Tick, Typed, Take, Login, Start, Continue, Kill, Restart}
 use Rattle.machine.specs.Alone.{is_ran}
 use Rattle.machine.specs.Along.{Always, Along}
-use Rattle.machine.specs.Machine.{S, happens, stepped}
+use Rattle.machine.specs.Machine.{S, happens}
 use Rattle.machine.specs.Safe.{Safe}
 use Rattle.monitor_laws.proofs.Safety.{safe-happens}
 use Rattle.progress_laws.specs.Fronts.{wants_key, in_front}
@@ -32,99 +27,12 @@ use Rattle.progress_laws.specs.Together.{is_for, ahead, IsWithout, IsWantedAlone
 use Rattle.progress_laws.specs.Wakes.{IsWellFormed}
 use Rattle.progress_laws.proofs.Blocked.{BlockedFor, IsPlainList, OneWant, one-want, SomeKey, waits-for-key, blocked-waits, blocked-wanted, blocked-without, blocked-once, blocked-rises}
 use Rattle.progress_laws.proofs.Circles.{times-less, times-one-less}
+use Rattle.progress_laws.proofs.Counting.{turn, begun_after, counted, rounds-cons, owes, owed-falls, quantum-kept}
 use Rattle.progress_laws.proofs.Holders.{holder, First, first-of, first-granted, head-some, Stays}
-use Rattle.progress_laws.proofs.Running.{owed, owed-step, owed-begun, owed-calm, always-first, time_is_kept}
-use Rattle.progress_laws.proofs.Tables.{Calm, still-ticked, still-typed, still-taken, still-started, still-continued, still-killed, steady-logged_in}
-use Rattle.progress_laws.proofs.Together.{Stage, turn, stage-any, stage-owns, stage-head, stage-least, stage-most, stage-owed, stage-begun, stage-moves, fewer-ahead, one-step, no-step, steps-more, steps-few, quantum-kept, whole}
+use Rattle.progress_laws.proofs.Running.{owed, always-first, time_is_kept}
+use Rattle.progress_laws.proofs.Together.{Stage, stage-any, stage-owns, stage-head, stage-least, stage-most, stage-owed, stage-begun, stage-moves, fewer-ahead, one-step, no-step, steps-more, steps-few, whole}
 use Rattle.progress_laws.proofs.Waited.{still-blocked}
 use Rattle.progress_laws.proofs.WellFormed.{well_is_kept}
-
--- rounds, event by event: whether a tick is still to come after an event, and whether the event ends a round
-abbrev begun_after : Bool → Event → Bool
-begun_after b Step = true
-begun_after b Tick = false
-begun_after b (Typed line c) = b
-begun_after b (Take line n) = b
-begun_after b (Login line image) = b
-begun_after b (Start n) = b
-begun_after b (Continue n) = b
-begun_after b (Kill n) = b
-begun_after b Restart = b
-
-abbrev counted : Bool → Event → ℕ
-counted b Step = 0
-counted true Tick = 1
-counted false Tick = 0
-counted b (Typed line c) = 0
-counted b (Take line n) = 0
-counted b (Login line image) = 0
-counted b (Start n) = 0
-counted b (Continue n) = 0
-counted b (Kill n) = 0
-counted b Restart = 0
-
-rounds-cons : (b : Bool) (e : Event) (es : List Event) → rounds_from b (e ∷ es) ≡ counted b e + rounds_from (begun_after b e) es
-rounds-cons b Step es = omega arith
-rounds-cons true Tick es = omega arith
-rounds-cons false Tick es = omega arith
-rounds-cons b (Typed line c) es = omega arith
-rounds-cons b (Take line n) es = omega arith
-rounds-cons b (Login line image) es = omega arith
-rounds-cons b (Start n) es = omega arith
-rounds-cons b (Continue n) es = omega arith
-rounds-cons b (Kill n) es = omega arith
-rounds-cons b Restart es = omega arith
-
--- what is owed after an event is a turn at most
-owes-either : (C : Bool → ℕ) (m : ℕ) (b : Bool) → C false + 1 ≤ m → C true ≤ m → 0 + C b ≤ m
-owes-either C m true low high = omega (arith, high)
-owes-either C m false low high = omega (arith, low)
-
-owes : (C : Bool → ℕ) (m : ℕ) (b : Bool) (e : Event) → C false + 1 ≤ m → C true ≤ m → counted b e + C (begun_after b e) ≤ m
-owes C m b Step low high = omega (arith, high)
-owes C m true Tick low high = omega (arith, low)
-owes C m false Tick low high = omega (arith, low)
-owes C m b (Typed line c) low high = owes-either C m b low high
-owes C m b (Take line n) low high = owes-either C m b low high
-owes C m b (Login line image) low high = owes-either C m b low high
-owes C m b (Start n) low high = owes-either C m b low high
-owes C m b (Continue n) low high = owes-either C m b low high
-owes C m b (Kill n) low high = owes-either C m b low high
-owes C m b Restart low high = owes-either C m b low high
-
--- what is owed to a job that may run, and does not, falls by each round
-owed-next : (b : Bool) (test : ℕ → Bool) (s : S) (j : ℕ) (o : Option ℕ) → next_job s.world.table s.world.lines s.world.requests ≡ o → 1 ≤ j → j ≤ JOBS
-    → MayRun j s Step → HasJobs test s → 1 ≤ s.quantum → is_ran j (stepped s o).answer ≡ false → 0 + owed true test j (stepped s o).state ≤ owed b test j s
-owed-next b test s j None next least most ready has ticks other =
-    absurd (both_ways _ (idle-none s.world.table s.world.lines s.world.requests next j least most) ready)
-owed-next b test s j (Some k) next least most ready has ticks other =
-    let ne : k ≢ j = λ same. both_ways _ other (eq-eqb k j same) in
-    let less = owed-step test s k j next least most ready has ne ticks in
-    let begins = owed-begun b test j s in
-    omega (arith, less, begins)
-
-owed-other : (b : Bool) (test : ℕ → Bool) (j : ℕ) (s u : S) → u.quantum ≡ s.quantum → Calm s.world.table u.world.table → 0 + owed b test j u ≤ owed b test j s
-owed-other b test j s u same calm = let less = owed-calm b test j s u same calm in omega (arith, less)
-
-owed-falls : (b : Bool) (test : ℕ → Bool) (s : S) (e : Event) (j : ℕ) → 1 ≤ j → j ≤ JOBS → MayRun j s e → HasJobs test s → 1 ≤ s.quantum
-    → is_ran j (happens s e).answer ≡ false → counted b e + owed (begun_after b e) test j (happens s e).state ≤ owed b test j s
-owed-falls b test s Step j least most may has ticks other =
-    owed-next b test s j (next_job s.world.table s.world.lines s.world.requests) refl least most may has ticks other
-owed-falls true test s Tick j least most may has ticks other = omega arith
-owed-falls false test s Tick j least most may has ticks other = owed-other false test j s (happens s Tick).state (still-ticked s).quantum (still-ticked s).calm
-owed-falls b test s (Typed line c) j least most may has ticks other =
-    owed-other b test j s (happens s (Typed line c)).state (still-typed s line c).quantum (still-typed s line c).calm
-owed-falls b test s (Take line n) j least most may has ticks other =
-    owed-other b test j s (happens s (Take line n)).state (still-taken s line n).quantum (still-taken s line n).calm
-owed-falls b test s (Login line image) j least most may has ticks other =
-    owed-other b test j s (happens s (Login line image)).state (steady-logged_in s line image.now.words.items image.now.start).quantum (steady-logged_in s line image.now.words.items image.now.start).calm
-owed-falls b test s (Start n) j least most may has ticks other =
-    owed-other b test j s (happens s (Start n)).state (still-started s n).quantum (still-started s n).calm
-owed-falls b test s (Continue n) j least most may has ticks other =
-    owed-other b test j s (happens s (Continue n)).state (still-continued s n).quantum (still-continued s n).calm
-owed-falls b test s (Kill n) j least most may has ticks other =
-    owed-other b test j s (happens s (Kill n)).state (still-killed s n (job_at s.world.table.jobs n)).quantum (still-killed s n (job_at s.world.table.jobs n)).calm
-owed-falls b test s Restart j least most may has ticks other = absurd may
 
 -- the key for which a job waits
 abbrev key_of_wants : List Want → Option Key

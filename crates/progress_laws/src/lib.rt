@@ -11,6 +11,7 @@ ghost use Rattle.progress_laws.specs.Arrivals.{FrontStaysOver, FrontThinsAlong, 
 ghost use Rattle.progress_laws.specs.Fronts.{NobodyComesInFront};
 ghost use Rattle.progress_laws.specs.Kept.{IsSound};
 ghost use Rattle.progress_laws.specs.Levels.{IsGrantedByLevels};
+ghost use Rattle.progress_laws.specs.OneRequest.{IsGrantedByOneRequest};
 ghost use Rattle.progress_laws.specs.Rounds.{HasJobs, KeepsTime, RunsInTime, RunsInTimeAmongAll, RunsInTimeAmongLines, RunsInTimeAmongThese, has_low_number};
 ghost use Rattle.progress_laws.specs.Together.{GoesOnInTime, IsGrantedInTime};
 ghost use Rattle.progress_laws.specs.Wakes.{FirstIsGranted, GrantedAreReady, IsWellFormed, NobodyWaitsPastALimit, WaitersWaitForOthers, WhoHasRoomIsGranted};
@@ -99,4 +100,10 @@ pub fn who_waits_is_granted_in_time()
 /// The same where jobs ask for one lock at a time by rising levels, and owners may wait for others.
 pub fn who_waits_by_levels_is_granted_in_time()
     ensures { (s : S) (events : List EventView) → Safe s → KeepsTime s → IsWellFormed s → IsGrantedByLevels s events }
+{}
+
+/// The same where jobs ask for all that they need by one request, so that no owner waits: the requests in
+/// front count, whatever they are for.
+pub fn who_waits_by_one_request_is_granted_in_time()
+    ensures { (s : S) (events : List EventView) → Safe s → KeepsTime s → IsWellFormed s → IsGrantedByOneRequest s events }
 {}

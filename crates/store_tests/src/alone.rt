@@ -1,4 +1,5 @@
-//! A job among others is a job alone, also where its core is moved between its steps.
+//! A job among others is a job alone, also where its core is moved between its steps: it leaves the same
+//! registers, core and output.
 
 use crate::rows::{assembled, begins, machine, turn};
 use core_store::{BlockCore, CoreStore, PlainCore};
@@ -9,13 +10,14 @@ use std::process::Abort;
 use word36::{Image, MOST_REQUESTS};
 
 /// Two blocks: a stack in the second, numbers that are added up at its end, bytes that are put and
-/// read, and a list by way of an indirect word. A round has twelve instructions.
+/// read, and a list by way of an indirect word; and a character is put out. A round has thirteen instructions.
 const WALKER: &str = "\
 BEGIN: MOVEI 17,2000
 L: AOS 5,300
  PUSH 17,5
  PUSHJ 17,SQUARE
  POP 17,6
+ OUTCHR 6
  ADDM 6,3777
  IDPB 5,PUT
  ILDB 7,GET
@@ -140,14 +142,31 @@ fn first_apart<C: CoreStore>(
     None
 }
 
+/// The taking of a character from the line of the walker, where it is alone and where it is among others.
+const TAKES: [Event<'static>; 2] = [Event::Take(0, 1), Event::Take(3, 1)];
+
+/// The character that is taken, if there is one.
+fn character<C: CoreStore>(place: &mut Place<C>, take: &Event) -> Option<u8> {
+    match place.system.event(take) {
+        Answer::Text(taken) => taken.as_slice().first().map(|c| c.number()),
+        _ => None,
+    }
+}
+
 /// Compares a walker alone with one among others on machines with one of the stores.
 fn compare<C: CoreStore>(rt: &impl Abort, alloc: Global, store: &str, images: &Images) {
     let mut alone: Place<C> = alone(rt, alloc, images);
     let mut among: Place<C> = among(rt, alloc, images);
-    let apart = first_apart(&mut alone, &mut among, 300, &images.idler);
+    let apart = first_apart(&mut alone, &mut among, 325, &images.idler);
     assert!(rt; apart.is_none(), "{store}: {apart:?}");
     let rounds = alone.system.peek(1, 0o300).map(|word| word.number());
     assert_eq!(rt; rounds, Some(25), "{store}");
+    // Each round put out the character of its number.
+    for round in 1..=26 {
+        let taken = character(&mut alone, &TAKES[0]);
+        assert_eq!(rt; taken, (round <= 25).then_some(round), "{store}");
+        assert_eq!(rt; taken, character(&mut among, &TAKES[1]), "{store}");
+    }
 }
 
 #[test]

@@ -1,8 +1,19 @@
 -- Steps along a text.
-use Rattle.std.proofs.Common.{◌≡◌, ◌≢◌, ℕ, zero, suc, ◌+◌, ◌/◌, ◌%◌, List, [], ◌∷◌, ◌++◌, length, Some, None, refl, arith}
+use Rattle.std.proofs.Common.{Bool, true, false, ◌≡◌, ◌≢◌, ◌<◌, ℕ, zero, suc, ◌+◌, ◌/◌, ◌%◌, List, [], ◌∷◌, ◌++◌, length, Some, None, refl, arith}
 use Rattle.std.proofs.lemmas.Grind.{common_steps}
 use Rattle.ka_cpu.specs.Places.{word_below}
 use Rattle.uuo_calls.specs.TerminalRows.{character, behind, text_from}
+
+-- where whole words have given so many characters, the next five stand in one word
+pub same-word : (a k : ℕ) → a % 5 ≡ 0 → k < 5 → (a + k) / 5 ≡ a / 5
+same-word a k whole within = omega (arith, whole, within)
+
+pub place-in-word : (a k : ℕ) → a % 5 ≡ 0 → k < 5 → (a + k) % 5 ≡ k
+place-in-word a k whole within = omega (arith, whole, within)
+
+pub either-way : (b : Bool) (A : Type 0) → (b ≡ true → A) → (b ≡ false → A) → A
+either-way true A goes ends = goes refl
+either-way false A goes ends = ends refl
 
 pub text_from-zero : (ac core : List ℕ) (e : ℕ) (text : List ℕ) (k : ℕ) → k ≡ 0 → text_from ac core e text k ≡ Some text
 unfolding text_from

@@ -1,6 +1,7 @@
 //! OUTCHR and OUTSTR.
 
-ghost use Rattle.std.specs.Prelude.{◌≡◌, ◌<◌, ◌≤◌, ◌-◌, ◌*◌, ◌%◌, ◌^◌, ◌∷◌, length, Some, None, []};
+ghost use Rattle.std.specs.Prelude.{ℕ, List, true, false, ◌≡◌, ◌<◌, ◌≤◌, ◌+◌, ◌-◌, ◌*◌, ◌/◌, ◌%◌, ◌^◌, ◌∷◌, length, Some, None, []};
+ghost use Rattle.ka_cpu.specs.Places.{word_below};
 ghost use Rattle.core_store.specs.Cores.{IsJob, core_of};
 ghost use Rattle.word36.specs.declared.sizes.TheConstants.{OUTPUT_RING};
 ghost use Rattle.uuo_calls.specs.TerminalRows.{TextIs, character, outchr, outstr, put_text, text_from};
@@ -25,6 +26,33 @@ fn character(k: u32, word: Word) -> Char7
     Char7::low_bits(word.number() >> (29 - 7 * k))
 }
 
+/// The words of a text that give all their characters: the longest text ends within the word behind them.
+const WHOLE_WORDS: u32 = OUTPUT_RING as u32 / CHARACTERS_A_WORD;
+
+/// The characters of the last word that belong to the longest text.
+const LAST_CHARACTERS: u32 = OUTPUT_RING as u32 % CHARACTERS_A_WORD;
+
+/// Adds the first so many characters of a word to a text that whole words have given, up to a zero: whether
+/// there was none, so that the text goes on.
+#[inline(always)]
+fn add_word(text: &mut ArrayVec<Char7, OUTPUT_RING>, word: Word, count: u32) -> bool
+    requires whole { length text.old.items % 5 ≡ 0 }
+    requires within { count ≤ 5 }
+    requires room { length text.old.items + count ≤ OUTPUT_RING }
+    ensures goes_on { result ≡ true → (ac core : List ℕ) (e n : ℕ) → word_below ac core (e + length text.old.items / 5) ≡ Some word → text_from ac core e text.old.items (n + count) ≡ text_from ac core e text.new.items n }
+    ensures ended { result ≡ false → (ac core : List ℕ) (e n : ℕ) → word_below ac core (e + length text.old.items / 5) ≡ Some word → text_from ac core e text.old.items (n + count) ≡ Some text.new.items }
+    ensures long { result ≡ true → length text.new.items ≡ length text.old.items + count }
+{
+    for k in 0..count {
+        let c = character(k, word);
+        if c.number() == 0 {
+            return false;
+        }
+        text.push(c);
+    }
+    true
+}
+
 /// The text at a place, up to its zero or 512 characters.
 fn read_text<M: JobMemory>(
     regs: &Regs,
@@ -36,16 +64,18 @@ fn read_text<M: JobMemory>(
 {
     let place = e.number();
     let mut text = ArrayVec::new();
-    for i in 0..OUTPUT_RING as u32 {
-        let Some(word) = word_kept(regs, memory, place + i / CHARACTERS_A_WORD) else {
+    for i in 0..WHOLE_WORDS {
+        let Some(word) = word_kept(regs, memory, place + i) else {
             return None;
         };
-        let c = character(i % CHARACTERS_A_WORD, word);
-        if c.number() == 0 {
+        if !add_word(&mut text, word, CHARACTERS_A_WORD) {
             return Some(text);
         }
-        text.push(c);
     }
+    let Some(word) = word_kept(regs, memory, place + WHOLE_WORDS) else {
+        return None;
+    };
+    add_word(&mut text, word, LAST_CHARACTERS);
     Some(text)
 }
 

@@ -1,0 +1,33 @@
+-- An interrupt and its end: a delivery, and DEBRK. (PIINI. of the TOPS-10 Monitor Calls Manual, in this project's profile).
+use Rattle.std.specs.Prelude.{ℕ, ◌≡◌, ◌+◌, ◌^◌, ◌<◌, true, false, List, length, Some}
+use Rattle.core_store.specs.Cores.{Cores, core_of}
+use Rattle.ka_cpu.specs.Places.{are_legal, word_below}
+use Rattle.lock_queue.specs.declared.request.Request.{Request}
+use Rattle.job_sched.specs.Tables.{job_at}
+use Rattle.job_sched.specs.declared.job.Job.{Job}
+use Rattle.uuo_calls.specs.Laws.{service_in}
+use Rattle.uuo_calls.specs.Performed.{World, performed}
+use Rattle.uuo_calls.specs.declared.call.MonitorCall.{MonitorCall}
+use Rattle.uuo_calls.specs.declared.service.Service.TheVariants.{Debrk}
+use Rattle.machine.specs.Turns.{delivered}
+
+-- job n goes on where job j was when it was interrupted: its PC and flags are those, and no interrupt is in progress
+pub record GoesBack (w : World) (n : ℕ) (j : Job) : Type 0 where
+  pub job : Job
+  pub there : job_at w.table.jobs n ≡ Some job
+  pub pc : job.regs.pc ≡ j.regs.pc
+  pub flags : job.regs.flags ≡ j.regs.flags
+  pub over : job.interrupts.in_progress ≡ false
+
+-- A delivery and then DEBRK. give back PC and flags: an interrupt is delivered to job n, whose vector is legal; later, whatever the job
+-- did in between, its interrupt is in progress with the same vector, and the word behind the vector's first is that which the
+-- delivery left there. Then DEBRK. leads back to where it was.
+abbrev pub DebrkGoesBack : Type 0
+DebrkGoesBack =
+    (w : World) (time n vector id : ℕ) (c : MonitorCall) (j k : Job) (cores : Cores) (requests : List Request)
+    → are_legal (core_of cores n) vector 4 ≡ true → length j.regs.ac ≡ 16 → n < length cores.cores → j.regs.pc < 2 ^ 18
+    → job_at w.table.jobs n ≡ Some k → n < length w.table.jobs → service_in c ≡ Debrk
+    → k.interrupts.in_progress ≡ true → k.interrupts.vector ≡ Some vector
+    → word_below k.regs.ac (core_of w.cores n) (vector + 1)
+    ≡ word_below (delivered n j cores requests vector id).job.regs.ac (core_of (delivered n j cores requests vector id).cores n) (vector + 1)
+    → GoesBack (performed w time n c).world n j
