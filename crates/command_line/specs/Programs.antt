@@ -1,15 +1,18 @@
 -- What the program does for the words of its command line, and the status that it ends with (this project's profile).
-use Rattle.std.specs.Prelude.{◌≡◌, ◌⊎◌, ℕ, Bool, false, List, Option, None, Some, Result, Ok, Err, IfErr}
+use Rattle.std.specs.Prelude.{◌≡◌, ◌⊎◌, ℕ, Bool, false, List, Option, None, Some, Result, Ok, Err, IfErr, codes}
 use Rattle.std.specs.Io.KnownBytes.{Keeps}
 use Rattle.clap.specs.Words.{Text, subcommand_of, takes}
+use Rattle.script_io.specs.Ports.{WritesAll}
 use Rattle.script_io.specs.Serves.{Serves, Blames}
 use Rattle.script_io.specs.Transcripts.{Transcript}
 use Rattle.script_io.specs.declared.failures.ServeFailure.{ServeFailure}
-use Rattle.queue_script.specs.Listings.{listing}
+use Rattle.script_io.specs.declared.failures.ServeFailure.TheVariants as failed
+use Rattle.script_io.specs.declared.ports.Failed.{Failed}
+use Rattle.asm_script.specs.Listings.{listing}
 use Rattle.op_script.specs.RunScripts as run
 use Rattle.queue_script.specs.QueueScripts.{transcript}
-use Rattle.queue_script.specs.declared.endings.Ending.{Ending}
-use Rattle.queue_script.specs.declared.endings.Ending.TheVariants as ending
+use Rattle.script_io.specs.declared.endings.Ending.{Ending}
+use Rattle.script_io.specs.declared.endings.Ending.TheVariants as ending
 use Rattle.command_line.specs.Words.{app, choice_of}
 use Rattle.command_line.specs.declared.asked.Choice.{Choice}
 use Rattle.command_line.specs.declared.asked.Choice.TheVariants.{Run, Queue, Asm}
@@ -32,27 +35,44 @@ status_of (Ok ending.Script) = REFUSED
 status_of (Ok ending.Source) = REFUSED
 status_of (Err failure) = FAILED
 
+-- the line that standard error gets of what failed
+abbrev pub failure_line : ServeFailure → List ℕ
+failure_line failed.Read = codes "lockmon: read\n"
+failure_line failed.Write = codes "lockmon: write\n"
+failure_line failed.Memory = codes "lockmon: memory\n"
+
+-- standard error, from e to e', was handed all of a text, and took it, or a beginning of it and failed
+abbrev pub Hands : Option (List ℕ) → Option (List ℕ) → Bool → List ℕ → Type 0
+Hands e e' errors_failed text = (answer : Result (Unit {0}) Failed) × WritesAll e e' errors_failed answer text
+
+-- of a script or a source that came to its end nothing is told there; of a failure its line
+abbrev pub TellsAnswer : Result Ending ServeFailure → Option (List ℕ) → Option (List ℕ) → Bool → Type 0
+TellsAnswer (Ok ending) e e' errors_failed = e' ≡ e
+TellsAnswer (Err failure) e e' errors_failed = Hands e e' errors_failed (failure_line failure)
+
 -- the transcript of the command that the words ask for was served, which took its input from i to i' and its output from
--- o to o', and the status tells how that ended
-pub record ServesAsked (words : List Text) (i i' o o' : Option (List ℕ)) (read_failed write_failed : Bool) (status : ℕ) : Type 0 where
+-- o to o', and the status and standard error, from e to e', tell how that ended
+pub record ServesAsked (words : List Text) (i i' o o' e e' : Option (List ℕ)) (read_failed write_failed errors_failed : Bool) (status : ℕ) : Type 0 where
   pub command : Choice
   pub asks : asked words ≡ Some command
   pub answer : Result Ending ServeFailure
   pub serves : Serves (language_of command) i i' o o' answer
   pub blames : IfErr answer (λ failure. Blames failure read_failed write_failed)
   pub told : status ≡ status_of answer
+  pub line : TellsAnswer answer e e' errors_failed
 
 -- the words are not in the form that the command line takes, or ask for no command that is there
 abbrev pub IsWrong : List Text → Type 0
 IsWrong words = (takes app words ≡ false) ⊎ (asked words ≡ None)
 
--- nothing was read or written, for want of the right words, which is status 2, or of memory, which is status 3
-pub record Refuses (words : List Text) (i i' o o' : Option (List ℕ)) (status : ℕ) : Type 0 where
+-- nothing was read or written, for want of the right words, which is status 2, or of memory, which is status 3 and has its
+-- line on standard error
+pub record Refuses (words : List Text) (i i' o o' e e' : Option (List ℕ)) (errors_failed : Bool) (status : ℕ) : Type 0 where
   pub unread : Keeps i i'
   pub unwritten : Keeps o o'
-  pub why : ((status ≡ USAGE) × IsWrong words) ⊎ (status ≡ FAILED)
+  pub why : ((status ≡ USAGE) × IsWrong words) ⊎ ((status ≡ FAILED) × Hands e e' errors_failed (failure_line failed.Memory))
 
 -- the program served what the words ask for, or refused them
-abbrev pub Runs : List Text → Option (List ℕ) → Option (List ℕ) → Option (List ℕ) → Option (List ℕ) → Bool → Bool → ℕ → Type 0
-Runs words i i' o o' read_failed write_failed status =
-    ServesAsked words i i' o o' read_failed write_failed status ⊎ Refuses words i i' o o' status
+abbrev pub Runs : List Text → Option (List ℕ) → Option (List ℕ) → Option (List ℕ) → Option (List ℕ) → Option (List ℕ) → Option (List ℕ) → Bool → Bool → Bool → ℕ → Type 0
+Runs words i i' o o' e e' read_failed write_failed errors_failed status =
+    ServesAsked words i i' o o' e e' read_failed write_failed errors_failed status ⊎ Refuses words i i' o o' e e' errors_failed status

@@ -4,7 +4,7 @@ use Rattle.std.specs.Str.{bytes_eq}
 use Rattle.clap.specs.Words.{App, Row, Rule, Text, Shape, first_of, new_app, new_rule, subcommand_of, takes, with_rule, with_subcommand}
 use Rattle.clap.specs.declared.error.kind.ErrorKind.{ErrorKind}
 use Rattle.clap.specs.declared.error.kind.ErrorKind.TheVariants as kind
-use Rattle.queue_script.specs.Numbers.{number}
+use Rattle.script_io.specs.Numbers.{number}
 use Rattle.machine.specs.Setups.{IsSetup}
 use Rattle.machine.specs.declared.sizes.TheConstants.{MOST_QUANTUM}
 use Rattle.word36.specs.declared.sizes.TheConstants.{MOST_BLOCKS}

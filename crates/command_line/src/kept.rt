@@ -3,7 +3,7 @@ ghost use Rattle.std.specs.Prelude.{◌≡◌};
 
 use crate::lines::{Language, Lines};
 use arrayvec::ArrayVec;
-use queue_script::{ByteIn, ByteOut, Failed};
+use script_io::{ByteIn, ByteOut, Failed};
 use std::alloc::Global;
 
 /// The most bytes that the last line of an output is kept of.

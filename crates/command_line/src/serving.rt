@@ -1,17 +1,20 @@
 //! The whole program over any ports.
-ghost use Rattle.std.specs.Prelude.{◌≡◌, ◌^◌, ◌≤◌, false, map, ◌≢◌};
+ghost use Rattle.std.specs.Prelude.{◌≡◌, ◌^◌, ◌≤◌, false, map, ◌≢◌, codes};
 ghost use Rattle.machine.specs.Setups.{IsSetup};
-ghost use Rattle.queue_script.specs.Endings.{served_as};
-ghost use Rattle.command_line.specs.Programs.{Runs, status_of};
+ghost use Rattle.script_io.specs.Endings.{served_as};
+ghost use Rattle.script_io.specs.declared.failures.ServeFailure.TheVariants as failed;
+ghost use Rattle.command_line.specs.Programs.{Hands, Runs, TellsAnswer, failure_line, status_of};
 
 use crate::asked::{Choice, Refusal};
 use crate::kept::{KeptIn, KeptOut};
 use crate::statuses::{DONE, FAILED, REFUSED, USAGE};
 use crate::telling::tell_fault;
 use crate::words::choice;
+use asm_script::serve_asm;
 use machine::Config;
 use op_script::serve;
-use queue_script::{ByteIn, ByteOut, ServeError, serve_asm, serve_queue, write_all};
+use queue_script::serve_queue;
+use script_io::{ByteIn, ByteOut, ServeError, write_all};
 use std::alloc::Global;
 use std::convert::AsStr;
 use std::io::ErrorKind;
@@ -31,7 +34,7 @@ pub fn program<S: AsStr, R: ByteIn, W: ByteOut, E: ByteOut>(
     requires errors_sound { E.has_failed errors.old ≡ false }
     requires few { R.reads_left reader.old ≤ 2 ^ 63 }
     ensures { Runs (map S.text words.now) (R.to_come reader.old) (R.to_come reader.new) (W.written writer.old) (W.written writer.new)
-        (R.has_failed reader.new) (W.has_failed writer.new) result }
+        (E.written errors.old) (E.written errors.new) (R.has_failed reader.new) (W.has_failed writer.new) (E.has_failed errors.new) result }
 {
     match choice(alloc, words) {
         Ok(Choice::Queue) => status_of(serve_queue(alloc, reader, writer), errors),
@@ -63,10 +66,12 @@ pub fn program_told<S: AsStr, R: ByteIn + Drop, W: ByteOut + Drop, E: ByteOut, T
     requires errors_sound { E.has_failed errors.old ≡ false }
     requires telling_sound { T.has_failed telling.old ≡ false }
     requires few { ⟦<KeptIn<R> as ByteIn>⟧.reads_left reader.old ≤ 2 ^ 63 }
-    ensures { Runs (map S.text words.now)
+    ensures runs { Runs (map S.text words.now)
         (⟦<KeptIn<R> as ByteIn>⟧.to_come reader.old) (⟦<KeptIn<R> as ByteIn>⟧.to_come reader.new)
         (⟦<KeptOut<W> as ByteOut>⟧.written writer.old) (⟦<KeptOut<W> as ByteOut>⟧.written writer.new)
-        (⟦<KeptIn<R> as ByteIn>⟧.has_failed reader.new) (⟦<KeptOut<W> as ByteOut>⟧.has_failed writer.new) result }
+        (E.written errors.old) (E.written errors.new)
+        (⟦<KeptIn<R> as ByteIn>⟧.has_failed reader.new) (⟦<KeptOut<W> as ByteOut>⟧.has_failed writer.new) (E.has_failed errors.new) result }
+    ensures quiet { result ≢ REFUSED → T.written telling.new ≡ T.written telling.old }
 {
     let status = program(alloc, words, reader, writer, errors);
     if status == REFUSED {
@@ -87,7 +92,8 @@ fn config_of(blocks: u32, quantum: u32) -> Config
 /// The exit status of a call that served, with a line where a port or memory failed.
 fn status_of<E: ByteOut>(answer: Result<(), ServeError>, errors: &mut E) -> u8
     requires { E.has_failed errors.old ≡ false }
-    ensures { result ≡ status_of (served_as answer) }
+    ensures status { result ≡ status_of (served_as answer) }
+    ensures line { TellsAnswer (served_as answer) (E.written errors.old) (E.written errors.new) (E.has_failed errors.new) }
 {
     match answer {
         Ok(()) => DONE,
@@ -101,7 +107,8 @@ fn status_of<E: ByteOut>(answer: Result<(), ServeError>, errors: &mut E) -> u8
 /// Says that there was no memory, and gives the exit status.
 pub fn out_of_memory<E: ByteOut>(errors: &mut E) -> u8
     requires { E.has_failed errors.old ≡ false }
-    ensures { result ≡ FAILED }
+    ensures status { result ≡ FAILED }
+    ensures line { Hands (E.written errors.old) (E.written errors.new) (E.has_failed errors.new) (failure_line failed.Memory) }
 {
     told(errors, b"lockmon: memory\n", FAILED)
 }
@@ -112,6 +119,8 @@ pub fn unread_words<E: ByteOut>(kind: ErrorKind, errors: &mut E) -> u8
     requires { E.has_failed errors.old ≡ false }
     ensures no_text { kind ≡ ErrorKind.InvalidData → result ≡ USAGE }
     ensures no_memory { kind ≢ ErrorKind.InvalidData → result ≡ FAILED }
+    ensures line { kind ≢ ErrorKind.InvalidData
+        → Hands (E.written errors.old) (E.written errors.new) (E.has_failed errors.new) (failure_line failed.Memory) }
 {
     if kind == ErrorKind::InvalidData {
         let text = b"error: invalid UTF-8 was detected in one or more arguments\n";
@@ -124,7 +133,8 @@ pub fn unread_words<E: ByteOut>(kind: ErrorKind, errors: &mut E) -> u8
 /// Writes a text to the errors, and gives the exit status.
 fn told<E: ByteOut>(errors: &mut E, text: &[u8], status: u8) -> u8
     requires { E.has_failed errors.old ≡ false }
-    ensures { result ≡ status }
+    ensures status { result ≡ status }
+    ensures handed { Hands (E.written errors.old) (E.written errors.new) (E.has_failed errors.new) text.now }
 {
     let _ = write_all(errors, text);
     status

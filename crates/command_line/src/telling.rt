@@ -4,7 +4,7 @@ ghost use Rattle.std.specs.Prelude.{◌≡◌, false};
 use crate::lines::{Language, Lines, Place, SourceLines, line_at};
 use fault_text::{NO_ENDASM, Refused, explain};
 use mac_asm::{AsmError, assemble};
-use queue_script::{ByteOut, number, write_all};
+use script_io::{ByteOut, number, write_all};
 use std::alloc::{AllocError, Global};
 use std::convert::AsStr;
 

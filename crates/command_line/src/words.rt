@@ -9,7 +9,7 @@ use crate::texts;
 use clap::error::ErrorKind;
 use clap::{Arg, ArgMatches, Command, Error};
 use machine::MOST_QUANTUM;
-use queue_script::number;
+use script_io::number;
 use std::alloc::{AllocError, Global};
 use std::convert::AsStr;
 use std::fmt;

@@ -1,5 +1,9 @@
 //! What is wrong, and where.
 
+ghost use Rattle.std.specs.Prelude.{◌≤◌, ◌+◌};
+
+use queue_script::{CODE_DIGITS, MOST_LEVEL};
+use script_io::LINE_LENGTH;
 use std::fmt;
 
 /// The most bytes of a line that are quoted.
@@ -21,6 +25,14 @@ pub enum Reason<'a> {
     Said(&'static str),
     /// Something else is expected where these bytes stand, or where the line ends.
     Expected(&'static str, &'a [u8]),
+    /// A number is expected where these bytes stand, or where the line ends.
+    Number(Range, &'a [u8]),
+    /// The name of a lock is expected where these bytes stand, or where the line ends.
+    LockName(&'a [u8]),
+    /// These bytes are no option of a lock.
+    NoOption(&'a [u8]),
+    /// The line is too long.
+    TooLong,
     /// These bytes are not what the sentence says.
     Is(&'a [u8], &'static str),
     /// There is no such command; the text says more.
@@ -29,10 +41,42 @@ pub enum Reason<'a> {
     OneOf(&'a [u8], &'a [u8], bool),
 }
 
+/// The numbers that may stand in a place.
+#[derive(Clone, Copy, Debug, PartialEq, Eq)]
+pub struct Range {
+    /// What the number is of.
+    pub name: &'static str,
+    /// The radix in which it is written, 8 or 10.
+    pub radix: u64,
+    /// The least.
+    pub least: u64,
+    /// The greatest.
+    pub most: u64,
+}
+
+impl fmt::Display for Range {
+    fn fmt<W: fmt::Write>(&self, f: &mut fmt::Formatter<W>) -> fmt::Result {
+        let (name, least, most) = (self.name, self.least, self.most);
+        if self.radix == 8 {
+            write!(f, "{name}, {least:o} to {most:o} in octal")
+        } else {
+            write!(f, "{name}, {least} to {most}")
+        }
+    }
+}
+
 impl<'a> Fault<'a> {
     /// A fault in a place.
     pub fn at(column: usize, reason: Reason<'a>) -> Self {
         Fault { column, reason }
+    }
+
+    /// The same fault, in a column of a line of so many bytes or just behind it.
+    pub fn within(self, length: usize) -> Self
+        ensures { result.column ≤ length + 1 }
+    {
+        let column = self.column.min(length.saturating_add(1));
+        Fault { column, ..self }
     }
 
     /// A fault in no one place.
@@ -60,12 +104,28 @@ impl fmt::Display for Reason<'_> {
         match *self {
             Reason::Said(sentence) => write!(f, "{sentence}"),
             Reason::Expected(wanted, found) => {
-                if found.is_empty() {
-                    return write!(f, "expected {wanted}");
-                }
-                let found = Quoted(found);
-                write!(f, "expected {wanted}, not {found}")
+                write!(f, "expected {wanted}")?;
+                write_found(f, found)
             }
+            Reason::Number(range, found) => {
+                write!(f, "expected {range}")?;
+                write_found(f, found)
+            }
+            Reason::LockName(found) => {
+                write!(
+                    f,
+                    "expected a lock's name (letters, digits, \".\", \"-\" and \"_\", or \"#\" and 1 to {CODE_DIGITS} octal digits)"
+                )?;
+                write_found(f, found)
+            }
+            Reason::NoOption(found) => {
+                let found = Quoted(found);
+                write!(
+                    f,
+                    "{found} is no option of a lock (/S, /Gn, /B, /Ln with n to {MOST_LEVEL}, /Ps:a and /J are)"
+                )
+            }
+            Reason::TooLong => write!(f, "a line has at most {LINE_LENGTH} characters"),
             Reason::Is(found, sentence) => {
                 let found = Quoted(found);
                 write!(f, "{found} {sentence}")
@@ -84,6 +144,15 @@ impl fmt::Display for Reason<'_> {
             }
         }
     }
+}
+
+/// What stands in the place of what is expected, if anything.
+fn write_found<W: fmt::Write>(f: &mut fmt::Formatter<W>, found: &[u8]) -> fmt::Result {
+    if found.is_empty() {
+        return Ok(());
+    }
+    let found = Quoted(found);
+    write!(f, ", not {found}")
 }
 
 /// Bytes of a line between quotes; those that are not printed are shown in octal.

@@ -16,6 +16,11 @@ impl<'a> Item<'a> {
         Fault::at(self.column, Reason::Expected(wanted, self.text))
     }
 
+    /// The fault with this reason here.
+    pub fn fault(self, reason: Reason<'a>) -> Fault<'a> {
+        Fault::at(self.column, reason)
+    }
+
     /// The fault that it is not what the sentence says.
     pub fn is(self, sentence: &'static str) -> Fault<'a> {
         Fault::at(self.column, Reason::Is(self.text, sentence))
@@ -77,6 +82,12 @@ impl<'a> Items<'a> {
         }
     }
 
+    /// The next item, or an empty one behind the line.
+    pub fn next_or_end(&mut self) -> Item<'a> {
+        let (text, column) = (&[], self.end);
+        self.next().unwrap_or(Item { text, column })
+    }
+
     /// Looks that nothing is left.
     pub fn end(&mut self) -> Result<(), Fault<'a>> {
         match self.rest {
@@ -107,7 +118,7 @@ pub fn check_ascii(line: &[u8]) -> Result<(), Fault<'_>> {
 pub fn check_form(line: &[u8]) -> Result<(), Fault<'_>> {
     check_ascii(line)?;
     if line.len() > LINE_LENGTH {
-        return Err(Fault::whole("a line has at most 256 characters"));
+        return Err(Fault::at(0, Reason::TooLong));
     }
     Ok(())
 }

@@ -1,9 +1,12 @@
 //! What is wrong with a line that was refused, in words for a person: worked out from the line alone.
 #![tactic(auto)]
 
+ghost use Rattle.std.specs.Prelude.{◌≤◌, ◌+◌, length};
+
 mod cursor;
 mod fault;
 mod items;
+mod located;
 mod locks;
 mod operands;
 mod params;
@@ -14,6 +17,7 @@ mod statements;
 mod tables;
 
 use fault::Fault;
+pub use located::{Located, locate};
 use std::alloc::{AllocError, Global};
 
 /// Whose line was refused.
@@ -37,10 +41,13 @@ pub fn explain(alloc: Global, refused: Refused, line: &[u8]) -> Result<String, A
     format!(in alloc; "{fault}")
 }
 
-fn fault_of(refused: Refused, line: &[u8]) -> Fault<'_> {
-    match refused {
+fn fault_of(refused: Refused, line: &[u8]) -> Fault<'_>
+    ensures { result.column ≤ length line.now + 1 }
+{
+    let fault = match refused {
         Refused::Queue => queue_lines::fault_of(line),
         Refused::Run => run_lines::fault_of(line),
         Refused::Asm(code) => sources::fault_of(line, code),
-    }
+    };
+    fault.within(line.len())
 }

@@ -1,13 +1,9 @@
 //! Locks as a script spells them.
 
-use crate::fault::Fault;
+use crate::fault::{Fault, Reason};
 use crate::items::{Item, Items, is_number};
+use queue_script::{CODE_DIGITS, MOST_CODE, MOST_HALF, MOST_LEVEL};
 use script_io::LINE_LENGTH;
-
-const NAME: &str =
-    "a lock's name (letters, digits, \".\", \"-\" and \"_\", or \"#\" and 1 to 11 octal digits)";
-
-const OPTION: &str = "is no option of a lock (/S, /Gn, /B, /Ln with n to 511, /Ps:a and /J are)";
 
 fn is_name_character(c: u8) -> bool {
     c.is_ascii_alphanumeric() || c == b'.' || c == b'-' || c == b'_'
@@ -16,7 +12,7 @@ fn is_name_character(c: u8) -> bool {
 fn is_name(text: &[u8]) -> bool {
     match text {
         [] => false,
-        [b'#', digits @ ..] => digits.len() <= 11 && is_number(digits, 8, 0, 0o77_777_777_777),
+        [b'#', digits @ ..] => digits.len() <= CODE_DIGITS && is_number(digits, 8, 0, MOST_CODE),
         _ => text.iter().all(|c| is_name_character(*c)),
     }
 }
@@ -25,7 +21,7 @@ fn is_name(text: &[u8]) -> bool {
 fn is_pool(text: Item<'_>) -> bool {
     match text.cut(b':') {
         (size, Some(amount)) => {
-            is_number(size.text, 10, 0, 262_143) && is_number(amount.text, 10, 0, 262_143)
+            is_number(size.text, 10, 0, MOST_HALF) && is_number(amount.text, 10, 0, MOST_HALF)
         }
         _ => false,
     }
@@ -34,8 +30,8 @@ fn is_pool(text: Item<'_>) -> bool {
 fn is_option(item: Item<'_>) -> bool {
     match item.text {
         [b'S' | b'B' | b'J'] => true,
-        [b'G', group @ ..] => is_number(group, 10, 0, 262_143),
-        [b'L', level @ ..] => is_number(level, 10, 0, 511),
+        [b'G', group @ ..] => is_number(group, 10, 0, MOST_HALF),
+        [b'L', level @ ..] => is_number(level, 10, 0, MOST_LEVEL),
         [b'P', pool @ ..] => is_pool(Item {
             text: pool,
             column: item.column,
@@ -47,9 +43,9 @@ fn is_option(item: Item<'_>) -> bool {
 /// Looks at a lock.
 pub fn check_lock(item: Item<'_>) -> Result<(), Fault<'_>> {
     let mut parts = Items::of(item, b'/');
-    let name = parts.wanted(NAME)?;
+    let name = parts.next_or_end();
     if !is_name(name.text) {
-        return Err(name.expects(NAME));
+        return Err(name.fault(Reason::LockName(name.text)));
     }
     let mut seen = Seen::default();
     for _ in 0..=LINE_LENGTH {
@@ -57,7 +53,7 @@ pub fn check_lock(item: Item<'_>) -> Result<(), Fault<'_>> {
             return Ok(());
         };
         if !is_option(option) {
-            return Err(option.is(OPTION));
+            return Err(option.fault(Reason::NoOption(option.text)));
         }
         if !seen.is_new(option.text) {
             return Err(option.is("stands here twice"));

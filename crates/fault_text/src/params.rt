@@ -1,10 +1,12 @@
 //! What stands behind the names of commands.
 
-use crate::fault::Fault;
+use crate::fault::{Fault, Range, Reason};
 use crate::items::{Items, is_number};
 use crate::locks::check_lock;
+use op_script::{MOST_ADDRESS, MOST_EVENTS, NAME_LENGTH};
+use queue_script::MOST_HALF;
 use script_io::LINE_LENGTH;
-use word36::JOBS;
+use word36::{DATA_WORDS, JOBS};
 
 /// What a command takes in one place.
 #[derive(Clone, Copy, Debug, PartialEq, Eq)]
@@ -38,50 +40,68 @@ pub enum Param {
 /// A command: its name and what it takes.
 pub type Shape = (&'static str, [Param; 3]);
 
-/// Where a number has to be: its base, its least and its greatest value.
-fn range_of(param: Param) -> (u64, u64, u64) {
-    match param {
-        Param::QueueJob => (10, 1, u64::from(JOBS)),
-        Param::Job | Param::Line => (10, 0, 255),
-        Param::Count => (10, 0, 1_000_000),
-        Param::Place => (8, 0, 0o777_777),
-        Param::DataPlace => (10, 0, 1023),
-        _ => (10, 0, 262_143),
-    }
+/// The numbers of a place that takes one.
+fn range_of(param: Param) -> Option<Range> {
+    let (name, radix, least, most) = match param {
+        Param::QueueJob => ("a job", 10, 1, u64::from(JOBS)),
+        Param::Function => ("a function", 10, 0, MOST_HALF),
+        Param::Id => ("an id", 10, 0, MOST_HALF),
+        Param::Job => ("a job", 10, 0, u64::from(u8::MAX)),
+        Param::Line => ("a terminal line", 10, 0, u64::from(u8::MAX)),
+        Param::Count => ("a number", 10, 0, MOST_EVENTS),
+        Param::Place => ("an address", 8, 0, MOST_ADDRESS),
+        Param::DataPlace => ("a data word", 10, 0, DATA_WORDS as u64 - 1),
+        Param::Nothing | Param::Locks | Param::ImageName | Param::Shown => return None,
+    };
+    Some(Range {
+        name,
+        radix,
+        least,
+        most,
+    })
 }
 
-/// What is expected in a place.
-fn wanted_of(param: Param) -> &'static str {
-    match param {
-        Param::Nothing => "nothing",
-        Param::QueueJob => "a job, 1 to 63",
-        Param::Function => "a function, 0 to 262143",
-        Param::Id => "an id, 0 to 262143",
-        Param::Locks => "a lock",
-        Param::Job => "a job, 0 to 255",
-        Param::Line => "a terminal line, 0 to 255",
-        Param::Count => "a number, 0 to 1000000",
-        Param::Place => "an address, 0 to 777777 in octal",
-        Param::DataPlace => "a data word, 0 to 1023",
-        Param::ImageName => "the name of an image, 1 to 6 letters and digits",
-        Param::Shown => "JOBS, LOCKS or WAITS",
-    }
-}
+const IMAGE_NAME: &str = "the name of an image, 1 to 6 letters and digits";
+
+const SHOWN: &str = "JOBS, LOCKS or WAITS";
 
 fn is_image_name(text: &[u8]) -> bool {
-    !text.is_empty() && text.len() <= 6 && text.iter().all(|c| c.is_ascii_alphanumeric())
+    !text.is_empty() && text.len() <= NAME_LENGTH && text.iter().all(|c| c.is_ascii_alphanumeric())
 }
 
-fn is_right(param: Param, text: &[u8]) -> bool {
-    match param {
-        Param::ImageName => is_image_name(text),
-        Param::Shown => [b"JOBS".as_slice(), b"LOCKS".as_slice(), b"WAITS".as_slice()]
-            .iter()
-            .any(|name| *name == text),
-        _ => {
-            let (base, least, most) = range_of(param);
-            is_number(text, base, least, most)
-        }
+fn is_shown(text: &[u8]) -> bool {
+    [b"JOBS".as_slice(), b"LOCKS".as_slice(), b"WAITS".as_slice()]
+        .iter()
+        .any(|name| *name == text)
+}
+
+/// Looks at a number.
+fn check_number<'a>(range: Range, items: &mut Items<'a>) -> Result<(), Fault<'a>> {
+    let item = items.next_or_end();
+    if is_number(item.text, range.radix, range.least, range.most) {
+        Ok(())
+    } else {
+        Err(item.fault(Reason::Number(range, item.text)))
+    }
+}
+
+/// Looks at the name of an image.
+fn check_image_name<'a>(items: &mut Items<'a>) -> Result<(), Fault<'a>> {
+    let item = items.wanted(IMAGE_NAME)?;
+    if is_image_name(item.text) {
+        Ok(())
+    } else {
+        Err(item.expects(IMAGE_NAME))
+    }
+}
+
+/// Looks at what SHOW is to show.
+fn check_shown<'a>(items: &mut Items<'a>) -> Result<(), Fault<'a>> {
+    let item = items.wanted(SHOWN)?;
+    if is_shown(item.text) {
+        Ok(())
+    } else {
+        Err(item.expects(SHOWN))
     }
 }
 
@@ -98,18 +118,14 @@ fn check_locks<'a>(items: &mut Items<'a>) -> Result<(), Fault<'a>> {
 
 /// Looks at what stands in one place.
 pub fn check_param<'a>(param: Param, items: &mut Items<'a>) -> Result<(), Fault<'a>> {
+    if let Some(range) = range_of(param) {
+        return check_number(range, items);
+    }
     match param {
-        Param::Nothing => Ok(()),
         Param::Locks => check_locks(items),
-        _ => {
-            let wanted = wanted_of(param);
-            let item = items.wanted(wanted)?;
-            if is_right(param, item.text) {
-                Ok(())
-            } else {
-                Err(item.expects(wanted))
-            }
-        }
+        Param::ImageName => check_image_name(items),
+        Param::Shown => check_shown(items),
+        _ => Ok(()),
     }
 }
 

@@ -2,7 +2,7 @@
 
 use fault_text::{Refused, explain};
 
-const QUEUE: [(&str, &str); 24] = [
+const QUEUE: [(&str, &str); 29] = [
     ("show", "no command \"show\" (commands are upper case)"),
     (
         "FLY",
@@ -77,10 +77,30 @@ const QUEUE: [(&str, &str); 24] = [
         "DEQ 1 0 X/",
         "column 11: \"\" is no option of a lock (/S, /Gn, /B, /Ln with n to 511, /Ps:a and /J are)",
     ),
+    (
+        "ENQ 0 0 1 X",
+        "column 5: expected a job, 1 to 63, not \"0\"",
+    ),
+    (
+        "ENQ 63 262143 262143 X/L511/P262143:262143/G262143/Q",
+        "column 52: \"Q\" is no option of a lock (/S, /Gn, /B, /Ln with n to 511, /Ps:a and /J are)",
+    ),
+    (
+        "ENQ 1 0 1 #77777777777/Q",
+        "column 24: \"Q\" is no option of a lock (/S, /Gn, /B, /Ln with n to 511, /Ps:a and /J are)",
+    ),
+    (
+        "ENQ 1 0 1 #077777777777",
+        "column 11: expected a lock's name (letters, digits, \".\", \"-\" and \"_\", or \"#\" and 1 to 11 octal digits), not \"#077777777777\"",
+    ),
+    (
+        "ENQ 1 0 1 X/P1:262144",
+        "column 13: \"P1:262144\" is no option of a lock (/S, /Gn, /B, /Ln with n to 511, /Ps:a and /J are)",
+    ),
     ("SHÖW", "column 3: a byte that is not ASCII"),
 ];
 
-const RUN: [(&str, &str); 15] = [
+const RUN: [(&str, &str); 18] = [
     (
         "login 0 A",
         "no command \"login\" (commands are upper case)",
@@ -117,6 +137,18 @@ const RUN: [(&str, &str); 15] = [
     (
         "DATA 1024",
         "column 6: expected a data word, 0 to 1023, not \"1024\"",
+    ),
+    (
+        "EXAMINE 255 1000000",
+        "column 13: expected an address, 0 to 777777 in octal, not \"1000000\"",
+    ),
+    (
+        "EXAMINE 255 777777 0",
+        "column 20: expected the end of the line, not \"0\"",
+    ),
+    (
+        "RUN 1000000 0",
+        "column 13: expected the end of the line, not \"0\"",
     ),
     ("TYPE 0", "column 7: expected a text behind one space"),
     ("TYPE 0 ", "column 8: expected a text behind one space"),

@@ -1,7 +1,7 @@
 //! What the program writes, and its status, also where a port fails.
 
 use command_line::program;
-use queue_script::{TestIn, TestOut};
+use script_io::{TestIn, TestOut};
 
 /// More calls than a test makes.
 const MANY: u64 = 1000;

@@ -1,7 +1,7 @@
 //! The line on standard error where a line is refused.
 
 use command_line::{KeptIn, KeptOut, language_of, program_told};
-use queue_script::{TestIn, TestOut};
+use script_io::{TestIn, TestOut};
 
 /// A command, its input, and what is told.
 const ROWS: [(&str, &str, &str); 7] = [

@@ -1,7 +1,7 @@
 //! Words of the command line that are refused, or ask for help.
 
 use command_line::{program, unread_words};
-use queue_script::{TestIn, TestOut};
+use script_io::{TestIn, TestOut};
 use std::io::ErrorKind;
 
 /// Three words behind the program's name, empty where they are fewer, and what the text has to have.

@@ -2,8 +2,8 @@
 use Rattle.std.specs.Prelude.{◌==◌, ◌-◌, ◌^◌, ℕ, Bool, List, [], ◌∷◌, drop, nat_eq, Option, Some, None, if◌then◌else◌, codes, bytes_eq, option_and_then, option_map}
 use Rattle.std.specs.List.{before_first, after_first, starts_with}
 use Rattle.word36.specs.declared.sizes.TheConstants.{DATA_WORDS}
-use Rattle.queue_script.specs.Numbers.{number, parts}
-use Rattle.queue_script.specs.Commands.{is_silent}
+use Rattle.script_io.specs.Numbers.{number, parts}
+use Rattle.script_io.specs.Lines.{is_silent}
 use Rattle.op_script.specs.Names.{name_of}
 use Rattle.op_script.specs.Texts.{characters_of}
 use Rattle.op_script.specs.declared.commands.Command.{Command}

@@ -10,14 +10,14 @@ use Rattle.machine.specs.Machine.{S, Made, happens, after as after_all, logged_i
 use Rattle.machine.specs.Views.{job_view, word_in}
 use Rattle.machine.specs.declared.event.Event.TheVariants as event
 use Rattle.machine.specs.declared.event.RefusedEvent.TheVariants.{NoSuchJob}
-use Rattle.queue_script.specs.Commands.{is_allowed}
-use Rattle.queue_script.specs.Listings.{fault_text}
+use Rattle.script_io.specs.Lines.{is_allowed}
+use Rattle.asm_script.specs.Listings.{fault_text}
 use Rattle.queue_script.specs.QueueScripts.{show_text}
 use Rattle.lock_queue.specs.Waits.{jobs}
 use Rattle.queue_script.specs.WaitPairs.{waits_text}
-use Rattle.queue_script.specs.Endings.{script_fault}
-use Rattle.queue_script.specs.declared.endings.Ending.{Ending}
-use Rattle.queue_script.specs.declared.endings.Ending.TheVariants as ending
+use Rattle.script_io.specs.Endings.{script_fault}
+use Rattle.script_io.specs.declared.endings.Ending.{Ending}
+use Rattle.script_io.specs.declared.endings.Ending.TheVariants as ending
 use Rattle.script_io.specs.Transcripts.{Transcript, after, closed, unless_ended}
 use Rattle.op_script.specs.Commands.{command_of}
 use Rattle.op_script.specs.Events.{after_steps, steps_run, Typing, typed_by, Taking, taken_by}

@@ -2,7 +2,7 @@
 -- profile).
 use Rattle.std.specs.Prelude.{ℕ, zero, suc, ◌+◌, ◌-◌, ◌*◌, ◌==◌, ◌&&◌, ◌||◌, Bool, nat_le, nat_lt, List, [], ◌∷◌, Option, Some, None, if◌then◌else◌, option_map, option_and_then}
 use Rattle.std.specs.List.{flat_map}
-use Rattle.queue_script.specs.Printing.{escaped}
+use Rattle.script_io.specs.Printing.{escaped}
 use Rattle.op_script.specs.declared.texts.Spelled.{Spelled}
 
 -- ---- reading

@@ -6,7 +6,7 @@ ghost use Rattle.op_script.specs.Commands.{byte_of, count_of, address_of, data_p
 
 use crate::names::ImageName;
 use crate::texts::TypedText;
-use queue_script::{LINE_LENGTH, Parts, is_silent, number};
+use script_io::{LINE_LENGTH, Parts, is_silent, number};
 use word36::DATA_WORDS;
 
 /// The name of a command, but for TYPE, whose text is no list of items.
@@ -70,10 +70,10 @@ pub enum Command {
 }
 
 /// The most steps or ticks of one command.
-const MOST_EVENTS: u64 = 1_000_000;
+pub const MOST_EVENTS: u64 = 1_000_000;
 
 /// The largest address.
-const MOST_ADDRESS: u64 = 0o777_777;
+pub const MOST_ADDRESS: u64 = 0o777_777;
 
 /// The number of a line or a job, 0 to 255.
 fn read_byte(text: &[u8]) -> Option<u8>

@@ -1,5 +1,4 @@
-//! Scripts on the machine, and their transcripts: the language of `lockmon run`. The languages of
-//! `lockmon queue` and `lockmon asm`, and the ports, are `queue_script`'s and are exported again.
+//! Scripts on the machine, and their transcripts: the language of `lockmon run`.
 #![tactic(auto)]
 
 mod commands;
@@ -13,10 +12,8 @@ mod run_scripts;
 mod sources;
 mod texts;
 
+pub use commands::{MOST_ADDRESS, MOST_EVENTS};
 pub use desk::Machine;
 pub use monitor::Config;
-pub use queue_script::{
-    ByteIn, ByteOut, Ending, Failed, HostIn, HostOut, ServeError, TestIn, TestOut, number,
-    serve_asm, serve_queue, write_all,
-};
+pub use names::NAME_LENGTH;
 pub use run_scripts::{RunService, serve};

@@ -9,7 +9,7 @@ use std::marker::Model;
 use std::str;
 
 /// The most characters of a name.
-const NAME_LENGTH: usize = 6;
+pub const NAME_LENGTH: usize = 6;
 
 /// The name of an image: 1 to 6 letters of either case and digits. Names that differ in case are
 /// different names.

@@ -2,7 +2,7 @@
 ghost use Rattle.std.specs.Prelude.{◌≡◌, ◌++◌, ◌^◌, ◌≤◌, None, false, IfOk, IfErr, OnOk};
 ghost use Rattle.mac_asm.specs.Outcome.{outcome_of};
 ghost use Rattle.script_io.specs.Serves.{Serves, Blames};
-ghost use Rattle.queue_script.specs.Endings.{served_as};
+ghost use Rattle.script_io.specs.Endings.{served_as};
 ghost use Rattle.op_script.specs.RunScripts.{effect_of, defined, assembled_text, assembled_ending, source_effect, line_effect, fresh, transcript_of, transcript};
 
 use crate::commands::{Command, read_command};
@@ -12,10 +12,13 @@ use crate::images::Images;
 use crate::looking::{push_data_word, push_examined, push_jobs, push_locks, push_waiting};
 use crate::printing::push_image;
 use crate::sources::Source;
+use asm_script::push_asm_fault;
 use mac_asm::{AsmError, assemble};
 use monitor::{Config, Event};
-use queue_script::{Ending, ServeError, is_allowed, push_asm_fault, push_fault, serve_script};
-use script_io::{ByteIn, ByteOut, LineService, LineSession};
+use script_io::{
+    ByteIn, ByteOut, Ending, LineService, LineSession, ServeError, is_allowed, push_fault,
+    serve_script,
+};
 use std::alloc::{AllocError, Global};
 use word36::TAKEN_AT_ONCE;
 

@@ -4,7 +4,7 @@ ghost use Rattle.std.specs.List.{flat_map};
 ghost use Rattle.op_script.specs.Texts.{is_octal, escape, octal_escape, first_spelled, characters_of, printed_character};
 
 use arrayvec::ArrayVec;
-use queue_script::{LINE_LENGTH, push_escaped};
+use script_io::{LINE_LENGTH, push_escaped};
 use std::alloc::AllocError;
 use std::marker::Model;
 use tty_lines::Char7;
@@ -127,11 +127,15 @@ fn first_spelled(first: u8, more: &[u8]) -> Option<Spelled>
     })
 }
 
-/// Adds a character as a script spells it.
+/// Adds a character as a script spells it. Most stand for themselves, and are told by few comparisons.
 fn push_character(out: &mut Vec<u8>, character: u8) -> Result<(), AllocError>
     requires { character < 128 }
     ensures { OnOk result (out.new.items ≡ out.old.items ++ printed_character character) }
 {
+    if character > 0o37 && character != b'\\' && character != 0o177 {
+        out.push(character)?;
+        return Ok(());
+    }
     match character {
         b'\n' => out.extend_from_slice(b"\\n")?,
         b'\r' => out.extend_from_slice(b"\\r")?,

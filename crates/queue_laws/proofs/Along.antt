@@ -6,15 +6,15 @@ use Rattle.lock_queue.specs.declared.call.LockCall.{LockCall}
 use Rattle.lock_queue.specs.declared.key.Key.{Key}
 use Rattle.lock_queue.specs.declared.request.Request.{Request}
 use Rattle.lock_laws.specs.Circles.{WaitsByLatest}
-use Rattle.lock_laws.specs.Owning.{owns}
+use Rattle.lock_laws.specs.Owning.{owns, is_dequeue}
 use Rattle.lock_laws.specs.Safe.{Safe}
 use Rattle.lock_laws.proofs.AlongCalls.{always_safe}
 use Rattle.lock_laws.proofs.EveryChange.{safety_is_kept, owners_are_kept, latest_is_kept, safe_jobs_make_no_circle}
 use Rattle.script_io.specs.Transcripts.{Transcript, after, unless_ended}
 use Rattle.queue_script.specs.Commands.{Asked, nothing, call, status, free, show, waits, quit, command_of}
 use Rattle.queue_script.specs.QueueScripts.{Effect, effect_of, call_effect, transcript_of}
-use Rattle.queue_script.specs.declared.endings.Ending.{Ending}
-use Rattle.queue_laws.specs.Scripts.{effect_at, requests_after, ends_within, job_of_line, FollowsTranscript, ScriptsAreSafe, ScriptsMakeNoPlainCircle, LinesKeepOwners}
+use Rattle.script_io.specs.declared.endings.Ending.{Ending}
+use Rattle.queue_laws.specs.Scripts.{effect_at, requests_after, ends_within, GivesUp, FollowsTranscript, ScriptsAreSafe, ScriptsMakeNoPlainCircle, LinesKeepOwners}
 
 -- ---- one line
 
@@ -90,28 +90,28 @@ scripts_make_no_plain_circle size lines =
 -- ---- owners
 
 busy-keeps : (size : ℕ) (requests : List Request) (caller job : ℕ) (c : LockCall) (key : Key) (busy : Bool) → owns requests job key ≡ true
-    → owns (cond busy requests (outcome_of size requests caller c).requests) job key ≡ false → caller ≡ job
+    → owns (cond busy requests (outcome_of size requests caller c).requests) job key ≡ false → (is_dequeue c ≡ true) × (caller ≡ job)
 busy-keeps size requests caller job c key true before gone = let e : true ≡ false = sym before ∙ gone in absurd (cc)
-busy-keeps size requests caller job c key false before gone = ((owners_are_kept size).by_calls requests caller c job key before gone).1
+busy-keeps size requests caller job c key false before gone = (owners_are_kept size).by_calls requests caller c job key before gone
 
-stays-owned : (requests : List Request) (job : ℕ) (key : Key) (o : Option ℕ) → owns requests job key ≡ true → owns requests job key ≡ false → o ≡ Some job
-stays-owned requests job key o before gone = let e : true ≡ false = sym before ∙ gone in absurd (cc)
+stays-owned : (requests : List Request) (job : ℕ) (key : Key) → owns requests job key ≡ true → owns requests job key ≡ false → ⊥
+stays-owned requests job key before gone = let e : true ≡ false = sym before ∙ gone in absurd (cc)
 
 asked-keeps : (size n : ℕ) (requests : List Request) (asked : Option Asked) (job : ℕ) (key : Key) → owns requests job key ≡ true
-    → owns (effect_of size n requests asked).requests job key ≡ false → job_of_line asked ≡ Some job
-asked-keeps size n requests None job key before gone = stays-owned requests job key None before gone
-asked-keeps size n requests (Some nothing) job key before gone = stays-owned requests job key None before gone
+    → owns (effect_of size n requests asked).requests job key ≡ false → GivesUp job asked
+asked-keeps size n requests None job key before gone = stays-owned requests job key before gone
+asked-keeps size n requests (Some nothing) job key before gone = stays-owned requests job key before gone
 asked-keeps size n requests (Some (call caller (Ok c))) job key before gone =
-    ap Some (busy-keeps size requests caller job c key (is_waiting_job requests caller) before
-    (subst (λ l. owns l job key ≡ false) (same-if (is_waiting_job requests caller) requests _ (call_effect size requests caller (Ok c)) refl) gone))
+    busy-keeps size requests caller job c key (is_waiting_job requests caller) before
+    (subst (λ l. owns l job key ≡ false) (same-if (is_waiting_job requests caller) requests _ (call_effect size requests caller (Ok c)) refl) gone)
 asked-keeps size n requests (Some (call caller (Err r))) job key before gone =
-    stays-owned requests job key (Some caller) before
+    stays-owned requests job key before
     (subst (λ l. owns l job key ≡ false) (same-if (is_waiting_job requests caller) requests _ (call_effect size requests caller (Err r)) refl ∙ both-same (is_waiting_job requests caller) requests) gone)
-asked-keeps size n requests (Some (status asker wants)) job key before gone = stays-owned requests job key None before gone
-asked-keeps size n requests (Some (free other)) job key before gone = ap Some ((owners_are_kept size).by_releases requests other job key before gone)
-asked-keeps size n requests (Some show) job key before gone = stays-owned requests job key None before gone
-asked-keeps size n requests (Some waits) job key before gone = stays-owned requests job key None before gone
-asked-keeps size n requests (Some quit) job key before gone = stays-owned requests job key None before gone
+asked-keeps size n requests (Some (status asker wants)) job key before gone = stays-owned requests job key before gone
+asked-keeps size n requests (Some (free other)) job key before gone = (owners_are_kept size).by_releases requests other job key before gone
+asked-keeps size n requests (Some show) job key before gone = stays-owned requests job key before gone
+asked-keeps size n requests (Some waits) job key before gone = stays-owned requests job key before gone
+asked-keeps size n requests (Some quit) job key before gone = stays-owned requests job key before gone
 
 pub lines_keep_owners : LinesKeepOwners
 lines_keep_owners size n requests line job key before gone = asked-keeps size n requests (command_of line) job key before gone

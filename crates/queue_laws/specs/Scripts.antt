@@ -1,9 +1,9 @@
 -- What holds of the requests after every line of every script on the lock queue (this project's profile).
-use Rattle.std.specs.Prelude.{◌≡◌, ◌+◌, ◌++◌, ℕ, Bool, true, false, List, [], ◌∷◌, length, Option, Some, None, if◌then◌else◌, is_some}
+use Rattle.std.specs.Prelude.{◌≡◌, ◌+◌, ◌++◌, ℕ, Bool, true, false, List, [], ◌∷◌, length, Option, Some, None, Ok, Err, if◌then◌else◌, is_some}
 use Rattle.lock_queue.specs.declared.key.Key.{Key}
 use Rattle.lock_queue.specs.declared.request.Request.{Request}
 use Rattle.lock_laws.specs.Circles.{NoPlainCircle}
-use Rattle.lock_laws.specs.Owning.{owns}
+use Rattle.lock_laws.specs.Owning.{owns, is_dequeue}
 use Rattle.lock_laws.specs.Safe.{Safe}
 use Rattle.script_io.specs.Transcripts.{after}
 use Rattle.queue_script.specs.Commands.{Asked, nothing, call, status, free, show, waits, quit, command_of}
@@ -43,19 +43,20 @@ ScriptsAreSafe = (size : ℕ) (lines : List (List ℕ)) → Safe size (requests_
 abbrev pub ScriptsMakeNoPlainCircle : Type 0
 ScriptsMakeNoPlainCircle = (size : ℕ) (lines : List (List ℕ)) → NoPlainCircle (requests_after size [] 0 lines)
 
--- the job whose line it is: of its call, or of what is freed
-abbrev pub job_of_line : Option Asked → Option ℕ
-job_of_line None = None
-job_of_line (Some nothing) = None
-job_of_line (Some (call job asked)) = Some job
-job_of_line (Some (status job wants)) = None
-job_of_line (Some (free job)) = Some job
-job_of_line (Some show) = None
-job_of_line (Some waits) = None
-job_of_line (Some quit) = None
+-- whether a line makes a job give up what it owns: FREE of that job, or a DEQ of that job that is in the grammar
+abbrev pub GivesUp : ℕ → Option Asked → Type 0
+GivesUp job None = ⊥
+GivesUp job (Some nothing) = ⊥
+GivesUp job (Some (call caller (Ok c))) = (is_dequeue c ≡ true) × (caller ≡ job)
+GivesUp job (Some (call caller (Err refusal))) = ⊥
+GivesUp job (Some (status asker wants)) = ⊥
+GivesUp job (Some (free other)) = other ≡ job
+GivesUp job (Some show) = ⊥
+GivesUp job (Some waits) = ⊥
+GivesUp job (Some quit) = ⊥
 
--- where a job owns a key before a line and not after it, the line is that job's
+-- where a job owns a key before a line and not after it, the line is that job's FREE or DEQ
 abbrev pub LinesKeepOwners : Type 0
 LinesKeepOwners =
     (size n : ℕ) (requests : List Request) (line : List ℕ) (job : ℕ) (key : Key) → owns requests job key ≡ true
-    → owns (effect_at size n requests line).requests job key ≡ false → job_of_line (command_of line) ≡ Some job
+    → owns (effect_at size n requests line).requests job key ≡ false → GivesUp job (command_of line)

@@ -12,7 +12,7 @@ pub fn scripts_are_safe()
     ensures { ScriptsAreSafe }
 {}
 
-/// Nobody but the line's own job loses by a line what it owns.
+/// A job loses what it owns by no line but a FREE of that job or a DEQ of that job.
 pub fn lines_keep_owners()
     ensures { LinesKeepOwners }
 {}

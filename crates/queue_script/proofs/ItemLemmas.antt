@@ -12,7 +12,7 @@ use Rattle.queue_script.specs.Options.{no_options, options_from, option_of, with
 use Rattle.queue_script.specs.declared.options.LockOption.{LockOption}
 use Rattle.queue_script.specs.declared.options.Options.{Options}
 use Rattle.queue_script.specs.Locks.{is_name_character, IsFirstLock, user_code, name_of_characters, name_of, lock_of_parts}
-use Rattle.queue_script.specs.Numbers.{parts}
+use Rattle.script_io.specs.Numbers.{parts}
 
 -- the first item of some has this name in characters, these options, and these items behind it
 abbrev SplitsLock : List ℕ → List ℕ → List (List ℕ) → List (List ℕ) → Type 0

@@ -1,5 +1,3 @@
-pub mod NumberLemmas
-pub mod FrontLemmas
 pub mod WordLemmas
 pub mod ItemLemmas
 pub mod LockLemmas
@@ -7,5 +5,4 @@ pub mod WantLemmas
 pub mod ShownLemmas
 pub mod Asking
 pub mod PairLemmas
-pub mod AsciiLemmas
 pub mod LongLines

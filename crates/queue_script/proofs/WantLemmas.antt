@@ -1,6 +1,6 @@
 -- Lemmas on the wants of a call.
 use Rattle.std.proofs.Common.{◌≡◌, ◌≤◌, ◌+◌, ◌++◌, ◌&&◌, ℕ, Bool, true, false, cond, List, [], ◌∷◌, length, Option, Some, None, Result, Ok, Err, min, nat_le, arith, refl, sym, ap, ◌∙◌, append_assoc, length-append}
-use Rattle.std.specs.Prelude.{option_map}
+use Rattle.std.specs.Prelude.{option_map, option_and_then}
 use Rattle.std.proofs.lemmas.Bool.Decides.{nat_tests}
 use Rattle.arrayvec.specs.ArrayVec.{ArrayVec}
 use Rattle.lock_queue.specs.declared.refusal.Refusal.{Refusal}
@@ -11,8 +11,10 @@ use Rattle.lock_queue.specs.declared.terms.BlockUse.{BlockUse}
 use Rattle.queue_script.specs.Borrowed.{filled}
 use Rattle.queue_script.specs.Options.{no_options}
 use Rattle.queue_script.specs.declared.locks.LockName.TheVariants.{Spelled}
+use Rattle.queue_script.specs.declared.locks.Taken.{Taken}
+use Rattle.queue_script.specs.declared.locks.Taken.TheVariants as taken
 use Rattle.lock_queue.specs.declared.terms.BlockUse.TheVariants.{Blocking, Full, Named}
-use Rattle.queue_script.specs.Locks.{lock_of, locks_of, want_of, plain_want, with_want, refused_by, refused_with, onto_wants, wants_of, stored, call_wants}
+use Rattle.queue_script.specs.Locks.{lock_of, locks_of, want_of, plain_want, with_want, taken_as, Takes, TakesFirst, IsFirstLock, refused_with, onto_wants, wants_of, stored, call_wants}
 
 -- the wants so far, or the first refusal
 abbrev pub told_by : Option Refusal → List Want → Result (List Want) Refusal
@@ -53,13 +55,65 @@ want_of_plain job Blocking text = refl
 want_of_plain job Full text = refl
 want_of_plain job Named text = refl
 
-pub pushed : (ws ws' : List Want) (w : Result Want Refusal) (u : Unit {0}) → Ok u ≡ refused_by w → ws' ≡ with_want ws w → (want : Want) × (w ≡ Ok want) × (ws' ≡ ws ++ want ∷ [])
-pushed ws ws' (Ok want) u h items = (want, refl, items)
-pushed ws ws' (Err why) u h items = absurd (cc)
+-- ---- what has come of an item
 
-pub refused : (ws ws' : List Want) (w : Result Want Refusal) (why : Refusal) → Err why ≡ refused_by w → ws' ≡ with_want ws w → (w ≡ Err why) × (ws' ≡ ws)
+pushed : (ws ws' : List Want) (w : Result Want Refusal) → taken.Wanted ≡ taken_as w → ws' ≡ with_want ws w → (want : Want) × (w ≡ Ok want) × (ws' ≡ ws ++ want ∷ [])
+pushed ws ws' (Ok want) h items = (want, refl, items)
+pushed ws ws' (Err why) h items = absurd (cc)
+
+refused : (ws ws' : List Want) (w : Result Want Refusal) (why : Refusal) → taken.Refused why ≡ taken_as w → ws' ≡ with_want ws w → (w ≡ Err why) × (ws' ≡ ws)
 refused ws ws' (Ok want) why h items = absurd (cc)
 refused ws ws' (Err other) why h items = (cc, items)
+
+no_lock-not : (w : Result Want Refusal) → taken.NoLock ≡ taken_as w → ⊥
+no_lock-not (Ok want) h = cc
+no_lock-not (Err why) h = cc
+
+pub record IsWanted (job : ℕ) (use_ : BlockUse) (items others : List (List ℕ)) (wants next : List Want) : Type 0 where
+  pub lock : Lock
+  pub first : IsFirstLock items (Some lock) others
+  pub want : Want
+  pub is : want_of job use_ lock ≡ Ok want
+  pub behind : next ≡ wants ++ want ∷ []
+
+pub wanted : (job : ℕ) (use_ : BlockUse) (items others : List (List ℕ)) (wants next : List Want) → TakesFirst job use_ items others wants next taken.Wanted → IsWanted job use_ items others wants next
+wanted job use_ items others wants next t = by t.0 t.1 t.2
+  where
+    by : (lock : Option Lock) → IsFirstLock items lock others → Takes job use_ lock wants next taken.Wanted → IsWanted job use_ items others wants next
+    by None first h = absurd (cc)
+    by (Some lock) first h =
+        let p = pushed wants next (want_of job use_ lock) h.0 h.1 in
+        record { lock = lock; first = first; want = p.0; is = p.1; behind = p.2 }
+
+pub record IsRefused (job : ℕ) (use_ : BlockUse) (items others : List (List ℕ)) (wants next : List Want) (why : Refusal) : Type 0 where
+  pub lock : Lock
+  pub first : IsFirstLock items (Some lock) others
+  pub is : want_of job use_ lock ≡ Err why
+  pub same : next ≡ wants
+
+pub wanted-not : (job : ℕ) (use_ : BlockUse) (items others : List (List ℕ)) (wants next : List Want) (why : Refusal) → TakesFirst job use_ items others wants next (taken.Refused why)
+    → IsRefused job use_ items others wants next why
+wanted-not job use_ items others wants next why t = by t.0 t.1 t.2
+  where
+    by : (lock : Option Lock) → IsFirstLock items lock others → Takes job use_ lock wants next (taken.Refused why) → IsRefused job use_ items others wants next why
+    by None first h = absurd (cc)
+    by (Some lock) first h =
+        let p = refused wants next (want_of job use_ lock) why h.0 h.1 in
+        record { lock = lock; first = first; is = p.0; same = p.1 }
+
+pub no_lock : (job : ℕ) (use_ : BlockUse) (items others : List (List ℕ)) (wants next : List Want) → TakesFirst job use_ items others wants next taken.NoLock → IsFirstLock items None others
+no_lock job use_ items others wants next t = by t.0 t.1 t.2
+  where
+    by : (lock : Option Lock) → IsFirstLock items lock others → Takes job use_ lock wants next taken.NoLock → IsFirstLock items None others
+    by None first h = first
+    by (Some lock) first h = absurd (no_lock-not (want_of job use_ lock) h.0)
+
+pub takes-plain : (job : ℕ) (use_ : BlockUse) (items others : List (List ℕ)) (wants next : List Want) (result : Taken) (text : List ℕ)
+    → IsFirstLock items (Some (record { name = Spelled text; options = no_options })) others → result ≡ taken_as (plain_want text) → next ≡ with_want wants (plain_want text)
+    → TakesFirst job use_ items others wants next result
+takes-plain job use_ items others wants next result text first answer behind =
+    let same = want_of_plain job use_ text in
+    (Some (record { name = Spelled text; options = no_options }), first, (answer ∙ ap taken_as (sym same), behind ∙ ap (with_want wants) (sym same)))
 
 -- reading one more item
 map-push : (seen : List Lock) (lock : Lock) (o : Option (List Lock)) → option_map (λ ls. seen ++ ls) (option_map (λ ls. lock ∷ ls) o) ≡ option_map (λ ls. (seen ++ lock ∷ []) ++ ls) o
@@ -137,24 +191,33 @@ gathers-refused job use_ all old rest item lock count wants after why r g few ta
         filled_refused (nat_le (count + 1 + length ls) 16) why after
         ∙ ap Some (sym (few_refused (length (seen ++ ls)) (count + 1 + length ls) _ _ _ (omega arith) (omega (arith, few)) (ap stored (wants_of-refused job use_ seen ls why refused-so))))
 
-pub gathers-full : (job : ℕ) (use_ : BlockUse) (all old rest : List (List ℕ)) (item : List ℕ) (lock : Lock) (count : ℕ) (wants : List Want) (after : ArrayVec Want) (r : Option (Result (Unit {0}) Refusal))
-    → Gathers job use_ all old count wants None → 16 ≤ count → old ≡ item ∷ rest → lock_of item ≡ Some lock
-    → r ≡ option_map (refused_with 17 BadCount) (locks_of rest) → filled r after ≡ option_map (call_wants job use_) (locks_of all)
-gathers-full job use_ all old rest item lock count wants after r g many taken is result =
-    ap (λ x. filled x after) result ∙ finish (locks_of rest)
-    ∙ sym (ap (option_map (call_wants job use_)) (read-push all old rest item g.seen lock g.read taken is))
+pub gathers-full : (job : ℕ) (use_ : BlockUse) (all rest : List (List ℕ)) (count : ℕ) (wants : List Want) (after : ArrayVec Want) (r : Option (Result (Unit {0}) Refusal))
+    → Gathers job use_ all rest count wants None → 16 ≤ count → (rest ≡ [] → ⊥)
+    → r ≡ option_map (refused_with 16 BadCount) (locks_of rest) → filled r after ≡ option_map (call_wants job use_) (locks_of all)
+gathers-full job use_ all rest count wants after r g many some result =
+    ap (λ x. filled x after) result ∙ finish rest some ∙ sym (ap (option_map (call_wants job use_)) g.read)
   where
-    seen : List Lock
-    seen = g.seen ++ lock ∷ []
-
     same : (b : Bool) → filled (Some (cond b (Err BadCount) (Err BadCount))) after ≡ Some (Err BadCount)
     same true = refl
     same false = refl
 
-    finish : (o : Option (List Lock)) → filled (option_map (refused_with 17 BadCount) o) after ≡ option_map (call_wants job use_) (option_map (λ ls. seen ++ ls) o)
-    finish None = refl
-    finish (Some ls) =
+    first : (lock : Option Lock) (more : Option (List Lock)) → filled (option_map (refused_with 16 BadCount) (option_and_then (λ l. option_map (λ ls. l ∷ ls) more) lock)) after
+        ≡ option_map (call_wants job use_) (option_map (λ ls. g.seen ++ ls) (option_and_then (λ l. option_map (λ ls. l ∷ ls) more) lock))
+    first None more = refl
+    first (Some l) None = refl
+    first (Some l) (Some ls) =
         let c = g.counted in
-        let n = length-append g.seen (lock ∷ []) in
-        let m = length-append seen ls in
-        same (nat_le (17 + length ls) 16) ∙ ap Some (sym (few_or_many (length (seen ++ ls)) _ _ (λ one most. omega (arith, many))))
+        let n = length-append g.seen (l ∷ ls) in
+        same (nat_le (16 + length (l ∷ ls)) 16) ∙ ap Some (sym (few_or_many (length (g.seen ++ l ∷ ls)) _ _ (λ one most. omega (arith, many))))
+
+    finish : (items : List (List ℕ)) → (items ≡ [] → ⊥) → filled (option_map (refused_with 16 BadCount) (locks_of items)) after ≡ option_map (call_wants job use_) (option_map (λ ls. g.seen ++ ls) (locks_of items))
+    finish [] some = absurd (some refl)
+    finish (item ∷ more) some = first (lock_of item) (locks_of more)
+
+locks_of-none : (item : List ℕ) (rest : List (List ℕ)) → lock_of item ≡ None → locks_of (item ∷ rest) ≡ None
+locks_of-none item rest is = rw is refl
+
+pub gathers-none : (job : ℕ) (use_ : BlockUse) (all old rest : List (List ℕ)) (count : ℕ) (wants : List Want) (refusal : Option Refusal)
+    → Gathers job use_ all old count wants refusal → IsFirstLock old None rest → None ≡ option_map (call_wants job use_) (locks_of all)
+gathers-none job use_ all old rest count wants refusal g first =
+    sym (ap (option_map (call_wants job use_)) (g.read ∙ ap (λ l. option_map (λ ls. g.seen ++ ls) (locks_of l)) first.1 ∙ ap (option_map (λ ls. g.seen ++ ls)) (locks_of-none first.0 rest first.2)))

@@ -2,7 +2,7 @@
 use Rattle.std.proofs.Common.{◌≡◌, ◌∙◌, ◌-◌, ◌≤◌, [], ◌∷◌, ℕ, List, refl, ap, take, drop, length, slice_index_or, arith}
 use Rattle.std.proofs.lemmas.List.{take_all}
 use Rattle.queue_script.specs.Commands.{enqueue_of, dequeue_of, status_of_items, command_of_items}
-use Rattle.queue_script.specs.Numbers.{parts}
+use Rattle.script_io.specs.Numbers.{parts}
 
 -- the items behind `ENQ `, `DEQ ` and `STAT `
 words-enqueue : (items : List ℕ) → enqueue_of (parts 32 items) ≡ command_of_items (parts 32 (69 ∷ 78 ∷ 81 ∷ 32 ∷ items))

@@ -10,8 +10,8 @@ use Rattle.lock_queue.specs.declared.refusal.Refusal.TheVariants.{NoFunction}
 use Rattle.lock_queue.specs.declared.request.EnqueueKind.{EnqueueKind}
 use Rattle.lock_queue.specs.declared.request.EnqueueKind.TheVariants.{Blocking, AtOnce, Interrupt}
 use Rattle.lock_queue.specs.declared.want.Want.{Want}
-use Rattle.script_io.specs.declared.line_sessions.TheConstants.{LINE_LENGTH}
-use Rattle.queue_script.specs.Numbers.{number, parts}
+use Rattle.script_io.specs.Lines.{is_allowed, is_silent}
+use Rattle.script_io.specs.Numbers.{number, parts}
 use Rattle.queue_script.specs.Options.{half_of}
 use Rattle.queue_script.specs.Locks.{locks_of, call_wants}
 use Rattle.queue_script.specs.declared.call_room.TheConstants.{QUOTA}
@@ -153,14 +153,6 @@ named_command name rest =
 abbrev pub command_of_items : List (List ℕ) → Option Asked
 command_of_items [] = None
 command_of_items (name ∷ rest) = named_command name rest
-
--- at most 256 characters, of ASCII
-abbrev pub is_allowed : List ℕ → Bool
-is_allowed line = nat_le (length line) LINE_LENGTH && list_all (λ b. nat_lt b 128) line
-
--- empty, or a comment, which begins with a semicolon
-abbrev pub is_silent : List ℕ → Bool
-is_silent line = length line == 0 || slice_index line 0 == 59
 
 -- what a line asks for, where it is in the grammar: items parted by single spaces
 unfoldable pub command_of : List ℕ → Option Asked

@@ -1,5 +1,3 @@
-pub mod Endings
-pub mod Numbers
 pub mod Options
 pub mod Locks
 pub mod Commands
@@ -8,4 +6,3 @@ pub mod Borrowed
 pub mod Printing
 pub mod WaitPairs
 pub mod QueueScripts
-pub mod Listings

@@ -13,13 +13,13 @@ use Rattle.lock_queue.specs.declared.refusal.Refusal.TheVariants.{BadCount, BadN
 use Rattle.lock_queue.specs.declared.terms.BlockUse.{BlockUse}
 use Rattle.lock_queue.specs.declared.terms.Terms.{Terms}
 use Rattle.lock_queue.specs.declared.want.Want.{Want}
-use Rattle.queue_script.specs.Numbers.{number, parts}
+use Rattle.script_io.specs.Numbers.{number, parts}
 use Rattle.queue_script.specs.Options.{no_options, options_from}
-use Rattle.queue_script.specs.declared.locks.FirstLock.{FirstLock}
-use Rattle.queue_script.specs.declared.locks.FirstLock.TheVariants as AtFirst
 use Rattle.queue_script.specs.declared.locks.Lock.{Lock}
 use Rattle.queue_script.specs.declared.locks.LockName.{LockName}
 use Rattle.queue_script.specs.declared.locks.LockName.TheVariants.{Spelled, Coded}
+use Rattle.queue_script.specs.declared.locks.Taken.{Taken}
+use Rattle.queue_script.specs.declared.locks.Taken.TheVariants as taken
 use Rattle.queue_script.specs.declared.locks.TheConstants.{CODE_DIGITS, MOST_CODE}
 use Rattle.queue_script.specs.declared.options.Options.{Options}
 use Rattle.queue_script.specs.declared.options.PoolOption.{PoolOption}
@@ -60,11 +60,6 @@ lock_of item = lock_of_parts (parts 47 item)
 abbrev pub locks_of : List (List ℕ) → Option (List Lock)
 locks_of [] = Some []
 locks_of (item ∷ more) = option_and_then (λ lock. option_map (λ locks. lock ∷ locks) (locks_of more)) (lock_of item)
-
--- the lock that the first of some items spells: a name alone has no options
-abbrev pub any_lock : FirstLock → Lock
-any_lock (AtFirst.Name name) = record { name = Spelled name; options = no_options }
-any_lock (AtFirst.Lock lock) = lock
 
 -- the first of some items spells this lock, or none, and these are behind it
 abbrev pub IsFirstLock : List (List ℕ) → Option Lock → List (List ℕ) → Type 0
@@ -117,10 +112,19 @@ abbrev pub with_want : List Want → Result Want Refusal → List Want
 with_want wants (Ok want) = wants ++ want ∷ []
 with_want wants (Err refusal) = wants
 
--- why a want is refused, if it is
-abbrev pub refused_by : Result Want Refusal → Result (Unit {0}) Refusal
-refused_by (Ok want) = Ok tt
-refused_by (Err refusal) = Err refusal
+-- what has come of a lock of which this is wanted
+abbrev pub taken_as : Result Want Refusal → Taken
+taken_as (Ok want) = taken.Wanted
+taken_as (Err refusal) = taken.Refused refusal
+
+-- what a call wants of this lock is taken behind some wants, which makes these; or there is no lock
+abbrev pub Takes : ℕ → BlockUse → Option Lock → List Want → List Want → Taken → Type 0
+Takes job use_ None wants next result = result ≡ taken.NoLock
+Takes job use_ (Some lock) wants next result = (result ≡ taken_as (want_of job use_ lock)) × (next ≡ with_want wants (want_of job use_ lock))
+
+-- so is the lock that the first of some items spells, where these are behind it
+abbrev pub TakesFirst : ℕ → BlockUse → List (List ℕ) → List (List ℕ) → List Want → List Want → Taken → Type 0
+TakesFirst job use_ items others wants next result = (lock : Option Lock) × IsFirstLock items lock others × Takes job use_ lock wants next result
 
 -- a want in front of others, or the first refusal
 abbrev pub onto_wants : Result Want Refusal → Result (List Want) Refusal → Result (List Want) Refusal

@@ -1,5 +1,5 @@
 -- The lines that commands on the lock queue write (this project's profile). A text is the list of its ASCII codes.
-use Rattle.std.specs.Prelude.{◌==◌, ◌+◌, ◌/◌, ◌%◌, ℕ, Bool, List, [], ◌∷◌, ◌++◌, Option, Some, None, if◌then◌else◌, codes, decimal}
+use Rattle.std.specs.Prelude.{◌==◌, ℕ, Bool, List, [], ◌∷◌, ◌++◌, Option, Some, None, if◌then◌else◌, codes, decimal}
 use Rattle.std.specs.List.{flat_map}
 use Rattle.word36.specs.Octal.{octal_text, word_text}
 use Rattle.lock_queue.specs.Pools.{PoolShare}
@@ -18,6 +18,7 @@ use Rattle.lock_queue.specs.declared.request.EnqueueKind.TheVariants.{Blocking, 
 use Rattle.lock_queue.specs.declared.request.Request.{Request}
 use Rattle.lock_queue.specs.declared.status.Status.{Status}
 use Rattle.lock_queue.specs.declared.want.Want.{Want}
+use Rattle.script_io.specs.Printing.{escaped}
 use Rattle.queue_script.specs.Locks.{is_name_character}
 
 -- ---- answers
@@ -42,10 +43,6 @@ abbrev pub status_line : Status → List ℕ
 status_line s = word_text (owner_word s) ++ codes " " ++ word_text (count_word s) ++ codes " " ++ word_text s.amount ++ codes "\n"
 
 -- ---- requests
-
--- a character as a backslash and three octal digits
-abbrev pub escaped : ℕ → List ℕ
-escaped c = 92 ∷ (48 + c / 64) ∷ (48 + c / 8 % 8) ∷ (48 + c % 8) ∷ []
 
 -- a character of a name; one that a script cannot spell is escaped
 abbrev pub name_character : ℕ → List ℕ

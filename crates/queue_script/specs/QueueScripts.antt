@@ -17,9 +17,9 @@ use Rattle.queue_script.specs.Printing.{code_line, grant_line, reply_line, statu
 use Rattle.script_io.specs.Transcripts.{Transcript, after, closed, unless_ended}
 use Rattle.word36.specs.declared.sizes.TheConstants.{MOST_REQUESTS}
 use Rattle.queue_script.specs.WaitPairs.{waits_text}
-use Rattle.queue_script.specs.Endings.{script_fault}
-use Rattle.queue_script.specs.declared.endings.Ending.{Ending}
-use Rattle.queue_script.specs.declared.endings.Ending.TheVariants as ending
+use Rattle.script_io.specs.Endings.{script_fault}
+use Rattle.script_io.specs.declared.endings.Ending.{Ending}
+use Rattle.script_io.specs.declared.endings.Ending.TheVariants as ending
 
 -- what a line does: the requests afterwards, what it writes, and how the script ends, if it ends there
 pub record Effect : Type 0 where

@@ -9,8 +9,8 @@ ghost use Rattle.lock_queue.specs.declared.terms.BlockUse.TheVariants.{Named};
 
 use crate::call_wants::read_wants;
 use crate::options::read_half;
-use crate::parts::Parts;
 use lock_queue::{Asking, BlockUse, EnqueueKind, LockCall, Refusal, RequestId, Wants};
+use script_io::Parts;
 use word36::MOST_REQUESTS;
 
 /// How many requests a job of a script may have: more than any table holds, so that a script is never

@@ -3,9 +3,9 @@ ghost use Rattle.std.specs.Prelude.{◌≡◌, [], option_map};
 ghost use Rattle.queue_script.specs.Borrowed.{filled};
 ghost use Rattle.queue_script.specs.Locks.{locks_of, call_wants, refused_with};
 
-use crate::locks::{next_lock, read_lock};
-use crate::parts::Parts;
+use crate::locks::{Taken, read_lock, take_first};
 use lock_queue::{BlockUse, Refusal, Wants};
+use script_io::Parts;
 use word36::LOCKS_A_CALL;
 
 /// Takes out all wants. Mostly there is one, which `pop` takes out in fewer steps.
@@ -52,15 +52,17 @@ pub fn read_wants(
     ensures { filled result wants.new ≡ option_map (call_wants job block_use) (locks_of items.entry) }
 {
     clear(wants);
-    while let Some(item) = next_lock(&mut items) {
-        let lock = item?;
+    'items: while !items.is_empty() {
         if wants.is_full() {
-            return refuse(items, LOCKS_A_CALL + 1, Refusal::BadCount);
+            return refuse(items, LOCKS_A_CALL, Refusal::BadCount);
         }
-        let count = wants.len();
-        match lock.push_want(job, block_use, wants) {
-            Ok(()) => {}
-            Err(why) => return refuse(items, count + 1, why),
+        match take_first(&mut items, job, block_use, wants) {
+            Taken::Wanted => {}
+            Taken::NoLock => return None,
+            Taken::Refused(why) => {
+                let count = wants.len() + 1;
+                return refuse(items, count, why);
+            }
         }
     }
     if wants.is_empty() {

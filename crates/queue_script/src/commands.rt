@@ -1,18 +1,16 @@
 //! The commands of a script on the lock queue.
-ghost use Rattle.std.specs.Prelude.{◌≡◌, ◌<◌, ◌^◌, None, nat_lt, is_some, IfSome, MatchOption};
-ghost use Rattle.std.specs.List.{list_all};
+ghost use Rattle.std.specs.Prelude.{◌≡◌, ◌<◌, ◌^◌, None, is_some, IfSome, MatchOption};
 ghost use Rattle.queue_script.specs.Borrowed.{lent_by, asked_by, asked_by_line};
-ghost use Rattle.queue_script.specs.Commands.{job_of, enqueue_call, dequeue_call, unknown_call, enqueue_of, dequeue_of, status_of_items, free_of, bare, command_of_items, is_allowed, is_silent, command_of};
+ghost use Rattle.queue_script.specs.Commands.{job_of, enqueue_call, dequeue_call, unknown_call, enqueue_of, dequeue_of, status_of_items, free_of, bare, command_of_items, command_of};
 ghost use Rattle.queue_script.specs.Locks.{locks_of};
-ghost use Rattle.queue_script.specs.Numbers.{front, IsFront, parts};
+ghost use Rattle.script_io.specs.Numbers.{front, IsFront, parts};
 ghost use Rattle.queue_script.specs.Options.{half_of};
 
 use crate::call_room::CallRoom;
 use crate::locks::read_lock;
 use crate::options::MOST_HALF;
-use crate::parts::Parts;
 use lock_queue::{EnqueueKind, LockCall, Refusal, RequestId, Wants};
-use script_io::LINE_LENGTH;
+use script_io::{Parts, is_allowed, is_silent};
 use word36::JOBS;
 
 /// What a line asks for. The locks that it names stand in the room that it was read into.
@@ -209,27 +207,6 @@ fn read_words<'a>(room: &'a mut CallRoom, line: &[u8]) -> Option<Command<'a>>
         return read_status(room, Parts::of(items, b' '));
     }
     read_items(room, Parts::of(line, b' '))
-}
-
-#[tactic(auto, using(crate::proofs::AsciiLemmas::ascii_tests))]
-fn has_only_ascii(line: &[u8]) -> bool
-    ensures { result ≡ list_all (λ b. nat_lt b 128) line.now }
-{
-    line.is_ascii()
-}
-
-/// Whether a line has at most 256 characters, all of them ASCII.
-pub fn is_allowed(line: &[u8]) -> bool
-    ensures { result ≡ is_allowed line.now }
-{
-    line.len() <= LINE_LENGTH && has_only_ascii(line)
-}
-
-/// Whether a line does nothing: it is empty, or a comment, which begins with a semicolon.
-pub fn is_silent(line: &[u8]) -> bool
-    ensures { result ≡ is_silent line.now }
-{
-    line.is_empty() || line[0] == b';'
 }
 
 /// What a line asks for, if it is in the grammar. The locks that it names stand in the room, whatever

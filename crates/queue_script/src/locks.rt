@@ -1,27 +1,25 @@
 //! The locks of a command.
-ghost use Rattle.std.specs.Prelude.{◌≡◌, ◌<◌, ◌≤◌, true, [], ◌∷◌, length, take, ◌^◌, Some, IfSome, MatchOption, option_map};
+ghost use Rattle.std.specs.Prelude.{◌≡◌, ◌≢◌, ◌<◌, ◌≤◌, true, [], length, take, ◌^◌, IfSome};
 ghost use Rattle.std.specs.List.{list_all};
-ghost use Rattle.queue_script.specs.Options.{no_options};
-ghost use Rattle.queue_script.specs.Numbers.{parts, texts_in};
-ghost use Rattle.queue_script.specs.Locks.{is_name_character, user_code, name_of_characters, name_of, lock_of, any_lock, want_of, plain_want, with_want, refused_by, key_of, terms_of, IsFirstLock};
+ghost use Rattle.queue_script.specs.Locks.{is_name_character, user_code, name_of_characters, name_of, lock_of, want_of_name, plain_want, with_want, taken_as, key_of, terms_of, Takes, TakesFirst};
+ghost use Rattle.queue_script.specs.declared.locks.LockName.TheVariants.{Spelled};
 ghost use Rattle.arrayvec.specs.ArrayVec.{array_vec_len};
 ghost use Rattle.lock_queue.specs.Uses.{want_on};
 ghost use Rattle.word36.specs.declared.sizes.TheConstants.{LOCKS_A_CALL};
 
-use crate::numbers::number;
 use crate::options::{Options, front_options, read_options};
-use crate::parts::Parts;
 use lock_queue::{
     BlockUse, Group, Key, Level, Name, NameText, Refusal, Scope, UserCode, Want, Wants,
 };
+use script_io::{Parts, number};
 use std::marker::Model;
 use std::str;
 
 /// The largest user code, a number of 33 bits.
-const MOST_CODE: u64 = 0o77_777_777_777;
+pub const MOST_CODE: u64 = 0o77_777_777_777;
 
 /// The most digits of a user code.
-const CODE_DIGITS: usize = 11;
+pub const CODE_DIGITS: usize = 11;
 
 /// A name in characters where it stands in a line: one character or more. It may be too long for a
 /// lock.
@@ -56,15 +54,6 @@ pub struct Lock<'a> {
     pub name: LockName<'a>,
     /// Its options.
     pub options: Options,
-}
-
-/// The first lock of some items.
-#[derive(Drop)]
-pub enum FirstLock<'a> {
-    /// A name in characters alone, as most locks are.
-    Name(Characters<'a>),
-    /// A lock of any form.
-    Lock(Lock<'a>),
 }
 
 /// 1 for each character that a name may have, and 0 for the others.
@@ -158,54 +147,6 @@ fn read_name(text: &[u8]) -> Option<LockName<'_>>
     }
 }
 
-/// The lock that the first item of some spells, and the other items, where its name is in characters:
-/// it is gone over once. None where the item begins otherwise, or is no lock.
-#[inline(always)]
-fn named_lock(items: &[u8]) -> Option<(FirstLock<'_>, Option<&[u8]>)>
-    ensures { IfSome result (λ r. IsFirstLock (parts 32 items.now) (Some (any_lock r.0)) (texts_in 32 r.1)) }
-{
-    let count = name_length(items);
-    if count == 0 {
-        return None;
-    }
-    let name = &items[..count];
-    if count == items.len() {
-        return Some((FirstLock::Name(spelled(name)), None));
-    }
-    let behind = &items[count + 1..];
-    if items[count] == b' ' {
-        return Some((FirstLock::Name(spelled(name)), Some(behind)));
-    }
-    if items[count] != b'/' {
-        return None;
-    }
-    match front_options(behind) {
-        None => None,
-        Some((options, others)) => {
-            let name = LockName::Spelled(spelled(name));
-            Some((FirstLock::Lock(Lock { name, options }), others))
-        }
-    }
-}
-
-/// Takes the first of some items, and reads the lock that it spells, if it is one.
-#[inline(always)]
-pub fn next_lock<'a>(items: &mut Parts<'a>) -> Option<Option<FirstLock<'a>>>
-    ensures { MatchOption result (items.old ≡ []) (λ lock. IsFirstLock items.old (option_map any_lock lock) items.new) }
-{
-    if let Some(text) = items.left() {
-        if let Some((lock, others)) = named_lock(text) {
-            *items = Parts::between_blanks(others);
-            return Some(Some(lock));
-        }
-    }
-    let item = items.next()?;
-    match read_lock(item) {
-        None => Some(None),
-        Some(lock) => Some(Some(FirstLock::Lock(lock))),
-    }
-}
-
 /// The lock that an item of a line spells.
 #[inline(always)]
 pub fn read_lock(item: &[u8]) -> Option<Lock<'_>>
@@ -218,6 +159,17 @@ pub fn read_lock(item: &[u8]) -> Option<Lock<'_>>
     Some(Lock { name, options })
 }
 
+/// What has come of an item that a call wants the lock of.
+#[derive(Clone, Copy, Debug, PartialEq, Eq)]
+pub enum Taken {
+    /// It is no lock.
+    NoLock,
+    /// What is wanted of its lock stands behind the other wants.
+    Wanted,
+    /// What is wanted of its lock is refused.
+    Refused(Refusal),
+}
+
 /// The key of a name.
 #[inline(always)]
 fn key_of(job: u8, name: Name, own: bool) -> Key
@@ -227,35 +179,53 @@ fn key_of(job: u8, name: Name, own: bool) -> Key
     Key { scope, name }
 }
 
-/// Puts what a call wants of the lock of this name behind other wants, or says why that is refused.
+/// Takes what a call wants of the lock of this name.
 #[inline(always)]
-fn push_named(
+fn take_named(
     name: Name,
     options: Options,
     job: u8,
     block_use: BlockUse,
     wants: &mut Wants,
-) -> Result<(), Refusal>
+) -> Taken
     requires { array_vec_len wants.old < LOCKS_A_CALL }
-    ensures answer { result ≡ refused_by (want_on block_use (key_of job name options.own) (terms_of options)) }
+    ensures answer { result ≡ taken_as (want_on block_use (key_of job name options.own) (terms_of options)) }
     ensures items { wants.new.items ≡ with_want wants.old.items (want_on block_use (key_of job name options.own) (terms_of options)) }
 {
     let key = key_of(job, name, options.own);
     match Want::on(block_use, key, options.terms()) {
         Ok(want) => {
             wants.push(want);
-            Ok(())
+            Taken::Wanted
         }
-        Err(refusal) => Err(refusal),
+        Err(refusal) => Taken::Refused(refusal),
     }
 }
 
-/// Puts what any call wants of the lock of a name alone behind other wants, or says why that is
-/// refused.
+/// Takes what a call wants of the lock of this name in characters. Here it is copied.
 #[inline(always)]
-fn push_plain(name: Characters<'_>, wants: &mut Wants) -> Result<(), Refusal>
+fn take_spelled(
+    name: Characters<'_>,
+    options: Options,
+    job: u8,
+    block_use: BlockUse,
+    wants: &mut Wants,
+) -> Taken
     requires { array_vec_len wants.old < LOCKS_A_CALL }
-    ensures answer { result ≡ refused_by (plain_want name.entry) }
+    ensures answer { result ≡ taken_as (want_of_name job block_use (Spelled name.entry) options) }
+    ensures items { wants.new.items ≡ with_want wants.old.items (want_of_name job block_use (Spelled name.entry) options) }
+{
+    match NameText::new(name.text) {
+        Some(text) => take_named(Name::Text(text), options, job, block_use, wants),
+        None => Taken::Refused(Refusal::BadName),
+    }
+}
+
+/// Takes what any call wants of the lock of a name alone. Here the name is copied.
+#[inline(always)]
+fn take_plain(name: Characters<'_>, wants: &mut Wants) -> Taken
+    requires { array_vec_len wants.old < LOCKS_A_CALL }
+    ensures answer { result ≡ taken_as (plain_want name.entry) }
     ensures items { wants.new.items ≡ with_want wants.old.items (plain_want name.entry) }
 {
     match NameText::new(name.text) {
@@ -271,32 +241,57 @@ fn push_plain(name: Characters<'_>, wants: &mut Wants) -> Result<(), Refusal>
                 level: Level::new(0),
                 pool: None,
             });
-            Ok(())
+            Taken::Wanted
         }
-        None => Err(Refusal::BadName),
+        None => Taken::Refused(Refusal::BadName),
     }
 }
 
-impl FirstLock<'_> {
-    /// Puts what a job's call wants of the lock behind other wants, or says why that is refused. Here
-    /// the name is copied.
-    #[inline(always)]
-    #[tactic(auto, using(crate::proofs::WantLemmas::want_of_plain))]
-    pub fn push_want(self, job: u8, block_use: BlockUse, wants: &mut Wants) -> Result<(), Refusal>
-        requires { array_vec_len wants.old < LOCKS_A_CALL }
-        ensures answer { result ≡ refused_by (want_of job block_use (any_lock self.entry)) }
-        ensures items { wants.new.items ≡ with_want wants.old.items (want_of job block_use (any_lock self.entry)) }
-    {
-        let Lock { name, options } = match self {
-            FirstLock::Name(name) => return push_plain(name, wants),
-            FirstLock::Lock(lock) => lock,
-        };
-        match name {
-            LockName::Coded(code) => push_named(Name::Code(code), options, job, block_use, wants),
-            LockName::Spelled(name) => match NameText::new(name.text) {
-                Some(text) => push_named(Name::Text(text), options, job, block_use, wants),
-                None => Err(Refusal::BadName),
-            },
+/// Takes what a call wants of the lock that an item spells, whatever its form.
+fn take_item(item: &[u8], job: u8, block_use: BlockUse, wants: &mut Wants) -> Taken
+    requires { array_vec_len wants.old < LOCKS_A_CALL }
+    ensures { Takes job block_use (lock_of item.now) wants.old.items wants.new.items result }
+{
+    match read_lock(item) {
+        None => Taken::NoLock,
+        Some(Lock { name, options }) => match name {
+            LockName::Coded(code) => take_named(Name::Code(code), options, job, block_use, wants),
+            LockName::Spelled(name) => take_spelled(name, options, job, block_use, wants),
+        },
+    }
+}
+
+/// Takes what a call wants of the lock that the first of some items spells: most locks are gone over
+/// once.
+#[inline(always)]
+pub fn take_first(items: &mut Parts<'_>, job: u8, block_use: BlockUse, wants: &mut Wants) -> Taken
+    requires some { items.old ≢ [] }
+    requires room { array_vec_len wants.old < LOCKS_A_CALL }
+    ensures { TakesFirst job block_use items.old items.new wants.old.items wants.new.items result }
+{
+    if let Some(text) = items.left() {
+        let count = name_length(text);
+        if count > 0 {
+            let name = &text[..count];
+            if count == text.len() {
+                *items = Parts::between_blanks(None);
+                return take_plain(spelled(name), wants);
+            }
+            let behind = &text[count + 1..];
+            if text[count] == b' ' {
+                *items = Parts::between_blanks(Some(behind));
+                return take_plain(spelled(name), wants);
+            }
+            if text[count] == b'/' {
+                if let Some((options, others)) = front_options(behind) {
+                    *items = Parts::between_blanks(others);
+                    return take_spelled(spelled(name), options, job, block_use, wants);
+                }
+            }
         }
+    }
+    match items.next() {
+        Some(item) => take_item(item, job, block_use, wants),
+        None => Taken::NoLock,
     }
 }

@@ -1,16 +1,15 @@
 //! The options of a lock.
 ghost use Rattle.std.specs.Prelude.{◌≡◌, ◌^◌, ◌<◌, ◌≤◌, true, length, take, IfSome, Some};
 ghost use Rattle.std.specs.List.{list_all};
-ghost use Rattle.queue_script.specs.Numbers.{parts, texts_in};
+ghost use Rattle.script_io.specs.Numbers.{parts, texts_in};
 ghost use Rattle.queue_script.specs.Locks.{terms_of};
 ghost use Rattle.queue_script.specs.Options.{half_of, option_of, pool_of, with_option, options_from, no_options, is_option_character, SpellsOptions};
 
-use crate::numbers::number;
-use crate::parts::Parts;
 use lock_queue::{Group, Level, Terms};
+use script_io::{Parts, number};
 
 /// The largest level.
-const MOST_LEVEL: u64 = 0o777;
+pub const MOST_LEVEL: u64 = 0o777;
 
 /// The largest number of 18 bits, as of a pool's size.
 pub const MOST_HALF: u64 = 0o777_777;

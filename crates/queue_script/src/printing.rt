@@ -1,16 +1,15 @@
 //! The lines that commands on the lock queue write.
 ghost use Rattle.std.specs.Prelude.{◌≡◌, ◌++◌, [], if◌then◌else◌, OnOk};
 ghost use Rattle.std.specs.List.{flat_map};
-ghost use Rattle.word36.specs.Octal.{word_text};
-ghost use Rattle.queue_script.specs.Printing.{code_line, reply_line, grant_line, status_line, escaped, name_character, name_text, group_text, level_text, pool_text, scope_text, want_text, kind_number, wants_text, request_line};
+ghost use Rattle.queue_script.specs.Printing.{code_line, reply_line, grant_line, status_line, name_character, name_text, group_text, level_text, pool_text, scope_text, want_text, kind_number, wants_text, request_line};
 
 use crate::locks::is_name_character;
 use lock_queue::{
     EnqueueKind, Grant, Group, Level, LockReply, Name, Pool, Refusal, Request, Scope, Status, Want,
 };
-use script_io::push_decimal;
+use script_io::{push_decimal, push_escaped, push_word};
 use std::alloc::AllocError;
-use word36::{Word, octal_digits, octal_text};
+use word36::octal_text;
 
 /// Adds `CODE n`.
 #[tactic(auto, using(std::proofs::Common::append_assoc))]
@@ -64,16 +63,6 @@ pub fn push_grants(out: &mut Vec<u8>, grants: &[Grant]) -> Result<(), AllocError
     Ok(())
 }
 
-/// Adds a word in octal, its two halves.
-pub fn push_word(out: &mut Vec<u8>, word: Word) -> Result<(), AllocError>
-    ensures { OnOk result (out.new.items ≡ out.old.items ++ word_text word) }
-{
-    out.extend_from_slice(&octal_digits::<6>(u64::from(word.left())))?;
-    out.extend_from_slice(b",,")?;
-    out.extend_from_slice(&octal_digits::<6>(u64::from(word.right())))?;
-    Ok(())
-}
-
 /// Adds the line of three words that tells a status.
 #[tactic(auto, using(std::proofs::Common::append_assoc))]
 pub fn push_status(out: &mut Vec<u8>, status: &Status) -> Result<(), AllocError>
@@ -98,20 +87,6 @@ fn push_character(out: &mut Vec<u8>, character: u8) -> Result<(), AllocError>
         return Ok(());
     }
     push_escaped(out, character)
-}
-
-/// Adds a character as a backslash and three octal digits.
-pub fn push_escaped(out: &mut Vec<u8>, character: u8) -> Result<(), AllocError>
-    ensures { OnOk result (out.new.items ≡ out.old.items ++ escaped character) }
-{
-    let digits = [
-        b'\\',
-        b'0' + character / 64,
-        b'0' + character / 8 % 8,
-        b'0' + character % 8,
-    ];
-    out.extend_from_slice(&digits)?;
-    Ok(())
 }
 
 /// Adds the characters of a name.

@@ -5,23 +5,24 @@ ghost use Rattle.queue_script.specs.QueueScripts.{effect_of, call_effect, unless
 ghost use Rattle.queue_script.specs.Asks.{asks_right};
 ghost use Rattle.queue_script.specs.Borrowed.{asked_by_line, lent};
 ghost use Rattle.lock_queue.specs.WellFormed.{is_call};
-ghost use Rattle.queue_script.specs.Endings.{script_fault, served_as};
+ghost use Rattle.script_io.specs.Endings.{script_fault, served_as};
 ghost use Rattle.script_io.specs.Serves.{Serves, Blames};
 
 use crate::call_room::CallRoom;
 use crate::commands::{Command, read_command};
-use crate::endings::{Ending, ServeError, push_fault, serve_script};
 use crate::printing::{push_code, push_grants, push_reply, push_request, push_status};
 use crate::wait_pairs::push_waits;
 use lock_queue::{LockCall, LockTable, Refusal, Want, Wants, Woken};
-use plain_table::PlainTable;
-use script_io::{ByteIn, ByteOut, LineService, LineSession};
+use lock_table::IndexedTable;
+use script_io::{
+    ByteIn, ByteOut, Ending, LineService, LineSession, ServeError, push_fault, serve_script,
+};
 use std::alloc::{AllocError, Global};
 use word36::MOST_REQUESTS;
 
 /// The lock table of the programs. Each of them names it by this name, so that another table is put
 /// in here alone.
-pub type ScriptTable = PlainTable<MOST_REQUESTS>;
+pub type ScriptTable = IndexedTable<MOST_REQUESTS>;
 
 /// Makes a call of a job that does not wait, and adds its answer and the grants that it makes.
 #[tactic(auto, using(std::proofs::Common::append_assoc))]
@@ -126,6 +127,7 @@ pub fn push_requests<L: LockTable>(out: &mut Vec<u8>, table: &L) -> Result<(), A
 
 /// Does what a line asks for, and adds what it writes. It answers an ending where the script ends
 /// there.
+#[inline(always)]
 fn perform<L: LockTable>(
     table: &mut L,
     number: u128,

@@ -154,6 +154,7 @@ fn push_circle(out: &mut Vec<u8>, pairs: &PairTable, waiting: &JobMarks) -> Resu
 
 /// Adds who waits for whom, and the jobs from which a walk leads back. Who waits is asked once.
 #[tactic(auto, using(std::proofs::Common::append_assoc))]
+#[inline(never)]
 pub fn push_waits<L: LockTable>(out: &mut Vec<u8>, table: &L) -> Result<(), AllocError>
     ensures { OnOk result (out.new.items ≡ out.old.items ++ waits_text (L.requests table.now)) }
 {

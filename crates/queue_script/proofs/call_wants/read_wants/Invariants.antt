@@ -2,11 +2,11 @@ use Rattle.std.proofs.Common.{◌≤◌, None, length}
 use Rattle.queue_script.proofs.WantLemmas.{Gathers}
 use Rattle.queue_script.proofs.call_wants.read_wants.Given as goal
 
-abbrev pub invariant-loop-item : goal.invariant-loop-item
-invariant-loop-item l = record {
+abbrev pub invariant-items : goal.invariant-items
+invariant-items l = record {
   gathers : Gathers l.job l.block_use l.initial.items l.items (length l.wants.items) l.wants.items None;
   room : length l.wants.items ≤ 16;
 }
 
-abbrev pub decreases-loop-item : goal.decreases-loop-item
-decreases-loop-item l = length l.items
+abbrev pub decreases-items : goal.decreases-items
+decreases-items l = length l.items

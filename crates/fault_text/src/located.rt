@@ -1,0 +1,61 @@
+//! What is wrong with a line, and the column to look at.
+ghost use Rattle.std.specs.Prelude.{◌≤◌, ◌+◌, IfOk, length};
+
+use crate::fault::{Fault, Reason};
+use crate::{Refused, fault_of};
+use std::alloc::{AllocError, Global};
+
+/// What is wrong with a line, and where to look.
+#[derive(Debug, Drop)]
+pub struct Located {
+    /// The column, counted from 1: that of the fault or of the name that it speaks of, and else of the
+    /// first character that is no blank.
+    pub column: usize,
+    /// What is wrong.
+    pub text: String,
+}
+
+/// The place where some bytes begin in a line first.
+fn position_of(line: &[u8], wanted: &[u8]) -> Option<usize> {
+    for start in 0..line.len() {
+        if line[start..].starts_with(wanted) {
+            return Some(start);
+        }
+    }
+    None
+}
+
+/// The place of the first character that is no blank.
+fn first_character(line: &[u8]) -> usize {
+    line.iter()
+        .position(|c| *c != b' ' && *c != b'\t')
+        .unwrap_or(0)
+}
+
+/// The column to look at, in the line or just behind it.
+fn column_of(line: &[u8], fault: &Fault<'_>) -> usize
+    ensures { result ≤ length line.now + 1 }
+{
+    if fault.column > 0 {
+        return fault.column.min(line.len().saturating_add(1));
+    }
+    let start = match fault.reason {
+        Reason::Is(name, _) | Reason::OneOf(name, _, _) => position_of(line, name),
+        _ => None,
+    };
+    let start = start.unwrap_or(first_character(line));
+    start.min(line.len()).saturating_add(1)
+}
+
+/// Says what is wrong with a line, which stands without its line end, and which column to look at. It
+/// fails for want of memory alone.
+pub fn locate(alloc: Global, refused: Refused, line: &[u8]) -> Result<Located, AllocError>
+    ensures { IfOk result (λ located. located.column ≤ length line.now + 1) }
+{
+    let fault = fault_of(refused, line);
+    let reason = fault.reason;
+    Ok(Located {
+        column: column_of(line, &fault),
+        text: format!(in alloc; "{reason}")?,
+    })
+}

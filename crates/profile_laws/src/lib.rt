@@ -1,0 +1,18 @@
+//! The numbers that the manual and the formats give, each said once as a number, and that printed texts are
+//! read back. Each function does nothing: its contract is the law.
+#![tactic(auto)]
+
+mod codes;
+mod formats;
+mod sizes;
+
+pub use codes::{
+    fault_codes_of_sources, refusal_codes_of_events, refusal_codes_of_locks, stop_codes,
+};
+pub use formats::{
+    exit_statuses, numbers_of_lines, numbers_of_locks, numbers_of_sources, printed_texts_are_read,
+};
+pub use sizes::{
+    sizes_of_characters, sizes_of_locks, sizes_of_memory, sizes_of_the_machine, sizes_of_time,
+    sizes_of_words,
+};

@@ -1,7 +1,0 @@
-use Rattle.std.proofs.Common.{◌≡◌, ◌++◌, drop}
-use Rattle.std.specs.List.{flat_map}
-use Rattle.queue_script.specs.Listings.{word_line}
-use Rattle.queue_script.proofs.listings.push_words.Given as goal
-
-abbrev pub invariant-loop-word : goal.invariant-loop-word
-invariant-loop-word l = l.out.items ++ flat_map word_line (drop l.word-index l.words) ≡ l.initial.out.items ++ flat_map word_line l.words

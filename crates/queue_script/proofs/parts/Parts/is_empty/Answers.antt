@@ -1,5 +1,0 @@
-use Rattle.queue_script.proofs.NumberLemmas.{parts_after-empty}
-use Rattle.queue_script.proofs.parts.Parts.is_empty.Goals as goal
-
-pub returns : goal.returns
-returns c = parts_after-empty _ _ _ _ c.self.view_is c.is_none.ensures

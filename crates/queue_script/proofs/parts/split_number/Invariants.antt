@@ -1,5 +1,0 @@
-use Rattle.queue_script.proofs.FrontLemmas.{Follows}
-use Rattle.queue_script.proofs.parts.split_number.Given as goal
-
-abbrev pub invariant-loop-i : goal.invariant-loop-i
-invariant-loop-i l = Follows l.most l.separator l.text l.i l.value
