@@ -1,12 +1,15 @@
 //! The whole program over any ports.
-ghost use Rattle.std.specs.Prelude.{◌≡◌, false};
+ghost use Rattle.std.specs.Prelude.{◌≡◌, true, false};
+ghost use Rattle.lock_picture.specs.declared.serving.TheConstants.{DONE};
 
-use crate::scripts::{MOST_LINES, ScriptError, SourceFault, draw_run_script, draw_script};
-use crate::svg::AsSvg;
+use crate::reading::{ReadError, read_script};
+use crate::run_course::draw_run_script;
 use crate::text::AsText;
 use crate::words::{Asked, Refusal, read_words};
 use fault_text::{NO_ENDASM, Refused, explain};
-use queue_script::{ByteIn, ByteOut, Parts, write_all};
+use lock_bars::{MOST_LINES, ScriptError, ScriptLines, SourceFault, draw_script};
+use lock_svg::{Along, AsSvg};
+use script_io::{ByteIn, ByteOut, write_all};
 use std::alloc::{AllocError, Global};
 use std::convert::AsStr;
 use std::io::ErrorKind;
@@ -23,45 +26,6 @@ pub const USAGE: u8 = 2;
 /// The reader, the writer or memory failed.
 pub const FAILED: u8 = 3;
 
-/// How many bytes are read at once, at most.
-const PIECE: usize = 4096;
-
-/// The most pieces of a script: more than 10,000 lines have.
-const MOST_PIECES: u32 = 1 << 16;
-
-/// Why nothing is drawn.
-#[derive(Clone, Copy, Debug)]
-enum Failure {
-    /// The reader failed.
-    Read,
-    /// The script is refused.
-    Script(ScriptError),
-}
-
-impl From<AllocError> for Failure {
-    fn from(_: AllocError) -> Self {
-        Failure::Script(ScriptError::Memory)
-    }
-}
-
-/// The bytes of the input.
-fn read_script<R: ByteIn>(alloc: Global, reader: &mut R) -> Result<Vec<u8>, Failure>
-    requires { R.has_failed reader.old ≡ false }
-{
-    let mut script = Vec::new(alloc);
-    let mut piece = [0u8; PIECE];
-    for _ in 0..MOST_PIECES {
-        let Ok(count) = reader.read(&mut piece) else {
-            return Err(Failure::Read);
-        };
-        if count == 0 {
-            return Ok(script);
-        }
-        script.extend_from_slice(&piece[..count])?;
-    }
-    Err(Failure::Script(ScriptError::TooLong))
-}
-
 /// The picture of a script.
 fn picture_of(alloc: Global, script: &[u8], wanted: Asked) -> Result<String, ScriptError> {
     let drawing = if wanted.run {
@@ -73,19 +37,21 @@ fn picture_of(alloc: Global, script: &[u8], wanted: Asked) -> Result<String, Scr
         let text = AsText(&drawing);
         Ok(format!(in alloc; "{text}")?)
     } else {
-        let svg = AsSvg(&drawing);
+        let svg = AsSvg {
+            drawing: &drawing,
+            along: Along::Script,
+        };
         Ok(format!(in alloc; "{svg}")?)
     }
 }
 
 /// The line of this number, counted from 1, without its line end.
 fn line_at(script: &[u8], number: usize) -> &[u8] {
-    let mut lines = Parts::of(script, b'\n');
+    let mut lines = ScriptLines::of(script);
     for _ in 1..number {
         let _ = lines.next();
     }
     match lines.next() {
-        Some([front @ .., b'\r']) => front,
         Some(line) => line,
         None => b"",
     }
@@ -169,6 +135,7 @@ fn told<E: ByteOut>(errors: &mut E, text: &[u8], status: u8) -> u8
 fn written<W: ByteOut, E: ByteOut>(writer: &mut W, text: &[u8], errors: &mut E) -> u8
     requires writer_sound { W.has_failed writer.old ≡ false }
     requires errors_sound { E.has_failed errors.old ≡ false }
+    ensures status { W.has_failed writer.new ≡ false → result ≡ DONE }
 {
     match write_all(writer, text) {
         Ok(()) => DONE,
@@ -187,11 +154,12 @@ fn draw<R: ByteIn, W: ByteOut, E: ByteOut>(
     requires reader_sound { R.has_failed reader.old ≡ false }
     requires writer_sound { W.has_failed writer.old ≡ false }
     requires errors_sound { E.has_failed errors.old ≡ false }
+    ensures silent { W.has_failed writer.new ≡ false → (result ≡ DONE → false ≡ true) → W.written writer.new ≡ W.written writer.old }
 {
     let script = match read_script(alloc, reader) {
         Ok(script) => script,
-        Err(Failure::Read) => return told(errors, b"lockview: read\n", FAILED),
-        Err(Failure::Script(error)) => return refused(alloc, wanted, b"", error, errors),
+        Err(ReadError::Read) => return told(errors, b"lockview: read\n", FAILED),
+        Err(ReadError::Memory) => return told(errors, b"lockview: memory\n", FAILED),
     };
     match picture_of(alloc, script.as_slice(), wanted) {
         Ok(picture) => written(writer, picture.as_str().as_bytes(), errors),
@@ -215,11 +183,12 @@ fn refused<E: ByteOut>(
     }
 }
 
-/// Reads a script of `lockmon queue`, and writes the picture that the words, which begin with the
-/// program's name, ask for, or the help or the version where they ask for that, and then the reader is
-/// not asked. It gives the exit status: 0 where all was written; 1 where the script is refused, and 2
-/// where the words are, which `errors` is told of; 3 where the reader, the writer or memory failed.
-/// Where it is not 0 nothing was written, but for a beginning where the writer failed.
+/// Reads a script of `lockmon queue`, or with `--run` one of `lockmon run`, and writes the picture that
+/// the words, which begin with the program's name, ask for; or the help or the version where they ask
+/// for that, and then the reader is not asked. It gives the exit status: 0 where all was written; 1
+/// where the script is refused, and 2 where the words are, which `errors` is told of; 3 where the
+/// reader, the writer or memory failed. Where it is not 0 nothing was written, but for a beginning
+/// where the writer failed.
 pub fn program<S: AsStr, R: ByteIn, W: ByteOut, E: ByteOut>(
     alloc: Global,
     words: &[S],
@@ -230,6 +199,7 @@ pub fn program<S: AsStr, R: ByteIn, W: ByteOut, E: ByteOut>(
     requires reader_sound { R.has_failed reader.old ≡ false }
     requires writer_sound { W.has_failed writer.old ≡ false }
     requires errors_sound { E.has_failed errors.old ≡ false }
+    ensures silent { W.has_failed writer.new ≡ false → (result ≡ DONE → false ≡ true) → W.written writer.new ≡ W.written writer.old }
 {
     match read_words(alloc, words) {
         Ok(wanted) => draw(alloc, wanted, reader, writer, errors),

@@ -1,8 +1,12 @@
 //! Pictures as text.
 
 use crate::rows::{MANY, Row, answers};
+use lock_bars::draw_script;
+use lock_picture::program;
+use script_io::{TestIn, TestOut};
+use std::alloc::{AllocError, Global};
 
-const ROWS: [Row; 9] = [
+const ROWS: [Row; 11] = [
     // Two jobs wait for one another, and one gives up.
     Row {
         words: &["lockview", "--text", "--at", "4"],
@@ -223,10 +227,11 @@ KILL 1
 ",
         calls: (MANY, MANY),
         status: 0,
-        written: "line               10
-           123456789012345678
-job 1   A  ................#.
-job 2   A  ................/*
+        written: "line       111111111
+           345677778
+tick           1234
+job 1   A  ......##.
+job 2   A  ......./*
 
 # owns  / waits  * is granted  . has no request
 
@@ -235,7 +240,94 @@ After line 17:
 ",
         told: "",
     },
+    // The lines of a source have no columns; TICK and STEP have one for each tick, but one alone where
+    // they run more than 200.
+    Row {
+        words: &["lockview", "--text", "--run"],
+        script: "TICK 3
+ASSEMBLE P
+ EXIT
+ END
+ENDASM
+STEP 0001
+STEP 0
+TICK 201
+",
+        calls: (MANY, MANY),
+        status: 0,
+        written: "line      111678
+tick      123
+
+# owns  / waits  * is granted  . has no request
+
+After line 8:
+  nobody waits
+",
+        told: "",
+    },
+    // Lines that end in CR and LF.
+    Row {
+        words: &["lockview", "--text", "--at", "2"],
+        script: "ENQ 1 0 1 A\r\nENQ 2 2 1 A\r\nDEQ 1 1\r\n",
+        calls: (MANY, MANY),
+        status: 0,
+        written: "line
+           123
+job 1   A  ##.
+job 2   A  ./*
+
+# owns  / waits  * is granted  . has no request
+
+After line 2:
+  nobody waits
+",
+        told: "",
+    },
 ];
+
+/// A script of 300 comments, of 250 characters each.
+fn long_script(alloc: Global) -> Result<Vec<u8>, AllocError> {
+    let mut script = Vec::new(alloc);
+    for _ in 0..300 {
+        for _ in 0..249 {
+            script.push(b';')?;
+        }
+        script.push(b'\n')?;
+    }
+    Ok(script)
+}
+
+/// However small the pieces are in which a script comes, it is drawn.
+#[test]
+fn small_pieces(rt: HostRuntime) {
+    let alloc = rt.alloc();
+    let script = long_script(alloc).unwrap();
+    let mut room = [0u8; 2048];
+    let mut told_room = [0u8; 2048];
+    let mut reader = TestIn::new(script.as_slice(), 1, 100_000);
+    let mut writer = TestOut::new(&mut room, 2048, MANY);
+    let mut errors = TestOut::new(&mut told_room, 2048, MANY);
+    let words = ["lockview", "--text"];
+    let status = program(alloc, &words, &mut reader, &mut writer, &mut errors);
+    assert_eq!(rt; status, 0);
+}
+
+/// Each line of a script is looked at, however long the script is.
+#[test]
+fn long_bars(rt: HostRuntime) {
+    let alloc = rt.alloc();
+    let mut script = Vec::new(alloc);
+    for _ in 0..30 {
+        script.extend_from_slice(b"ENQ 1 0 1 A\nDEQ 1 1\n").unwrap();
+    }
+    let drawing = draw_script(alloc, script.as_slice(), None).unwrap();
+    assert_eq!(rt; drawing.columns.len(), 60);
+    assert_eq!(rt; drawing.bars.len(), 30);
+    for (i, bar) in drawing.bars.as_slice().iter().enumerate() {
+        assert_eq!(rt; bar.from, 2 * i + 1);
+        assert_eq!(rt; bar.until, 2 * i + 2);
+    }
+}
 
 #[test]
 fn pictures(rt: HostRuntime) {

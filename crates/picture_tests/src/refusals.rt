@@ -44,6 +44,14 @@ fn refusals(rt: HostRuntime) {
             1,
             "lockview: line 2: column 5: expected a job, 1 to 63, not \"64\"\n",
         ),
+        // A CR is dropped before an LF alone, as lockmon drops it.
+        row_of(
+            TEXT,
+            "ENQ 1 0 1 X\r\nSHOW\r",
+            (MANY, MANY),
+            1,
+            "lockview: line 2: column 5: a carriage return that is not the last of the line\n",
+        ),
         row_of(
             AT_NINE,
             "SHOW\nQUIT\n",

@@ -1,7 +1,7 @@
 //! The rows of a test.
 
 use lock_picture::program;
-use queue_script::{TestIn, TestOut};
+use script_io::{TestIn, TestOut};
 use std::alloc::Global;
 
 /// More calls of a port than a test makes.

@@ -1,0 +1,17 @@
+use Rattle.std.proofs.Common.{◌<◌, ◌/◌, ◌%◌, ◌∙◌, ℕ, length, arith}
+use Rattle.std.proofs.Math.ListN.{length-set}
+use Rattle.queue_script.specs.WaitPairs.{pair_in}
+use Rattle.queue_script.proofs.PairLemmas.{set-known}
+use Rattle.lock_bars.specs.Graphs.{closes_circle}
+use Rattle.queue_script.specs.declared.circles.TheConstants.{NUMBERS}
+use Rattle.lock_bars.proofs.circles.circle_table.Goals as goal
+
+pub loop-i-preserved : goal.loop-i-preserved
+loop-i-preserved c =
+    let want = λ (i : ℕ). closes_circle (pair_in c.args.pairs.now) (i / NUMBERS) (i % NUMBERS) in
+    let size = c.loop-i.invariant.size in
+    let within : c.loop-i.i < length c.loop-i.circles = omega arith in
+    record {
+      size = length-set c.loop-i.circles c.loop-i.i c.does_close_circle.result ∙ size;
+      known = set-known c.loop-i.circles c.loop-i.i c.does_close_circle.result want within c.loop-i.invariant.known c.does_close_circle.ensures;
+    }

@@ -1,0 +1,23 @@
+-- The graph of waits as a table with a place for each two jobs (this project's profile).
+use Rattle.std.specs.Prelude.{◌≡◌, ◌<◌, ◌/◌, ◌%◌, ℕ, Bool, false, ◌&&◌, List, Option, Some, None, if◌then◌else◌, slice_index_or}
+use Rattle.word36.specs.declared.sizes.TheConstants.{JOBS}
+use Rattle.lock_queue.specs.Waits.{leads_to}
+use Rattle.queue_script.specs.WaitPairs.{pair_in}
+use Rattle.queue_script.specs.declared.circles.TheConstants.{NUMBERS, PAIRS}
+use Rattle.lock_bars.specs.declared.graph.Graph.{Graph}
+use Rattle.lock_bars.specs.declared.graph.Wait.{Wait}
+
+-- a table says of each two jobs whether this holds of them
+abbrev pub Tells : List Bool → (ℕ → ℕ → Bool) → Type 0
+Tells pairs holds = (i : ℕ) → i < PAIRS → slice_index_or pairs i false ≡ holds (i / NUMBERS) (i % NUMBERS)
+
+-- a wait is in a circle where a walk of waits leads back from the one that is waited for
+abbrev pub closes_circle : (ℕ → ℕ → Bool) → ℕ → ℕ → Bool
+closes_circle waits j k = waits j k && leads_to waits JOBS k j
+
+-- the wait of one job for another in a graph, if there is one: it is hard, and in a circle, where the tables say so
+abbrev pub wait_in : Graph → ℕ → ℕ → Option Wait
+wait_in graph j k =
+    if pair_in graph.waits j k
+    then Some (record { job = j; other = k; is_hard = pair_in graph.hard j k; is_in_circle = pair_in graph.circles j k })
+    else None

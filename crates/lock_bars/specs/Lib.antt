@@ -1,0 +1,4 @@
+pub mod Holds
+pub mod Bars
+pub mod Graphs
+pub mod Courses

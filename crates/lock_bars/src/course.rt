@@ -1,0 +1,75 @@
+//! What is seen along a script.
+ghost use Rattle.std.specs.Prelude.{◌≡◌, ◌+◌, ◌++◌, ◌∷◌, [], length, OnOk};
+ghost use Rattle.lock_bars.specs.Bars.{bars_after};
+
+use crate::bars::{Bar, record_line};
+use crate::columns::Column;
+use crate::graph::Graph;
+use lock_queue::LockTable;
+use std::alloc::{AllocError, Global};
+
+/// What was seen along a script so far.
+#[derive(Drop)]
+pub struct Course {
+    /// How many lines came.
+    pub lines: usize,
+    /// The columns of the picture, each of which shows what a line or a tick of it has left.
+    pub columns: Vec<Column>,
+    /// The bars, whose lines are the columns, counted from 1.
+    pub bars: Vec<Bar>,
+    /// The waits after the line that was asked for, and behind how many columns they stand.
+    pub waits: Option<(Graph, usize)>,
+}
+
+impl Course {
+    /// Nothing was seen yet.
+    pub fn new(alloc: Global) -> Self
+        ensures lines { result.lines ≡ 0 }
+        ensures columns { result.columns.items ≡ [] }
+        ensures bars { result.bars.items ≡ [] }
+    {
+        Course {
+            lines: 0,
+            columns: Vec::new(alloc),
+            bars: Vec::new(alloc),
+            waits: None,
+        }
+    }
+
+    /// Looks at the table that a line or a tick has left.
+    pub fn look<L: LockTable>(
+        &mut self,
+        alloc: Global,
+        column: Column,
+        table: &L,
+    ) -> Result<(), AllocError>
+        ensures lines { self.new.lines ≡ self.old.lines }
+        ensures columns { OnOk result (self.new.columns.items ≡ self.old.columns.items ++ column ∷ []) }
+        ensures bars { OnOk result (self.new.bars.items
+            ≡ bars_after (length self.old.columns.items + 1) self.old.bars.items (L.requests table.now)) }
+    {
+        self.columns.push(column)?;
+        let columns = self.columns.as_slice().len();
+        record_line(alloc, &mut self.bars, columns, table)
+    }
+
+    /// The line of this number is done: looks at the waits, where they are asked for after it.
+    pub fn end_line<L: LockTable>(
+        &mut self,
+        alloc: Global,
+        number: usize,
+        at: Option<usize>,
+        table: &L,
+    ) -> Result<(), AllocError>
+        ensures lines { self.new.lines ≡ number }
+        ensures columns { self.new.columns ≡ self.old.columns }
+        ensures bars { self.new.bars ≡ self.old.bars }
+    {
+        self.lines = number;
+        if at == Some(number) {
+            let graph = Graph::of(alloc, table)?;
+            self.waits = Some((graph, self.columns.len()));
+        }
+        Ok(())
+    }
+}

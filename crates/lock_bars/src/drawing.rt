@@ -1,0 +1,23 @@
+//! What a picture shows.
+
+use crate::bars::Bar;
+use crate::columns::Column;
+use crate::graph::Graph;
+use crate::lanes::Lane;
+
+/// What a picture shows: the bars along a script, and who waits for whom after one of its lines.
+#[derive(Drop)]
+pub struct Drawing {
+    /// What each column stands for.
+    pub columns: Vec<Column>,
+    /// The bars, over columns that are counted from 1.
+    pub bars: Vec<Bar>,
+    /// A lane for each job and each lock that it asked for.
+    pub lanes: Vec<Lane>,
+    /// The line after which the graph stands.
+    pub at: usize,
+    /// How many columns stand before it.
+    pub at_column: usize,
+    /// Who waits for whom then.
+    pub graph: Graph,
+}

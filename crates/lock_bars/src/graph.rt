@@ -1,0 +1,140 @@
+//! Who waits for whom.
+ghost use Rattle.std.specs.Prelude.{◌≡◌, ◌<◌, IfOk};
+ghost use Rattle.lock_queue.specs.Jobs.{waits_for};
+ghost use Rattle.lock_queue.specs.Waits.{waits_hard_for};
+ghost use Rattle.queue_script.specs.WaitPairs.{pair_in};
+ghost use Rattle.lock_bars.specs.Graphs.{Tells, closes_circle, wait_in};
+
+use crate::circles::circle_table;
+use crate::copies::requests_in;
+use crate::hard_waits::does_wait_hard_for;
+use lock_queue::{LockTable, Request};
+use queue_script::circles::{NUMBERS, PAIRS, PairTable};
+use queue_script::{pair_table, waiting_jobs};
+use std::alloc::{AllocError, Global};
+use std::fmt;
+
+/// Who waits for whom: for an owner, or for one that only stands in front, and in a circle or not.
+#[derive(Drop)]
+pub struct Graph {
+    /// Which job waits for which.
+    pub waits: PairTable,
+    /// Which waits for a lock that the other owns.
+    pub hard: PairTable,
+    /// Between which two a wait is part of a circle.
+    pub circles: PairTable,
+}
+
+/// The table of who waits for an owner.
+fn hard_table(requests: &[Request]) -> PairTable
+    ensures { Tells result (waits_hard_for requests.now) }
+{
+    let mut pairs = [false; PAIRS];
+    for i in 0..PAIRS {
+        pairs[i] = does_wait_hard_for(requests, (i / NUMBERS) as u8, (i % NUMBERS) as u8);
+    }
+    pairs
+}
+
+/// A wait of a graph.
+#[derive(Clone, Copy, Debug)]
+pub struct Wait {
+    /// Who waits.
+    pub job: usize,
+    /// For whom.
+    pub other: usize,
+    /// Whether for a lock that the other owns.
+    pub is_hard: bool,
+    /// Whether a walk of waits leads back.
+    pub is_in_circle: bool,
+}
+
+impl Graph {
+    /// The graph of a table.
+    pub fn of<L: LockTable>(alloc: Global, table: &L) -> Result<Self, AllocError>
+        ensures waits { IfOk result (λ graph. Tells graph.waits (waits_for (L.requests table.now))) }
+        ensures hard { IfOk result (λ graph. Tells graph.hard (waits_hard_for (L.requests table.now))) }
+        ensures circles { IfOk result (λ graph. Tells graph.circles (closes_circle (pair_in graph.waits))) }
+    {
+        let requests = requests_in(alloc, table)?;
+        let waiting = waiting_jobs(table);
+        let waits = pair_table(table, &waiting);
+        let hard = hard_table(requests.as_slice());
+        let circles = circle_table(&waits, &waiting);
+        Ok(Graph {
+            waits,
+            hard,
+            circles,
+        })
+    }
+
+    /// The wait of one job for another, if there is one. Jobs are numbered 1 to 63.
+    pub fn wait(&self, job: usize, other: usize) -> Option<Wait>
+        requires job { job < NUMBERS }
+        requires other { other < NUMBERS }
+        ensures { result ≡ wait_in self.now job other }
+    {
+        let i = NUMBERS * job + other;
+        if !self.waits[i] {
+            return None;
+        }
+        Some(Wait {
+            job,
+            other,
+            is_hard: self.hard[i],
+            is_in_circle: self.circles[i],
+        })
+    }
+
+    /// Whether a job waits, or is waited for.
+    pub fn has(&self, job: usize) -> bool
+        requires { job < NUMBERS }
+    {
+        for other in 1..NUMBERS {
+            if self.wait(job, other).is_some() || self.wait(other, job).is_some() {
+                return true;
+            }
+        }
+        false
+    }
+
+    /// Whether nobody waits.
+    pub fn is_empty(&self) -> bool {
+        for job in 1..NUMBERS {
+            if self.has(job) {
+                return false;
+            }
+        }
+        true
+    }
+
+    /// Whether a job is in a circle.
+    pub fn is_in_circle(&self, job: usize) -> bool
+        requires { job < NUMBERS }
+    {
+        for other in 1..NUMBERS {
+            if let Some(wait) = self.wait(job, other)
+                && wait.is_in_circle
+            {
+                return true;
+            }
+        }
+        false
+    }
+}
+
+impl fmt::Display for Wait {
+    fn fmt<W: fmt::Write>(&self, f: &mut fmt::Formatter<W>) -> fmt::Result {
+        let (job, other) = (self.job, self.other);
+        write!(f, "job {job} waits for job {other}")?;
+        if self.is_hard {
+            f.write_str(", hard")?;
+        } else {
+            f.write_str(", soft")?;
+        }
+        if self.is_in_circle {
+            f.write_str(", in a circle")?;
+        }
+        Ok(())
+    }
+}

@@ -1,0 +1,89 @@
+//! What is seen along a script of `lockmon queue`.
+ghost use Rattle.std.specs.Prelude.{◌≡◌, ℕ, [], Some, IsTrue, IfOk, IfErr, length, true, false};
+ghost use Rattle.std.specs.Str.Lines.{lines};
+ghost use Rattle.queue_script.specs.Asks.{asks_right};
+ghost use Rattle.queue_script.specs.Borrowed.{asked_by_line, lent};
+ghost use Rattle.queue_script.specs.QueueScripts.{effect_of, call_effect, unless_busy};
+ghost use Rattle.script_io.specs.declared.endings.Ending.TheVariants as ending;
+ghost use Rattle.lock_queue.specs.WellFormed.{is_call};
+ghost use Rattle.lock_bars.specs.Courses.{course_of, IsFaultOf};
+
+use crate::columns::Column;
+use crate::course::Course;
+use crate::errors::{MOST_LINES, ScriptError};
+use crate::script_lines::ScriptLines;
+use lock_queue::{LockCall, LockTable, Refusal};
+use queue_script::{CallRoom, Command, read_command};
+use script_io::Ending;
+use std::alloc::Global;
+
+/// Makes a job's call, unless it is refused before or the job waits.
+fn call_unless_busy<L: LockTable>(table: &mut L, job: u8, asked: Result<&LockCall, Refusal>)
+    requires { IfOk (lent asked) (λ call. IsTrue (is_call job call)) }
+    ensures { L.requests table.new
+        ≡ (unless_busy (L.requests table.old) job (call_effect L.REQS (L.requests table.old) job (lent asked.entry))).requests }
+{
+    if table.waiting(job) {
+        return;
+    }
+    match asked {
+        Ok(call) => {
+            let _ = table.call(job, call);
+        }
+        Err(_) => {}
+    }
+}
+
+/// Does what a line asks for. It answers an ending where the script ends there.
+fn follow<L: LockTable>(table: &mut L, command: Option<Command<'_>>) -> Option<Ending>
+    requires { IsTrue (asks_right (asked_by_line command)) }
+    ensures requests { (n : ℕ) → L.requests table.new
+        ≡ (effect_of L.REQS n (L.requests table.old) (asked_by_line command.entry)).requests }
+    ensures ending { (n : ℕ) → result ≡ (effect_of L.REQS n (L.requests table.old) (asked_by_line command.entry)).ending }
+    ensures no_source { result ≡ Some ending.Source → false ≡ true }
+{
+    match command {
+        None => return Some(Ending::Script),
+        Some(Command::Quit) => return Some(Ending::Done),
+        Some(Command::Call(job, asked)) => call_unless_busy(table, job, asked),
+        Some(Command::Free(job)) => table.release(job),
+        Some(Command::Nothing | Command::Status(_, _) | Command::Show | Command::Waits) => {}
+    }
+    None
+}
+
+/// Looks along the lines of a script, each of which works on the table.
+pub fn watch_queue<L: LockTable>(
+    alloc: Global,
+    table: &mut L,
+    script: &[u8],
+    at: Option<usize>,
+) -> Result<Course, ScriptError>
+    requires { L.requests table.old ≡ [] }
+    ensures bars { IfOk result (λ seen. seen.bars.items ≡ (course_of L.REQS [] 0 (lines script.now) []).bars) }
+    ensures lines { IfOk result (λ seen. seen.lines ≡ (course_of L.REQS [] 0 (lines script.now) []).lines) }
+    ensures columns { IfOk result (λ seen. length seen.columns.items ≡ seen.lines) }
+    ensures done { IfOk result (λ seen. (course_of L.REQS [] 0 (lines script.now) []).ending ≡ ending.Done) }
+    ensures fault { IfErr result (λ e. IsFaultOf (course_of L.REQS [] 0 (lines script.now) []) e) }
+{
+    let mut room = CallRoom::new();
+    let mut seen = Course::new(alloc);
+    let mut lines = ScriptLines::of(script);
+    while let Some(line) = lines.next() {
+        if seen.lines >= MOST_LINES {
+            return Err(ScriptError::TooLong);
+        }
+        let number = seen.lines + 1;
+        let command = read_command(&mut room, line);
+        match follow(table, command) {
+            Some(Ending::Done) => return Ok(seen),
+            Some(Ending::Script | Ending::Source) => {
+                return Err(ScriptError::Line(number));
+            }
+            None => {}
+        }
+        seen.look(alloc, Column::of_line(number), table)?;
+        seen.end_line(alloc, number, at, table)?;
+    }
+    Ok(seen)
+}

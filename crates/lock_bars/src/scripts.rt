@@ -1,0 +1,63 @@
+//! The pictures of scripts.
+ghost use Rattle.std.specs.Prelude.{◌≡◌, IfOk, IfErr, length, true, false};
+ghost use Rattle.queue_script.specs.QueueScripts.{transcript};
+ghost use Rattle.script_io.specs.declared.endings.Ending.TheVariants as ending;
+ghost use Rattle.lock_bars.specs.Courses.{course, IsFaultOf, tells_no_line};
+
+use crate::course::Course;
+use crate::drawing::Drawing;
+use crate::errors::ScriptError;
+use crate::graph::Graph;
+use crate::lanes::lanes_of;
+use crate::queue_course::watch_queue;
+use lock_queue::LockTable;
+use queue_script::ScriptTable;
+use std::alloc::Global;
+
+/// The drawing of what was seen along a script, with the waits after the line `at`, where that was
+/// asked for, or else at its end, where the table is this.
+pub fn drawing_of<L: LockTable>(
+    alloc: Global,
+    seen: Course,
+    at: Option<usize>,
+    table: &L,
+) -> Result<Drawing, ScriptError>
+    ensures columns { IfOk result (λ drawing. drawing.columns ≡ seen.columns) }
+    ensures bars { IfOk result (λ drawing. drawing.bars ≡ seen.bars) }
+    ensures no_line { IfErr result (λ e. tells_no_line e ≡ true) }
+{
+    let Course {
+        lines,
+        columns,
+        bars,
+        waits,
+    } = seen;
+    let (graph, at_column) = match waits {
+        Some(waits) => waits,
+        None if at.is_none() => (Graph::of(alloc, table)?, columns.len()),
+        None => return Err(ScriptError::Short(lines)),
+    };
+    let lanes = lanes_of(alloc, bars.as_slice())?;
+    Ok(Drawing {
+        columns,
+        bars,
+        lanes,
+        at: at.unwrap_or(lines),
+        at_column,
+        graph,
+    })
+}
+
+/// Draws a script of `lockmon queue`, with the waits after its last line or after the line `at`. It
+/// is refused at its first line that is not in the grammar, and where it has more than 10,000 lines.
+pub fn draw_script(alloc: Global, script: &[u8], at: Option<usize>) -> Result<Drawing, ScriptError>
+    ensures bars { IfOk result (λ drawing. drawing.bars.items ≡ (course script.now).bars) }
+    ensures columns { IfOk result (λ drawing. length drawing.columns.items ≡ (course script.now).lines) }
+    ensures done { IfOk result (λ drawing. (course script.now).ending ≡ ending.Done) }
+    ensures fault { IfErr result (λ e. IsFaultOf (course script.now) e) }
+    ensures ends { (course script.now).ending ≡ (transcript script.now).ending }
+{
+    let mut table = ScriptTable::new(alloc)?;
+    let seen = watch_queue(alloc, &mut table, script, at)?;
+    drawing_of(alloc, seen, at, &table)
+}

@@ -1,3 +1,0 @@
-pub mod Holds
-pub mod Bars
-pub mod Graphs

@@ -1,0 +1,149 @@
+//! The measures of a picture, in pixels.
+
+ghost use Rattle.std.specs.Prelude.{◌<◌};
+
+use lock_bars::{Drawing, Lane};
+
+/// The height of a lane, and of the bars in it.
+pub const LANE: usize = 22;
+
+pub const BAR: usize = 14;
+
+/// What stands above the lanes, and between the lanes of two jobs.
+pub const TOP: usize = 70;
+
+pub const GAP: usize = 8;
+
+/// The left margin, and the room for `job 63`.
+pub const MARGIN: usize = 24;
+
+pub const JOB: usize = 56;
+
+/// The room below the lanes, for the legend.
+const BOTTOM: usize = 96;
+
+/// The width of a character of a lock's name.
+const CHARACTER: usize = 8;
+
+/// How wide a column is where there are few, how wide they may be together, and how wide one is at
+/// least.
+const WIDE: usize = 24;
+
+const MOST_WIDTH: usize = 960;
+
+const NARROW: usize = 3;
+
+/// The least width of what stands beside the names, for the heading and the legend.
+const LEAST_WIDTH: usize = 420;
+
+/// Where things stand.
+#[derive(Clone, Copy, Debug)]
+pub struct Frame {
+    /// Where the first column begins.
+    pub left: usize,
+    /// The width of a column.
+    pub column: usize,
+    /// How many columns there are.
+    pub columns: usize,
+    /// Where the lanes end.
+    pub lanes_end: usize,
+    /// Where the graph begins, and how wide it is.
+    pub graph_left: usize,
+    pub graph_width: usize,
+    /// The size of the whole.
+    pub width: usize,
+    pub height: usize,
+}
+
+/// The width of a column where there are so many.
+fn column_of(columns: usize) -> usize {
+    (MOST_WIDTH / columns.max(1)).min(WIDE).max(NARROW)
+}
+
+/// The height of the lanes.
+fn lanes_height(lanes: &[Lane]) -> usize {
+    let mut height = 0usize;
+    let mut last = 0;
+    for lane in lanes {
+        if lane.job != last && last != 0 {
+            height = height.saturating_add(GAP);
+        }
+        last = lane.job;
+        height = height.saturating_add(LANE);
+    }
+    height.max(LANE)
+}
+
+/// The width of the longest name of a lock.
+fn names_width(lanes: &[Lane]) -> usize {
+    let mut longest = 0;
+    for lane in lanes {
+        longest = longest.max(lane.label.len());
+    }
+    longest.saturating_mul(CHARACTER).saturating_add(16)
+}
+
+impl Frame {
+    /// The measures of a drawing, whose graph has so many jobs.
+    pub fn of(drawing: &Drawing, jobs: usize) -> Self {
+        let lanes = drawing.lanes.as_slice();
+        let left = MARGIN
+            .saturating_add(JOB)
+            .saturating_add(names_width(lanes));
+        let columns = drawing.columns.len();
+        let column = column_of(columns);
+        let right = column.saturating_mul(columns).max(LEAST_WIDTH);
+        let graph_left = left.saturating_add(right).saturating_add(MARGIN);
+        let graph_width = graph_width(jobs);
+        let lanes_end = TOP.saturating_add(lanes_height(lanes));
+        let tallest = lanes_end.max(TOP.saturating_add(graph_height(jobs)));
+        Frame {
+            left,
+            column,
+            columns,
+            lanes_end,
+            graph_left,
+            graph_width,
+            width: graph_left
+                .saturating_add(graph_width)
+                .saturating_add(MARGIN),
+            height: tallest.saturating_add(BOTTOM),
+        }
+    }
+
+    /// Where a column begins; columns are counted from 1.
+    pub fn x_of(&self, column: usize) -> usize {
+        let before = column.saturating_sub(1).saturating_mul(self.column);
+        self.left.saturating_add(before)
+    }
+
+    /// Every which line has its number above it.
+    pub fn numbered(&self) -> usize
+        ensures { 0 < result }
+    {
+        if self.column >= WIDE {
+            1
+        } else if self.column >= 8 {
+            5
+        } else {
+            20
+        }
+    }
+}
+
+/// The distance of the jobs of a graph from its middle.
+pub fn radius_of(jobs: usize) -> usize {
+    jobs.saturating_mul(12).max(70)
+}
+
+/// The size of a graph with so many jobs, beside what stands round their circle.
+fn graph_width(jobs: usize) -> usize {
+    radius_of(jobs).saturating_mul(2).saturating_add(120)
+}
+
+fn graph_height(jobs: usize) -> usize {
+    if jobs == 0 {
+        return 0;
+    }
+    radius_of(jobs).saturating_mul(2).saturating_add(40)
+}

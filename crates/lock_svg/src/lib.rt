@@ -1,0 +1,12 @@
+//! Pictures as SVG of who holds which lock, and of who waits for whom, along a script or a run.
+#![tactic(auto)]
+
+mod along;
+mod frame;
+mod run_course;
+mod svg;
+mod svg_graph;
+
+pub use along::Along;
+pub use run_course::RunCourse;
+pub use svg::AsSvg;
