@@ -17,6 +17,10 @@ pub struct Asked<'a> {
     pub trace: bool,
     /// Whether each lock call and grant is told.
     pub locks: bool,
+    /// So many of the last steps of a job are told where it ends badly.
+    pub history: usize,
+    /// Waits of more ticks than these are told, and how long they took, if that is asked for.
+    pub waits: Option<u64>,
     /// The names of the sources' files, 1 to 63.
     pub files: Vec<&'a str>,
     ghost right: { IsSetup blocks quantum },

@@ -1,42 +1,36 @@
 //! The jobs of a run.
 
-use crate::labels::{Label, Spot};
-use crate::snapshot::Snapshot;
-use crate::standing::Standing;
+use crate::history::History;
 use crate::terminal::Terminal;
-use crate::waits::lock_wait;
-use core_store::BlockCore;
 use job_sched::{Stop, Wait};
-use ka_cpu::StopReason;
-use monitor::System;
-use queue_script::ScriptTable;
+use run_facts::Standing;
+use run_notes::{CallLook, Machine, Snapshot, ToldJob, lock_wait_text, stop_text};
 use std::alloc::{AllocError, Global};
-use word36::Address;
 
-/// The machine, with the tables that it keeps its locks and its core in.
-pub type Machine = System<ScriptTable, BlockCore>;
+/// What a job does next, as it stands before that.
+#[derive(Drop)]
+pub struct Look {
+    /// What it executes, and what it finds there.
+    pub snapshot: Snapshot,
+    /// The lock call that it makes, if it makes one and these are told.
+    pub call: Option<CallLook>,
+}
 
 /// A job of a run.
 #[derive(Drop)]
 pub struct RunningJob<'a> {
-    /// Its number, 1 to 63.
-    pub number: u8,
+    /// What is told of it.
+    pub told: ToldJob,
     /// The name of its source's file.
     pub file: &'a str,
-    /// The labels of its source.
-    pub labels: Vec<Label>,
     /// Its terminal line.
     pub terminal: Terminal,
     /// In how many steps it ran.
     pub steps: u64,
-    /// Where it was before the last of them.
-    pub last: Address,
-    /// Where it is now.
-    pub next: Address,
-    /// The highest place of its program.
-    pub highest: u32,
+    /// Its last steps, where these are kept.
+    pub history: History,
     /// What it does next, where that is told.
-    pub before: Option<Snapshot>,
+    pub look: Option<Look>,
 }
 
 /// How a job stands.
@@ -47,21 +41,6 @@ pub fn standing_of(machine: &Machine, number: u8) -> Standing {
             Some(stop) => Standing::Stopped(stop),
             None => Standing::Goes(job.wait),
         },
-    }
-}
-
-/// Why a job is stopped.
-pub fn stop_text(stop: Stop) -> &'static str {
-    match stop {
-        Stop::Loaded => "not started",
-        Stop::Exit => "EXIT",
-        Stop::Monitor => "EXIT 1",
-        Stop::Typed => "stopped by CTRL-C",
-        Stop::Fault(StopReason::IllegalAddress) => "illegal address",
-        Stop::Fault(StopReason::IllegalInstruction) => "illegal instruction",
-        Stop::Fault(StopReason::Halt) => "HALT",
-        Stop::Fault(StopReason::Pushdown) => "pushdown list ran over",
-        Stop::Fault(StopReason::AddressChain) => "address chain without end",
     }
 }
 
@@ -78,23 +57,15 @@ fn wait_text(
         Wait::Char => String::from_str(alloc, "waits for a character"),
         Wait::Line => String::from_str(alloc, "waits for a line"),
         Wait::Room(_) => String::from_str(alloc, "waits for its output to be taken"),
-        Wait::Queue(0, _) => lock_wait(alloc, machine.locks(), number),
+        Wait::Queue(0, _) => lock_wait_text(alloc, machine.locks(), number),
         Wait::Queue(limit, _) => {
-            let text = lock_wait(alloc, machine.locks(), number)?;
+            let text = lock_wait_text(alloc, machine.locks(), number)?;
             format!(in alloc; "{}, for {limit} ticks more", text.as_str())
         }
     }
 }
 
 impl RunningJob<'_> {
-    /// A place of its program.
-    pub fn spot(&self, place: Address) -> Spot<'_> {
-        Spot {
-            labels: self.labels.as_slice(),
-            place,
-        }
-    }
-
     /// How it stands, in words, and where.
     fn standing_text(
         &self,
@@ -102,21 +73,18 @@ impl RunningJob<'_> {
         machine: &Machine,
         standing: Standing,
     ) -> Result<String, AllocError> {
-        let last = self.spot(self.last);
+        let last = self.told.spot(self.told.last);
+        let next = self.told.spot(self.told.next);
         match standing {
             Standing::Gone => format!(in alloc; "LOGOUT at {last}"),
             Standing::Stopped(Stop::Typed) => {
-                let next = self.spot(self.next);
                 format!(in alloc; "{} at {next}", stop_text(Stop::Typed))
             }
             Standing::Stopped(stop) => format!(in alloc; "{} at {last}", stop_text(stop)),
-            Standing::Goes(Wait::None) => {
-                let next = self.spot(self.next);
-                format!(in alloc; "still runs at {next}")
-            }
+            Standing::Goes(Wait::None) => format!(in alloc; "still runs at {next}"),
             Standing::Goes(wait) => {
-                let wait = wait_text(alloc, machine, self.number, wait)?;
-                format!(in alloc; "{wait}, at {last}")
+                let wait = wait_text(alloc, machine, self.told.number, wait)?;
+                format!(in alloc; "{}, at {last}", wait.as_str())
             }
         }
     }
@@ -129,8 +97,8 @@ impl RunningJob<'_> {
         standing: Standing,
     ) -> Result<String, AllocError> {
         let text = self.standing_text(alloc, machine, standing)?;
-        let (number, file, steps) = (self.number, self.file, self.steps);
+        let (number, file, steps) = (self.told.number, self.file, self.steps);
         let unit = if steps == 1 { "step" } else { "steps" };
-        format!(in alloc; "job {number}, {file}: {text}, {steps} {unit}\n")
+        format!(in alloc; "job {number}, {file}: {}, {steps} {unit}\n", text.as_str())
     }
 }

@@ -1,43 +1,69 @@
 //! What is told of a run while it goes on.
 
 use crate::failure::Failure;
-use crate::jobs::{Machine, RunningJob};
-use crate::lock_notes::{Entry, call_line, entries_of, grant_lines, limit_line, lock_call_of};
+use crate::jobs::{Look, RunningJob};
 use crate::outlet::Outlet;
-use crate::snapshot::{Snapshot, snapshot_of};
-use crate::tracing;
+use ka_isa::{Family, classify, decode};
+use lock_queue::Request;
 use monitor::JobView;
+use run_facts::requests_in;
+use run_notes::{
+    CallLook, Machine, Snapshot, WaitClocks, call_line, circle_line, circle_of, grant_lines,
+    limit_line, snapshot_of, step_line, time_limit_line,
+};
 use script_io::ByteOut;
-use std::alloc::Global;
+use std::alloc::{AllocError, Global};
 
 /// What is told of a run while it goes on.
 #[derive(Drop)]
 pub struct Notes {
     /// Whether each step is told.
-    trace: bool,
+    pub trace: bool,
     /// Whether lock calls and grants are told.
-    locks: bool,
-    /// The requests for locks, as they were told last.
-    entries: Vec<Entry>,
+    pub locks: bool,
+    /// Whether the last steps of each job are kept.
+    pub history: bool,
+    /// How long requests wait, where that is told.
+    pub clocks: Option<WaitClocks>,
+    /// The requests for locks, as they were looked at last.
+    pub requests: Vec<Request>,
+}
+
+/// Whether a step may have changed the requests for locks: it was a call, or its job goes on no longer.
+fn may_change_requests(machine: &Machine, number: u8, before: &Snapshot) -> bool {
+    if classify(decode(before.executed).op) == Family::Calli {
+        return true;
+    }
+    match machine.job(number) {
+        Some(job) => job.stop.is_some(),
+        None => true,
+    }
 }
 
 impl Notes {
-    /// What is wanted, of which nothing was told yet.
-    pub fn new(alloc: Global, trace: bool, locks: bool) -> Self {
-        Notes {
-            trace,
-            locks,
-            entries: Vec::new(alloc),
-        }
+    /// Whether the requests for locks are looked at.
+    fn looks_at_requests(&self) -> bool {
+        self.locks || self.clocks.is_some()
     }
 
     /// What is kept of a job that has not run since, where something is told.
-    pub fn look(&self, machine: &Machine, job: &RunningJob<'_>) -> Option<Snapshot> {
-        if self.trace || self.locks {
-            Some(snapshot_of(machine, job.number, job.next))
+    pub fn look(
+        &self,
+        alloc: Global,
+        machine: &Machine,
+        job: &RunningJob<'_>,
+    ) -> Result<Option<Look>, AllocError> {
+        if !self.trace && !self.history && !self.looks_at_requests() {
+            return Ok(None);
+        }
+        let number = job.told.number;
+        let snapshot = snapshot_of(machine, number, job.told.next);
+        let call = if self.locks {
+            CallLook::of(alloc, machine, number, &snapshot)?
         } else {
             None
-        }
+        };
+        Ok(Some(Look { snapshot, call }))
     }
 
     /// Tells of a turn of a job, as it was looked at before.
@@ -46,39 +72,28 @@ impl Notes {
         alloc: Global,
         machine: &Machine,
         tick: u64,
-        job: &RunningJob<'_>,
+        job: &mut RunningJob<'_>,
         errors: &mut Outlet<E>,
     ) -> Result<(), Failure> {
-        let Some(before) = &job.before else {
+        let Some(look) = &job.look else {
             return Ok(());
         };
-        if self.trace {
-            let line = tracing::step_line(alloc, machine, job, before)?;
-            errors.write(line.as_str().as_bytes())?;
-        }
-        if self.locks {
-            self.tell_locks(alloc, machine, tick, job.number, before, errors)?;
-        }
-        Ok(())
-    }
-
-    /// Tells of a job's lock call, and of the grants that its turn has made.
-    fn tell_locks<E: ByteOut + Drop>(
-        &mut self,
-        alloc: Global,
-        machine: &Machine,
-        tick: u64,
-        number: u8,
-        before: &Snapshot,
-        errors: &mut Outlet<E>,
-    ) -> Result<(), Failure> {
-        if !before.is_interrupted(machine, number) {
-            if let Some(call) = lock_call_of(before) {
-                let line = call_line(alloc, machine, tick, number, before, &call)?;
+        if self.trace || self.history {
+            let line = step_line(alloc, machine, tick, &job.told, &look.snapshot)?;
+            if self.trace {
                 errors.write(line.as_str().as_bytes())?;
+            } else {
+                job.history.keep(line)?;
             }
         }
-        self.tell_grants(alloc, machine, tick, errors)
+        let number = job.told.number;
+        if self.locks {
+            tell_call(alloc, machine, tick, number, look, errors)?;
+        }
+        if may_change_requests(machine, number, &look.snapshot) {
+            self.tell_grants(alloc, machine, tick, errors)?;
+        }
+        Ok(())
     }
 
     /// Tells of a job whose wait for locks has ended with its limit of time: how it stands now.
@@ -91,17 +106,17 @@ impl Notes {
         errors: &mut Outlet<E>,
     ) -> Result<(), Failure> {
         if self.trace {
-            let line = tracing::limit_line(alloc, job, after)?;
+            let line = time_limit_line(alloc, tick, &job.told, after)?;
             errors.write(line.as_str().as_bytes())?;
         }
         if self.locks {
-            let line = limit_line(alloc, tick, job.number, self.entries.as_slice())?;
+            let line = limit_line(alloc, tick, job.told.number, self.requests.as_slice())?;
             errors.write(line.as_str().as_bytes())?;
         }
         Ok(())
     }
 
-    /// Tells of the grants that were made since the requests were told last.
+    /// Tells of the grants that were made since the requests were looked at last.
     pub fn tell_grants<E: ByteOut + Drop>(
         &mut self,
         alloc: Global,
@@ -109,14 +124,84 @@ impl Notes {
         tick: u64,
         errors: &mut Outlet<E>,
     ) -> Result<(), Failure> {
-        if !self.locks {
+        if !self.looks_at_requests() {
             return Ok(());
         }
-        let lines = grant_lines(alloc, tick, self.entries.as_slice(), machine.locks())?;
-        if !lines.is_empty() {
+        let requests = requests_in(alloc, machine.locks())?;
+        let (before, now) = (self.requests.as_slice(), requests.as_slice());
+        if self.locks {
+            let lines = grant_lines(alloc, tick, before, now)?;
             errors.write(lines.as_str().as_bytes())?;
         }
-        self.entries = entries_of(alloc, machine.locks())?;
+        if let Some(clocks) = &mut self.clocks {
+            let lines = clocks.note(alloc, tick, before, now)?;
+            errors.write(lines.as_str().as_bytes())?;
+        }
+        self.requests = requests;
         Ok(())
     }
+
+    /// Tells of jobs that wait for locks for longer than is to be told.
+    pub fn tell_overdue<E: ByteOut + Drop>(
+        &mut self,
+        alloc: Global,
+        machine: &Machine,
+        tick: u64,
+        errors: &mut Outlet<E>,
+    ) -> Result<(), Failure> {
+        if let Some(clocks) = &mut self.clocks {
+            let requests = self.requests.as_slice();
+            let lines = clocks.overdue(alloc, tick, machine.locks(), requests)?;
+            errors.write(lines.as_str().as_bytes())?;
+        }
+        Ok(())
+    }
+
+    /// Tells how long requests waited, by lock.
+    pub fn tell_table<E: ByteOut + Drop>(
+        &mut self,
+        alloc: Global,
+        tick: u64,
+        errors: &mut Outlet<E>,
+    ) -> Result<(), Failure> {
+        if let Some(clocks) = &mut self.clocks {
+            let lines = clocks.table(alloc, tick, self.requests.as_slice())?;
+            errors.write(lines.as_str().as_bytes())?;
+        }
+        Ok(())
+    }
+}
+
+/// Tells of a job's lock call, if its turn was one.
+fn tell_call<E: ByteOut + Drop>(
+    alloc: Global,
+    machine: &Machine,
+    tick: u64,
+    number: u8,
+    look: &Look,
+    errors: &mut Outlet<E>,
+) -> Result<(), Failure> {
+    if let Some(call) = &look.call {
+        if !look.snapshot.is_interrupted(machine, number) {
+            let line = call_line(alloc, machine, tick, number, &look.snapshot, call)?;
+            errors.write(line.as_str().as_bytes())?;
+        }
+    }
+    Ok(())
+}
+
+/// Tells of the circle of waits that a job, which waits for locks since this step, has closed, if it
+/// has closed one.
+pub fn tell_circle<E: ByteOut + Drop>(
+    alloc: Global,
+    machine: &Machine,
+    tick: u64,
+    number: u8,
+    errors: &mut Outlet<E>,
+) -> Result<(), Failure> {
+    if let Some(circle) = circle_of(alloc, machine.locks(), number)? {
+        let line = circle_line(alloc, tick, machine.locks(), circle.as_slice())?;
+        errors.write(line.as_str().as_bytes())?;
+    }
+    Ok(())
 }

@@ -4,17 +4,18 @@ ghost use Rattle.machine.specs.Setups.{IsSetup};
 
 use crate::asked::Asked;
 use crate::failure::Failure;
+use crate::history::History;
 use crate::input::Input;
-use crate::jobs::{Machine, RunningJob, standing_of};
+use crate::jobs::{RunningJob, standing_of};
 use crate::notes::Notes;
 use crate::outlet::Outlet;
 use crate::session::Session;
-use crate::sources::{Assembled, Program, Source, assemble_source};
-use crate::standing::status_of;
-use crate::statuses::REFUSED;
 use crate::terminal::Terminal;
 use monitor::{Answer, Config, Event, RefusedEvent};
+use run_facts::{Ending, REFUSED, has_ended_well, status_of};
+use run_notes::{Machine, ToldJob, WaitClocks, has_circle};
 use script_io::{ByteIn, ByteOut};
+use source_labels::{Assembled, Program, Source, assemble_source, warnings_of};
 use std::alloc::Global;
 use word36::{Address, Image};
 
@@ -29,8 +30,12 @@ fn assemble_all<'a, E: ByteOut + Drop>(
     let mut are_right = true;
     for source in sources {
         match assemble_source(alloc, source)? {
-            Assembled::Program(program) => programs.push(program)?,
-            Assembled::Fault(text) => {
+            Assembled::Program(program) => {
+                let warnings = warnings_of(alloc, program.file, &program.image, &program.places)?;
+                errors.write(warnings.as_str().as_bytes())?;
+                programs.push(program)?;
+            }
+            Assembled::Refused(text) => {
                 errors.write(text.as_slice())?;
                 are_right = false;
             }
@@ -70,6 +75,7 @@ fn log_in_all<'a, E: ByteOut + Drop>(
     alloc: Global,
     machine: &mut Machine,
     programs: Vec<Program<'a>>,
+    history: usize,
     errors: &mut Outlet<E>,
 ) -> Result<Option<Vec<RunningJob<'a>>>, Failure> {
     let is_numbered = programs.len() > 1;
@@ -79,7 +85,7 @@ fn log_in_all<'a, E: ByteOut + Drop>(
         let Program {
             file,
             image,
-            labels,
+            places,
         } = program;
         let number = match log_in(machine, line, &image) {
             Ok(number) => number,
@@ -92,15 +98,17 @@ fn log_in_all<'a, E: ByteOut + Drop>(
         };
         let start = Address::try_new(image.start).unwrap_or(Address::new(0));
         jobs.push(RunningJob {
-            number,
+            told: ToldJob {
+                number,
+                places,
+                last: start,
+                next: start,
+            },
             file,
-            labels,
             terminal: Terminal::new(line, is_numbered),
             steps: 0,
-            last: start,
-            next: start,
-            highest: image.words.as_slice().last().map_or(0, |word| word.0),
-            before: None,
+            history: History::new(alloc, history),
+            look: None,
         })?;
         line = line.saturating_add(1);
     }
@@ -112,16 +120,35 @@ fn tell_ends<E: ByteOut + Drop>(
     alloc: Global,
     machine: &Machine,
     jobs: &[RunningJob<'_>],
+    is_cut: bool,
     errors: &mut Outlet<E>,
 ) -> Result<u8, Failure> {
     let mut standings = Vec::new(alloc);
     for job in jobs {
-        let standing = standing_of(machine, job.number);
+        let standing = standing_of(machine, job.told.number);
+        if !has_ended_well(standing) {
+            job.history.write(errors)?;
+        }
         let line = job.end_line(alloc, machine, standing)?;
         errors.write(line.as_str().as_bytes())?;
         standings.push(standing)?;
     }
-    Ok(status_of(standings.as_slice()))
+    let ending = Ending {
+        has_circle: has_circle(machine.locks()),
+        is_cut,
+    };
+    Ok(status_of(ending, standings.as_slice()))
+}
+
+/// What is told of a run.
+fn notes_of(alloc: Global, asked: &Asked<'_>) -> Notes {
+    Notes {
+        trace: asked.trace,
+        locks: asked.locks,
+        history: asked.history > 0,
+        clocks: asked.waits.map(|most| WaitClocks::new(alloc, most)),
+        requests: Vec::new(alloc),
+    }
 }
 
 /// The size of a machine.
@@ -148,7 +175,7 @@ pub fn run_sources<R: ByteIn + Drop, W: ByteOut + Drop, E: ByteOut + Drop>(
         return Ok(REFUSED);
     };
     let mut machine = Machine::boot(alloc, config_of(asked.blocks, asked.quantum))?;
-    let Some(jobs) = log_in_all(alloc, &mut machine, programs, errors)? else {
+    let Some(jobs) = log_in_all(alloc, &mut machine, programs, asked.history, errors)? else {
         return Ok(REFUSED);
     };
     let mut session = Session {
@@ -163,14 +190,23 @@ pub fn run_sources<R: ByteIn + Drop, W: ByteOut + Drop, E: ByteOut + Drop>(
         is_awaited: false,
         is_limited: false,
         ticks: 0,
-        notes: Notes::new(alloc, asked.trace, asked.locks),
+        notes: notes_of(alloc, asked),
     };
-    session.look_at_all();
+    session.look_at_all()?;
     let ran = session.run(asked.steps, errors);
     if !session.output.is_line_whole() {
         errors.write(b"\n")?;
     }
-    let status = tell_ends(alloc, &session.machine, session.jobs.as_slice(), errors)?;
+    let is_cut = ran == Ok(true);
+    let ticks = session.ticks;
+    session.notes.tell_table(alloc, ticks, errors)?;
+    let status = tell_ends(
+        alloc,
+        &session.machine,
+        session.jobs.as_slice(),
+        is_cut,
+        errors,
+    )?;
     ran?;
     Ok(status)
 }

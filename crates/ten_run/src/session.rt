@@ -1,13 +1,17 @@
 //! A run of programs.
+ghost use Rattle.std.specs.Prelude.{◌≡◌, length, min};
+ghost use Rattle.word36.specs.declared.sizes.TheConstants.{JOBS};
+ghost use Rattle.run_facts.specs.Typing.{line_for, text_for};
 
 use crate::failure::Failure;
 use crate::input::Input;
-use crate::jobs::{Machine, RunningJob};
-use crate::notes::Notes;
+use crate::jobs::RunningJob;
+use crate::notes::{Notes, tell_circle};
 use crate::outlet::Outlet;
-use crate::typing::target_of;
 use job_sched::Wait;
 use monitor::{Answer, Event, RefusedEvent};
+use run_facts::{Target, target_of};
+use run_notes::Machine;
 use script_io::{ByteIn, ByteOut};
 use std::alloc::Global;
 use tty_lines::Char7;
@@ -78,6 +82,14 @@ fn is_limited(machine: &Machine, number: u8) -> bool {
     }
 }
 
+/// Whether a job waits for locks.
+fn waits_for_locks(machine: &Machine, number: u8) -> bool {
+    match machine.job(number) {
+        Some(job) => job.stop.is_none() && matches!(job.wait, Wait::Queue(_, _)),
+        None => false,
+    }
+}
+
 /// Whether a job sleeps.
 fn sleeps(machine: &Machine, number: u8) -> bool {
     match machine.job(number) {
@@ -86,26 +98,38 @@ fn sleeps(machine: &Machine, number: u8) -> bool {
     }
 }
 
+/// Where a line of the input is typed, by the jobs that there are: each has a terminal line.
+fn target_among<'t>(jobs: &[RunningJob<'_>], text: &'t [u8]) -> Target<'t>
+    ensures line { result.line ≡ line_for (min (length jobs.now) JOBS) text.now }
+    ensures text { result.text.now ≡ text_for (min (length jobs.now) JOBS) text.now }
+{
+    target_of(jobs.len().min(usize::from(JOBS)) as u8, text)
+}
+
 impl<R: ByteIn + Drop, W: ByteOut + Drop> Session<'_, R, W> {
     /// Looks at all jobs, of which none has run.
-    pub fn look_at_all(&mut self) {
+    pub fn look_at_all(&mut self) -> Result<(), Failure> {
         for job in self.jobs.as_mut_slice().iter_mut() {
-            job.before = self.notes.look(&self.machine, job);
+            job.look = self.notes.look(self.alloc, &self.machine, job)?;
         }
+        Ok(())
     }
 
-    /// Makes at most so many steps, until no job goes on; what is told of them goes to `errors`.
+    /// Makes at most so many steps, until no job goes on, and says whether it ended since it made them
+    /// all; what is told of them goes to `errors`.
     pub fn run<E: ByteOut + Drop>(
         &mut self,
         most: u64,
         errors: &mut Outlet<E>,
-    ) -> Result<(), Failure> {
+    ) -> Result<bool, Failure> {
         for _ in 0..most {
             if !self.round(errors)? {
-                break;
+                self.flush()?;
+                return Ok(false);
             }
         }
-        self.flush()
+        self.flush()?;
+        Ok(true)
     }
 
     /// Makes a step, with a tick behind it; false where no job can go on.
@@ -115,6 +139,9 @@ impl<R: ByteIn + Drop, W: ByteOut + Drop> Session<'_, R, W> {
             Answer::Ran(number) => {
                 self.note_step(number)?;
                 self.tell_step(number, errors)?;
+                if waits_for_locks(&self.machine, number) {
+                    tell_circle(self.alloc, &self.machine, self.ticks, number, errors)?;
+                }
             }
             _ => {
                 if !self.can_go_on() {
@@ -127,6 +154,8 @@ impl<R: ByteIn + Drop, W: ByteOut + Drop> Session<'_, R, W> {
         if self.is_limited {
             self.note_limits(errors)?;
         }
+        self.notes
+            .tell_overdue(self.alloc, &self.machine, self.ticks, errors)?;
         Ok(true)
     }
 
@@ -136,15 +165,16 @@ impl<R: ByteIn + Drop, W: ByteOut + Drop> Session<'_, R, W> {
         let tick = self.ticks;
         let (mut are_limited, mut has_ended) = (false, false);
         for job in self.jobs.as_mut_slice().iter_mut() {
-            let Some(view) = self.machine.job(job.number) else {
+            let number = job.told.number;
+            let Some(view) = self.machine.job(number) else {
                 continue;
             };
-            are_limited |= is_limited(&self.machine, job.number);
-            if view.pc != job.next {
+            are_limited |= is_limited(&self.machine, number);
+            if view.pc != job.told.next {
                 has_ended = true;
-                job.next = view.pc;
+                job.told.next = view.pc;
                 self.notes.tell_limit(self.alloc, tick, job, &view, errors)?;
-                job.before = self.notes.look(&self.machine, job);
+                job.look = self.notes.look(self.alloc, &self.machine, job)?;
             }
         }
         self.is_limited = are_limited;
@@ -167,7 +197,7 @@ impl<R: ByteIn + Drop, W: ByteOut + Drop> Session<'_, R, W> {
         let tick = self.ticks;
         self.notes
             .tell(self.alloc, &self.machine, tick, job, errors)?;
-        job.before = self.notes.look(&self.machine, job);
+        job.look = self.notes.look(self.alloc, &self.machine, job)?;
         Ok(())
     }
 
@@ -180,9 +210,9 @@ impl<R: ByteIn + Drop, W: ByteOut + Drop> Session<'_, R, W> {
             return Ok(());
         };
         job.steps = job.steps.saturating_add(1);
-        job.last = job.next;
+        job.told.last = job.told.next;
         if let Some(view) = self.machine.job(number) {
-            job.next = view.pc;
+            job.told.next = view.pc;
         }
         let line = job.terminal.line;
         for _ in 0..MOST_TAKES {
@@ -227,10 +257,7 @@ impl<R: ByteIn + Drop, W: ByteOut + Drop> Session<'_, R, W> {
             return Ok(false);
         }
         line.push(b'\n')?;
-        let target = target_of(
-            self.jobs.len().min(usize::from(JOBS)) as u8,
-            line.as_slice(),
-        );
+        let target = target_among(self.jobs.as_slice(), line.as_slice());
         self.line = target.line;
         self.text.clear();
         self.text.extend_from_slice(target.text)?;
@@ -250,7 +277,7 @@ impl<R: ByteIn + Drop, W: ByteOut + Drop> Session<'_, R, W> {
                 .jobs
                 .as_slice()
                 .iter()
-                .any(|job| waits_for_input(machine, job.number));
+                .any(|job| waits_for_input(machine, job.told.number));
             if !self.is_awaited || !self.take_line()? {
                 return Ok(());
             }
@@ -260,14 +287,20 @@ impl<R: ByteIn + Drop, W: ByteOut + Drop> Session<'_, R, W> {
     }
 
     /// Whether the machine, of which no job is ready, can go on: a job sleeps, or waits for locks with a
-    /// limit of time, or waits for characters of which more may come. Where what was typed elsewhere finds no room, the rest of it is lost.
+    /// limit of time, or waits for characters of which more may come. Where what was typed elsewhere
+    /// finds no room, the rest of it is lost.
     fn can_go_on(&mut self) -> bool {
         let machine = &self.machine;
         let jobs = self.jobs.as_slice();
-        if jobs.iter().any(|job| sleeps(machine, job.number) || is_limited(machine, job.number)) {
+        let goes_on = jobs.iter().any(|job| {
+            sleeps(machine, job.told.number) || is_limited(machine, job.told.number)
+        });
+        if goes_on {
             return true;
         }
-        let is_awaited = jobs.iter().any(|job| waits_for_input(machine, job.number));
+        let is_awaited = jobs
+            .iter()
+            .any(|job| waits_for_input(machine, job.told.number));
         self.typed = self.text.len();
         self.is_awaited = is_awaited;
         is_awaited && !self.input.has_ended()

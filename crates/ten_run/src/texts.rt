@@ -13,8 +13,9 @@ pub const PROGRAM_END: &str = "As in:  ten examples/counter.mac\n\
     What jobs type out goes to standard output, how each ended to standard error.\n\
     Jobs, ticks, steps, levels, groups and amounts are told in decimal, ids of requests too, with a\n\
     point behind (27. is 33 in a source); places, words, registers and user codes are told in octal.\n\
-    Status: 0 all jobs ended by EXIT, LOGOUT or HALT, 1 a source was refused or a job ended otherwise,\n\
-    2 wrong words, 3 reading, writing or memory failed.";
+    Status: 0 all jobs ended by EXIT, LOGOUT or HALT; 1 a source was refused, or a job was left waiting\n\
+    or stopped by CTRL-C; 2 wrong words; 3 reading, writing or memory failed; 4 jobs wait for each\n\
+    other in a circle; 5 the run ended by --steps; 6 the processor stopped a job at a fault.";
 
 /// `--blocks`.
 pub const BLOCKS: &str = "blocks of core of 1024 words that the jobs share, 1 to 256 [default: 64]";
@@ -27,11 +28,20 @@ pub const QUANTUM: &str =
 pub const STEPS: &str = "ends the run after so many steps";
 
 /// `--trace`.
-pub const TRACE: &str = "tells each step on standard error: job, place, instruction, what changed";
+pub const TRACE: &str =
+    "tells each step on standard error: tick, job, place, instruction, what changed";
 
 /// `--locks`.
 pub const LOCKS: &str =
     "tells each ENQ., DEQ., ENQC., grant and time limit that ends on standard error";
+
+/// `--history`.
+pub const HISTORY: &str =
+    "tells the last N steps of each job that did not end by EXIT, LOGOUT or HALT, 1 to 10000";
+
+/// `--waits`.
+pub const WAITS: &str =
+    "tells waits for locks of more than N ticks, how long each grant took, and a table by lock";
 
 /// `FILE`.
 pub const FILES: &str = "sources, 1 to 63: job n runs the n-th of them, at terminal line n - 1";

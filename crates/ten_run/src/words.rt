@@ -6,7 +6,7 @@ use crate::texts;
 use clap::error::ErrorKind;
 use clap::{Arg, ArgAction, ArgMatches, Command, Error};
 use machine::MOST_QUANTUM;
-use queue_script::number;
+use script_io::number;
 use std::alloc::{AllocError, Global};
 use std::convert::AsStr;
 use word36::{JOBS, MOST_BLOCKS};
@@ -16,6 +16,9 @@ const DEFAULT_BLOCKS: u64 = 64;
 
 /// The most steps that `--steps` takes.
 const MOST_STEPS: u64 = 1_000_000_000_000;
+
+/// The most steps that `--history` takes.
+const MOST_HISTORY: u64 = 10_000;
 
 /// What the words, which begin with the program's name, ask for.
 pub fn read_words<'a, S: AsStr>(alloc: Global, words: &'a [S]) -> Result<Asked<'a>, Refusal> {
@@ -52,7 +55,9 @@ fn make_command<'a>(alloc: Global) -> Result<Command<'a>, AllocError> {
     let with_steps = with_quantum.arg(make_option(alloc, "steps", texts::STEPS))?;
     let with_trace = with_steps.arg(make_flag(alloc, "trace", texts::TRACE))?;
     let with_locks = with_trace.arg(make_flag(alloc, "locks", texts::LOCKS))?;
-    with_locks.arg(
+    let with_history = with_locks.arg(make_option(alloc, "history", texts::HISTORY))?;
+    let with_waits = with_history.arg(make_option(alloc, "waits", texts::WAITS))?;
+    with_waits.arg(
         Arg::new(alloc, "FILE")
             .help(texts::FILES)
             .required(true)
@@ -117,6 +122,8 @@ fn read<'a>(alloc: Global, matches: &ArgMatches<'a>) -> Result<Asked<'a>, Wrong<
     let blocks = number_of(matches, "blocks", u64::from(MOST_BLOCKS))?.unwrap_or(DEFAULT_BLOCKS);
     let quantum = number_of(matches, "quantum", u64::from(MOST_QUANTUM))?.unwrap_or(1);
     let steps = number_of(matches, "steps", MOST_STEPS)?.unwrap_or(u64::MAX);
+    let history = number_of(matches, "history", MOST_HISTORY)?.unwrap_or(0);
+    let waits = number_of(matches, "waits", MOST_STEPS)?;
     let given = matches.get_strs("FILE").unwrap_or(&[]);
     if given.len() > usize::from(JOBS) {
         return Err(Wrong::Files);
@@ -129,6 +136,8 @@ fn read<'a>(alloc: Global, matches: &ArgMatches<'a>) -> Result<Asked<'a>, Wrong<
         steps,
         trace: matches.get_flag("trace"),
         locks: matches.get_flag("locks"),
+        history: history as usize,
+        waits,
         files,
     })
 }

@@ -2,6 +2,10 @@
 #![tactic(auto)]
 
 #[cfg(test)]
+mod circles;
+#[cfg(test)]
+mod faults;
+#[cfg(test)]
 mod helps;
 #[cfg(test)]
 mod labels;

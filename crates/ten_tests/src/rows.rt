@@ -1,10 +1,11 @@
 //! A run, and what it must write.
 
 use script_io::{TestIn, TestOut};
+use source_labels::Source;
 use std::alloc::Global;
 use std::process::Abort;
 use std::str;
-use ten_run::{Outlet, Source, read_words, run_sources};
+use ten_run::{Outlet, read_words, run_sources};
 
 /// Room for an output.
 pub const ROOM: usize = 2048;

@@ -56,7 +56,7 @@ const ONE: [Row<'static>; 9] = [
         input: "",
         output: "",
         told: "job 1, loop.mac: still runs at LOOP, 5 steps\n",
-        status: 1,
+        status: 5,
     },
     Row {
         words: &["ten", "wild.mac"],
@@ -64,7 +64,7 @@ const ONE: [Row<'static>; 9] = [
         input: "",
         output: "",
         told: "job 1, wild.mac: address chain without end at A, 1 step\n",
-        status: 1,
+        status: 6,
     },
     Row {
         words: &["ten", "empty.mac"],
@@ -119,8 +119,8 @@ const SEVERAL: [Row<'static>; 4] = [
         ],
         input: "",
         output: "",
-        told: "bad.mac:2: \"LOPE\" is not defined (code 2)\n     MOVEI 1,LOPE  ; no label\n\
-            worse.mac:2: the source has no END (code 7)\n     EXIT\n",
+        told: "bad.mac:2:10: error: \"LOPE\" is not defined (code 2)\n     MOVEI 1,LOPE  ; no label\n             ^\n\
+            worse.mac:2:2: error: the source has no END (code 7)\n     EXIT\n     ^\n",
         status: 1,
     },
     Row {

@@ -1,5 +1,6 @@
 //! What is told of jobs that wait for locks.
 
+use crate::notes::GIVER;
 use crate::programs::{HOLDER, WAITER};
 use crate::rows::{Row, walk};
 use crate::sharers::{
@@ -7,7 +8,7 @@ use crate::sharers::{
 };
 
 /// Rows whose standard error tells of locks, and of the jobs that still wait at the end.
-const ROWS: [Row<'static>; 6] = [
+const ROWS: [Row<'static>; 8] = [
     // The lock is named that does not fit, and not one that is shared with its owner.
     Row {
         words: &["ten", "shares.mac", "holds.mac", "wants.mac"],
@@ -83,6 +84,49 @@ job 2, limited.mac: EXIT at TAKE+2, 5 steps
 job 3, late.mac: EXIT at TAKE+3, 5 steps
 ",
         status: 0,
+    },
+    // Long waits, how long grants took, and the table; a wait that ends with its limit.
+    Row {
+        words: &[
+            "ten",
+            "--waits",
+            "3",
+            "giver.mac",
+            "first.mac",
+            "limited.mac",
+            "late.mac",
+        ],
+        sources: &[GIVER, WAITER, LIMITED, LATE_SHARER],
+        input: "",
+        output: "",
+        told: "\
+tick 72, job 2: waits for lock X, held by job 1, for 4 ticks
+tick 73, job 3: waits for lock X, held by job 1, for 4 ticks
+tick 74, job 4: waits for lock X/S, behind job 2, for 4 ticks
+tick 135, job 2: granted after 67 ticks, X
+tick 136, job 4: granted after 66 ticks, X/S
+lock                 requests   waited  longest     mean  still waiting
+X                           4        3       67     46.0              0
+job 1, giver.mac: EXIT at 000161, 14 steps
+job 2, first.mac: EXIT at TAKE+3, 5 steps
+job 3, limited.mac: EXIT at TAKE+2, 5 steps
+job 4, late.mac: EXIT at TAKE+3, 5 steps
+",
+        status: 0,
+    },
+    // The last steps of a job that is left waiting, and none of one that ended.
+    Row {
+        words: &["ten", "--history", "2", "holder.mac", "waiter.mac"],
+        sources: &[HOLDER, WAITER],
+        input: "",
+        output: "",
+        told: "\
+job 1, holder.mac: HALT at STOP, 3 steps
+tick 63, job 2, TAKE: MOVE 1,[..]             E 153  1/ 000000,,000146
+tick 64, job 2, TAKE+1: ENQ. 1,               E 151  skips  waits
+job 2, waiter.mac: waits for lock X, held by job 1, at TAKE+1, 4 steps
+",
+        status: 1,
     },
     // Groups and quotas.
     Row {

@@ -1,0 +1,43 @@
+//! Numbers in octal and in decimal.
+ghost use Rattle.std.specs.Prelude.{◌≡◌, ◌<◌, ◌≤◌, ◌^◌, IfSome};
+
+use word36::Word;
+
+/// One more than the largest count of steps that is read.
+const COUNTS: u64 = 1 << 40;
+
+/// The word of octal digits, of which the last twelve count; `None` where there is none, or another
+/// character.
+pub fn octal(text: &[u8]) -> Option<Word> {
+    if text.is_empty() {
+        return None;
+    }
+    let mut value = Word::new(0);
+    for byte in text {
+        if *byte < b'0' || *byte > b'7' {
+            return None;
+        }
+        let digit = u64::from(*byte - b'0');
+        value = Word::low_bits(value.number() * 8 + digit);
+    }
+    Some(value)
+}
+
+/// The number of decimal digits; `None` where there is none, or another character, or it is 2^40 or
+/// more.
+pub fn decimal(text: &[u8]) -> Option<u64>
+    ensures { IfSome result (λ n. n < 2 ^ 40) }
+{
+    if text.is_empty() {
+        return None;
+    }
+    let mut value = 0u64;
+    for byte in text {
+        if *byte < b'0' || *byte > b'9' {
+            return None;
+        }
+        let digit = u64::from(*byte - b'0');
+        value = value.checked_mul(10)?.checked_add(digit)?;
+    }
+    if value < COUNTS { Some(value) } else { None }
+}

@@ -1,0 +1,59 @@
+//! What of a text is still to be read.
+ghost use Rattle.std.specs.Prelude.{◌≡◌, ◌<◌, ◌≤◌, length, IfSome};
+
+/// What of a text is still to be read.
+#[derive(Clone, Copy, Debug)]
+pub struct Reader<'a> {
+    /// The bytes.
+    pub rest: &'a [u8],
+}
+
+/// Whether a byte may stand in a number or a name.
+pub fn is_word_character(byte: u8) -> bool {
+    byte.is_ascii_alphanumeric() || byte == b'.' || byte == b'%'
+}
+
+/// The place of the first byte that can stand in no number and no name.
+fn word_end(text: &[u8]) -> Option<usize>
+    ensures within { IfSome result (λ i. i < length text.now) }
+{
+    text.iter().position(|byte| !is_word_character(*byte))
+}
+
+/// A text without the blanks before it and behind it.
+pub fn trimmed(text: &[u8]) -> &[u8] {
+    text.trim_ascii()
+}
+
+impl<'a> Reader<'a> {
+    /// Passes blanks.
+    pub fn skip(&mut self) {
+        self.rest = self.rest.trim_ascii_start();
+    }
+
+    /// Passes a byte, if it comes next.
+    pub fn eat(&mut self, byte: u8) -> bool {
+        match self.rest {
+            [first, others @ ..] if *first == byte => {
+                self.rest = others;
+                true
+            }
+            _ => false,
+        }
+    }
+
+    /// Passes the characters of a number or a name, as many as come, and gives them.
+    pub fn word(&mut self) -> &'a [u8] {
+        let text = self.rest;
+        match word_end(text) {
+            Some(end) => {
+                self.rest = &text[end..];
+                &text[..end]
+            }
+            None => {
+                self.rest = &[];
+                text
+            }
+        }
+    }
+}

@@ -1,0 +1,221 @@
+//! Values: sums of numbers and symbols, halves, and instructions.
+
+use crate::numbers::{decimal, octal};
+use crate::reader::Reader;
+use crate::wrong::Wrong;
+use arrayvec::ArrayString;
+use ka_isa::{Named, named};
+use word36::{Word, sixbit};
+
+/// A symbol and what it stands for.
+#[derive(Clone, Copy, Debug)]
+pub struct Symbol {
+    /// Its six characters in SIXBIT, the first in the highest bits; blanks, of code 0, stand behind a
+    /// shorter name.
+    pub name: u64,
+    /// What it stands for.
+    pub value: Word,
+}
+
+/// What the symbols of a line stand for.
+#[derive(Clone, Copy, Debug)]
+pub struct Scope<'a> {
+    /// The symbols of the program.
+    pub symbols: &'a [Symbol],
+    /// The place that is open or was last: `.`.
+    pub here: Word,
+    /// The last quantity: `$Q`.
+    pub last: Word,
+}
+
+/// How many characters of a name count.
+const NAME_CHARACTERS: usize = 6;
+
+/// The name of a word of upper case characters, the first six of which count.
+fn name_of(word: &[u8]) -> u64 {
+    let mut upper = [0u8; NAME_CHARACTERS];
+    let mut length = 0;
+    for (i, byte) in word.iter().take(NAME_CHARACTERS).enumerate() {
+        if i < NAME_CHARACTERS {
+            upper[i] = byte.to_ascii_uppercase();
+            length = i + 1;
+        }
+    }
+    let Some(name) = upper.get(..length) else {
+        return 0;
+    };
+    match sixbit(name) {
+        Some(name) => name.number(),
+        None => 0,
+    }
+}
+
+impl Scope<'_> {
+    /// What a symbol stands for.
+    fn value_of(&self, name: u64) -> Option<Word> {
+        for symbol in self.symbols {
+            if symbol.name == name {
+                return Some(symbol.value);
+            }
+        }
+        None
+    }
+}
+
+/// The value of a number or a name: digits are octal, and decimal where a point stands behind them.
+fn word_value(word: &[u8], scope: &Scope<'_>) -> Result<Word, Wrong> {
+    let Some(first) = word.first().copied() else {
+        return Err(Wrong::NoValue);
+    };
+    if first == b'.' && word.len() == 1 {
+        return Ok(scope.here);
+    }
+    if !first.is_ascii_digit() {
+        let name = name_of(word);
+        return scope.value_of(name).ok_or(Wrong::Undefined(name));
+    }
+    if let Some(digits) = word.strip_suffix(b".".as_slice()) {
+        return match decimal(digits) {
+            Some(number) => Ok(Word::low_bits(number)),
+            None => Err(Wrong::NoDecimal),
+        };
+    }
+    octal(word).ok_or(Wrong::NoOctal)
+}
+
+/// A term: a number, a name, `.` or `$Q`.
+fn term(reader: &mut Reader<'_>, scope: &Scope<'_>) -> Result<Word, Wrong> {
+    reader.skip();
+    if reader.eat(b'$') {
+        if reader.eat(b'Q') || reader.eat(b'q') {
+            return Ok(scope.last);
+        }
+        return Err(Wrong::NoEscape);
+    }
+    let word = reader.word();
+    let value = word_value(word, scope)?;
+    reader.skip();
+    Ok(value)
+}
+
+/// A sum less a word.
+fn less(value: Word, other: Word) -> Word {
+    value.sum(other.not(), true)
+}
+
+/// A sum of terms with `+` and `-`, a sign before the first allowed.
+fn sum(reader: &mut Reader<'_>, scope: &Scope<'_>) -> Result<Word, Wrong> {
+    reader.skip();
+    let mut value = if reader.eat(b'-') {
+        less(Word::new(0), term(reader, scope)?)
+    } else {
+        term(reader, scope)?
+    };
+    for _ in 0..reader.rest.len() {
+        if reader.eat(b'+') {
+            value = value.sum(term(reader, scope)?, false);
+        } else if reader.eat(b'-') {
+            value = less(value, term(reader, scope)?);
+        } else {
+            break;
+        }
+    }
+    Ok(value)
+}
+
+/// A sum, or two with `,,` between them for the halves of a word.
+fn halves(reader: &mut Reader<'_>, scope: &Scope<'_>) -> Result<Word, Wrong> {
+    let first = sum(reader, scope)?;
+    if !reader.rest.starts_with(b",,".as_slice()) {
+        return Ok(first);
+    }
+    reader.eat(b',');
+    reader.eat(b',');
+    let second = sum(reader, scope)?;
+    Ok(Word::join(first.right(), second.right()))
+}
+
+/// Puts an accumulator, an address and an index register to an instruction.
+fn with_operands(reader: &mut Reader<'_>, scope: &Scope<'_>, word: Word) -> Result<Word, Wrong> {
+    let mut number = word.number();
+    reader.skip();
+    if reader.rest.is_empty() {
+        return Ok(word);
+    }
+    let mut is_indirect = reader.eat(b'@');
+    let mut address = if reader.rest.starts_with(b"(".as_slice()) {
+        Word::new(0)
+    } else {
+        sum(reader, scope)?
+    };
+    if !is_indirect && reader.eat(b',') {
+        number |= u64::from(address.right() & 0o17) << 23;
+        reader.skip();
+        is_indirect = reader.eat(b'@');
+        address = if reader.rest.is_empty() || reader.rest.starts_with(b"(".as_slice()) {
+            Word::new(0)
+        } else {
+            sum(reader, scope)?
+        };
+    }
+    if is_indirect {
+        number |= 1 << 22;
+    }
+    number |= u64::from(address.right());
+    if reader.eat(b'(') {
+        let index = sum(reader, scope)?;
+        number |= u64::from(index.right() & 0o17) << 18;
+        if !reader.eat(b')') {
+            return Err(Wrong::NoParenthesis);
+        }
+    }
+    Ok(Word::low_bits(number))
+}
+
+/// The instruction that a word names, where it names one and no symbol.
+fn instruction_of(word: &[u8], scope: &Scope<'_>) -> Option<Named> {
+    if word.len() > NAME_CHARACTERS || scope.value_of(name_of(word)).is_some() {
+        return None;
+    }
+    let mut name = ArrayString::<6>::new();
+    for byte in word {
+        if name
+            .try_push(char::from(byte.to_ascii_uppercase()))
+            .is_err()
+        {
+            return None;
+        }
+    }
+    named(name.as_str())
+}
+
+/// The value of a text: a sum, two halves, or an instruction.
+pub fn value(text: &[u8], scope: &Scope<'_>) -> Result<Word, Wrong> {
+    let mut reader = Reader { rest: text };
+    reader.skip();
+    let mut ahead = reader;
+    let word = ahead.word();
+    let value = match instruction_of(word, scope) {
+        Some(instruction) => with_operands(&mut ahead, scope, instruction.word)?,
+        None => {
+            ahead = reader;
+            halves(&mut ahead, scope)?
+        }
+    };
+    ahead.skip();
+    if ahead.rest.is_empty() {
+        Ok(value)
+    } else {
+        Err(Wrong::Behind)
+    }
+}
+
+/// The address of a text: a value below 1000000 octal.
+pub fn address(text: &[u8], scope: &Scope<'_>) -> Result<u32, Wrong> {
+    let value = value(text, scope)?;
+    if value.left() == 0 {
+        Ok(value.right())
+    } else {
+        Err(Wrong::LargeAddress)
+    }
+}

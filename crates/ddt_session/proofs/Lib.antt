@@ -1,0 +1,2 @@
+pub mod CircleLemmas
+pub mod RunLemmas

@@ -1,0 +1,84 @@
+-- Where a run of steps stops (this project's profile).
+use Rattle.std.specs.Prelude.{ℕ, ◌==◌, ◌&&◌, nat_le, Bool, true, false, not, List, Option, Some, None, position}
+use Rattle.word36.specs.declared.sizes.TheConstants.{JOBS}
+use Rattle.lock_queue.specs.Jobs.{waits_for}
+use Rattle.lock_queue.specs.Waits.{is_in_circle}
+use Rattle.job_sched.specs.Ready.{next_job}
+use Rattle.job_sched.specs.declared.job.Wait.{Wait}
+use Rattle.job_sched.specs.declared.job.Wait.TheVariants.{None as Nothing, Sleep, Char, Line, Room, Queue}
+use Rattle.machine.specs.Machine.{S, after}
+use Rattle.machine.specs.Rounds.{rounds}
+use Rattle.machine.specs.Views.{job_view, word_in}
+use Rattle.machine.specs.declared.event.Answer.{Answer}
+use Rattle.machine.specs.declared.event.Answer.TheVariants.{Ran, Idle, Done, Text, JobNumber, Refused}
+use Rattle.machine.specs.declared.view.JobView.{JobView}
+use Rattle.ddt_session.specs.declared.stops.Stop.{Stop}
+use Rattle.ddt_session.specs.declared.stops.Stop.TheVariants.{Place, Turn, Word, Circle, Input}
+
+-- the job that a step's answer names
+abbrev pub ran_of : Answer → Option ℕ
+ran_of (Ran n) = Some n
+ran_of Idle = None
+ran_of Done = None
+ran_of (Text text) = None
+ran_of (JobNumber n) = None
+ran_of (Refused r) = None
+
+-- the job whose turn is next, if one is ready
+abbrev pub next_of : S → Option ℕ
+next_of s = next_job s.world.table s.world.lines s.world.requests
+
+-- a step with a tick behind it
+abbrev pub round : S → S
+round s = after (rounds 1 true) s
+
+abbrev pub is_job : Option ℕ → ℕ → Bool
+is_job (Some n) job = n == job
+is_job None job = false
+
+abbrev pub stands_at : Option JobView → ℕ → Bool
+stands_at (Some view) place = view.pc == place
+stands_at None place = false
+
+abbrev pub is_word : Option ℕ → Option ℕ → Bool
+is_word (Some a) (Some b) = a == b
+is_word (Some a) None = false
+is_word None (Some b) = false
+is_word None None = true
+
+-- whether a job waits in a circle of jobs that wait for each other
+abbrev pub waits_in_circle : S → ℕ → Bool
+waits_in_circle s job = nat_le job JOBS && is_in_circle (waits_for s.world.requests) job
+
+abbrev pub is_input : Wait → Bool
+is_input Nothing = false
+is_input (Sleep ticks) = false
+is_input Char = true
+is_input Line = true
+is_input (Room places) = false
+is_input (Queue limit ac) = false
+
+abbrev pub waits_for_input : Option JobView → Bool
+waits_for_input (Some view) = is_input view.wait
+waits_for_input None = false
+
+abbrev pub is_some_in_circle : S → Option ℕ → Bool
+is_some_in_circle s (Some job) = waits_in_circle s job
+is_some_in_circle s None = false
+
+abbrev pub does_some_wait_for_input : S → Option ℕ → Bool
+does_some_wait_for_input s (Some job) = waits_for_input (job_view s.world job)
+does_some_wait_for_input s None = false
+
+-- whether a stop holds after a round in which a job ran: that job stands at a place, or had its turn, or waits in a circle
+-- or for characters, or a word is another
+abbrev pub is_met : S → Option ℕ → Stop → Bool
+is_met s ran (Place job place) = is_job ran job && stands_at (job_view s.world job) place
+is_met s ran (Turn job) = is_job ran job
+is_met s ran (Word job place word) = not (is_word (word_in s.world job place) word)
+is_met s ran Circle = is_some_in_circle s ran
+is_met s ran Input = does_some_wait_for_input s ran
+
+-- the first of some stops that holds after the round that begins in a state
+abbrev pub met_after : List Stop → S → Option ℕ
+met_after stops s = position (is_met (round s) (next_of s)) stops

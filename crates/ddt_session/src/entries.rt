@@ -1,0 +1,71 @@
+//! What has happened to a machine, as entries.
+ghost use Rattle.std.specs.Prelude.{◌≡◌};
+ghost use Rattle.ddt_session.specs.Timelines.{made, played, ticked_so_often};
+
+use crate::instance::Machine;
+use monitor::{Answer, Event};
+use tty_lines::Char7;
+use word36::{Image, TAKEN_AT_ONCE};
+
+/// What has happened to a machine: so many steps, or one event.
+#[derive(Drop)]
+pub enum Entry {
+    /// So many steps, with a tick behind each.
+    Rounds(u32),
+    /// A job begins at a line with an image.
+    Login(u8, Image),
+    /// A job starts.
+    Start(u8),
+    /// A job goes on.
+    Continue(u8),
+    /// A job is gone.
+    Kill(u8),
+    /// A character is typed at a line.
+    Typed(u8, Char7),
+    /// 64 characters at most leave the front of a line's output.
+    Take(u8),
+    /// So many ticks.
+    Ticks(u32),
+}
+
+/// So many ticks, one after the other.
+fn tick(machine: &mut Machine, count: u32)
+    ensures { machine.new ≡ ticked_so_often count machine.old }
+{
+    // An event may hold an image, of which these have none: the prover wants its type to be named.
+    let _image: Option<&Image> = None;
+    for i in 0..count {
+        machine.event(&Event::Tick);
+    }
+}
+
+/// Makes an entry happen, and gives the machine's answer.
+pub fn perform(machine: &mut Machine, entry: &Entry) -> Answer
+    ensures { machine.new ≡ made machine.old entry.now }
+{
+    match entry {
+        Entry::Rounds(count) => {
+            machine.steps(*count, true);
+            Answer::Done
+        }
+        Entry::Login(line, image) => machine.event(&Event::Login(*line, image)),
+        Entry::Start(number) => machine.event(&Event::Start(*number)),
+        Entry::Continue(number) => machine.event(&Event::Continue(*number)),
+        Entry::Kill(number) => machine.event(&Event::Kill(*number)),
+        Entry::Typed(line, character) => machine.event(&Event::Typed(*line, *character)),
+        Entry::Take(line) => machine.event(&Event::Take(*line, TAKEN_AT_ONCE)),
+        Entry::Ticks(count) => {
+            tick(machine, *count);
+            Answer::Done
+        }
+    }
+}
+
+/// Makes entries happen one after the other.
+pub fn play(machine: &mut Machine, entries: &[Entry])
+    ensures { machine.new ≡ played entries.now machine.old }
+{
+    for i in 0..entries.len() {
+        perform(machine, &entries[i]);
+    }
+}

@@ -1,0 +1,113 @@
+//! What has happened to a machine, once more and step by step.
+
+use crate::entries::{Entry, perform};
+use crate::instance::Machine;
+use crate::stops::round;
+use crate::timeline::ticks_of;
+
+/// A second machine, to which what has happened to another happens once more.
+#[derive(Drop)]
+pub struct Replay<'a> {
+    machine: Machine,
+    /// What is still to happen: whole entries, and so many steps behind them.
+    entries: &'a [Entry],
+    part: u32,
+    /// What is left of the steps of an entry.
+    left: u32,
+    ticks: u64,
+    steps: u64,
+}
+
+impl<'a> Replay<'a> {
+    /// Some entries and so many steps behind them are to happen to a machine.
+    pub fn new(machine: Machine, entries: &'a [Entry], part: u32) -> Self {
+        Replay {
+            machine,
+            entries,
+            part,
+            left: 0,
+            ticks: 0,
+            steps: 0,
+        }
+    }
+
+    /// The machine.
+    pub fn machine(&self) -> &Machine {
+        &self.machine
+    }
+
+    /// How many ticks went by.
+    pub fn ticks(&self) -> u64 {
+        self.ticks
+    }
+
+    /// How many steps were made.
+    pub fn steps(&self) -> u64 {
+        self.steps
+    }
+
+    /// Takes the next entry, of which steps are left or that happens; false where there is none.
+    fn next_entry(&mut self) -> bool {
+        match self.entries {
+            [] => {
+                self.left = self.part;
+                self.part = 0;
+                self.left > 0
+            }
+            [entry, later @ ..] => {
+                match entry {
+                    Entry::Rounds(count) => self.left = *count,
+                    _ => {
+                        perform(&mut self.machine, entry);
+                        self.ticks = self.ticks.saturating_add(u64::from(ticks_of(entry)));
+                    }
+                }
+                self.entries = later;
+                true
+            }
+        }
+    }
+
+    /// Makes what happens before the next step; false where no step is left.
+    pub fn go_before_step(&mut self) -> bool {
+        for _ in 0..u64::MAX {
+            if self.left > 0 {
+                return true;
+            }
+            if !self.next_entry() {
+                return false;
+            }
+        }
+        false
+    }
+
+    /// Makes a step, if one is left: the job that ran, if one did.
+    pub fn step(&mut self) -> Option<u8> {
+        if self.left == 0 {
+            return None;
+        }
+        self.left -= 1;
+        self.ticks = self.ticks.saturating_add(1);
+        self.steps = self.steps.saturating_add(1);
+        round(&mut self.machine)
+    }
+
+    /// Makes steps until so many were made since the beginning, and what happens between them.
+    pub fn skip_to(&mut self, steps: u64) {
+        for _ in 0..u64::MAX {
+            let wanted = steps.saturating_sub(self.steps);
+            if wanted == 0 || !self.go_before_step() {
+                return;
+            }
+            let count = if wanted < u64::from(self.left) {
+                wanted as u32
+            } else {
+                self.left
+            };
+            self.machine.steps(count, true);
+            self.left -= count;
+            self.ticks = self.ticks.saturating_add(u64::from(count));
+            self.steps = self.steps.saturating_add(u64::from(count));
+        }
+    }
+}

@@ -1,0 +1,206 @@
+//! Runs of steps, up to the first after which a stop holds.
+ghost use Rattle.std.specs.Prelude.{◌≡◌, ◌+◌, ◌-◌, ◌<◌, ◌≤◌, ℕ, None, OnSome, position, true};
+ghost use Rattle.machine.specs.Machine.{after};
+ghost use Rattle.machine.specs.Rounds.{rounds};
+ghost use Rattle.ddt_session.specs.Stops.{ran_of, next_of, round, is_input, is_met, is_word, met_after, waits_in_circle};
+
+use crate::instance::Machine;
+use job_sched::Wait;
+use monitor::{Answer, Event};
+use queue_script::{pair_table, waiting_jobs};
+use run_facts::is_in_circle;
+use word36::{Address, Image, JOBS, Word};
+
+/// Where a run stops.
+#[derive(Clone, Copy, Debug)]
+pub enum Stop {
+    /// A job stands at a place, behind its turn.
+    Place(u8, Address),
+    /// A job had its turn.
+    Turn(u8),
+    /// A word of a job is another than this one, which is `None` where it is not legal.
+    Word(u8, u32, Option<Word>),
+    /// A job had its turn and waits in a circle of jobs that wait for each other.
+    Circle,
+    /// A job had its turn and waits for characters.
+    Input,
+}
+
+/// What else a run is looked at for behind each of its rounds.
+pub trait Watch {
+    /// Whether the run ends behind a round in which this job ran, if one did.
+    fn is_met(&mut self, machine: &Machine, ran: Option<u8>) -> bool;
+}
+
+/// Nothing else.
+#[derive(Clone, Copy, Debug)]
+pub struct NoWatch;
+
+impl Watch for NoWatch {
+    #[inline(always)]
+    fn is_met(&mut self, _machine: &Machine, _ran: Option<u8>) -> bool {
+        false
+    }
+}
+
+/// A run that was made.
+#[derive(Clone, Copy, Debug)]
+pub struct Ran {
+    /// How many steps, each with a tick behind it.
+    pub made: u32,
+    /// Which of the stops ended it, if one did.
+    pub stop: Option<usize>,
+    /// Whether what else it was looked at for ended it.
+    pub is_watched: bool,
+}
+
+/// The job that a step's answer names.
+fn ran_of(answer: &Answer) -> Option<u8>
+    ensures { result ≡ ran_of answer.now }
+{
+    match answer {
+        Answer::Ran(number) => Some(*number),
+        _ => None,
+    }
+}
+
+/// A step with a tick behind it, and the job that ran.
+#[inline(always)]
+#[tactic(auto, using(crate::proofs::RunLemmas::ran_stepped))]
+pub fn round(machine: &mut Machine) -> Option<u8>
+    ensures state { machine.new ≡ round machine.old }
+    ensures ran { result ≡ next_of machine.old }
+{
+    // An event may hold an image, of which these have none: the prover wants its type to be named.
+    let _image: Option<&Image> = None;
+    let answer = machine.event(&Event::Step);
+    machine.event(&Event::Tick);
+    ran_of(&answer)
+}
+
+/// Whether two places have the same word, or both none.
+fn is_word(word: Option<Word>, other: Option<Word>) -> bool
+    ensures { result ≡ is_word word other }
+{
+    match (word, other) {
+        (Some(word), Some(other)) => word == other,
+        (None, None) => true,
+        _ => false,
+    }
+}
+
+/// Whether a job waits in a circle of jobs that wait for each other.
+#[inline(never)]
+#[tactic(auto, using(crate::proofs::CircleLemmas::circle_in))]
+fn waits_in_circle(machine: &Machine, job: u8) -> bool
+    ensures { result ≡ waits_in_circle machine.now job }
+{
+    let waiting = waiting_jobs(machine.locks());
+    let pairs = pair_table(machine.locks(), &waiting);
+    job <= JOBS && is_in_circle(&pairs, &waiting, usize::from(job))
+}
+
+/// Whether a wait is for characters.
+fn is_input(wait: Wait) -> bool
+    ensures { result ≡ is_input wait }
+{
+    matches!(wait, Wait::Char | Wait::Line)
+}
+
+/// Whether a stop holds after a round in which a job ran.
+#[inline(always)]
+fn is_met(machine: &Machine, ran: Option<u8>, stop: &Stop) -> bool
+    ensures { result ≡ is_met machine.now ran stop.now }
+{
+    match *stop {
+        Stop::Place(job, place) => {
+            ran == Some(job) && machine.job(job).is_some_and(|view| view.pc == place)
+        }
+        Stop::Turn(job) => ran == Some(job),
+        Stop::Word(job, place, word) => !is_word(machine.peek(job, place), word),
+        Stop::Circle => ran.is_some_and(|job| waits_in_circle(machine, job)),
+        Stop::Input => ran
+            .and_then(|job| machine.job(job))
+            .is_some_and(|view| is_input(view.wait)),
+    }
+}
+
+/// The first of some stops that holds after a round in which a job ran.
+#[inline(always)]
+fn first_met(machine: &Machine, ran: Option<u8>, stops: &[Stop]) -> Option<usize>
+    ensures { result ≡ position (is_met machine.now ran) stops.now }
+{
+    stops.iter().position(|stop| is_met(machine, ran, stop))
+}
+
+/// Whether a job can go on now, or will by ticks alone.
+fn goes_on(machine: &Machine, number: u8) -> bool {
+    match machine.job(number) {
+        None => false,
+        Some(view) => {
+            view.stop.is_none()
+                && match view.wait {
+                    Wait::None | Wait::Sleep(_) => true,
+                    Wait::Queue(limit, _) => limit > 0,
+                    Wait::Char | Wait::Line | Wait::Room(_) => false,
+                }
+        }
+    }
+}
+
+/// Whether any job can.
+#[inline(never)]
+pub fn some_go_on(machine: &Machine) -> bool {
+    (1..JOBS + 1).any(|number| goes_on(machine, number))
+}
+
+/// Whether the job that ran can go on at once.
+#[inline(always)]
+fn runs_on(machine: &Machine, ran: Option<u8>) -> bool {
+    match ran.and_then(|number| machine.job(number)) {
+        Some(view) => view.stop.is_none() && view.wait == Wait::None,
+        None => false,
+    }
+}
+
+/// Makes steps, each with a tick behind it, until a stop holds, so many are made, no job can go on, or
+/// what else is looked at ends the run.
+pub fn run_until<W: Watch>(machine: &mut Machine, stops: &[Stop], most: u32, watch: &mut W) -> Ran
+    ensures state { machine.new ≡ after (rounds result.made true) machine.old }
+    ensures most { result.made ≤ most }
+    ensures none_over { (k : ℕ) → k + 1 < result.made → met_after stops.now (after (rounds k true) machine.old) ≡ None }
+    ensures last { OnSome result.stop (result.stop ≡ met_after stops.now (after (rounds (result.made - 1) true) machine.old)) }
+{
+    let mut is_sure = false;
+    for made in 0..most {
+        if !is_sure && !some_go_on(machine) {
+            return Ran {
+                made,
+                stop: None,
+                is_watched: false,
+            };
+        }
+        let ran = round(machine);
+        let stop = first_met(machine, ran, stops);
+        if stop.is_some() {
+            return Ran {
+                made: made + 1,
+                stop,
+                is_watched: false,
+            };
+        }
+        if watch.is_met(machine, ran) {
+            return Ran {
+                made: made + 1,
+                stop: None,
+                is_watched: true,
+            };
+        }
+        is_sure = runs_on(machine, ran);
+    }
+    Ran {
+        made: most,
+        stop: None,
+        is_watched: false,
+    }
+}

@@ -1,0 +1,5 @@
+pub mod Answers
+pub mod LockWaits
+pub mod Grants
+pub mod Typing
+pub mod Ends

@@ -1,0 +1,30 @@
+-- Which jobs keep a job waiting, and from which lock: owners of what it wants or, where nobody owns it, those that
+-- asked before it (this project's profile).
+use Rattle.std.specs.Prelude.{◌≡◌, ◌&&◌, ℕ, Bool, true, List, [], ◌∷◌, if◌then◌else◌}
+use Rattle.std.specs.List.{flat_map, list_any}
+use Rattle.lock_queue.specs.declared.request.Request.{Request}
+use Rattle.lock_queue.specs.declared.want.Want.{Want}
+use Rattle.lock_queue.specs.Jobs.{is_blocked, is_kept_by, waits_for}
+use Rattle.lock_queue.specs.Queue.{some_behind}
+use Rattle.lock_queue.specs.Waits.{is_withheld_by, jobs, waits_hard_for}
+
+-- whether a job waits for another: hard, for one that owns what it wants, or for any
+abbrev pub waits_by : Bool → List Request → ℕ → ℕ → Bool
+waits_by is_held requests job other = if is_held then waits_hard_for requests job other else waits_for requests job other
+
+-- whether another job keeps a want of a request behind these ones from fitting, in the same two ways
+abbrev pub keeps : Bool → List Request → Want → ℕ → Bool
+keeps is_held earlier w other = if is_held then is_withheld_by other earlier w else is_kept_by other earlier w
+
+-- whether a job waits for any owner
+abbrev pub waits_for_owner : List Request → ℕ → Bool
+waits_for_owner requests job = list_any (waits_hard_for requests job) jobs
+
+-- a job, where it is waited for, and keeps this want from fitting
+abbrev pub keeper : Bool → List Request → ℕ → List Request → Want → ℕ → List ℕ
+keeper is_held requests job earlier w other =
+    if waits_by is_held requests job other && keeps is_held earlier w other then other ∷ [] else []
+
+-- all of these, by rising number
+abbrev pub keepers : Bool → List Request → ℕ → List Request → Want → List ℕ
+keepers is_held requests job earlier w = flat_map (keeper is_held requests job earlier w) jobs

@@ -1,0 +1,156 @@
+//! By which lock a job waits, and who keeps it waiting.
+ghost use Rattle.std.specs.Prelude.{◌≡◌, ◌≢◌, ◌<◌, ◌≤◌, ◌&&◌, [], ◌∷◌, ◌++◌};
+ghost use Rattle.std.specs.Prelude.{All, Contains, true, length, take, slice_get, IfOk, IfSome, OnOk};
+ghost use Rattle.std.specs.List.{flat_map, list_any};
+ghost use Rattle.lock_queue.specs.Waits.{jobs, waits_hard_for};
+ghost use Rattle.run_facts.specs.LockWaits.{keeper, keepers, keeps, waits_by, waits_for_owner};
+
+use crate::in_the_way::{does_keep, does_wait};
+use lock_queue::steps::is_blocked;
+use lock_queue::{Request, Want};
+use queue_script::circles::NUMBERS;
+use std::alloc::{AllocError, Global};
+
+/// What a job waits for.
+#[derive(Drop)]
+pub struct LockWait<'a> {
+    /// The place of the request by which it waits, in order of arrival.
+    pub place: usize,
+    /// The first lock of that request that does not fit and from which one of `jobs` keeps it.
+    pub want: &'a Want,
+    /// Whether the jobs own the lock; else nobody owns what the job waits for, and they asked before it.
+    pub is_held: bool,
+    /// Who keeps it waiting, by rising number.
+    pub jobs: Vec<u8>,
+}
+
+/// Whether a job waits for any owner.
+fn does_wait_for_owner(requests: &[Request], job: u8) -> bool
+    ensures { result ≡ waits_for_owner requests.now job }
+{
+    for other in 1..NUMBERS {
+        if does_wait(requests, job, other as u8, true) {
+            return true;
+        }
+    }
+    false
+}
+
+/// Adds a job where it is waited for, and keeps a want from fitting behind earlier requests.
+fn push_keeper(
+    found: &mut Vec<u8>,
+    requests: &[Request],
+    job: u8,
+    earlier: &[Request],
+    w: &Want,
+    other: u8,
+    is_held: bool,
+) -> Result<(), AllocError>
+    ensures { OnOk result (found.new.items ≡ found.old.items ++ keeper is_held requests.now job earlier.now w.now other) }
+{
+    if does_wait(requests, job, other, is_held) && does_keep(earlier, w, other, is_held) {
+        found.push(other)?;
+    }
+    Ok(())
+}
+
+/// Who keeps a job from a want behind earlier requests.
+fn keepers(
+    alloc: Global,
+    requests: &[Request],
+    job: u8,
+    earlier: &[Request],
+    w: &Want,
+    is_held: bool,
+) -> Result<Vec<u8>, AllocError>
+    ensures { IfOk result (λ found. found.items ≡ keepers is_held requests.now job earlier.now w.now) }
+{
+    let mut found = Vec::new(alloc);
+    for other in 1..NUMBERS {
+        push_keeper(&mut found, requests, job, earlier, w, other as u8, is_held)?;
+    }
+    Ok(found)
+}
+
+/// What a job waits for by the request at a place, if another job keeps it from one of its wants.
+fn wait_at<'a>(
+    alloc: Global,
+    requests: &'a [Request],
+    place: usize,
+    job: u8,
+) -> Result<Option<LockWait<'a>>, AllocError>
+    requires { place < length requests.now }
+    ensures held { IfOk result (λ o. IfSome o (λ w. w.is_held ≡ waits_for_owner requests.now job)) }
+    ensures some { IfOk result (λ o. IfSome o (λ w. w.jobs.items ≢ [])) }
+    ensures place { IfOk result (λ o. IfSome o (λ w. w.place ≡ place)) }
+    ensures jobs { IfOk result (λ o. IfSome o (λ w. w.jobs.items ≡ keepers w.is_held requests.now job (take place requests.now) w.want.now)) }
+{
+    let is_held = does_wait_for_owner(requests, job);
+    for want in requests[place].wants.as_slice() {
+        let jobs = keepers(alloc, requests, job, &requests[..place], want, is_held)?;
+        if !jobs.is_empty() {
+            return Ok(Some(LockWait {
+                place,
+                want,
+                is_held,
+                jobs,
+            }));
+        }
+    }
+    Ok(None)
+}
+
+/// What a job waits for, if it waits for locks. The jobs are owners of the lock where the job waits for
+/// any owner, and else those that asked for it before.
+#[tactic(auto, using(crate::proofs::KeeperLemmas::keepers_are_waited_for))]
+pub fn lock_wait<'a>(
+    alloc: Global,
+    requests: &'a [Request],
+    job: u8,
+) -> Result<Option<LockWait<'a>>, AllocError>
+    ensures held { IfOk result (λ o. IfSome o (λ w. w.is_held ≡ waits_for_owner requests.now job)) }
+    ensures some { IfOk result (λ o. IfSome o (λ w. w.jobs.items ≢ [])) }
+    ensures waits { IfOk result (λ o. IfSome o (λ w. All (λ other. waits_by w.is_held requests.now job other ≡ true) w.jobs.items)) }
+    ensures jobs { IfOk result (λ o. IfSome o (λ w. w.jobs.items ≡ keepers w.is_held requests.now job (take w.place requests.now) w.want.now)) }
+{
+    for (i, r) in requests.iter().enumerate() {
+        if is_blocked(&requests[..i], r, job) {
+            return wait_at(alloc, requests, i, job);
+        }
+    }
+    Ok(None)
+}
+
+/// The lock by which one job waits for another.
+#[derive(Clone, Copy)]
+pub struct LockBetween<'a> {
+    /// The place of the request by which it waits, in order of arrival.
+    pub place: usize,
+    /// The lock.
+    pub want: &'a Want,
+    /// Whether the other owns it.
+    pub is_held: bool,
+}
+
+/// The first lock from which one job keeps another, that waits for it.
+pub fn lock_between(requests: &[Request], job: u8, other: u8) -> Option<LockBetween<'_>>
+    ensures held { IfSome result (λ b. b.is_held ≡ waits_hard_for requests.now job other) }
+    ensures keeps { IfSome result (λ b. keeps b.is_held (take b.place requests.now) b.want.now other ≡ true) }
+{
+    let is_held = does_wait(requests, job, other, true);
+    for (place, r) in requests.iter().enumerate() {
+        if !is_blocked(&requests[..place], r, job) {
+            continue;
+        }
+        for want in r.wants.as_slice() {
+            if does_keep(&requests[..place], want, other, is_held) {
+                return Some(LockBetween {
+                    place,
+                    want,
+                    is_held,
+                });
+            }
+        }
+    }
+    None
+}

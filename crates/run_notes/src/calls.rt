@@ -1,0 +1,316 @@
+//! Lock calls, told as they are made.
+
+use crate::block_words::core_for_block;
+use crate::locks::LockText;
+use crate::snapshot::Snapshot;
+use crate::told_job::Machine;
+use call_block::{Block, read_block};
+use job_sched::{NO_FLAGS, Wait};
+use ka_cpu::{CoreWords, Regs};
+use ka_isa::{Family, classify, decode};
+use lock_queue::{BlockUse, LockTable, Want};
+use monitor::JobView;
+use run_facts::{CallAnswer, CallSeen, answer_of};
+use std::alloc::{AllocError, Global};
+use std::fmt;
+use word36::{Address, Word};
+
+/// A call on the lock queue.
+#[derive(Clone, Copy, Debug, PartialEq, Eq)]
+enum LockService {
+    Enq,
+    Deq,
+    Enqc,
+}
+
+impl LockService {
+    fn name(self) -> &'static str {
+        match self {
+            LockService::Enq => "ENQ.",
+            LockService::Deq => "DEQ.",
+            LockService::Enqc => "ENQC.",
+        }
+    }
+
+    /// What the call's function asks for.
+    fn meaning(self, function: u32) -> &'static str {
+        match (self, function) {
+            (LockService::Enq, 0) => "wait",
+            (LockService::Enq, 1) => "at once",
+            (LockService::Enq, 2) => "by interrupt",
+            (LockService::Enq, 3) => "change",
+            (LockService::Deq, 0) => "locks",
+            (LockService::Deq, 1) => "all",
+            (LockService::Deq, 2) => "by request",
+            (LockService::Enqc, 0) => "status",
+            (LockService::Enqc, 1) => "quota",
+            (LockService::Enqc, 2) => "lower the quota",
+            _ => "no such function",
+        }
+    }
+
+    /// Whether the call names locks by a block.
+    fn has_block(self, function: u32) -> bool {
+        match self {
+            LockService::Enq => function <= 3,
+            LockService::Deq | LockService::Enqc => function == 0,
+        }
+    }
+
+    /// What a block's locks are there for.
+    fn block_use(self, function: u32) -> BlockUse {
+        match (self, function) {
+            (LockService::Enq, 0) => BlockUse::Blocking,
+            (LockService::Enq, 1 | 2) => BlockUse::Full,
+            _ => BlockUse::Named,
+        }
+    }
+}
+
+/// The id of a request: a decimal number, with a point behind it, since ids are mostly written in octal
+/// in a source.
+#[derive(Clone, Copy, Debug)]
+pub struct IdText(pub u32);
+
+impl fmt::Display for IdText {
+    fn fmt<W: fmt::Write>(&self, f: &mut fmt::Formatter<W>) -> fmt::Result {
+        let id = self.0;
+        write!(f, "{id}.")
+    }
+}
+
+/// A lock call that a job is about to make, as it stands before it: the call may write over its block.
+#[derive(Drop)]
+pub struct CallLook {
+    service: LockService,
+    /// The AC field.
+    ac: u8,
+    /// What AC has: the function and the block's address.
+    asked: Word,
+    /// The block, where the call has one that is right.
+    block: Option<Block>,
+}
+
+/// The block of a call, where it has one that is right.
+fn block_of(
+    alloc: Global,
+    machine: &Machine,
+    number: u8,
+    before: &Snapshot,
+    service: LockService,
+    asked: Word,
+) -> Result<Option<Block>, AllocError> {
+    let Some(job) = machine.job(number) else {
+        return Ok(None);
+    };
+    if !service.has_block(asked.left()) {
+        return Ok(None);
+    }
+    let address = asked.right();
+    let mut words = core_for_block(alloc, machine, number, job.blocks, address)?;
+    let regs = Regs {
+        ac: before.registers,
+        pc: before.place,
+        flags: NO_FLAGS,
+    };
+    let memory = CoreWords {
+        words: words.as_mut_slice(),
+    };
+    let block_use = service.block_use(asked.left());
+    Ok(read_block(&regs, &memory, Address::new(address), number, block_use).ok())
+}
+
+impl CallLook {
+    /// The lock call that a job is about to make, if it is one.
+    pub fn of(
+        alloc: Global,
+        machine: &Machine,
+        number: u8,
+        before: &Snapshot,
+    ) -> Result<Option<Self>, AllocError> {
+        let fields = decode(before.executed);
+        if classify(fields.op) != Family::Calli {
+            return Ok(None);
+        }
+        let service = match before.address {
+            Some(0o151) => LockService::Enq,
+            Some(0o152) => LockService::Deq,
+            Some(0o153) => LockService::Enqc,
+            _ => return Ok(None),
+        };
+        let asked = before.registers[usize::from(fields.ac)];
+        Ok(Some(CallLook {
+            service,
+            ac: fields.ac,
+            asked,
+            block: block_of(alloc, machine, number, before, service, asked)?,
+        }))
+    }
+}
+
+/// The meaning of a refusal's code.
+fn code_meaning(code: u32) -> &'static str {
+    match code {
+        1 => "not granted at once",
+        2 => "no such function",
+        3 => "the block is not in memory, or its head is wrong",
+        4 => "no lock, or more than 16",
+        5 => "neither a user code nor a pointer to a name",
+        6 => "an empty name, or one of more than 30 characters",
+        7 => "no such qualifier",
+        8 => "a pool or a group that makes no sense",
+        9 => "another level, or another pool, than those present have",
+        10 => "the level is not above those before it",
+        11 => "named already",
+        12 => "not present",
+        13 => "the change would take a grant away",
+        14 => "the queue is full",
+        15 => "there is no interrupt vector",
+        16 => "the job has as many requests as it may have",
+        17 => "its time limit ended",
+        18 => "no such job, or the quota would be greater",
+        _ => "no such code",
+    }
+}
+
+/// Adds locks, each with how many requests own it and wait for it.
+fn push_statuses(
+    alloc: Global,
+    text: &mut String,
+    machine: &Machine,
+    number: u8,
+    wants: &[Want],
+) -> Result<(), AllocError> {
+    for want in wants {
+        let status = machine.locks().status(&want.key, number);
+        let lock = LockText { want };
+        let (owners, waiters) = (status.owner_count, status.waiter_count);
+        let told = format!(in alloc; ", {lock} (owners {owners}, waiters {waiters})")?;
+        text.push_str(told.as_str())?;
+    }
+    Ok(())
+}
+
+/// Adds wants.
+pub fn push_wants(alloc: Global, text: &mut String, wants: &[Want]) -> Result<(), AllocError> {
+    for want in wants {
+        let lock = format!(in alloc; ", {}", LockText { want })?;
+        text.push_str(lock.as_str())?;
+    }
+    Ok(())
+}
+
+/// What a block names, `, request 7., limit 5 ticks, X/S, Y`.
+fn block_text(
+    alloc: Global,
+    machine: &Machine,
+    number: u8,
+    call: &CallLook,
+    block: &Block,
+) -> Result<String, AllocError> {
+    let mut text = String::new(alloc);
+    if call.service.block_use(call.asked.left()) != BlockUse::Named {
+        let id = IdText(block.id.number());
+        let head = format!(in alloc; ", request {id}")?;
+        text.push_str(head.as_str())?;
+    }
+    if block.limit > 0 {
+        let limit = format!(in alloc; ", limit {} ticks", block.limit)?;
+        text.push_str(limit.as_str())?;
+    }
+    let wants = block.wants.as_slice();
+    if call.service == LockService::Enqc {
+        push_statuses(alloc, &mut text, machine, number, wants)?;
+    } else {
+        push_wants(alloc, &mut text, wants)?;
+    }
+    Ok(text)
+}
+
+/// What a call names besides its block: `, request 7.`, `, job 3` or `, to 5`.
+fn other_text(alloc: Global, number: u8, call: &CallLook) -> Result<String, AllocError> {
+    let named = call.asked.right();
+    match (call.service, call.asked.left()) {
+        (LockService::Deq, 2) => format!(in alloc; ", request {}", IdText(named)),
+        (LockService::Enqc, 1) if named == 0 => format!(in alloc; ", job {number}"),
+        (LockService::Enqc, 1) => format!(in alloc; ", job {named}"),
+        (LockService::Enqc, 2) => format!(in alloc; ", to {named}"),
+        _ => Ok(String::new(alloc)),
+    }
+}
+
+/// What a call names: nothing where its block is refused.
+fn named_text(
+    alloc: Global,
+    machine: &Machine,
+    number: u8,
+    call: &CallLook,
+) -> Result<String, AllocError> {
+    match &call.block {
+        Some(block) => block_text(alloc, machine, number, call, block),
+        None => other_text(alloc, number, call),
+    }
+}
+
+/// What a call came to, by how its job stands behind it, and what its accumulator has.
+fn answer_in(job: &JobView, before: &Snapshot, call: &CallLook, left: Word) -> CallAnswer {
+    answer_of(CallSeen {
+        is_enqueue: call.service == LockService::Enq,
+        function: call.asked.left(),
+        is_stopped: job.stop.is_some(),
+        is_waiting: matches!(job.wait, Wait::Queue(_, _)),
+        has_skipped: job.pc == before.place.plus(2),
+        code: left.right(),
+    })
+}
+
+/// What a call answered.
+fn answer_text(
+    alloc: Global,
+    answer: CallAnswer,
+    call: &CallLook,
+    left: Word,
+) -> Result<String, AllocError> {
+    match answer {
+        CallAnswer::Stopped => String::from_str(alloc, "the job is stopped"),
+        CallAnswer::Waits => String::from_str(alloc, "queued, the job waits"),
+        CallAnswer::Granted => String::from_str(alloc, "granted"),
+        CallAnswer::ToldLater => String::from_str(alloc, "queued, it will be told (code 1)"),
+        CallAnswer::Refused(code) => {
+            format!(in alloc; "refused, code {code}: {}", code_meaning(code))
+        }
+        CallAnswer::Done if call.service == LockService::Enqc && call.asked.left() == 1 => {
+            let (quota, requests) = (left.left(), left.right());
+            format!(in alloc; "done, quota {quota}, requests {requests}")
+        }
+        CallAnswer::Done => String::from_str(alloc, "done"),
+    }
+}
+
+/// The line on a lock call that a job has made; an empty text where the job is gone.
+pub fn call_line(
+    alloc: Global,
+    machine: &Machine,
+    tick: u64,
+    number: u8,
+    before: &Snapshot,
+    call: &CallLook,
+) -> Result<String, AllocError> {
+    let Some(job) = machine.job(number) else {
+        return Ok(String::new(alloc));
+    };
+    let locks = named_text(alloc, machine, number, call)?;
+    let left = machine
+        .peek(number, u32::from(call.ac))
+        .unwrap_or(Word::new(0));
+    let answer = answer_in(&job, before, call, left);
+    let answer = answer_text(alloc, answer, call, left)?;
+    let function = call.asked.left();
+    let name = call.service.name();
+    let meaning = call.service.meaning(function);
+    format!(in alloc;
+        "tick {tick}, job {number}: {name} {function:o} ({meaning}){}: {}\n",
+        locks.as_str(),
+        answer.as_str()
+    )
+}

@@ -1,0 +1,218 @@
+//! Instructions in words.
+
+use ka_isa::{Family, Fields, classify, decode, mnemonic, text_of};
+use source_labels::{Places, Spot, nearest};
+use std::fmt;
+use word36::{Address, Word};
+
+/// DEBRK., which goes back to where its job was interrupted.
+pub const DEBRK: u32 = 0o137;
+
+/// Halves from this one on are told as negative numbers.
+const FIRST_NEGATIVE: u32 = 0o400_000;
+
+/// So many halves there are.
+const HALVES: u32 = 0o1_000_000;
+
+/// An address: by a label or as a literal where the program has that there, and else in octal, with a
+/// minus sign where the half is negative.
+#[derive(Clone, Copy, Debug)]
+pub struct Reference<'a> {
+    /// Where the labels and the literals of the program stand.
+    pub places: &'a Places,
+    /// The address.
+    pub address: u32,
+}
+
+/// Writes a half as a signed number in octal.
+fn write_signed<W: fmt::Write>(half: u32, f: &mut fmt::Formatter<W>) -> fmt::Result {
+    if FIRST_NEGATIVE <= half && half < HALVES {
+        let magnitude = HALVES - half;
+        write!(f, "-{magnitude:o}")
+    } else {
+        write!(f, "{half:o}")
+    }
+}
+
+impl fmt::Display for Reference<'_> {
+    fn fmt<W: fmt::Write>(&self, f: &mut fmt::Formatter<W>) -> fmt::Result {
+        let (places, address) = (self.places, self.address);
+        let Some(place) = Address::try_new(address) else {
+            return write_signed(address, f);
+        };
+        let has_label = nearest(places.labels.as_slice(), place).is_some();
+        if has_label || places.literals.have(place) {
+            let spot = Spot { places, place };
+            write!(f, "{spot}")
+        } else {
+            write_signed(address, f)
+        }
+    }
+}
+
+/// Whether the address of an operation is a number in itself, and no place: that of operations in
+/// immediate mode, of shifts and of CALLI.
+fn is_immediate(op: u16) -> bool {
+    match classify(op) {
+        Family::Calli | Family::Shift => true,
+        Family::Compare => op & 0o10 == 0,
+        Family::Test => op & 0o10 == 0,
+        Family::Move
+        | Family::Movs
+        | Family::Movn
+        | Family::Movm
+        | Family::Imul
+        | Family::Mul
+        | Family::Idiv
+        | Family::Add
+        | Family::Sub
+        | Family::Boolean
+        | Family::Half => op & 3 == 1,
+        _ => false,
+    }
+}
+
+/// Whether an operation takes its address for bits rather than a number.
+fn takes_bits(op: u16) -> bool {
+    matches!(classify(op), Family::Test | Family::Boolean)
+}
+
+/// The name of a call of the monitor, by the number that its CALLI has.
+fn call_name(number: u32) -> Option<&'static str> {
+    let name = match number {
+        0 => "RESET",
+        0o11 => "CORE",
+        0o12 => "EXIT",
+        0o17 => "LOGOUT",
+        0o23 => "MSTIME",
+        0o30 => "PJOB",
+        0o31 => "SLEEP",
+        0o135 => "PIINI.",
+        0o136 => "PISYS.",
+        DEBRK => "DEBRK.",
+        0o151 => "ENQ.",
+        0o152 => "DEQ.",
+        0o153 => "ENQC.",
+        0o777_776 => "DATRD.",
+        0o777_775 => "DATWR.",
+        _ => return None,
+    };
+    Some(name)
+}
+
+/// The name of an instruction of which the AC field is a part: a terminal call, HALT or JRSTF.
+fn name_with_ac(fields: Fields) -> Option<&'static str> {
+    let name = match (classify(fields.op), fields.ac) {
+        (Family::Ttcall, 0) => "INCHRW",
+        (Family::Ttcall, 1) => "OUTCHR",
+        (Family::Ttcall, 2) => "INCHRS",
+        (Family::Ttcall, 3) => "OUTSTR",
+        (Family::Ttcall, 4) => "INCHWL",
+        (Family::Ttcall, 5) => "INCHSL",
+        (Family::Ttcall, 0o11) => "CLRBFI",
+        (Family::Ttcall, 0o12) => "CLRBFO",
+        (Family::Ttcall, 0o13) => "SKPINC",
+        (Family::Ttcall, 0o14) => "SKPINL",
+        (Family::Jrst, 4) => "HALT",
+        (Family::Jrst, 2) => "JRSTF",
+        _ => return None,
+    };
+    Some(name)
+}
+
+/// Whether an instruction has no address worth a word: one of 0, where the operation looks at none.
+fn has_no_address(fields: Fields) -> bool {
+    let looks_at_none = match classify(fields.op) {
+        Family::Popj | Family::Jfcl => true,
+        Family::Jrst => fields.ac == 4,
+        Family::Ttcall => fields.ac >= 0o11,
+        _ => false,
+    };
+    looks_at_none && fields.y == 0 && !fields.i && fields.x == 0
+}
+
+/// An instruction, with labels for the places that it names.
+#[derive(Clone, Copy, Debug)]
+pub struct InstructionText<'a> {
+    /// Where the labels and the literals of the program stand.
+    pub places: &'a Places,
+    /// The instruction.
+    pub word: Word,
+}
+
+impl InstructionText<'_> {
+    /// Writes an address part.
+    fn write_address<W: fmt::Write>(
+        &self,
+        fields: Fields,
+        f: &mut fmt::Formatter<W>,
+    ) -> fmt::Result {
+        if fields.i {
+            f.write_str("@")?;
+        }
+        if !is_immediate(fields.op) || fields.i {
+            let reference = Reference {
+                places: self.places,
+                address: fields.y,
+            };
+            write!(f, "{reference}")?;
+        } else if takes_bits(fields.op) {
+            write!(f, "{:o}", fields.y)?;
+        } else {
+            write_signed(fields.y, f)?;
+        }
+        if fields.x != 0 {
+            write!(f, "({:o})", fields.x)?;
+        }
+        Ok(())
+    }
+
+    /// Writes an instruction of this name, with its accumulator where that is no part of the name.
+    fn write_operands<W: fmt::Write>(
+        &self,
+        name: &str,
+        fields: Fields,
+        ac: u8,
+        f: &mut fmt::Formatter<W>,
+    ) -> fmt::Result {
+        f.write_str(name)?;
+        if ac != 0 {
+            write!(f, " {ac:o},")?;
+        }
+        if has_no_address(fields) {
+            return Ok(());
+        }
+        if ac == 0 {
+            f.write_str(" ")?;
+        }
+        self.write_address(fields, f)
+    }
+}
+
+/// Writes a call of the monitor, which has an accumulator and no address.
+fn write_call<W: fmt::Write>(name: &str, ac: u8, f: &mut fmt::Formatter<W>) -> fmt::Result {
+    if ac == 0 {
+        f.write_str(name)
+    } else {
+        write!(f, "{name} {ac:o},")
+    }
+}
+
+impl fmt::Display for InstructionText<'_> {
+    fn fmt<W: fmt::Write>(&self, f: &mut fmt::Formatter<W>) -> fmt::Result {
+        let fields = decode(self.word);
+        let Some(name) = mnemonic(fields.op) else {
+            return f.write_str(text_of(self.word).as_str());
+        };
+        let is_plain = !fields.i && fields.x == 0;
+        if classify(fields.op) == Family::Calli && is_plain {
+            if let Some(call) = call_name(fields.y) {
+                return write_call(call, fields.ac, f);
+            }
+        }
+        match name_with_ac(fields) {
+            Some(name) => self.write_operands(name, fields, 0, f),
+            None => self.write_operands(name, fields, fields.ac, f),
+        }
+    }
+}

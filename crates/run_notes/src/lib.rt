@@ -1,0 +1,27 @@
+//! What is told of a run while it goes on: steps, lock calls and grants, who waits and for how long, and
+//! circles of waits.
+#![tactic(auto)]
+
+mod block_words;
+mod calls;
+mod circle_lines;
+mod grants;
+mod instructions;
+mod job_stops;
+mod locks;
+mod snapshot;
+mod steps;
+mod stores;
+mod told_job;
+mod wait_clocks;
+mod wait_lines;
+
+pub use calls::{CallLook, call_line};
+pub use circle_lines::{circle_line, circle_of, has_circle};
+pub use grants::{grant_lines, limit_line};
+pub use job_stops::stop_text;
+pub use snapshot::{Snapshot, snapshot_of};
+pub use steps::{step_line, time_limit_line};
+pub use told_job::{Machine, ToldJob};
+pub use wait_clocks::WaitClocks;
+pub use wait_lines::lock_wait_text;

@@ -1,0 +1,20 @@
+//! Sources as they are assembled for a person: with their labels, the places of their literals, and
+//! what is wrong with one that is refused.
+#![tactic(auto)]
+
+mod advice;
+mod faults;
+mod labels;
+mod lines;
+mod near_names;
+mod not_here;
+mod places;
+mod sources;
+mod spots;
+mod warnings;
+
+pub use labels::{Label, nearest};
+pub use places::{Literals, Places};
+pub use sources::{Assembled, Program, Source, assemble_source};
+pub use spots::Spot;
+pub use warnings::warnings_of;

@@ -1,0 +1,113 @@
+//! Names that are near one that is not defined.
+
+use crate::lines::{behind_word, line_at, split_label, word_of};
+use ka_isa::{mnemonic, named};
+use mac_text::folded;
+use std::alloc::{AllocError, Global};
+use std::str;
+
+/// The calls and the statements that have names, beside the operations.
+static OTHERS: [&str; 41] = [
+    "RESET", "CORE", "EXIT", "LOGOUT", "MSTIME", "PJOB", "SLEEP", "PIINI.", "PISYS.", "DEBRK.",
+    "ENQ.", "DEQ.", "ENQC.", "DATRD.", "DATWR.", "MONRT.", "INCHRW", "OUTCHR", "INCHRS", "OUTSTR",
+    "INCHWL", "INCHSL", "CLRBFI", "CLRBFO", "SKPINC", "SKPINL", "HALT", "JRSTF", "ASCII", "ASCIZ",
+    "SIXBIT", "BLOCK", "LOC", "RADIX", "TITLE", "SUBTTL", "SEARCH", "END", "EXP", "IOWD", "POINT",
+];
+
+/// How many operations there are.
+const OPERATIONS: u16 = 0o1000;
+
+/// Whether two names, in upper case, are as long and differ in one character, or in two that stand
+/// side by side and have changed places.
+fn differs_in_place(one: &[u8], other: &[u8]) -> bool {
+    if one.len() != other.len() {
+        return false;
+    }
+    let differing = one.iter().zip(other).filter(|(a, b)| a != b).count();
+    if differing == 2 {
+        return (1..one.len()).any(|i| {
+            one[i - 1] == other[i] && one[i] == other[i - 1] && one[i] != one[i - 1]
+        });
+    }
+    differing == 1
+}
+
+/// Whether a longer name is a shorter one with one character more.
+fn has_one_more(longer: &[u8], shorter: &[u8]) -> bool {
+    if longer.len() != shorter.len().saturating_add(1) {
+        return false;
+    }
+    (0..longer.len()).any(|i| longer[..i] == shorter[..i] && longer[i + 1..] == shorter[i..])
+}
+
+/// Whether two names of three characters at least are near each other.
+fn are_near(one: &[u8], other: &[u8]) -> bool {
+    if one.len() < 3 || other.len() < 3 {
+        return false;
+    }
+    differs_in_place(one, other) || has_one_more(one, other) || has_one_more(other, one)
+}
+
+/// The operation, call or statement that a word is near, which is none of them: with its point, or
+/// with one character otherwise.
+pub fn near_operation(alloc: Global, word: &[u8]) -> Result<Option<String>, AllocError> {
+    let wanted = folded(word);
+    let Ok(text) = str::from_utf8(wanted.as_slice()) else {
+        return Ok(None);
+    };
+    if word.is_empty() || named(text).is_some() || OTHERS.contains(&text) {
+        return Ok(None);
+    }
+    let pointed = format!(in alloc; "{text}.")?;
+    if named(pointed.as_str()).is_some() {
+        return Ok(Some(pointed));
+    }
+    for other in &OTHERS {
+        if are_near(wanted.as_slice(), other.as_bytes()) {
+            return Ok(Some(String::from_str(alloc, other)?));
+        }
+    }
+    for operation in 0..OPERATIONS {
+        if let Some(name) = mnemonic(operation) {
+            if are_near(wanted.as_slice(), name.as_bytes()) {
+                return Ok(Some(String::from_str(alloc, name)?));
+            }
+        }
+    }
+    Ok(None)
+}
+
+/// The label of a source that a word is near.
+fn label_near<'s>(source: &'s [u8], lines: usize, word: &[u8]) -> Option<&'s [u8]> {
+    let wanted = folded(word);
+    for number in 1..=lines {
+        if let Some((label, _)) = split_label(line_at(source, number)) {
+            if are_near(folded(label).as_slice(), wanted.as_slice()) {
+                return Some(label);
+            }
+        }
+    }
+    None
+}
+
+/// The label of a source that a word of a statement is near.
+pub fn near_label<'s>(source: &'s [u8], statement: &[u8]) -> Option<&'s [u8]> {
+    let lines = source.iter().filter(|c| **c == b'\n').count();
+    let mut rest = statement;
+    for _ in 0..statement.len() {
+        let word = word_of(rest);
+        if word.is_empty() {
+            match rest {
+                [] => return None,
+                [_, behind @ ..] => rest = behind,
+            }
+            continue;
+        }
+        let label = label_near(source, lines, word);
+        if label.is_some() {
+            return label;
+        }
+        rest = behind_word(rest);
+    }
+    None
+}

@@ -1,0 +1,46 @@
+//! Places in words.
+
+use crate::labels::nearest;
+use crate::places::Places;
+use std::fmt;
+use word36::Address;
+
+/// A place, told by the nearest label of its block: `LOOP+3`, with the offset in octal; among the
+/// literals as `[..]`, and `[..+3]` three words behind the first of them; elsewhere in six octal
+/// digits.
+#[derive(Clone, Copy, Debug)]
+pub struct Spot<'a> {
+    /// Where the labels and the literals of the program stand.
+    pub places: &'a Places,
+    /// The place.
+    pub place: Address,
+}
+
+/// Writes how far a place stands behind another, where it is not the same.
+fn write_offset<W: fmt::Write>(
+    place: Address,
+    from: u32,
+    f: &mut fmt::Formatter<W>,
+) -> fmt::Result {
+    let offset = place.number().saturating_sub(from);
+    if offset == 0 {
+        return Ok(());
+    }
+    write!(f, "+{offset:o}")
+}
+
+impl fmt::Display for Spot<'_> {
+    fn fmt<W: fmt::Write>(&self, f: &mut fmt::Formatter<W>) -> fmt::Result {
+        let (places, place) = (self.places, self.place);
+        if let Some(label) = nearest(places.labels.as_slice(), place) {
+            write!(f, "{label}")?;
+            return write_offset(place, label.place.number(), f);
+        }
+        if places.literals.have(place) {
+            f.write_str("[..")?;
+            write_offset(place, places.literals.first, f)?;
+            return f.write_str("]");
+        }
+        write!(f, "{place}")
+    }
+}

@@ -1,0 +1,42 @@
+//! What a person may not have meant.
+
+use crate::places::Places;
+use std::alloc::{AllocError, Global};
+use word36::Image;
+
+/// LOGIN writes the highest legal place of the job's core over the word here.
+const HIGHEST: u32 = 0o44;
+
+/// Places below this one are not meant for programs.
+const FIRST_PLACE: u32 = 0o140;
+
+/// What a person may not have meant of a program: a word where LOGIN writes over it, and literals below
+/// the places of programs.
+pub fn warnings_of(
+    alloc: Global,
+    file: &str,
+    image: &Image,
+    places: &Places,
+) -> Result<String, AllocError> {
+    let mut text = String::new(alloc);
+    if image
+        .words
+        .as_slice()
+        .iter()
+        .any(|(place, _)| *place == HIGHEST)
+    {
+        let line = format!(in alloc;
+            "{file}: warning: the word at {HIGHEST:o} is lost: LOGIN writes the highest place of the job's core there\n"
+        )?;
+        text.push_str(line.as_str())?;
+    }
+    let literals = places.literals;
+    if literals.first < literals.end && literals.first < FIRST_PLACE {
+        let line = format!(in alloc;
+            "{file}: warning: the literals stand at {:o}, where END is, below {FIRST_PLACE:o}\n",
+            literals.first
+        )?;
+        text.push_str(line.as_str())?;
+    }
+    Ok(text)
+}
