@@ -1,9 +1,5 @@
-//! Tests of the assembler and of the language of its sources.
+//! Tests of the assembler that need its calls; the others are the files in `tests/assembler`.
 #![tactic(auto)]
 
-#[cfg(test)]
-mod images;
-#[cfg(test)]
-mod places;
 #[cfg(test)]
 mod sources;

@@ -1,147 +1,10 @@
-//! Which sources are in the grammar, and what their statements are.
+//! What statements are read as, and the symbols of a source.
 
 use ka_isa::text_of;
-use mac_text::{Data, Expression, ParseError, Parts, SignedTerm, Statement, Symbol, Term, parse};
-use std::alloc::Global;
+use mac_asm::{assemble, assemble_with_symbols};
+use mac_text::{Data, Expression, Parts, SignedTerm, Statement, Symbol, Term, parse};
 use std::test::Fail;
 use word36::Word;
-
-/// The number of the first line that is not in the grammar; 0 where all are.
-fn fault(alloc: Global, source: &[u8]) -> usize {
-    match parse(alloc, source) {
-        Ok(_) => 0,
-        Err(ParseError::Syntax(line)) => line,
-        Err(ParseError::Memory) => usize::MAX,
-    }
-}
-
-/// How many lines a source has up to END.
-fn line_count(alloc: Global, source: &[u8]) -> Option<usize> {
-    Some(parse(alloc, source).ok()?.len())
-}
-
-const RIGHT: [&[u8]; 47] = [
-    b"",
-    b" ; a comment",
-    b"A: B: C: MOVE 1,A ;x",
-    b"MOVE: 5",
-    b" JRST@5",
-    b" ASCIZ/A/",
-    b" MOVEI-1",
-    b" MOVE",
-    b" MOVE 1,",
-    b" MOVE @",
-    b" MOVE (3)",
-    b" MOVE 1,@(3)",
-    b" MOVE 1 , @ A + 2 ( 3 )",
-    b" move 1,a(5)",
-    b" ENQ. 1,",
-    b" MONRT.",
-    b" HALT A",
-    b" JRSTF @A(1)",
-    b" OUTSTR [ASCIZ /]/]",
-    b" OUTSTRING 5",
-    b" TTCALL 3,A",
-    b" CALLI 1,12",
-    b" 1,,2",
-    b" 1 ,, 2",
-    b" -A+^D10-^O7+.",
-    b" FOO",
-    b" ..",
-    b" .5",
-    b" XWD 1,2",
-    b" IOWD 5,A",
-    b" EXP 1,2,-3",
-    b" POINT 7,A",
-    b" POINT 7,,6",
-    b" POINT 7,@A(1),35",
-    b" ASCII ;A;",
-    b" SIXBIT xAAx;c",
-    b" ASCIZ //",
-    b" BLOCK 5",
-    b" LOC .+100",
-    b" RADIX 99",
-    b" RADIX ^O12",
-    b" RADIX\t^d8 ;c",
-    b" POINT ^O7,5,^D6",
-    b" TITLE anything \x01 at all ; here",
-    b" SUBTTL",
-    b" MOVE 1,[1,,A]",
-    b"\x0c MOVE\x0c1,\t[A]([B])",
-];
-
-const WRONG: [&[u8]; 45] = [
-    b" MOVE ,A",
-    b" MOVE 1,,2",
-    b" MOVE 1,2,3",
-    b" MOVE 1 2",
-    b" ENQ. 1",
-    b" ENQ. A",
-    b" MONRT. 1,",
-    b" HALT 1,A",
-    b" HALT 1,",
-    b" FOO 1,2",
-    b" FOO,1",
-    b" FOO :",
-    b" 1A",
-    b" 5.",
-    b" 8",
-    b" ^D 1",
-    b" ^X1",
-    b" ^D",
-    b" 1, ,2",
-    b" 1,,",
-    b" 1+",
-    b" +-1",
-    b" (1)",
-    b" @1",
-    b" MOVE (1",
-    b" MOVE 1)",
-    b" MOVE 1,[",
-    b" MOVE 1,[]",
-    b" MOVE 1,[1+[2]]",
-    b" MOVE 1,[A: 1]",
-    b" MOVE 1,[1;]",
-    b" MOVE 1,[LOC 5]",
-    b" MOVE 1,[ASCII //]",
-    b" MOVE 1,[TITLE]",
-    b" XWD 1",
-    b" POINT A,B",
-    b" POINT 7",
-    b" ASCIZ /A",
-    b" RADIX 10.",
-    b" RADIX ^O8",
-    b" RADIX ^ O7",
-    b" RADIX -8",
-    b" POINT 7,A,^D",
-    b" POINT ^X7,A",
-    b" \x01",
-];
-
-#[test]
-fn right_and_wrong(rt: HostRuntime) {
-    for text in &RIGHT {
-        assert_eq!(rt; fault(rt.alloc(), text), 0, "{text:?}");
-    }
-    for text in &WRONG {
-        assert_eq!(rt; fault(rt.alloc(), text), 1, "{text:?}");
-    }
-}
-
-#[test]
-fn lines(rt: HostRuntime) {
-    assert_eq!(rt; line_count(rt.alloc(), b""), Some(0));
-    assert_eq!(rt; line_count(rt.alloc(), b"\n\n"), Some(2));
-    assert_eq!(rt; line_count(rt.alloc(), b" 1\r\n 2"), Some(2));
-    assert_eq!(rt; line_count(rt.alloc(), b" 1\n END\n ?\xff"), Some(2));
-    assert_eq!(rt; fault(rt.alloc(), b" 1\r\r\n"), 1);
-    assert_eq!(rt; fault(rt.alloc(), b" 1\n 2\n ;\xc3\n"), 3);
-    assert_eq!(rt; fault(rt.alloc(), b" ASCIZ /\x80/\n"), 1);
-    assert_eq!(rt;
-        fault(rt.alloc(), b" RADIX 10\n 8\n RADIX 1\n 9\n RADIX 8\n 9\n"),
-        6
-    );
-}
 
 /// The terms of an expression of several.
 fn terms_of(expression: &Expression) -> &[SignedTerm] {
@@ -228,4 +91,34 @@ fn printed_words(rt: HostRuntime) -> Result<(), Fail> {
         _ => assert!(rt; false, "an instruction"),
     }
     Ok(())
+}
+
+/// The symbols of a source in order of definition.
+const SYMBOLS: [(&[u8], u64); 4] = [
+    (b"LATER", 0o140),
+    (b"FIRST", 0o200),
+    (b"second", 0o200),
+    (b"DONE", 0o202),
+];
+
+#[test]
+fn symbols_in_order(rt: HostRuntime) -> Result<(), Fail> {
+    let source = b"LATER: LOC 200\nFIRST: SECOND: BLOCK 2\nDONE: END [5]\n";
+    let listing = assemble_with_symbols(rt.alloc(), source)
+        .ok()
+        .ok_or("it is right")?;
+    assert_eq!(rt; listing.image.words.len(), 3);
+    assert_eq!(rt; listing.symbols.len(), SYMBOLS.len());
+    for (i, (name, place)) in SYMBOLS.iter().enumerate() {
+        let (sixbit, value) = listing.symbols.get_index(i).ok_or("one more")?;
+        assert_eq!(rt; *sixbit, Symbol::of(name).sixbit());
+        assert_eq!(rt; value.to_u64(), Some(*place));
+    }
+    Ok(())
+}
+
+/// The greatest block ends at the last place that there is. (It is too long to be listed.)
+#[test]
+fn greatest_block(rt: HostRuntime) {
+    assert!(rt; assemble(rt.alloc(), b" BLOCK 777640\n END").is_ok());
 }

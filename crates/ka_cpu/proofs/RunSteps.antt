@@ -53,4 +53,11 @@ ran_end k j g core e =
     rw e (let s : k - 0 + 0 ≡ k = omega arith in
     sym (ap (ran_on (k - 0)) (ran_zero g core) ∙ ap (λ (n : ℕ). record { steps = n; after = record { regs = g; core = core; outcome = Done } }) s))
 
+-- one instruction alone
+pub ran_one : (g h : Regs) (core rest : List ℕ) (o : Outcome) → record { regs = h; core = rest; outcome = o } ≡ exec g core
+    → record { steps = 1; after = record { regs = h; core = rest; outcome = o } } ≡ ran 1 g core
+unfolding ran
+ran_one g h core rest Done x = rw (← x) refl
+ran_one g h core rest o x = rw (← x) refl
+
 pub ruleset run_turns = (ran_turn, ran_ended, ran_start, ran_end)

@@ -24,6 +24,15 @@ use crate::{CallKind, JobMemory, Outcome, Regs, StopReason};
 use ka_isa::{Change, Family, classify};
 use word36::Word;
 
+/// The caller is `step`.
+pub const STEP: u8 = 0;
+
+/// The caller is `run_steps`.
+pub const RUN: u8 = 1;
+
+/// The caller executes an instruction in its own place.
+pub const HERE: u8 = 2;
+
 /// Calls the body of a common family in the mode of the instruction, each mode with a copy of its
 /// own, in which the mode is not looked at again.
 macro_rules! in_mode {
@@ -51,7 +60,7 @@ fn is_listed_family(family: Family, ac: usize) -> bool
 /// Carries out an operation from 250 to 377 octal, jumps, pushdown instructions, sums and comparisons,
 /// whose address is known, or, where it is XCT, does nothing.
 #[inline(always)]
-fn carry_out_common<M: JobMemory, const RUN: bool>(
+fn carry_out_common<M: JobMemory, const CALLER: u8>(
     op: u32,
     regs: &mut Regs,
     memory: &mut M,
@@ -78,6 +87,7 @@ fn carry_out_common<M: JobMemory, const RUN: bool>(
         }
         0o255 => do_jfcl(regs, memory, n),
         0o256 => return None,
+        0o257 => Outcome::Stop(refusal(op, n.ac(), StopReason::IllegalInstruction)),
         0o260 => do_pushj(regs, memory, n),
         0o261 => do_push(regs, memory, n),
         0o262 => do_pop(regs, memory, n),
@@ -165,7 +175,7 @@ fn carry_out_common<M: JobMemory, const RUN: bool>(
 
 /// Carries out another operation whose address is known.
 #[inline(always)]
-fn carry_out_rest<M: JobMemory, const RUN: bool>(
+fn carry_out_rest<M: JobMemory, const CALLER: u8>(
     op: u32,
     regs: &mut Regs,
     memory: &mut M,
@@ -226,11 +236,11 @@ fn carry_out_rest<M: JobMemory, const RUN: bool>(
 
 /// Carries out an instruction whose address is known, or, where it is an XCT, does nothing.
 ///
-/// `RUN` is whether the caller runs instructions one after another. Nothing looks at it: it gives
-/// `run_steps` and `step` a copy of this body each, also where both have the same memory, since a body
-/// of this size is inlined only where it has one caller.
+/// Nothing looks at `CALLER`, which is `STEP`, `RUN` or `HERE`: it gives each of these callers a copy of
+/// this body, also where they have the same memory, since a body of this size is inlined only where it has
+/// one caller.
 #[inline(always)]
-pub fn carry_out<M: JobMemory, const RUN: bool>(
+pub fn carry_out<M: JobMemory, const CALLER: u8>(
     regs: &mut Regs,
     memory: &mut M,
     n: Instruction,
@@ -243,9 +253,9 @@ pub fn carry_out<M: JobMemory, const RUN: bool>(
 {
     let op = n.op();
     if op.wrapping_sub(0o250) < 0o130 {
-        carry_out_common::<M, RUN>(op, regs, memory, n, word)
+        carry_out_common::<M, CALLER>(op, regs, memory, n, word)
     } else {
-        carry_out_rest::<M, RUN>(op, regs, memory, n, word)
+        carry_out_rest::<M, CALLER>(op, regs, memory, n, word)
     }
 }
 

@@ -9,7 +9,7 @@ ghost use Rattle.ka_cpu.specs.Places.{word_at};
 ghost use Rattle.ka_cpu.specs.Runs.{ran};
 
 use crate::address::find_address;
-use crate::dispatch::{carry_out, refusal};
+use crate::dispatch::{HERE, RUN, STEP, carry_out, refusal};
 use crate::instruction::{ILLEGAL, Instruction};
 use crate::{CoreWords, JobMemory, MOST_EXECUTES, Outcome, Regs, StopReason, fetch};
 use word36::{Address, Word};
@@ -81,10 +81,10 @@ fn find_executed<M: JobMemory>(regs: &Regs, memory: &M, e: Address) -> Result<Wo
     }
 }
 
-/// Executes a word, and where it is an XCT the word behind it. `RUN` is that of `carry_out`.
+/// Executes a word, and where it is an XCT the word behind it. `CALLER` is that of `carry_out`.
 #[inline(always)]
 #[tactic(auto, using(crate::proofs::Executes::executions))]
-fn execute<M: JobMemory, const RUN: bool>(regs: &mut Regs, memory: &mut M, word: Word) -> Outcome
+fn execute<M: JobMemory, const CALLER: u8>(regs: &mut Regs, memory: &mut M, word: Word) -> Outcome
     ensures after { record { regs = regs.new; core = M.words memory.new; outcome = result } ≡ word_performed regs.old (M.words memory.old) (word_behind MOST_EXECUTES regs.old.ac (M.words memory.old) word) }
     ensures place { M.place memory.new ≡ M.place memory.old }
 {
@@ -97,7 +97,7 @@ fn execute<M: JobMemory, const RUN: bool>(regs: &mut Regs, memory: &mut M, word:
             Ok(e) => e,
         };
         let instruction = Instruction::new(op, ac, e);
-        if let Some(outcome) = carry_out::<M, RUN>(regs, memory, instruction, word) {
+        if let Some(outcome) = carry_out::<M, CALLER>(regs, memory, instruction, word) {
             return outcome;
         }
         match find_executed(regs, memory, e) {
@@ -107,17 +107,17 @@ fn execute<M: JobMemory, const RUN: bool>(regs: &mut Regs, memory: &mut M, word:
     }
 }
 
-/// Executes the instruction at the PC. `RUN` is that of `carry_out`.
+/// Executes the instruction at the PC. `CALLER` is that of `carry_out`.
 #[inline(always)]
 #[tactic(auto, unfolding(crate::specs::Exec::exec))]
-fn execute_next<M: JobMemory, const RUN: bool>(regs: &mut Regs, memory: &mut M) -> Outcome
+fn execute_next<M: JobMemory, const CALLER: u8>(regs: &mut Regs, memory: &mut M) -> Outcome
     ensures exec { record { regs = regs.new; core = M.words memory.new; outcome = result } ≡ exec regs.old (M.words memory.old) }
     ensures place { M.place memory.new ≡ M.place memory.old }
 {
     let Some(word) = fetch(regs, memory, regs.pc.number()) else {
         return ILLEGAL;
     };
-    execute::<M, RUN>(regs, memory, word)
+    execute::<M, CALLER>(regs, memory, word)
 }
 
 /// Executes the instruction at the PC, in user mode (DECsystem-10 Processor Reference Manual, KA10).
@@ -132,7 +132,7 @@ pub fn step<M: JobMemory>(regs: &mut Regs, memory: &mut M) -> Outcome
     ensures place { M.place memory.new ≡ M.place memory.old }
     ensures ends { EndsAs result regs.old (M.words memory.old) regs.new (M.words memory.new) }
 {
-    execute_next::<M, false>(regs, memory)
+    execute_next::<M, STEP>(regs, memory)
 }
 
 /// Executes at most so many instructions, one after another, until one calls the monitor or stops, and
@@ -145,10 +145,47 @@ pub fn run_steps(regs: &mut Regs, words: &mut [Word], most: u64) -> (u64, Outcom
 {
     let mut memory = CoreWords { words };
     for left in (0..most).rev() {
-        match execute_next::<CoreWords, true>(regs, &mut memory) {
+        match execute_next::<CoreWords, RUN>(regs, &mut memory) {
             Outcome::Done => {}
             ended => return (most - left, ended),
         }
     }
     (most, Outcome::Done)
+}
+
+/// One instruction, where the caller is.
+#[inline(always)]
+fn run_one(regs: &mut Regs, words: &mut [Word]) -> (u64, Outcome)
+    ensures { record { steps = result.0; after = record { regs = regs.new; core = words.new; outcome = result.1 } } ≡ ran 1 regs.old words.old }
+{
+    let mut memory = CoreWords { words };
+    let outcome = execute_next::<CoreWords, HERE>(regs, &mut memory);
+    (1, outcome)
+}
+
+/// Several instructions, by `run_steps`. It is inlined, so that its caller, which is inlined too, keeps no
+/// place for what the call of `run_steps` returns.
+#[inline(always)]
+fn run_several(regs: &mut Regs, words: &mut [Word], most: u64) -> (u64, Outcome)
+    ensures { record { steps = result.0; after = record { regs = regs.new; core = words.new; outcome = result.1 } } ≡ ran most regs.old words.old }
+{
+    run_steps(regs, words, most)
+}
+
+/// As `run_steps`. Where `IN_PLACE`, an instruction that is wanted alone is executed where the caller is,
+/// which saves a third of its time. A program has one such caller: a body of this size is inlined only
+/// where there is one.
+#[inline(always)]
+pub fn run_steps_from<const IN_PLACE: bool>(
+    regs: &mut Regs,
+    words: &mut [Word],
+    most: u64,
+) -> (u64, Outcome)
+    ensures { record { steps = result.0; after = record { regs = regs.new; core = words.new; outcome = result.1 } } ≡ ran most regs.old words.old }
+{
+    if IN_PLACE && most == 1 {
+        run_one(regs, words)
+    } else {
+        run_several(regs, words, most)
+    }
 }
