@@ -2,7 +2,7 @@
 //! or `asm` is a script or a source, the next block of the language `output` is what is written on it,
 //! and one of the language `told` behind that what standard error is told.
 
-use crate::served::{Language, Served};
+use crate::served::{Language, PROGRAM, Served};
 use std::alloc::{AllocError, Global};
 
 /// What a line stands in.
@@ -97,8 +97,13 @@ impl Document {
         if place != Place::Output && place != Place::Told {
             return Ok(None);
         }
-        let served = Served::of(alloc, self.language, self.script.as_str())?;
-        let Served { written, told } = served;
+        let words = [PROGRAM, self.language.command()];
+        let served = Served::of(alloc, &words, self.script.as_str().as_bytes())?;
+        let Served {
+            written,
+            told,
+            status: _,
+        } = served;
         Ok(Some(Compared {
             wanted: self.block.clone()?,
             written: if place == Place::Told { told } else { written },

@@ -1,9 +1,10 @@
 //! Checks that the examples in the documents, and the scripts and sources beside them, are what
 //! `lockmon` writes, and that the processor does what the rows of a table say. Its words are files: a
-//! document, a script or a source with its transcript beside it, or a table. Where something else comes
-//! of it, it says which line differs.
+//! document, a script or a source with its transcript beside it, a table of short ones, or one of the
+//! processor. Where something else comes of it, it says which line differs.
 #![tactic(auto)]
 
+mod cases;
 mod difference;
 mod document;
 mod job_state;
@@ -11,11 +12,11 @@ mod rows;
 mod served;
 
 use anyhow::Result;
+use cases::case_of;
 use difference::first_difference;
 use document::{Compared, Document};
 use rows::check_row;
-use served::{Language, Served};
-use std::alloc::Global;
+use served::{Language, PROGRAM, Served, status_behind, words_of};
 use std::process::ExitCode;
 use std::rt::Files;
 use std::{fs, str};
@@ -26,12 +27,25 @@ const DOCUMENT: &str = ".md";
 /// The end of the name of a table of rows.
 const TABLE: &str = ".rows";
 
+/// The end of the name of a table of short scripts or sources, behind the end that says which.
+const CASES: &str = ".cases";
+
 /// The ends of the names of scripts and of sources, and what each is written in.
 const SCRIPTS: [(&str, Language); 3] = [
     (".queue", Language::Queue),
     (".run", Language::Run),
     (".mac", Language::Asm),
 ];
+
+/// What the end of a name says that a file is written in, and the name without it.
+fn language_of(name: &str) -> Option<(&str, Language)> {
+    for (end, language) in SCRIPTS {
+        if let Some(stem) = name.strip_suffix(end) {
+            return Some((stem, language));
+        }
+    }
+    None
+}
 
 /// Whether what is written is what is wanted; where it is not, says where.
 fn holds<R: Print>(rt: &R, place: &str, compared: &Compared) -> Result<bool> {
@@ -43,6 +57,22 @@ fn holds<R: Print>(rt: &R, place: &str, compared: &Compared) -> Result<bool> {
             Ok(false)
         }
     }
+}
+
+/// Whether a script or a source writes what is wanted and ends with the status that belongs to it; where
+/// it does not, says where.
+fn serves<R: Print>(rt: &R, place: &str, wanted: String, served: Served) -> Result<bool> {
+    let status = status_behind(wanted.as_str());
+    let Served {
+        written,
+        status: found,
+        told: _,
+    } = served;
+    let is_written = holds(rt, place, &Compared { wanted, written })?;
+    if status != found {
+        rt.println(format_args!("{place}: the status should be {status} and is {found}"))?;
+    }
+    Ok(is_written && status == found)
 }
 
 /// Whether the examples of a document hold, of which there has to be one.
@@ -63,7 +93,37 @@ fn check_document<R: Files + Print + AllocGlobal>(rt: &R, name: &str) -> Result<
     Ok(has_one && all_hold)
 }
 
-/// Whether the rows of a table hold, of which there has to be one.
+/// Whether the short scripts or sources of a table write what stands behind them; there has to be one.
+fn check_cases<R: Files + Print + AllocGlobal>(
+    rt: &R,
+    name: &str,
+    language: Language,
+) -> Result<bool> {
+    let alloc = rt.alloc();
+    let text = fs::read_to_string(rt, name)?;
+    let (mut has_one, mut all_hold) = (false, true);
+    for (i, line) in text.lines().enumerate() {
+        if line.is_empty() || line.starts_with('#') {
+            continue;
+        }
+        has_one = true;
+        let place = format!(in alloc; "{name}, line {}", i.saturating_add(1))?;
+        let one_holds = match case_of(alloc, line)? {
+            Some((script, wanted)) => {
+                let served = Served::of(alloc, &[PROGRAM, language.command()], script.as_slice())?;
+                serves(rt, place.as_str(), wanted, served)?
+            }
+            None => {
+                rt.println(format_args!("{place}: this is no case"))?;
+                false
+            }
+        };
+        all_hold = all_hold && one_holds;
+    }
+    Ok(has_one && all_hold)
+}
+
+/// Whether the rows of a table of the processor hold, of which there has to be one.
 fn check_table<R: Files + Print + AllocGlobal>(rt: &R, name: &str) -> Result<bool> {
     let text = fs::read_to_string(rt, name)?;
     let (mut has_one, mut all_hold) = (false, true);
@@ -82,16 +142,31 @@ fn check_table<R: Files + Print + AllocGlobal>(rt: &R, name: &str) -> Result<boo
     Ok(has_one && all_hold)
 }
 
+/// Whether a script or a source writes what its transcript has.
+fn check_script<R: Files + Print + AllocGlobal>(
+    rt: &R,
+    name: &str,
+    stem: &str,
+    language: Language,
+) -> Result<bool> {
+    let alloc = rt.alloc();
+    let script = fs::read_to_string(rt, name)?;
+    let wanted = fs::read_to_string(rt, format!(in alloc; "{stem}.out")?.as_str())?;
+    let words = words_of(alloc, language, script.as_str())?;
+    let served = Served::of(alloc, words.as_slice(), script.as_str().as_bytes())?;
+    serves(rt, name, wanted, served)
+}
+
 /// Whether a file holds.
 fn check<R: Files + Print + AllocGlobal>(rt: &R, name: &str) -> Result<bool> {
-    let alloc: Global = rt.alloc();
-    for (end, language) in SCRIPTS {
-        if let Some(stem) = name.strip_suffix(end) {
-            let script = fs::read_to_string(rt, name)?;
-            let wanted = fs::read_to_string(rt, format!(in alloc; "{stem}.out")?.as_str())?;
-            let Served { written, told: _ } = Served::of(alloc, language, script.as_str())?;
-            return holds(rt, name, &Compared { wanted, written });
-        }
+    if let Some((stem, language)) = language_of(name) {
+        return check_script(rt, name, stem, language);
+    }
+    if let Some(named) = name.strip_suffix(CASES) {
+        return match language_of(named) {
+            Some((_, language)) => check_cases(rt, name, language),
+            None => Ok(false),
+        };
     }
     if name.ends_with(DOCUMENT) {
         check_document(rt, name)

@@ -1,15 +1,14 @@
-//! Tests of `op_script`: scripts on the machine and what they must write.
+//! Tests of serving over ports that fail, pass few bytes at once, or are interrupted. What scripts and sources
+//! write is tested by the files in `tests/`.
 #![tactic(auto)]
 
 #[cfg(test)]
-mod commands;
+mod examples;
 #[cfg(test)]
-mod faults;
+mod host;
 #[cfg(test)]
 mod lines;
 #[cfg(test)]
 mod ports;
 #[cfg(test)]
-mod rows;
-#[cfg(test)]
-mod scripts;
+mod served;
