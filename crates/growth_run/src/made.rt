@@ -1,6 +1,7 @@
 //! What is made at once: a machine, the statements of a source, an image.
 
 use crate::Finding;
+use command_line::{Choice, Refusal, choice as choice_of};
 use core_store::PlainCore;
 use mac_asm::{AsmError, assemble};
 use mac_text::{ParseError, parse};
@@ -49,4 +50,25 @@ pub fn image(alloc: Global) -> Finding {
         Err(AsmError::Memory) => Finding::Refused,
         Err(_) => Finding::Wrong,
     }
+}
+
+/// What words of the command line ask for, and that others are refused.
+pub fn choice(alloc: Global) -> Finding {
+    let right = match choice_of(alloc, &["lockmon", "run", "--blocks", "32"]) {
+        Ok(choice) => whole_if(
+            choice
+                == (Choice::Run {
+                    blocks: 32,
+                    quantum: 1,
+                }),
+        ),
+        Err(Refusal::Memory) => Finding::Refused,
+        Err(Refusal::Usage(_)) => Finding::Wrong,
+    };
+    let wrong = match choice_of(alloc, &["lockmon", "run", "--blocks", "257"]) {
+        Ok(_) => Finding::Wrong,
+        Err(Refusal::Memory) => Finding::Refused,
+        Err(Refusal::Usage(_)) => Finding::Whole,
+    };
+    right.and(wrong)
 }

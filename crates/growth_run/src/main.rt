@@ -4,6 +4,7 @@
 #![tactic(auto)]
 
 mod made;
+mod programs;
 mod served;
 
 use std::io;
@@ -21,6 +22,15 @@ pub enum Finding {
 }
 
 impl Finding {
+    /// The worse of two.
+    fn and(self, other: Finding) -> Finding {
+        match (self, other) {
+            (Finding::Whole, _) => other,
+            (Finding::Refused, Finding::Wrong) => other,
+            _ => self,
+        }
+    }
+
     /// Its word.
     fn word(self) -> &'static str {
         match self {
@@ -36,12 +46,17 @@ const REFUSED: u8 = 3;
 
 fn main(rt: HostRuntime) -> io::Result<ExitCode> {
     let findings = [
+        ("choice", made::choice(rt.alloc())),
         ("boot", made::boot(rt.alloc())),
         ("parse", made::statements(rt.alloc())),
         ("assemble", made::image(rt.alloc())),
         ("run", served::run(rt.alloc())),
         ("queue", served::queue(rt.alloc())),
         ("asm", served::asm(rt.alloc())),
+        ("lockmon run", programs::run(rt.alloc())),
+        ("lockmon queue", programs::queue(rt.alloc())),
+        ("lockmon asm", programs::asm(rt.alloc())),
+        ("lockmon", programs::wrong_words(rt.alloc())),
     ];
     let mut refused = false;
     let mut wrong = false;

@@ -1,12 +1,15 @@
 //! Transcripts.
 
 use crate::Finding;
-use op_script::{Config, ServeError, TestIn, TestOut, serve, serve_asm, serve_queue};
+use asm_script::serve_asm;
+use op_script::{Config, serve};
+use queue_script::serve_queue;
+use script_io::{ServeError, TestIn, TestOut};
 use std::alloc::Global;
 use word36::MOST_REQUESTS;
 
 /// More calls than a port gets.
-const MANY: u64 = 1_000_000;
+pub const MANY: u64 = 1_000_000;
 
 /// Room for a script that fills the lock queue.
 const SCRIPT_ROOM: usize = 32 * MOST_REQUESTS;
@@ -24,14 +27,14 @@ fn finding(answer: Result<(), ServeError>, written: &[u8], text: &[u8]) -> Findi
 }
 
 /// Two jobs of this count to 100 each in the shared word 0, under a lock.
-const COUNTERS: &[u8] =
+pub const COUNTERS: &[u8] =
     b"ASSEMBLE C\n MOVEI 5,^D100\nLOOP: MOVE 1,[BLK]\n ENQ. 1,\n HALT\n MOVEI 1,0\n DATRD. 1,\n\
      HALT\n MOVE 2,1\n ADDI 2,1\n MOVEI 1,0\n DATWR. 1,\n HALT\n MOVE 1,[BLK]\n DEQ. 1,\n HALT\n SOJG 5,LOOP\n EXIT\n\
 BLK: 1,,5\n 0,,7\n 777777\n POINT 7,[ASCIZ /X/]\n 0\n END 140\nENDASM\nLOGIN 0 C\nLOGIN 1 C\nSTART 1\nSTART 2\n\
 RUN 6000\nDATA 0\n";
 
 /// What is written then.
-const COUNTED: &[u8] =
+pub const COUNTED: &[u8] =
     b"IMAGE C 25\nJOB 1\nJOB 2\nDONE\nDONE\nRAN 2204 IDLE 3796\n000000,,000310\n";
 
 /// A script on the machine.
@@ -103,12 +106,12 @@ pub fn queue(alloc: Global) -> Finding {
 }
 
 /// A source with a block, a literal and a text.
-const SOURCE: &[u8] =
+pub const SOURCE: &[u8] =
     b" RESET\n MOVE 1,[1,,BLK]\n ENQ. 1,\n HALT\n JRST @.\nBLK: 1,,5\n 0,,7\n 777777\n \
     POINT 7,[ASCIZ /X/]\n 0\n END 140\n";
 
 /// Its listing.
-const LISTING: &[u8] =
+pub const LISTING: &[u8] =
     b"000140 047000,,000000\n000141 200040,,000152\n000142 047040,,000151\n000143 254200,,000000\n\
     000144 254020,,000144\n000145 000001,,000005\n000146 000000,,000007\n000147 000000,,777777\n\
     000150 440700,,000153\n000151 000000,,000000\n000152 000001,,000145\n000153 540000,,000000\nSTART 000140\n";

@@ -1,6 +1,6 @@
 //! Runs programs and events that mean harm, and looks whether the machine keeps its rules.
 //!
-//! `words N`: sixteen jobs execute words drawn at random for N rounds, on two machines with different
+//! `random_words N`: sixteen jobs execute words drawn at random for N rounds, on two machines with different
 //! tables of locks and stores of core. `events N S`: N events as an operator and users at all lines might
 //! make them, drawn from the seed S, with a look at the whole state every 10,000.
 #![tactic(auto)]
@@ -11,6 +11,7 @@ ghost use Rattle.word36.specs.declared.sizes.TheConstants.{MOST_REQUESTS};
 mod generator;
 mod plain_check;
 mod programs;
+mod safe;
 mod users;
 mod words;
 
@@ -27,7 +28,7 @@ use std::alloc::Global;
 use std::env;
 use std::process::ExitCode;
 use word36::{Image, MOST_REQUESTS};
-use words::run_words;
+use words::random_words;
 
 /// The blocks of core, and the ticks of a quantum.
 const BLOCKS: u32 = 256;
@@ -59,7 +60,7 @@ enum Load {
 fn asked(words: &[String]) -> Option<Load> {
     let load = words.get(1)?;
     let count = words.get(2)?.parse::<u32>().ok()?;
-    if load.as_str() == "words" {
+    if load.as_str() == "random_words" {
         return Some(Load::Words(count));
     }
     let seed = words.get(3)?.parse::<u32>().ok()?;
@@ -84,7 +85,7 @@ fn harmful_words<R: Print + AllocGlobal>(rt: &R, rounds: u32) -> Result<bool> {
     let (Some(first), Some(second)) = (plain, fast) else {
         return Ok(false);
     };
-    let found = run_words(alloc, first, second, rounds)?;
+    let found = random_words(alloc, first, second, rounds)?;
     rt.println(format_args!(
         "ROUNDS {rounds} RAN {} DIFFERENCES {} FAULTS {}",
         found.ran, found.differences, found.faults
@@ -127,7 +128,7 @@ fn main(rt: HostRuntime) -> Result<ExitCode> {
         Some(Load::Words(rounds)) => harmful_words(&rt, rounds)?,
         Some(Load::Events(count, seed)) => many_events(&rt, count, seed)?,
         None => {
-            println!(rt; "hostile_run words ROUNDS, or hostile_run events COUNT SEED")?;
+            println!(rt; "hostile_run random_words ROUNDS, or hostile_run events COUNT SEED")?;
             return Ok(ExitCode::from(2));
         }
     };

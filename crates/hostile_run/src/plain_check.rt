@@ -1,5 +1,6 @@
 //! The queue's rule, worked out anew from the list of requests, beside what the machine says of it.
 
+use crate::safe::count_unsafe;
 use core_store::CoreStore;
 use job_sched::Wait;
 use lock_queue::{LockTable, Request, Want};
@@ -22,7 +23,7 @@ fn amount_before<L: LockTable>(locks: &L, place: usize, want: &Want) -> u64 {
 }
 
 /// Whether two wants share their key in one group.
-fn is_of_one_group(v: &Want, w: &Want) -> bool {
+pub fn is_of_one_group(v: &Want, w: &Want) -> bool {
     v.shared && w.shared && v.group == w.group
 }
 
@@ -38,8 +39,8 @@ fn is_opposed<L: LockTable>(locks: &L, place: usize, want: &Want) -> bool {
     false
 }
 
-/// Whether no earlier request stands in the way of a want.
-fn fits<L: LockTable>(locks: &L, place: usize, want: &Want) -> bool {
+/// Whether no request before a place stands in the way of a want.
+pub fn fits<L: LockTable>(locks: &L, place: usize, want: &Want) -> bool {
     match want.pool {
         Some(pool) => {
             let taken = amount_before(locks, place, want);
@@ -92,5 +93,7 @@ fn wrong_jobs<L: LockTable, C: CoreStore>(system: &System<L, C>) -> u32 {
 
 /// How many faults there are in the state of the machine.
 pub fn count_faults<L: LockTable, C: CoreStore>(system: &System<L, C>) -> u32 {
-    wrong_requests(system).saturating_add(wrong_jobs(system))
+    wrong_requests(system)
+        .saturating_add(wrong_jobs(system))
+        .saturating_add(count_unsafe(system.locks()))
 }

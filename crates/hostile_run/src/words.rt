@@ -57,7 +57,12 @@ fn is_same_answer(a: &Answer, b: &Answer) -> bool {
 
 /// Whether two wants are the same.
 fn is_same_want(v: &Want, w: &Want) -> bool {
-    v.key.is_same(&w.key) && v.shared == w.shared && v.group == w.group && v.pool == w.pool
+    v.key.is_same(&w.key)
+        && v.shared == w.shared
+        && v.group == w.group
+        && v.bypass == w.bypass
+        && v.level == w.level
+        && v.pool == w.pool
 }
 
 /// Whether two requests are the same.
@@ -164,7 +169,7 @@ impl<L: LockTable, C: CoreStore, M: LockTable, D: CoreStore> Pair<L, C, M, D> {
 }
 
 /// A job at each of so many lines begins with words of its own, and then so many rounds go by.
-pub fn run_words<L, C, M, D>(
+pub fn random_words<L, C, M, D>(
     alloc: Global,
     first: System<L, C>,
     second: System<M, D>,

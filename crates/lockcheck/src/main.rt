@@ -3,7 +3,7 @@
 #![tactic(auto)]
 
 use lockcheck_run::{Progress, program, unread_words};
-use queue_script::{HostIn, HostOut};
+use script_io::{HostIn, HostOut};
 use std::env;
 use std::io::IsTerminal;
 use std::process::ExitCode;

@@ -6,7 +6,8 @@ ghost use Rattle.lock_orders.specs.Programs.{are_right_lines, is_right_line};
 use crate::copying::copied_call;
 use crate::rightness::is_right_line;
 use lock_orders::{Line, MOST_LINES, Programs, Step};
-use queue_script::{CallRoom, Command, Parts, read_command};
+use queue_script::{CallRoom, Command, read_command};
+use script_io::Parts;
 use std::alloc::{AllocError, Global};
 
 /// Why a script is refused.

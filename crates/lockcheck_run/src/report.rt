@@ -4,8 +4,7 @@ ghost use Rattle.lock_orders.specs.declared.lines.TheConstants.{MOST_LINES};
 
 use crate::reading::without_return;
 use lock_orders::{ANSWERS, Programs, Report, Verdict, WAITS};
-use queue_script::Parts;
-use script_io::push_decimal;
+use script_io::{Parts, push_decimal};
 use std::alloc::{AllocError, Global};
 use std::collections::BTreeSet;
 

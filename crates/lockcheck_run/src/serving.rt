@@ -7,7 +7,7 @@ use crate::statuses::{CIRCLE, DONE, FAILED, REFUSED, STUCK, USAGE};
 use crate::words::{Asked, Refusal, read_words};
 use fault_text::{Refused, explain};
 use lock_orders::{Looked, MOST_LINES, Report, look};
-use queue_script::{ByteIn, ByteOut, write_all};
+use script_io::{ByteIn, ByteOut, write_all};
 use state_search::Watch;
 use std::alloc::{AllocError, Global};
 use std::convert::AsStr;
@@ -106,6 +106,17 @@ fn told<E: ByteOut>(errors: &mut E, text: &[u8], status: u8) -> u8
 {
     let _ = write_all(errors, text);
     status
+}
+
+/// Writes the help or the version to the output, and gives the exit status.
+fn written<W: ByteOut, E: ByteOut>(writer: &mut W, text: &[u8], errors: &mut E) -> u8
+    requires writer_sound { W.has_failed writer.old ≡ false }
+    requires errors_sound { E.has_failed errors.old ≡ false }
+{
+    match write_all(writer, text) {
+        Ok(()) => DONE,
+        Err(_) => told(errors, b"lockcheck: write\n", FAILED),
+    }
 }
 
 /// Says why a script is refused, and gives the exit status.
@@ -207,7 +218,8 @@ fn check_file<F: Files + AllocGlobal, W: ByteOut, E: ByteOut, T: Watch>(
 
 /// Reads the script of the file that the words name, or of the reader, looks at all orders of its calls,
 /// and writes the report. The words begin with the program's name. It gives the exit status, as
-/// `check_script` does, and 2 where the words are refused or ask for help, which `errors` is told of.
+/// `check_script` does, and 2 where the words are refused, which `errors` is told of. The help and the
+/// version, where the words ask for them, are written in place of a report, with status 0.
 /// `watch` is told how far the search is.
 pub fn program<F: Files + AllocGlobal, S: AsStr, R: ByteIn, W: ByteOut, E: ByteOut, T: Watch>(
     rt: &F,
@@ -229,7 +241,8 @@ pub fn program<F: Files + AllocGlobal, S: AsStr, R: ByteIn, W: ByteOut, E: ByteO
         },
         Err(Refusal::Memory) => told(errors, b"lockcheck: memory\n", FAILED),
         Err(Refusal::Usage(error)) => match error.to_string(alloc) {
-            Ok(text) => told(errors, text.as_str().as_bytes(), USAGE),
+            Ok(text) if error.use_stderr() => told(errors, text.as_str().as_bytes(), USAGE),
+            Ok(text) => written(writer, text.as_str().as_bytes(), errors),
             Err(_) => told(errors, b"lockcheck: memory\n", FAILED),
         },
     }

@@ -2,7 +2,7 @@
 
 use clap::error::ErrorKind;
 use clap::{Arg, ArgAction, ArgMatches, Command, Error};
-use queue_script::number;
+use script_io::number;
 use std::alloc::{AllocError, Global};
 use std::convert::AsStr;
 

@@ -8,6 +8,8 @@ const FEW: &[&str] = &["lockcheck", "--states", "4"];
 
 const ENOUGH: &[&str] = &["lockcheck", "--states", "5"];
 
+const VERSION: &[&str] = &["lockcheck", "--version"];
+
 const NONE: &[&str] = &["lockcheck", "--states", "0"];
 
 const NO_FILE: &[&str] = &["lockcheck", "no/such/file.queue"];
@@ -55,6 +57,13 @@ fn refusals(rt: HostRuntime) {
     for row in &rows {
         assert!(rt; answers(&rt, row));
     }
+}
+
+#[test]
+fn version(rt: HostRuntime) {
+    let mut row = row_of(VERSION, "", (0, MANY), 0, "");
+    row.written = "lockcheck 0.1.0\n";
+    assert!(rt; answers(&rt, &row));
 }
 
 #[test]

@@ -1,7 +1,7 @@
 //! The rows of a test.
 
 use lockcheck_run::program;
-use queue_script::{TestIn, TestOut};
+use script_io::{TestIn, TestOut};
 use state_search::Unwatched;
 use std::rt::Files;
 

@@ -89,12 +89,17 @@ impl Line {
         self.input.pop_front()
     }
 
-    /// Puts a text last in the output.
+    /// Puts a text last in the output. One character, as most texts are, is put without a copy of slices.
     pub(crate) fn push_output(&mut self, text: &[Char7])
         requires { length self.old.output + length text.now ≤ OUTPUT_RING }
         ensures { self.new ≡ record self.old { output = self.old.output ++ text.now } }
     {
-        self.output.extend_from_slice(text);
+        match text {
+            [only] => {
+                self.output.push_back(*only);
+            }
+            _ => self.output.extend_from_slice(text),
+        }
     }
 
     /// Takes the first characters of the output, at most `n` and at most 64.
