@@ -1,11 +1,12 @@
 #!/usr/bin/env bash
-# Whether the pictures that `lockview` writes of the stored queue scripts, and of one in which all jobs wait, are
-# well-formed, by a parser of XML; that the pictures in examples/ are those of today; and, where rsvg-convert is
-# installed, that they can be painted; SHOT=FILE.png has a headless Chromium paint one. Build the program first
-# (rt run in crates/lockview).
+# Whether the pictures that `lockview` writes of the stored queue scripts, and of one in which all jobs wait, and
+# those that `ten` writes of a short and of a long run, are well-formed, by a parser of XML; that the pictures in
+# examples/ are those of today; and, where rsvg-convert is installed, that they can be painted; SHOT=FILE.png has a
+# headless Chromium paint one. Build the programs first (rt run in crates/lockview, ./ten --build).
 set -eu
 cd "$(dirname "$0")/.."
-program=${1:-crates/lockview/out/lockview}
+program=crates/lockview/out/lockview
+ten=crates/ten/out/ten
 work=$(mktemp -d)
 trap 'rm -r "$work"' EXIT
 all_jobs() {
@@ -14,6 +15,9 @@ all_jobs() {
 }
 draw() { # NAME WORDS..: the picture of standard input
     "$program" "${@:2}" >"$work/$1.svg"
+    look "$1"
+}
+look() { # NAME: whether the picture is well-formed
     python3 -c 'import sys, xml.dom.minidom as dom; dom.parse(sys.argv[1])' "$work/$1.svg"
     if command -v rsvg-convert >/dev/null; then rsvg-convert "$work/$1.svg" -o "$work/$1.png"; fi
 }

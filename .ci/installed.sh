@@ -1,0 +1,39 @@
+#!/usr/bin/env bash
+# Whether ./install puts the programs where they are looked for, with manual pages that the formatter takes without
+# a warning and with the completion: into a folder that goes away again. Build the programs first. What needs `man`
+# or `bash` alone is looked at; the files for zsh and vim only have to be there.
+set -u
+export LC_ALL=C
+cd "$(dirname "$(readlink -f "$0")")/.."
+folder=$(mktemp -d)
+trap 'rm -rf "$folder"' EXIT
+wrong=0
+
+say() { echo "installed: $*" >&2; wrong=1; }
+
+# What the completion gives for the last of some words.
+completed() {
+    PATH=$folder/bin:$PATH bash -c '. "$0"; COMP_WORDS=("$@"); COMP_CWORD=$(($# - 1)); _hirvodas; echo "${COMPREPLY[*]}"' \
+        "$folder/share/bash-completion/completions/$1" "$@"
+}
+
+./install "$folder" 2>"$folder/told" || { cat "$folder/told" >&2; exit 1; }
+for text in contrib/help/*.txt; do
+    name=$(basename "$text" .txt)
+    [ "${name#*-}" = "$name" ] || continue
+    page=$folder/share/man/man1/$name.1
+    [ "$("$folder/bin/$name" --version 2>&1)" = "$name $(cat contrib/help/version)" ] || say "$name says another version"
+    [ "$(completed "$name" --vers)" = --version ] || say "$name --vers is not completed"
+    if command -v man >/dev/null; then
+        man --warnings -l "$page" 2>"$folder/warnings" >"$folder/page" || say "$page cannot be shown"
+        [ ! -s "$folder/warnings" ] || say "$page: $(cat "$folder/warnings")"
+        tail -n 1 "$text" | cut -c 1-40 | grep -qFf - "$folder/page" || say "$page does not end as --help does"
+    fi
+done
+[ "$(completed lockmon qu)" = queue ] || say "lockmon qu is not completed"
+[ "$(completed lockmon run --qua)" = --quantum ] || say "lockmon run --qua is not completed"
+for file in zsh/site-functions/_hirvodas vim/vimfiles/{ftdetect/hirvodas,syntax/macro10,syntax/lockqueue,ftplugin/macro10,ftplugin/lockqueue}.vim; do
+    [ -s "$folder/share/$file" ] || say "$file is missing"
+done
+[ "$wrong" = 0 ] && echo "installed: programs, manual pages and completion" >&2
+exit "$wrong"
