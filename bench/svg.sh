@@ -21,7 +21,7 @@ look() { # NAME: whether the picture is well-formed
     python3 -c 'import sys, xml.dom.minidom as dom; dom.parse(sys.argv[1])' "$work/$1.svg"
     if command -v rsvg-convert >/dev/null; then rsvg-convert "$work/$1.svg" -o "$work/$1.png"; fi
 }
-for script in examples/*.queue tests/*.queue; do
+for script in examples/*.queue tests/locks/*.queue; do
     draw "$(basename "$script" .queue)" <"$script"
 done
 all_jobs | draw all_jobs
