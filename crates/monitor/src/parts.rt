@@ -199,8 +199,7 @@ impl<L: LockTable, C: CoreStore> Parts<L, C> {
         ensures { self.new ≡ (ticked self.old).state }
     {
         self.time.advance();
-        self.table.tick();
-        let ended = self.table.expire(&self.locks);
+        let ended = self.table.pass_tick(&self.locks);
         if ended != 0 {
             self.locks.withdraw_all(ended);
         }
