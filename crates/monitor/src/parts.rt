@@ -13,7 +13,7 @@ ghost use Rattle.machine.specs.Views.{job_view, held_wait, word_in};
 
 use crate::cores::give_all;
 use crate::login::{image_top, settle};
-use crate::step::run_job;
+use crate::step::run_job_for;
 use core_store::CoreStore;
 use job_sched::{Job, JobError, JobTable, TimeOfDay, Wait};
 use lock_queue::LockTable;
@@ -147,7 +147,7 @@ impl<L: LockTable, C: CoreStore> Parts<L, C> {
         let alone = self.table.is_alone(n);
         self.table.choose(n, self.quantum);
         let span = self.table.span(n, most, ticking, alone);
-        let made = run_job::<L, C, IN_PLACE>(
+        let made = run_job_for::<L, C, IN_PLACE>(
             n,
             span,
             ticking,
