@@ -65,14 +65,15 @@ struct Rounds {
 }
 
 impl Rounds {
-    /// In how many of them no job ran: in all or in none.
+    /// In how many rounds no job ran, in some before them and in these: in all of these or in none.
     #[inline(always)]
-    fn idle(self) -> u32
-        ensures { result ≡ (if is_some self.job then 0 else self.made) }
+    fn idle_after(self, before: u32) -> u32
+        requires { before + self.made < 2 ^ 32 }
+        ensures { result ≡ before + (if is_some self.job then 0 else self.made) }
     {
         match self.job {
-            Some(_) => 0,
-            None => self.made,
+            Some(_) => before,
+            None => before + self.made,
         }
     }
 }
@@ -176,7 +177,7 @@ impl<L: LockTable, C: CoreStore> Parts<L, C> {
         let mut left = most;
         while left > 0 {
             let some = self.run_next::<IN_PLACE>(left, ticking);
-            idle += some.idle();
+            idle = some.idle_after(idle);
             left -= some.made;
             self.tick_if(ticking);
         }
