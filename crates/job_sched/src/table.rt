@@ -383,6 +383,22 @@ impl JobTable {
         }
     }
 
+    /// A tick, both halves of it: the jobs whose limits end. Where ticks count for nobody only the quantum is
+    /// shorter.
+    #[inline(always)]
+    pub fn pass_tick<L: LockTable>(&mut self, locks: &L) -> u64
+        ensures table { self.new ≡ limited_table (ticked_table self.old) (L.requests locks.now) }
+        ensures ended { (n : ℕ) → is_among result n ≡ expires (L.requests locks.now) (ticked_table self.old).jobs n }
+    {
+        if self.sleepers {
+            self.tick();
+            self.expire(locks)
+        } else {
+            self.left = self.left.saturating_sub(1);
+            0
+        }
+    }
+
     /// Whether a job that is next has just used up its quantum: then all others were asked before it,
     /// and none is ready.
     #[inline(always)]

@@ -77,7 +77,8 @@ fn carry_out_common<M: JobMemory, const CALLER: u8>(
     let outcome = match op {
         0o250 => do_exch(regs, memory, n),
         0o251 => do_blt(regs, memory, n),
-        0o252..=0o253 => do_aobj(regs, memory, n),
+        0o252 => do_aobj(regs, memory, n),
+        0o253 => do_aobj(regs, memory, n),
         0o254 => {
             let ac = n.ac();
             if ac != 0 && ac != 2 && ac != 4 {
@@ -168,7 +169,7 @@ fn carry_out_common<M: JobMemory, const CALLER: u8>(
         0o375 => do_skip(5, Change::Down, regs, memory, n),
         0o376 => do_skip(6, Change::Down, regs, memory, n),
         0o377 => do_skip(7, Change::Down, regs, memory, n),
-        _ => Outcome::Stop(refusal(op, n.ac(), StopReason::IllegalInstruction)),
+        _ => unreachable!(),
     };
     Some(outcome)
 }

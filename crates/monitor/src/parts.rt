@@ -13,7 +13,7 @@ ghost use Rattle.machine.specs.Views.{job_view, held_wait, word_in};
 
 use crate::cores::give_all;
 use crate::login::{image_top, settle};
-use crate::step::run_job;
+use crate::step::run_job_for;
 use core_store::CoreStore;
 use job_sched::{Job, JobError, JobTable, TimeOfDay, Wait};
 use lock_queue::LockTable;
@@ -65,14 +65,15 @@ struct Rounds {
 }
 
 impl Rounds {
-    /// In how many of them no job ran: in all or in none.
+    /// In how many rounds no job ran, in some before them and in these: in all of these or in none.
     #[inline(always)]
-    fn idle(self) -> u32
-        ensures { result ≡ (if is_some self.job then 0 else self.made) }
+    fn idle_after(self, before: u32) -> u32
+        requires { before + self.made < 2 ^ 32 }
+        ensures { result ≡ before + (if is_some self.job then 0 else self.made) }
     {
         match self.job {
-            Some(_) => 0,
-            None => self.made,
+            Some(_) => before,
+            None => before + self.made,
         }
     }
 }
@@ -147,7 +148,7 @@ impl<L: LockTable, C: CoreStore> Parts<L, C> {
         let alone = self.table.is_alone(n);
         self.table.choose(n, self.quantum);
         let span = self.table.span(n, most, ticking, alone);
-        let made = run_job::<L, C, IN_PLACE>(
+        let made = run_job_for::<L, C, IN_PLACE>(
             n,
             span,
             ticking,
@@ -176,7 +177,7 @@ impl<L: LockTable, C: CoreStore> Parts<L, C> {
         let mut left = most;
         while left > 0 {
             let some = self.run_next::<IN_PLACE>(left, ticking);
-            idle += some.idle();
+            idle = some.idle_after(idle);
             left -= some.made;
             self.tick_if(ticking);
         }
@@ -199,8 +200,7 @@ impl<L: LockTable, C: CoreStore> Parts<L, C> {
         ensures { self.new ≡ (ticked self.old).state }
     {
         self.time.advance();
-        self.table.tick();
-        let ended = self.table.expire(&self.locks);
+        let ended = self.table.pass_tick(&self.locks);
         if ended != 0 {
             self.locks.withdraw_all(ended);
         }

@@ -30,7 +30,7 @@ fn pass(ticking: bool, rounds: u32, quantum: u8, table: &mut JobTable, time: &mu
 /// call that it makes is performed. The quantum is read where it is needed, behind the turn, and so is
 /// not kept over it. `IN_PLACE` is that of `execute`.
 #[inline(always)]
-pub(crate) fn run_job<L: LockTable, C: CoreStore, const IN_PLACE: bool>(
+fn run_job<L: LockTable, C: CoreStore, const IN_PLACE: bool>(
     n: u8,
     most: u32,
     ticking: bool,
@@ -65,5 +65,39 @@ pub(crate) fn run_job<L: LockTable, C: CoreStore, const IN_PLACE: bool>(
             perform(n, call, table, lines, locks, cores, shared, room, *time);
             rounds
         }
+    }
+}
+
+/// As `run_job`. Where `IN_PLACE`, a single round has a copy of the code of its own, in which it is known that
+/// there is one: so nothing is asked about the rounds, and the instruction is executed there.
+#[inline(always)]
+pub(crate) fn run_job_for<L: LockTable, C: CoreStore, const IN_PLACE: bool>(
+    n: u8,
+    most: u32,
+    ticking: bool,
+    quantum: &u8,
+    table: &mut JobTable,
+    lines: &mut Lines,
+    locks: &mut L,
+    cores: &mut C,
+    shared: &mut [Word; DATA_WORDS],
+    room: &mut CallRoom,
+    time: &mut TimeOfDay,
+) -> u32
+    requires number { IsJob n }
+    requires some { 1 ≤ most }
+    requires there { IsSome (job_at table.old.jobs n) }
+    requires core { core_of (C.meaning cores.old) n ≢ [] }
+    ensures { record { world = record { size = L.REQS; table = table.new; lines = lines.new; requests = L.requests locks.new; cores = C.meaning cores.new; shared = shared.new }; time = time.new; rounds = result }
+        ≡ runs_on (record { size = L.REQS; table = table.old; lines = lines.old; requests = L.requests locks.old; cores = C.meaning cores.old; shared = shared.old }) time.old quantum.now n most ticking (job_at table.old.jobs n) }
+{
+    if IN_PLACE && most == 1 {
+        run_job::<L, C, true>(
+            n, 1, ticking, quantum, table, lines, locks, cores, shared, room, time,
+        )
+    } else {
+        run_job::<L, C, false>(
+            n, most, ticking, quantum, table, lines, locks, cores, shared, room, time,
+        )
     }
 }

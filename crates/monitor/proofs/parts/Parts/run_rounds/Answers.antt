@@ -12,7 +12,7 @@ loop-left-preserved g c =
     let runs = runs-left c.loop-left.left made _ c.args.ticking c.loop-left.self c.tick_if.new.self c.run_next-some.ensures.most made_so refl in
     record {
       safe = rw made_so (safe-after (rounds made c.args.ticking) c.loop-left.self c.loop-left.invariant.safe);
-      few = omega (arith, c.loop-left.invariant.few, c.run_next-some.ensures.count, c.idle-idle.ensures, c.run_next-some.ensures.most);
+      few = omega (arith, c.loop-left.invariant.few, c.run_next-some.ensures.count, c.idle_after-idle.ensures, c.run_next-some.ensures.most);
       rest = rest ∙ c.loop-left.invariant.rest;
-      count = omega (arith, runs, c.loop-left.invariant.count, c.run_next-some.ensures.count, c.idle-idle.ensures);
+      count = omega (arith, runs, c.loop-left.invariant.count, c.run_next-some.ensures.count, c.idle_after-idle.ensures);
     }

@@ -13,8 +13,8 @@ use Rattle.monitor.proofs.parts.Parts.tick.Goals as goal
 pub returns-else-ended-ne0 : goal.returns-else-ended-ne0
 returns-else-ended-ne0 g c =
     let requests : List Request = g.L.LockTable.requests c.self.inside.locks in
-    let jobs = c.tick.new.self.jobs in
-    let none : (n : ℕ) → expires requests jobs n ≡ false = λ n. sym (c.expire-ended.ensures.ended n) ∙ ap (λ (k : ℕ). is_among k n) c.if-ended-ne0.false ∙ nobody n in
+    let jobs = (ticked_table c.self.inside.table).jobs in
+    let none : (n : ℕ) → expires requests jobs n ≡ false = λ n. sym (c.pass_tick-ended.ensures.ended n) ∙ ap (λ (k : ℕ). is_among k n) c.if-ended-ne0.false ∙ nobody n in
     let same : withdrawn_where requests (expires requests jobs) ≡ requests = withdrawn-none requests (expires requests jobs) none in
     let state : Table → ℕ → List Request → S = λ t time l. record {
       world = record {
@@ -31,5 +31,4 @@ returns-else-ended-ne0 g c =
     } in
     let table : Table = limited_table (ticked_table c.self.inside.table) requests in
     let time : ℕ = (c.self.inside.time + 1) % TICKS_A_DAY in
-    let kept = rw c.tick.ensures at same in
-    rw (← c.self.view_is, c.expire-ended.ensures.table, c.tick.ensures, c.advance.ensures) (ap (state table time) (sym kept))
+    rw (← c.self.view_is, c.pass_tick-ended.ensures.table, c.advance.ensures) (ap (state table time) (sym same))
