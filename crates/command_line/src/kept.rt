@@ -1,5 +1,5 @@
 //! A reader that keeps what a refused line is found in.
-ghost use Rattle.std.specs.Prelude.{◌≡◌, ◌++◌, false, length, take, IfOk, OnErr};
+ghost use Rattle.std.specs.Prelude.{◌≡◌, ◌<◌, ◌++◌, [], false, length, take, IfOk, OnErr};
 ghost use Rattle.script_io.specs.Ports.{Reads};
 ghost use Rattle.command_line.specs.Keeping.{IsEndOf};
 

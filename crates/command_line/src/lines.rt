@@ -1,5 +1,5 @@
 //! The lines of an input that may still be at fault.
-ghost use Rattle.std.specs.Prelude.{◌≡◌, ◌++◌, [], true};
+ghost use Rattle.std.specs.Prelude.{◌≡◌, ◌++◌, []};
 ghost use Rattle.command_line.specs.Keeping.{IsEndOf};
 
 use memchr::{memchr, memrchr};
@@ -38,13 +38,11 @@ pub struct Lines {
 }
 
 impl Model for Lines {
-    ghost use Rattle.std.specs.Prelude.{◌≡◌, ℕ, List, [], true};
+    ghost use Rattle.std.specs.Prelude.{ℕ, List};
 
     ghost Value = { List ℕ };
 
     ghost view = { λ s. s.bytes.items };
-
-    ghost invariant = { λ s. s.is_lost ≡ true → s.bytes.items ≡ [] };
 }
 
 impl Lines {
@@ -75,22 +73,20 @@ impl Lines {
     pub fn push(&mut self, bytes: &[u8])
         ensures { IsEndOf (self.old ++ bytes.now) self.new }
     {
-        if self.is_lost {
-            return;
-        }
-        if self.bytes.len() >= self.limit {
-            self.drop_finished();
-        }
-        if self.bytes.extend_from_slice(bytes).is_err() {
+        self.drop_finished();
+        if self.is_lost || self.bytes.extend_from_slice(bytes).is_err() {
             self.is_lost = true;
             self.bytes.clear();
         }
     }
 
-    /// Drops the lines that no fault can be in.
+    /// Drops the lines that no fault can be in, where there are many bytes.
     fn drop_finished(&mut self)
         ensures { IsEndOf self.old self.new }
     {
+        if self.bytes.len() < self.limit {
+            return;
+        }
         let finished = finished(self.language, self.bytes.as_slice());
         let length = finished.length.min(self.bytes.len());
         let _ = self.bytes.drain(..length);

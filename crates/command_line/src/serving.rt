@@ -103,7 +103,7 @@ fn serve_choice<R: ByteIn, W: ByteOut>(
 /// Says why the words were refused, and gives the exit status.
 fn refuse_words<E: ByteOut>(alloc: Global, refusal: Refusal, errors: &mut E) -> u8
     requires { E.has_failed errors.old ≡ false }
-    ensures { (words : List Text) → IsDue refusal.entry words
+    ensures { (words : List Text) → IsDue refusal words
         → IsToldWords words (E.written errors.old) (E.written errors.new) (E.has_failed errors.new) result }
 {
     match refusal {

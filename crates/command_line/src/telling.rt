@@ -1,5 +1,5 @@
 //! Why a line was refused, as one line for a person.
-ghost use Rattle.std.specs.Prelude.{◌≡◌, ◌++◌, [], ◌∷◌, false, IfOk, OnOk, codes, decimal};
+ghost use Rattle.std.specs.Prelude.{◌≡◌, ◌++◌, ◌+◌, [], ◌∷◌, false, IfOk, OnOk, codes, decimal};
 ghost use Rattle.script_io.specs.Endings.{served_as};
 ghost use Rattle.command_line.specs.Programs.{TellsFault, IsLineOn, place_of_line, place_of_source};
 
@@ -75,10 +75,7 @@ fn source_text(alloc: Global, lines: &Lines, fault: SourceFault) -> Result<Vec<u
     };
     let reason = source_reason(alloc, lines, number, fault.code)?;
     let mut text = Vec::new(alloc);
-    push_place(&mut text, number)?;
-    if fault.before > 0 {
-        push_line_of_source(&mut text, fault.line)?;
-    }
+    push_place_of_source(&mut text, fault, number)?;
     push_reason(&mut text, reason.as_str().as_bytes())?;
     Ok(text)
 }
@@ -102,7 +99,26 @@ fn push_place(out: &mut Vec<u8>, number: u128) -> Result<(), AllocError>
     ensures { OnOk result (out.new.items ≡ out.old.items ++ place_of_line number) }
 {
     out.extend_from_slice(b"lockmon: line ")?;
-    push_decimal(out, number)
+    push_decimal(out, number)?;
+    Ok(())
+}
+
+/// Adds which line of a source is spoken of, which is this line of the input.
+#[tactic(auto, using(std::proofs::Common::append_assoc))]
+fn push_place_of_source(
+    out: &mut Vec<u8>,
+    fault: SourceFault,
+    number: u128,
+) -> Result<(), AllocError>
+    requires { number ≡ fault.before + fault.line }
+    ensures { OnOk result (out.new.items ≡ out.old.items ++ place_of_source fault) }
+{
+    push_place(out, number)?;
+    if fault.before == 0 {
+        return Ok(());
+    }
+    push_line_of_source(out, fault.line)?;
+    Ok(())
 }
 
 /// Adds which line of its source that is.
