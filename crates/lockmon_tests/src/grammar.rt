@@ -4,15 +4,17 @@ use fault_text::{Refused, explain};
 use op_script::is_command;
 use queue_script::{CallRoom, read_command};
 use std::alloc::{AllocError, Global};
+use std::process::Abort;
 use std::test::Fail;
 
 /// How many lines of each language are made.
 const LINES: u32 = 5000;
 
 /// At least so many of them are in the grammar, and so many are not.
-const ENOUGH: u32 = 1000;
+const ENOUGH: u32 = 900;
 
 /// Numbers in no order that a person sees, the same in each run.
+#[derive(Drop)]
 struct Numbers(u64);
 
 impl Numbers {
