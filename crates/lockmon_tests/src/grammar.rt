@@ -55,11 +55,53 @@ const QUEUE_FORMS: [&str; 19] = [
 ];
 
 const QUEUE_PIECES: [&str; 47] = [
-    "0", "1", "2", "3", "7", "01", "63", "64", "063", "511", "512", "262143", "262144",
-    "0262143", "X", "A.B-C_D", "#1", "#8", "#", "#77777777777", "#00000000001",
-    "#077777777777", "#100000000000", "S", "B", "J", "G", "G5", "G262143", "G262144", "L", "L0",
-    "L511", "L512", "P5:1", "P262143:262143", "P262144:1", "P1:262144", "P1:", "P:1", "P1", "X/S",
-    "X/B/J", "", " ", "SHOW", LONG,
+    "0",
+    "1",
+    "2",
+    "3",
+    "7",
+    "01",
+    "63",
+    "64",
+    "063",
+    "511",
+    "512",
+    "262143",
+    "262144",
+    "0262143",
+    "X",
+    "A.B-C_D",
+    "#1",
+    "#8",
+    "#",
+    "#77777777777",
+    "#00000000001",
+    "#077777777777",
+    "#100000000000",
+    "S",
+    "B",
+    "J",
+    "G",
+    "G5",
+    "G262143",
+    "G262144",
+    "L",
+    "L0",
+    "L511",
+    "L512",
+    "P5:1",
+    "P262143:262143",
+    "P262144:1",
+    "P1:262144",
+    "P1:",
+    "P:1",
+    "P1",
+    "X/S",
+    "X/B/J",
+    "",
+    " ",
+    "SHOW",
+    LONG,
 ];
 
 /// Lines of a script on the machine, in which `*` stands for a piece.
@@ -90,19 +132,56 @@ const RUN_FORMS: [&str; 23] = [
 ];
 
 const RUN_PIECES: [&str; 40] = [
-    "0", "1", "7", "8", "01", "63", "64", "255", "256", "0255", "1023", "1024", "777777",
-    "1000000", "1000001", "A", "a1", "9Z", "ABCDEF", "ABCDEFG", "JOBS", "LOCKS", "WAITS", "ALL",
-    "\\n", "\\r", "\\e", "\\\\", "\\", "\\t", "\\101", "\\177", "\\200", "\\18", "\\1",
-    "HELLO WORLD", " ", "", "X;Y", LONG,
+    "0",
+    "1",
+    "7",
+    "8",
+    "01",
+    "63",
+    "64",
+    "255",
+    "256",
+    "0255",
+    "1023",
+    "1024",
+    "777777",
+    "1000000",
+    "1000001",
+    "A",
+    "a1",
+    "9Z",
+    "ABCDEF",
+    "ABCDEFG",
+    "JOBS",
+    "LOCKS",
+    "WAITS",
+    "ALL",
+    "\\n",
+    "\\r",
+    "\\e",
+    "\\\\",
+    "\\",
+    "\\t",
+    "\\101",
+    "\\177",
+    "\\200",
+    "\\18",
+    "\\1",
+    "HELLO WORLD",
+    " ",
+    "",
+    "X;Y",
+    LONG,
 ];
 
 /// A piece of which two make a line too long.
-const LONG: &str = "AAAAAAAAAAAAAAAAAAAAAAAAAAAAAAAAAAAAAAAAAAAAAAAAAAAAAAAAAAAAAAAAAAAAAAAAAAAAAAAAAAAAAAAAAAAAAAAAAAAAAAAAAAAAAAAAAAAAAAAAAAAAAAAAAAAA";
+const LONG: &str =
+    "AAAAAAAAAAAAAAAAAAAAAAAAAAAAAAAAAAAAAAAAAAAAAAAAAAAAAAAAAAAAAAAAAAAAAAAAAAAAAAAAAAAAAAAAAAAAAAAAAAAAAAAAAAAAAAAAAAAAAAAAAAAAAAAAAAAA";
 
 /// What a character is changed for.
 const CHARACTERS: [&str; 24] = [
-    " ", "0", "1", "7", "8", "9", "A", "G", "S", "z", ".", "-", "_", "#", "/", ":", ",", ";",
-    "\t", "\r", "\\", "\u{e9}", "\u{7f}", "\u{0}",
+    " ", "0", "1", "7", "8", "9", "A", "G", "S", "z", ".", "-", "_", "#", "/", ":", ",", ";", "\t",
+    "\r", "\\", "\u{e9}", "\u{7f}", "\u{0}",
 ];
 
 /// A language: its forms and its pieces.
@@ -184,10 +263,17 @@ fn expect_told(
         let line = language.any_line(alloc, &mut numbers)?;
         let line = line.as_slice();
         let is_right = is_line(line);
-        assert_eq!(rt; is_told_right(alloc, refused, line)?, is_right, "of {line:?}");
+        assert_eq!(rt;
+            is_told_right(alloc, refused, line)?,
+            is_right,
+            "of {line:?}"
+        );
         right = right.saturating_add(u32::from(is_right));
     }
-    assert!(rt; right >= ENOUGH && right <= LINES - ENOUGH, "{right} are in the grammar");
+    assert!(rt;
+        right >= ENOUGH && right <= LINES - ENOUGH,
+        "{right} are in the grammar"
+    );
     Ok(())
 }
 

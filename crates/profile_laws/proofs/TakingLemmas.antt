@@ -70,6 +70,7 @@ takes-enough (suc k) s line low count few =
       | inl h ↦ omega (arith, h)
       | inr h ↦ absurd (let e = length-take-le TAKEN_AT_ONCE out h in omega (arith, short, e))
     ]
+
     fewer : (k : ℕ) (out : List ℕ) → TAKEN_AT_ONCE ≤ length (take TAKEN_AT_ONCE out) → length out < suc k * TAKEN_AT_ONCE → length (drop TAKEN_AT_ONCE out) < k * TAKEN_AT_ONCE
     fewer k out long few = elim (cases_lt (length out) TAKEN_AT_ONCE) [
       | inl h ↦ absurd (let e = ap (λ l. length l) (take_all TAKEN_AT_ONCE out (omega (arith, h))) in omega (arith, long, h, e))
