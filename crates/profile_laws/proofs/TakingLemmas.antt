@@ -1,5 +1,5 @@
 -- Takes of 64 characters, up to one that gives fewer, take all of an output.
-use Rattle.std.proofs.Common.{◌≡◌, ◌<◌, ◌≤◌, ◌*◌, ◌∙◌, ℕ, zero, suc, List, ◌++◌, length, take, drop, take_all, take-append-drop, None, refl, sym, ap, subst, arith, cond, inl, inr, nat_lt, slice_index_or}
+use Rattle.std.proofs.Common.{◌≡◌, ◌<◌, ◌≤◌, ◌*◌, ◌∙◌, ℕ, zero, suc, Bool, true, false, List, ◌++◌, length, take, drop, take_all, take-append-drop, None, refl, sym, ap, subst, arith, cond, inl, inr, nat_lt, slice_index_or}
 use Rattle.std.proofs.lemmas.Bool.{cases_lt, lt-leb, ltb-true, ltb-false}
 use Rattle.std.proofs.lemmas.List.{drop_all, length-set, length-take-le, length-drop, get_or-set_same}
 use Rattle.std.proofs.lemmas.List.Elements.{All-get_or}
@@ -12,12 +12,16 @@ use Rattle.machine.specs.declared.event.Event.TheVariants as event
 use Rattle.op_script.specs.Events.{taken_by, taken_with}
 use Rattle.op_script.specs.declared.events.TheConstants.{MOST_TAKES}
 use Rattle.profile_laws.specs.Taking.{TakesAll, TakeTakesAll}
-use Rattle.profile_laws.proofs.TextLemmas.{chosen}
+
+-- what holds either way of a test
+either : {X : Type 0} (P : X → Type 0) (b : Bool) (x y : X) → (b ≡ true → P x) → (b ≡ false → P y) → P (cond b x y)
+either P true x y p q = p refl
+either P false x y p q = q refl
 
 -- ---- one event
 
 -- the state after an event that takes from a line
-after_take : S → ℕ → S
+abbrev after_take : S → ℕ → S
 after_take s line =
     record s { world = record s.world { lines = with_output s.world.lines line (drop TAKEN_AT_ONCE (output_of s.world.lines line)) } }
 
@@ -50,7 +54,7 @@ takes-enough (suc k) s line low count few =
     let there : line < length s.world.lines = subst (λ n. line < n) (sym count) low in
     let left = left-then s line there in
     subst (TakesAll s line) (sym (taken-first k s line low))
-    (chosen (TakesAll s line) (nat_lt (length (take TAKEN_AT_ONCE out)) TAKEN_AT_ONCE)
+    (either (TakesAll s line) (nat_lt (length (take TAKEN_AT_ONCE out)) TAKEN_AT_ONCE)
     (record { machine = next; text = take TAKEN_AT_ONCE out; refusal = None })
     (record rest { text = take TAKEN_AT_ONCE out ++ rest.text })
     (λ short. let all = all-taken out (ltb-true _ _ short) in record {
