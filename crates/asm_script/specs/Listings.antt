@@ -8,6 +8,7 @@ use Rattle.mac_asm.specs.Outcome.{outcome_of}
 use Rattle.script_io.specs.Transcripts.{Transcript, closed}
 use Rattle.script_io.specs.declared.endings.Ending.{Ending}
 use Rattle.script_io.specs.declared.endings.Ending.TheVariants.{Done, Source}
+use Rattle.script_io.specs.declared.endings.SourceFault.{SourceFault}
 
 -- `AAAAAA LLLLLL,,RRRRRR`, a place and its word
 abbrev pub word_line : ℕ × ℕ → List ℕ
@@ -21,10 +22,14 @@ image_text image = flat_map word_line image.words ++ codes "START " ++ octal 6 i
 abbrev pub fault_text : Fault → List ℕ
 fault_text fault = codes "?ASM " ++ decimal fault.line ++ codes " " ++ decimal (number_of fault.code) ++ codes "\n"
 
+-- where a source is at fault that stands behind so many lines of the input
+abbrev pub fault_behind : ℕ → Fault → SourceFault
+fault_behind before fault = record { before = before; line = fault.line; code = number_of fault.code }
+
 -- what is written on a source that comes to this
 abbrev pub listing_of : Result Assembled Fault → Transcript Ending
 listing_of (Ok image) = closed (image_text image) Done
-listing_of (Err fault) = closed (fault_text fault) Source
+listing_of (Err fault) = closed (fault_text fault) (Source (fault_behind 0 fault))
 
 -- what is written on a source, and how that ends
 unfoldable pub listing : List ℕ → Transcript Ending

@@ -4,7 +4,7 @@ ghost use Rattle.script_io.specs.Serves.{Serves, Blames};
 ghost use Rattle.script_io.specs.Endings.{served_as};
 ghost use Rattle.asm_script.specs.Listings.{listing};
 
-use crate::listings::{push_asm_fault, push_image};
+use crate::listings::{push_asm_fault, push_image, source_ending};
 use mac_asm::{AsmError, assemble};
 use script_io::{ByteIn, ByteOut, Ending, ServeError, TextService, TextSession, serve_script};
 use std::alloc::{AllocError, Global};
@@ -29,7 +29,7 @@ impl TextService for Assembler {
             }
             Err(AsmError::Line { line, code }) => {
                 push_asm_fault(out, line, code)?;
-                Ok(Ending::Source)
+                Ok(source_ending(0, line, code))
             }
             Err(AsmError::Memory) => Err(AllocError),
         }

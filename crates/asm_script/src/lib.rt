@@ -5,4 +5,4 @@ mod asm_sources;
 mod listings;
 
 pub use asm_sources::serve_asm;
-pub use listings::push_asm_fault;
+pub use listings::{push_asm_fault, source_ending};

@@ -1,10 +1,11 @@
 //! The listing of a source: its words by rising place and its start, or what is wrong with it.
 ghost use Rattle.std.specs.Prelude.{◌≡◌, ◌++◌, ◌<◌, ◌^◌, OnOk, ◌∷◌, []};
 ghost use Rattle.std.specs.List.{flat_map, list_all};
-ghost use Rattle.asm_script.specs.Listings.{word_line, image_text, fault_text};
+ghost use Rattle.asm_script.specs.Listings.{word_line, image_text, fault_text, fault_behind};
+ghost use Rattle.script_io.specs.declared.endings.Ending.TheVariants.{Source};
 
 use mac_asm::AsmCode;
-use script_io::{push_decimal, push_word};
+use script_io::{Ending, SourceFault, push_decimal, push_word};
 use std::alloc::AllocError;
 use word36::{Image, Word, octal_digits};
 
@@ -53,4 +54,15 @@ pub fn push_asm_fault(out: &mut Vec<u8>, line: usize, code: AsmCode) -> Result<(
     push_decimal(out, code.number())?;
     out.push(b'\n')?;
     Ok(())
+}
+
+/// The ending at a source that is not assembled, before which so many lines of the input stand.
+pub fn source_ending(before: u128, line: usize, code: AsmCode) -> Ending
+    ensures { result ≡ Source (fault_behind before (record { line = line; code = code })) }
+{
+    Ending::Source(SourceFault {
+        before,
+        line,
+        code: code.number(),
+    })
 }

@@ -1,5 +1,5 @@
 -- What the program does for the words of its command line, and the status that it ends with (this project's profile).
-use Rattle.std.specs.Prelude.{◌≡◌, ◌⊎◌, ℕ, Bool, false, List, Option, None, Some, Result, Ok, Err, IfErr, codes}
+use Rattle.std.specs.Prelude.{◌≡◌, ◌⊎◌, ◌==◌, ◌+◌, ℕ, Bool, false, List, ◌++◌, Option, None, Some, Result, Ok, Err, IfErr, if◌then◌else◌, codes, decimal}
 use Rattle.std.specs.Io.KnownBytes.{Keeps}
 use Rattle.clap.specs.Words.{Text, subcommand_of, takes}
 use Rattle.script_io.specs.Ports.{WritesAll}
@@ -13,6 +13,7 @@ use Rattle.op_script.specs.RunScripts as run
 use Rattle.queue_script.specs.QueueScripts.{transcript}
 use Rattle.script_io.specs.declared.endings.Ending.{Ending}
 use Rattle.script_io.specs.declared.endings.Ending.TheVariants as ending
+use Rattle.script_io.specs.declared.endings.SourceFault.{SourceFault}
 use Rattle.command_line.specs.Words.{app, choice_of}
 use Rattle.command_line.specs.declared.asked.Choice.{Choice}
 use Rattle.command_line.specs.declared.asked.Choice.TheVariants.{Run, Queue, Asm}
@@ -31,8 +32,8 @@ language_of (Run blocks quantum) = run.transcript blocks quantum
 -- 0 where all was done, 1 where the script or the source was refused, 3 where a port or memory failed
 abbrev pub status_of : Result Ending ServeFailure → ℕ
 status_of (Ok ending.Done) = DONE
-status_of (Ok ending.Script) = REFUSED
-status_of (Ok ending.Source) = REFUSED
+status_of (Ok (ending.Script number)) = REFUSED
+status_of (Ok (ending.Source fault)) = REFUSED
 status_of (Err failure) = FAILED
 
 -- the line that standard error gets of what failed
@@ -50,6 +51,35 @@ abbrev pub TellsAnswer : Result Ending ServeFailure → Option (List ℕ) → Op
 TellsAnswer (Ok ending) e e' errors_failed = e' ≡ e
 TellsAnswer (Err failure) e e' errors_failed = Hands e e' errors_failed (failure_line failure)
 
+-- ---- the line on what is wrong, which may go to another port on standard error, from t to t'
+
+-- the line of this number is spoken of
+abbrev pub place_of_line : ℕ → List ℕ
+place_of_line number = codes "lockmon: line " ++ decimal number
+
+-- a line of a source is spoken of by its number in the input and, where it stands in a script, by that in the source
+abbrev pub place_of_source : SourceFault → List ℕ
+place_of_source fault =
+    if fault.before == 0 then place_of_line fault.line
+    else place_of_line (fault.before + fault.line) ++ codes ", line " ++ decimal fault.line ++ codes " of its source"
+
+-- a text is a line on a place, whatever it says of it
+abbrev pub IsLineOn : List ℕ → List ℕ → Type 0
+IsLineOn place text = (reason : List ℕ) × (text ≡ place ++ codes ": " ++ reason ++ codes "\n")
+
+-- nothing was told, or a line on a place
+abbrev pub TellsOf : List ℕ → Option (List ℕ) → Option (List ℕ) → Bool → Type 0
+TellsOf place t t' telling_failed = (t' ≡ t) ⊎ ((text : List ℕ) × IsLineOn place text × Hands t t' telling_failed text)
+
+-- of a script or a source that was refused the line is told at which its transcript ends, and otherwise nothing
+abbrev pub TellsFault : Result Ending ServeFailure → Option (List ℕ) → Option (List ℕ) → Bool → Type 0
+TellsFault (Ok ending.Done) t t' telling_failed = t' ≡ t
+TellsFault (Ok (ending.Script number)) t t' telling_failed = TellsOf (place_of_line number) t t' telling_failed
+TellsFault (Ok (ending.Source fault)) t t' telling_failed = TellsOf (place_of_source fault) t t' telling_failed
+TellsFault (Err failure) t t' telling_failed = t' ≡ t
+
+-- ---- the whole program
+
 -- the transcript of the command that the words ask for was served, which took its input from i to i' and its output from
 -- o to o', and the status and standard error, from e to e', tell how that ended
 pub record ServesAsked (words : List Text) (i i' o o' e e' : Option (List ℕ)) (read_failed write_failed errors_failed : Bool) (status : ℕ) : Type 0 where
@@ -65,14 +95,29 @@ pub record ServesAsked (words : List Text) (i i' o o' e e' : Option (List ℕ)) 
 abbrev pub IsWrong : List Text → Type 0
 IsWrong words = (takes app words ≡ false) ⊎ (asked words ≡ None)
 
--- nothing was read or written, for want of the right words, which is status 2, or of memory, which is status 3 and has its
--- line on standard error
+-- the words were refused for want of the right ones, which is status 2, or of memory, which is status 3 and has its line on
+-- standard error
+abbrev pub IsToldWords : List Text → Option (List ℕ) → Option (List ℕ) → Bool → ℕ → Type 0
+IsToldWords words e e' errors_failed status =
+    ((status ≡ USAGE) × IsWrong words) ⊎ ((status ≡ FAILED) × Hands e e' errors_failed (failure_line failed.Memory))
+
+-- nothing was read or written, since the words were refused
 pub record Refuses (words : List Text) (i i' o o' e e' : Option (List ℕ)) (errors_failed : Bool) (status : ℕ) : Type 0 where
   pub unread : Keeps i i'
   pub unwritten : Keeps o o'
-  pub why : ((status ≡ USAGE) × IsWrong words) ⊎ ((status ≡ FAILED) × Hands e e' errors_failed (failure_line failed.Memory))
+  pub why : IsToldWords words e e' errors_failed status
 
 -- the program served what the words ask for, or refused them
 abbrev pub Runs : List Text → Option (List ℕ) → Option (List ℕ) → Option (List ℕ) → Option (List ℕ) → Option (List ℕ) → Option (List ℕ) → Bool → Bool → Bool → ℕ → Type 0
 Runs words i i' o o' e e' read_failed write_failed errors_failed status =
     ServesAsked words i i' o o' e e' read_failed write_failed errors_failed status ⊎ Refuses words i i' o o' e e' errors_failed status
+
+-- the same, where a line was told of what was refused
+pub record ServesTold (words : List Text) (i i' o o' e e' t t' : Option (List ℕ)) (read_failed write_failed errors_failed telling_failed : Bool) (status : ℕ) : Type 0 where
+  pub served : ServesAsked words i i' o o' e e' read_failed write_failed errors_failed status
+  pub fault : TellsFault served.answer t t' telling_failed
+
+abbrev pub RunsTold : List Text → Option (List ℕ) → Option (List ℕ) → Option (List ℕ) → Option (List ℕ) → Option (List ℕ) → Option (List ℕ) → Option (List ℕ) → Option (List ℕ) → Bool → Bool → Bool → Bool → ℕ → Type 0
+RunsTold words i i' o o' e e' t t' read_failed write_failed errors_failed telling_failed status =
+    ServesTold words i i' o o' e e' t t' read_failed write_failed errors_failed telling_failed status
+    ⊎ (Refuses words i i' o o' e e' errors_failed status × (t' ≡ t))

@@ -1,19 +1,18 @@
-//! Ports that keep what a refused line is found by.
-ghost use Rattle.std.specs.Prelude.{◌≡◌};
+//! A reader that keeps what a refused line is found in.
+ghost use Rattle.std.specs.Prelude.{◌≡◌, ◌<◌, ◌++◌, [], false, length, take, IfOk, OnErr};
+ghost use Rattle.script_io.specs.Ports.{Reads};
+ghost use Rattle.command_line.specs.Keeping.{IsEndOf};
 
 use crate::lines::{Language, Lines};
-use arrayvec::ArrayVec;
-use script_io::{ByteIn, ByteOut, Failed};
+use script_io::{ByteIn, Failed};
 use std::alloc::Global;
-
-/// The most bytes that the last line of an output is kept of.
-const LAST: usize = 64;
 
 /// A reader that keeps the lines that it gave and that may be at fault.
 #[derive(Drop)]
 pub struct KeptIn<R: Drop> {
     inner: R,
-    lines: Lines,
+    /// The lines.
+    pub lines: Lines,
 }
 
 impl<R: ByteIn + Drop> KeptIn<R> {
@@ -22,16 +21,12 @@ impl<R: ByteIn + Drop> KeptIn<R> {
         ensures bytes { ⟦<KeptIn<R> as ByteIn>⟧.to_come result ≡ R.to_come inner }
         ensures few { ⟦<KeptIn<R> as ByteIn>⟧.reads_left result ≡ R.reads_left inner }
         ensures sound { ⟦<KeptIn<R> as ByteIn>⟧.has_failed result ≡ R.has_failed inner }
+        ensures nothing { result.lines ≡ [] }
     {
         KeptIn {
             inner,
             lines: Lines::new(alloc, language),
         }
-    }
-
-    /// The lines.
-    pub fn lines(&self) -> &Lines {
-        &self.lines
     }
 }
 
@@ -42,75 +37,17 @@ impl<R: ByteIn + Drop> ByteIn for KeptIn<R> {
 
     ghost has_failed = { λ s. R.has_failed s.inner };
 
-    fn read(&mut self, piece: &mut [u8]) -> Result<usize, Failed> {
+    fn read(&mut self, piece: &mut [u8]) -> Result<usize, Failed>
+        requires room { 0 < length piece.old }
+        requires sound { ⟦<KeptIn<R> as ByteIn>⟧.has_failed self.old ≡ false }
+        ensures reads { Reads (⟦<KeptIn<R> as ByteIn>⟧.to_come self.old) (⟦<KeptIn<R> as ByteIn>⟧.to_come self.new)
+            (⟦<KeptIn<R> as ByteIn>⟧.reads_left self.old) (⟦<KeptIn<R> as ByteIn>⟧.reads_left self.new)
+            (⟦<KeptIn<R> as ByteIn>⟧.has_failed self.new) result piece.new }
+        ensures kept { IfOk result (λ n. IsEndOf (self.old.lines ++ take n piece.new) self.new.lines) }
+        ensures same { OnErr result (self.new.lines ≡ self.old.lines) }
+    {
         let count = self.inner.read(piece)?;
         self.lines.push(&piece[..count]);
-        Ok(count)
-    }
-}
-
-/// The last line of an output, or the end of it where it is long.
-#[derive(Drop)]
-struct LastLine {
-    bytes: ArrayVec<u8, LAST>,
-    is_whole: bool,
-}
-
-impl LastLine {
-    /// Notes what was written.
-    fn note(&mut self, bytes: &[u8]) {
-        let last = bytes.len().saturating_sub(LAST);
-        for byte in &bytes[last..] {
-            if self.is_whole || self.bytes.is_full() {
-                self.bytes.clear();
-            }
-            let _ = self.bytes.try_push(*byte);
-            self.is_whole = *byte == b'\n';
-        }
-    }
-}
-
-/// A writer that keeps the last line that it took.
-#[derive(Drop)]
-pub struct KeptOut<W: Drop> {
-    inner: W,
-    last: LastLine,
-}
-
-impl<W: ByteOut + Drop> KeptOut<W> {
-    /// Gives bytes to this writer.
-    pub fn new(inner: W) -> Self
-        ensures bytes { ⟦<KeptOut<W> as ByteOut>⟧.written result ≡ W.written inner }
-        ensures sound { ⟦<KeptOut<W> as ByteOut>⟧.has_failed result ≡ W.has_failed inner }
-    {
-        KeptOut {
-            inner,
-            last: LastLine {
-                bytes: ArrayVec::new(),
-                is_whole: false,
-            },
-        }
-    }
-
-    /// The writer.
-    pub fn inner(&self) -> &W {
-        &self.inner
-    }
-
-    /// The last line, with its line feed, or the end of it where it is long.
-    pub fn last_line(&self) -> &[u8] {
-        self.last.bytes.as_slice()
-    }
-}
-
-impl<W: ByteOut + Drop> ByteOut for KeptOut<W> {
-    ghost written = { λ s. W.written s.inner };
-
-    ghost has_failed = { λ s. W.has_failed s.inner };
-
-    fn write(&mut self, piece: &[u8]) -> Result<usize, Failed> {
-        let count = self.inner.write(piece)?;
-        self.last.note(&piece[..count]);
         Ok(count)
     }
 }

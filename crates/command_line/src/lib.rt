@@ -12,7 +12,7 @@ mod texts;
 mod words;
 
 pub use asked::{Choice, Refusal};
-pub use kept::{KeptIn, KeptOut};
+pub use kept::KeptIn;
 pub use lines::{Language, Lines};
 pub use serving::{program, program_told, unread_words};
 pub use statuses::{DONE, FAILED, REFUSED, USAGE};

@@ -1,7 +1,10 @@
 //! The lines of an input that may still be at fault.
+ghost use Rattle.std.specs.Prelude.{◌≡◌, ◌++◌, []};
+ghost use Rattle.command_line.specs.Keeping.{IsEndOf};
 
 use memchr::{memchr, memrchr};
 use std::alloc::Global;
+use std::marker::Model;
 
 /// So many bytes are kept before finished lines are dropped.
 const KEPT: usize = 65536;
@@ -34,18 +37,19 @@ pub struct Lines {
     is_lost: bool,
 }
 
-/// A source in a script.
-#[derive(Clone, Copy, Debug)]
-pub struct SourceLines<'a> {
-    /// The number of the line with ASSEMBLE.
-    pub begins: u64,
-    /// Its lines.
-    pub text: &'a [u8],
+impl Model for Lines {
+    ghost use Rattle.std.specs.Prelude.{ℕ, List};
+
+    ghost Value = { List ℕ };
+
+    ghost view = { λ s. s.bytes.items };
 }
 
 impl Lines {
     /// No line.
-    pub fn new(alloc: Global, language: Language) -> Self {
+    pub fn new(alloc: Global, language: Language) -> Self
+        ensures { result ≡ [] }
+    {
         Lines {
             language,
             bytes: Vec::new(alloc),
@@ -60,27 +64,29 @@ impl Lines {
         self.language
     }
 
-    /// The bytes that are kept.
-    pub fn as_slice(&self) -> &[u8] {
-        self.bytes.as_slice()
+    /// Whether lines are missing for want of memory.
+    pub fn is_lost(&self) -> bool {
+        self.is_lost
     }
 
     /// Adds bytes.
-    pub fn push(&mut self, bytes: &[u8]) {
-        if self.is_lost {
-            return;
-        }
-        if self.bytes.len() >= self.limit {
-            self.drop_finished();
-        }
-        if self.bytes.extend_from_slice(bytes).is_err() {
+    pub fn push(&mut self, bytes: &[u8])
+        ensures { IsEndOf (self.old ++ bytes.now) self.new }
+    {
+        self.drop_finished();
+        if self.is_lost || self.bytes.extend_from_slice(bytes).is_err() {
             self.is_lost = true;
             self.bytes.clear();
         }
     }
 
-    /// Drops the lines that no fault can be in.
-    fn drop_finished(&mut self) {
+    /// Drops the lines that no fault can be in, where there are many bytes.
+    fn drop_finished(&mut self)
+        ensures { IsEndOf self.old self.new }
+    {
+        if self.bytes.len() < self.limit {
+            return;
+        }
         let finished = finished(self.language, self.bytes.as_slice());
         let length = finished.length.min(self.bytes.len());
         let _ = self.bytes.drain(..length);
@@ -89,24 +95,15 @@ impl Lines {
     }
 
     /// The line of this number, if it is kept.
-    pub fn line(&self, number: u64) -> Option<&[u8]> {
+    pub fn line(&self, number: u128) -> Option<&[u8]> {
         let bytes = self.bytes.as_slice();
-        line_at(bytes, number.checked_sub(self.dropped)?)
-    }
-
-    /// The next source that ends at or behind this place, with the place behind it.
-    pub fn next_source(&self, from: Place) -> Option<(SourceLines<'_>, Place)> {
-        let bytes = self.bytes.as_slice();
-        let (source, behind) = source_behind(bytes, from)?;
-        let begins = source.begins.saturating_add(self.dropped);
-        let text = source.text;
-        Some((SourceLines { begins, text }, behind))
+        line_at(bytes, number.checked_sub(u128::from(self.dropped))?)
     }
 }
 
 /// A place between two lines.
 #[derive(Clone, Copy, Debug, Default)]
-pub struct Place {
+struct Place {
     /// How many bytes stand before it.
     length: usize,
     /// How many lines do.
@@ -127,7 +124,7 @@ fn without_return(line: &[u8]) -> &[u8] {
 }
 
 /// The line of this number, counted from 1; the last may have no line end.
-pub fn line_at(bytes: &[u8], number: u64) -> Option<&[u8]> {
+fn line_at(bytes: &[u8], number: u128) -> Option<&[u8]> {
     let mut rest = bytes;
     let mut left = number;
     for _ in 0..=bytes.len() {
@@ -221,26 +218,4 @@ fn behind_sources(bytes: &[u8]) -> Place {
         }
     }
     done
-}
-
-/// The first source behind a place, with the place behind its ENDASM.
-fn source_behind(bytes: &[u8], from: Place) -> Option<(SourceLines<'_>, Place)> {
-    let mut place = from;
-    let mut source: Option<Place> = None;
-    for _ in 0..=bytes.len() {
-        let (line, next) = next_line(bytes, place)?;
-        match source {
-            None if is_assemble(line) => source = Some(next),
-            Some(begin) if line == b"ENDASM".as_slice() => {
-                let text = behind(bytes, begin);
-                let length = place.length.saturating_sub(begin.length);
-                let text = &text[..length.min(text.len())];
-                let begins = begin.lines;
-                return Some((SourceLines { begins, text }, next));
-            }
-            _ => {}
-        }
-        place = next;
-    }
-    None
 }

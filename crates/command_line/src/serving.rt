@@ -1,12 +1,15 @@
 //! The whole program over any ports.
-ghost use Rattle.std.specs.Prelude.{◌≡◌, ◌^◌, ◌≤◌, false, map, ◌≢◌, codes};
+ghost use Rattle.std.specs.Prelude.{◌≡◌, ◌^◌, ◌≤◌, List, false, map, ◌≢◌, IfErr};
+ghost use Rattle.clap.specs.Words.{Text};
 ghost use Rattle.machine.specs.Setups.{IsSetup};
 ghost use Rattle.script_io.specs.Endings.{served_as};
+ghost use Rattle.script_io.specs.Serves.{Serves, Blames};
 ghost use Rattle.script_io.specs.declared.failures.ServeFailure.TheVariants as failed;
-ghost use Rattle.command_line.specs.Programs.{Hands, Runs, TellsAnswer, failure_line, status_of};
+ghost use Rattle.command_line.specs.Programs.{Hands, IsToldWords, Runs, RunsTold, TellsAnswer, failure_line, language_of, status_of};
+ghost use Rattle.command_line.specs.Words.{IsDue, IsRight};
 
 use crate::asked::{Choice, Refusal};
-use crate::kept::{KeptIn, KeptOut};
+use crate::kept::KeptIn;
 use crate::statuses::{DONE, FAILED, REFUSED, USAGE};
 use crate::telling::tell_fault;
 use crate::words::choice;
@@ -37,47 +40,79 @@ pub fn program<S: AsStr, R: ByteIn, W: ByteOut, E: ByteOut>(
         (E.written errors.old) (E.written errors.new) (R.has_failed reader.new) (W.has_failed writer.new) (E.has_failed errors.new) result }
 {
     match choice(alloc, words) {
-        Ok(Choice::Queue) => status_of(serve_queue(alloc, reader, writer), errors),
-        Ok(Choice::Asm) => status_of(serve_asm(alloc, reader, writer), errors),
-        Ok(Choice::Run { blocks, quantum }) => {
-            let config = config_of(blocks, quantum);
-            status_of(serve(alloc, config, reader, writer), errors)
-        }
-        Err(Refusal::Memory) => out_of_memory(errors),
-        Err(Refusal::Usage(error)) => match error.to_string(alloc) {
-            Ok(text) => told(errors, text.as_str().as_bytes(), USAGE),
-            Err(_) => out_of_memory(errors),
-        },
+        Ok(choice) => status_of(serve_choice(alloc, choice, reader, writer), errors),
+        Err(refusal) => refuse_words(alloc, refusal, errors),
     }
 }
 
-/// The program over ports that keep what passes them: where a line was refused, a line on standard
+/// The program over a reader that keeps what passes it: where a line was refused, a line on standard
 /// error says what is wrong with it. It goes to `telling`, which may be another port on the same stream.
-pub fn program_told<S: AsStr, R: ByteIn + Drop, W: ByteOut + Drop, E: ByteOut, T: ByteOut>(
+pub fn program_told<S: AsStr, R: ByteIn + Drop, W: ByteOut, E: ByteOut, T: ByteOut>(
     alloc: Global,
     words: &[S],
     reader: &mut KeptIn<R>,
-    writer: &mut KeptOut<W>,
+    writer: &mut W,
     errors: &mut E,
     telling: &mut T,
 ) -> u8
     requires reader_sound { ⟦<KeptIn<R> as ByteIn>⟧.has_failed reader.old ≡ false }
-    requires writer_sound { ⟦<KeptOut<W> as ByteOut>⟧.has_failed writer.old ≡ false }
+    requires writer_sound { W.has_failed writer.old ≡ false }
     requires errors_sound { E.has_failed errors.old ≡ false }
     requires telling_sound { T.has_failed telling.old ≡ false }
     requires few { ⟦<KeptIn<R> as ByteIn>⟧.reads_left reader.old ≤ 2 ^ 63 }
-    ensures runs { Runs (map S.text words.now)
+    ensures { RunsTold (map S.text words.now)
         (⟦<KeptIn<R> as ByteIn>⟧.to_come reader.old) (⟦<KeptIn<R> as ByteIn>⟧.to_come reader.new)
-        (⟦<KeptOut<W> as ByteOut>⟧.written writer.old) (⟦<KeptOut<W> as ByteOut>⟧.written writer.new)
-        (E.written errors.old) (E.written errors.new)
-        (⟦<KeptIn<R> as ByteIn>⟧.has_failed reader.new) (⟦<KeptOut<W> as ByteOut>⟧.has_failed writer.new) (E.has_failed errors.new) result }
-    ensures quiet { result ≢ REFUSED → T.written telling.new ≡ T.written telling.old }
+        (W.written writer.old) (W.written writer.new) (E.written errors.old) (E.written errors.new)
+        (T.written telling.old) (T.written telling.new) (⟦<KeptIn<R> as ByteIn>⟧.has_failed reader.new)
+        (W.has_failed writer.new) (E.has_failed errors.new) (T.has_failed telling.new) result }
 {
-    let status = program(alloc, words, reader, writer, errors);
-    if status == REFUSED {
-        tell_fault(alloc, reader.lines(), writer.last_line(), telling);
+    match choice(alloc, words) {
+        Ok(choice) => {
+            let answer = serve_choice(alloc, choice, reader, writer);
+            tell_fault(alloc, &reader.lines, answer, telling);
+            status_of(answer, errors)
+        }
+        Err(refusal) => refuse_words(alloc, refusal, errors),
     }
-    status
+}
+
+/// Serves the script or the source of a command.
+fn serve_choice<R: ByteIn, W: ByteOut>(
+    alloc: Global,
+    choice: Choice,
+    reader: &mut R,
+    writer: &mut W,
+) -> Result<(), ServeError>
+    requires range { IsRight choice }
+    requires reader_sound { R.has_failed reader.old ≡ false }
+    requires writer_sound { W.has_failed writer.old ≡ false }
+    requires few { R.reads_left reader.old ≤ 2 ^ 63 }
+    ensures serves { Serves (language_of choice) (R.to_come reader.old) (R.to_come reader.new) (W.written writer.old) (W.written writer.new) (served_as result) }
+    ensures blames { IfErr (served_as result) (λ e. Blames e (R.has_failed reader.new) (W.has_failed writer.new)) }
+{
+    match choice {
+        Choice::Queue => serve_queue(alloc, reader, writer),
+        Choice::Asm => serve_asm(alloc, reader, writer),
+        Choice::Run { blocks, quantum } => {
+            let config = config_of(blocks, quantum);
+            serve(alloc, config, reader, writer)
+        }
+    }
+}
+
+/// Says why the words were refused, and gives the exit status.
+fn refuse_words<E: ByteOut>(alloc: Global, refusal: Refusal, errors: &mut E) -> u8
+    requires { E.has_failed errors.old ≡ false }
+    ensures { (words : List Text) → IsDue refusal words
+        → IsToldWords words (E.written errors.old) (E.written errors.new) (E.has_failed errors.new) result }
+{
+    match refusal {
+        Refusal::Memory => out_of_memory(errors),
+        Refusal::Usage(error) => match error.to_string(alloc) {
+            Ok(text) => told(errors, text.as_str().as_bytes(), USAGE),
+            Err(_) => out_of_memory(errors),
+        },
+    }
 }
 
 /// The size of a machine.
@@ -97,7 +132,7 @@ fn status_of<E: ByteOut>(answer: Result<(), ServeError>, errors: &mut E) -> u8
 {
     match answer {
         Ok(()) => DONE,
-        Err(ServeError::Script | ServeError::Source) => REFUSED,
+        Err(ServeError::Script(_) | ServeError::Source(_)) => REFUSED,
         Err(ServeError::Read) => told(errors, b"lockmon: read\n", FAILED),
         Err(ServeError::Write) => told(errors, b"lockmon: write\n", FAILED),
         Err(ServeError::Memory) => out_of_memory(errors),

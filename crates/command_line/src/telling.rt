@@ -1,15 +1,13 @@
 //! Why a line was refused, as one line for a person.
-ghost use Rattle.std.specs.Prelude.{◌≡◌, false};
+ghost use Rattle.std.specs.Prelude.{◌≡◌, ◌++◌, ◌+◌, [], ◌∷◌, false, IfOk, OnOk, codes, decimal};
+ghost use Rattle.script_io.specs.Endings.{served_as};
+ghost use Rattle.command_line.specs.Programs.{TellsFault, IsLineOn, place_of_line, place_of_source};
 
-use crate::lines::{Language, Lines, Place, SourceLines, line_at};
+use crate::lines::{Language, Lines};
 use fault_text::{NO_ENDASM, Refused, explain};
-use mac_asm::{AsmError, assemble};
-use script_io::{ByteOut, number, write_all};
+use script_io::{ByteOut, ServeError, SourceFault, push_decimal, write_all};
 use std::alloc::{AllocError, Global};
 use std::convert::AsStr;
-
-/// The largest number of a line that is looked for.
-const MOST_LINES: u64 = 1 << 48;
 
 /// What the program's words have it read; they begin with its name. Where they are wrong it reads
 /// nothing.
@@ -21,94 +19,126 @@ pub fn language_of<S: AsStr>(words: &[S]) -> Language {
     }
 }
 
-/// What the last line of a transcript says of a line that was refused.
-#[derive(Clone, Copy, Debug)]
-enum Refusal {
-    /// The line of this number.
-    Script(u64),
-    /// The line of this number of a source, and its code.
-    Source(u64, u8),
-}
-
-fn refusal_of(last: &[u8]) -> Option<Refusal> {
-    let last = last.strip_suffix(b"\n".as_slice())?;
-    if let Some(digits) = last.strip_prefix(b"?SCRIPT ".as_slice()) {
-        return Some(Refusal::Script(number(10, MOST_LINES, digits)?));
-    }
-    let numbers = last.strip_prefix(b"?ASM ".as_slice())?;
-    let space = numbers.iter().position(|c| *c == b' ')?;
-    let (line, code) = numbers.split_at(space);
-    let code = code.strip_prefix(b" ".as_slice())?;
-    Some(Refusal::Source(number(10, MOST_LINES, line)?, number(10, 7, code)? as u8))
-}
-
-/// Writes a line on what is wrong where the last line of a transcript refuses one of these lines:
-/// `lockmon: line n: ..`. A failure of `errors`, and want of memory, leave it out.
-pub fn tell_fault<E: ByteOut>(alloc: Global, lines: &Lines, last: &[u8], errors: &mut E)
+/// Writes a line on what is wrong where one of these lines was refused: `lockmon: line n: ..`. A
+/// failure of `errors`, and want of memory, leave it out.
+pub fn tell_fault<E: ByteOut>(
+    alloc: Global,
+    lines: &Lines,
+    answer: Result<(), ServeError>,
+    errors: &mut E,
+)
     requires { E.has_failed errors.old ≡ false }
+    ensures { TellsFault (served_as answer) (E.written errors.old) (E.written errors.new) (E.has_failed errors.new) }
 {
-    let text = match refusal_of(last) {
-        Some(Refusal::Script(number)) => script_text(alloc, lines, number),
-        Some(Refusal::Source(line, code)) => source_text(alloc, lines, line, code),
-        None => return,
-    };
-    if let Ok(text) = text {
-        let _ = write_all(errors, text.as_str().as_bytes());
+    match answer {
+        Err(ServeError::Script(number)) => {
+            if let Ok(text) = script_text(alloc, lines, number) {
+                let _ = write_all(errors, text.as_slice());
+            }
+        }
+        Err(ServeError::Source(fault)) => {
+            if let Ok(text) = source_text(alloc, lines, fault) {
+                let _ = write_all(errors, text.as_slice());
+            }
+        }
+        Ok(()) | Err(ServeError::Read | ServeError::Write | ServeError::Memory) => {}
     }
 }
 
 /// The text on a line of a script.
-fn script_text(alloc: Global, lines: &Lines, number: u64) -> Result<String, AllocError> {
-    let refused = match lines.language() {
-        Language::Run => Refused::Run,
-        _ => Refused::Queue,
-    };
-    match lines.line(number) {
-        Some(line) => {
-            let text = explain(alloc, refused, line)?;
-            format!(in alloc; "lockmon: line {number}: {text}\n")
-        }
-        None => format!(in alloc; "lockmon: line {number}: {NO_ENDASM}\n"),
+fn script_text(alloc: Global, lines: &Lines, number: u128) -> Result<Vec<u8>, AllocError>
+    ensures { IfOk result (λ text. IsLineOn (place_of_line number) text.items) }
+{
+    let reason = script_reason(alloc, lines, number)?;
+    let mut text = Vec::new(alloc);
+    push_place(&mut text, number)?;
+    push_reason(&mut text, reason.as_str().as_bytes())?;
+    Ok(text)
+}
+
+/// What is wrong with a line of a script.
+fn script_reason(alloc: Global, lines: &Lines, number: u128) -> Result<String, AllocError> {
+    match (lines.line(number), lines.language()) {
+        (Some(line), Language::Run) => explain(alloc, Refused::Run, line),
+        (Some(line), _) => explain(alloc, Refused::Queue, line),
+        (None, Language::Run) if !lines.is_lost() => String::from_str(alloc, NO_ENDASM),
+        (None, _) => Err(AllocError),
     }
 }
 
 /// The text on a line of a source.
-fn source_text(alloc: Global, lines: &Lines, line: u64, code: u8) -> Result<String, AllocError> {
-    if lines.language() == Language::Asm {
-        let text = line_text(alloc, lines.as_slice(), line, code)?;
-        return format!(in alloc; "lockmon: line {line}: {text}\n");
-    }
-    match refused_source(alloc, lines)? {
-        Some(source) => {
-            let text = line_text(alloc, source.text, line, code)?;
-            let whole = source.begins.saturating_add(line);
-            format!(in alloc; "lockmon: line {whole}, line {line} of its source: {text}\n")
-        }
-        None => String::from_str(alloc, ""),
-    }
+fn source_text(alloc: Global, lines: &Lines, fault: SourceFault) -> Result<Vec<u8>, AllocError>
+    ensures { IfOk result (λ text. IsLineOn (place_of_source fault) text.items) }
+{
+    let Some(number) = fault.before.checked_add(fault.line as u128) else {
+        return Err(AllocError);
+    };
+    let reason = source_reason(alloc, lines, number, fault.code)?;
+    let mut text = Vec::new(alloc);
+    push_place_of_source(&mut text, fault, number)?;
+    push_reason(&mut text, reason.as_str().as_bytes())?;
+    Ok(text)
 }
 
-/// The text on a line of a source that has a fault of this code.
-fn line_text(alloc: Global, source: &[u8], line: u64, code: u8) -> Result<String, AllocError> {
-    let line = line_at(source, line).unwrap_or(b"");
-    explain(alloc, Refused::Asm(code), line)
-}
-
-/// The first source of a script that the assembler refuses.
-fn refused_source<'a>(
+/// What is wrong with a line that has a fault of this code.
+fn source_reason(
     alloc: Global,
-    lines: &'a Lines,
-) -> Result<Option<SourceLines<'a>>, AllocError> {
-    let mut place = Place::default();
-    for _ in 0..=lines.as_slice().len() {
-        let Some((source, behind)) = lines.next_source(place) else {
-            return Ok(None);
-        };
-        match assemble(alloc, source.text) {
-            Ok(_) => place = behind,
-            Err(AsmError::Line { .. }) => return Ok(Some(source)),
-            Err(AsmError::Memory) => return Err(AllocError),
-        }
+    lines: &Lines,
+    number: u128,
+    code: u8,
+) -> Result<String, AllocError> {
+    if lines.is_lost() {
+        return Err(AllocError);
     }
-    Ok(None)
+    explain(alloc, Refused::Asm(code), lines.line(number).unwrap_or(b""))
+}
+
+/// Adds which line is spoken of.
+#[tactic(auto, using(std::proofs::Common::append_assoc))]
+fn push_place(out: &mut Vec<u8>, number: u128) -> Result<(), AllocError>
+    ensures { OnOk result (out.new.items ≡ out.old.items ++ place_of_line number) }
+{
+    out.extend_from_slice(b"lockmon: line ")?;
+    push_decimal(out, number)?;
+    Ok(())
+}
+
+/// Adds which line of a source is spoken of, which is this line of the input.
+#[tactic(auto, using(std::proofs::Common::append_assoc))]
+fn push_place_of_source(
+    out: &mut Vec<u8>,
+    fault: SourceFault,
+    number: u128,
+) -> Result<(), AllocError>
+    requires { number ≡ fault.before + fault.line }
+    ensures { OnOk result (out.new.items ≡ out.old.items ++ place_of_source fault) }
+{
+    push_place(out, number)?;
+    if fault.before == 0 {
+        return Ok(());
+    }
+    push_line_of_source(out, fault.line)?;
+    Ok(())
+}
+
+/// Adds which line of its source that is.
+#[tactic(auto, using(std::proofs::Common::append_assoc))]
+fn push_line_of_source(out: &mut Vec<u8>, line: usize) -> Result<(), AllocError>
+    ensures { OnOk result (out.new.items ≡ out.old.items ++ codes ", line " ++ decimal line ++ codes " of its source") }
+{
+    out.extend_from_slice(b", line ")?;
+    push_decimal(out, line)?;
+    out.extend_from_slice(b" of its source")?;
+    Ok(())
+}
+
+/// Adds what is said of it.
+#[tactic(auto, using(std::proofs::Common::append_assoc))]
+fn push_reason(out: &mut Vec<u8>, reason: &[u8]) -> Result<(), AllocError>
+    ensures { OnOk result (out.new.items ≡ out.old.items ++ codes ": " ++ reason.now ++ codes "\n") }
+{
+    out.extend_from_slice(b": ")?;
+    out.extend_from_slice(reason)?;
+    out.push(b'\n')?;
+    Ok(())
 }

@@ -1,6 +1,6 @@
 //! What the program writes on a script or a source.
 
-use command_line::{DONE, KeptIn, KeptOut, REFUSED, language_of, program_told};
+use command_line::{DONE, KeptIn, REFUSED, language_of, program_told};
 use script_io::{TestIn, TestOut};
 use std::alloc::{AllocError, Global};
 
@@ -95,7 +95,7 @@ impl Served {
         let mut told_room = vec![in alloc; 0u8; TOLD_ROOM]?;
         let input = TestIn::new(bytes, MOST, u64::MAX);
         let mut reader = KeptIn::new(alloc, language_of(words), input);
-        let mut writer = KeptOut::new(TestOut::new(&mut room, MOST, u64::MAX));
+        let mut writer = TestOut::new(&mut room, MOST, u64::MAX);
         let mut errors = TestOut::new(&mut error_room, MOST, u64::MAX);
         let mut telling = TestOut::new(&mut told_room, MOST, u64::MAX);
         let status = program_told(
@@ -107,7 +107,7 @@ impl Served {
             &mut telling,
         );
         Ok(Served {
-            written: writer.inner().as_slice().to_vec(alloc)?,
+            written: writer.as_slice().to_vec(alloc)?,
             told: telling.as_slice().to_vec(alloc)?,
             status,
         })

@@ -3,7 +3,7 @@
 use crate::fault::{Fault, Range, Reason};
 use crate::items::{Items, is_number};
 use crate::locks::check_lock;
-use op_script::{MOST_ADDRESS, MOST_EVENTS, NAME_LENGTH};
+use op_script::{MOST_ADDRESS, MOST_EVENTS, MOST_NUMBER, NAME_LENGTH};
 use queue_script::MOST_HALF;
 use script_io::LINE_LENGTH;
 use word36::{DATA_WORDS, JOBS};
@@ -46,8 +46,8 @@ fn range_of(param: Param) -> Option<Range> {
         Param::QueueJob => ("a job", 10, 1, u64::from(JOBS)),
         Param::Function => ("a function", 10, 0, MOST_HALF),
         Param::Id => ("an id", 10, 0, MOST_HALF),
-        Param::Job => ("a job", 10, 0, u64::from(u8::MAX)),
-        Param::Line => ("a terminal line", 10, 0, u64::from(u8::MAX)),
+        Param::Job => ("a job", 10, 0, MOST_NUMBER),
+        Param::Line => ("a terminal line", 10, 0, MOST_NUMBER),
         Param::Count => ("a number", 10, 0, MOST_EVENTS),
         Param::Place => ("an address", 8, 0, MOST_ADDRESS),
         Param::DataPlace => ("a data word", 10, 0, DATA_WORDS as u64 - 1),

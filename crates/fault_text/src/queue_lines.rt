@@ -4,6 +4,7 @@ use crate::fault::Fault;
 use crate::items::{Item, Items, check_blanks, check_form, is_number};
 use crate::params::{Param, check_param, check_params};
 use crate::tables::{QUEUE_COMMANDS, QUEUE_NAMES, params_of, unknown};
+use script_io::is_silent;
 
 /// What is wrong with a line.
 pub fn fault_of(line: &[u8]) -> Fault<'_> {
@@ -15,6 +16,9 @@ pub fn fault_of(line: &[u8]) -> Fault<'_> {
 
 fn check(line: &[u8]) -> Result<(), Fault<'_>> {
     check_form(line)?;
+    if is_silent(line) {
+        return Ok(());
+    }
     check_blanks(line)?;
     let mut items = Items::of(
         Item {

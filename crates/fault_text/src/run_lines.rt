@@ -4,6 +4,7 @@ use crate::fault::{Fault, Reason};
 use crate::items::{Item, Items, check_blanks, check_form};
 use crate::params::{Param, check_param, check_params};
 use crate::tables::{RUN_COMMANDS, RUN_NAMES, params_of, unknown};
+use script_io::is_silent;
 
 /// What is wrong with a line. Where it is in the grammar it names an image that is not there.
 pub fn fault_of(line: &[u8]) -> Fault<'_> {
@@ -32,6 +33,9 @@ const ENDASM: &str = "ENDASM stands behind the lines of a source, which ASSEMBLE
 
 fn check(line: &[u8]) -> Result<(), Fault<'_>> {
     check_form(line)?;
+    if is_silent(line) {
+        return Ok(());
+    }
     if let Some(rest) = line.strip_prefix(b"TYPE ".as_slice()) {
         return check_typed(Item {
             text: rest,

@@ -39,7 +39,7 @@ course script = course_of MOST_REQUESTS [] 0 (lines script) []
 -- a line that is told as the fault of a script is the one behind those that were seen, and the script ends there
 abbrev pub IsFaultOf : Course → ScriptError → Type 0
 IsFaultOf seen Memory = Unit {0}
-IsFaultOf seen (Line n) = (seen.ending ≡ ending.Script) × (n ≡ seen.lines + 1)
+IsFaultOf seen (Line n) = (seen.ending ≡ ending.Script n) × (n ≡ seen.lines + 1)
 IsFaultOf seen TooLong = Unit {0}
 IsFaultOf seen (Short n) = Unit {0}
 IsFaultOf seen (NoEnd n) = Unit {0}

@@ -5,6 +5,7 @@ ghost use Rattle.queue_script.specs.Asks.{asks_right};
 ghost use Rattle.queue_script.specs.Borrowed.{asked_by_line, lent};
 ghost use Rattle.queue_script.specs.QueueScripts.{effect_of, call_effect, unless_busy};
 ghost use Rattle.script_io.specs.declared.endings.Ending.TheVariants as ending;
+ghost use Rattle.script_io.specs.declared.endings.SourceFault.{SourceFault};
 ghost use Rattle.lock_queue.specs.WellFormed.{is_call};
 ghost use Rattle.lock_bars.specs.Courses.{course_of, IsFaultOf};
 
@@ -34,16 +35,20 @@ fn call_unless_busy<L: LockTable>(table: &mut L, job: u8, asked: Result<&LockCal
     }
 }
 
-/// Does what a line asks for. It answers an ending where the script ends there.
-fn follow<L: LockTable>(table: &mut L, command: Option<Command<'_>>) -> Option<Ending>
+/// Does what the line of this number asks for. It answers an ending where the script ends there.
+fn follow<L: LockTable>(
+    table: &mut L,
+    number: usize,
+    command: Option<Command<'_>>,
+) -> Option<Ending>
     requires { IsTrue (asks_right (asked_by_line command)) }
     ensures requests { (n : ℕ) → L.requests table.new
         ≡ (effect_of L.REQS n (L.requests table.old) (asked_by_line command.entry)).requests }
-    ensures ending { (n : ℕ) → result ≡ (effect_of L.REQS n (L.requests table.old) (asked_by_line command.entry)).ending }
-    ensures no_source { result ≡ Some ending.Source → false ≡ true }
+    ensures ending { result ≡ (effect_of L.REQS number (L.requests table.old) (asked_by_line command.entry)).ending }
+    ensures no_source { (fault : SourceFault) → result ≡ Some (ending.Source fault) → false ≡ true }
 {
     match command {
-        None => return Some(Ending::Script),
+        None => return Some(Ending::Script(number as u128)),
         Some(Command::Quit) => return Some(Ending::Done),
         Some(Command::Call(job, asked)) => call_unless_busy(table, job, asked),
         Some(Command::Free(job)) => table.release(job),
@@ -75,9 +80,9 @@ pub fn watch_queue<L: LockTable>(
         }
         let number = seen.lines + 1;
         let command = read_command(&mut room, line);
-        match follow(table, command) {
+        match follow(table, number, command) {
             Some(Ending::Done) => return Ok(seen),
-            Some(Ending::Script | Ending::Source) => {
+            Some(Ending::Script(_) | Ending::Source(_)) => {
                 return Err(ScriptError::Line(number));
             }
             None => {}

@@ -86,8 +86,8 @@ fn take_line(
     match service.take_line(number as u128, line, &mut answers)? {
         None => Ok(true),
         Some(Ending::Done) => Ok(false),
-        Some(Ending::Script) => Err(ScriptError::Line(number)),
-        Some(Ending::Source) => Err(source_fault(answers.as_slice(), begins)),
+        Some(Ending::Script(_)) => Err(ScriptError::Line(number)),
+        Some(Ending::Source(_)) => Err(source_fault(answers.as_slice(), begins)),
     }
 }
 
@@ -96,7 +96,7 @@ fn end_lines(alloc: Global, service: &mut RunService, lines: usize) -> Result<()
     let mut answers = Vec::new(alloc);
     match service.end_lines(lines as u128, &mut answers)? {
         Ending::Done => Ok(()),
-        Ending::Script | Ending::Source => Err(ScriptError::NoEnd(lines)),
+        Ending::Script(_) | Ending::Source(_) => Err(ScriptError::NoEnd(lines)),
     }
 }
 

@@ -2,7 +2,7 @@
 //! a line that is refused to standard error.
 #![tactic(auto)]
 
-use command_line::{KeptIn, KeptOut, language_of, program_told, unread_words};
+use command_line::{KeptIn, language_of, program_told, unread_words};
 use script_io::{HostIn, HostOut};
 use std::env;
 use std::process::ExitCode;
@@ -16,7 +16,7 @@ fn main(rt: HostRuntime) -> ExitCode {
     };
     let language = language_of(words.as_slice());
     let mut reader = KeptIn::new(alloc, language, HostIn::new(rt.stdin()));
-    let mut writer = KeptOut::new(HostOut::new(rt.stdout()));
+    let mut writer = HostOut::new(rt.stdout());
     let mut telling = HostOut::new(rt.stderr());
     let status = program_told(
         alloc,

@@ -6,6 +6,8 @@ mod edges;
 #[cfg(test)]
 mod faults;
 #[cfg(test)]
+mod grammar;
+#[cfg(test)]
 mod ports;
 #[cfg(test)]
 mod told;

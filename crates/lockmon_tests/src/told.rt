@@ -1,6 +1,6 @@
 //! The line on standard error where a line is refused.
 
-use command_line::{KeptIn, KeptOut, language_of, program_told};
+use command_line::{KeptIn, language_of, program_told};
 use script_io::{TestIn, TestOut};
 
 /// A command, its input, and what is told.
@@ -44,7 +44,7 @@ fn lines(rt: HostRuntime) {
         let words = ["lockmon", command];
         let language = language_of(&words);
         let mut reader = KeptIn::new(alloc, language, TestIn::new(input.as_bytes(), 7, 1000));
-        let mut writer = KeptOut::new(TestOut::new(&mut room, 5, 1000));
+        let mut writer = TestOut::new(&mut room, 5, 1000);
         let mut errors = TestOut::new(&mut error_room, 100, 1000);
         let mut telling = TestOut::new(&mut told_room, 100, 1000);
         let status = program_told(
@@ -78,7 +78,7 @@ fn far_behind(rt: HostRuntime) {
         language_of(&words),
         TestIn::new(input.as_bytes(), 5000, 1000),
     );
-    let mut writer = KeptOut::new(TestOut::new(&mut room, 100_000, 1000));
+    let mut writer = TestOut::new(&mut room, 100_000, 1000);
     let mut errors = TestOut::new(&mut error_room, 100, 1000);
     let mut telling = TestOut::new(&mut told_room, 100, 1000);
     let status = program_told(

@@ -11,7 +11,7 @@ use Rattle.machine.specs.Views.{job_view, word_in}
 use Rattle.machine.specs.declared.event.Event.TheVariants as event
 use Rattle.machine.specs.declared.event.RefusedEvent.TheVariants.{NoSuchJob}
 use Rattle.script_io.specs.Lines.{is_allowed}
-use Rattle.asm_script.specs.Listings.{fault_text}
+use Rattle.asm_script.specs.Listings.{fault_behind, fault_text}
 use Rattle.queue_script.specs.QueueScripts.{show_text}
 use Rattle.lock_queue.specs.Waits.{jobs}
 use Rattle.queue_script.specs.WaitPairs.{waits_text}
@@ -46,7 +46,7 @@ ends d text e = record { desk = d; text = text; ending = Some e }
 
 -- line n is not in the grammar
 abbrev pub fault : ℕ → Desk → Effect
-fault n d = ends d (script_fault n).text ending.Script
+fault n d = ends d (script_fault n).text (ending.Script n)
 
 -- ---- events
 
@@ -91,7 +91,7 @@ examined_text s job a =
 abbrev pub effect_of : ℕ → Desk → Option Command → Effect
 effect_of n d None = fault n d
 effect_of n d (Some command.Nothing) = goes d []
-effect_of n d (Some (command.Assemble name)) = goes (record d { source = Some (empty_source name) }) []
+effect_of n d (Some (command.Assemble name)) = goes (record d { source = Some (empty_source name n) }) []
 effect_of n d (Some (command.Login line name)) = login_effect n d line (image_of d.images name)
 effect_of n d (Some (command.Step most)) = steps_effect d most false
 effect_of n d (Some (command.Run most)) = steps_effect d most true
@@ -121,22 +121,22 @@ assembled_text name (Ok image) = image_line name (length image.words)
 assembled_text name (Err wrong) = fault_text wrong
 
 -- a source at fault ends the script
-abbrev pub assembled_ending : Result Assembled Fault → Option Ending
-assembled_ending (Ok image) = None
-assembled_ending (Err wrong) = Some ending.Source
+abbrev pub assembled_ending : ℕ → Result Assembled Fault → Option Ending
+assembled_ending before (Ok image) = None
+assembled_ending before (Err wrong) = Some (ending.Source (fault_behind before wrong))
 
-abbrev pub assembled_effect : Desk → List ℕ → Result Assembled Fault → Effect
-assembled_effect d name outcome = record {
-  desk = record d { images = defined d.images name outcome; source = None };
-  text = assembled_text name outcome;
-  ending = assembled_ending outcome;
+abbrev pub assembled_effect : Desk → SourceText → Result Assembled Fault → Effect
+assembled_effect d source outcome = record {
+  desk = record d { images = defined d.images source.name outcome; source = None };
+  text = assembled_text source.name outcome;
+  ending = assembled_ending source.before outcome;
 }
 
 -- ENDASM ends a source; every other line belongs to it
 abbrev pub source_effect : Desk → SourceText → List ℕ → Effect
 source_effect d source line =
     if bytes_eq line (codes "ENDASM")
-    then assembled_effect d source.name (outcome_of source.text)
+    then assembled_effect d source (outcome_of source.text)
     else goes (record d { source = Some (with_line source line) }) []
 
 -- ---- lines

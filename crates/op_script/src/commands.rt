@@ -1,12 +1,13 @@
 //! The commands of a script on the machine.
-ghost use Rattle.std.specs.Prelude.{◌≡◌, ◌^◌, ◌<◌, ◌≤◌, length, option_map, option_copied, position, IfSome};
+ghost use Rattle.std.specs.Prelude.{◌≡◌, ◌^◌, ◌<◌, ◌≤◌, ◌&&◌, length, is_some, option_map, option_copied, position, IfSome};
 ghost use Rattle.std.specs.List.{before_first, after_first};
+ghost use Rattle.script_io.specs.Lines.{is_allowed};
 ghost use Rattle.op_script.specs.Names.{name_of};
 ghost use Rattle.op_script.specs.Commands.{byte_of, count_of, address_of, data_place_of, only, alone, login_of, shown_by, examine_of, is_space, text_of, typed_of, keyword_of, command_with, command_of_items, command_of};
 
 use crate::names::ImageName;
 use crate::texts::TypedText;
-use script_io::{LINE_LENGTH, Parts, is_silent, number};
+use script_io::{LINE_LENGTH, Parts, is_allowed, is_silent, number};
 use word36::DATA_WORDS;
 
 /// The name of a command, but for TYPE, whose text is no list of items.
@@ -75,11 +76,14 @@ pub const MOST_EVENTS: u64 = 1_000_000;
 /// The largest address.
 pub const MOST_ADDRESS: u64 = 0o777_777;
 
+/// The greatest number of a line or a job.
+pub const MOST_NUMBER: u64 = 255;
+
 /// The number of a line or a job, 0 to 255.
 fn read_byte(text: &[u8]) -> Option<u8>
     ensures { result ≡ byte_of text.now }
 {
-    Some(number(10, u64::from(u8::MAX), text)? as u8)
+    Some(number(10, MOST_NUMBER, text)? as u8)
 }
 
 /// How many steps or ticks.
@@ -283,4 +287,11 @@ pub fn read_command(line: &[u8]) -> Option<Command>
         Some(rest) => read_typed(rest),
         None => read_items(Parts::of(line, b' ')),
     }
+}
+
+/// Whether a line is in the grammar.
+pub fn is_command(line: &[u8]) -> bool
+    ensures { result ≡ (is_allowed line.now && is_some (command_of line.now)) }
+{
+    is_allowed(line) && read_command(line).is_some()
 }

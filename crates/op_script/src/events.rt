@@ -15,7 +15,7 @@ use tty_lines::Char7;
 use word36::{Image, OUTPUT_RING, TAKEN_AT_ONCE};
 
 /// How many Take events empty an output ring that is full: the last gives nothing.
-const MOST_TAKES: usize = OUTPUT_RING / TAKEN_AT_ONCE + 1;
+pub const MOST_TAKES: usize = OUTPUT_RING / TAKEN_AT_ONCE + 1;
 
 /// Room for what they give.
 const TAKEN_ROOM: usize = MOST_TAKES * TAKEN_AT_ONCE;

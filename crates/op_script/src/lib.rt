@@ -12,8 +12,9 @@ mod run_scripts;
 mod sources;
 mod texts;
 
-pub use commands::{MOST_ADDRESS, MOST_EVENTS};
+pub use commands::{MOST_ADDRESS, MOST_EVENTS, MOST_NUMBER, is_command};
 pub use desk::Machine;
+pub use events::MOST_TAKES;
 pub use monitor::Config;
 pub use names::NAME_LENGTH;
 pub use run_scripts::{RunService, serve};

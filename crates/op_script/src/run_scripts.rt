@@ -12,7 +12,7 @@ use crate::images::Images;
 use crate::looking::{push_data_word, push_examined, push_jobs, push_locks, push_waiting};
 use crate::printing::push_image;
 use crate::sources::Source;
-use asm_script::push_asm_fault;
+use asm_script::{push_asm_fault, source_ending};
 use mac_asm::{AsmError, assemble};
 use monitor::{Config, Event};
 use script_io::{
@@ -38,15 +38,17 @@ fn perform(
     match command {
         None => {
             push_fault(out, number)?;
-            return Ok(Some(Ending::Script));
+            return Ok(Some(Ending::Script(number)));
         }
         Some(Command::Quit) => return Ok(Some(Ending::Done)),
         Some(Command::Nothing) => {}
-        Some(Command::Assemble(name)) => desk.source = Some(Source::new(alloc, name)),
+        Some(Command::Assemble(name)) => {
+            desk.source = Some(Source::new(alloc, name, number));
+        }
         Some(Command::Login(line, name)) => {
             let Some(image) = desk.images.get(&name) else {
                 push_fault(out, number)?;
-                return Ok(Some(Ending::Script));
+                return Ok(Some(Ending::Script(number)));
             };
             happen(&mut desk.machine, &Event::Login(line, image), out)?;
         }
@@ -81,7 +83,7 @@ fn end_source(
 ) -> Result<Option<Ending>, AllocError>
     ensures images { OnOk result (images.new ≡ defined images.old source.name (outcome_of source.text)) }
     ensures text { OnOk result (out.new.items ≡ out.old.items ++ assembled_text source.name (outcome_of source.text)) }
-    ensures ending { IfOk result (λ ending. ending ≡ assembled_ending (outcome_of source.text)) }
+    ensures ending { IfOk result (λ ending. ending ≡ assembled_ending source.before (outcome_of source.text)) }
 {
     match assemble(alloc, source.text()) {
         Ok(image) => {
@@ -92,7 +94,7 @@ fn end_source(
         }
         Err(AsmError::Line { line, code }) => {
             push_asm_fault(out, line, code)?;
-            Ok(Some(Ending::Source))
+            Ok(Some(source_ending(source.before(), line, code)))
         }
         Err(AsmError::Memory) => Err(AllocError),
     }
@@ -133,7 +135,7 @@ fn obey(
 {
     if !is_allowed(line) {
         push_fault(out, number)?;
-        return Ok(Some(Ending::Script));
+        return Ok(Some(Ending::Script(number)));
     }
     match desk.source.take() {
         Some(source) => take_source_line(alloc, desk, source, line, out),
@@ -186,7 +188,7 @@ impl LineService for RunService {
 
     fn refuse_line(&mut self, number: u128, out: &mut Vec<u8>) -> Result<Ending, AllocError> {
         push_fault(out, number)?;
-        Ok(Ending::Script)
+        Ok(Ending::Script(number))
     }
 
     fn end_lines(&mut self, number: u128, out: &mut Vec<u8>) -> Result<Ending, AllocError> {
@@ -194,7 +196,7 @@ impl LineService for RunService {
             return Ok(Ending::Done);
         }
         push_fault(out, number + 1)?;
-        Ok(Ending::Script)
+        Ok(Ending::Script(number + 1))
     }
 }
 

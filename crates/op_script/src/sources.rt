@@ -10,6 +10,7 @@ use std::marker::Model;
 #[derive(Drop)]
 pub struct Source {
     name: ImageName,
+    before: u128,
     text: Vec<u8>,
 }
 
@@ -18,16 +19,17 @@ impl Model for Source {
 
     ghost Value = { SourceText };
 
-    ghost view = { λ s. record { name = s.name; text = s.text.items } };
+    ghost view = { λ s. record { name = s.name; before = s.before; text = s.text.items } };
 }
 
 impl Source {
-    /// A source without lines.
-    pub fn new(alloc: Global, name: ImageName) -> Self
-        ensures { result ≡ empty_source name }
+    /// A source without lines, behind so many lines of the script.
+    pub fn new(alloc: Global, name: ImageName, before: u128) -> Self
+        ensures { result ≡ empty_source name before }
     {
         Source {
             name,
+            before,
             text: Vec::new(alloc),
         }
     }
@@ -49,11 +51,22 @@ impl Source {
         self.text.as_slice()
     }
 
+    /// How many lines of the script stand before it.
+    pub fn before(&self) -> u128
+        ensures { result ≡ self.now.before }
+    {
+        self.before
+    }
+
     /// The name that its image will have.
     pub fn into_name(self) -> ImageName
         ensures { result ≡ self.name }
     {
-        let Source { name, text: _ } = self;
+        let Source {
+            name,
+            before: _,
+            text: _,
+        } = self;
         name
     }
 }

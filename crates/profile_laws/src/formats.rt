@@ -10,6 +10,7 @@ ghost use Rattle.queue_script.specs.declared.call_room.TheConstants.{QUOTA};
 ghost use Rattle.queue_script.specs.declared.locks.TheConstants.{CODE_DIGITS, MOST_CODE};
 ghost use Rattle.queue_script.specs.declared.options.TheConstants.{MOST_HALF, MOST_LEVEL};
 ghost use Rattle.script_io.specs.declared.line_sessions.TheConstants.{LINE_LENGTH};
+ghost use Rattle.profile_laws.specs.Taking.{TakeTakesAll};
 
 /// The lines of a script: their length, the most steps and ticks, the greatest address, and the name of
 /// an image.
@@ -23,6 +24,11 @@ pub fn numbers_of_lines()
 /// Each text of 7-bit characters, printed as TAKE prints it, is read by TYPE as the same text.
 pub fn printed_texts_are_read()
     ensures { (text : List ℕ) → All (λ c. c < 128) text → characters_of (printed text) ≡ Some text }
+{}
+
+/// TAKE writes all that a line has put out, and leaves none of it: so many events of 64 characters are enough.
+pub fn takes_take_all()
+    ensures { TakeTakesAll }
 {}
 
 /// The locks of a script: the greatest id, function, group and number of a pool, the greatest level, and

@@ -11,6 +11,7 @@ pub use codes::{
 };
 pub use formats::{
     exit_statuses, numbers_of_lines, numbers_of_locks, numbers_of_sources, printed_texts_are_read,
+    takes_take_all,
 };
 pub use sizes::{
     sizes_of_characters, sizes_of_locks, sizes_of_memory, sizes_of_the_machine, sizes_of_time,

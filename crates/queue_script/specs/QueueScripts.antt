@@ -74,7 +74,7 @@ show_text requests = shown_from requests 0 requests ++ codes "END\n"
 -- what line n does on a queue of some size, which asks for this; one that is not in the grammar ends the script
 abbrev pub effect_of : ℕ → ℕ → List Request → Option Asked → Effect
 effect_of size n requests None =
-    record { requests = requests; text = (script_fault n).text; ending = Some ending.Script }
+    record { requests = requests; text = (script_fault n).text; ending = Some (ending.Script n) }
 effect_of size n requests (Some nothing) = goes requests []
 effect_of size n requests (Some (call job c)) = unless_busy requests job (call_effect size requests job c)
 effect_of size n requests (Some (status job wants)) = goes requests (status_text requests job wants)

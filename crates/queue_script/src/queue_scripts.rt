@@ -146,7 +146,7 @@ fn perform<L: LockTable>(
     match command {
         None => {
             push_fault(out, number)?;
-            return Ok(Some(Ending::Script));
+            return Ok(Some(Ending::Script(number)));
         }
         Some(Command::Quit) => return Ok(Some(Ending::Done)),
         Some(Command::Nothing) => {}
@@ -204,7 +204,7 @@ impl<L: LockTable> LineService for QueueService<L> {
 
     fn refuse_line(&mut self, number: u128, out: &mut Vec<u8>) -> Result<Ending, AllocError> {
         push_fault(out, number)?;
-        Ok(Ending::Script)
+        Ok(Ending::Script(number))
     }
 
     fn end_lines(&mut self, _number: u128, _out: &mut Vec<u8>) -> Result<Ending, AllocError> {

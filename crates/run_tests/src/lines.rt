@@ -35,7 +35,7 @@ fn cut_short(
     let behind = in_source && !last.is_empty();
     let number = lines.saturating_add(if behind { 2 } else { 1 });
     text.push_str(format!(in alloc; "?SCRIPT {number}\n")?.as_str())?;
-    Ok((text, Err(ServeError::Script)))
+    Ok((text, Err(ServeError::Script(number as u128))))
 }
 
 #[test]

@@ -128,7 +128,7 @@ fn nothing_is_read_after_the_end(rt: HostRuntime) {
     let quit = b"FREE 1\nQUIT\nFREE 2\n".as_slice();
     expect_after_one_read(&rt, alloc, Kind::Queue, 100, quit, (Ok(()), b"OK\n"));
     let fault = b"FREE 1\nFREE\nFREE 2\n".as_slice();
-    let refused = (Err(ServeError::Script), b"OK\n?SCRIPT 2\n".as_slice());
+    let refused = (Err(ServeError::Script(2)), b"OK\n?SCRIPT 2\n".as_slice());
     expect_after_one_read(&rt, alloc, Kind::Queue, 100, fault, refused);
 }
 

@@ -8,15 +8,15 @@ use Rattle.script_io.specs.declared.endings.Ending.TheVariants as ending
 use Rattle.script_io.specs.declared.endings.ServeError.{ServeError}
 use Rattle.script_io.specs.declared.endings.ServeError.TheVariants as error
 
--- a line that is not in the grammar is told by its number, and ends the script
+-- a line that is not in the grammar is told by its number, and ends the script there
 abbrev pub script_fault : ℕ → Transcript Ending
-script_fault number = closed (codes "?SCRIPT " ++ decimal number ++ 10 ∷ []) ending.Script
+script_fault number = closed (codes "?SCRIPT " ++ decimal number ++ 10 ∷ []) (ending.Script number)
 
 -- how the script ended that is answered so, or what cut its serving short
 abbrev pub served_as : Result (Unit {0}) ServeError → Result Ending ServeFailure
 served_as (Ok u) = Ok ending.Done
-served_as (Err error.Script) = Ok ending.Script
-served_as (Err error.Source) = Ok ending.Source
+served_as (Err (error.Script number)) = Ok (ending.Script number)
+served_as (Err (error.Source fault)) = Ok (ending.Source fault)
 served_as (Err error.Read) = Err failure.Read
 served_as (Err error.Write) = Err failure.Write
 served_as (Err error.Memory) = Err failure.Memory

@@ -11,26 +11,37 @@ use crate::sessions::Session;
 use std::alloc::{AllocError, Global};
 use thiserror::Error;
 
+/// Where a source is at fault.
+#[derive(Clone, Copy, PartialEq, Eq, Debug, Drop)]
+pub struct SourceFault {
+    /// How many lines of the input stand before the source.
+    pub before: u128,
+    /// The number of its line, or the one behind its last.
+    pub line: usize,
+    /// The code of the fault, 1 to 7.
+    pub code: u8,
+}
+
 /// How the commands of a script, or a source, end.
 #[derive(Clone, Copy, PartialEq, Eq, Debug, Drop)]
 pub enum Ending {
     /// At the end of the input, or where the script says so.
     Done,
-    /// At a line that is not in the grammar.
-    Script,
+    /// At the line of this number, which is not in the grammar.
+    Script(u128),
     /// At a source that is not assembled.
-    Source,
+    Source(SourceFault),
 }
 
 /// How serving a script or a source ends, where not all of it is done.
 #[derive(Clone, Copy, PartialEq, Eq, Debug, Drop, Error)]
 pub enum ServeError {
-    /// A line of the script is not in the grammar, which the transcript says last.
+    /// The line of this number is not in the grammar, which the transcript says last.
     #[error("script")]
-    Script,
+    Script(u128),
     /// A source is not assembled, which the transcript says last.
     #[error("source")]
-    Source,
+    Source(SourceFault),
     /// The reader failed.
     #[error("read")]
     Read,
@@ -48,8 +59,8 @@ fn answer_of(served: Result<Ending, ServeFailure>) -> Result<(), ServeError>
 {
     match served {
         Ok(Ending::Done) => Ok(()),
-        Ok(Ending::Script) => Err(ServeError::Script),
-        Ok(Ending::Source) => Err(ServeError::Source),
+        Ok(Ending::Script(number)) => Err(ServeError::Script(number)),
+        Ok(Ending::Source(fault)) => Err(ServeError::Source(fault)),
         Err(ServeFailure::Read) => Err(ServeError::Read),
         Err(ServeFailure::Write) => Err(ServeError::Write),
         Err(ServeFailure::Memory) => Err(ServeError::Memory),

@@ -18,7 +18,7 @@ mod sessions;
 mod test_ports;
 mod text_sessions;
 
-pub use endings::{Ending, ServeError, push_fault, serve_script};
+pub use endings::{Ending, ServeError, SourceFault, push_fault, serve_script};
 pub use failures::ServeFailure;
 pub use host_fault::HostFault;
 pub use host_ports::{HostIn, HostOut};
