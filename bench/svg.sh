@@ -1,8 +1,9 @@
 #!/usr/bin/env bash
 # Whether the pictures that `lockview` writes of the stored queue scripts, and of one in which all jobs wait, and
 # those that `ten` writes of a short and of a long run, are well-formed, by a parser of XML; that the pictures in
-# examples/ are those of today; and, where rsvg-convert is installed, that they can be painted; SHOT=FILE.png has a
-# headless Chromium paint one. Build the programs first (rt run in crates/lockview, ./ten --build).
+# examples/ are those of today; that `ten` says so where it cannot write one; and, where rsvg-convert is installed,
+# that they can be painted; SHOT=FILE.png has a headless Chromium paint one. Build the programs first
+# (./lockview --build, ./ten --build).
 set -eu
 cd "$(dirname "$0")/.."
 program=crates/lockview/out/lockview
@@ -29,6 +30,16 @@ draw circle --at 13 <examples/circle_of_waits.queue
 cmp "$work/circle.svg" examples/circle_of_waits.svg
 draw drives --at 7 <examples/tape_drives.queue
 cmp "$work/drives.svg" examples/tape_drives.svg
+"$ten" --picture "$work/giver_and_waiter.svg" examples/giver.mac examples/waiter.mac 2>/dev/null
+look giver_and_waiter
+cmp "$work/giver_and_waiter.svg" examples/giver_and_waiter.svg
+"$ten" --picture "$work/long_run.svg" examples/counter.mac examples/counter.mac 2>/dev/null
+look long_run
+grep -q "after tick 2[0-9][0-9][0-9]<" "$work/long_run.svg"
+status=0
+"$ten" --picture "$work/none/run.svg" examples/giver.mac examples/waiter.mac 2>"$work/told" || status=$?
+[ "$status" = 3 ]
+grep -q "^ten: the picture cannot be written: $work/none/run.svg: " "$work/told"
 if [ -n "${SHOT-}" ]; then
     chromium --headless --no-sandbox --disable-gpu --window-size=900,420 --screenshot="$SHOT" "file://$work/circle.svg" 2>/dev/null
 fi

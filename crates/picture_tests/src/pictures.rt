@@ -3,10 +3,38 @@
 use crate::rows::{MANY, Row, answers};
 use lock_bars::draw_script;
 use lock_picture::program;
+use lock_svg::{Along, AsSvg};
 use script_io::{TestIn, TestOut};
 use std::alloc::{AllocError, Global};
 
-const ROWS: [Row; 11] = [
+/// The jobs of the highest numbers wait for one another.
+const HIGHEST: &str = "ENQ 62 0 1 A
+ENQ 63 0 1 B
+ENQ 62 0 2 B/B
+ENQ 63 0 2 A/B
+";
+
+const ROWS: [Row; 12] = [
+    Row {
+        words: &["lockview", "--text"],
+        script: HIGHEST,
+        calls: (MANY, MANY),
+        status: 0,
+        written: "line
+           1234
+job 62  A  ####
+        B  ..//
+job 63  B  .###
+        A  .../
+
+# owns  / waits  * is granted  . has no request
+
+After line 4:
+  job 62 waits for job 63, hard, in a circle
+  job 63 waits for job 62, hard, in a circle
+",
+        told: "",
+    },
     // Two jobs wait for one another, and one gives up.
     Row {
         words: &["lockview", "--text", "--at", "4"],
@@ -326,6 +354,26 @@ fn long_bars(rt: HostRuntime) {
     for (i, bar) in drawing.bars.as_slice().iter().enumerate() {
         assert_eq!(rt; bar.from, 2 * i + 1);
         assert_eq!(rt; bar.until, 2 * i + 2);
+    }
+}
+
+/// The SVG has the arrows and the numbers of the jobs of the highest numbers, too.
+#[test]
+fn highest_jobs(rt: HostRuntime) {
+    let alloc = rt.alloc();
+    let drawing = draw_script(alloc, HIGHEST.as_bytes(), None).unwrap();
+    let svg = AsSvg {
+        drawing: &drawing,
+        along: Along::Script,
+    };
+    let picture = format!(in alloc; "{svg}").unwrap();
+    for part in [
+        "<title>job 62 waits for job 63, hard, in a circle</title>",
+        "<title>job 63 waits for job 62, hard, in a circle</title>",
+        ">62</text>",
+        ">63</text>",
+    ] {
+        assert!(rt; picture.as_str().contains(part), "{part}");
     }
 }
 

@@ -21,6 +21,8 @@ pub struct Asked<'a> {
     pub history: usize,
     /// Waits of more ticks than these are told, and how long they took, if that is asked for.
     pub waits: Option<u64>,
+    /// The file to which a picture of the run is written, if that is asked for.
+    pub picture: Option<&'a str>,
     /// The names of the sources' files, 1 to 63.
     pub files: Vec<&'a str>,
     ghost right: { IsSetup blocks quantum },

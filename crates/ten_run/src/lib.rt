@@ -20,5 +20,5 @@ pub use asked::{Asked, Refusal};
 pub use failure::Failure;
 pub use outlet::Outlet;
 pub use program::{ten, unread_words};
-pub use running::run_sources;
+pub use running::{Ran, run_sources};
 pub use words::read_words;

@@ -5,6 +5,7 @@ use crate::jobs::{Look, RunningJob};
 use crate::outlet::Outlet;
 use ka_isa::{Family, classify, decode};
 use lock_queue::Request;
+use lock_svg::RunCourse;
 use monitor::JobView;
 use run_facts::requests_in;
 use run_notes::{
@@ -25,6 +26,10 @@ pub struct Notes {
     pub history: bool,
     /// How long requests wait, where that is told.
     pub clocks: Option<WaitClocks>,
+    /// What is seen of the locks, where that is drawn.
+    pub course: Option<RunCourse>,
+    /// Whether the locks may have changed since they were drawn last.
+    pub may_differ: bool,
     /// The requests for locks, as they were looked at last.
     pub requests: Vec<Request>,
 }
@@ -46,6 +51,11 @@ impl Notes {
         self.locks || self.clocks.is_some()
     }
 
+    /// Whether each step is looked at.
+    fn looks_at_steps(&self) -> bool {
+        self.trace || self.history || self.looks_at_requests() || self.course.is_some()
+    }
+
     /// What is kept of a job that has not run since, where something is told.
     pub fn look(
         &self,
@@ -53,7 +63,7 @@ impl Notes {
         machine: &Machine,
         job: &RunningJob<'_>,
     ) -> Result<Option<Look>, AllocError> {
-        if !self.trace && !self.history && !self.looks_at_requests() {
+        if !self.looks_at_steps() {
             return Ok(None);
         }
         let number = job.told.number;
@@ -116,7 +126,16 @@ impl Notes {
         Ok(())
     }
 
-    /// Tells of the grants that were made since the requests were looked at last.
+    /// Draws how the locks stand behind the step of this tick, where that is asked for.
+    pub fn draw(&mut self, alloc: Global, machine: &Machine, tick: u64) -> Result<(), AllocError> {
+        if let Some(course) = &mut self.course {
+            course.look(alloc, tick, self.may_differ, machine.locks())?;
+            self.may_differ = false;
+        }
+        Ok(())
+    }
+
+    /// Tells of the grants that were made since the requests were looked at last, which may have changed.
     pub fn tell_grants<E: ByteOut + Drop>(
         &mut self,
         alloc: Global,
@@ -124,6 +143,7 @@ impl Notes {
         tick: u64,
         errors: &mut Outlet<E>,
     ) -> Result<(), Failure> {
+        self.may_differ = true;
         if !self.looks_at_requests() {
             return Ok(());
         }

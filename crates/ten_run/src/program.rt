@@ -57,6 +57,27 @@ fn open_all<'a, F: Files + AllocGlobal, E: ByteOut + Drop>(
     Ok(Some(sources))
 }
 
+/// Writes the picture of a run that had this status to a file, and gives the status, or tells why it
+/// cannot be written.
+fn write_picture<F: Files + AllocGlobal, E: ByteOut + Drop>(
+    rt: &F,
+    file: &str,
+    picture: &str,
+    status: u8,
+    errors: &mut Outlet<E>,
+) -> Result<u8, Failure> {
+    match fs::write(rt, file, picture) {
+        Ok(()) => Ok(status),
+        Err(error) => {
+            let text = format!(in rt.alloc();
+                "ten: the picture cannot be written: {file}: {error}\n"
+            )?;
+            errors.write(text.as_str().as_bytes())?;
+            Ok(FAILED)
+        }
+    }
+}
+
 /// Says on `errors` why the words were refused, or on `writer` the help or the version that they asked
 /// for.
 fn tell_refusal<W: ByteOut + Drop, E: ByteOut + Drop>(
@@ -98,15 +119,22 @@ fn serve<F: Files + AllocGlobal, S: AsStr, R: ByteIn + Drop, W: ByteOut + Drop, 
         Ok(asked) => asked,
         Err(refusal) => return tell_refusal(alloc, refusal, writer, errors),
     };
-    match open_all(rt, alloc, asked.files.as_slice(), errors)? {
-        Some(sources) => run_sources(alloc, &asked, sources.as_slice(), reader, writer, errors),
-        None => Ok(FAILED),
+    let Some(sources) = open_all(rt, alloc, asked.files.as_slice(), errors)? else {
+        return Ok(FAILED);
+    };
+    let ran = run_sources(alloc, &asked, sources.as_slice(), reader, writer, errors)?;
+    match (asked.picture, &ran.picture) {
+        (Some(file), Some(picture)) => {
+            write_picture(rt, file, picture.as_str(), ran.status, errors)
+        }
+        _ => Ok(ran.status),
     }
 }
 
 /// Does what the words, which begin with the program's name, ask for, and gives the exit status:
-/// reads files, assembles them and runs them. Input is read only when a job waits for it. The help and
-/// the version go to the output, and then nothing is run.
+/// reads files, assembles them and runs them. Input is read only when a job waits for it. A picture that
+/// is asked for is written behind the run. The help and the version go to the output, and then nothing is
+/// run.
 pub fn ten<
     F: Files + AllocGlobal,
     S: AsStr,

@@ -11,6 +11,7 @@ use crate::notes::Notes;
 use crate::outlet::Outlet;
 use crate::session::Session;
 use crate::terminal::Terminal;
+use lock_svg::RunCourse;
 use monitor::{Answer, Config, Event, RefusedEvent};
 use run_facts::{Ending, REFUSED, has_ended_well, status_of};
 use run_notes::{Machine, ToldJob, WaitClocks, has_circle};
@@ -18,6 +19,25 @@ use script_io::{ByteIn, ByteOut};
 use source_labels::{Assembled, Program, Source, assemble_source, warnings_of};
 use std::alloc::Global;
 use word36::{Address, Image};
+
+/// What came of sources that were to run.
+#[derive(Drop)]
+pub struct Ran {
+    /// The exit status.
+    pub status: u8,
+    /// The picture of the run, as SVG, where that was asked for and they ran.
+    pub picture: Option<String>,
+}
+
+impl Ran {
+    /// A source was refused, and none ran.
+    fn refused() -> Self {
+        Ran {
+            status: REFUSED,
+            picture: None,
+        }
+    }
+}
 
 /// Assembles sources, tells what is wrong with each that is refused, and gives the programs where
 /// none is.
@@ -147,6 +167,8 @@ fn notes_of(alloc: Global, asked: &Asked<'_>) -> Notes {
         locks: asked.locks,
         history: asked.history > 0,
         clocks: asked.waits.map(|most| WaitClocks::new(alloc, most)),
+        course: asked.picture.map(|_file| RunCourse::new(alloc)),
+        may_differ: true,
         requests: Vec::new(alloc),
     }
 }
@@ -158,8 +180,30 @@ fn config_of(blocks: u32, quantum: u8) -> Config
     Config::new(blocks, quantum).unwrap()
 }
 
+/// Says how a run ended that was made to its end or to a failure, and gives what came of it.
+fn finish<R: ByteIn + Drop, W: ByteOut + Drop, E: ByteOut + Drop>(
+    session: &mut Session<'_, R, W>,
+    ran: Result<bool, Failure>,
+    errors: &mut Outlet<E>,
+) -> Result<Ran, Failure> {
+    if !session.output.is_line_whole() {
+        errors.write(b"\n")?;
+    }
+    let (alloc, ticks) = (session.alloc, session.ticks);
+    session.notes.tell_table(alloc, ticks, errors)?;
+    let course = session.notes.course.take();
+    let (machine, jobs) = (&session.machine, session.jobs.as_slice());
+    let status = tell_ends(alloc, machine, jobs, ran == Ok(true), errors)?;
+    ran?;
+    let picture = match course {
+        Some(course) => Some(course.into_svg(alloc, ticks, machine.locks())?),
+        None => None,
+    };
+    Ok(Ran { status, picture })
+}
+
 /// Assembles sources, runs a job for each of them, and says on `errors` what is wrong with a source
-/// or how each job ended. Gives the exit status.
+/// or how each job ended.
 pub fn run_sources<R: ByteIn + Drop, W: ByteOut + Drop, E: ByteOut + Drop>(
     alloc: Global,
     asked: &Asked<'_>,
@@ -167,16 +211,16 @@ pub fn run_sources<R: ByteIn + Drop, W: ByteOut + Drop, E: ByteOut + Drop>(
     reader: R,
     writer: W,
     errors: &mut Outlet<E>,
-) -> Result<u8, Failure>
+) -> Result<Ran, Failure>
     requires reader_sound { R.has_failed reader ≡ false }
     requires writer_sound { W.has_failed writer ≡ false }
 {
     let Some(programs) = assemble_all(alloc, sources, errors)? else {
-        return Ok(REFUSED);
+        return Ok(Ran::refused());
     };
     let mut machine = Machine::boot(alloc, config_of(asked.blocks, asked.quantum))?;
     let Some(jobs) = log_in_all(alloc, &mut machine, programs, asked.history, errors)? else {
-        return Ok(REFUSED);
+        return Ok(Ran::refused());
     };
     let mut session = Session {
         alloc,
@@ -194,19 +238,5 @@ pub fn run_sources<R: ByteIn + Drop, W: ByteOut + Drop, E: ByteOut + Drop>(
     };
     session.look_at_all()?;
     let ran = session.run(asked.steps, errors);
-    if !session.output.is_line_whole() {
-        errors.write(b"\n")?;
-    }
-    let is_cut = ran == Ok(true);
-    let ticks = session.ticks;
-    session.notes.tell_table(alloc, ticks, errors)?;
-    let status = tell_ends(
-        alloc,
-        &session.machine,
-        session.jobs.as_slice(),
-        is_cut,
-        errors,
-    )?;
-    ran?;
-    Ok(status)
+    finish(&mut session, ran, errors)
 }

@@ -149,6 +149,7 @@ impl<R: ByteIn + Drop, W: ByteOut + Drop> Session<'_, R, W> {
                 }
             }
         }
+        self.notes.draw(self.alloc, &self.machine, self.ticks)?;
         self.machine.event(&ROUND[1]);
         self.ticks = self.ticks.saturating_add(1);
         if self.is_limited {

@@ -43,5 +43,9 @@ pub const HISTORY: &str =
 pub const WAITS: &str =
     "tells waits for locks of more than N ticks, how long each grant took, and a table by lock";
 
+/// `--picture`.
+pub const PICTURE: &str =
+    "writes a picture of the run: who has which lock at which tick, and who waits for whom";
+
 /// `FILE`.
 pub const FILES: &str = "sources, 1 to 63: job n runs the n-th of them, at terminal line n - 1";

@@ -20,6 +20,9 @@ const MOST_STEPS: u64 = 1_000_000_000_000;
 /// The most steps that `--history` takes.
 const MOST_HISTORY: u64 = 10_000;
 
+/// How the name of a picture ends, so that no source is written over by one that is named in its place.
+const PICTURE_END: &str = ".svg";
+
 /// What the words, which begin with the program's name, ask for.
 pub fn read_words<'a, S: AsStr>(alloc: Global, words: &'a [S]) -> Result<Asked<'a>, Refusal> {
     let mut command = match make_command(alloc) {
@@ -57,7 +60,13 @@ fn make_command<'a>(alloc: Global) -> Result<Command<'a>, AllocError> {
     let with_locks = with_trace.arg(make_flag(alloc, "locks", texts::LOCKS))?;
     let with_history = with_locks.arg(make_option(alloc, "history", texts::HISTORY))?;
     let with_waits = with_history.arg(make_option(alloc, "waits", texts::WAITS))?;
-    with_waits.arg(
+    let with_picture = with_waits.arg(
+        Arg::new(alloc, "picture")
+            .long("picture")
+            .value_name("FILE.svg")
+            .help(texts::PICTURE),
+    )?;
+    with_picture.arg(
         Arg::new(alloc, "FILE")
             .help(texts::FILES)
             .required(true)
@@ -86,6 +95,8 @@ enum Wrong<'a> {
     Memory,
     /// An option's number is not in its range.
     Number(&'static str, &'a str, u64),
+    /// The name of the picture is not that of one.
+    Picture(&'a str),
     /// There are more files than jobs.
     Files,
 }
@@ -104,6 +115,9 @@ fn refused(alloc: Global, command: &mut Command<'_>, wrong: Wrong<'_>) -> Refusa
                 "invalid value '{written}' for '--{option} <N>': a number from 1 to {most} is wanted"
             )
         }
+        Wrong::Picture(written) => format!(in alloc;
+            "invalid value '{written}' for '--picture <FILE.svg>': a name that ends in {PICTURE_END} is wanted"
+        ),
         Wrong::Files => format!(in alloc;
             "a machine has at most {JOBS} jobs, and there are more files"
         ),
@@ -124,6 +138,7 @@ fn read<'a>(alloc: Global, matches: &ArgMatches<'a>) -> Result<Asked<'a>, Wrong<
     let steps = number_of(matches, "steps", MOST_STEPS)?.unwrap_or(u64::MAX);
     let history = number_of(matches, "history", MOST_HISTORY)?.unwrap_or(0);
     let waits = number_of(matches, "waits", MOST_STEPS)?;
+    let picture = picture_in(matches)?;
     let given = matches.get_strs("FILE").unwrap_or(&[]);
     if given.len() > usize::from(JOBS) {
         return Err(Wrong::Files);
@@ -138,8 +153,20 @@ fn read<'a>(alloc: Global, matches: &ArgMatches<'a>) -> Result<Asked<'a>, Wrong<
         locks: matches.get_flag("locks"),
         history: history as usize,
         waits,
+        picture,
         files,
     })
+}
+
+/// The file of the picture, if it is given.
+fn picture_in<'a>(matches: &ArgMatches<'a>) -> Result<Option<&'a str>, Wrong<'a>> {
+    let Some(written) = matches.get_str("picture") else {
+        return Ok(None);
+    };
+    if !written.ends_with(PICTURE_END) {
+        return Err(Wrong::Picture(written));
+    }
+    Ok(Some(written))
 }
 
 /// The number of an option, from 1 to `most`, if it is given.

@@ -12,6 +12,8 @@ mod labels;
 #[cfg(test)]
 mod notes;
 #[cfg(test)]
+mod pictures;
+#[cfg(test)]
 mod ports;
 #[cfg(test)]
 mod programs;

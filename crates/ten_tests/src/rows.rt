@@ -5,7 +5,7 @@ use source_labels::Source;
 use std::alloc::Global;
 use std::process::Abort;
 use std::str;
-use ten_run::{Outlet, read_words, run_sources};
+use ten_run::{Outlet, Ran, read_words, run_sources};
 
 /// Room for an output.
 pub const ROOM: usize = 2048;
@@ -37,14 +37,14 @@ pub const GOES: Calls = Calls {
     errors: u64::MAX,
 };
 
-/// What came of a run: its status, or nothing where it was cut short.
-pub fn status_of(
+/// What came of a run, or nothing where it was cut short.
+pub fn outcome_of(
     alloc: Global,
     row: &Row,
     calls: Calls,
     room: &mut [u8],
     told: &mut [u8],
-) -> Option<u8> {
+) -> Option<Ran> {
     let asked = read_words(alloc, row.words).ok()?;
     let mut sources = Vec::new(alloc);
     for (file, text) in asked.files.as_slice().iter().zip(row.sources) {
@@ -63,6 +63,17 @@ pub fn status_of(
         &mut errors,
     )
     .ok()
+}
+
+/// The status of a run, or nothing where it was cut short.
+pub fn status_of(
+    alloc: Global,
+    row: &Row,
+    calls: Calls,
+    room: &mut [u8],
+    told: &mut [u8],
+) -> Option<u8> {
+    outcome_of(alloc, row, calls, room, told).map(|ran| ran.status)
 }
 
 /// What was written to room that had zeros.

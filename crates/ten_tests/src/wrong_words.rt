@@ -21,10 +21,16 @@ fn right_words(rt: HostRuntime) {
     };
     assert_eq!(rt; (asked.blocks, asked.quantum, asked.steps), (256, 60, 7));
     assert_eq!(rt; asked.files.as_slice(), ["a", "b"].as_slice());
+    assert_eq!(rt; asked.picture, None);
+    let words = ["ten", "--picture", "run.svg", "a"];
+    let picture = read_words(rt.alloc(), &words)
+        .ok()
+        .and_then(|asked| asked.picture);
+    assert_eq!(rt; picture, Some("run.svg"));
 }
 
 /// Words that are refused, and what the text on it has to have.
-const ROWS: [(&[&str], &str); 6] = [
+const ROWS: [(&[&str], &str); 8] = [
     (&["ten"], "required arguments were not provided"),
     (
         &["ten", "--blocks", "0", "a"],
@@ -35,6 +41,14 @@ const ROWS: [(&[&str], &str); 6] = [
         "a number from 1 to 60 is wanted",
     ),
     (&["ten", "--speed", "a"], "unexpected argument"),
+    (
+        &["ten", "--picture", "a.mac", "b.mac"],
+        "a name that ends in .svg is wanted",
+    ),
+    (
+        &["ten", "--picture", "a.svg"],
+        "required arguments were not provided",
+    ),
     (&["ten", "--version"], "ten 0.1.0"),
     (&["a"; 65], "at most 63 jobs"),
 ];
