@@ -5,18 +5,42 @@ use std::alloc::{AllocError, Global};
 /// Each command, and what it does.
 const COMMANDS: [(&str, &str); 34] = [
     ("a/", "opens a place and shows its word"),
-    ("(empty)", "the next place; ^ the one before; TAB the one that the last word addresses"),
-    ("$S $C $T $H $nR", "shows words as instructions, in octal, as text, halves, in radix n from here on"),
-    ("= _ ;", "the last quantity in octal, as an instruction, as text"),
-    ("expr=", "a value: octal, 12. decimal, labels, . and $Q, + and -, 1,,LABEL, MOVE 1,LABEL"),
-    ("a$B", "sets a breakpoint of the open job at a; a$nB that of number n"),
+    (
+        "(empty)",
+        "the next place; ^ the one before; TAB the one that the last word addresses",
+    ),
+    (
+        "$S $C $T $H $nR",
+        "shows words as instructions, in octal, as text, halves, in radix n from here on",
+    ),
+    (
+        "= _ ;",
+        "the last quantity in octal, as an instruction, as text",
+    ),
+    (
+        "expr=",
+        "a value: octal, 12. decimal, labels, . and $Q, + and -, 1,,LABEL, MOVE 1,LABEL",
+    ),
+    (
+        "a$B",
+        "sets a breakpoint of the open job at a; a$nB that of number n",
+    ),
     ("0$nB", "takes breakpoint n away"),
     ("$B", "the breakpoints, and what else runs stop at"),
-    ("$G", "starts the jobs that were not started, or the open one again, and runs"),
+    (
+        "$G",
+        "starts the jobs that were not started, or the open one again, and runs",
+    ),
     ("n$P", "goes on until the n-th breakpoint"),
     ("n$X", "n instructions of the open job, each told"),
-    ("$$X", "up to the place behind the instruction, or the one behind that: a call returns there"),
-    ("v<mask>$W", "words of the open job that are v under the mask; $N that are not"),
+    (
+        "$$X",
+        "up to the place behind the instruction, or the one behind that: a call returns there",
+    ),
+    (
+        "v<mask>$W",
+        "words of the open job that are v under the mask; $N that are not",
+    ),
     ("v$E", "words of the open job with the effective address v"),
     (".JOB n", "opens job n"),
     (".JOBS", "how all jobs stand"),
@@ -24,19 +48,37 @@ const COMMANDS: [(&str, &str); 34] = [
     (".WAITS", "who waits for whom, hard or soft, and circles"),
     (".REGS", "the accumulators and the PC of the open job"),
     (".HISTORY n", "the last n turns of the open job"),
-    (".WATCH a", "runs stop where the word at a changes, or no longer"),
-    (".BREAK CIRCLE", "runs stop where jobs wait for each other in a circle, or no longer"),
+    (
+        ".WATCH a",
+        "runs stop where the word at a changes, or no longer",
+    ),
+    (
+        ".BREAK CIRCLE",
+        "runs stop where jobs wait for each other in a circle, or no longer",
+    ),
     (".BREAK a", "as a$B"),
     (".STEP n", "n steps of the machine"),
     (".TICK n", "n ticks go by"),
-    (".TYPE l text", "types a text and a line end at terminal line l"),
+    (
+        ".TYPE l text",
+        "types a text and a line end at terminal line l",
+    ),
     (".TAKE", "what jobs have typed out"),
     (".EX a-b", "shows the words from a to b"),
     (".BACK n", "n steps back"),
-    (".BACK TO a", "to before the last step for which the open job stood at a"),
-    (".BACK WRITE a", "to before the step that last changed the word at a"),
+    (
+        ".BACK TO a",
+        "to before the last step for which the open job stood at a",
+    ),
+    (
+        ".BACK WRITE a",
+        "to before the step that last changed the word at a",
+    ),
     (".FORWARD", "to where .BACK was typed"),
-    (".SAVE file", "writes the lines so far, as a script; .DO file obeys the lines of a file"),
+    (
+        ".SAVE file",
+        "writes the lines so far, as a script; .DO file obeys the lines of a file",
+    ),
     (".QUIT", "ends the session; .HELP word tells of one command"),
 ];
 
