@@ -1,0 +1,77 @@
+//! Why a line that is right does nothing.
+
+use std::alloc::{AllocError, Global};
+use std::fmt;
+
+/// Why a line that is right does nothing.
+#[derive(Clone, Copy, Debug, PartialEq, Eq)]
+pub enum Refusal {
+    /// Words cannot be changed.
+    NoDeposit,
+    /// A job cannot be started at a place.
+    NoStartAt,
+    /// The command is not there.
+    NotThere,
+    /// There is no word at the place.
+    NoWord,
+    /// There is no such job.
+    NoJob,
+    /// All breakpoints are set.
+    NoBreakpointFree,
+    /// There is no such breakpoint.
+    NotSet,
+    /// So many words are watched already as can be.
+    NoWatchFree,
+    /// The job is not stopped.
+    NotStopped,
+    /// So many steps were made, and no more.
+    FewSteps(u64),
+    /// No step has changed the word.
+    NeverWritten,
+    /// The job did not stand there before a step.
+    NeverThere,
+    /// The terminal line has no room.
+    LineFull,
+    /// The first place is behind the last.
+    WrongOrder,
+    /// The job has had no turn.
+    NoTurns,
+}
+
+impl Refusal {
+    /// What a person is told; nothing of numbers.
+    fn text(self) -> &'static str {
+        match self {
+            Refusal::NoDeposit => "a value is not deposited: words cannot be changed here",
+            Refusal::NoStartAt => "a job is not started at a place: $G starts it at its start",
+            Refusal::NotThere => "not there yet: .HELP lists what is",
+            Refusal::NoWord => "the job has no word there",
+            Refusal::NoJob => "there is no such job: .JOBS lists them",
+            Refusal::NoBreakpointFree => "all 8 breakpoints are set",
+            Refusal::NotSet => "that breakpoint is not set",
+            Refusal::NoWatchFree => "8 words are watched already",
+            Refusal::NotStopped => "no job can be started: the open one is not stopped",
+            Refusal::FewSteps(_) => "so many steps were made: ",
+            Refusal::NeverWritten => "no step has changed that word",
+            Refusal::NeverThere => "the job did not stand there before any step",
+            Refusal::LineFull => "the terminal line has no room for more",
+            Refusal::WrongOrder => "the first place is behind the last",
+            Refusal::NoTurns => "the job has had no turn",
+        }
+    }
+}
+
+impl fmt::Display for Refusal {
+    fn fmt<W: fmt::Write>(&self, f: &mut fmt::Formatter<W>) -> fmt::Result {
+        match *self {
+            Refusal::FewSteps(steps) => write!(f, "? {}{steps}", self.text()),
+            _ => write!(f, "? {}", self.text()),
+        }
+    }
+}
+
+/// Adds a line that says why nothing is done.
+pub fn refuse(alloc: Global, text: &mut String, refusal: Refusal) -> Result<(), AllocError> {
+    let line = format!(in alloc; "{refusal}\n")?;
+    text.push_str(line.as_str())
+}

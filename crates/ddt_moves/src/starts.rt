@@ -1,0 +1,61 @@
+//! Jobs that start and go on.
+
+use ddt_session::{Entry, Machine, Timeline};
+use ddt_stops::{Cause, StopList};
+use job_sched::Stop;
+use std::alloc::AllocError;
+
+/// Whether a job was not started.
+pub fn is_loaded(machine: &Machine, number: u8) -> bool {
+    match machine.job(number) {
+        Some(view) => view.stop == Some(Stop::Loaded),
+        None => false,
+    }
+}
+
+/// Whether a job is stopped.
+pub fn is_stopped(machine: &Machine, number: u8) -> bool {
+    match machine.job(number) {
+        Some(view) => view.stop.is_some(),
+        None => false,
+    }
+}
+
+/// Starts a job.
+pub fn start(timeline: &mut Timeline, number: u8) -> Result<(), AllocError> {
+    timeline.make(Entry::Start(number))?;
+    Ok(())
+}
+
+/// Whether CTRL-C or EXIT 1 stopped a job.
+fn is_interrupted(machine: &Machine, number: u8) -> bool {
+    match machine.job(number) {
+        Some(view) => view.stop == Some(Stop::Typed) || view.stop == Some(Stop::Monitor),
+        None => false,
+    }
+}
+
+/// A job goes on, where CTRL-C or EXIT 1 stopped it.
+pub fn go_on(timeline: &mut Timeline, number: u8) -> Result<(), AllocError> {
+    if is_interrupted(timeline.machine(), number) {
+        timeline.make(Entry::Continue(number))?;
+    }
+    Ok(())
+}
+
+/// The first breakpoint where one of some jobs stands.
+pub fn breakpoint_of(machine: &Machine, list: &StopList, jobs: &[u8]) -> Option<Cause> {
+    for (i, breakpoint) in list.breakpoints.iter().enumerate() {
+        if let Some(breakpoint) = breakpoint {
+            let stands_there = match machine.job(breakpoint.job) {
+                Some(view) => view.pc == breakpoint.place,
+                None => false,
+            };
+            if stands_there && jobs.contains(&breakpoint.job) {
+                let number = i.saturating_add(1);
+                return Some(Cause::Breakpoint(number, breakpoint.job, breakpoint.place));
+            }
+        }
+    }
+    None
+}

@@ -1,0 +1,46 @@
+//! What is typed in and out.
+
+use ddt_session::{Entry, Timeline};
+use monitor::{Answer, RefusedEvent};
+use std::alloc::AllocError;
+use tty_lines::Char7;
+use word36::{OUTPUT_RING, TAKEN_AT_ONCE};
+
+/// So many times a line's output is taken until it is empty, at most.
+const MOST_TAKES: usize = OUTPUT_RING / TAKEN_AT_ONCE + 1;
+
+/// Types a byte at a line, where it is a character; false where there is no room for it.
+fn type_byte(timeline: &mut Timeline, line: u8, byte: u8) -> Result<bool, AllocError> {
+    let Some(character) = Char7::try_new(byte) else {
+        return Ok(true);
+    };
+    let answer = timeline.make(Entry::Typed(line, character))?;
+    Ok(!matches!(answer, Answer::Refused(RefusedEvent::Full)))
+}
+
+/// Types a text and a line end; false where there is no room for all of it.
+pub fn type_line(timeline: &mut Timeline, line: u8, typed: &[u8]) -> Result<bool, AllocError> {
+    for byte in typed {
+        if !type_byte(timeline, line, *byte)? {
+            return Ok(false);
+        }
+    }
+    type_byte(timeline, line, b'\n')
+}
+
+/// Takes what stands in the output of a line.
+pub fn take_line(timeline: &mut Timeline, line: u8) -> Result<Vec<u8>, AllocError> {
+    let mut bytes = Vec::new(timeline.alloc());
+    for _ in 0..MOST_TAKES {
+        let Answer::Text(taken) = timeline.make(Entry::Take(line))? else {
+            break;
+        };
+        if taken.as_slice().is_empty() {
+            break;
+        }
+        for character in taken.as_slice() {
+            bytes.push(character.number())?;
+        }
+    }
+    Ok(bytes)
+}

@@ -1,0 +1,26 @@
+//! The requests for locks, and who waits for whom, as `lockmon` writes them.
+ghost use Rattle.std.specs.Prelude.{◌≡◌, IfOk};
+ghost use Rattle.queue_script.specs.QueueScripts.{show_text};
+ghost use Rattle.queue_script.specs.WaitPairs.{waits_text};
+
+use ddt_session::Machine;
+use queue_script::{push_requests, push_waits};
+use std::alloc::{AllocError, Global};
+
+/// The lines on all requests, in order of arrival: what SHOW of `lockmon queue` writes.
+pub fn lock_lines(alloc: Global, machine: &Machine) -> Result<Vec<u8>, AllocError>
+    ensures { IfOk result (λ lines. lines.items ≡ show_text machine.now.world.requests) }
+{
+    let mut lines = Vec::new(alloc);
+    push_requests(&mut lines, machine.locks())?;
+    Ok(lines)
+}
+
+/// Who waits for whom, and who waits in a circle: what WAITS of `lockmon queue` writes.
+pub fn wait_lines(alloc: Global, machine: &Machine) -> Result<Vec<u8>, AllocError>
+    ensures { IfOk result (λ lines. lines.items ≡ waits_text machine.now.world.requests) }
+{
+    let mut lines = Vec::new(alloc);
+    push_waits(&mut lines, machine.locks())?;
+    Ok(lines)
+}

@@ -1,0 +1,114 @@
+//! Words, in each of the ways in which they are shown.
+
+use crate::characters::{ascii_code, sixbit_code};
+use crate::instructions::InstructionText;
+use crate::places::Reference;
+use ddt_lines::Look;
+use source_labels::Places;
+use std::fmt;
+use word36::Word;
+
+/// A word as it is shown: as an instruction with labels, in octal, as text, as two halves, or as a signed
+/// number of a radix.
+#[derive(Clone, Copy, Debug)]
+pub struct WordText<'a> {
+    /// Where the labels and the literals of the program stand.
+    pub places: &'a Places,
+    /// The word.
+    pub word: Word,
+    /// How it is shown.
+    pub look: Look,
+}
+
+/// Writes five characters of ASCII between quotation marks, and six of SIXBIT between apostrophes.
+fn write_text<W: fmt::Write>(word: Word, f: &mut fmt::Formatter<W>) -> fmt::Result {
+    f.write_str("ASCII \"")?;
+    for place in 0..5u8 {
+        f.write_char(char::from(ascii_code(word, place)))?;
+    }
+    f.write_str("\", SIXBIT '")?;
+    for place in 0..6u8 {
+        f.write_char(char::from(sixbit_code(word, place)))?;
+    }
+    f.write_str("'")
+}
+
+/// A digit of a number.
+fn digit(value: u64) -> u8 {
+    let value = (value & 0o17) as u8;
+    if value < 10 {
+        b'0' + value
+    } else {
+        b'A' + (value - 10)
+    }
+}
+
+/// How many digits a number of 36 bits has at most, in the radix 2.
+const DIGITS: usize = 36;
+
+/// Writes a number in a radix.
+fn write_number<W: fmt::Write>(number: u64, radix: u8, f: &mut fmt::Formatter<W>) -> fmt::Result {
+    let radix = u64::from(radix.max(2));
+    let mut digits = [b'0'; DIGITS];
+    let mut left = number;
+    let mut first = DIGITS - 1;
+    for step in 0..DIGITS {
+        let place = DIGITS - 1 - step;
+        digits[place] = digit(left % radix);
+        if digits[place] != b'0' {
+            first = place;
+        }
+        left /= radix;
+    }
+    for place in 0..DIGITS {
+        if place >= first {
+            f.write_char(char::from(digits[place]))?;
+        }
+    }
+    if radix == 10 {
+        f.write_str(".")?;
+    }
+    Ok(())
+}
+
+/// Writes a word as a signed number of a radix; a point stands behind one in decimal.
+fn write_radix<W: fmt::Write>(word: Word, radix: u8, f: &mut fmt::Formatter<W>) -> fmt::Result {
+    let value = word.signed();
+    if value < 0 {
+        f.write_str("-")?;
+    }
+    write_number(value.unsigned_abs(), radix, f)
+}
+
+impl WordText<'_> {
+    /// Writes both halves, as labels where the program has them there.
+    fn write_halves<W: fmt::Write>(&self, f: &mut fmt::Formatter<W>) -> fmt::Result {
+        let left = Reference {
+            places: self.places,
+            address: self.word.left(),
+        };
+        let right = Reference {
+            places: self.places,
+            address: self.word.right(),
+        };
+        write!(f, "{left},,{right}")
+    }
+}
+
+impl fmt::Display for WordText<'_> {
+    fn fmt<W: fmt::Write>(&self, f: &mut fmt::Formatter<W>) -> fmt::Result {
+        match self.look {
+            Look::Symbolic => {
+                let text = InstructionText {
+                    places: self.places,
+                    word: self.word,
+                };
+                write!(f, "{text}")
+            }
+            Look::Octal => f.write_str(self.word.octal().as_str()),
+            Look::Text => write_text(self.word, f),
+            Look::Halves => self.write_halves(f),
+            Look::Radix(radix) => write_radix(self.word, radix, f),
+        }
+    }
+}

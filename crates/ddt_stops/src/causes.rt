@@ -1,0 +1,74 @@
+//! Why a run stopped.
+
+use crate::stop_lists::StopList;
+use ddt_session::{Machine, Stop};
+use std::alloc::{AllocError, Global};
+use word36::{Address, Word};
+
+/// Why a run stopped.
+#[derive(Clone, Copy, Debug)]
+pub enum Cause {
+    /// The breakpoint of this number, from 1: its job and its place.
+    Breakpoint(usize, u8, Address),
+    /// A watched word of a job changed, which was this one.
+    Word(u8, u32, Option<Word>),
+    /// Jobs wait in a circle.
+    Circle,
+    /// The open job had its turn, or came to where its call returns to.
+    Own,
+}
+
+/// Where a run stops.
+#[derive(Drop)]
+pub struct Stops {
+    /// Where it stops.
+    pub stops: Vec<Stop>,
+    /// For each of these the number of its breakpoint, from 1; 0 where it is none.
+    pub numbers: Vec<usize>,
+}
+
+impl Stops {
+    /// Adds a stop; its number is that of a breakpoint, or 0.
+    pub fn add(&mut self, stop: Stop, number: usize) -> Result<(), AllocError> {
+        // A stop may hold a word, or none: the prover wants that type to be named.
+        let _word: Option<Word> = None;
+        self.stops.push(stop)?;
+        self.numbers.push(number)?;
+        Ok(())
+    }
+
+    /// Why a run that one of them ended stopped.
+    pub fn cause(&self, stop: Option<usize>) -> Option<Cause> {
+        let at = stop?;
+        let number = self.numbers.as_slice().get(at).copied()?;
+        let cause = match self.stops.as_slice().get(at)? {
+            Stop::Place(job, place) if number > 0 => Cause::Breakpoint(number, *job, *place),
+            Stop::Word(job, place, was) => Cause::Word(*job, *place, *was),
+            Stop::Circle => Cause::Circle,
+            _ => Cause::Own,
+        };
+        Some(cause)
+    }
+}
+
+/// The stops that were asked for, with the words as they are now.
+pub fn stops_of(alloc: Global, machine: &Machine, list: &StopList) -> Result<Stops, AllocError> {
+    let mut stops = Stops {
+        stops: Vec::new(alloc),
+        numbers: Vec::new(alloc),
+    };
+    for (i, breakpoint) in list.breakpoints.iter().enumerate() {
+        if let Some(breakpoint) = breakpoint {
+            let stop = Stop::Place(breakpoint.job, breakpoint.place);
+            stops.add(stop, i.saturating_add(1))?;
+        }
+    }
+    for watched in list.words.as_slice() {
+        let word = machine.peek(watched.job, watched.place);
+        stops.add(Stop::Word(watched.job, watched.place, word), 0)?;
+    }
+    if list.circles {
+        stops.add(Stop::Circle, 0)?;
+    }
+    Ok(stops)
+}

@@ -1,0 +1,106 @@
+//! Breakpoints and watched words.
+
+use arrayvec::ArrayVec;
+use word36::Address;
+
+/// How many breakpoints there are, and how many words can be watched.
+pub const BREAKPOINTS: usize = 8;
+
+/// A place where a job stops.
+#[derive(Clone, Copy, Debug, PartialEq, Eq)]
+pub struct Breakpoint {
+    /// The job.
+    pub job: u8,
+    /// The place.
+    pub place: Address,
+}
+
+/// A word of a job that is watched.
+#[derive(Clone, Copy, Debug, PartialEq, Eq, Default)]
+pub struct WatchedWord {
+    /// The job.
+    pub job: u8,
+    /// Its place.
+    pub place: u32,
+}
+
+/// Where runs stop, as it was asked for.
+#[derive(Drop)]
+pub struct StopList {
+    /// The breakpoints 1 to 8.
+    pub breakpoints: [Option<Breakpoint>; BREAKPOINTS],
+    /// The words that are watched.
+    pub words: ArrayVec<WatchedWord, BREAKPOINTS>,
+    /// Whether runs stop where jobs wait in a circle.
+    pub circles: bool,
+}
+
+impl StopList {
+    /// No stops.
+    pub fn new() -> Self {
+        StopList {
+            breakpoints: [None; BREAKPOINTS],
+            words: ArrayVec::new(),
+            circles: false,
+        }
+    }
+
+    /// The place among the breakpoints of one that stands there already, or of one that is free.
+    fn free(&self, job: u8, place: Address) -> Option<usize> {
+        let same = self.breakpoints.iter().position(|one| match one {
+            Some(one) => one.job == job && one.place == place,
+            None => false,
+        });
+        match same {
+            Some(at) => Some(at),
+            None => self.breakpoints.iter().position(|one| one.is_none()),
+        }
+    }
+
+    /// Sets a breakpoint of a job: that of a number from 1, or one that is free. Gives its number, if
+    /// there is one.
+    pub fn set(&mut self, job: u8, place: Address, number: Option<u8>) -> Option<usize> {
+        let at = match number {
+            Some(number) => usize::from(number).saturating_sub(1),
+            None => self.free(job, place)?,
+        };
+        let slot = self.breakpoints.get_mut(at)?;
+        *slot = Some(Breakpoint { job, place });
+        Some(at.saturating_add(1))
+    }
+
+    /// Takes the breakpoint of a number away; false where it was not set.
+    pub fn unset(&mut self, number: u8) -> bool {
+        let place = usize::from(number).saturating_sub(1);
+        match self.breakpoints.get_mut(place) {
+            Some(slot) => {
+                let was_set = slot.is_some();
+                *slot = None;
+                was_set
+            }
+            None => false,
+        }
+    }
+
+    /// Watches a word, or no longer where it is watched: whether it is now. `None` where no more can be.
+    pub fn watch(&mut self, word: WatchedWord) -> Option<bool> {
+        match self.words.as_slice().iter().position(|one| *one == word) {
+            Some(place) => {
+                let mut kept = ArrayVec::new();
+                for (i, one) in self.words.as_slice().iter().enumerate() {
+                    if i != place {
+                        let _ = kept.try_push(*one);
+                    }
+                }
+                self.words = kept;
+                Some(false)
+            }
+            None => {
+                if self.words.try_push(word).is_err() {
+                    return None;
+                }
+                Some(true)
+            }
+        }
+    }
+}

@@ -1,0 +1,44 @@
+//! What cuts a session short.
+
+use script_io::Failed;
+use std::alloc::{AllocError, AllocFailed};
+use std::fmt;
+
+/// What cut a session short.
+#[derive(Clone, Copy, Debug, PartialEq, Eq, Drop)]
+pub enum Failure {
+    /// The input failed.
+    Read,
+    /// The output failed.
+    Write,
+    /// There was no memory.
+    Memory,
+}
+
+impl From<AllocError> for Failure {
+    fn from(_error: AllocError) -> Failure {
+        Failure::Memory
+    }
+}
+
+impl<T: Drop> From<AllocFailed<T>> for Failure {
+    fn from(_error: AllocFailed<T>) -> Failure {
+        Failure::Memory
+    }
+}
+
+impl From<Failed> for Failure {
+    fn from(_error: Failed) -> Failure {
+        Failure::Write
+    }
+}
+
+impl fmt::Display for Failure {
+    fn fmt<W: fmt::Write>(&self, f: &mut fmt::Formatter<W>) -> fmt::Result {
+        match self {
+            Failure::Read => f.write_str("the input cannot be read"),
+            Failure::Write => f.write_str("the output cannot be written"),
+            Failure::Memory => f.write_str("there is no memory"),
+        }
+    }
+}

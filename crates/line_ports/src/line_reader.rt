@@ -1,0 +1,116 @@
+//! The lines of an input, one at a time.
+ghost use Rattle.std.specs.Prelude.{◌≡◌, ◌≤◌, length, false, IfOk};
+ghost use Rattle.script_io.specs.declared.line_sessions.TheConstants.{LINE_LENGTH};
+
+use crate::failure::Failure;
+use script_io::{ByteIn, LINE_LENGTH};
+use std::alloc::{AllocError, Global};
+
+/// How many bytes are read at once, at most.
+const PIECE: usize = 4096;
+
+/// What came of an input.
+#[derive(Clone, Copy, Debug, PartialEq, Eq)]
+pub enum Came {
+    /// A line.
+    Line,
+    /// A line that is longer than lines may be. It was passed over.
+    TooLong,
+    /// The end.
+    End,
+}
+
+/// A reader that is asked line by line, and not again once it has ended or failed.
+#[derive(Drop)]
+pub struct LineReader<R: ByteIn + Drop> {
+    reader: R,
+    /// What was read at once, of which some was given already.
+    piece: Vec<u8>,
+    /// How many bytes of the piece were given.
+    given: usize,
+    /// How many bytes of the piece were read.
+    filled: usize,
+    has_ended: bool,
+    ghost sound: { has_ended ≡ false → R.has_failed reader ≡ false },
+}
+
+impl<R: ByteIn + Drop> LineReader<R> {
+    /// The lines that this reader gives.
+    pub fn new(alloc: Global, reader: R) -> Result<Self, AllocError>
+        requires { R.has_failed reader ≡ false }
+    {
+        Ok(LineReader {
+            reader,
+            piece: vec![in alloc; 0u8; PIECE]?,
+            given: 0,
+            filled: 0,
+            has_ended: false,
+        })
+    }
+
+    /// Reads the next piece where the last one was given; false where there is none.
+    fn fill(&mut self) -> Result<bool, Failure> {
+        if self.given < self.filled {
+            return Ok(true);
+        }
+        if self.has_ended || self.piece.is_empty() {
+            return Ok(false);
+        }
+        let read = self.reader.read(self.piece.as_mut_slice());
+        self.given = 0;
+        match read {
+            Ok(count) => {
+                self.filled = count;
+                self.has_ended = count == 0;
+                Ok(count > 0)
+            }
+            Err(_) => {
+                self.filled = 0;
+                self.has_ended = true;
+                Err(Failure::Read)
+            }
+        }
+    }
+
+    /// The next byte, if one comes. No more is read than a byte before it was not given yet.
+    fn next_byte(&mut self) -> Result<Option<u8>, Failure> {
+        if !self.fill()? {
+            return Ok(None);
+        }
+        let byte = self.piece.as_slice().get(self.given).copied();
+        self.given = self.given.saturating_add(1);
+        Ok(byte)
+    }
+
+    /// Puts the bytes up to the next LF, or the end, in place of `line`, of which no more are kept than
+    /// make a line too long; false where neither a byte nor LF comes.
+    fn take_bytes(&mut self, line: &mut Vec<u8>) -> Result<bool, Failure> {
+        line.clear();
+        for _ in 0..u64::MAX {
+            match self.next_byte()? {
+                None => return Ok(!line.is_empty()),
+                Some(b'\n') => return Ok(true),
+                Some(byte) if line.len() < LINE_LENGTH + 2 => line.push(byte)?,
+                Some(_) => {}
+            }
+        }
+        Ok(false)
+    }
+
+    /// Puts the next line in place of `line`, without its LF and a CR before that. A last line without
+    /// LF counts where it is not empty. No byte behind the LF is waited for.
+    pub fn next_line(&mut self, line: &mut Vec<u8>) -> Result<Came, Failure>
+        ensures length { IfOk result (λ came. came ≡ Came.Line → length line.new.items ≤ LINE_LENGTH) }
+    {
+        if !self.take_bytes(line)? {
+            return Ok(Came::End);
+        }
+        if line.as_slice().last().copied() == Some(b'\r') {
+            line.pop();
+        }
+        if line.len() > LINE_LENGTH {
+            return Ok(Came::TooLong);
+        }
+        Ok(Came::Line)
+    }
+}
