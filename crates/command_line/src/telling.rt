@@ -1,5 +1,5 @@
 //! Why a line was refused, as one line for a person.
-ghost use Rattle.std.specs.Prelude.{◌≡◌, ◌++◌, ◌+◌, [], ◌∷◌, false, IfOk, OnOk, codes, decimal};
+ghost use Rattle.std.specs.Prelude.{◌≡◌, ◌++◌, ◌+◌, [], ◌∷◌, false, Err, IfOk, OnOk, codes, decimal};
 ghost use Rattle.script_io.specs.Endings.{served_as};
 ghost use Rattle.command_line.specs.Programs.{TellsFault, IsLineOn, place_of_line, place_of_source};
 
@@ -30,18 +30,28 @@ pub fn tell_fault<E: ByteOut>(
     requires { E.has_failed errors.old ≡ false }
     ensures { TellsFault (served_as answer) (E.written errors.old) (E.written errors.new) (E.has_failed errors.new) }
 {
-    match answer {
-        Err(ServeError::Script(number)) => {
+    if let Err(error) = answer {
+        tell_error(alloc, lines, error, errors);
+    }
+}
+
+/// Writes such a line where the error is a refusal.
+fn tell_error<E: ByteOut>(alloc: Global, lines: &Lines, error: ServeError, errors: &mut E)
+    requires { E.has_failed errors.old ≡ false }
+    ensures { TellsFault (served_as (Err error)) (E.written errors.old) (E.written errors.new) (E.has_failed errors.new) }
+{
+    match error {
+        ServeError::Script(number) => {
             if let Ok(text) = script_text(alloc, lines, number) {
                 let _ = write_all(errors, text.as_slice());
             }
         }
-        Err(ServeError::Source(fault)) => {
+        ServeError::Source(fault) => {
             if let Ok(text) = source_text(alloc, lines, fault) {
                 let _ = write_all(errors, text.as_slice());
             }
         }
-        Ok(()) | Err(ServeError::Read | ServeError::Write | ServeError::Memory) => {}
+        ServeError::Read | ServeError::Write | ServeError::Memory => {}
     }
 }
 
