@@ -1,6 +1,6 @@
 //! The queue of one key.
 ghost use Rattle.std.specs.Prelude.{◌≡◌, ◌≤◌, ◌<◌, ◌+◌, ◌^◌, ◌==◌, [], ℕ, Option, true, if◌then◌else◌, length, slice_index};
-ghost use Rattle.std.specs.List.{position_or_len};
+ghost use Rattle.std.specs.List.{position_or_len, remove};
 ghost use Rattle.word36.specs.declared.sizes.TheConstants.{JOBS};
 ghost use Rattle.lock_queue.specs.Queue.{amount_of};
 ghost use Rattle.key_queues.specs.Tables.{is_counted};
@@ -60,6 +60,18 @@ pub fn index_of(list: &[u16], n: u16) -> usize
         }
     }
     list.len()
+}
+
+/// Takes the i-th place out. Where it is the last, none is moved.
+fn take_out(places: &mut ArrayVec<u16, WANTS>, i: usize)
+    requires { i < length places.old.items }
+    ensures { places.new.items ≡ remove places.old.items i }
+{
+    if i == places.len() - 1 {
+        let _ = places.pop();
+    } else {
+        let _ = places.remove(i);
+    }
 }
 
 impl Queue {
@@ -188,7 +200,7 @@ impl Queue {
         requires { i < length self.old.places }
         ensures { self.new ≡ without self.old i w.now }
     {
-        let _ = self.places.remove(i);
+        take_out(&mut self.places, i);
         if i < self.fitting {
             self.fitting -= 1;
             self.taken = self.taken.saturating_sub(amount(w));
