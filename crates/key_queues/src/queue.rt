@@ -62,15 +62,15 @@ pub fn index_of(list: &[u16], n: u16) -> usize
     list.len()
 }
 
-/// Takes the i-th place out. Where it is the last, none is moved.
-fn take_out(places: &mut ArrayVec<u16, WANTS>, i: usize)
-    requires { i < length places.old.items }
-    ensures { places.new.items ≡ remove places.old.items i }
+/// Takes the i-th number out of a list. Where it is the last, none is moved.
+pub fn remove_at<const N: usize>(list: &mut ArrayVec<u16, N>, i: usize)
+    requires { i < length list.old.items }
+    ensures { list.new.items ≡ remove list.old.items i }
 {
-    if i == places.len() - 1 {
-        let _ = places.pop();
+    if i == list.len() - 1 {
+        let _ = list.pop();
     } else {
-        let _ = places.remove(i);
+        let _ = list.remove(i);
     }
 }
 
@@ -200,7 +200,7 @@ impl Queue {
         requires { i < length self.old.places }
         ensures { self.new ≡ without self.old i w.now }
     {
-        take_out(&mut self.places, i);
+        remove_at(&mut self.places, i);
         if i < self.fitting {
             self.fitting -= 1;
             self.taken = self.taken.saturating_sub(amount(w));
