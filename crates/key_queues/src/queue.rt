@@ -1,5 +1,5 @@
 //! The queue of one key.
-ghost use Rattle.std.specs.Prelude.{◌≡◌, ◌≤◌, ◌<◌, ◌+◌, ◌^◌, ◌==◌, [], ℕ, Option, true, if◌then◌else◌, length, slice_index};
+ghost use Rattle.std.specs.Prelude.{◌≡◌, ◌≤◌, ◌<◌, ◌+◌, ◌-◌, ◌^◌, ◌==◌, [], ℕ, Option, true, if◌then◌else◌, length, slice_index, take};
 ghost use Rattle.std.specs.List.{position_or_len, remove};
 ghost use Rattle.word36.specs.declared.sizes.TheConstants.{JOBS};
 ghost use Rattle.lock_queue.specs.Queue.{amount_of};
@@ -62,16 +62,24 @@ pub fn index_of(list: &[u16], n: u16) -> usize
     list.len()
 }
 
-/// Takes the i-th number out of a list. Where it is the last, none is moved.
+/// Moves the numbers behind the i-th one place up, over it. The last stays behind them.
+fn move_up(list: &mut [u16], i: usize)
+    requires { i < length list.old }
+    ensures long { length list.new ≡ length list.old }
+    ensures front { take (length list.old - 1) list.new ≡ remove list.old i }
+{
+    for k in i..list.len() - 1 {
+        list[k] = list[k + 1];
+    }
+}
+
+/// Takes the i-th number out of a list.
 pub fn remove_at<const N: usize>(list: &mut ArrayVec<u16, N>, i: usize)
     requires { i < length list.old.items }
     ensures { list.new.items ≡ remove list.old.items i }
 {
-    if i == list.len() - 1 {
-        let _ = list.pop();
-    } else {
-        let _ = list.remove(i);
-    }
+    move_up(list.as_mut_slice(), i);
+    let _ = list.pop();
 }
 
 impl Queue {
