@@ -1,5 +1,5 @@
 //! A block as a whole.
-ghost use Rattle.std.specs.Prelude.{◌≡◌, ◌+◌, ◌-◌, ◌*◌, ◌^◌, ◌<◌, ◌≤◌, IsTrue, IfOk, OnOk};
+ghost use Rattle.std.specs.Prelude.{◌≡◌, ◌+◌, ◌-◌, ◌*◌, ◌^◌, ◌<◌, ◌≤◌, [], ◌∷◌, ◌++◌, IsTrue, IfOk, OnOk, take};
 ghost use Rattle.std.specs.List.{list_all};
 ghost use Rattle.arrayvec.specs.ArrayVec.{array_vec_len};
 ghost use Rattle.ka_cpu.specs.Places.{is_legal};
@@ -8,7 +8,7 @@ ghost use Rattle.call_block.specs.Blocks.{word, lock_at, wants_at, block_at, may
 
 use crate::want::{Lock, want_of};
 use ka_cpu::{JobMemory, Regs, are_legal, fetch};
-use lock_queue::{BlockUse, Refusal, RequestId, Wants};
+use lock_queue::{BlockUse, Refusal, RequestId, Want, Wants};
 use word36::{Address, LOCKS_A_CALL, Word};
 
 /// The words of one lock.
@@ -69,6 +69,20 @@ fn lock_at<M: JobMemory>(regs: &Regs, memory: &M, place: u32) -> Lock
     }
 }
 
+/// Puts a want at a place of the list: over the one there, or last.
+fn put(wants: &mut Wants, place: usize, want: Want)
+    requires within { place ≤ array_vec_len wants.old }
+    requires room { place < LOCKS_A_CALL }
+    ensures items { take (place + 1) wants.new.items ≡ take place wants.old.items ++ want ∷ [] }
+    ensures long { place + 1 ≤ array_vec_len wants.new }
+{
+    if place < wants.len() {
+        wants[place] = want;
+    } else {
+        wants.push(want);
+    }
+}
+
 /// Fills in the wants of so many locks, all of whose words are legal.
 fn read_wants<M: JobMemory>(
     regs: &Regs,
@@ -87,11 +101,15 @@ fn read_wants<M: JobMemory>(
     ensures counted { OnOk result (array_vec_len wants.new ≡ count) }
     ensures unshared { OnOk result (IsTrue (list_all shares_rightly wants.new.items)) }
 {
-    wants.clear();
-    for lock in 0..count {
-        let lock = lock_at(regs, memory, first + LOCK_WORDS * lock);
-        wants.push(want_of(regs, memory, job, block_use, lock)?);
+    for place in 0..count {
+        let lock = lock_at(regs, memory, first + LOCK_WORDS * place);
+        put(
+            wants,
+            place as usize,
+            want_of(regs, memory, job, block_use, lock)?,
+        );
     }
+    wants.truncate(count as usize);
     Ok(())
 }
 

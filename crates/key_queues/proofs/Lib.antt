@@ -1,4 +1,5 @@
 pub mod Places
+pub mod Removing
 pub mod Beginnings
 pub mod Standing
 pub mod Coming

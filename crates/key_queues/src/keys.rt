@@ -9,6 +9,7 @@ ghost use Rattle.key_queues.specs.Found.{Holds, IsIndex, Readies, bucket_at, no_
 
 use crate::hash::{HASHES, hash_of};
 use crate::locks::{begin, find_in, find_open, first_closed};
+use crate::queue::remove_at;
 use crate::{Lock, index_of};
 use arrayvec::ArrayVec;
 use lock_queue::{Key, Want};
@@ -48,7 +49,7 @@ fn take_out(bucket: &mut Bucket, n: u16)
 {
     let i = index_of(bucket.numbers.as_slice(), n);
     if i < bucket.numbers.len() {
-        let _ = bucket.numbers.remove(i);
+        remove_at(&mut bucket.numbers, i);
     }
 }
 

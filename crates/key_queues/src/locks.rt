@@ -36,6 +36,7 @@ pub fn find_in(numbers: &[u16], locks: &[Lock], key: &Key) -> Option<u16>
 }
 
 /// The number of the open lock of a key.
+#[cold]
 pub fn find_open(locks: &[Lock], key: &Key) -> Option<u16>
     requires { length locks.now ≤ 2 ^ 16 }
     ensures found { IfSome result (λ n. is_open_for key.now (lock_at locks.now n) ≡ true) }
@@ -50,6 +51,7 @@ pub fn find_open(locks: &[Lock], key: &Key) -> Option<u16>
 }
 
 /// The first lock that is not open.
+#[cold]
 pub fn first_closed(locks: &[Lock]) -> usize
     ensures { result ≡ position_or_len is_closed locks.now }
 {

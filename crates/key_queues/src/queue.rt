@@ -1,6 +1,6 @@
 //! The queue of one key.
-ghost use Rattle.std.specs.Prelude.{◌≡◌, ◌≤◌, ◌<◌, ◌+◌, ◌^◌, ◌==◌, [], ℕ, Option, true, if◌then◌else◌, length, slice_index};
-ghost use Rattle.std.specs.List.{position_or_len};
+ghost use Rattle.std.specs.Prelude.{◌≡◌, ◌≤◌, ◌<◌, ◌+◌, ◌-◌, ◌^◌, ◌==◌, [], ℕ, Option, true, if◌then◌else◌, length, slice_index, take};
+ghost use Rattle.std.specs.List.{position_or_len, remove};
 ghost use Rattle.word36.specs.declared.sizes.TheConstants.{JOBS};
 ghost use Rattle.lock_queue.specs.Queue.{amount_of};
 ghost use Rattle.key_queues.specs.Tables.{is_counted};
@@ -60,6 +60,26 @@ pub fn index_of(list: &[u16], n: u16) -> usize
         }
     }
     list.len()
+}
+
+/// Moves the numbers behind the i-th one place up, over it. The last stays behind them.
+fn move_up(list: &mut [u16], i: usize)
+    requires { i < length list.old }
+    ensures long { length list.new ≡ length list.old }
+    ensures front { take (length list.old - 1) list.new ≡ remove list.old i }
+{
+    for k in i..list.len() - 1 {
+        list[k] = list[k + 1];
+    }
+}
+
+/// Takes the i-th number out of a list.
+pub fn remove_at<const N: usize>(list: &mut ArrayVec<u16, N>, i: usize)
+    requires { i < length list.old.items }
+    ensures { list.new.items ≡ remove list.old.items i }
+{
+    move_up(list.as_mut_slice(), i);
+    let _ = list.pop();
 }
 
 impl Queue {
@@ -188,7 +208,7 @@ impl Queue {
         requires { i < length self.old.places }
         ensures { self.new ≡ without self.old i w.now }
     {
-        let _ = self.places.remove(i);
+        remove_at(&mut self.places, i);
         if i < self.fitting {
             self.fitting -= 1;
             self.taken = self.taken.saturating_sub(amount(w));

@@ -1,4 +1,5 @@
 pub mod Filing
+pub mod Less
 pub mod Turning
 pub mod Altering
 pub mod Losing

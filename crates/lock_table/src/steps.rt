@@ -3,7 +3,7 @@ ghost use Rattle.std.specs.Prelude.{◌≡◌, ◌<◌, ◌≤◌, ◌+◌, ◌=
 ghost use Rattle.std.specs.List.{All, position_or_len};
 ghost use Rattle.key_queues.specs.Kept.{admitted, fits_next};
 ghost use Rattle.key_queues.specs.Locks.{lock_at, uncounted, with_queue, without_place};
-ghost use Rattle.key_queues.specs.States.{CountsAll, CountsBut, Extended, FlagsAll, GivesUpAt, IsCounted, IsFull, IsKept, IsTable, IsUsed, LosesWant, OnlyShuts, Renews};
+ghost use Rattle.key_queues.specs.States.{CountsAll, CountsBut, all_count, Extended, FlagsAll, GivesUpAt, IsCounted, IsFull, IsKept, IsTable, IsUsed, LosesWant, OnlyShuts, Renews};
 ghost use Rattle.key_queues.specs.Tables.{is_there};
 ghost use Rattle.request_store.specs.Filing.{without_want};
 ghost use Rattle.request_store.specs.Stores.{filed_at};
@@ -31,6 +31,24 @@ pub fn renew<const REQS: usize>(
     let granted = do_all_count(f.queues.as_slice(), locks, p);
     store.set_granted(p, granted);
     turns.turn_if(p, was != granted);
+}
+
+/// Sets the flag of a request right that gave up a want: where it was granted, it still is.
+fn renew_less<const REQS: usize>(
+    store: &mut Store<REQS>,
+    turns: &mut Turns<REQS>,
+    locks: &[Lock],
+    p: u16,
+)
+    requires present { is_there p store.old.order ≡ true }
+    requires queues { All (λ n. n < length locks.now) (filed_at store.old p).queues.items }
+    requires granted { (filed_at store.old p).granted ≡ true → all_count (state_of store.old locks.now) p ≡ true }
+    ensures renews { Renews (state_of store.old locks.now) (state_of store.new locks.now) p }
+    ensures turns { Turned store.old store.new turns.old turns.new }
+{
+    if !store.get(p).granted {
+        renew(store, turns, locks, p);
+    }
 }
 
 /// Counts the want of a place, which is the first of the queue that is not counted, where it fits.
@@ -142,7 +160,7 @@ pub fn give_up<const REQS: usize>(
 {
     leave_queue_of(store, locks, p, k);
     store.take_want(p, k);
-    renew(store, turns, locks, p);
+    renew_less(store, turns, locks, p);
 }
 
 /// The k-th queue of a request.

@@ -81,10 +81,12 @@ impl<const REQS: usize> Turns<REQS> {
 
     /// Whether a place is marked.
     pub fn is_marked(&self, p: u16) -> bool
-        requires { p < REQS }
         ensures { result ≡ mark_at self.now p }
     {
-        self.marks[p as usize]
+        match self.marks.get(p as usize) {
+            Some(mark) => *mark,
+            None => false,
+        }
     }
 
     /// Whether no mark was turned.

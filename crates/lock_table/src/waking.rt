@@ -16,8 +16,11 @@ fn is_raised<const REQS: usize>(store: &Store<REQS>, turns: &Turns<REQS>, p: u16
     requires { is_there p store.now.order ≡ true }
     ensures { result ≡ is_raised store.now turns.now p }
 {
+    if !turns.is_marked(p) {
+        return false;
+    }
     let f = store.get(p);
-    turns.is_marked(p) && f.granted && is_told_of(f.request.kind)
+    f.granted && is_told_of(f.request.kind)
 }
 
 /// Fills in those of all requests, in order of arrival.

@@ -1,5 +1,5 @@
 -- The wants so far, and then those of the locks that are left, are the wants of all.
-use Rattle.std.proofs.Common.{◌≡◌, ◌+◌, ◌-◌, ◌*◌, true}
+use Rattle.std.proofs.Common.{◌≡◌, ◌≤◌, ◌+◌, ◌-◌, ◌*◌, true, take}
 use Rattle.std.specs.List.{list_all}
 use Rattle.arrayvec.specs.ArrayVec.{array_vec_len}
 use Rattle.lock_queue.specs.WellFormed.{shares_rightly}
@@ -7,13 +7,13 @@ use Rattle.call_block.specs.Blocks.{wants_at}
 use Rattle.call_block.proofs.WantLemmas.{behind}
 use Rattle.call_block.proofs.block.read_wants.Given as goal
 
-abbrev pub invariant-loop-lock : goal.invariant-loop-lock
-invariant-loop-lock g l =
+abbrev pub invariant-loop-place : goal.invariant-loop-place
+invariant-loop-place g l =
     record {
       read :
           wants_at l.fn.regs.ac (g.M.JobMemory.words l.fn.memory) l.fn.job l.fn.block_use l.fn.first l.fn.count
-          ≡ behind l.wants.items
-          (wants_at l.fn.regs.ac (g.M.JobMemory.words l.fn.memory) l.fn.job l.fn.block_use (l.fn.first + 3 * l.lock) (l.fn.count - l.lock));
-      counted : array_vec_len l.wants ≡ l.lock;
-      unshared : list_all shares_rightly l.wants.items ≡ true;
+          ≡ behind (take l.place l.wants.items)
+          (wants_at l.fn.regs.ac (g.M.JobMemory.words l.fn.memory) l.fn.job l.fn.block_use (l.fn.first + 3 * l.place) (l.fn.count - l.place));
+      long : l.place ≤ array_vec_len l.wants;
+      unshared : list_all shares_rightly (take l.place l.wants.items) ≡ true;
     }
