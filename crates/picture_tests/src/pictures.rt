@@ -3,7 +3,6 @@
 use crate::rows::{MANY, Row, answers};
 use lock_bars::draw_script;
 use lock_picture::program;
-use lock_svg::{Along, AsSvg};
 use script_io::{TestIn, TestOut};
 use std::alloc::{AllocError, Global};
 
@@ -354,26 +353,6 @@ fn long_bars(rt: HostRuntime) {
     for (i, bar) in drawing.bars.as_slice().iter().enumerate() {
         assert_eq!(rt; bar.from, 2 * i + 1);
         assert_eq!(rt; bar.until, 2 * i + 2);
-    }
-}
-
-/// The SVG has the arrows and the numbers of the jobs of the highest numbers, too.
-#[test]
-fn highest_jobs(rt: HostRuntime) {
-    let alloc = rt.alloc();
-    let drawing = draw_script(alloc, HIGHEST.as_bytes(), None).unwrap();
-    let svg = AsSvg {
-        drawing: &drawing,
-        along: Along::Script,
-    };
-    let picture = format!(in alloc; "{svg}").unwrap();
-    for part in [
-        "<title>job 62 waits for job 63, hard, in a circle</title>",
-        "<title>job 63 waits for job 62, hard, in a circle</title>",
-        ">62</text>",
-        ">63</text>",
-    ] {
-        assert!(rt; picture.as_str().contains(part), "{part}");
     }
 }
 
