@@ -1,10 +1,6 @@
 //! Pictures as text.
 
 use crate::rows::{MANY, Row, answers};
-use lock_bars::draw_script;
-use lock_picture::program;
-use script_io::{TestIn, TestOut};
-use std::alloc::{AllocError, Global};
 
 /// The jobs of the highest numbers wait for one another.
 const HIGHEST: &str = "ENQ 62 0 1 A
@@ -311,50 +307,6 @@ After line 2:
         told: "",
     },
 ];
-
-/// A script of 300 comments, of 250 characters each.
-fn long_script(alloc: Global) -> Result<Vec<u8>, AllocError> {
-    let mut script = Vec::new(alloc);
-    for _ in 0..300 {
-        for _ in 0..249 {
-            script.push(b';')?;
-        }
-        script.push(b'\n')?;
-    }
-    Ok(script)
-}
-
-/// However small the pieces are in which a script comes, it is drawn.
-#[test]
-fn small_pieces(rt: HostRuntime) {
-    let alloc = rt.alloc();
-    let script = long_script(alloc).unwrap();
-    let mut room = [0u8; 2048];
-    let mut told_room = [0u8; 2048];
-    let mut reader = TestIn::new(script.as_slice(), 1, 100_000);
-    let mut writer = TestOut::new(&mut room, 2048, MANY);
-    let mut errors = TestOut::new(&mut told_room, 2048, MANY);
-    let words = ["lockview", "--text"];
-    let status = program(alloc, &words, &mut reader, &mut writer, &mut errors);
-    assert_eq!(rt; status, 0);
-}
-
-/// Each line of a script is looked at, however long the script is.
-#[test]
-fn long_bars(rt: HostRuntime) {
-    let alloc = rt.alloc();
-    let mut script = Vec::new(alloc);
-    for _ in 0..30 {
-        script.extend_from_slice(b"ENQ 1 0 1 A\nDEQ 1 1\n").unwrap();
-    }
-    let drawing = draw_script(alloc, script.as_slice(), None).unwrap();
-    assert_eq!(rt; drawing.columns.len(), 60);
-    assert_eq!(rt; drawing.bars.len(), 30);
-    for (i, bar) in drawing.bars.as_slice().iter().enumerate() {
-        assert_eq!(rt; bar.from, 2 * i + 1);
-        assert_eq!(rt; bar.until, 2 * i + 2);
-    }
-}
 
 #[test]
 fn pictures(rt: HostRuntime) {
