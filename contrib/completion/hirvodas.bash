@@ -10,4 +10,4 @@ _hirvodas() {
             [ "${COMP_WORDS[0]##*/}:$COMP_CWORD" != lockmon:1 ] || COMPREPLY=($(compgen -W "run queue asm help" -- "$word")) ;;
     esac
 }
-complete -o default -F _hirvodas lockmon ten lockview lockcheck
+complete -o default -F _hirvodas lockmon ten ddt lockview lockcheck

@@ -3,12 +3,13 @@
 use std::alloc::{AllocError, Global};
 
 /// Each command, and what it does.
-const COMMANDS: [(&str, &str); 34] = [
+const COMMANDS: [(&str, &str); 39] = [
     ("a/", "opens a place and shows its word"),
     (
         "(empty)",
         "the next place; ^ the one before; TAB the one that the last word addresses",
     ),
+    ("value", "puts the value in the place that is open"),
     (
         "$S $C $T $H $nR",
         "shows words as instructions, in octal, as text, halves, in radix n from here on",
@@ -31,6 +32,7 @@ const COMMANDS: [(&str, &str); 34] = [
         "$G",
         "starts the jobs that were not started, or the open one again, and runs",
     ),
+    ("a$G", "starts the open job at a, and runs"),
     ("n$P", "goes on until the n-th breakpoint"),
     ("n$X", "n instructions of the open job, each told"),
     (
@@ -51,6 +53,14 @@ const COMMANDS: [(&str, &str); 34] = [
     (
         ".WATCH a",
         "runs stop where the word at a changes, or no longer",
+    ),
+    (
+        ".BREAK LOCK A",
+        "runs stop before calls on the lock A (#17 by its code), or no longer",
+    ),
+    (
+        ".BREAK GRANT",
+        "runs stop where a request that waited is granted, or no longer",
     ),
     (
         ".BREAK CIRCLE",
@@ -79,6 +89,7 @@ const COMMANDS: [(&str, &str); 34] = [
         ".SAVE file",
         "writes the lines so far, as a script; .DO file obeys the lines of a file",
     ),
+    ("; text", "a remark"),
     (".QUIT", "ends the session; .HELP word tells of one command"),
 ];
 

@@ -6,12 +6,10 @@ use std::fmt;
 /// Why a line that is right does nothing.
 #[derive(Clone, Copy, Debug, PartialEq, Eq)]
 pub enum Refusal {
-    /// Words cannot be changed.
-    NoDeposit,
-    /// A job cannot be started at a place.
-    NoStartAt,
-    /// The command is not there.
-    NotThere,
+    /// No place is open.
+    NotOpen,
+    /// There is no such lock.
+    NoLock,
     /// There is no word at the place.
     NoWord,
     /// There is no such job.
@@ -42,9 +40,8 @@ impl Refusal {
     /// What a person is told; nothing of numbers.
     fn text(self) -> &'static str {
         match self {
-            Refusal::NoDeposit => "a value is not deposited: words cannot be changed here",
-            Refusal::NoStartAt => "a job is not started at a place: $G starts it at its start",
-            Refusal::NotThere => "not there yet: .HELP lists what is",
+            Refusal::NotOpen => "no place is open: a/ opens one",
+            Refusal::NoLock => "a lock is named as in .BREAK LOCK A, or by its code as #17",
             Refusal::NoWord => "the job has no word there",
             Refusal::NoJob => "there is no such job: .JOBS lists them",
             Refusal::NoBreakpointFree => "all 8 breakpoints are set",

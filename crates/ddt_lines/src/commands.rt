@@ -53,6 +53,8 @@ pub struct Search {
 /// What a line asks for.
 #[derive(Clone, Copy, Debug)]
 pub enum Command<'a> {
+    /// `;` and more behind it: a remark, by which nothing happens.
+    Remark,
     /// An empty line: the next place is opened.
     Next,
     /// `^`: the place before is opened.

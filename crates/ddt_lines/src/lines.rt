@@ -163,13 +163,14 @@ fn read_escaped<'a>(line: Escaped<'_>, scope: &Scope<'_>) -> Option<Result<Comma
     Some(command)
 }
 
-/// A line of one character, or none, that asks for something.
+/// A line of one character that asks for something, or a remark.
 fn read_short<'a>(text: &[u8]) -> Option<Command<'a>> {
     match text {
         [b'^'] => Some(Command::Before),
         [b'='] => Some(Command::Last(Last::Octal)),
         [b'_'] => Some(Command::Last(Last::Symbolic)),
         [b';'] => Some(Command::Last(Last::Text)),
+        [b';', ..] => Some(Command::Remark),
         _ => None,
     }
 }

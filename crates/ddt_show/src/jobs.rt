@@ -1,10 +1,11 @@
 //! Jobs in words.
 
-use crate::places::{Reference, ShownJob};
+use crate::places::ShownJob;
 use ddt_session::Machine;
 use job_sched::{Stop, Wait};
 use ka_cpu::StopReason;
 use monitor::JobView;
+use run_notes::Reference;
 use std::alloc::{AllocError, Global};
 
 /// Why a job is stopped.

@@ -2,10 +2,10 @@
 
 use crate::words::WordText;
 use ddt_lines::Look;
-use source_labels::{Places, Spot, nearest};
+use run_notes::Reference;
+use source_labels::Places;
 use std::alloc::{AllocError, Global};
-use std::fmt;
-use word36::{Address, Word};
+use word36::Word;
 
 /// A job of which is told.
 #[derive(Drop)]
@@ -14,31 +14,6 @@ pub struct ShownJob {
     pub number: u8,
     /// Where the labels and the literals of its source stand.
     pub places: Places,
-}
-
-/// An address: by a label or as a literal where the program has that there, and else in octal.
-#[derive(Clone, Copy, Debug)]
-pub struct Reference<'a> {
-    /// Where the labels and the literals of the program stand.
-    pub places: &'a Places,
-    /// The address.
-    pub address: u32,
-}
-
-impl fmt::Display for Reference<'_> {
-    fn fmt<W: fmt::Write>(&self, f: &mut fmt::Formatter<W>) -> fmt::Result {
-        let (places, address) = (self.places, self.address);
-        let Some(place) = Address::try_new(address) else {
-            return write!(f, "{address:o}");
-        };
-        let has_label = nearest(places.labels.as_slice(), place).is_some();
-        if has_label || places.literals.have(place) {
-            let spot = Spot { places, place };
-            write!(f, "{spot}")
-        } else {
-            write!(f, "{address:o}")
-        }
-    }
 }
 
 /// A place in words: `LOOP+3`, or an octal number where no label tells of it.

@@ -1,7 +1,8 @@
 //! The registers of a job.
 
-use crate::places::{Reference, ShownJob};
+use crate::places::ShownJob;
 use ddt_session::Machine;
+use run_notes::Reference;
 use std::alloc::{AllocError, Global};
 use word36::Word;
 

@@ -1,9 +1,8 @@
 //! Words, in each of the ways in which they are shown.
 
 use crate::characters::{ascii_code, sixbit_code};
-use crate::instructions::InstructionText;
-use crate::places::Reference;
 use ddt_lines::Look;
+use run_notes::{InstructionText, Reference};
 use source_labels::Places;
 use std::fmt;
 use word36::Word;

@@ -16,6 +16,12 @@ pub enum Cause {
     Circle,
     /// The open job had its turn, or came to where its call returns to.
     Own,
+    /// A job waits for characters.
+    Input,
+    /// A job stands before a call on the lock that was asked for.
+    Call(u8),
+    /// A request was granted.
+    Grant,
 }
 
 /// Where a run stops.
@@ -45,18 +51,27 @@ impl Stops {
             Stop::Place(job, place) if number > 0 => Cause::Breakpoint(number, *job, *place),
             Stop::Word(job, place, was) => Cause::Word(*job, *place, *was),
             Stop::Circle => Cause::Circle,
+            Stop::Input => Cause::Input,
             _ => Cause::Own,
         };
         Some(cause)
     }
 }
 
-/// The stops that were asked for, with the words as they are now.
-pub fn stops_of(alloc: Global, machine: &Machine, list: &StopList) -> Result<Stops, AllocError> {
+/// Stops of a run's own, and behind them those that were asked for, with the words as they are now.
+pub fn stops_of(
+    alloc: Global,
+    machine: &Machine,
+    own: &[Stop],
+    list: &StopList,
+) -> Result<Stops, AllocError> {
     let mut stops = Stops {
         stops: Vec::new(alloc),
         numbers: Vec::new(alloc),
     };
+    for stop in own {
+        stops.add(*stop, 0)?;
+    }
     for (i, breakpoint) in list.breakpoints.iter().enumerate() {
         if let Some(breakpoint) = breakpoint {
             let stop = Stop::Place(breakpoint.job, breakpoint.place);

@@ -1,6 +1,7 @@
 //! Breakpoints and watched words.
 
 use arrayvec::ArrayVec;
+use lock_queue::Name;
 use word36::Address;
 
 /// How many breakpoints there are, and how many words can be watched.
@@ -33,6 +34,10 @@ pub struct StopList {
     pub words: ArrayVec<WatchedWord, BREAKPOINTS>,
     /// Whether runs stop where jobs wait in a circle.
     pub circles: bool,
+    /// The name of the lock before calls on which they stop, if there is one.
+    pub lock: Option<Name>,
+    /// Whether they stop where a request is granted.
+    pub grants: bool,
 }
 
 impl StopList {
@@ -42,7 +47,14 @@ impl StopList {
             breakpoints: [None; BREAKPOINTS],
             words: ArrayVec::new(),
             circles: false,
+            lock: None,
+            grants: false,
         }
+    }
+
+    /// Whether calls on locks or grants are looked at.
+    pub fn looks_at_locks(&self) -> bool {
+        self.grants || self.lock.is_some()
     }
 
     /// The place among the breakpoints of one that stands there already, or of one that is free.

@@ -8,7 +8,7 @@ use call_block::{Block, read_block};
 use job_sched::{NO_FLAGS, Wait};
 use ka_cpu::{CoreWords, Regs};
 use ka_isa::{Family, classify, decode};
-use lock_queue::{BlockUse, LockTable, Want};
+use lock_queue::{BlockUse, LockTable, Name, Request, Want};
 use monitor::JobView;
 use run_facts::{CallAnswer, CallSeen, answer_of};
 use std::alloc::{AllocError, Global};
@@ -146,6 +146,38 @@ impl CallLook {
             block: block_of(alloc, machine, number, before, service, asked)?,
         }))
     }
+
+    /// Whether the call gives up requests that it does not name by their locks.
+    fn gives_up(&self, request: &Request) -> bool {
+        match (self.service, self.asked.left()) {
+            (LockService::Deq, 1) => true,
+            (LockService::Deq, 2) => request.id.number() == self.asked.right(),
+            _ => false,
+        }
+    }
+
+    /// Whether the call is on a lock of this name: it names it, or gives up a request that does.
+    pub fn is_on(&self, machine: &Machine, number: u8, name: &Name) -> bool {
+        if let Some(block) = &self.block {
+            return has_name(block.wants.as_slice(), name);
+        }
+        let locks = machine.locks();
+        for i in 0..locks.len() {
+            let request = locks.request(i);
+            if request.job == number
+                && self.gives_up(request)
+                && has_name(request.wants.as_slice(), name)
+            {
+                return true;
+            }
+        }
+        false
+    }
+}
+
+/// Whether one of some wants is of a lock of this name.
+fn has_name(wants: &[Want], name: &Name) -> bool {
+    wants.iter().any(|want| want.key.name.is_same(name))
 }
 
 /// The meaning of a refusal's code.

@@ -1,0 +1,54 @@
+#!/usr/bin/env bash
+# Runs `ddt` over the sessions of examples/ and tests/ddt: NAME.ddt, whose first line names the words of the command,
+# has NAME.out, the session with an answer behind each line. The session is obeyed twice, from a file by .DO, and over a pipe, where
+# the answers alone are written. Then the lines of a session are saved and obeyed once more, and 10,000 lines of
+# chance end in nothing but answers. The argument is the program; without it the one that `rt ci` built. `--write`
+# behind it writes each NAME.out anew.
+set -u
+export LC_ALL=C
+cd "$(dirname "$(readlink -f "$0")")/.."
+program=$(readlink -f "${1:-crates/ddt/out/ddt}")
+write=${2-}
+top=$PWD
+folder=$(mktemp -d)
+trap 'rm -rf "$folder"' EXIT
+ln -s "$top"/examples/*.mac "$top"/examples/*.ddt "$top"/tests/ddt/* "$folder/"
+cd "$folder"
+wrong=0
+
+say() { echo "ddt runs: $*" >&2; wrong=1; }
+
+for session in "$top"/examples/*.ddt "$top"/tests/ddt/*.ddt; do
+    name=$(basename "$session" .ddt)
+    words=$(sed -n '1s/^; ddt \(.*\): .*/\1/p' "$session")
+    echo ".DO $name.ddt" | timeout 60 "$program" $words >given 2>told || say "$name: status $?"
+    [ ! -s told ] || say "$name: $(cat told)"
+    if [ "$write" = --write ]; then
+        cp given "${session%.ddt}.out"
+    else
+        diff "${session%.ddt}.out" given >&2 || say "$name: not what is stored"
+    fi
+    timeout 60 "$program" $words <"$session" >piped 2>/dev/null || say "$name: over a pipe: status $?"
+    grep -v '^\* ' given | cmp -s - piped || say "$name: other answers over a pipe"
+done
+
+# what a session writes by .SAVE is the session
+{ cat "$top/tests/ddt/back.ddt"; echo .SAVE saved; } | "$program" counter.mac >first
+echo .DO saved | "$program" counter.mac | grep -v '^\* ' | cmp -s - first || say "a saved session gives other answers"
+
+# lines of chance: tokens of the grammar, in any order, and bytes
+awk 'BEGIN {
+    srand(7)
+    count = split("LOOP BLK TURNS 5 777777 12. . $Q + - ,, / = _ ; ^ $S $C $T $H $8R $B $3B $X 2$X $W $N $E < > ( ) @ MOVE EXIT .JOB .JOBS .LOCKS .WAITS .REGS .BACK .STEP .TICK .TYPE .TAKE .WATCH .HISTORY .FORWARD .EX .HELP .BREAK CIRCLE GRANT LOCK TO WRITE 0 1 2 63", token, " ")
+    for (line = 0; line < 10000; line++) {
+        text = ""
+        for (parts = int(rand() * 5); parts >= 0; parts--)
+            text = text (rand() < 0.9 ? token[1 + int(rand() * count)] : sprintf("%c", 33 + int(rand() * 94))) (rand() < 0.5 ? " " : "")
+        print text
+    }
+}' >chance
+timeout 300 "$program" counter.mac <chance >given 2>told || say "lines of chance: status $?"
+[ ! -s told ] || say "lines of chance: $(head -n 1 told)"
+
+[ "$wrong" = 0 ] && echo "ddt runs: each session gave what is stored" >&2
+exit "$wrong"

@@ -1,0 +1,53 @@
+//! The last turns of a job.
+
+use crate::session::Session;
+use ddt_help::Refusal;
+use ddt_lines::Look;
+use ddt_session::{Replay, last_turns};
+use ddt_show::{ShownJob, place_line};
+use std::alloc::{AllocError, Global};
+
+/// Adds the lines of the turns of a job that are still to be made once more: the place and the
+/// instruction before each.
+fn add_turns(
+    alloc: Global,
+    replay: &mut Replay<'_>,
+    job: &ShownJob,
+    lines: &mut String,
+) -> Result<(), AllocError> {
+    let number = job.number;
+    for _ in 0..u64::MAX {
+        if !replay.go_before_step() {
+            return Ok(());
+        }
+        let view = replay.machine().job(number);
+        let word = match view {
+            Some(view) => replay.machine().peek(number, view.pc.number()),
+            None => None,
+        };
+        let ran = replay.step();
+        if let (Some(view), Some(word)) = (view, word) {
+            if ran == Some(number) {
+                let line = place_line(alloc, job, view.pc.number(), word, Look::Symbolic)?;
+                lines.push_str(line.as_str())?;
+                lines.push_str("\n")?;
+            }
+        }
+    }
+    Ok(())
+}
+
+/// `.HISTORY n`: tells the last turns of the open job, so many at most.
+pub fn tell_history(session: &mut Session<'_>, most: u32) -> Result<(), AllocError> {
+    let turns = last_turns(&session.timeline, session.open, most as usize)?;
+    let Some(first) = turns.first() else {
+        return session.refuse(Refusal::NoTurns);
+    };
+    let mut lines = String::new(session.alloc);
+    if let Some(job) = session.open_job() {
+        let mut replay = session.timeline.replay()?;
+        replay.skip_to(first);
+        add_turns(session.alloc, &mut replay, &job.shown, &mut lines)?;
+    }
+    session.say(lines.as_str())
+}

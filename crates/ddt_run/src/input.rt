@@ -1,0 +1,95 @@
+//! What is typed where a job waits for characters: lines of a file, one after the other.
+
+use ddt_moves::type_line;
+use ddt_session::Timeline;
+use run_facts::target_of;
+use std::alloc::{AllocError, Global};
+
+/// The lines of a file, of which some were typed.
+///
+/// Which are still to be typed follows from what has happened: where the machine is put back before a
+/// line was typed, that line comes once more.
+#[derive(Drop)]
+pub struct InputLines {
+    text: Vec<u8>,
+    /// For each line that was typed, behind how many entries, and where the next line begins.
+    typed: Vec<Typed>,
+}
+
+/// A line that was typed.
+#[derive(Clone, Copy, Debug)]
+struct Typed {
+    happened: usize,
+    next: usize,
+}
+
+/// The line that begins at a place, without its LF, and where the next begins; `None` at the end.
+fn line_from(text: &[u8], start: usize) -> Option<(&[u8], usize)> {
+    let rest = text.get(start..)?;
+    if rest.is_empty() {
+        return None;
+    }
+    match rest.iter().position(|byte| *byte == b'\n') {
+        Some(end) => Some((
+            rest.get(..end)?,
+            start.saturating_add(end).saturating_add(1),
+        )),
+        None => Some((rest, text.len())),
+    }
+}
+
+impl InputLines {
+    /// No lines.
+    pub fn none(alloc: Global) -> Self {
+        InputLines::new(alloc, Vec::new(alloc))
+    }
+
+    /// The lines of a text.
+    pub fn new(alloc: Global, text: Vec<u8>) -> Self {
+        InputLines {
+            text,
+            typed: Vec::new(alloc),
+        }
+    }
+
+    /// Where the next line begins, behind so many entries.
+    fn next_start(&self, happened: usize) -> usize {
+        let mut start = 0;
+        for typed in self.typed.as_slice() {
+            if typed.happened < happened {
+                start = typed.next;
+            }
+        }
+        start
+    }
+
+    /// Whether a line is left, behind so many entries.
+    pub fn is_left(&self, happened: usize) -> bool {
+        self.next_start(happened) < self.text.len()
+    }
+
+    /// Forgets the lines that were typed behind so many entries and were taken back.
+    fn forget(&mut self, happened: usize) {
+        let kept = self
+            .typed
+            .as_slice()
+            .iter()
+            .take_while(|typed| typed.happened < happened)
+            .count();
+        self.typed.truncate(kept);
+    }
+
+    /// Types the next line, where so many terminal lines have jobs; false where none is left.
+    pub fn type_next(&mut self, timeline: &mut Timeline, lines: u8) -> Result<bool, AllocError> {
+        let happened = timeline.happened();
+        let start = self.next_start(happened);
+        let Some((line, next)) = line_from(self.text.as_slice(), start) else {
+            return Ok(false);
+        };
+        let target = target_of(lines, line.strip_suffix(b"\r".as_slice()).unwrap_or(line));
+        type_line(timeline, target.line, target.text)?;
+        self.forget(happened);
+        self.typed.push(Typed { happened, next })?;
+        Ok(true)
+    }
+}

@@ -1,0 +1,27 @@
+//! The debugger: a session on a machine, driven by lines in the manner of DDT, over any ports.
+#![tactic(auto)]
+
+mod asked;
+mod changes;
+mod going_back;
+mod histories;
+mod input;
+mod loading;
+mod looks;
+mod obey;
+mod program;
+mod runs;
+mod searches;
+mod served;
+mod session;
+mod stop_commands;
+mod tables;
+mod texts;
+mod told;
+mod words;
+
+pub use asked::{Asked, Refusal};
+pub use obey::{Wish, obey_line};
+pub use program::{Ports, ddt, unread_words};
+pub use session::{Session, SessionJob};
+pub use words::read_words;

@@ -1,0 +1,129 @@
+//! Lines that are obeyed.
+
+use crate::changes::{deposit, start_at, take, tick, type_at};
+use crate::going_back::{back, back_to, back_to_write, forward};
+use crate::histories::tell_history;
+use crate::looks::{
+    examine, open, open_addressed, open_before, open_next, show_as, tell_last, tell_value,
+};
+use crate::runs::{execute, execute_call, go, proceed, step};
+use crate::searches::search;
+use crate::session::Session;
+use crate::stop_commands::{
+    set, stop_at_circles, stop_at_grants, stop_at_lock, tell_stops, unset, watch,
+};
+use crate::tables::{open_job, tell_jobs, tell_locks, tell_registers, tell_waits};
+use ddt_help::help_text;
+use ddt_lines::{Command, Wrong, read_line};
+use std::alloc::AllocError;
+
+/// What a line asks of the program, beside its answer.
+#[derive(Clone, Copy, Debug, PartialEq, Eq)]
+pub enum Wish<'a> {
+    /// Nothing.
+    Nothing,
+    /// The lines so far are written to a file.
+    Save(&'a [u8]),
+    /// The lines of a file are obeyed.
+    Do(&'a [u8]),
+    /// The session ends.
+    Quit,
+}
+
+/// Obeys a line; the answer stands in `text`. A wrong line is answered by what is wrong with it, and
+/// changes nothing.
+pub fn obey_line<'a>(session: &mut Session<'_>, line: &'a [u8]) -> Result<Wish<'a>, AllocError> {
+    session.text.clear();
+    match read_line(line, &session.scope()) {
+        Ok(command) => obey(session, command),
+        Err(wrong) => {
+            tell_wrong(session, wrong)?;
+            Ok(Wish::Nothing)
+        }
+    }
+}
+
+/// Says what is wrong with a line.
+fn tell_wrong(session: &mut Session<'_>, wrong: Wrong) -> Result<(), AllocError> {
+    let line = format!(in session.alloc; "{wrong}\n")?;
+    session.say(line.as_str())
+}
+
+/// Obeys a command.
+fn obey<'a>(session: &mut Session<'_>, command: Command<'a>) -> Result<Wish<'a>, AllocError> {
+    match command {
+        Command::Save(file) => return Ok(Wish::Save(file)),
+        Command::Do(file) => return Ok(Wish::Do(file)),
+        Command::Quit => return Ok(Wish::Quit),
+        Command::Help(word) => tell_help(session, word)?,
+        Command::Job(number) => open_job(session, number)?,
+        Command::Jobs => tell_jobs(session)?,
+        Command::Locks => tell_locks(session)?,
+        Command::Waits => tell_waits(session)?,
+        Command::Registers => tell_registers(session)?,
+        Command::History(count) => tell_history(session, count)?,
+        other => obey_looking(session, other)?,
+    }
+    Ok(Wish::Nothing)
+}
+
+/// Obeys a command that looks at words.
+fn obey_looking(session: &mut Session<'_>, command: Command<'_>) -> Result<(), AllocError> {
+    match command {
+        Command::Next => open_next(session),
+        Command::Before => open_before(session),
+        Command::Addressed => open_addressed(session),
+        Command::Open(place) => open(session, place),
+        Command::Tell(word) => tell_value(session, word),
+        Command::Last(last) => tell_last(session, last),
+        Command::Examine(first, last) => examine(session, first, last),
+        Command::Search(wanted) => search(session, &wanted),
+        Command::Show(look) => {
+            show_as(session, look);
+            Ok(())
+        }
+        other => obey_stops(session, other),
+    }
+}
+
+/// Obeys a command on where runs stop.
+fn obey_stops(session: &mut Session<'_>, command: Command<'_>) -> Result<(), AllocError> {
+    match command {
+        Command::Break(place, number) => set(session, place, number),
+        Command::Unbreak(number) => unset(session, number),
+        Command::Breaks => tell_stops(session),
+        Command::Watch(place) => watch(session, place),
+        Command::BreakCircle => stop_at_circles(session),
+        Command::BreakLock(name) => stop_at_lock(session, name),
+        Command::BreakGrant => stop_at_grants(session),
+        other => obey_moving(session, other),
+    }
+}
+
+/// Obeys a command that moves or changes the machine.
+fn obey_moving(session: &mut Session<'_>, command: Command<'_>) -> Result<(), AllocError> {
+    match command {
+        Command::Go => go(session),
+        Command::GoAt(place) => start_at(session, place),
+        Command::Proceed(times) => proceed(session, times),
+        Command::Execute(count) => execute(session, count),
+        Command::ExecuteCall => execute_call(session),
+        Command::Step(count) => step(session, count),
+        Command::Back(steps) => back(session, steps),
+        Command::BackTo(place) => back_to(session, place),
+        Command::BackWrite(place) => back_to_write(session, place),
+        Command::Forward => forward(session),
+        Command::Deposit(word) => deposit(session, word),
+        Command::Tick(count) => tick(session, count),
+        Command::Type(line, text) => type_at(session, line, text),
+        Command::Take => take(session),
+        _ => Ok(()),
+    }
+}
+
+/// `.HELP` and `.HELP word`.
+fn tell_help(session: &mut Session<'_>, word: &[u8]) -> Result<(), AllocError> {
+    let mut text = String::new(session.alloc);
+    help_text(session.alloc, word, &mut text)?;
+    session.say(text.as_str())
+}

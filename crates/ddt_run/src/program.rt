@@ -1,0 +1,210 @@
+//! The whole program.
+ghost use Rattle.std.specs.Prelude.{◌≡◌, ◌≢◌, false};
+
+use crate::asked::{Asked, Refusal};
+use crate::input::InputLines;
+use crate::loading::{assemble_all, begin};
+use crate::served::Served;
+use crate::session::Session;
+use crate::words::read_words;
+use line_ports::{Answers, Failure, LineReader};
+use run_facts::{DONE, FAILED, REFUSED, USAGE};
+use script_io::{ByteIn, ByteOut};
+use source_labels::Source;
+use std::alloc::Global;
+use std::convert::AsStr;
+use std::fs;
+use std::io::ErrorKind;
+use std::rt::Files;
+
+/// The ports of the program.
+#[derive(Drop)]
+pub struct Ports<R: ByteIn + Drop, W: ByteOut + Drop, E: ByteOut + Drop> {
+    /// Where lines come from.
+    pub reader: R,
+    /// Where answers go.
+    pub writer: W,
+    /// Where a person is told what went wrong, and asked for lines.
+    pub errors: E,
+    /// Whether a person is asked for lines.
+    pub is_person: bool,
+}
+
+/// Reads a file, or tells why it cannot be read.
+fn read_file<F: Files + AllocGlobal, E: ByteOut + Drop>(
+    rt: &F,
+    file: &str,
+    errors: &mut Answers<E>,
+) -> Result<Option<Vec<u8>>, Failure> {
+    match fs::read(rt, file) {
+        Ok(text) => Ok(Some(text)),
+        Err(error) => {
+            let text = format!(in rt.alloc(); "ddt: {file}: {error}\n")?;
+            errors.write(text.as_str().as_bytes())?;
+            Ok(None)
+        }
+    }
+}
+
+/// Reads all sources, or tells of the first that cannot be read.
+fn read_sources<'a, F: Files + AllocGlobal, E: ByteOut + Drop>(
+    rt: &F,
+    files: &[&'a str],
+    errors: &mut Answers<E>,
+) -> Result<Option<Vec<Source<'a>>>, Failure> {
+    let mut sources = Vec::new(rt.alloc());
+    for file in files {
+        match read_file(rt, file, errors)? {
+            Some(text) => sources.push(Source { file, text })?,
+            None => return Ok(None),
+        }
+    }
+    Ok(Some(sources))
+}
+
+/// The lines of the input, or none where no file is named; `None` where the file cannot be read.
+fn read_input<F: Files + AllocGlobal, E: ByteOut + Drop>(
+    rt: &F,
+    asked: &Asked<'_>,
+    errors: &mut Answers<E>,
+) -> Result<Option<InputLines>, Failure> {
+    let Some(file) = asked.input else {
+        return Ok(Some(InputLines::none(rt.alloc())));
+    };
+    let text = read_file(rt, file, errors)?;
+    Ok(text.map(|text| InputLines::new(rt.alloc(), text)))
+}
+
+/// Says why the words were refused, or on `writer` the help or the version that they asked for.
+fn tell_refusal<W: ByteOut + Drop, E: ByteOut + Drop>(
+    alloc: Global,
+    refusal: Refusal,
+    writer: &mut Answers<W>,
+    errors: &mut Answers<E>,
+) -> Result<u8, Failure> {
+    match refusal {
+        Refusal::Memory => Err(Failure::Memory),
+        Refusal::Usage(error) => {
+            let text = error.to_string(alloc)?;
+            if error.use_stderr() {
+                errors.write(text.as_str().as_bytes())?;
+                return Ok(USAGE);
+            }
+            writer.write(text.as_str().as_bytes())?;
+            Ok(DONE)
+        }
+    }
+}
+
+/// Says what went wrong, and gives the exit status.
+fn tell_failure<E: ByteOut + Drop>(alloc: Global, failure: Failure, errors: &mut Answers<E>) -> u8
+    ensures { result ≡ FAILED }
+{
+    if let Ok(text) = format!(in alloc; "ddt: {failure}\n") {
+        let _ = errors.write(text.as_str().as_bytes());
+    }
+    FAILED
+}
+
+/// The session that is asked for, or the exit status where there is none.
+fn begin_session<'a, F: Files + AllocGlobal, E: ByteOut + Drop>(
+    rt: &F,
+    asked: &Asked<'a>,
+    errors: &mut Answers<E>,
+) -> Result<Result<Session<'a>, u8>, Failure> {
+    let Some(sources) = read_sources(rt, asked.files.as_slice(), errors)? else {
+        return Ok(Err(FAILED));
+    };
+    let Some(input) = read_input(rt, asked, errors)? else {
+        return Ok(Err(FAILED));
+    };
+    let assembled = assemble_all(rt.alloc(), sources.as_slice())?;
+    errors.write(assembled.told.as_slice())?;
+    if !assembled.are_right {
+        return Ok(Err(REFUSED));
+    }
+    match begin(rt.alloc(), asked, assembled.programs, input)? {
+        Ok(session) => Ok(Ok(session)),
+        Err(told) => {
+            errors.write(told.as_str().as_bytes())?;
+            Ok(Err(REFUSED))
+        }
+    }
+}
+
+/// The program, but for what is said of a failure.
+fn serve<F: Files + AllocGlobal, S: AsStr, R: ByteIn + Drop, W: ByteOut + Drop, E: ByteOut + Drop>(
+    rt: &F,
+    words: &[S],
+    input: LineReader<R>,
+    mut output: Answers<W>,
+    errors: &mut Answers<E>,
+    is_person: bool,
+) -> Result<u8, Failure> {
+    let asked = match read_words(rt.alloc(), words) {
+        Ok(asked) => asked,
+        Err(refusal) => return tell_refusal(rt.alloc(), refusal, &mut output, errors),
+    };
+    let session = match begin_session(rt, &asked, errors)? {
+        Ok(session) => session,
+        Err(status) => return Ok(status),
+    };
+    let mut served = Served {
+        session,
+        input,
+        output,
+        errors,
+        is_person,
+        kept: Vec::new(rt.alloc()),
+    };
+    served.serve(rt)?;
+    Ok(DONE)
+}
+
+/// Does what the words, which begin with the program's name, ask for, and gives the exit status: reads
+/// files, assembles them, logs a job in for each, and obeys lines until the session ends. The help and
+/// the version go to the output, and then there is no session.
+pub fn ddt<
+    F: Files + AllocGlobal,
+    S: AsStr,
+    R: ByteIn + Drop,
+    W: ByteOut + Drop,
+    E: ByteOut + Drop,
+>(rt: &F, words: &[S], ports: Ports<R, W, E>) -> u8
+    requires reader_sound { R.has_failed ports.reader ≡ false }
+    requires writer_sound { W.has_failed ports.writer ≡ false }
+    requires errors_sound { E.has_failed ports.errors ≡ false }
+{
+    let Ports {
+        reader,
+        writer,
+        errors,
+        is_person,
+    } = ports;
+    let mut errors = Answers::new(errors);
+    let output = Answers::new(writer);
+    let Ok(input) = LineReader::new(rt.alloc(), reader) else {
+        return tell_failure(rt.alloc(), Failure::Memory, &mut errors);
+    };
+    match serve(rt, words, input, output, &mut errors, is_person) {
+        Ok(status) => status,
+        Err(failure) => tell_failure(rt.alloc(), failure, &mut errors),
+    }
+}
+
+/// Says why the words of the command line could not be read, and gives the exit status: one of them is
+/// no text, which refuses them, or there was no memory.
+pub fn unread_words<E: ByteOut + Drop>(alloc: Global, kind: ErrorKind, errors: E) -> u8
+    requires { E.has_failed errors ≡ false }
+    ensures no_text { kind ≡ ErrorKind.InvalidData → result ≡ USAGE }
+    ensures no_memory { kind ≢ ErrorKind.InvalidData → result ≡ FAILED }
+{
+    let mut errors = Answers::new(errors);
+    if kind == ErrorKind::InvalidData {
+        let text = b"error: invalid UTF-8 was detected in one or more arguments\n";
+        let _ = errors.write(text);
+        USAGE
+    } else {
+        tell_failure(alloc, Failure::Memory, &mut errors)
+    }
+}

@@ -1,0 +1,43 @@
+//! Searches for words.
+
+use crate::session::Session;
+use ddt_lines::{Search, SearchKind};
+use ddt_session::Machine;
+use run_notes::effective_address;
+use std::alloc::AllocError;
+use word36::Word;
+
+/// The words of a block of core.
+const BLOCK: u32 = 1024;
+
+/// Whether a word of a job is one that is searched for.
+fn is_found(machine: &Machine, number: u8, search: &Search, word: Word) -> bool {
+    let mask = search.mask.number();
+    let is_equal = word.number() & mask == search.value.number() & mask;
+    match search.kind {
+        SearchKind::Equal => is_equal,
+        SearchKind::NotEqual => !is_equal,
+        SearchKind::Address => match effective_address(machine, number, word) {
+            Some(address) => address == search.value.right(),
+            None => false,
+        },
+    }
+}
+
+/// Shows the words of the open job's core that are searched for.
+pub fn search(session: &mut Session<'_>, search: &Search) -> Result<(), AllocError> {
+    let number = session.open;
+    let Some(view) = session.machine().job(number) else {
+        return session.tell_job(number);
+    };
+    for place in 0..view.blocks.saturating_mul(BLOCK) {
+        let Some(word) = session.machine().peek(number, place) else {
+            break;
+        };
+        if is_found(session.machine(), number, search, word) {
+            session.show_place(place)?;
+            session.here = place;
+        }
+    }
+    Ok(())
+}

@@ -1,0 +1,150 @@
+//! The lines of a session, as they come.
+ghost use Rattle.std.specs.Prelude.{◌≡◌, false};
+
+use crate::obey::{Wish, obey_line};
+use crate::session::Session;
+use crate::texts;
+use line_ports::{Answers, Came, Failure, LineReader};
+use script_io::{ByteIn, ByteOut};
+use std::fs;
+use std::rt::Files;
+
+/// What stands before a line of a file that is obeyed.
+const ECHO: &[u8] = b"* ";
+
+/// A session with its ports.
+#[derive(Drop)]
+pub struct Served<'a, 'e, R: ByteIn + Drop, W: ByteOut + Drop, E: ByteOut + Drop> {
+    /// The session.
+    pub session: Session<'a>,
+    /// Where lines come from.
+    pub input: LineReader<R>,
+    /// Where answers go.
+    pub output: Answers<W>,
+    /// Where a person is asked for the next line.
+    pub errors: &'e mut Answers<E>,
+    /// Whether a person is asked.
+    pub is_person: bool,
+    /// The lines that were obeyed, with their ends.
+    pub kept: Vec<u8>,
+}
+
+impl<R: ByteIn + Drop, W: ByteOut + Drop, E: ByteOut + Drop> Served<'_, '_, R, W, E> {
+    /// Serves lines until the session ends.
+    pub fn serve<F: Files + AllocGlobal>(&mut self, rt: &F) -> Result<(), Failure> {
+        let mut line = Vec::new(self.session.alloc);
+        self.tell_person(texts::BANNER)?;
+        for _ in 0..u64::MAX {
+            self.tell_person(texts::PROMPT)?;
+            match self.input.next_line(&mut line)? {
+                Came::End => return Ok(()),
+                Came::TooLong => self.output.write(b"? a line has at most 256 characters\n")?,
+                Came::Line => {
+                    if !self.obey(rt, line.as_slice())? {
+                        return Ok(());
+                    }
+                }
+            }
+        }
+        Ok(())
+    }
+
+    /// Tells a person something, where there is one.
+    fn tell_person(&mut self, text: &str) -> Result<(), Failure> {
+        if self.is_person {
+            self.errors.write(text.as_bytes())?;
+        }
+        Ok(())
+    }
+
+    /// Obeys a line; false where it ends the session.
+    fn obey<F: Files + AllocGlobal>(&mut self, rt: &F, line: &[u8]) -> Result<bool, Failure> {
+        let wish = obey_line(&mut self.session, line)?;
+        self.output.write(self.session.text.as_slice())?;
+        match wish {
+            Wish::Nothing => {
+                self.keep(line)?;
+                Ok(true)
+            }
+            Wish::Quit => Ok(false),
+            Wish::Save(file) => {
+                self.save(rt, file)?;
+                Ok(true)
+            }
+            Wish::Do(file) => self.obey_file(rt, file),
+        }
+    }
+
+    /// Keeps a line that was obeyed.
+    fn keep(&mut self, line: &[u8]) -> Result<(), Failure> {
+        self.kept.extend_from_slice(line)?;
+        self.kept.push(b'\n')?;
+        Ok(())
+    }
+
+    /// Says why something is not done with a file.
+    fn refuse_file(&mut self, file: &str, reason: &str) -> Result<(), Failure> {
+        let text = format!(in self.session.alloc; "? {file}: {reason}\n")?;
+        self.output.write(text.as_str().as_bytes())?;
+        Ok(())
+    }
+
+    /// Writes the lines that were obeyed to a file.
+    fn save<F: Files + AllocGlobal>(&mut self, rt: &F, file: &[u8]) -> Result<(), Failure> {
+        let Ok(file) = str::from_utf8(file) else {
+            return self.refuse_file("", "the name of a file is no text");
+        };
+        match fs::write(rt, file, self.kept.as_slice()) {
+            Ok(()) => Ok(()),
+            Err(error) => {
+                let reason = format!(in self.session.alloc; "{error}")?;
+                self.refuse_file(file, reason.as_str())
+            }
+        }
+    }
+
+    /// Obeys the lines of a file, each of which is written before its answer; false where one ends the
+    /// session.
+    fn obey_file<F: Files + AllocGlobal>(&mut self, rt: &F, file: &[u8]) -> Result<bool, Failure> {
+        let Ok(file) = str::from_utf8(file) else {
+            self.refuse_file("", "the name of a file is no text")?;
+            return Ok(true);
+        };
+        let text = match fs::read(rt, file) {
+            Ok(text) => text,
+            Err(error) => {
+                let reason = format!(in self.session.alloc; "{error}")?;
+                self.refuse_file(file, reason.as_str())?;
+                return Ok(true);
+            }
+        };
+        self.obey_lines(rt, file, text.as_slice())
+    }
+
+    /// Obeys lines of a file, of which none may name another file of lines.
+    fn obey_lines<F: Files + AllocGlobal>(
+        &mut self,
+        rt: &F,
+        file: &str,
+        text: &[u8],
+    ) -> Result<bool, Failure> {
+        for line in text
+            .strip_suffix(b"\n".as_slice())
+            .unwrap_or(text)
+            .split(|byte| *byte == b'\n')
+        {
+            self.output.write(ECHO)?;
+            self.output.write(line)?;
+            self.output.write(b"\n")?;
+            let wish = obey_line(&mut self.session, line)?;
+            self.output.write(self.session.text.as_slice())?;
+            match wish {
+                Wish::Nothing => self.keep(line)?,
+                Wish::Quit => return Ok(false),
+                Wish::Save(name) => self.save(rt, name)?,
+                Wish::Do(_) => self.refuse_file(file, "a file of lines obeys no other file")?,
+            }
+        }
+        Ok(true)
+    }
+}

@@ -1,0 +1,163 @@
+//! A session: the machine with its jobs, and what is looked at.
+
+use crate::input::InputLines;
+use ddt_help::{Refusal, refuse};
+use ddt_lines::{Look, Scope, Symbol};
+use ddt_session::{Machine, Timeline};
+use ddt_show::{ShownJob, job_line, place_line};
+use ddt_stops::StopList;
+use job_sched::Wait;
+use std::alloc::{AllocError, Global};
+use word36::{Address, Word};
+
+/// A job of a session.
+#[derive(Drop)]
+pub struct SessionJob<'a> {
+    /// Its number, and where its labels and literals stand.
+    pub shown: ShownJob,
+    /// The name of its source's file.
+    pub file: &'a str,
+    /// Its terminal line.
+    pub line: u8,
+    /// Its labels.
+    pub symbols: Vec<Symbol>,
+}
+
+/// A session.
+#[derive(Drop)]
+pub struct Session<'a> {
+    /// Where memory comes from.
+    pub alloc: Global,
+    /// The machine, with all that has happened to it.
+    pub timeline: Timeline,
+    /// The jobs, by number from 1 on.
+    pub jobs: Vec<SessionJob<'a>>,
+    /// The number of the job that is open.
+    pub open: u8,
+    /// How words are shown.
+    pub look: Look,
+    /// The place that is open, or was last: `.`.
+    pub here: u32,
+    /// Whether a place is open.
+    pub is_open: bool,
+    /// The last quantity.
+    pub last: Word,
+    /// Where runs stop.
+    pub list: StopList,
+    /// What is typed where a job waits for characters.
+    pub input: InputLines,
+    /// Behind how many entries the first word was deposited.
+    pub edited: Option<usize>,
+    /// The answer to the line in hand.
+    pub text: Vec<u8>,
+}
+
+impl Session<'_> {
+    /// Adds to the answer.
+    pub fn say(&mut self, text: &str) -> Result<(), AllocError> {
+        self.text.extend_from_slice(text.as_bytes())
+    }
+
+    /// Adds a line that says why nothing is done.
+    pub fn refuse(&mut self, refusal: Refusal) -> Result<(), AllocError> {
+        let mut line = String::new(self.alloc);
+        refuse(self.alloc, &mut line, refusal)?;
+        self.say(line.as_str())
+    }
+
+    /// The machine.
+    pub fn machine(&self) -> &Machine {
+        self.timeline.machine()
+    }
+
+    /// The job that is open.
+    pub fn open_job(&self) -> Option<&SessionJob<'_>> {
+        self.jobs
+            .as_slice()
+            .get(usize::from(self.open).saturating_sub(1))
+    }
+
+    /// The PC of the job that is open; `None` where it is gone.
+    pub fn place(&self) -> Option<Address> {
+        let view = self.machine().job(self.open)?;
+        Some(view.pc)
+    }
+
+    /// What the symbols of a line stand for.
+    pub fn scope(&self) -> Scope<'_> {
+        let symbols = match self.open_job() {
+            Some(job) => job.symbols.as_slice(),
+            None => &[],
+        };
+        Scope {
+            symbols,
+            here: Word::low_bits(u64::from(self.here)),
+            last: self.last,
+        }
+    }
+
+    /// Adds a place of the open job and its word, as words are shown, without the end of the line.
+    fn add_place(&mut self, place: u32, word: Word) -> Result<(), AllocError> {
+        let line = match self.open_job() {
+            Some(job) => place_line(self.alloc, &job.shown, place, word, self.look)?,
+            None => return Ok(()),
+        };
+        self.say(line.as_str())
+    }
+
+    /// Adds the line of a place of the open job; false where it has no word there.
+    pub fn show_place(&mut self, place: u32) -> Result<bool, AllocError> {
+        let Some(word) = self.machine().peek(self.open, place) else {
+            return Ok(false);
+        };
+        self.add_place(place, word)?;
+        self.say("\n")?;
+        self.last = word;
+        Ok(true)
+    }
+
+    /// Whether the open job runs: it is not stopped and waits for nothing.
+    pub fn is_running(&self) -> bool {
+        match self.machine().job(self.open) {
+            Some(view) => view.stop.is_none() && view.wait == Wait::None,
+            None => false,
+        }
+    }
+
+    /// Adds the line of what the open job executes next, or how it stands where it does not run.
+    pub fn show_next(&mut self) -> Result<(), AllocError> {
+        if let Some(place) = self.place() {
+            self.here = place.number();
+        }
+        if !self.is_running() || !self.show_place(self.here)? {
+            return self.tell_job(self.open);
+        }
+        Ok(())
+    }
+
+    /// Adds the line on how a job stands.
+    pub fn tell_job(&mut self, number: u8) -> Result<(), AllocError> {
+        let place = usize::from(number).saturating_sub(1);
+        let line = match self.jobs.as_slice().get(place) {
+            Some(job) => job_line(self.alloc, self.timeline.machine(), &job.shown, job.file)?,
+            None => return Ok(()),
+        };
+        self.say(line.as_str())
+    }
+
+    /// Adds the lines on how all jobs stand.
+    pub fn tell_jobs(&mut self) -> Result<(), AllocError> {
+        for number in 1..self.jobs.len().saturating_add(1) {
+            self.tell_job(number.min(255) as u8)?;
+        }
+        Ok(())
+    }
+
+    /// Whether words were deposited before this.
+    pub fn is_edited(&self) -> bool {
+        match self.edited {
+            Some(happened) => happened < self.timeline.happened(),
+            None => false,
+        }
+    }
+}

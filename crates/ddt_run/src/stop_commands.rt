@@ -1,0 +1,157 @@
+//! Breakpoints, watched words and the other stops, as they are asked for.
+
+use crate::session::Session;
+use ddt_help::Refusal;
+use ddt_show::place_text;
+use ddt_stops::{Breakpoint, WatchedWord};
+use lock_queue::Name;
+use queue_script::CallRoom;
+use script_io::Parts;
+use std::alloc::AllocError;
+use word36::Address;
+
+/// Sets a breakpoint of the open job.
+pub fn set(session: &mut Session<'_>, place: u32, number: Option<u8>) -> Result<(), AllocError> {
+    let Some(address) = Address::try_new(place) else {
+        return session.refuse(Refusal::NoWord);
+    };
+    match session.list.set(session.open, address, number) {
+        Some(number) => {
+            let breakpoint = Breakpoint {
+                job: session.open,
+                place: address,
+            };
+            tell_breakpoint(session, number, breakpoint)
+        }
+        None => session.refuse(Refusal::NoBreakpointFree),
+    }
+}
+
+/// Takes a breakpoint away.
+pub fn unset(session: &mut Session<'_>, number: u8) -> Result<(), AllocError> {
+    if !session.list.unset(number) {
+        return session.refuse(Refusal::NotSet);
+    }
+    Ok(())
+}
+
+/// A place of a job: `LOOP+3`.
+fn place_of(session: &Session<'_>, job: u8, place: u32) -> Result<String, AllocError> {
+    let at = usize::from(job).saturating_sub(1);
+    match session.jobs.as_slice().get(at) {
+        Some(job) => place_text(session.alloc, &job.shown, place),
+        None => format!(in session.alloc; "{place:o}"),
+    }
+}
+
+/// The line on a breakpoint: `$1B job 1 LOOP+3`.
+fn tell_breakpoint(
+    session: &mut Session<'_>,
+    number: usize,
+    breakpoint: Breakpoint,
+) -> Result<(), AllocError> {
+    let job = breakpoint.job;
+    let place = place_of(session, job, breakpoint.place.number())?;
+    let line = format!(in session.alloc; "${number}B job {job} {}\n", place.as_str())?;
+    session.say(line.as_str())
+}
+
+/// The line on a watched word: `watched job 1 COUNT`.
+fn tell_watched(
+    session: &mut Session<'_>,
+    head: &str,
+    word: WatchedWord,
+) -> Result<(), AllocError> {
+    let job = word.job;
+    let place = place_of(session, job, word.place)?;
+    let line = format!(in session.alloc; "{head} job {job} {}\n", place.as_str())?;
+    session.say(line.as_str())
+}
+
+/// Tells the breakpoints, and what else runs stop at.
+pub fn tell_stops(session: &mut Session<'_>) -> Result<(), AllocError> {
+    let breakpoints = session.list.breakpoints;
+    for (i, breakpoint) in breakpoints.iter().enumerate() {
+        if let Some(breakpoint) = *breakpoint {
+            tell_breakpoint(session, i.saturating_add(1), breakpoint)?;
+        }
+    }
+    for i in 0..session.list.words.len() {
+        if let Some(word) = session.list.words.as_slice().get(i).copied() {
+            tell_watched(session, "watched", word)?;
+        }
+    }
+    if session.list.circles {
+        session.say("circles\n")?;
+    }
+    if session.list.lock.is_some() {
+        session.say("calls on a lock\n")?;
+    }
+    if session.list.grants {
+        session.say("grants\n")?;
+    }
+    Ok(())
+}
+
+/// Watches a word of the open job, or no longer.
+pub fn watch(session: &mut Session<'_>, place: u32) -> Result<(), AllocError> {
+    let job = session.open;
+    if session.machine().peek(job, place).is_none() {
+        return session.refuse(Refusal::NoWord);
+    }
+    let word = WatchedWord { job, place };
+    match session.list.watch(word) {
+        Some(true) => tell_watched(session, "watched", word),
+        Some(false) => tell_watched(session, "no longer watched", word),
+        None => session.refuse(Refusal::NoWatchFree),
+    }
+}
+
+/// Runs stop at circles of waits, or no longer.
+pub fn stop_at_circles(session: &mut Session<'_>) -> Result<(), AllocError> {
+    session.list.circles = !session.list.circles;
+    if session.list.circles {
+        session.say("runs stop at circles\n")
+    } else {
+        session.say("runs no longer stop at circles\n")
+    }
+}
+
+/// Runs stop where a request is granted, or no longer.
+pub fn stop_at_grants(session: &mut Session<'_>) -> Result<(), AllocError> {
+    session.list.grants = !session.list.grants;
+    if session.list.grants {
+        session.say("runs stop at grants\n")
+    } else {
+        session.say("runs no longer stop at grants\n")
+    }
+}
+
+/// The name of a lock that is written as in a queue script, where it is one.
+fn lock_name(job: u8, text: &[u8]) -> Option<Name> {
+    let mut room = CallRoom::new();
+    match room.keys(job, Parts::of(text, b' ')) {
+        Some(Ok(wants)) => match wants.as_slice() {
+            [want] => Some(want.key.name.copied()),
+            _ => None,
+        },
+        _ => None,
+    }
+}
+
+/// Runs stop before calls on a lock, or no longer where they do.
+pub fn stop_at_lock(session: &mut Session<'_>, text: &[u8]) -> Result<(), AllocError> {
+    let Some(name) = lock_name(session.open, text) else {
+        return session.refuse(Refusal::NoLock);
+    };
+    let is_set = match &session.list.lock {
+        Some(lock) => lock.is_same(&name),
+        None => false,
+    };
+    if is_set {
+        session.list.lock = None;
+        return session.say("runs no longer stop before calls on that lock\n");
+    }
+    session.list.lock = Some(name);
+    session.say("runs stop before calls on that lock\n")
+}

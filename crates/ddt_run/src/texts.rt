@@ -1,0 +1,37 @@
+//! What `--help` and `--version` say, and what a person is told first.
+
+/// The version of the program.
+pub const VERSION: &str = "0.1.0";
+
+/// The program.
+pub const PROGRAM: &str =
+    "A debugger in the manner of DDT for programs in a subset of MACRO-10 on a \
+    DECsystem-10 (KA10): it goes back as well as on.";
+
+/// How the program is called.
+pub const PROGRAM_END: &str = "As in:  ddt examples/counter.mac\n\
+    Commands are lines of standard input, answers go to standard output; .HELP lists the commands.\n\
+    ESC is typed as $. Numbers are octal, and decimal with a point behind them; those of commands that\n\
+    begin with a point are decimal.\n\
+    Status: 0 the session ended by .QUIT or the end of the input; 1 a source was refused; 2 wrong words;\n\
+    3 reading, writing or memory failed.";
+
+/// `--blocks`.
+pub const BLOCKS: &str = "blocks of core of 1024 words that the jobs share, 1 to 256 [default: 64]";
+
+/// `--quantum`.
+pub const QUANTUM: &str =
+    "ticks for which a job runs before the next has its turn, 1 to 60 [default: 1]";
+
+/// `--input`.
+pub const INPUT: &str =
+    "lines that are typed where a job waits for characters, at line 0, or at line n those behind n:";
+
+/// `FILE`.
+pub const FILES: &str = "sources, 1 to 63: job n runs the n-th of them, at terminal line n - 1";
+
+/// What stands before a line that a person is to type.
+pub const PROMPT: &str = "ddt> ";
+
+/// What a person is told first.
+pub const BANNER: &str = "ddt 0.1.0: .HELP lists the commands, .QUIT ends the session\n";

@@ -1,0 +1,122 @@
+//! What is told of a run that ended.
+
+use crate::session::Session;
+use crate::tables::tell_waits;
+use ddt_moves::Ended;
+use ddt_show::place_text;
+use ddt_stops::{Cause, turn_at};
+use std::alloc::AllocError;
+use word36::{Address, Word};
+
+/// A run ended at a breakpoint, whose job is open from here on.
+fn tell_breakpoint(
+    session: &mut Session<'_>,
+    number: usize,
+    job: u8,
+    place: Address,
+) -> Result<(), AllocError> {
+    session.open = job;
+    session.here = place.number();
+    let head = format!(in session.alloc; "${number}B>> ")?;
+    session.say(head.as_str())?;
+    if !session.show_place(place.number())? {
+        return session.tell_job(job);
+    }
+    Ok(())
+}
+
+/// A word in octal.
+fn octal_of(session: &Session<'_>, word: Option<Word>) -> Result<String, AllocError> {
+    match word {
+        Some(word) => String::from_str(session.alloc, word.octal().as_str()),
+        None => String::from_str(session.alloc, "no word"),
+    }
+}
+
+/// A place of a job: `LOOP+3`.
+pub fn place_in(session: &Session<'_>, job: u8, place: u32) -> Result<String, AllocError> {
+    let at = usize::from(job).saturating_sub(1);
+    match session.jobs.as_slice().get(at) {
+        Some(job) => place_text(session.alloc, &job.shown, place),
+        None => format!(in session.alloc; "{place:o}"),
+    }
+}
+
+/// By whom a word was changed in the last step that was made: ` by job 1 at LOOP+3`.
+fn writer_text(session: &Session<'_>) -> Result<String, AllocError> {
+    let steps = session.timeline.steps().saturating_sub(1);
+    match turn_at(&session.timeline, steps)? {
+        Some((job, place)) => {
+            let place = place_in(session, job, place)?;
+            format!(in session.alloc; " by job {job} at {}", place.as_str())
+        }
+        None => Ok(String::new(session.alloc)),
+    }
+}
+
+/// A run ended since a word of a job changed, which is open from here on.
+fn tell_change(
+    session: &mut Session<'_>,
+    job: u8,
+    place: u32,
+    was: Option<Word>,
+) -> Result<(), AllocError> {
+    session.open = job;
+    let name = place_in(session, job, place)?;
+    let old = octal_of(session, was)?;
+    let new = octal_of(session, session.machine().peek(job, place))?;
+    let writer = writer_text(session)?;
+    let line = format!(in session.alloc;
+        "{} was {}, is {}, changed{}\n",
+        name.as_str(),
+        old.as_str(),
+        new.as_str(),
+        writer.as_str()
+    )?;
+    session.say(line.as_str())?;
+    session.show_next()
+}
+
+/// Says why a run ended, which could make so many steps.
+pub fn tell_end(session: &mut Session<'_>, ended: Ended, most: u32) -> Result<(), AllocError> {
+    session.is_open = false;
+    match ended.cause {
+        Some(Cause::Breakpoint(number, job, place)) => {
+            tell_breakpoint(session, number, job, place)?;
+        }
+        Some(Cause::Word(job, place, was)) => tell_change(session, job, place, was)?,
+        Some(Cause::Circle) => {
+            session.say("jobs wait in a circle\n")?;
+            tell_waits(session)?;
+        }
+        Some(Cause::Call(job)) => {
+            session.open = job;
+            let line = format!(in session.alloc; "job {job} is before a call on the lock\n")?;
+            session.say(line.as_str())?;
+            session.show_next()?;
+        }
+        Some(Cause::Grant) => {
+            session.say(ended.grants.as_str())?;
+            session.show_next()?;
+        }
+        Some(Cause::Own | Cause::Input) => session.show_next()?,
+        None if ended.is_cut => {
+            let line = format!(in session.alloc; "{most} steps were made: $P goes on\n")?;
+            session.say(line.as_str())?;
+            session.show_next()?;
+        }
+        None => {
+            session.say("no job goes on\n")?;
+            session.tell_jobs()?;
+        }
+    }
+    tell_edited(session)
+}
+
+/// Says that words were deposited, if any were.
+fn tell_edited(session: &mut Session<'_>) -> Result<(), AllocError> {
+    if session.is_edited() {
+        session.say("edited: words were deposited\n")?;
+    }
+    Ok(())
+}

@@ -1,0 +1,91 @@
+//! Runs that are looked at for calls on a lock, and for grants.
+
+use crate::causes::Cause;
+use crate::stop_lists::StopList;
+use ddt_session::{Machine, Watch};
+use lock_queue::{Name, Request};
+use run_facts::{is_new_grant, requests_in};
+use run_notes::{CallLook, snapshot_of};
+use std::alloc::{AllocError, Global};
+
+/// What a run is looked at for behind each of its rounds.
+#[derive(Drop)]
+pub struct LockWatch<'a> {
+    alloc: Global,
+    list: &'a StopList,
+    /// The requests before the round, where grants are looked at.
+    pub requests: Vec<Request>,
+    /// Why the run ended, if this ended it.
+    pub cause: Option<Cause>,
+    /// Whether there was no memory.
+    pub has_failed: bool,
+}
+
+/// Whether a job stands before a call on a lock of this name.
+pub fn stands_at_call(
+    alloc: Global,
+    machine: &Machine,
+    number: u8,
+    name: &Name,
+) -> Result<bool, AllocError> {
+    let Some(view) = machine.job(number) else {
+        return Ok(false);
+    };
+    let snapshot = snapshot_of(machine, number, view.pc);
+    let look = CallLook::of(alloc, machine, number, &snapshot)?;
+    Ok(look.is_some_and(|call| call.is_on(machine, number, name)))
+}
+
+/// Whether one of some requests is granted and was not granted before, when these others were present.
+fn has_new_grant(before: &[Request], requests: &[Request]) -> bool {
+    (0..requests.len()).any(|place| is_new_grant(before, requests, place))
+}
+
+impl<'a> LockWatch<'a> {
+    /// Looks at a run that begins here.
+    pub fn new(alloc: Global, machine: &Machine, list: &'a StopList) -> Result<Self, AllocError> {
+        Ok(LockWatch {
+            alloc,
+            list,
+            requests: requests_in(alloc, machine.locks())?,
+            cause: None,
+            has_failed: false,
+        })
+    }
+
+    /// Whether a request was granted in a round; those that there are now are kept where none was.
+    fn sees_grant(&mut self, machine: &Machine) -> Result<bool, AllocError> {
+        if !self.list.grants {
+            return Ok(false);
+        }
+        let requests = requests_in(self.alloc, machine.locks())?;
+        if has_new_grant(self.requests.as_slice(), requests.as_slice()) {
+            return Ok(true);
+        }
+        self.requests = requests;
+        Ok(false)
+    }
+
+    /// Why the run ends behind a round in which a job ran, if it does.
+    fn look(&mut self, machine: &Machine, ran: Option<u8>) -> Result<Option<Cause>, AllocError> {
+        if self.sees_grant(machine)? {
+            return Ok(Some(Cause::Grant));
+        }
+        if let (Some(number), Some(name)) = (ran, &self.list.lock) {
+            if stands_at_call(self.alloc, machine, number, name)? {
+                return Ok(Some(Cause::Call(number)));
+            }
+        }
+        Ok(None)
+    }
+}
+
+impl Watch for LockWatch<'_> {
+    fn is_met(&mut self, machine: &Machine, ran: Option<u8>) -> bool {
+        match self.look(machine, ran) {
+            Ok(cause) => self.cause = cause,
+            Err(_) => self.has_failed = true,
+        }
+        self.has_failed || self.cause.is_some()
+    }
+}
