@@ -5,9 +5,9 @@ ghost use Rattle.ddt_session.specs.Timelines.{made, played, ticked_so_often};
 use crate::instance::Machine;
 use monitor::{Answer, Event};
 use tty_lines::Char7;
-use word36::{Image, TAKEN_AT_ONCE};
+use word36::{Address, Image, TAKEN_AT_ONCE, Word};
 
-/// What has happened to a machine: so many steps, or one event.
+/// What has happened to a machine: so many steps, one event, or a change that is no event.
 #[derive(Drop)]
 pub enum Entry {
     /// So many steps, with a tick behind each.
@@ -26,6 +26,10 @@ pub enum Entry {
     Take(u8),
     /// So many ticks.
     Ticks(u32),
+    /// A word is put at a place of a job. It is no event; where the job has no such place nothing changes.
+    Deposit(u8, u32, Word),
+    /// A job starts, and its PC is put at a place.
+    StartAt(u8, Address),
 }
 
 /// So many ticks, one after the other.
@@ -39,7 +43,7 @@ fn tick(machine: &mut Machine, count: u32)
     }
 }
 
-/// Makes an entry happen, and gives the machine's answer.
+/// Makes an entry happen, and gives the machine's answer; that to steps, ticks and a deposit is Done.
 pub fn perform(machine: &mut Machine, entry: &Entry) -> Answer
     ensures { machine.new ≡ made machine.old entry.now }
 {
@@ -58,6 +62,11 @@ pub fn perform(machine: &mut Machine, entry: &Entry) -> Answer
             tick(machine, *count);
             Answer::Done
         }
+        Entry::Deposit(number, place, word) => {
+            machine.deposit(*number, *place, *word);
+            Answer::Done
+        }
+        Entry::StartAt(number, place) => machine.start_at(*number, *place),
     }
 }
 

@@ -3,6 +3,7 @@ pub mod Turns
 pub mod Images
 pub mod Refusals
 pub mod Machine
+pub mod Deposits
 pub mod Views
 pub mod Waits
 pub mod Rounds

@@ -2,6 +2,7 @@
 #![tactic(auto)]
 
 mod cores;
+mod deposits;
 mod login;
 mod parts;
 mod step;

@@ -4,6 +4,7 @@ ghost use Rattle.word36.specs.declared.sizes.TheConstants.{MOST_BLOCKS, MOST_REQ
 ghost use Rattle.core_store.specs.Cores.{IsJob, core_of};
 ghost use Rattle.job_sched.specs.Ready.{next_job};
 ghost use Rattle.job_sched.specs.Tables.{job_at};
+ghost use Rattle.machine.specs.Deposits.{deposited, started_at};
 ghost use Rattle.machine.specs.Images.{blocks_for};
 ghost use Rattle.machine.specs.Machine.{S, after, answers, refusal_of, stepped, ticked, killed, happens, at_boot, started, continued, restarted, typed, taken, admitted, first_quota, logged_in};
 ghost use Rattle.machine.specs.Rounds.{rounds, runs_in};
@@ -12,6 +13,7 @@ ghost use Rattle.machine.specs.Stretches.{ticked_if};
 ghost use Rattle.machine.specs.Views.{job_view, held_wait, word_in};
 
 use crate::cores::give_all;
+use crate::deposits::{is_done, put_pc, put_word};
 use crate::login::{image_top, settle};
 use crate::step::run_job_for;
 use core_store::CoreStore;
@@ -22,7 +24,7 @@ use std::alloc::{AllocError, Global};
 use std::marker::Model;
 use tty_lines::{Char7, LineNumber, Lines};
 use uuo_calls::{CallRoom, remove_job};
-use word36::{Address, BLOCK_WORDS, DATA_WORDS, Image, Word};
+use word36::{Address, BLOCK_WORDS, DATA_WORDS, Image, JOBS, Word};
 
 /// The parts of the machine.
 #[derive(Drop)]
@@ -406,6 +408,36 @@ impl<L: LockTable, C: CoreStore> Parts<L, C> {
         } else {
             self.cores.read(n, a)
         }
+    }
+
+    /// A word is put at a place of a job, if the job has that place.
+    #[inline(never)]
+    pub fn deposit(&mut self, n: u8, a: u32, word: Word) -> bool
+        requires { Safe self.old }
+        ensures state { self.new ≡ deposited self.old n a word }
+        ensures told { result ≡ is_some (word_in self.old.world n a) }
+    {
+        if n > JOBS {
+            return false;
+        }
+        match &mut self.table.jobs[n as usize] {
+            Some(job) => put_word(n, job, &mut self.cores, a, word),
+            None => false,
+        }
+    }
+
+    /// A job starts at a place.
+    #[inline(never)]
+    pub fn start_at(&mut self, n: u8, a: Address) -> Answer
+        requires { Safe self.old }
+        ensures state { self.new ≡ (started_at self.old n a).state }
+        ensures answer { result ≡ (started_at self.old n a).answer }
+    {
+        let answer = self.start(n);
+        if is_done(&answer) {
+            put_pc(n, &mut self.table, a);
+        }
+        answer
     }
 
     /// A word that all jobs share.

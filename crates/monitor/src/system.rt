@@ -1,9 +1,10 @@
 //! The machine, which is safe at all times.
-ghost use Rattle.std.specs.Prelude.{◌≡◌, ◌≤◌, length, IfOk, slice_get};
+ghost use Rattle.std.specs.Prelude.{ℕ, ◌≡◌, ◌≢◌, ◌≤◌, ◌⊎◌, true, false, is_some, Some, length, IfOk, slice_get};
 ghost use Rattle.word36.specs.declared.sizes.TheConstants.{MOST_REQUESTS};
 ghost use Rattle.lock_laws.specs.Circles.{NoPlainCircle};
 ghost use Rattle.machine.specs.Alone.{RunsAlone};
 ghost use Rattle.machine.specs.Along.{Along, Always};
+ghost use Rattle.machine.specs.Deposits.{deposited, started_at};
 ghost use Rattle.machine.specs.Machine.{happens, after, answers, at_boot};
 ghost use Rattle.machine.specs.Owners.{KeepsOwners};
 ghost use Rattle.machine.specs.Rounds.{rounds, runs_in};
@@ -24,7 +25,7 @@ use lock_queue::LockTable;
 use machine::{Answer, Config, Event, JobView};
 use std::alloc::{AllocError, Global};
 use std::marker::Model;
-use word36::Word;
+use word36::{Address, Word};
 
 /// A DECsystem-10 with up to 63 jobs and 64 terminal lines (this project's profile).
 ///
@@ -147,6 +148,31 @@ impl<L: LockTable, C: CoreStore> System<L, C> {
         ensures { result ≡ word_in self.now.world n a }
     {
         self.parts.peek(n, a)
+    }
+
+    /// Puts a word at a place of a job, as a debugger does: into a register below 20 octal, and into its
+    /// core from there on. False where the job is not there or the place is not legal: then nothing
+    /// changes. This is no event, and what is promised of runs speaks of events alone; but the machine
+    /// is as safe as before.
+    pub fn deposit(&mut self, n: u8, a: u32, w: Word) -> bool
+        ensures state { self.new ≡ deposited self.old n a w }
+        ensures told { result ≡ is_some (word_in self.old.world n a) }
+        ensures there { result ≡ true → word_in self.new.world n a ≡ Some w }
+        ensures others { (m b : ℕ) → (m ≢ n) ⊎ (b ≢ a) → word_in self.new.world m b ≡ word_in self.old.world m b }
+        ensures kept { result ≡ false → self.new ≡ self.old }
+    {
+        self.parts.deposit(n, a, w)
+    }
+
+    /// Starts a job at a place, as a debugger does: the event `Start`, and where that is answered Done the
+    /// job's PC becomes the place. This is no event either.
+    pub fn start_at(&mut self, n: u8, a: Address) -> Answer
+        ensures state { self.new ≡ (started_at self.old n a).state }
+        ensures answer { result ≡ (started_at self.old n a).answer }
+    {
+        // The prover takes from here that the place is below 2^18, as the invariant asks.
+        let _place = a.number();
+        self.parts.start_at(n, a)
     }
 
     /// A word that all jobs share, if there is one of that number.

@@ -1,0 +1,64 @@
+//! Changes of a job that are no events: a word of its memory, and where it goes on.
+ghost use Rattle.std.specs.Prelude.{◌≡◌, is_some, None};
+ghost use Rattle.std.specs.Option.{option_map};
+ghost use Rattle.ka_cpu.specs.Places.{core_with, word_at};
+ghost use Rattle.core_store.specs.Cores.{IsJob, core_of, with_core};
+ghost use Rattle.job_sched.specs.Changes.{with_change};
+ghost use Rattle.job_sched.specs.Tables.{is_sleeper};
+ghost use Rattle.uuo_calls.specs.Around.{with_pc};
+ghost use Rattle.machine.specs.Deposits.{is_done, with_register};
+
+use core_store::CoreStore;
+use job_sched::{Job, JobTable};
+use ka_cpu::{CoreWords, fetch, store};
+use machine::Answer;
+use word36::{Address, JOBS, Word};
+
+/// Puts a word at a place of a job's memory, and says whether the job has that place.
+pub(crate) fn put_word<C: CoreStore>(
+    n: u8,
+    job: &mut Job,
+    cores: &mut C,
+    a: u32,
+    word: Word,
+) -> bool
+    requires { IsJob n }
+    ensures job { job.new ≡ with_register job.old a word }
+    ensures core { C.meaning cores.new ≡ with_core (C.meaning cores.old) n (core_with (core_of (C.meaning cores.old) n) a word) }
+    ensures told { result ≡ is_some (word_at job.old.regs.ac (core_of (C.meaning cores.old) n) a) }
+{
+    let words = cores.window(n);
+    let mut window = CoreWords { words };
+    let there = fetch(&job.regs, &window, a).is_some();
+    store(&mut job.regs, &mut window, a, word);
+    there
+}
+
+/// Puts the PC of a job at a place, where the job is there.
+fn put_pc_of(slot: &mut Option<Job>, a: Address)
+    ensures slot { slot.new ≡ option_map (λ j. with_pc j a) slot.old }
+    ensures asleep { is_sleeper slot.new ≡ is_sleeper slot.old }
+    ensures none { slot.old ≡ None → slot.new ≡ None }
+{
+    if let Some(job) = slot {
+        job.regs.pc = a;
+    }
+}
+
+/// Puts the PC of the job of a number at a place, where the job is there.
+pub(crate) fn put_pc(n: u8, table: &mut JobTable, a: Address)
+    ensures { table.new ≡ with_change table.old n (λ j. with_pc j a) }
+{
+    let jobs = &mut table.jobs;
+    if n > JOBS {
+        return;
+    }
+    put_pc_of(&mut jobs[n as usize], a);
+}
+
+/// Whether an event was done.
+pub(crate) fn is_done(answer: &Answer) -> bool
+    ensures { result ≡ is_done answer.now }
+{
+    matches!(answer, Answer::Done)
+}
