@@ -4,7 +4,7 @@ use Rattle.word36.specs.declared.sizes.TheConstants.{BLOCK_WORDS}
 use Rattle.ka_cpu.specs.declared.registers.Regs.{Regs}
 use Rattle.job_sched.specs.Jobs.{no_flags}
 use Rattle.uuo_calls.specs.StatusRow.{Places, stored_at}
-use Rattle.machine.specs.declared.sizes.TheConstants.{HIGHEST_PLACE}
+use Rattle.uuo_calls.specs.declared.core_call.TheConstants.{HIGHEST_PLACE}
 
 -- the last of some places, where they rise from a place on and are below 2 ^ 18
 abbrev pub top_from : ℕ → List (ℕ × ℕ) → Option ℕ

@@ -8,5 +8,6 @@ mod view;
 
 pub use config::Config;
 pub use event::{Answer, Event, RefusedEvent};
-pub use sizes::{HIGHEST_PLACE, INTERRUPT_CHARACTER, LOGIN_QUOTA, MOST_QUANTUM, VECTOR_WORDS};
+pub use sizes::{INTERRUPT_CHARACTER, LOGIN_QUOTA, MOST_QUANTUM, VECTOR_WORDS};
+pub use uuo_calls::HIGHEST_PLACE;
 pub use view::JobView;

@@ -10,9 +10,5 @@ pub const LOGIN_QUOTA: u16 = 64;
 /// CTRL-C, which stops the job of the line where it is typed.
 pub const INTERRUPT_CHARACTER: u8 = 3;
 
-/// .JBREL, location 44 octal of a job's core, which holds its highest legal address (TOPS-10
-/// Monitor Calls Manual).
-pub const HIGHEST_PLACE: u32 = 0o44;
-
 /// The words of an interrupt vector.
 pub const VECTOR_WORDS: u32 = 4;

@@ -4,8 +4,8 @@ ghost use Rattle.word36.specs.declared.word.TheConstants.{MODULUS, SIGN};
 ghost use Rattle.word36.specs.declared.sizes.TheConstants as size;
 ghost use Rattle.ka_cpu.specs.declared.limits.TheConstants.{MOST_LINKS, MOST_EXECUTES};
 ghost use Rattle.job_sched.specs.declared.time_of_day.TheConstants.{TICKS_A_SECOND, TICKS_A_DAY};
+ghost use Rattle.uuo_calls.specs.declared.core_call.TheConstants.{HIGHEST_PLACE};
 ghost use Rattle.machine.specs.declared.sizes.TheConstants.{
-  HIGHEST_PLACE,
   INTERRUPT_CHARACTER,
   LOGIN_QUOTA,
   MOST_QUANTUM,

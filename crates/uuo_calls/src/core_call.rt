@@ -12,8 +12,9 @@ use job_sched::Job;
 use ka_cpu::Accumulator;
 use word36::{BLOCK_WORDS, MOST_BLOCKS, Word};
 
-/// The place that tells a job its highest legal address.
-const JBREL: usize = 0o44;
+/// .JBREL, location 44 octal of a job's core, which holds its highest legal address (TOPS-10
+/// Monitor Calls Manual).
+pub const HIGHEST_PLACE: u32 = 0o44;
 
 /// How many blocks a word asks for, `0,,highest address`; None where it asks for none.
 fn blocks_asked(word: Word) -> Option<u32>
@@ -37,7 +38,7 @@ fn tell_highest<C: CoreStore>(number: u8, cores: &mut C, blocks: u32)
 {
     let highest = Word::new((blocks as usize * BLOCK_WORDS - 1) as u64);
     let words = cores.window(number);
-    words[JBREL] = highest;
+    words[HIGHEST_PLACE as usize] = highest;
 }
 
 /// Gives a job so many blocks, unless blocks lack.

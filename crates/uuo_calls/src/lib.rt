@@ -20,6 +20,7 @@ mod status;
 
 pub use call::{CallOutcome, MonitorCall};
 pub use calls::{perform, remove_job};
+pub use core_call::HIGHEST_PLACE;
 pub use laws::{
     core_answers_free_blocks, empty_steps_wait, mstime_answers_milliseconds, others_are_spared,
     refusals_change_ac_alone, texts_go_whole,
