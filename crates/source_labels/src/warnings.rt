@@ -1,11 +1,9 @@
 //! What a person may not have meant.
 
 use crate::places::Places;
+use machine::HIGHEST_PLACE;
 use std::alloc::{AllocError, Global};
 use word36::Image;
-
-/// LOGIN writes the highest legal place of the job's core over the word here.
-const HIGHEST: u32 = 0o44;
 
 /// Places below this one are not meant for programs.
 const FIRST_PLACE: u32 = 0o140;
@@ -23,10 +21,10 @@ pub fn warnings_of(
         .words
         .as_slice()
         .iter()
-        .any(|(place, _)| *place == HIGHEST)
+        .any(|(place, _)| *place == HIGHEST_PLACE)
     {
         let line = format!(in alloc;
-            "{file}: warning: the word at {HIGHEST:o} is lost: LOGIN writes the highest place of the job's core there\n"
+            "{file}: warning: the word at {HIGHEST_PLACE:o} is lost: LOGIN writes the highest place of the job's core there\n"
         )?;
         text.push_str(line.as_str())?;
     }
