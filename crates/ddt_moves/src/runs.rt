@@ -1,7 +1,9 @@
 //! Runs up to the first stop.
 
+use crate::causes::{Cause, Stops};
+use crate::lock_watch::LockWatch;
+use crate::stop_lists::StopList;
 use ddt_session::{NoWatch, Ran, Timeline};
-use ddt_stops::{Cause, LockWatch, StopList, Stops};
 use run_facts::requests_in;
 use run_notes::grant_lines;
 use std::alloc::AllocError;

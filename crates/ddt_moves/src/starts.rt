@@ -1,7 +1,8 @@
 //! Jobs that start and go on.
 
+use crate::causes::Cause;
+use crate::stop_lists::StopList;
 use ddt_session::{Entry, Machine, Timeline};
-use ddt_stops::{Cause, StopList};
 use job_sched::Stop;
 use std::alloc::AllocError;
 

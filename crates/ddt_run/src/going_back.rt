@@ -1,10 +1,9 @@
 //! Going back, and forward again.
 
 use crate::session::Session;
-use crate::told::place_in;
 use ddt_help::Refusal;
+use ddt_moves::turn_at;
 use ddt_session::{last_at, last_write};
-use ddt_stops::turn_at;
 use std::alloc::AllocError;
 
 /// Puts the machine where so many steps were made, and shows what the open job executes there.
@@ -40,8 +39,8 @@ pub fn back_to_write(session: &mut Session<'_>, place: u32) -> Result<(), AllocE
         return session.refuse(Refusal::NeverWritten);
     };
     if let Some((job, from)) = turn_at(&session.timeline, steps)? {
-        let written = place_in(session, session.open, place)?;
-        let writer = place_in(session, job, from)?;
+        let written = session.spot(session.open, place)?;
+        let writer = session.spot(job, from)?;
         let line = format!(in session.alloc;
             "{} was last changed by job {job} at {}\n",
             written.as_str(),

@@ -5,7 +5,6 @@ mod asked;
 mod changes;
 mod going_back;
 mod histories;
-mod input;
 mod loading;
 mod looks;
 mod obey;

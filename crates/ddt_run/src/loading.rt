@@ -2,12 +2,11 @@
 ghost use Rattle.machine.specs.Setups.{IsSetup};
 
 use crate::asked::Asked;
-use crate::input::InputLines;
 use crate::session::{Session, SessionJob};
 use ddt_lines::{Look, Symbol};
+use ddt_moves::{InputLines, StopList};
 use ddt_session::{Entry, Timeline};
 use ddt_show::ShownJob;
-use ddt_stops::StopList;
 use monitor::{Answer, Config, RefusedEvent};
 use source_labels::{Assembled, Places, Program, Source, assemble_source, warnings_of};
 use std::alloc::{AllocError, Global};

@@ -2,11 +2,11 @@
 ghost use Rattle.std.specs.Prelude.{◌≡◌, ◌≢◌, false};
 
 use crate::asked::{Asked, Refusal};
-use crate::input::InputLines;
 use crate::loading::{assemble_all, begin};
 use crate::served::Served;
 use crate::session::Session;
 use crate::words::read_words;
+use ddt_moves::InputLines;
 use line_ports::{Answers, Failure, LineReader};
 use run_facts::{DONE, FAILED, REFUSED, USAGE};
 use script_io::{ByteIn, ByteOut};

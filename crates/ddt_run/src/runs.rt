@@ -3,9 +3,11 @@
 use crate::session::Session;
 use crate::told::tell_end;
 use ddt_help::Refusal;
-use ddt_moves::{Ended, breakpoint_of, go_on, is_loaded, is_stopped, run_to, start};
+use ddt_moves::{
+    Cause, Ended, Stops, breakpoint_of, go_on, is_loaded, is_stopped, run_to, stands_at_call,
+    start, stops_of,
+};
 use ddt_session::{Stop, some_go_on};
-use ddt_stops::{Cause, Stops, stands_at_call, stops_of};
 use std::alloc::AllocError;
 use word36::Word;
 

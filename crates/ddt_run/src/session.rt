@@ -1,11 +1,10 @@
 //! A session: the machine with its jobs, and what is looked at.
 
-use crate::input::InputLines;
 use ddt_help::{Refusal, refuse};
 use ddt_lines::{Look, Scope, Symbol};
+use ddt_moves::{InputLines, StopList};
 use ddt_session::{Machine, Timeline};
-use ddt_show::{ShownJob, job_line, place_line};
-use ddt_stops::StopList;
+use ddt_show::{ShownJob, job_line, place_line, place_text};
 use job_sched::Wait;
 use std::alloc::{AllocError, Global};
 use word36::{Address, Word};
@@ -93,6 +92,15 @@ impl Session<'_> {
             symbols,
             here: Word::low_bits(u64::from(self.here)),
             last: self.last,
+        }
+    }
+
+    /// A place of a job: `LOOP+3`.
+    pub fn spot(&self, job: u8, place: u32) -> Result<String, AllocError> {
+        let at = usize::from(job).saturating_sub(1);
+        match self.jobs.as_slice().get(at) {
+            Some(job) => place_text(self.alloc, &job.shown, place),
+            None => format!(in self.alloc; "{place:o}"),
         }
     }
 

@@ -2,8 +2,7 @@
 
 use crate::session::Session;
 use ddt_help::Refusal;
-use ddt_show::place_text;
-use ddt_stops::{Breakpoint, WatchedWord};
+use ddt_moves::{Breakpoint, WatchedWord};
 use lock_queue::Name;
 use queue_script::CallRoom;
 use script_io::Parts;
@@ -35,15 +34,6 @@ pub fn unset(session: &mut Session<'_>, number: u8) -> Result<(), AllocError> {
     Ok(())
 }
 
-/// A place of a job: `LOOP+3`.
-fn place_of(session: &Session<'_>, job: u8, place: u32) -> Result<String, AllocError> {
-    let at = usize::from(job).saturating_sub(1);
-    match session.jobs.as_slice().get(at) {
-        Some(job) => place_text(session.alloc, &job.shown, place),
-        None => format!(in session.alloc; "{place:o}"),
-    }
-}
-
 /// The line on a breakpoint: `$1B job 1 LOOP+3`.
 fn tell_breakpoint(
     session: &mut Session<'_>,
@@ -51,7 +41,7 @@ fn tell_breakpoint(
     breakpoint: Breakpoint,
 ) -> Result<(), AllocError> {
     let job = breakpoint.job;
-    let place = place_of(session, job, breakpoint.place.number())?;
+    let place = session.spot(job, breakpoint.place.number())?;
     let line = format!(in session.alloc; "${number}B job {job} {}\n", place.as_str())?;
     session.say(line.as_str())
 }
@@ -63,7 +53,7 @@ fn tell_watched(
     word: WatchedWord,
 ) -> Result<(), AllocError> {
     let job = word.job;
-    let place = place_of(session, job, word.place)?;
+    let place = session.spot(job, word.place)?;
     let line = format!(in session.alloc; "{head} job {job} {}\n", place.as_str())?;
     session.say(line.as_str())
 }

@@ -2,9 +2,7 @@
 
 use crate::session::Session;
 use crate::tables::tell_waits;
-use ddt_moves::Ended;
-use ddt_show::place_text;
-use ddt_stops::{Cause, turn_at};
+use ddt_moves::{Cause, Ended, turn_at};
 use std::alloc::AllocError;
 use word36::{Address, Word};
 
@@ -33,21 +31,12 @@ fn octal_of(session: &Session<'_>, word: Option<Word>) -> Result<String, AllocEr
     }
 }
 
-/// A place of a job: `LOOP+3`.
-pub fn place_in(session: &Session<'_>, job: u8, place: u32) -> Result<String, AllocError> {
-    let at = usize::from(job).saturating_sub(1);
-    match session.jobs.as_slice().get(at) {
-        Some(job) => place_text(session.alloc, &job.shown, place),
-        None => format!(in session.alloc; "{place:o}"),
-    }
-}
-
 /// By whom a word was changed in the last step that was made: ` by job 1 at LOOP+3`.
 fn writer_text(session: &Session<'_>) -> Result<String, AllocError> {
     let steps = session.timeline.steps().saturating_sub(1);
     match turn_at(&session.timeline, steps)? {
         Some((job, place)) => {
-            let place = place_in(session, job, place)?;
+            let place = session.spot(job, place)?;
             format!(in session.alloc; " by job {job} at {}", place.as_str())
         }
         None => Ok(String::new(session.alloc)),
@@ -62,7 +51,7 @@ fn tell_change(
     was: Option<Word>,
 ) -> Result<(), AllocError> {
     session.open = job;
-    let name = place_in(session, job, place)?;
+    let name = session.spot(job, place)?;
     let old = octal_of(session, was)?;
     let new = octal_of(session, session.machine().peek(job, place))?;
     let writer = writer_text(session)?;

@@ -1,6 +1,6 @@
 //! What is typed where a job waits for characters: lines of a file, one after the other.
 
-use ddt_moves::type_line;
+use crate::terminals::type_line;
 use ddt_session::Timeline;
 use run_facts::target_of;
 use std::alloc::{AllocError, Global};
