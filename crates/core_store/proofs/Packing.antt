@@ -22,13 +22,6 @@ pub record ArePacked (block packed : ℕ) (areas : List Area) : Type 0 where
   pub done : (k : ℕ) → k < length areas → (area_of areas k).base < block → (area_of areas k).base + (area_of areas k).blocks ≤ packed
   pub rest : (k : ℕ) → k < length areas → block ≤ (area_of areas k).base → 1 ≤ (area_of areas k).blocks → packed ≤ (area_of areas k).base
 
--- at the start nothing is packed
-pub ArePacked-start : (areas : List Area) → ArePacked 0 0 areas
-ArePacked-start areas = record {
-  done = λ k l lt. absurd (omega arith);
-  rest = λ k l le some. omega arith;
-}
-
 -- no other job begins where one does
 alone : (size : ℕ) (areas : List Area) (job k block : ℕ) → IsLaidOut size areas → job < length areas → k < length areas → k ≢ job
     → (area_of areas job).base ≡ block → 1 ≤ (area_of areas job).blocks → (area_of areas k).base ≡ block → (area_of areas k).blocks ≡ 0
@@ -48,7 +41,8 @@ IsLaidOut-next size areas job block packed h p there at some =
       | inl q ↦ p.done k l q
       | inr q ↦ elim (cases_lt 0 (area_of areas k).blocks) [
         | inl s ↦
-            let after : (area_of areas job).base + (area_of areas job).blocks ≤ (area_of areas k).base = h.apart job k there l (λ e. ne (sym e)) (omega arith) in
+            let after : (area_of areas job).base + (area_of areas job).blocks ≤ (area_of areas k).base =
+            h.apart job k there l (λ e. ne (sym e)) (omega arith) in
             absurd (omega arith)
         | inr s ↦ (let bottom : (area_of areas k).base ≡ 0 = h.bare k l (omega arith) in omega arith)
       ]
@@ -81,7 +75,8 @@ ArePacked-next size areas job block packed h p there at some =
           elim (cases_eq k job) [
             | inl q ↦ rw (q, here) (λ le one. absurd (omega arith))
             | inr q ↦ rw (area-other areas job k a q) (λ le one.
-                let after : (area_of areas job).base + (area_of areas job).blocks ≤ (area_of areas k).base = h.apart job k there m (λ e. q (sym e)) (omega arith) in
+                let after : (area_of areas job).base + (area_of areas job).blocks ≤ (area_of areas k).base =
+                h.apart job k there m (λ e. q (sym e)) (omega arith) in
                 omega arith)
           ];
     }
@@ -118,28 +113,29 @@ steady block a none = elim (cases_lt a.base block) [
   ]
 ]
 
-pub blocks_from-start : (areas : List Area) → blocks_from 0 areas ≡ blocks_in areas
-blocks_from-start areas = sum-same (λ a. a.blocks) (blocks_if 0) areas areas refl (λ k l. counts 0 (area_of areas k) (omega arith))
-
 pub blocks_from-skip : (areas : List Area) (block : ℕ) → ((k : ℕ) → k < length areas → (area_of areas k).base ≡ block → (area_of areas k).blocks ≡ 0)
     → blocks_from (block + 1) areas ≡ blocks_from block areas
 blocks_from-skip areas block none = sum-same (blocks_if block) (blocks_if (block + 1)) areas areas refl (λ k l. steady block (area_of areas k) (none k l))
 
 pub blocks_from-next : (size : ℕ) (areas : List Area) (job block packed : ℕ) → IsLaidOut size areas → ArePacked block packed areas → job < length areas
     → (area_of areas job).base ≡ block → 1 ≤ (area_of areas job).blocks
-    → blocks_from (block + 1) (slice_set areas job (record { base = packed; blocks = (area_of areas job).blocks })) + (area_of areas job).blocks ≡ blocks_from block areas
+    → blocks_from (block + 1) (slice_set areas job (record { base = packed; blocks = (area_of areas job).blocks }))
+    + (area_of areas job).blocks ≡ blocks_from block areas
 blocks_from-next size areas job block packed h p there at some =
     let a : Area = record { base = packed; blocks = (area_of areas job).blocks } in
     let down : packed ≤ (area_of areas job).base = p.rest job there (omega arith) some in
-    let changed : blocks_from (block + 1) (slice_set areas job a) + blocks_if block (area_of areas job) ≡ blocks_from block areas + blocks_if (block + 1) (area_of (slice_set areas job a) job) =
+    let changed : blocks_from (block + 1) (slice_set areas job a) + blocks_if block (area_of areas job)
+    ≡ blocks_from block areas + blocks_if (block + 1) (area_of (slice_set areas job a) job) =
     sum-changed (blocks_if block) (blocks_if (block + 1)) areas (slice_set areas job a) job (length-set areas job a) there
     (λ k l ne. ap (blocks_if (block + 1)) (area-other areas job k a ne) ∙ steady block (area_of areas k) (alone size areas job k block h there l ne at some)) in
     let was : blocks_if block (area_of areas job) ≡ (area_of areas job).blocks = counts block (area_of areas job) (omega arith) in
-    let now : blocks_if (block + 1) (area_of (slice_set areas job a) job) ≡ 0 = ap (blocks_if (block + 1)) (area-set areas job a there) ∙ counts-not (block + 1) a (omega arith) in
+    let now : blocks_if (block + 1) (area_of (slice_set areas job a) job) ≡ 0 =
+    ap (blocks_if (block + 1)) (area-set areas job a there) ∙ counts-not (block + 1) a (omega arith) in
     omega arith
 
 -- a move keeps how many blocks there are
-pub sum-moved : (areas : List Area) (job to : ℕ) → job < length areas → blocks_in (slice_set areas job (record { base = to; blocks = (area_of areas job).blocks })) ≡ blocks_in areas
+pub sum-moved : (areas : List Area) (job to : ℕ) → job < length areas
+    → blocks_in (slice_set areas job (record { base = to; blocks = (area_of areas job).blocks })) ≡ blocks_in areas
 sum-moved areas job to there =
     let e = sum-set areas job (record { base = to; blocks = (area_of areas job).blocks }) there in
     omega arith
@@ -158,16 +154,3 @@ blocks_from-end size all areas h e =
       | inr q ↦ (let zero : (area_of areas k).blocks ≡ 0 = omega arith in counts all (area_of areas k) q ∙ zero)
     ])
     ∙ no-sum areas
-
--- and all jobs lie among the packed blocks
-pub EndBy-packed : (size all packed : ℕ) (areas : List Area) → IsLaidOut size areas → size ≡ all * BLOCK_WORDS → ArePacked all packed areas
-    → (k : ℕ) → k < length areas → (area_of areas k).base + (area_of areas k).blocks ≤ packed
-EndBy-packed size all packed areas h e p k l =
-    let within = h.within k l in
-    elim (cases_lt (area_of areas k).base all) [
-      | inl q ↦ p.done k l q
-      | inr q ↦
-          let zero : (area_of areas k).blocks ≡ 0 = omega arith in
-          let bottom : (area_of areas k).base ≡ 0 = h.bare k l zero in
-          omega arith
-    ]

@@ -13,7 +13,7 @@ use Rattle.lock_queue.specs.Queue.{chosen_behind}
 use Rattle.job_sched.specs.declared.job.Job.{Job}
 use Rattle.job_sched.specs.declared.job.Wait.{Wait}
 use Rattle.job_sched.specs.declared.job.Wait.TheVariants.{None as Nothing, Sleep, Char, Line, Room, Queue}
-use Rattle.job_sched.specs.Jobs.{is_sleep, ticked_job, ticked_wait}
+use Rattle.job_sched.specs.Jobs.{is_sleep}
 use Rattle.job_sched.specs.Limits.{at_error_return, expires, is_last_tick, is_queue, limit_of, limited_by, limited_from, limited_job, limited_table}
 use Rattle.job_sched.specs.Tables.{IsTable, Table, is_sleeper, job_at}
 use Rattle.job_sched.proofs.Sleepers.{left-none, right-none}
@@ -87,31 +87,6 @@ pub queue-limited : (b : Bool) (j : Job) → is_queue j.wait ≡ true → (b && 
 queue-limited true j e more = by-queue j.wait j e more
 queue-limited false j e more = e
 
--- a job that waits for no request stays as it is
-none-limit : (w : Wait) → is_queue w ≡ false → limit_of w ≡ 0
-none-limit (Queue limit ac) e = absurd (cc)
-none-limit Nothing e = refl
-none-limit (Sleep ticks) e = refl
-none-limit Char e = refl
-none-limit Line e = refl
-none-limit (Room places) e = refl
-
-pub other-limited : (b : Bool) (j : Job) → is_queue j.wait ≡ false → limited_job b j ≡ j
-other-limited b j e = limited-none b j (none-limit j.wait e)
-
--- ticks of sleeps leave limits as they are
-limit-ticked : (w : Wait) → limit_of (ticked_wait w) ≡ limit_of w
-limit-ticked (Queue limit ac) = refl
-limit-ticked Nothing = refl
-limit-ticked (Sleep ticks) = refl
-limit-ticked Char = refl
-limit-ticked Line = refl
-limit-ticked (Room places) = refl
-
-pub last-ticked : (o : Option Job) → is_last_tick (option_map ticked_job o) ≡ is_last_tick o
-last-ticked None = refl
-last-ticked (Some j) = ap (λ (n : ℕ). n == 1) (limit-ticked j.wait)
-
 -- where ticks count for nobody there is no limit
 no-limit : (w : Wait) → is_sleep w ≡ false → limit_of w ≡ 0
 no-limit (Queue zero ac) e = refl
@@ -133,7 +108,10 @@ last-awake (Some j) e = ap (λ (n : ℕ). n == 1) (no-limit j.wait e)
 pub limited-awake : (waits : ℕ → Bool) (n : ℕ) (jobs : List (Option Job)) → list_any is_sleeper jobs ≡ false → limited_from waits n jobs ≡ jobs
 limited-awake waits n [] none = refl
 limited-awake waits n (o ∷ jobs) none =
-    rw (slot-awake (waits n) o (left-none (is_sleeper o) (list_any is_sleeper jobs) none), limited-awake waits (n + 1) jobs (right-none (is_sleeper o) _ none)) refl
+    rw (
+      slot-awake (waits n) o (left-none (is_sleeper o) (list_any is_sleeper jobs) none),
+      limited-awake waits (n + 1) jobs (right-none (is_sleeper o) _ none),
+    ) refl
 
 pub table-awake : (t : Table) (requests : List Request) → list_any is_sleeper t.jobs ≡ false → limited_table t requests ≡ t
 table-awake t requests none = ap (λ jobs. record t { jobs = jobs }) (limited-awake (is_waiting_job requests) 0 t.jobs none)
@@ -151,7 +129,8 @@ pub expires-awake : (requests : List Request) (jobs : List (Option Job)) → lis
 expires-awake requests jobs none n = and-false (is_waiting_job requests n) (is_last_tick (job_at jobs n)) (last-at jobs n none)
 
 -- each job for itself
-from-at : (waits : ℕ → Bool) (jobs : List (Option Job)) (n m k : ℕ) → k ≡ n + m → job_at (limited_from waits n jobs) m ≡ option_map (limited_job (waits k)) (job_at jobs m)
+from-at : (waits : ℕ → Bool) (jobs : List (Option Job)) (n m k : ℕ) → k ≡ n + m
+    → job_at (limited_from waits n jobs) m ≡ option_map (limited_job (waits k)) (job_at jobs m)
 from-at waits [] n m k e = refl
 from-at waits (o ∷ jobs) n zero k e = let same : n ≡ k = omega (arith, e) in ap (λ (i : ℕ). option_map (limited_job (waits i)) o) same
 from-at waits (o ∷ jobs) n (suc m) k e = from-at waits jobs (n + 1) m k (omega (arith, e))
@@ -175,7 +154,8 @@ there-limited t requests n = ap (λ o. is_some o) (job-limited t requests n) ∙
 pub none-limited : (waits : ℕ → Bool) (jobs : List (Option Job)) (m : ℕ) → job_at jobs m ≡ None → job_at (limited_from waits 0 jobs) m ≡ None
 none-limited waits jobs m none = from-at waits jobs 0 m m (omega arith) ∙ ap (λ o. option_map (limited_job (waits m)) o) none
 
-pub IsTable-limited : (waits : ℕ → Bool) (jobs : List (Option Job)) (sleepers : Bool) (from : ℕ) → IsTable jobs sleepers from → IsTable (limited_from waits 0 jobs) sleepers from
+pub IsTable-limited : (waits : ℕ → Bool) (jobs : List (Option Job)) (sleepers : Bool) (from : ℕ) → IsTable jobs sleepers from
+    → IsTable (limited_from waits 0 jobs) sleepers from
 IsTable-limited waits jobs sleepers from h = record {
   places = length-limited waits 0 jobs ∙ h.places;
   awake = λ e. rw (limited-awake waits 0 jobs (h.awake e)) (h.awake e);
@@ -208,17 +188,6 @@ member jobs job n low = elim (cases_eq n job) [
       ap (λ (b : ℕ). b == 1) (bit_at_set_other w64 jobs job (omega arith) n other)
       ∙ sym (ap (λ b. is_among jobs n || b) no ∙ or-false (is_among jobs n))
 ]
-
--- withdrawals that are judged alike
-chosen-same : (f g : List Request → Request → Bool) → ((e : List Request) (r : Request) → f e r ≡ g e r) → (e rs : List Request) → chosen_behind f e rs ≡ chosen_behind g e rs
-chosen-same f g same e [] = refl
-chosen-same f g same e (r ∷ rs) =
-    ap (λ b. cond b (r ∷ chosen_behind f (e ++ r ∷ []) rs) (chosen_behind f (e ++ r ∷ []) rs)) (same e r)
-    ∙ ap (λ l. cond (g e r) (r ∷ l) l) (chosen-same f g same (e ++ r ∷ []) rs)
-
-pub withdrawn-same : (requests : List Request) (f g : ℕ → Bool) → ((n : ℕ) → f n ≡ g n) → withdrawn_where requests f ≡ withdrawn_where requests g
-withdrawn-same requests f g same =
-    chosen-same (is_not_blocked_where f) (is_not_blocked_where g) (λ e r. ap (λ b. is_not_blocked_where (λ n. b) e r) (same r.job)) [] requests
 
 -- nothing is withdrawn where no job is asked for
 chosen-all : (f : List Request → Request → Bool) → ((e : List Request) (r : Request) → f e r ≡ true) → (e rs : List Request) → chosen_behind f e rs ≡ rs

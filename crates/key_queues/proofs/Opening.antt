@@ -29,7 +29,8 @@ open_given_up s t p k kept_s kept_t present lt gives counted used m some =
     elim (cases_eq m (get_or (s.own p) k 0)) [
       | inl e ↦
           subst (IsUsed t) (sym e)
-          (used_after s t p k kept_s kept_t present lt gives counted (not-true (length (t.queue (get_or (s.own p) k 0)).places == 0) (subst (λ j. is_open (t.queue j) ≡ true) e some)))
+          (used_after s t p k kept_s kept_t present lt gives counted
+          (not-true (length (t.queue (get_or (s.own p) k 0)).places == 0) (subst (λ j. is_open (t.queue j) ≡ true) e some)))
       | inr ne ↦
           let u : IsUsed s m = used m (subst (λ (q : KeptQueue). is_open q ≡ true) (gives.others m ne) some) in
           record {
@@ -108,11 +109,4 @@ shuts_extended s m t n shuts e used kept = record {
             subst (λ z. is_open (s.queue z) ≡ true) (sym here) (shuts.shut n (used_open m used.place n kept used.stands))
         | inr ne ↦ shuts.shut j (subst (λ (q : KeptQueue). is_open q ≡ true) (e.others j ne) some)
       ];
-}
-
-pub shuts_twice : (s m t : State) → OnlyShuts s m → OnlyShuts m t → OnlyShuts s t
-shuts_twice s m t a b = record {
-  key = λ j. b.key j ∙ a.key j;
-  size = λ j. b.size j ∙ a.size j;
-  shut = λ j some. a.shut j (b.shut j some);
 }

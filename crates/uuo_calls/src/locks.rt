@@ -11,7 +11,7 @@ ghost use Rattle.uuo_calls.specs.Around.{ac_of};
 
 use crate::blocks::block_kept;
 use crate::returns::{refuse, skip};
-use crate::room::{CallRoom, be_changing, be_entering, be_naming};
+use crate::room::{CallRoom, make_changing, make_entering, make_naming};
 use core_store::CoreStore;
 use job_sched::{Job, Wait};
 use ka_cpu::{Accumulator, CoreWords, JobMemory, Regs};
@@ -83,9 +83,13 @@ fn call_on_block<L: LockTable, M: JobMemory>(
     locks: &mut L,
 ) -> Answer
     requires number { IsJob number }
-    ensures reply { result.reply ≡ (asked L.REQS (L.requests locks.old) number (with_block call.old (block_at regs.now.ac (M.words memory.old) place number block_use))).reply }
+    ensures reply { result.reply
+        ≡ (asked L.REQS (L.requests locks.old) number
+        (with_block call.old (block_at regs.now.ac (M.words memory.old) place number block_use))).reply }
     ensures limit { result.limit ≡ limit_with call.old (block_at regs.now.ac (M.words memory.old) place number block_use) }
-    ensures requests { L.requests locks.new ≡ (asked L.REQS (L.requests locks.old) number (with_block call.old (block_at regs.now.ac (M.words memory.old) place number block_use))).requests }
+    ensures requests { L.requests locks.new
+        ≡ (asked L.REQS (L.requests locks.old) number
+        (with_block call.old (block_at regs.now.ac (M.words memory.old) place number block_use))).requests }
     ensures same { memory.new ≡ memory.old }
 {
     match fill_call(call, block_use, regs, memory, place, number) {
@@ -112,28 +116,29 @@ fn enqueue<L: LockTable, M: JobMemory>(
     requires number { IsJob number }
     ensures reply { result.reply ≡ (asked L.REQS (L.requests locks.old) number (enq_asks regs.now.ac (M.words memory.old) number word armed quota)).reply }
     ensures limit { result.limit ≡ enq_limit regs.now.ac (M.words memory.old) number word }
-    ensures requests { L.requests locks.new ≡ (asked L.REQS (L.requests locks.old) number (enq_asks regs.now.ac (M.words memory.old) number word armed quota)).requests }
+    ensures requests { L.requests locks.new
+        ≡ (asked L.REQS (L.requests locks.old) number (enq_asks regs.now.ac (M.words memory.old) number word armed quota)).requests }
     ensures same { memory.new ≡ memory.old }
 {
     let place = Address::new(word.right());
     let kind = match word.left() {
         0 => {
             let call = &mut room.entering;
-            be_entering(call, EnqueueKind::Blocking, armed, quota);
+            make_entering(call, EnqueueKind::Blocking, armed, quota);
             return call_on_block(call, BlockUse::Blocking, regs, memory, place, number, locks);
         }
         1 => EnqueueKind::AtOnce,
         2 => EnqueueKind::Interrupt,
         3 => {
             let call = &mut room.naming;
-            be_changing(call);
+            make_changing(call);
             let answer = call_on_block(call, BlockUse::Named, regs, memory, place, number, locks);
             return at_once(answer.reply);
         }
         _ => return at_once(LockReply::Refused(Refusal::NoFunction)),
     };
     let call = &mut room.entering;
-    be_entering(call, kind, armed, quota);
+    make_entering(call, kind, armed, quota);
     let answer = call_on_block(call, BlockUse::Full, regs, memory, place, number, locks);
     at_once(answer.reply)
 }
@@ -169,8 +174,15 @@ pub(crate) fn enq<L: LockTable, C: CoreStore>(
     room: &mut CallRoom,
 )
     requires number { IsJob number }
-    ensures job { job.new ≡ answered job.old ac (enq_limit job.old.regs.ac (core_of (C.meaning cores.old) number) number (ac_of job.old ac)) (asked L.REQS (L.requests locks.old) number (enq_asks job.old.regs.ac (core_of (C.meaning cores.old) number) number (ac_of job.old ac) (is_some job.old.interrupts.vector) job.old.quota)).reply }
-    ensures requests { L.requests locks.new ≡ (asked L.REQS (L.requests locks.old) number (enq_asks job.old.regs.ac (core_of (C.meaning cores.old) number) number (ac_of job.old ac) (is_some job.old.interrupts.vector) job.old.quota)).requests }
+    ensures job { job.new
+        ≡ answered job.old ac (enq_limit job.old.regs.ac (core_of (C.meaning cores.old) number) number (ac_of job.old ac))
+        (asked L.REQS (L.requests locks.old) number
+        (enq_asks job.old.regs.ac (core_of (C.meaning cores.old) number) number (ac_of job.old ac)
+        (is_some job.old.interrupts.vector) job.old.quota)).reply }
+    ensures requests { L.requests locks.new
+        ≡ (asked L.REQS (L.requests locks.old) number
+        (enq_asks job.old.regs.ac (core_of (C.meaning cores.old) number) number (ac_of job.old ac)
+        (is_some job.old.interrupts.vector) job.old.quota)).requests }
     ensures cores { C.meaning cores.new ≡ C.meaning cores.old }
 {
     let word = job.regs.ac[ac.index()];
@@ -228,7 +240,7 @@ fn dequeue<L: LockTable, M: JobMemory>(
     match word.left() {
         0 => {
             let call = &mut room.naming;
-            be_naming(call);
+            make_naming(call);
             let place = Address::new(right);
             call_on_block(call, BlockUse::Named, regs, memory, place, number, locks).reply
         }
@@ -252,8 +264,13 @@ pub(crate) fn deq<L: LockTable, C: CoreStore>(
     room: &mut CallRoom,
 )
     requires number { IsJob number }
-    ensures job { job.new ≡ answered job.old ac 0 (asked L.REQS (L.requests locks.old) number (deq_asks job.old.regs.ac (core_of (C.meaning cores.old) number) number (ac_of job.old ac))).reply }
-    ensures requests { L.requests locks.new ≡ (asked L.REQS (L.requests locks.old) number (deq_asks job.old.regs.ac (core_of (C.meaning cores.old) number) number (ac_of job.old ac))).requests }
+    ensures job { job.new
+        ≡ answered job.old ac 0
+        (asked L.REQS (L.requests locks.old) number
+        (deq_asks job.old.regs.ac (core_of (C.meaning cores.old) number) number (ac_of job.old ac))).reply }
+    ensures requests { L.requests locks.new
+        ≡ (asked L.REQS (L.requests locks.old) number
+        (deq_asks job.old.regs.ac (core_of (C.meaning cores.old) number) number (ac_of job.old ac))).requests }
     ensures cores { C.meaning cores.new ≡ C.meaning cores.old }
 {
     let word = job.regs.ac[ac.index()];
