@@ -1,5 +1,5 @@
 //! A machine with all that has happened to it, so that it can be put back to any of its steps.
-ghost use Rattle.std.specs.Prelude.{◌≡◌, ◌+◌, ◌-◌, ◌≤◌, ◌<◌, ℕ, None, OnOk, OnSome, IfSome, take, length, true};
+ghost use Rattle.std.specs.Prelude.{◌≡◌, ◌+◌, ◌-◌, ◌≤◌, ◌<◌, ℕ, None, OnOk, OnSome, IfOk, IfSome, take, length, true};
 ghost use Rattle.word36.specs.declared.sizes.TheConstants.{MOST_REQUESTS};
 ghost use Rattle.machine.specs.Machine.{after, at_boot};
 ghost use Rattle.machine.specs.Rounds.{rounds};
@@ -204,7 +204,9 @@ impl Timeline {
 
     /// Puts the machine where so many steps have been made; false where there are fewer. What has
     /// happened is kept.
-    pub fn put_back(&mut self, steps: u64) -> Result<bool, AllocError> {
+    pub fn put_back(&mut self, steps: u64) -> Result<bool, AllocError>
+        ensures there { IfOk result (λ has_so_many. has_so_many ≡ true → steps_in (take self.new.whole self.new.entries.items) + self.new.part ≡ steps) }
+    {
         self.settle()?;
         let Some((whole, part)) = place_of(self.entries.as_slice(), steps) else {
             return Ok(false);
