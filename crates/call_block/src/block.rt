@@ -84,6 +84,7 @@ fn put(wants: &mut Wants, place: usize, want: Want)
 }
 
 /// Fills in the wants of so many locks, all of whose words are legal.
+#[inline(always)]
 fn read_wants<M: JobMemory>(
     regs: &Regs,
     memory: &M,
@@ -127,6 +128,7 @@ fn read_wants<M: JobMemory>(
 /// level 0, no bypass, group 0 and no pool. A block's address does not wrap, the pointer to a name does,
 /// as in ILDB. Nothing is changed. (ENQ/DEQ of the TOPS-10 Monitor Calls Manual; the layout and the
 /// refusals are this project's profile.)
+#[inline(always)]
 #[tactic(auto, unfolding(crate::specs::Blocks::block_at))]
 pub fn fill_block<M: JobMemory>(
     regs: &Regs,

@@ -71,6 +71,7 @@ fn character_of(pointer: Word, word: Word) -> u8
 
 /// What the increments of a pointer point to, up to the first zero or to one character more than a
 /// name may have, if the words of all of them are legal.
+#[inline(always)]
 fn read_characters<M: JobMemory>(
     regs: &Regs,
     memory: &M,
@@ -95,6 +96,7 @@ fn read_characters<M: JobMemory>(
 }
 
 /// The text at a pointer.
+#[inline(always)]
 fn read_text<M: JobMemory>(regs: &Regs, memory: &M, pointer: Word) -> Result<NameText, Refusal>
     requires { size_of pointer ≡ 7 }
     ensures { result ≡ text_at regs.now.ac (M.words memory.now) pointer }
@@ -106,6 +108,7 @@ fn read_text<M: JobMemory>(regs: &Regs, memory: &M, pointer: Word) -> Result<Nam
 }
 
 /// The name that a word of a block stands for.
+#[inline(always)]
 pub fn read_name<M: JobMemory>(regs: &Regs, memory: &M, word: Word) -> Result<Name, Refusal>
     ensures { result ≡ name_at regs.now.ac (M.words memory.now) word }
 {

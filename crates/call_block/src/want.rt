@@ -48,6 +48,7 @@ fn terms_of(lock: Lock) -> Terms
 }
 
 /// A job's want of a lock.
+#[inline(always)]
 pub fn want_of<M: JobMemory>(
     regs: &Regs,
     memory: &M,

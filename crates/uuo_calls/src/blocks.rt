@@ -14,6 +14,7 @@ use word36::Address;
 
 /// Fills in the wants of the block at an address and answers its id and its limit, or answers the first
 /// refusal.
+#[inline(always)]
 pub(crate) fn block_kept<M: JobMemory>(
     regs: &Regs,
     memory: &mut M,
