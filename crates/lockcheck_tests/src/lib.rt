@@ -4,6 +4,8 @@
 #[cfg(test)]
 mod dining;
 #[cfg(test)]
+mod longest;
+#[cfg(test)]
 mod plain_walk;
 #[cfg(test)]
 mod refusals;

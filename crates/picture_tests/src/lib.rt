@@ -2,6 +2,8 @@
 #![tactic(auto)]
 
 #[cfg(test)]
+mod longest;
+#[cfg(test)]
 mod pictures;
 #[cfg(test)]
 mod refusals;
