@@ -1,4 +1,4 @@
-//! Answers to lines.
+//! Answers to lines, and other texts.
 ghost use Rattle.std.specs.Prelude.{◌≡◌, false};
 
 use script_io::{ByteOut, Failed, write_all};
@@ -8,6 +8,8 @@ use script_io::{ByteOut, Failed, write_all};
 pub struct Answers<W: ByteOut + Drop> {
     inner: W,
     is_closed: bool,
+    /// Whether the last line is whole.
+    is_line_whole: bool,
     ghost sound: { is_closed ≡ false → W.has_failed inner ≡ false },
 }
 
@@ -19,6 +21,7 @@ impl<W: ByteOut + Drop> Answers<W> {
         Answers {
             inner,
             is_closed: false,
+            is_line_whole: true,
         }
     }
 
@@ -29,6 +32,14 @@ impl<W: ByteOut + Drop> Answers<W> {
         }
         let written = write_all(&mut self.inner, bytes);
         self.is_closed = written.is_err();
+        if let Some(last) = bytes.last() {
+            self.is_line_whole = *last == b'\n';
+        }
         written
+    }
+
+    /// Whether the last line that was written is whole, or none was.
+    pub fn is_line_whole(&self) -> bool {
+        self.is_line_whole
     }
 }

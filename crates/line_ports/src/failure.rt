@@ -1,15 +1,15 @@
-//! What cuts a session short.
+//! What cuts a session or a run short.
 
 use script_io::Failed;
 use std::alloc::{AllocError, AllocFailed};
 use std::fmt;
 
-/// What cut a session short.
+/// What cut a session or a run short.
 #[derive(Clone, Copy, Debug, PartialEq, Eq, Drop)]
 pub enum Failure {
     /// The input failed.
     Read,
-    /// The output failed.
+    /// An output failed.
     Write,
     /// There was no memory.
     Memory,

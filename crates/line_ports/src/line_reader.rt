@@ -9,6 +9,9 @@ use std::alloc::{AllocError, Global};
 /// How many bytes are read at once, at most.
 const PIECE: usize = 4096;
 
+/// So many bytes of a line show whether it is too long: one more than lines may have, and a CR.
+const MOST_KEPT: usize = LINE_LENGTH + 2;
+
 /// What came of an input.
 #[derive(Clone, Copy, Debug, PartialEq, Eq)]
 pub enum Came {
@@ -48,6 +51,11 @@ impl<R: ByteIn + Drop> LineReader<R> {
         })
     }
 
+    /// Whether no more lines come.
+    pub fn has_ended(&self) -> bool {
+        self.has_ended
+    }
+
     /// Reads the next piece where the last one was given; false where there is none.
     fn fill(&mut self) -> Result<bool, Failure> {
         if self.given < self.filled {
@@ -82,31 +90,41 @@ impl<R: ByteIn + Drop> LineReader<R> {
         Ok(byte)
     }
 
-    /// Puts the bytes up to the next LF, or the end, in place of `line`, of which no more are kept than
-    /// make a line too long; false where neither a byte nor LF comes.
-    fn take_bytes(&mut self, line: &mut Vec<u8>) -> Result<bool, Failure> {
+    /// Puts the next line, of which no more than its first `most` bytes are kept, in place of `line`,
+    /// without its LF and a CR before that; false where no line comes. A last line without LF counts
+    /// where it is not empty. No byte behind the LF is waited for.
+    fn take_bytes(&mut self, line: &mut Vec<u8>, most: usize) -> Result<bool, Failure> {
         line.clear();
         for _ in 0..u64::MAX {
             match self.next_byte()? {
                 None => return Ok(!line.is_empty()),
-                Some(b'\n') => return Ok(true),
-                Some(byte) if line.len() < LINE_LENGTH + 2 => line.push(byte)?,
+                Some(b'\n') => {
+                    if line.as_slice().last().copied() == Some(b'\r') {
+                        line.pop();
+                    }
+                    return Ok(true);
+                }
+                Some(byte) if line.len() < most => line.push(byte)?,
                 Some(_) => {}
             }
         }
         Ok(false)
     }
 
-    /// Puts the next line in place of `line`, without its LF and a CR before that. A last line without
-    /// LF counts where it is not empty. No byte behind the LF is waited for.
+    /// Puts the next line, of any length, in place of `line`, without its LF and a CR before that; false
+    /// where no line comes. A last line without LF counts where it is not empty. No byte behind the LF is
+    /// waited for.
+    pub fn next_text(&mut self, line: &mut Vec<u8>) -> Result<bool, Failure> {
+        self.take_bytes(line, usize::MAX)
+    }
+
+    /// Puts the next line in place of `line`, as `next_text` does, but for one that is too long, of which
+    /// only a beginning comes.
     pub fn next_line(&mut self, line: &mut Vec<u8>) -> Result<Came, Failure>
         ensures length { IfOk result (λ came. came ≡ Came.Line → length line.new.items ≤ LINE_LENGTH) }
     {
-        if !self.take_bytes(line)? {
+        if !self.take_bytes(line, MOST_KEPT)? {
             return Ok(Came::End);
-        }
-        if line.as_slice().last().copied() == Some(b'\r') {
-            line.pop();
         }
         if line.len() > LINE_LENGTH {
             return Ok(Came::TooLong);

@@ -1,7 +1,6 @@
 //! The last steps of a job.
 
-use crate::failure::Failure;
-use crate::outlet::Outlet;
+use line_ports::{Answers, Failure};
 use script_io::ByteOut;
 use std::alloc::{AllocError, Global};
 
@@ -41,7 +40,7 @@ impl History {
     }
 
     /// Writes the lines, the oldest first.
-    pub fn write<E: ByteOut + Drop>(&self, errors: &mut Outlet<E>) -> Result<(), Failure> {
+    pub fn write<E: ByteOut + Drop>(&self, errors: &mut Answers<E>) -> Result<(), Failure> {
         for i in 0..self.lines.len() {
             let place = self.next.saturating_add(i).checked_rem(self.lines.len());
             if let Some(line) = place.and_then(|place| self.lines.get(place)) {

@@ -3,12 +3,9 @@
 #![tactic(auto)]
 
 mod asked;
-mod failure;
 mod history;
-mod input;
 mod jobs;
 mod notes;
-mod outlet;
 mod program;
 mod running;
 mod session;
@@ -17,8 +14,6 @@ mod texts;
 mod words;
 
 pub use asked::{Asked, Refusal};
-pub use failure::Failure;
-pub use outlet::Outlet;
 pub use program::{ten, unread_words};
 pub use running::{Ran, run_sources};
 pub use words::read_words;

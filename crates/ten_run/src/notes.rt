@@ -1,9 +1,8 @@
 //! What is told of a run while it goes on.
 
-use crate::failure::Failure;
 use crate::jobs::{Look, RunningJob};
-use crate::outlet::Outlet;
 use ka_isa::{Family, classify, decode};
+use line_ports::{Answers, Failure};
 use lock_queue::Request;
 use lock_svg::RunCourse;
 use monitor::JobView;
@@ -83,7 +82,7 @@ impl Notes {
         machine: &Machine,
         tick: u64,
         job: &mut RunningJob<'_>,
-        errors: &mut Outlet<E>,
+        errors: &mut Answers<E>,
     ) -> Result<(), Failure> {
         let Some(look) = &job.look else {
             return Ok(());
@@ -113,7 +112,7 @@ impl Notes {
         tick: u64,
         job: &RunningJob<'_>,
         after: &JobView,
-        errors: &mut Outlet<E>,
+        errors: &mut Answers<E>,
     ) -> Result<(), Failure> {
         if self.trace {
             let line = time_limit_line(alloc, tick, &job.told, after)?;
@@ -141,7 +140,7 @@ impl Notes {
         alloc: Global,
         machine: &Machine,
         tick: u64,
-        errors: &mut Outlet<E>,
+        errors: &mut Answers<E>,
     ) -> Result<(), Failure> {
         self.may_differ = true;
         if !self.looks_at_requests() {
@@ -167,7 +166,7 @@ impl Notes {
         alloc: Global,
         machine: &Machine,
         tick: u64,
-        errors: &mut Outlet<E>,
+        errors: &mut Answers<E>,
     ) -> Result<(), Failure> {
         if let Some(clocks) = &mut self.clocks {
             let requests = self.requests.as_slice();
@@ -182,7 +181,7 @@ impl Notes {
         &mut self,
         alloc: Global,
         tick: u64,
-        errors: &mut Outlet<E>,
+        errors: &mut Answers<E>,
     ) -> Result<(), Failure> {
         if let Some(clocks) = &mut self.clocks {
             let lines = clocks.table(alloc, tick, self.requests.as_slice())?;
@@ -199,7 +198,7 @@ fn tell_call<E: ByteOut + Drop>(
     tick: u64,
     number: u8,
     look: &Look,
-    errors: &mut Outlet<E>,
+    errors: &mut Answers<E>,
 ) -> Result<(), Failure> {
     if let Some(call) = &look.call {
         if !look.snapshot.is_interrupted(machine, number) {
@@ -217,7 +216,7 @@ pub fn tell_circle<E: ByteOut + Drop>(
     machine: &Machine,
     tick: u64,
     number: u8,
-    errors: &mut Outlet<E>,
+    errors: &mut Answers<E>,
 ) -> Result<(), Failure> {
     if let Some(circle) = circle_of(alloc, machine.locks(), number)? {
         let line = circle_line(alloc, tick, machine.locks(), circle.as_slice())?;

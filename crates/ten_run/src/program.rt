@@ -2,10 +2,9 @@
 ghost use Rattle.std.specs.Prelude.{◌≡◌, ◌≢◌, false};
 
 use crate::asked::Refusal;
-use crate::failure::Failure;
-use crate::outlet::Outlet;
 use crate::running::run_sources;
 use crate::words::read_words;
+use line_ports::{Answers, Failure};
 use run_facts::{DONE, FAILED, USAGE};
 use script_io::{ByteIn, ByteOut};
 use source_labels::Source;
@@ -41,7 +40,7 @@ fn open_all<'a, F: Files + AllocGlobal, E: ByteOut + Drop>(
     rt: &F,
     alloc: Global,
     files: &[&'a str],
-    errors: &mut Outlet<E>,
+    errors: &mut Answers<E>,
 ) -> Result<Option<Vec<Source<'a>>>, Failure> {
     let mut sources = Vec::new(alloc);
     for file in files {
@@ -64,7 +63,7 @@ fn write_picture<F: Files + AllocGlobal, E: ByteOut + Drop>(
     file: &str,
     picture: &str,
     status: u8,
-    errors: &mut Outlet<E>,
+    errors: &mut Answers<E>,
 ) -> Result<u8, Failure> {
     match fs::write(rt, file, picture) {
         Ok(()) => Ok(status),
@@ -84,7 +83,7 @@ fn tell_refusal<W: ByteOut + Drop, E: ByteOut + Drop>(
     alloc: Global,
     refusal: Refusal,
     writer: W,
-    errors: &mut Outlet<E>,
+    errors: &mut Answers<E>,
 ) -> Result<u8, Failure>
     requires { W.has_failed writer ≡ false }
 {
@@ -96,7 +95,7 @@ fn tell_refusal<W: ByteOut + Drop, E: ByteOut + Drop>(
                 errors.write(text.as_str().as_bytes())?;
                 return Ok(USAGE);
             }
-            let mut output = Outlet::new(writer);
+            let mut output = Answers::new(writer);
             output.write(text.as_str().as_bytes())?;
             Ok(DONE)
         }
@@ -109,7 +108,7 @@ fn serve<F: Files + AllocGlobal, S: AsStr, R: ByteIn + Drop, W: ByteOut + Drop, 
     words: &[S],
     reader: R,
     writer: W,
-    errors: &mut Outlet<E>,
+    errors: &mut Answers<E>,
 ) -> Result<u8, Failure>
     requires reader_sound { R.has_failed reader ≡ false }
     requires writer_sound { W.has_failed writer ≡ false }
@@ -146,7 +145,7 @@ pub fn ten<
     requires writer_sound { W.has_failed writer ≡ false }
     requires errors_sound { E.has_failed errors ≡ false }
 {
-    let mut errors = Outlet::new(errors);
+    let mut errors = Answers::new(errors);
     match serve(rt, words, reader, writer, &mut errors) {
         Ok(status) => status,
         Err(failure) => tell_failure(rt.alloc(), failure, &mut errors),
@@ -154,7 +153,7 @@ pub fn ten<
 }
 
 /// Says what failed, and gives the exit status.
-fn tell_failure<E: ByteOut + Drop>(alloc: Global, failure: Failure, errors: &mut Outlet<E>) -> u8
+fn tell_failure<E: ByteOut + Drop>(alloc: Global, failure: Failure, errors: &mut Answers<E>) -> u8
     ensures { result ≡ FAILED }
 {
     if let Ok(text) = format!(in alloc; "ten: {failure}\n") {
@@ -170,7 +169,7 @@ pub fn unread_words<E: ByteOut + Drop>(alloc: Global, kind: ErrorKind, errors: E
     ensures no_text { kind ≡ ErrorKind.InvalidData → result ≡ USAGE }
     ensures no_memory { kind ≢ ErrorKind.InvalidData → result ≡ FAILED }
 {
-    let mut errors = Outlet::new(errors);
+    let mut errors = Answers::new(errors);
     if kind == ErrorKind::InvalidData {
         let text = b"error: invalid UTF-8 was detected in one or more arguments\n";
         let _ = errors.write(text);

@@ -3,14 +3,12 @@ ghost use Rattle.std.specs.Prelude.{◌≡◌, false};
 ghost use Rattle.machine.specs.Setups.{IsSetup};
 
 use crate::asked::Asked;
-use crate::failure::Failure;
 use crate::history::History;
-use crate::input::Input;
 use crate::jobs::{RunningJob, standing_of};
 use crate::notes::Notes;
-use crate::outlet::Outlet;
 use crate::session::Session;
 use crate::terminal::Terminal;
+use line_ports::{Answers, Failure, LineReader};
 use lock_svg::RunCourse;
 use monitor::{Answer, Config, Event, RefusedEvent};
 use run_facts::{Ending, REFUSED, has_ended_well, status_of};
@@ -44,7 +42,7 @@ impl Ran {
 fn assemble_all<'a, E: ByteOut + Drop>(
     alloc: Global,
     sources: &[Source<'a>],
-    errors: &mut Outlet<E>,
+    errors: &mut Answers<E>,
 ) -> Result<Option<Vec<Program<'a>>>, Failure> {
     let mut programs = Vec::new(alloc);
     let mut are_right = true;
@@ -96,7 +94,7 @@ fn log_in_all<'a, E: ByteOut + Drop>(
     machine: &mut Machine,
     programs: Vec<Program<'a>>,
     history: usize,
-    errors: &mut Outlet<E>,
+    errors: &mut Answers<E>,
 ) -> Result<Option<Vec<RunningJob<'a>>>, Failure> {
     let is_numbered = programs.len() > 1;
     let mut jobs = Vec::new(alloc);
@@ -141,7 +139,7 @@ fn tell_ends<E: ByteOut + Drop>(
     machine: &Machine,
     jobs: &[RunningJob<'_>],
     is_cut: bool,
-    errors: &mut Outlet<E>,
+    errors: &mut Answers<E>,
 ) -> Result<u8, Failure> {
     let mut standings = Vec::new(alloc);
     for job in jobs {
@@ -184,7 +182,7 @@ fn config_of(blocks: u32, quantum: u8) -> Config
 fn finish<R: ByteIn + Drop, W: ByteOut + Drop, E: ByteOut + Drop>(
     session: &mut Session<'_, R, W>,
     ran: Result<bool, Failure>,
-    errors: &mut Outlet<E>,
+    errors: &mut Answers<E>,
 ) -> Result<Ran, Failure> {
     if !session.output.is_line_whole() {
         errors.write(b"\n")?;
@@ -210,7 +208,7 @@ pub fn run_sources<R: ByteIn + Drop, W: ByteOut + Drop, E: ByteOut + Drop>(
     sources: &[Source<'_>],
     reader: R,
     writer: W,
-    errors: &mut Outlet<E>,
+    errors: &mut Answers<E>,
 ) -> Result<Ran, Failure>
     requires reader_sound { R.has_failed reader ≡ false }
     requires writer_sound { W.has_failed writer ≡ false }
@@ -226,8 +224,8 @@ pub fn run_sources<R: ByteIn + Drop, W: ByteOut + Drop, E: ByteOut + Drop>(
         alloc,
         machine,
         jobs,
-        input: Input::new(alloc, reader)?,
-        output: Outlet::new(writer),
+        input: LineReader::new(alloc, reader)?,
+        output: Answers::new(writer),
         text: Vec::new(alloc),
         line: 0,
         typed: 0,

@@ -3,12 +3,10 @@ ghost use Rattle.std.specs.Prelude.{◌≡◌, length, min};
 ghost use Rattle.word36.specs.declared.sizes.TheConstants.{JOBS};
 ghost use Rattle.run_facts.specs.Typing.{line_for, text_for};
 
-use crate::failure::Failure;
-use crate::input::Input;
 use crate::jobs::RunningJob;
 use crate::notes::{Notes, tell_circle};
-use crate::outlet::Outlet;
 use job_sched::Wait;
+use line_ports::{Answers, Failure, LineReader};
 use monitor::{Answer, Event, RefusedEvent};
 use run_facts::{Target, target_of};
 use run_notes::Machine;
@@ -33,9 +31,9 @@ pub struct Session<'a, R: ByteIn + Drop, W: ByteOut + Drop> {
     /// Its jobs, by number from 1 on.
     pub jobs: Vec<RunningJob<'a>>,
     /// The input.
-    pub input: Input<R>,
+    pub input: LineReader<R>,
     /// The output.
-    pub output: Outlet<W>,
+    pub output: Answers<W>,
     /// The line of the input that is being typed.
     pub text: Vec<u8>,
     /// The terminal line where it is typed.
@@ -120,7 +118,7 @@ impl<R: ByteIn + Drop, W: ByteOut + Drop> Session<'_, R, W> {
     pub fn run<E: ByteOut + Drop>(
         &mut self,
         most: u64,
-        errors: &mut Outlet<E>,
+        errors: &mut Answers<E>,
     ) -> Result<bool, Failure> {
         for _ in 0..most {
             if !self.round(errors)? {
@@ -133,7 +131,7 @@ impl<R: ByteIn + Drop, W: ByteOut + Drop> Session<'_, R, W> {
     }
 
     /// Makes a step, with a tick behind it; false where no job can go on.
-    fn round<E: ByteOut + Drop>(&mut self, errors: &mut Outlet<E>) -> Result<bool, Failure> {
+    fn round<E: ByteOut + Drop>(&mut self, errors: &mut Answers<E>) -> Result<bool, Failure> {
         self.type_awaited()?;
         match self.machine.event(&ROUND[0]) {
             Answer::Ran(number) => {
@@ -162,7 +160,7 @@ impl<R: ByteIn + Drop, W: ByteOut + Drop> Session<'_, R, W> {
 
     /// A tick went by while jobs wait for locks with limits of time: tells of those whose limit ended,
     /// which a tick sets back to the error return of their call, and looks at what they do next.
-    fn note_limits<E: ByteOut + Drop>(&mut self, errors: &mut Outlet<E>) -> Result<(), Failure> {
+    fn note_limits<E: ByteOut + Drop>(&mut self, errors: &mut Answers<E>) -> Result<(), Failure> {
         let tick = self.ticks;
         let (mut are_limited, mut has_ended) = (false, false);
         for job in self.jobs.as_mut_slice().iter_mut() {
@@ -190,7 +188,7 @@ impl<R: ByteIn + Drop, W: ByteOut + Drop> Session<'_, R, W> {
     fn tell_step<E: ByteOut + Drop>(
         &mut self,
         number: u8,
-        errors: &mut Outlet<E>,
+        errors: &mut Answers<E>,
     ) -> Result<(), Failure> {
         let Some(job) = self.jobs.get_mut(usize::from(number).saturating_sub(1)) else {
             return Ok(());
@@ -254,7 +252,7 @@ impl<R: ByteIn + Drop, W: ByteOut + Drop> Session<'_, R, W> {
     /// Takes the next line of the input in hand; false where none comes.
     fn take_line(&mut self) -> Result<bool, Failure> {
         let mut line = Vec::new(self.alloc);
-        if !self.input.next_line(&mut line)? {
+        if !self.input.next_text(&mut line)? {
             return Ok(false);
         }
         line.push(b'\n')?;

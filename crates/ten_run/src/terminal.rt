@@ -1,8 +1,7 @@
 //! What jobs type out.
 
-use crate::failure::Failure;
-use crate::outlet::Outlet;
 use arrayvec::ArrayVec;
+use line_ports::{Answers, Failure};
 use script_io::ByteOut;
 use std::alloc::Global;
 use tty_lines::Char7;
@@ -36,7 +35,7 @@ impl Terminal {
         &mut self,
         alloc: Global,
         text: &[Char7],
-        out: &mut Outlet<W>,
+        out: &mut Answers<W>,
     ) -> Result<(), Failure> {
         for character in text {
             let byte = character.number();
@@ -58,7 +57,7 @@ impl Terminal {
     pub fn flush<W: ByteOut + Drop>(
         &mut self,
         alloc: Global,
-        out: &mut Outlet<W>,
+        out: &mut Answers<W>,
     ) -> Result<(), Failure> {
         if !self.partial.is_empty() {
             self.end_line(alloc, out)?;
@@ -70,7 +69,7 @@ impl Terminal {
     fn end_line<W: ByteOut + Drop>(
         &mut self,
         alloc: Global,
-        out: &mut Outlet<W>,
+        out: &mut Answers<W>,
     ) -> Result<(), Failure> {
         if self.is_numbered {
             let mut whole = Vec::new(alloc);

@@ -1,11 +1,12 @@
 //! A run, and what it must write.
 
+use line_ports::Answers;
 use script_io::{TestIn, TestOut};
 use source_labels::Source;
 use std::alloc::Global;
 use std::process::Abort;
 use std::str;
-use ten_run::{Outlet, Ran, read_words, run_sources};
+use ten_run::{Ran, read_words, run_sources};
 
 /// Room for an output.
 pub const ROOM: usize = 2048;
@@ -53,7 +54,7 @@ pub fn outcome_of(
     }
     let reader = TestIn::new(row.input.as_bytes(), 5, calls.reader);
     let writer = TestOut::new(room, 3, calls.writer);
-    let mut errors = Outlet::new(TestOut::new(told, 100, calls.errors));
+    let mut errors = Answers::new(TestOut::new(told, 100, calls.errors));
     run_sources(
         alloc,
         &asked,
