@@ -3,9 +3,18 @@
 use crate::session::Session;
 use ddt_help::Refusal;
 use ddt_lines::Look;
-use ddt_session::{Replay, last_turns};
+use ddt_session::{Machine, Replay, last_turns};
 use ddt_show::{ShownJob, place_line};
 use std::alloc::{AllocError, Global};
+use word36::Word;
+
+/// The place where a job stands, and the word there.
+fn next_of(machine: &Machine, number: u8) -> Option<(u32, Word)> {
+    let view = machine.job(number)?;
+    let place = view.pc.number();
+    let word = machine.peek(number, place)?;
+    Some((place, word))
+}
 
 /// Adds the lines of the turns of a job that are still to be made once more: the place and the
 /// instruction before each.
@@ -15,20 +24,15 @@ fn add_turns(
     job: &ShownJob,
     lines: &mut String,
 ) -> Result<(), AllocError> {
-    let number = job.number;
     for _ in 0..u64::MAX {
         if !replay.go_before_step() {
             return Ok(());
         }
-        let view = replay.machine().job(number);
-        let word = match view {
-            Some(view) => replay.machine().peek(number, view.pc.number()),
-            None => None,
-        };
+        let next = next_of(replay.machine(), job.number);
         let ran = replay.step();
-        if let (Some(view), Some(word)) = (view, word) {
-            if ran == Some(number) {
-                let line = place_line(alloc, job, view.pc.number(), word, Look::Symbolic)?;
+        if ran == Some(job.number) {
+            if let Some((place, word)) = next {
+                let line = place_line(alloc, job, place, word, Look::Symbolic)?;
                 lines.push_str(line.as_str())?;
                 lines.push_str("\n")?;
             }

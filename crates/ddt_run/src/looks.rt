@@ -3,7 +3,7 @@
 use crate::session::Session;
 use ddt_help::Refusal;
 use ddt_lines::{Last, Look};
-use ddt_show::WordText;
+use ddt_show::word_line;
 use std::alloc::AllocError;
 use word36::Word;
 
@@ -46,16 +46,8 @@ pub fn show_as(session: &mut Session<'_>, look: Look) {
 
 /// Tells the last quantity, shown so.
 fn tell_as(session: &mut Session<'_>, look: Look) -> Result<(), AllocError> {
-    let word = session.last;
     let line = match session.open_job() {
-        Some(job) => {
-            let text = WordText {
-                places: &job.shown.places,
-                word,
-                look,
-            };
-            format!(in session.alloc; "{text}\n")?
-        }
+        Some(job) => word_line(session.alloc, &job.shown, session.last, look)?,
         None => return Ok(()),
     };
     session.say(line.as_str())

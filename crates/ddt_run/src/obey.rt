@@ -34,13 +34,14 @@ pub enum Wish<'a> {
 /// changes nothing.
 pub fn obey_line<'a>(session: &mut Session<'_>, line: &'a [u8]) -> Result<Wish<'a>, AllocError> {
     session.text.clear();
-    match read_line(line, &session.scope()) {
+    let read = read_line(line, &session.scope());
+    let done = match &read {
         Ok(command) => obey(session, command),
-        Err(wrong) => {
-            tell_wrong(session, wrong)?;
-            Ok(Wish::Nothing)
-        }
-    }
+        Err(wrong) => tell_wrong(session, *wrong),
+    };
+    let wish = wish_of(&read);
+    done?;
+    Ok(wish)
 }
 
 /// Says what is wrong with a line.
@@ -49,12 +50,31 @@ fn tell_wrong(session: &mut Session<'_>, wrong: Wrong) -> Result<(), AllocError>
     session.say(line.as_str())
 }
 
-/// Obeys a command.
-fn obey<'a>(session: &mut Session<'_>, command: Command<'a>) -> Result<Wish<'a>, AllocError> {
-    match command {
-        Command::Save(file) => return Ok(Wish::Save(file)),
-        Command::Do(file) => return Ok(Wish::Do(file)),
-        Command::Quit => return Ok(Wish::Quit),
+/// What a line that was read asks of the program.
+fn wish_of<'a>(read: &Result<Command<'a>, Wrong>) -> Wish<'a> {
+    match *read {
+        Ok(Command::Save(file)) => Wish::Save(file),
+        Ok(Command::Do(file)) => Wish::Do(file),
+        Ok(Command::Quit) => Wish::Quit,
+        _ => Wish::Nothing,
+    }
+}
+
+/// Does what a command asks of the session.
+fn obey(session: &mut Session<'_>, command: &Command<'_>) -> Result<(), AllocError> {
+    let is_done = obey_telling(session, command)?
+        || obey_looking(session, command)?
+        || obey_stops(session, command)?
+        || obey_running(session, command)?;
+    if is_done {
+        return Ok(());
+    }
+    obey_changing(session, command)
+}
+
+/// Obeys a command that tells of the session; false where it is none of these.
+fn obey_telling(session: &mut Session<'_>, command: &Command<'_>) -> Result<bool, AllocError> {
+    match *command {
         Command::Help(word) => tell_help(session, word)?,
         Command::Job(number) => open_job(session, number)?,
         Command::Jobs => tell_jobs(session)?,
@@ -62,57 +82,64 @@ fn obey<'a>(session: &mut Session<'_>, command: Command<'a>) -> Result<Wish<'a>,
         Command::Waits => tell_waits(session)?,
         Command::Registers => tell_registers(session)?,
         Command::History(count) => tell_history(session, count)?,
-        other => obey_looking(session, other)?,
+        _ => return Ok(false),
     }
-    Ok(Wish::Nothing)
+    Ok(true)
 }
 
-/// Obeys a command that looks at words.
-fn obey_looking(session: &mut Session<'_>, command: Command<'_>) -> Result<(), AllocError> {
-    match command {
-        Command::Next => open_next(session),
-        Command::Before => open_before(session),
-        Command::Addressed => open_addressed(session),
-        Command::Open(place) => open(session, place),
-        Command::Tell(word) => tell_value(session, word),
-        Command::Last(last) => tell_last(session, last),
-        Command::Examine(first, last) => examine(session, first, last),
-        Command::Search(wanted) => search(session, &wanted),
-        Command::Show(look) => {
-            show_as(session, look);
-            Ok(())
-        }
-        other => obey_stops(session, other),
+/// Obeys a command that looks at words; false where it is none of these.
+fn obey_looking(session: &mut Session<'_>, command: &Command<'_>) -> Result<bool, AllocError> {
+    match *command {
+        Command::Next => open_next(session)?,
+        Command::Before => open_before(session)?,
+        Command::Addressed => open_addressed(session)?,
+        Command::Open(place) => open(session, place)?,
+        Command::Tell(word) => tell_value(session, word)?,
+        Command::Last(last) => tell_last(session, last)?,
+        Command::Examine(first, last) => examine(session, first, last)?,
+        Command::Search(wanted) => search(session, &wanted)?,
+        Command::Show(look) => show_as(session, look),
+        _ => return Ok(false),
     }
+    Ok(true)
 }
 
-/// Obeys a command on where runs stop.
-fn obey_stops(session: &mut Session<'_>, command: Command<'_>) -> Result<(), AllocError> {
-    match command {
-        Command::Break(place, number) => set(session, place, number),
-        Command::Unbreak(number) => unset(session, number),
-        Command::Breaks => tell_stops(session),
-        Command::Watch(place) => watch(session, place),
-        Command::BreakCircle => stop_at_circles(session),
-        Command::BreakLock(name) => stop_at_lock(session, name),
-        Command::BreakGrant => stop_at_grants(session),
-        other => obey_moving(session, other),
+/// Obeys a command on where runs stop; false where it is none of these.
+fn obey_stops(session: &mut Session<'_>, command: &Command<'_>) -> Result<bool, AllocError> {
+    match *command {
+        Command::Break(place, number) => set(session, place, number)?,
+        Command::Unbreak(number) => unset(session, number)?,
+        Command::Breaks => tell_stops(session)?,
+        Command::Watch(place) => watch(session, place)?,
+        Command::BreakCircle => stop_at_circles(session)?,
+        Command::BreakLock(name) => stop_at_lock(session, name)?,
+        Command::BreakGrant => stop_at_grants(session)?,
+        _ => return Ok(false),
     }
+    Ok(true)
 }
 
-/// Obeys a command that moves or changes the machine.
-fn obey_moving(session: &mut Session<'_>, command: Command<'_>) -> Result<(), AllocError> {
-    match command {
-        Command::Go => go(session),
-        Command::GoAt(place) => start_at(session, place),
-        Command::Proceed(times) => proceed(session, times),
-        Command::Execute(count) => execute(session, count),
-        Command::ExecuteCall => execute_call(session),
-        Command::Step(count) => step(session, count),
-        Command::Back(steps) => back(session, steps),
-        Command::BackTo(place) => back_to(session, place),
-        Command::BackWrite(place) => back_to_write(session, place),
-        Command::Forward => forward(session),
+/// Obeys a command that runs the machine or puts it back; false where it is none of these.
+fn obey_running(session: &mut Session<'_>, command: &Command<'_>) -> Result<bool, AllocError> {
+    match *command {
+        Command::Go => go(session)?,
+        Command::GoAt(place) => start_at(session, place)?,
+        Command::Proceed(times) => proceed(session, times)?,
+        Command::Execute(count) => execute(session, count)?,
+        Command::ExecuteCall => execute_call(session)?,
+        Command::Step(count) => step(session, count)?,
+        Command::Back(steps) => back(session, steps)?,
+        Command::BackTo(place) => back_to(session, place)?,
+        Command::BackWrite(place) => back_to_write(session, place)?,
+        Command::Forward => forward(session)?,
+        _ => return Ok(false),
+    }
+    Ok(true)
+}
+
+/// Obeys a command that changes the machine by hand.
+fn obey_changing(session: &mut Session<'_>, command: &Command<'_>) -> Result<(), AllocError> {
+    match *command {
         Command::Deposit(word) => deposit(session, word),
         Command::Tick(count) => tick(session, count),
         Command::Type(line, text) => type_at(session, line, text),

@@ -2,7 +2,7 @@
 
 use crate::session::Session;
 use ddt_help::Refusal;
-use ddt_moves::{Breakpoint, WatchedWord};
+use ddt_moves::{BREAKPOINTS, Breakpoint, StopList, WatchedWord};
 use lock_queue::Name;
 use queue_script::CallRoom;
 use script_io::Parts;
@@ -58,12 +58,19 @@ fn tell_watched(
     session.say(line.as_str())
 }
 
+/// The breakpoint at a place of the list, if one is set there.
+fn breakpoint_at(list: &StopList, at: usize) -> Option<Breakpoint> {
+    match list.breakpoints.get(at) {
+        Some(slot) => *slot,
+        None => None,
+    }
+}
+
 /// Tells the breakpoints, and what else runs stop at.
 pub fn tell_stops(session: &mut Session<'_>) -> Result<(), AllocError> {
-    let breakpoints = session.list.breakpoints;
-    for (i, breakpoint) in breakpoints.iter().enumerate() {
-        if let Some(breakpoint) = *breakpoint {
-            tell_breakpoint(session, i.saturating_add(1), breakpoint)?;
+    for at in 0..BREAKPOINTS {
+        if let Some(breakpoint) = breakpoint_at(&session.list, at) {
+            tell_breakpoint(session, at.saturating_add(1), breakpoint)?;
         }
     }
     for i in 0..session.list.words.len() {

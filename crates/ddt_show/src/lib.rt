@@ -12,4 +12,4 @@ pub use jobs::job_line;
 pub use places::{ShownJob, place_line, place_text};
 pub use registers::register_lines;
 pub use requests::{lock_lines, wait_lines};
-pub use words::WordText;
+pub use words::{WordText, word_line};

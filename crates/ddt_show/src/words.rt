@@ -1,9 +1,11 @@
 //! Words, in each of the ways in which they are shown.
 
 use crate::characters::{ascii_code, sixbit_code};
+use crate::places::ShownJob;
 use ddt_lines::Look;
 use run_notes::{InstructionText, Reference};
 use source_labels::Places;
+use std::alloc::{AllocError, Global};
 use std::fmt;
 use word36::Word;
 
@@ -110,4 +112,19 @@ impl fmt::Display for WordText<'_> {
             Look::Radix(radix) => write_radix(self.word, radix, f),
         }
     }
+}
+
+/// A word as it is shown, in a line.
+pub fn word_line(
+    alloc: Global,
+    job: &ShownJob,
+    word: Word,
+    look: Look,
+) -> Result<String, AllocError> {
+    let text = WordText {
+        places: &job.places,
+        word,
+        look,
+    };
+    format!(in alloc; "{text}\n")
 }
