@@ -88,7 +88,7 @@ pub fn run_from_start(session: &mut Session<'_>) -> Result<(), AllocError> {
     }
     if there.is_some() {
         let ended = Ended::at_once(&session.timeline, there);
-        return tell_end(session, ended, MOST_STEPS);
+        return tell_end(session, &ended, MOST_STEPS);
     }
     proceed(session, 1)
 }
@@ -113,7 +113,7 @@ pub fn proceed(session: &mut Session<'_>, times: u32) -> Result<(), AllocError> 
         let ended = run(session, &[], MOST_STEPS)?;
         let is_passed = matches!(ended.cause, Some(Cause::Breakpoint(_, _, _)));
         if !is_passed || time + 1 == times {
-            return tell_end(session, ended, MOST_STEPS);
+            return tell_end(session, &ended, MOST_STEPS);
         }
     }
     Ok(())
@@ -126,7 +126,7 @@ pub fn execute(session: &mut Session<'_>, count: u32) -> Result<(), AllocError> 
     for _ in 0..count {
         let ended = run(session, &[Stop::Turn(number)], MOST_STEPS)?;
         let is_own = matches!(ended.cause, Some(Cause::Own));
-        tell_end(session, ended, MOST_STEPS)?;
+        tell_end(session, &ended, MOST_STEPS)?;
         if !is_own || is_stopped(session.machine(), number) {
             return Ok(());
         }
@@ -157,7 +157,7 @@ pub fn execute_call(session: &mut Session<'_>) -> Result<(), AllocError> {
         Stop::Place(number, place.plus(2)),
     ];
     let ended = run(session, &own, MOST_STEPS)?;
-    tell_end(session, ended, MOST_STEPS)
+    tell_end(session, &ended, MOST_STEPS)
 }
 
 /// `.STEP n`: so many steps of the machine.
@@ -167,5 +167,5 @@ pub fn step(session: &mut Session<'_>, count: u32) -> Result<(), AllocError> {
         session.is_open = false;
         return session.show_next();
     }
-    tell_end(session, ended, count)
+    tell_end(session, &ended, count)
 }

@@ -67,13 +67,9 @@ fn tell_change(
 }
 
 /// Says why a run ended, which could make so many steps.
-pub fn tell_end(session: &mut Session<'_>, ended: Ended, most: u32) -> Result<(), AllocError> {
+pub fn tell_end(session: &mut Session<'_>, ended: &Ended, most: u32) -> Result<(), AllocError> {
     session.is_open = false;
-    let Ended {
-        cause,
-        is_cut,
-        grants,
-    } = ended;
+    let cause = ended.cause;
     match cause {
         Some(Cause::Breakpoint(number, job, place)) => {
             tell_breakpoint(session, number, job, place)?;
@@ -90,11 +86,11 @@ pub fn tell_end(session: &mut Session<'_>, ended: Ended, most: u32) -> Result<()
             session.show_next()?;
         }
         Some(Cause::Grant) => {
-            session.say(grants.as_str())?;
+            session.say(ended.grants.as_str())?;
             session.show_next()?;
         }
         Some(Cause::Own | Cause::Input) => session.show_next()?,
-        None if is_cut => {
+        None if ended.is_cut => {
             let line = format!(in session.alloc; "{most} steps were made: $P goes on\n")?;
             session.say(line.as_str())?;
             session.show_next()?;

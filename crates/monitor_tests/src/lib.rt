@@ -5,6 +5,8 @@
 #[cfg(test)]
 mod calls;
 #[cfg(test)]
+mod deposits;
+#[cfg(test)]
 mod edges;
 #[cfg(test)]
 mod interrupts;
