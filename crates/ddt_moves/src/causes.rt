@@ -3,13 +3,13 @@
 use crate::stop_lists::StopList;
 use ddt_session::{Machine, Stop};
 use std::alloc::{AllocError, Global};
-use word36::{Address, Word};
+use word36::Word;
 
 /// Why a run stopped.
 #[derive(Clone, Copy, Debug)]
 pub enum Cause {
     /// The breakpoint of this number, from 1: its job and its place.
-    Breakpoint(usize, u8, Address),
+    Breakpoint(usize, u8, u32),
     /// A watched word of a job changed, which was this one.
     Word(u8, u32, Option<Word>),
     /// Jobs wait in a circle.
@@ -48,7 +48,9 @@ impl Stops {
         let at = stop?;
         let number = self.numbers.as_slice().get(at).copied()?;
         let cause = match self.stops.as_slice().get(at)? {
-            Stop::Place(job, place) if number > 0 => Cause::Breakpoint(number, *job, *place),
+            Stop::Place(job, place) if number > 0 => {
+                Cause::Breakpoint(number, *job, place.number())
+            }
             Stop::Word(job, place, was) => Cause::Word(*job, *place, *was),
             Stop::Circle => Cause::Circle,
             Stop::Input => Cause::Input,

@@ -54,7 +54,8 @@ pub fn breakpoint_of(machine: &Machine, list: &StopList, jobs: &[u8]) -> Option<
             };
             if stands_there && jobs.contains(&breakpoint.job) {
                 let number = i.saturating_add(1);
-                return Some(Cause::Breakpoint(number, breakpoint.job, breakpoint.place));
+                let place = breakpoint.place.number();
+                return Some(Cause::Breakpoint(number, breakpoint.job, place));
             }
         }
     }

@@ -4,20 +4,20 @@ use crate::session::Session;
 use crate::tables::tell_waits;
 use ddt_moves::{Cause, Ended, turn_at};
 use std::alloc::AllocError;
-use word36::{Address, Word};
+use word36::Word;
 
 /// A run ended at a breakpoint, whose job is open from here on.
 fn tell_breakpoint(
     session: &mut Session<'_>,
     number: usize,
     job: u8,
-    place: Address,
+    place: u32,
 ) -> Result<(), AllocError> {
     session.open = job;
-    session.here = place.number();
+    session.here = place;
     let head = format!(in session.alloc; "${number}B>> ")?;
     session.say(head.as_str())?;
-    if !session.show_place(place.number())? {
+    if !session.show_place(place)? {
         return session.tell_job(job);
     }
     Ok(())
@@ -69,6 +69,8 @@ fn tell_change(
 /// Says why a run ended, which could make so many steps.
 pub fn tell_end(session: &mut Session<'_>, ended: &Ended, most: u32) -> Result<(), AllocError> {
     session.is_open = false;
+    // A cause may hold a word: the prover wants its type to be named.
+    let _word: Option<Word> = None;
     let cause = ended.cause;
     match cause {
         Some(Cause::Breakpoint(number, job, place)) => {
