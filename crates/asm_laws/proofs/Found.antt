@@ -68,7 +68,9 @@ found_image source image h =
     let c = if_some (are_placed labels lines) _ image l.2 in
     let w = bind_some (words_at (lines_placed labels lines)) _ image c.1 in
     let s = bind_some (start_at (lines_placed labels lines)) _ image w.2 in
-    let i = if_some (are_below (keys_of w.0) && are_apart (keys_of w.0)) (let x : Assembled = record { words = by_place w.0; start = s.0 } in Some x) image s.2 in
+    let i =
+    if_some (are_below (keys_of w.0) && are_apart (keys_of w.0))
+    (let x : Assembled = record { words = by_place w.0; start = s.0 } in Some x) image s.2 in
     let p = and_parts (are_settled [] lines) _ c.0 in
     let q = and_parts (are_apart (keys_of labels)) _ p.1 in
     let r = and_parts (have_words (literal_sizes labels (lines_at labels lines))) _ q.1 in

@@ -79,8 +79,16 @@ pub words-gather : (lines : List Placed) (n : ℕ) (ws : Words) → words_given 
     → Gathers lines ws × (list_all starts lines ≡ true)
 unfolding words_given value_code all_statement_words all_literal_words
 words-gather [] n ws h =
-    let none : ws ≡ [] = cc in
-    (record { own = []; literals = []; gives_own = refl; gives_literals = refl; same = subst (λ w. IsPermutation w []) (sym none) (IsPermutation-refl []) }, refl)
+    let none : ws ≡ [] = cc in (
+      record {
+        own = [];
+        literals = [];
+        gives_own = refl;
+        gives_literals = refl;
+        same = subst (λ w. IsPermutation w []) (sym none) (IsPermutation-refl []);
+      },
+      refl,
+    )
 words-gather (at ∷ later) n ws h =
     let u = unless-ok n (value_code at) _ ws h in
     let t = told-none (is_some (line_words at)) (starts at) _ u.0 in

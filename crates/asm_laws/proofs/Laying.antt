@@ -100,7 +100,9 @@ step line lines q xs p t zs lits c =
       labels_low = λ n. (below-append (values_of xs') (values_of ys) (ap are_below (sym (ap values_of e ∙ map-append (λ x. x.1) xs' ys)) ∙ v.labels_low n)).0;
       once = λ n. (apart-parts (t ++ r') f (apart-parts ((t ++ r') ++ f) ends (once n)).0).0;
       low = λ n. ap (λ x. are_below (range_with_len p x)) (sym k.size) ∙ (below-append r (f ++ ends) (low n)).0;
-      counted = λ n. statement-counted m xs' ys p own_places st (words n).0 e s.statement (and_parts (allows (names_at m p own_places) st) _ (v.allowed n)).0 (words n).1;
+      counted =
+          λ n. statement-counted m xs' ys p own_places st (words n).0 e s.statement
+          (and_parts (allows (names_at m p own_places) st) _ (v.allowed n)).0 (words n).1;
       sized = λ n. ap have_words (sym k.sizes) ∙ (and_parts (have_words z) (have_words more) (sym (words-append z more) ∙ v.sized n)).0;
       later = record {
         settled = s.later;
@@ -214,7 +216,9 @@ laid-clear (line ∷ next ∷ lines) q xs p ps t lits sz n fault c e a h l =
     (statement-clear q xs' p ps' t sz' st s.settled (not-true (is_end line) b.0) s.counted s.once s.low))
     (λ o r. (let f = statement-fits xs' p ps' t sz' st (line-statement (state xs p ps t sz) line o) a in
     laid-clear (next ∷ lines) q xs' (next_place xs p line) ps' (t ++ range_of xs' p st) (drop (length line.literals) lits) sz' (n + 1) fault
-    (subst (λ z. Clear q m xs' (t ++ range_of xs' p st) z (drop (length line.literals) lits) later (located m (next_place xs p line) later) (place_after m (next_place xs p line) later))
+    (subst
+    (λ z. Clear q m xs' (t ++ range_of xs' p st) z (drop (length line.literals) lits) later
+    (located m (next_place xs p line) later) (place_after m (next_place xs p line) later))
     (sym (sizes-counted q sz m xs p t lits line later s)) s.later)
     b.1 f.once (sizes-clear q sz m xs p t lits line later s h)
     (subst (λ x. laid_out x (n + 1) later ≡ Err fault) (behind-line xs p ps t sz line f) r)))

@@ -37,7 +37,8 @@ with-placed : (lines : List Line) (m : Labels) (p : ℕ) (lits : List ℕ)
 unfolding lines_with located placed
 with-placed [] m p lits = refl
 with-placed (line ∷ lines) m p lits =
-    ap (λ l. record { names = names_at m p (take (length line.literals) lits); line = line } ∷ l) (with-placed lines m (place_behind m p line.statement) (drop (length line.literals) lits))
+    ap (λ l. record { names = names_at m p (take (length line.literals) lits); line = line } ∷ l)
+    (with-placed lines m (place_behind m p line.statement) (drop (length line.literals) lits))
 
 counted : (zs : List ℕ) → map (count_or 0) (map Ok zs) ≡ zs
 counted [] = refl

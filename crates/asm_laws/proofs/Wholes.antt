@@ -69,7 +69,8 @@ data-counted m xs ys p l (data_of.Point n o q) words same h g = refl
 data-counted m xs ys p l (data_of.Text form text) words same h g = refl
 data-counted m xs ys p l (data_of.Block count) words same h g =
     ap is_some (sym (count-same m xs ys p l count same h))
-    ∙ map-known (λ n. replicate n 0) (count_of (names_at m p l) count) _ (some-of (map-known _ (option_map (λ n. replicate n 0) (count_of (names_at m p l) count)) words g)).1
+    ∙ map-known (λ n. replicate n 0) (count_of (names_at m p l) count) _
+    (some-of (map-known _ (option_map (λ n. replicate n 0) (count_of (names_at m p l) count)) words g)).1
   where
     some-of : {A : Type 0} {o : Option A} → is_some o ≡ true → (x : A) × (o ≡ Some x)
     some-of {o = None} h = absurd (cc)
@@ -125,7 +126,10 @@ fits-whole (line ∷ lines) xs p t lits f o b a =
       low = w.low;
       sized = words-append (map (size_of m p) line.literals) (literal_sizes m rest)
           ∙ and_from _ _ (ap have_words k.sizes ∙ f.0.sized) w.sized;
-      allowed = and_from _ _ (counted-allows m xs' (labels_in m p' lines) p (take n lits) line.statement e f.0.statement.settled f.0.statement.counted) w.allowed;
+      allowed =
+          and_from _ _
+          (counted-allows m xs' (labels_in m p' lines) p (take n lits) line.statement e f.0.statement.settled
+          f.0.statement.counted) w.allowed;
       words_once = ap (λ s. are_apart (t ++ (range_with_len p s ++ flat_map (places_of m) rest))) k.size
           ∙ ap are_apart (sym (append_assoc t (range_of xs' p line.statement) (flat_map (places_of m) rest))) ∙ w.words_once;
       words_low = all-append (range_of m p line.statement) (flat_map (places_of m) rest)

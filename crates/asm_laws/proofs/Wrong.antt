@@ -33,7 +33,8 @@ unfit-literals [] xs p = refl
 unfit-literals (d ∷ given) xs p = ap (λ b. is_literal_unfit xs p d || b) (unfit-literals given xs p)
 
 early-literals : (given : List Data) (xs : Labels) (p : ℕ)
-    → list_any early_in (map (measured xs p) given) ≡ has_early_literal (record { labels = xs; place = p; line = record { labels = []; statement = None; literals = given } })
+    → list_any early_in (map (measured xs p) given)
+    ≡ has_early_literal (record { labels = xs; place = p; line = record { labels = []; statement = None; literals = given } })
 early-literals [] xs p = refl
 early-literals (d ∷ given) xs p = ap (λ b. early_in (measured xs p d) || b) (early-literals given xs p)
 

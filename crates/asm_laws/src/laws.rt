@@ -47,14 +47,17 @@ pub fn reading_is_told()
 
 /// Of lines that END ends, the first at fault is told.
 pub fn first_faults_are_told()
-    ensures { (source : List ℕ) (read : List LineView) (fault : Fault) → program_of source ≡ Ok read → has_end read ≡ true → outcome_of source ≡ Err fault → TellsFirst read fault }
+    ensures { (source : List ℕ) (read : List LineView) (fault : Fault) → program_of source ≡ Ok read → has_end read ≡ true
+        → outcome_of source ≡ Err fault
+        → TellsFirst read fault }
 {}
 
 /// Of lines that END ends, a fault is told exactly where it names the first line with which something is wrong, by what
 /// stands up to it, and the least code of what is; and, where all lines can be laid out, the first whose values are not all
 /// known or do not fit. What stands below that line changes nothing.
 pub fn least_codes_are_told()
-    ensures { (source : List ℕ) (read : List LineView) (fault : Fault) → program_of source ≡ Ok read → has_end read ≡ true → (outcome_of source ≡ Err fault) ↔ IsTold read fault }
+    ensures { (source : List ℕ) (read : List LineView) (fault : Fault) → program_of source ≡ Ok read → has_end read ≡ true
+        → (outcome_of source ≡ Err fault) ↔ IsTold read fault }
 {}
 
 /// Lines whose LOC and BLOCK speak of earlier labels alone are met from above as they stand under the map of their
@@ -65,7 +68,9 @@ pub fn lines_are_met()
 
 /// The code of a fault in lines that were read names what is not so of them.
 pub fn codes_are_told()
-    ensures { (source : List ℕ) (read : List LineView) (fault : Fault) → program_of source ≡ Ok read → outcome_of source ≡ Err fault → TellsCode read fault.code }
+    ensures { (source : List ℕ) (read : List LineView) (fault : Fault) → program_of source ≡ Ok read
+        → outcome_of source ≡ Err fault
+        → TellsCode read fault.code }
 {}
 
 /// The places of an image rise, and each has the word that the lines give it.

@@ -24,7 +24,10 @@ shared-written w time n c j there is low =
     let row : performed w time n c ≡ ended w n (row_of Datwr time n c.ac c.e (around w j)) =
     performs w time n c j there ∙ ap (λ s. ended w n (row_of s time n c.ac c.e (around w j))) is in
     ap (λ (p : Performed). p.world.shared) row
-    ∙ ap (λ (b : Bool). (cond {A = JobData} b (record { job = skipping j; shared = slice_set w.shared place (ac_of j ((c.ac + 1) % 16)) }) (record { job = refusing j c.ac 1; shared = w.shared })).shared)
+    ∙ ap
+    (λ (b : Bool).
+    (cond {A = JobData} b (record { job = skipping j; shared = slice_set w.shared place (ac_of j ((c.ac + 1) % 16)) })
+    (record { job = refusing j c.ac 1; shared = w.shared })).shared)
     (lt-ltb place DATA_WORDS low)
 
 -- what DATRD. answers
@@ -36,7 +39,8 @@ answers-read w time n c j word there here is within low read =
     let row : performed w time n c ≡ ended w n (row_of Datrd time n c.ac c.e (around w j)) =
     performs w time n c j there ∙ ap (λ s. ended w n (row_of s time n c.ac c.e (around w j))) is in
     let job : Job = skipping (with_ac j c.ac (slice_index w.shared place)) in
-    let left : (cond (nat_lt place DATA_WORDS) job (refusing j c.ac 1)) ≡ job = ap (λ (b : Bool). cond b job (refusing j c.ac 1)) (lt-ltb place DATA_WORDS low) in (
+    let left : (cond (nat_lt place DATA_WORDS) job (refusing j c.ac 1)) ≡ job =
+    ap (λ (b : Bool). cond b job (refusing j c.ac 1)) (lt-ltb place DATA_WORDS low) in (
       job,
       ap (λ (p : Performed). job_at p.world.table.jobs n) row
           ∙ ap (λ (k : Job). job_at (slice_set w.table.jobs n (Some k)) n) left

@@ -148,10 +148,12 @@ word_of low ac core a = cond low (slice_get ac a) (slice_get core a)
 read-back : (low high : Bool) (ac core : List ℕ) (a b v w : ℕ) → (low ≡ true → a < length ac) → (low ≡ false → a < length core) → a ≢ b
     → word_of low (cond high (slice_set (cond low (slice_set ac a v) ac) b w) (cond low (slice_set ac a v) ac))
     (cond high (cond low core (slice_set core a v)) (slice_set (cond low core (slice_set core a v)) b w)) a ≡ Some v
-read-back true true ac core a b v w here there ne = set-other (slice_set ac a v) a b w ne (omega (arith, length-set ac a v, here refl)) ∙ set-get ac a v (here refl)
+read-back true true ac core a b v w here there ne =
+    set-other (slice_set ac a v) a b w ne (omega (arith, length-set ac a v, here refl)) ∙ set-get ac a v (here refl)
 read-back true false ac core a b v w here there ne = set-get ac a v (here refl)
 read-back false true ac core a b v w here there ne = set-get core a v (there refl)
-read-back false false ac core a b v w here there ne = set-other (slice_set core a v) a b w ne (omega (arith, length-set core a v, there refl)) ∙ set-get core a v (there refl)
+read-back false false ac core a b v w here there ne =
+    set-other (slice_set core a v) a b w ne (omega (arith, length-set core a v, there refl)) ∙ set-get core a v (there refl)
 
 noted-back : (g : Regs) (core : List ℕ) (vector id : ℕ) → length g.ac ≡ 16 → is_legal core (vector + 1) ≡ true
     → word_at (noted g core vector id).regs.ac (noted g core vector id).core (vector + 1) ≡ Some (pc_word g.flags g.pc)

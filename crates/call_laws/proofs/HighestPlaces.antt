@@ -108,7 +108,8 @@ tells-image s line m n start blocks words safe free some same =
     (get_or-set_same s.world.table.jobs m (Some j) None free.below)
     (get_or-set_same taken_so.cores m (slice_set q.core 36 (blocks * 1024 - 1)) [] later))
 
-tells-admitted : (s : S) (line n start blocks : ℕ) (words : List (ℕ × ℕ)) (o : Option ℕ) → Safe s → 1 ≤ blocks → ((m : ℕ) → o ≡ Some m → IsFree s.world.table.jobs m)
+tells-admitted : (s : S) (line n start blocks : ℕ) (words : List (ℕ × ℕ)) (o : Option ℕ) → Safe s → 1 ≤ blocks
+    → ((m : ℕ) → o ≡ Some m → IsFree s.world.table.jobs m)
     → Tells n blocks (admitted s line words start blocks o)
 tells-admitted s line n start blocks words None safe some free = tells-refused n blocks s NoJobNumber
 tells-admitted s line n start blocks words (Some m) safe some free =
@@ -116,7 +117,8 @@ tells-admitted s line n start blocks words (Some m) safe some free =
     (λ _ e. let same : m ≡ n = cc in tells-image s line m n start blocks words safe (free m refl) some same)
     (λ _. tells-refused n blocks s NoCore)
 
-tells-login : (s : S) (line n top start : ℕ) (words : List (ℕ × ℕ)) → Safe s → image_top words start ≡ Some top → Tells n (blocks_for top) (logged_in s line words start)
+tells-login : (s : S) (line n top start : ℕ) (words : List (ℕ × ℕ)) → Safe s → image_top words start ≡ Some top
+    → Tells n (blocks_for top) (logged_in s line words start)
 tells-login s line n top start words safe is =
     by_test (Tells n (blocks_for top)) (nat_le LINES line) _ _ (λ _. tells-refused n (blocks_for top) s NoLine)
     (λ _. by_test (Tells n (blocks_for top)) (list_any (is_at line) s.world.table.jobs) _ _ (λ _. tells-refused n (blocks_for top) s LineBusy)

@@ -99,7 +99,8 @@ asleep-next s (Typed l c) n ticks j h a spared some = asleep-left s (happens s (
 asleep-next s (Take l k) n ticks j h a spared some = asleep-left s (happens s (Take l k)).state n ticks j a (left-taken s l k n a.job a.there)
 asleep-next s (Login l image) n ticks j h a spared some =
     asleep-left s (happens s (Login l image)).state n ticks j a (left-login s l image.now.words.items image.now.start n a.job a.there)
-asleep-next s (Start m) n ticks j h a spared some = asleep-left s (happens s (Start m)).state n ticks j a (left-started s m n a.job (other-number m n spared) a.there)
+asleep-next s (Start m) n ticks j h a spared some =
+    asleep-left s (happens s (Start m)).state n ticks j a (left-started s m n a.job (other-number m n spared) a.there)
 asleep-next s (Continue m) n ticks j h a spared some = asleep-left s (happens s (Continue m)).state n ticks j a (left-continued s m n a.job a.there)
 asleep-next s (Kill m) n ticks j h a spared some =
     asleep-left s (happens s (Kill m)).state n ticks j a (left-killed s m n (job_at s.world.table.jobs m) a.job (other-number m n spared) a.there)
@@ -136,5 +137,6 @@ sleeps_last s es n ticks j h a spared = record {
   idle = λ more. idle-of (after es s) n (ticks - ticks_in es) j (asleep-along es s n ticks j h a spared more) (omega (arith, more));
   ends = λ last k there stop.
       ready-ended (after es s) n j k
-      (other-ticks (after es s).world n (ticks - ticks_in es) 1 j (omega (arith, last)) (asleep-along es s n ticks j h a spared (omega (arith, last)))) there stop;
+      (other-ticks (after es s).world n (ticks - ticks_in es) 1 j (omega (arith, last))
+      (asleep-along es s n ticks j h a spared (omega (arith, last)))) there stop;
 }

@@ -44,7 +44,9 @@ takes_leave_nothing s line (suc count) low here few =
     let u : S = (one_taken s line).state in
     let one = takes-one s line low in
     let left : output_of u.world.lines line ≡ drop TAKEN_AT_ONCE out =
-    ap (λ (r : Rings). r.output) (get_or-set_same s.world.lines line (record { input = input_of s.world.lines line; output = drop TAKEN_AT_ONCE out }) no_characters here) in
+    ap (λ (r : Rings). r.output)
+    (get_or-set_same s.world.lines line (record { input = input_of s.world.lines line; output = drop TAKEN_AT_ONCE out })
+    no_characters here) in
     let long : line < length u.world.lines =
     omega (arith, length-set s.world.lines line (record { input = input_of s.world.lines line; output = drop TAKEN_AT_ONCE out })) in
     let fewer : length (drop TAKEN_AT_ONCE out) ≤ count * TAKEN_AT_ONCE = fewer-left out count few in

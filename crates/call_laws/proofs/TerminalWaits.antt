@@ -91,7 +91,8 @@ module _ (w : World) (n : ℕ) (j : Job) (low : n < length w.table.jobs) (calm :
       (λ _. quota-calm (named_job n (right_half (ac_of j ac))) ac (quota_at w.table.jobs (named_job n (right_half (ac_of j ac)))))
       (λ _. by_test (λ (o : JobCores). Is o.job) (left_half (ac_of j ac) == 2) _ _
       (λ _. by_test Is (nat_le (right_half (ac_of j ac)) j.quota) _ _ (λ _. calm) (λ _. calm))
-      (λ _. told-calm ac (answers_at j ac) (core_of w.cores n) (with_room (core_of w.cores n) (answers_at j ac) (enqc_asks j.regs.ac (core_of w.cores n) n (ac_of j ac)))))
+      (λ _. told-calm ac (answers_at j ac) (core_of w.cores n)
+      (with_room (core_of w.cores n) (answers_at j ac) (enqc_asks j.regs.ac (core_of w.cores n) n (ac_of j ac)))))
 
   skips-calm : (skips : Bool) → Is (skipping_if skips j)
   skips-calm true = calm
@@ -117,7 +118,8 @@ module _ (w : World) (n : ℕ) (j : Job) (low : n < length w.table.jobs) (calm :
   input-fine : (unit : Awaited) (skips : Bool) (e : ℕ) (core : List ℕ) → Fine (with_input_of (input_called unit skips e core j w.lines))
   input-fine unit skips e core =
       by_test (λ (o : JobInput). Fine (with_input_of o)) (is_legal core e) _ _
-      (λ _. by_test (λ (o : JobInput). Fine (with_input_of o)) (has_input unit (input_of w.lines j.line)) (stored_input skips e core j w.lines) (no_input unit skips core j w.lines)
+      (λ _. by_test (λ (o : JobInput). Fine (with_input_of o)) (has_input unit (input_of w.lines j.line))
+      (stored_input skips e core j w.lines) (no_input unit skips core j w.lines)
       (λ _. stored-fine skips e core) (λ _. none-fine unit skips core))
       (λ _. done _ refl calm)
 

@@ -80,7 +80,9 @@ hole-apart areas all h t k l begins =
     ]
 
 -- a hole may be a job's
-pub IsLaidOut-hole : (size all : ℕ) (areas : List Area) (job : ℕ) (a : Area) → IsLaidOut size areas → job < length areas → size ≡ all * BLOCK_WORDS → 1 ≤ a.blocks
+pub IsLaidOut-hole : (size all : ℕ) (areas : List Area) (job : ℕ) (a : Area) → IsLaidOut size areas → job < length areas
+    → size ≡ all * BLOCK_WORDS
+    → 1 ≤ a.blocks
     → IsTrue (is_hole areas all a) → IsLaidOut size (slice_set areas job a)
 IsLaidOut-hole size all areas job a h there whole some hole =
     let fits : a.base + a.blocks ≤ all = hole-fits areas all a hole in
@@ -108,7 +110,8 @@ same-sum words news areas moved size e ha hm same =
     sum-same (λ a. a.blocks) (λ a. a.blocks) areas moved e (same-blocks words news areas moved size e ha hm same)
 
 -- the blocks of all jobs, where one has another area
-pub sum-set : (areas : List Area) (job : ℕ) (a : Area) → job < length areas → blocks_in (slice_set areas job a) + (area_of areas job).blocks ≡ blocks_in areas + a.blocks
+pub sum-set : (areas : List Area) (job : ℕ) (a : Area) → job < length areas
+    → blocks_in (slice_set areas job a) + (area_of areas job).blocks ≡ blocks_in areas + a.blocks
 sum-set areas job a there =
     sum-changed (λ x. x.blocks) (λ x. x.blocks) areas (slice_set areas job a) job (length-set areas job a) there
     (λ k l ne. ap (λ x. x.blocks) (area-other areas job k a ne))

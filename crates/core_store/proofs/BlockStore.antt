@@ -33,13 +33,16 @@ sum-words words (a ∷ areas) =
 sum-scaled : (areas : List Area) → sum_by (λ a. a.blocks * BLOCK_WORDS) areas ≡ sum_by (λ a. a.blocks) areas * BLOCK_WORDS
 sum-scaled [] = refl
 sum-scaled (a ∷ areas) =
-    let l : sum_by (λ x. x.blocks * BLOCK_WORDS) (a ∷ areas) ≡ a.blocks * BLOCK_WORDS + sum_by (λ x. x.blocks * BLOCK_WORDS) areas = sum_by-cons (λ x. x.blocks * BLOCK_WORDS) a areas in
+    let l : sum_by (λ x. x.blocks * BLOCK_WORDS) (a ∷ areas)
+    ≡ a.blocks * BLOCK_WORDS + sum_by (λ x. x.blocks * BLOCK_WORDS) areas =
+    sum_by-cons (λ x. x.blocks * BLOCK_WORDS) a areas in
     let r : sum_by (λ x. x.blocks) (a ∷ areas) ≡ a.blocks + sum_by (λ x. x.blocks) areas = sum_by-cons (λ x. x.blocks) a areas in
     let e : sum_by (λ x. x.blocks * BLOCK_WORDS) areas ≡ sum_by (λ x. x.blocks) areas * BLOCK_WORDS = sum-scaled areas in
     omega arith
 
 -- all words of jobs together
-total-words : (words : List ℕ) (areas : List Area) → IsLaidOut (length words) areas → sum_by (λ ws. length ws) (cores_in words areas) ≡ blocks_in areas * BLOCK_WORDS
+total-words : (words : List ℕ) (areas : List Area) → IsLaidOut (length words) areas
+    → sum_by (λ ws. length ws) (cores_in words areas) ≡ blocks_in areas * BLOCK_WORDS
 total-words words areas h =
     sum-words words areas
     ∙ sum-same (λ a. a.blocks * BLOCK_WORDS) (λ a. length (area_words words a)) areas areas refl (λ k l. length-words words areas k h l)
@@ -102,14 +105,17 @@ IsBlockCore-given size areas blocks free job there h =
       shared = omega arith;
     }
 
-pub given-cores : (words : List ℕ) (areas : List Area) (job : ℕ) → job < length areas → cores_in words (slice_set areas job no_area) ≡ slice_set (cores_in words areas) job []
+pub given-cores : (words : List ℕ) (areas : List Area) (job : ℕ) → job < length areas
+    → cores_in words (slice_set areas job no_area) ≡ slice_set (cores_in words areas) job []
 given-cores words areas job there =
     cores-set words words areas (slice_set areas job no_area) job [] (length-set areas job no_area) there
     (λ k l ne. ap (area_words words) (area-other areas job k no_area ne))
     (ap (area_words words) (area-set areas job no_area there))
 
 -- a job has other blocks
-pub IsBlockCore-set : (size : ℕ) (areas set : List Area) (blocks free left : ℕ) → length set ≡ length areas → IsBlockCore size areas blocks free → IsLaidOut size set
+pub IsBlockCore-set : (size : ℕ) (areas set : List Area) (blocks free left : ℕ) → length set ≡ length areas
+    → IsBlockCore size areas blocks free
+    → IsLaidOut size set
     → blocks_in set + left ≡ blocks → IsBlockCore size set blocks left
 IsBlockCore-set size areas set blocks free left e h laid shared = record {
   jobs = e ∙ h.jobs;
@@ -121,7 +127,8 @@ IsBlockCore-set size areas set blocks free left e h laid shared = record {
 
 -- the proof that a layout is kept does not tell two memories apart
 pub same-store : (words : Vec ℕ Global) (areas : List Area) (blocks free : ℕ) (p q : IsBlockCore (length words.items) areas blocks free)
-    → ◌≡◌ {A = BlockCore} (record { words = words; areas = areas; blocks = blocks; free = free; laid_out = p }) (record { words = words; areas = areas; blocks = blocks; free = free; laid_out = q })
+    → ◌≡◌ {A = BlockCore} (record { words = words; areas = areas; blocks = blocks; free = free; laid_out = p })
+    (record { words = words; areas = areas; blocks = blocks; free = free; laid_out = q })
 same-store words areas blocks free p q =
     let prop : IsProp (IsBlockCore (length words.items) areas blocks free) = hlevel props in
     let same : p ≡ q = prop p q in

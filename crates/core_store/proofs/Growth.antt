@@ -13,7 +13,8 @@ use Rattle.core_store.proofs.AreaLemmas.{area-set, IsLaidOut-hole, IsLaidOut-set
 use Rattle.core_store.proofs.Moved.{area-high, area-low, EndBy, HasSides}
 
 -- behind all jobs there is a hole
-pub hole-behind : (areas : List Area) (all end blocks : ℕ) → EndBy end areas → end + blocks ≤ all → IsTrue (is_hole areas all (record { base = end; blocks = blocks }))
+pub hole-behind : (areas : List Area) (all end blocks : ℕ) → EndBy end areas → end + blocks ≤ all
+    → IsTrue (is_hole areas all (record { base = end; blocks = blocks }))
 hole-behind areas all end blocks below fits =
     let h : Area = record { base = end; blocks = blocks } in
     and_from (nat_le (end + blocks) all) (list_all (λ a. lie_apart a h) areas) (le-leb (end + blocks) all fits)
@@ -22,7 +23,8 @@ hole-behind areas all end blocks below fits =
     (λ k l. or_left _ (nat_le (end + blocks) (area_of areas k).base) (le-leb _ end (below k l)))))
 
 -- a job was moved to a hole that is larger
-pub room-moved : (size all : ℕ) (areas moved : List Area) (job to blocks : ℕ) → moved ≡ slice_set areas job (record { base = to; blocks = (area_of areas job).blocks })
+pub room-moved : (size all : ℕ) (areas moved : List Area) (job to blocks : ℕ)
+    → moved ≡ slice_set areas job (record { base = to; blocks = (area_of areas job).blocks })
     → IsLaidOut size areas → job < length areas → size ≡ all * BLOCK_WORDS → 1 ≤ blocks → IsTrue (is_hole areas all (record { base = to; blocks = blocks }))
     → IsLaidOut size (slice_set moved job (record { base = (area_of moved job).base; blocks = blocks }))
 room-moved size all areas moved job to blocks e h there whole some hole =

@@ -54,7 +54,8 @@ moved words news areas job to a is there e before after copied below above =
           let other = area_of areas k in
           let apart : other.base < to + old.blocks → other.base + other.blocks ≤ to =
           rw (area-other areas job k a q, here, is) at (after.apart k job (omega arith) (omega arith) q) in
-          kept words news other (record { base = to; blocks = old.blocks }) (to * BLOCK_WORDS) (to * BLOCK_WORDS + old.blocks * BLOCK_WORDS) e (before.within k l) (omega arith) (omega arith) below above apart)
+          kept words news other (record { base = to; blocks = old.blocks }) (to * BLOCK_WORDS)
+          (to * BLOCK_WORDS + old.blocks * BLOCK_WORDS) e (before.within k l) (omega arith) (omega arith) below above apart)
     ])
 
 -- an area that lies before a block stays
@@ -68,7 +69,8 @@ raised-high from by a h = let e : nat_le from a.base ≡ true = le-leb from a.ba
 pub area-raised : (from by : ℕ) (areas : List Area) (k : ℕ) → k < length areas → area_of (map (raised from by) areas) k ≡ raised from by (area_of areas k)
 area-raised from by areas k h = get_or-map (raised from by) areas k no_area no_area h
 
-pub area-low : (from by : ℕ) (areas : List Area) (k : ℕ) → k < length areas → (area_of areas k).base < from → area_of (map (raised from by) areas) k ≡ area_of areas k
+pub area-low : (from by : ℕ) (areas : List Area) (k : ℕ) → k < length areas → (area_of areas k).base < from
+    → area_of (map (raised from by) areas) k ≡ area_of areas k
 area-low from by areas k h l = area-raised from by areas k h ∙ raised-low from by (area_of areas k) l
 
 pub area-high : (from by : ℕ) (areas : List Area) (k : ℕ) → k < length areas → from ≤ (area_of areas k).base
@@ -105,7 +107,8 @@ IsLaidOut-raised size from end by areas h some room sides below =
       apart = λ i j li lj ne.
           let mi : i < length areas = omega arith in
           let mj : j < length areas = omega arith in
-          let apart : (area_of areas i).base < (area_of areas j).base + (area_of areas j).blocks → (area_of areas i).base + (area_of areas i).blocks ≤ (area_of areas j).base = h.apart i j mi mj ne in
+          let apart : (area_of areas i).base < (area_of areas j).base + (area_of areas j).blocks
+          → (area_of areas i).base + (area_of areas i).blocks ≤ (area_of areas j).base = h.apart i j mi mj ne in
           elim (cases_lt (area_of areas i).base from) [
             | inl q ↦ elim (cases_lt (area_of areas j).base from) [
               | inl p ↦ rw (area-low from by areas i mi q, area-low from by areas j mj p) apart
@@ -125,7 +128,9 @@ IsLaidOut-raised size from end by areas h some room sides below =
     }
 
 -- the words behind a block are moved up, and with them the jobs
-pub raised-cores : (words news : List ℕ) (areas : List Area) (from end by : ℕ) → length news ≡ length words → IsLaidOut (length words) areas → 1 ≤ from → from ≤ end
+pub raised-cores : (words news : List ℕ) (areas : List Area) (from end by : ℕ) → length news ≡ length words
+    → IsLaidOut (length words) areas → 1 ≤ from
+    → from ≤ end
     → end * BLOCK_WORDS + by * BLOCK_WORDS ≤ length words → HasSides from areas → EndBy end areas
     → CopiedTo words news (from * BLOCK_WORDS) ((from + by) * BLOCK_WORDS) (end * BLOCK_WORDS - from * BLOCK_WORDS)
     → SameBelow words news ((from + by) * BLOCK_WORDS)
@@ -138,7 +143,8 @@ raised-cores words news areas from end by e h some order room sides below copied
     elim (cases_lt a.base from) [
       | inl q ↦ rw (area-low from by areas k l q) (
           let low : a.base + a.blocks ≤ from = low-ends from areas k sides l q in
-          same-part words news (a.base * BLOCK_WORDS) (a.base * BLOCK_WORDS) (a.blocks * BLOCK_WORDS) fits (omega arith) (λ o lo. before (a.base * BLOCK_WORDS + o) 0 (omega arith)))
+          same-part words news (a.base * BLOCK_WORDS) (a.base * BLOCK_WORDS) (a.blocks * BLOCK_WORDS) fits (omega arith)
+          (λ o lo. before (a.base * BLOCK_WORDS + o) 0 (omega arith)))
       | inr q ↦ rw (area-high from by areas k l q) (
           same-part words news (a.base * BLOCK_WORDS) ((a.base + by) * BLOCK_WORDS) (a.blocks * BLOCK_WORDS) fits (omega arith) (λ o lo.
           let c = copied ((a.base + by) * BLOCK_WORDS + o) 0 (omega arith) (omega arith) in
@@ -184,7 +190,8 @@ pub placed : (words news : List ℕ) (areas : List Area) (job : ℕ) (a : Area)
     → cores_in news (slice_set areas job a) ≡ slice_set (cores_in words areas) job (replicate (a.blocks * BLOCK_WORDS) 0)
 placed words news areas job a there e before after zeros below above =
     let size : ℕ = a.blocks * BLOCK_WORDS in
-    renewed words news areas job a (a.base * BLOCK_WORDS) (a.base * BLOCK_WORDS + size) (replicate size 0) there e before after (omega arith) (omega arith) below above
+    renewed words news areas job a (a.base * BLOCK_WORDS) (a.base * BLOCK_WORDS + size) (replicate size 0) there e before after
+    (omega arith) (omega arith) below above
     (length-replicate size 0)
     (λ k l. zeros k l ∙ sym (get_or-replicate size k 0 0 l))
 
@@ -198,7 +205,8 @@ cut words areas job blocks there less before after =
     let ws : List ℕ = area_words words old in
     let base : ℕ = old.base * BLOCK_WORDS in
     let fits : base + old.blocks * BLOCK_WORDS ≤ length words = before.within job there in
-    renewed words words areas job (record { base = old.base; blocks = blocks }) base base (resized_words ws blocks) there refl before after (omega arith) (omega arith)
+    renewed words words areas job (record { base = old.base; blocks = blocks }) base base (resized_words ws blocks) there refl
+    before after (omega arith) (omega arith)
     (λ k d l. refl) (λ k d l. refl)
     (length-resized ws blocks)
     (λ k l.
@@ -206,7 +214,9 @@ cut words areas job blocks there less before after =
     sym (part-at words base (old.blocks * BLOCK_WORDS) k fits m) ∙ sym (resized-at ws (blocks * BLOCK_WORDS) k l))
 
 -- a job's core grows in its place
-pub grown : (words news : List ℕ) (areas : List Area) (job had blocks : ℕ) → had ≡ (area_of areas job).blocks → job < length areas → had ≤ blocks → length news ≡ length words
+pub grown : (words news : List ℕ) (areas : List Area) (job had blocks : ℕ) → had ≡ (area_of areas job).blocks → job < length areas
+    → had ≤ blocks
+    → length news ≡ length words
     → IsLaidOut (length words) areas → IsLaidOut (length words) (slice_set areas job (record { base = (area_of areas job).base; blocks = blocks }))
     → ((k : ℕ) → k < (blocks - had) * BLOCK_WORDS → get_or news (((area_of areas job).base + had) * BLOCK_WORDS + k) 0 ≡ 0)
     → SameBelow words news (((area_of areas job).base + had) * BLOCK_WORDS)
@@ -220,7 +230,8 @@ grown words news areas job had blocks is there more e before after zeros below a
     let size : ℕ = old.blocks * BLOCK_WORDS in
     let fits : base + size ≤ length words = before.within job there in
     let long : length ws ≡ size = length-part words base size fits in
-    renewed words news areas job (record { base = old.base; blocks = blocks }) ((old.base + had) * BLOCK_WORDS) ((old.base + had) * BLOCK_WORDS + (blocks - had) * BLOCK_WORDS)
+    renewed words news areas job (record { base = old.base; blocks = blocks }) ((old.base + had) * BLOCK_WORDS)
+    ((old.base + had) * BLOCK_WORDS + (blocks - had) * BLOCK_WORDS)
     (resized_words ws blocks) there e before after (omega arith) (omega arith) below above
     (length-resized ws blocks)
     (λ k l. elim (cases_lt k size) [
@@ -233,7 +244,9 @@ grown words news areas job had blocks is there more e before after zeros below a
     ])
 
 -- an area that is cut lies where it lay
-pub IsLaidOut-cut : (size : ℕ) (areas : List Area) (job blocks : ℕ) → IsLaidOut size areas → job < length areas → blocks ≤ (area_of areas job).blocks → 1 ≤ blocks
+pub IsLaidOut-cut : (size : ℕ) (areas : List Area) (job blocks : ℕ) → IsLaidOut size areas → job < length areas
+    → blocks ≤ (area_of areas job).blocks
+    → 1 ≤ blocks
     → IsLaidOut size (slice_set areas job (record { base = (area_of areas job).base; blocks = blocks }))
 IsLaidOut-cut size areas job blocks h there less some =
     let within = h.within job there in

@@ -48,7 +48,8 @@ IsLaidOut-next size areas job block packed h p there at some =
       | inl q ↦ p.done k l q
       | inr q ↦ elim (cases_lt 0 (area_of areas k).blocks) [
         | inl s ↦
-            let after : (area_of areas job).base + (area_of areas job).blocks ≤ (area_of areas k).base = h.apart job k there l (λ e. ne (sym e)) (omega arith) in
+            let after : (area_of areas job).base + (area_of areas job).blocks ≤ (area_of areas k).base =
+            h.apart job k there l (λ e. ne (sym e)) (omega arith) in
             absurd (omega arith)
         | inr s ↦ (let bottom : (area_of areas k).base ≡ 0 = h.bare k l (omega arith) in omega arith)
       ]
@@ -81,7 +82,8 @@ ArePacked-next size areas job block packed h p there at some =
           elim (cases_eq k job) [
             | inl q ↦ rw (q, here) (λ le one. absurd (omega arith))
             | inr q ↦ rw (area-other areas job k a q) (λ le one.
-                let after : (area_of areas job).base + (area_of areas job).blocks ≤ (area_of areas k).base = h.apart job k there m (λ e. q (sym e)) (omega arith) in
+                let after : (area_of areas job).base + (area_of areas job).blocks ≤ (area_of areas k).base =
+                h.apart job k there m (λ e. q (sym e)) (omega arith) in
                 omega arith)
           ];
     }
@@ -127,19 +129,23 @@ blocks_from-skip areas block none = sum-same (blocks_if block) (blocks_if (block
 
 pub blocks_from-next : (size : ℕ) (areas : List Area) (job block packed : ℕ) → IsLaidOut size areas → ArePacked block packed areas → job < length areas
     → (area_of areas job).base ≡ block → 1 ≤ (area_of areas job).blocks
-    → blocks_from (block + 1) (slice_set areas job (record { base = packed; blocks = (area_of areas job).blocks })) + (area_of areas job).blocks ≡ blocks_from block areas
+    → blocks_from (block + 1) (slice_set areas job (record { base = packed; blocks = (area_of areas job).blocks }))
+    + (area_of areas job).blocks ≡ blocks_from block areas
 blocks_from-next size areas job block packed h p there at some =
     let a : Area = record { base = packed; blocks = (area_of areas job).blocks } in
     let down : packed ≤ (area_of areas job).base = p.rest job there (omega arith) some in
-    let changed : blocks_from (block + 1) (slice_set areas job a) + blocks_if block (area_of areas job) ≡ blocks_from block areas + blocks_if (block + 1) (area_of (slice_set areas job a) job) =
+    let changed : blocks_from (block + 1) (slice_set areas job a) + blocks_if block (area_of areas job)
+    ≡ blocks_from block areas + blocks_if (block + 1) (area_of (slice_set areas job a) job) =
     sum-changed (blocks_if block) (blocks_if (block + 1)) areas (slice_set areas job a) job (length-set areas job a) there
     (λ k l ne. ap (blocks_if (block + 1)) (area-other areas job k a ne) ∙ steady block (area_of areas k) (alone size areas job k block h there l ne at some)) in
     let was : blocks_if block (area_of areas job) ≡ (area_of areas job).blocks = counts block (area_of areas job) (omega arith) in
-    let now : blocks_if (block + 1) (area_of (slice_set areas job a) job) ≡ 0 = ap (blocks_if (block + 1)) (area-set areas job a there) ∙ counts-not (block + 1) a (omega arith) in
+    let now : blocks_if (block + 1) (area_of (slice_set areas job a) job) ≡ 0 =
+    ap (blocks_if (block + 1)) (area-set areas job a there) ∙ counts-not (block + 1) a (omega arith) in
     omega arith
 
 -- a move keeps how many blocks there are
-pub sum-moved : (areas : List Area) (job to : ℕ) → job < length areas → blocks_in (slice_set areas job (record { base = to; blocks = (area_of areas job).blocks })) ≡ blocks_in areas
+pub sum-moved : (areas : List Area) (job to : ℕ) → job < length areas
+    → blocks_in (slice_set areas job (record { base = to; blocks = (area_of areas job).blocks })) ≡ blocks_in areas
 sum-moved areas job to there =
     let e = sum-set areas job (record { base = to; blocks = (area_of areas job).blocks }) there in
     omega arith

@@ -14,7 +14,8 @@ pub IsStore-set : (s : Cores) (job : ℕ) (words : List ℕ) (free : ℕ) → Is
     → IsStore (record { cores = slice_set s.cores job words; free = free })
 IsStore-set s job words free store number whole room =
     let within : job < length s.cores = omega arith in
-    let total : sum_by (λ ws. length ws) (slice_set s.cores job words) + length (core_of s job) ≡ sum_by (λ ws. length ws) s.cores + length words = sum_by-set (λ ws. length ws) s.cores job words [] within in
+    let total : sum_by (λ ws. length ws) (slice_set s.cores job words) + length (core_of s job)
+    ≡ sum_by (λ ws. length ws) s.cores + length words = sum_by-set (λ ws. length ws) s.cores job words [] within in
     record {
       jobs = length-set s.cores job words ∙ store.jobs;
       whole = All-set IsWhole s.cores job words whole store.whole;

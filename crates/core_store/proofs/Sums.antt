@@ -42,7 +42,8 @@ sum-changed f g xs ys j e there same =
       | inr q ↦ at-map g ys k m ∙ same k n q ∙ sym (at-map f xs k n) ∙ sym (get_or-set_other (map f xs) j k new 0 q)
     ]) in
     let total : sum_by g ys ≡ sum_by (λ n. n) (slice_set (map f xs) j new) = sym (sum-map g ys) ∙ ap (λ ns. sum_by (λ n. n) ns) all in
-    let put : sum_by (λ n. n) (slice_set (map f xs) j new) + get_or (map f xs) j 0 ≡ sum_by (λ n. n) (map f xs) + new = sum_by-set (λ n. n) (map f xs) j new 0 jx in
+    let put : sum_by (λ n. n) (slice_set (map f xs) j new) + get_or (map f xs) j 0 ≡ sum_by (λ n. n) (map f xs) + new =
+    sum_by-set (λ n. n) (map f xs) j new 0 jx in
     let was : get_or (map f xs) j 0 ≡ f (area_of xs j) = at-map f xs j there in
     let before : sum_by (λ n. n) (map f xs) ≡ sum_by f xs = sum-map f xs in
     omega arith

@@ -47,7 +47,8 @@ splice-apart : (xs : List ℕ) (i : ℕ) (ws : List ℕ) (a n : ℕ) → i + len
 splice-apart xs i ws a n h fits apart k l = grind (arith, splice-below xs i ws (a + k) h, splice-above xs i ws (a + k) h)
 
 -- a loan's words are the job's, and all else is as before
-pub meant-written : (s : BlockCore) (job : ℕ) (ws : List ℕ) → IsJob job → length ws ≡ length (core_of (meant s) job) → meant (written s job ws) ≡ with_core (meant s) job ws
+pub meant-written : (s : BlockCore) (job : ℕ) (ws : List ℕ) → IsJob job → length ws ≡ length (core_of (meant s) job)
+    → meant (written s job ws) ≡ with_core (meant s) job ws
 meant-written s job ws number same =
     let words = s.words.items in
     let areas = s.areas in
@@ -68,7 +69,9 @@ meant-written s job ws number same =
     let many = (area_of areas k).blocks * BLOCK_WORDS in
     let here : from + many ≤ length words = s.laid_out.laid_out.within k l in
     let still : from + many ≤ length (splice words base ws) = omega arith in
-    let apart : (area_of areas k).base < (area_of areas job).base + (area_of areas job).blocks → (area_of areas k).base + (area_of areas k).blocks ≤ (area_of areas job).base = s.laid_out.laid_out.apart k job l there ne in
+    let apart : (area_of areas k).base < (area_of areas job).base + (area_of areas job).blocks
+    → (area_of areas k).base + (area_of areas k).blocks ≤ (area_of areas job).base =
+    s.laid_out.laid_out.apart k job l there ne in
     let clear : from < base + length ws → from + many ≤ base = λ h. omega arith in
     same-part words (splice words base ws) from from many here still (splice-apart words base ws from many room here clear))
     (part-is (splice words base ws) ws base size room-after long (λ k l.

@@ -90,7 +90,8 @@ pub(crate) fn resize(words: &mut [Word], areas: &mut [Area], all: u32, job: usiz
     requires free { blocks_in areas.old + blocks ≤ all + (area_of areas.old job).blocks }
     ensures laid_out { IsLaidOut (length words.old) areas.new }
     ensures jobs { length areas.new ≡ length areas.old }
-    ensures cores { cores_in words.new areas.new ≡ slice_set (cores_in words.old areas.old) job (resized_words (area_words words.old (area_of areas.old job)) blocks) }
+    ensures cores { cores_in words.new areas.new
+        ≡ slice_set (cores_in words.old areas.old) job (resized_words (area_words words.old (area_of areas.old job)) blocks) }
     ensures blocks { blocks_in areas.new + (area_of areas.old job).blocks ≡ blocks_in areas.old + blocks }
 {
     let had = areas[job].blocks;

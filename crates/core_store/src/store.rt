@@ -93,5 +93,6 @@ pub trait CoreStore: Drop {
         ensures value { result.now ≡ core_of (meaning self.old) job }
         ensures store { IsStore (meaning self.old) };
 
-    ghost put_meaning: { (s : Self) (job : ℕ) (words : List ℕ) → IsJob job → length words ≡ length (core_of (meaning s) job) → meaning (put s job words) ≡ with_core (meaning s) job words };
+    ghost put_meaning: { (s : Self) (job : ℕ) (words : List ℕ) → IsJob job → length words ≡ length (core_of (meaning s) job)
+        → meaning (put s job words) ≡ with_core (meaning s) job words };
 }

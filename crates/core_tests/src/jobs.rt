@@ -110,7 +110,9 @@ pub fn grow<C: CoreStore>(cores: &mut C, job: u8) -> Result<(), NoCore>
     requires number { IsJob job }
     requires has_core { core_of (C.meaning cores.old) job ≢ [] }
     ensures cases { IsOk result ↔ (1 ≤ (C.meaning cores.old).free) }
-    ensures kept { OnOk result ((a : ℕ) → a < length (core_of (C.meaning cores.old) job) → slice_get (core_of (C.meaning cores.new) job) a ≡ slice_get (core_of (C.meaning cores.old) job) a) }
+    ensures kept { OnOk result
+        ((a : ℕ) → a < length (core_of (C.meaning cores.old) job)
+        → slice_get (core_of (C.meaning cores.new) job) a ≡ slice_get (core_of (C.meaning cores.old) job) a) }
     ensures long { OnOk result (length (core_of (C.meaning cores.new) job) ≡ length (core_of (C.meaning cores.old) job) + BLOCK_WORDS) }
     ensures others { OnOk result ((k : ℕ) → k ≢ job → core_of (C.meaning cores.new) k ≡ core_of (C.meaning cores.old) k) }
     ensures free { OnOk result ((C.meaning cores.new).free + 1 ≡ (C.meaning cores.old).free) }

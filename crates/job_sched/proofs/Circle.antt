@@ -30,7 +30,8 @@ unfolding first_from
 after-next test zero n low = refl
 after-next test (suc k) n low = let e : after n ≡ n + 1 = omega arith in rw e refl
 
-pub first_from-next : (test : ℕ → Bool) (to n : ℕ) → n < to → to ≤ JOBS + 1 → first_from test (to - n) n ≡ (if test n then Some n else first_from test (to - (n + 1)) (n + 1))
+pub first_from-next : (test : ℕ → Bool) (to n : ℕ) → n < to → to ≤ JOBS + 1
+    → first_from test (to - n) n ≡ (if test n then Some n else first_from test (to - (n + 1)) (n + 1))
 first_from-next test to n low most =
     first_from-step test (to - n) (to - (n + 1)) n (omega arith) ∙ ap (λ o. cond (test n) (Some n) o) (after-next test (to - (n + 1)) n (omega arith))
 
@@ -89,7 +90,8 @@ circle-below test from end some low most fails =
     let back : at (at from (end - from)) (JOBS + 1 - end) ≡ 1 = at-is (at from (end - from)) (JOBS + 1 - end) (omega arith) (omega arith) ∙ omega arith in
     let rest : first_from test ((JOBS + 1 - end) + (from - 1)) (at from (end - from)) ≡ first_from test (min from end - 1) 1 =
     parted test (JOBS + 1 - end) (from - 1) (at from (end - from))
-    ∙ ap (λ o. or_else o (first_from test (from - 1) (at (at from (end - from)) (JOBS + 1 - end)))) (none-above test (JOBS + 1 - end) end (at from (end - from)) refl (omega arith) there fails)
+    ∙ ap (λ o. or_else o (first_from test (from - 1) (at (at from (end - from)) (JOBS + 1 - end))))
+    (none-above test (JOBS + 1 - end) end (at from (end - from)) refl (omega arith) there fails)
     ∙ sym (or-other None (first_from test (from - 1) (at (at from (end - from)) (JOBS + 1 - end))) refl)
     ∙ ap (λ (n : ℕ). first_from test (from - 1) n) back
     ∙ ap (λ (k : ℕ). first_from test k 1) (omega arith) in
@@ -104,7 +106,8 @@ circle-above : (test : ℕ → Bool) (from end : ℕ) → 1 ≤ from → from �
 circle-above test from end some most high fails =
     let back : at from (JOBS + 1 - from) ≡ 1 = at-is from (JOBS + 1 - from) some most ∙ omega arith in
     let there : at 1 (end - 1) ≡ (end - 1) % JOBS + 1 = at-is 1 (end - 1) (omega arith) (omega arith) ∙ omega arith in
-    let above : first_from test (from - 1 - (end - 1)) (at 1 (end - 1)) ≡ None = none-found test (from - 1 - (end - 1)) (at 1 (end - 1)) (λ m more. fails m (omega arith)) (omega arith) in
+    let above : first_from test (from - 1 - (end - 1)) (at 1 (end - 1)) ≡ None =
+    none-found test (from - 1 - (end - 1)) (at 1 (end - 1)) (λ m more. fails m (omega arith)) (omega arith) in
     let before : first_from test (from - 1) 1 ≡ first_from test (min from end - 1) 1 =
     ap (λ (k : ℕ). first_from test k 1) (omega arith)
     ∙ parted test (end - 1) (from - 1 - (end - 1)) 1
@@ -114,7 +117,8 @@ circle-above test from end some most high fails =
     let all : JOBS ≡ (JOBS + 1 - from) + (from - 1) = omega arith in
     ap (λ (k : ℕ). first_from test k from) all
     ∙ parted test (JOBS + 1 - from) (from - 1) from
-    ∙ ap (λ o. or_else o (first_from test (from - 1) (at from (JOBS + 1 - from)))) (none-found test (JOBS + 1 - from) from (λ m more. fails m (omega arith)) (omega arith))
+    ∙ ap (λ o. or_else o (first_from test (from - 1) (at from (JOBS + 1 - from))))
+    (none-found test (JOBS + 1 - from) from (λ m more. fails m (omega arith)) (omega arith))
     ∙ sym (or-other None (first_from test (from - 1) (at from (JOBS + 1 - from))) refl)
     ∙ ap (λ (n : ℕ). first_from test (from - 1) n) back
     ∙ before
@@ -131,7 +135,8 @@ pub circle : (test : ℕ → Bool) (from end : ℕ) → 1 ≤ from → from ≤ 
 circle test from end = by_place (nat_lt from end) test from end refl
 
 -- where the test fails from the end on, the search from there on begins at 1
-from-start : (test : ℕ → Bool) (from end : ℕ) → end ≤ from → 1 ≤ from → from ≤ JOBS → ((m : ℕ) → end ≤ m → test m ≡ false) → first_from test JOBS 1 ≡ first_from test JOBS from
+from-start : (test : ℕ → Bool) (from end : ℕ) → end ≤ from → 1 ≤ from → from ≤ JOBS → ((m : ℕ) → end ≤ m → test m ≡ false)
+    → first_from test JOBS 1 ≡ first_from test JOBS from
 from-start test from end high some most fails =
     let none : first_from test (min 1 end - 1) 1 ≡ None = first_from-zero test (min 1 end - 1) 1 (omega arith) in
     let nothing : first_from test (end - from) from ≡ None = first_from-zero test (end - from) from (omega arith) in
@@ -147,7 +152,9 @@ from-start test from end high some most fails =
 pub found-first : (test : ℕ → Bool) (n : ℕ) → test n ≡ true → first_from test JOBS n ≡ Some n
 found-first test n passes = first_from-step test JOBS (JOBS - 1) n (omega arith) ∙ ap (λ b. cond b (Some n) (first_from test (JOBS - 1) (after n))) passes
 
-by_end : (b : Bool) (test : ℕ → Bool) (number end : ℕ) → nat_lt (after number) end ≡ b → end ≤ number + 1 → number ≤ JOBS → end ≤ JOBS + 1 → ((m : ℕ) → end ≤ m → test m ≡ false)
+by_end : (b : Bool) (test : ℕ → Bool) (number end : ℕ) → nat_lt (after number) end ≡ b → end ≤ number + 1 → number ≤ JOBS
+    → end ≤ JOBS + 1
+    → ((m : ℕ) → end ≤ m → test m ≡ false)
     → first_from test JOBS 1 ≡ first_from test JOBS (after number)
 by_end true test number end e high most few fails =
     let low : after number < end = ltb-true (after number) end e in

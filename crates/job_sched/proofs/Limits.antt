@@ -133,7 +133,10 @@ last-awake (Some j) e = ap (λ (n : ℕ). n == 1) (no-limit j.wait e)
 pub limited-awake : (waits : ℕ → Bool) (n : ℕ) (jobs : List (Option Job)) → list_any is_sleeper jobs ≡ false → limited_from waits n jobs ≡ jobs
 limited-awake waits n [] none = refl
 limited-awake waits n (o ∷ jobs) none =
-    rw (slot-awake (waits n) o (left-none (is_sleeper o) (list_any is_sleeper jobs) none), limited-awake waits (n + 1) jobs (right-none (is_sleeper o) _ none)) refl
+    rw (
+      slot-awake (waits n) o (left-none (is_sleeper o) (list_any is_sleeper jobs) none),
+      limited-awake waits (n + 1) jobs (right-none (is_sleeper o) _ none),
+    ) refl
 
 pub table-awake : (t : Table) (requests : List Request) → list_any is_sleeper t.jobs ≡ false → limited_table t requests ≡ t
 table-awake t requests none = ap (λ jobs. record t { jobs = jobs }) (limited-awake (is_waiting_job requests) 0 t.jobs none)
@@ -151,7 +154,8 @@ pub expires-awake : (requests : List Request) (jobs : List (Option Job)) → lis
 expires-awake requests jobs none n = and-false (is_waiting_job requests n) (is_last_tick (job_at jobs n)) (last-at jobs n none)
 
 -- each job for itself
-from-at : (waits : ℕ → Bool) (jobs : List (Option Job)) (n m k : ℕ) → k ≡ n + m → job_at (limited_from waits n jobs) m ≡ option_map (limited_job (waits k)) (job_at jobs m)
+from-at : (waits : ℕ → Bool) (jobs : List (Option Job)) (n m k : ℕ) → k ≡ n + m
+    → job_at (limited_from waits n jobs) m ≡ option_map (limited_job (waits k)) (job_at jobs m)
 from-at waits [] n m k e = refl
 from-at waits (o ∷ jobs) n zero k e = let same : n ≡ k = omega (arith, e) in ap (λ (i : ℕ). option_map (limited_job (waits i)) o) same
 from-at waits (o ∷ jobs) n (suc m) k e = from-at waits jobs (n + 1) m k (omega (arith, e))
@@ -175,7 +179,8 @@ there-limited t requests n = ap (λ o. is_some o) (job-limited t requests n) ∙
 pub none-limited : (waits : ℕ → Bool) (jobs : List (Option Job)) (m : ℕ) → job_at jobs m ≡ None → job_at (limited_from waits 0 jobs) m ≡ None
 none-limited waits jobs m none = from-at waits jobs 0 m m (omega arith) ∙ ap (λ o. option_map (limited_job (waits m)) o) none
 
-pub IsTable-limited : (waits : ℕ → Bool) (jobs : List (Option Job)) (sleepers : Bool) (from : ℕ) → IsTable jobs sleepers from → IsTable (limited_from waits 0 jobs) sleepers from
+pub IsTable-limited : (waits : ℕ → Bool) (jobs : List (Option Job)) (sleepers : Bool) (from : ℕ) → IsTable jobs sleepers from
+    → IsTable (limited_from waits 0 jobs) sleepers from
 IsTable-limited waits jobs sleepers from h = record {
   places = length-limited waits 0 jobs ∙ h.places;
   awake = λ e. rw (limited-awake waits 0 jobs (h.awake e)) (h.awake e);
@@ -210,7 +215,8 @@ member jobs job n low = elim (cases_eq n job) [
 ]
 
 -- withdrawals that are judged alike
-chosen-same : (f g : List Request → Request → Bool) → ((e : List Request) (r : Request) → f e r ≡ g e r) → (e rs : List Request) → chosen_behind f e rs ≡ chosen_behind g e rs
+chosen-same : (f g : List Request → Request → Bool) → ((e : List Request) (r : Request) → f e r ≡ g e r) → (e rs : List Request)
+    → chosen_behind f e rs ≡ chosen_behind g e rs
 chosen-same f g same e [] = refl
 chosen-same f g same e (r ∷ rs) =
     ap (λ b. cond b (r ∷ chosen_behind f (e ++ r ∷ []) rs) (chosen_behind f (e ++ r ∷ []) rs)) (same e r)

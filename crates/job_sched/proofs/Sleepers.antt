@@ -42,13 +42,15 @@ awake-map f (x ∷ jobs) keeps none =
     (awake-map f jobs keeps (right-none (is_sleeper x) _ none))
 
 -- nobody sleeps in a place where nobody sleeps at all
-pub awake-at : (jobs : List (Option Job)) (n : ℕ) (d : Option Job) → n < length jobs → list_any is_sleeper jobs ≡ false → is_sleeper (slice_index_or jobs n d) ≡ false
+pub awake-at : (jobs : List (Option Job)) (n : ℕ) (d : Option Job) → n < length jobs → list_any is_sleeper jobs ≡ false
+    → is_sleeper (slice_index_or jobs n d) ≡ false
 awake-at [] n d low none = absurd (omega arith)
 awake-at (x ∷ jobs) zero d low none = left-none (is_sleeper x) (list_any is_sleeper jobs) none
 awake-at (x ∷ jobs) (suc n) d low none = awake-at jobs n d (omega arith) (right-none (is_sleeper x) _ none)
 
 -- no job is at a place where none was put
-none-set : (jobs : List (Option Job)) (n : ℕ) (o : Option Job) (m : ℕ) → (m ≡ n → o ≡ None) → (m ≢ n → job_at jobs m ≡ None) → job_at (slice_set jobs n o) m ≡ None
+none-set : (jobs : List (Option Job)) (n : ℕ) (o : Option Job) (m : ℕ) → (m ≡ n → o ≡ None) → (m ≢ n → job_at jobs m ≡ None)
+    → job_at (slice_set jobs n o) m ≡ None
 none-set [] n o m here there = refl
 none-set (x ∷ jobs) zero o zero here there = here refl
 none-set (x ∷ jobs) zero o (suc m) here there = there (λ e. omega (arith, e))

@@ -38,8 +38,12 @@ reached n m some most above below = at-is n ((m + JOBS - n) % JOBS) some most �
 
 pub next-ready : NextIsReady
 next-ready t lines requests n =
-    by_test (λ o. o ≡ Some n → is_ready t.jobs lines requests n ≡ true) (nat_lt 0 t.left && is_ready t.jobs lines requests t.current) (Some t.current) (first_from (is_ready t.jobs lines requests) JOBS (after t.current))
-    (λ goes e. let same : t.current ≡ n = cc in subst (λ (x : ℕ). is_ready t.jobs lines requests x ≡ true) same (right-true (nat_lt 0 t.left) (is_ready t.jobs lines requests t.current) goes))
+    by_test (λ o. o ≡ Some n → is_ready t.jobs lines requests n ≡ true)
+    (nat_lt 0 t.left && is_ready t.jobs lines requests t.current) (Some t.current)
+    (first_from (is_ready t.jobs lines requests) JOBS (after t.current))
+    (λ goes e. let same : t.current ≡ n = cc in
+    subst (λ (x : ℕ). is_ready t.jobs lines requests x ≡ true) same
+    (right-true (nat_lt 0 t.left) (is_ready t.jobs lines requests t.current) goes))
     (λ _ e. found-passes (is_ready t.jobs lines requests) JOBS (after t.current) n e)
   where
     right-true : (a b : Bool) → (a && b) ≡ true → b ≡ true
@@ -48,7 +52,9 @@ next-ready t lines requests n =
 
 pub idle-none : IdleMeansNoneIsReady
 idle-none t lines requests idle n some most =
-    by_test (λ o. o ≡ None → is_ready t.jobs lines requests n ≡ false) (nat_lt 0 t.left && is_ready t.jobs lines requests t.current) (Some t.current) (first_from (is_ready t.jobs lines requests) JOBS (after t.current))
+    by_test (λ o. o ≡ None → is_ready t.jobs lines requests n ≡ false)
+    (nat_lt 0 t.left && is_ready t.jobs lines requests t.current) (Some t.current)
+    (first_from (is_ready t.jobs lines requests) JOBS (after t.current))
     (λ _ d. cc)
     (λ _ d.
     let start = after t.current in
@@ -72,7 +78,10 @@ after-itself t lines requests n next alone =
     let current : t.current ≡ n = eqb-true t.current n both.0 in
     let left : t.left ≡ 0 = eqb-true t.left 0 both.1 in
     ap (λ (m : ℕ). first_from (is_ready t.jobs lines requests) JOBS (after m)) (sym current)
-    ∙ sym (ap (λ (l : ℕ). cond (nat_lt 0 l && is_ready t.jobs lines requests t.current) (Some t.current) (first_from (is_ready t.jobs lines requests) JOBS (after t.current))) left)
+    ∙ sym
+    (ap
+    (λ (l : ℕ). cond (nat_lt 0 l && is_ready t.jobs lines requests t.current) (Some t.current)
+    (first_from (is_ready t.jobs lines requests) JOBS (after t.current))) left)
     ∙ next
 
 -- the test fails at each number before the one that is found
@@ -97,4 +106,5 @@ alone-only t lines requests n next alone m some most other =
     let start = after n in
     let i = (m + JOBS - start) % JOBS in
     subst (λ (x : ℕ). is_ready t.jobs lines requests x ≡ false) (reached start m (omega arith) (omega arith) some most)
-    (fails-before (is_ready t.jobs lines requests) JOBS start i n (after-itself t lines requests n next alone) (omega arith) (λ j few. last-itself n m j some most other few))
+    (fails-before (is_ready t.jobs lines requests) JOBS start i n (after-itself t lines requests n next alone) (omega arith)
+    (λ j few. last-itself n m j some most other few))

@@ -17,8 +17,12 @@ use Rattle.ka_cpu.proofs.BlockSteps.{moved_core}
 copied_outside : (k : ℕ) (ws : List ℕ) (s d j : ℕ) → (j < d) ⊎ (d + k ≤ j) → slice_index (copied k ws s d) j ≡ slice_index ws j
 unfolding copied
 copied_outside zero ws s d j h = refl
-copied_outside (suc k) ws s d j (inl h) = copied_outside k (slice_set ws d (slice_index ws s)) (s + 1) (d + 1) j (inl (omega arith)) ∙ get_or-set_other ws d j (slice_index ws s) 0 (λ e. omega (arith, e))
-copied_outside (suc k) ws s d j (inr h) = copied_outside k (slice_set ws d (slice_index ws s)) (s + 1) (d + 1) j (inr (omega arith)) ∙ get_or-set_other ws d j (slice_index ws s) 0 (λ e. omega (arith, e))
+copied_outside (suc k) ws s d j (inl h) =
+    copied_outside k (slice_set ws d (slice_index ws s)) (s + 1) (d + 1) j (inl (omega arith))
+    ∙ get_or-set_other ws d j (slice_index ws s) 0 (λ e. omega (arith, e))
+copied_outside (suc k) ws s d j (inr h) =
+    copied_outside k (slice_set ws d (slice_index ws s)) (s + 1) (d + 1) j (inr (omega arith))
+    ∙ get_or-set_other ws d j (slice_index ws s) 0 (λ e. omega (arith, e))
 
 apart_next : (s d k i : ℕ) → i < k → (s + suc k ≤ d) ⊎ (d + suc k ≤ s) → s + 1 + i ≢ d
 apart_next s d k i h (inl o) = λ e. omega (arith, e)
@@ -28,13 +32,16 @@ apart_rest : (s d k : ℕ) → (s + suc k ≤ d) ⊎ (d + suc k ≤ s) → (s + 
 apart_rest s d k (inl o) = inl (omega arith)
 apart_rest s d k (inr o) = inr (omega arith)
 
-copied_inside : (k i : ℕ) (ws : List ℕ) (s d : ℕ) → i < k → (s + k ≤ d) ⊎ (d + k ≤ s) → d + k ≤ length ws → slice_index (copied k ws s d) (d + i) ≡ slice_index ws (s + i)
+copied_inside : (k i : ℕ) (ws : List ℕ) (s d : ℕ) → i < k → (s + k ≤ d) ⊎ (d + k ≤ s) → d + k ≤ length ws
+    → slice_index (copied k ws s d) (d + i) ≡ slice_index ws (s + i)
 unfolding copied
 copied_inside zero i ws s d h o l = absurd (omega arith)
 copied_inside (suc k) zero ws s d h o l =
     let e : d + 0 ≡ d = omega arith in
     let f : s + 0 ≡ s = omega arith in
-    rw (e, f) (copied_outside k (slice_set ws d (slice_index ws s)) (s + 1) (d + 1) d (inl (omega arith)) ∙ get_or-set_same ws d (slice_index ws s) 0 (omega arith))
+    rw (e, f)
+    (copied_outside k (slice_set ws d (slice_index ws s)) (s + 1) (d + 1) d (inl (omega arith))
+    ∙ get_or-set_same ws d (slice_index ws s) 0 (omega arith))
 copied_inside (suc k) (suc i) ws s d h o l =
     let e : d + suc i ≡ d + 1 + i = omega arith in
     let f : s + 1 + i ≡ s + suc i = omega arith in

@@ -6,11 +6,13 @@ use Rattle.std.proofs.Math.ListN.{length-set}
 use Rattle.ka_cpu.specs.Places.{word_at}
 use Rattle.ka_cpu.specs.Blocks.{Store, copied, moved_words, stored}
 
-moved_at : (m k : ℕ) (t u : Store) (s d : ℕ) → k ≡ suc m → u ≡ stored t d (word_at t.ac t.core (s % 2 ^ 18)) → moved_words k t s d ≡ moved_words m u (s + 1) (d + 1)
+moved_at : (m k : ℕ) (t u : Store) (s d : ℕ) → k ≡ suc m → u ≡ stored t d (word_at t.ac t.core (s % 2 ^ 18))
+    → moved_words k t s d ≡ moved_words m u (s + 1) (d + 1)
 unfolding moved_words
 moved_at m k t u s d e r = rw e (rw r refl)
 
-pub moved_turn : (k i : ℕ) (t u : Store) (s d : ℕ) → i < k → u ≡ stored t (d + i) (word_at t.ac t.core ((s + i) % 2 ^ 18)) → moved_words (k - i) t (s + i) (d + i) ≡ moved_words (k - (i + 1)) u (s + (i + 1)) (d + (i + 1))
+pub moved_turn : (k i : ℕ) (t u : Store) (s d : ℕ) → i < k → u ≡ stored t (d + i) (word_at t.ac t.core ((s + i) % 2 ^ 18))
+    → moved_words (k - i) t (s + i) (d + i) ≡ moved_words (k - (i + 1)) u (s + (i + 1)) (d + (i + 1))
 moved_turn k i t u s d h r = rw (← add_assoc s i 1, ← add_assoc d i 1) (moved_at (k - (i + 1)) (k - i) t u (s + i) (d + i) (omega arith) r)
 
 moved_zero : (k : ℕ) (t : Store) (s d : ℕ) → k ≡ 0 → moved_words k t s d ≡ t
@@ -25,10 +27,12 @@ copied_at : (m k : ℕ) (ws us : List ℕ) (s d : ℕ) → k ≡ suc m → us �
 unfolding copied
 copied_at m k ws us s d e r = rw e (rw r refl)
 
-pub copied_turn : (k i : ℕ) (ws us : List ℕ) (s d : ℕ) → i < k → us ≡ slice_set ws (d + i) (slice_index ws (s + i)) → copied (k - i) ws (s + i) (d + i) ≡ copied (k - (i + 1)) us (s + (i + 1)) (d + (i + 1))
+pub copied_turn : (k i : ℕ) (ws us : List ℕ) (s d : ℕ) → i < k → us ≡ slice_set ws (d + i) (slice_index ws (s + i))
+    → copied (k - i) ws (s + i) (d + i) ≡ copied (k - (i + 1)) us (s + (i + 1)) (d + (i + 1))
 copied_turn k i ws us s d h r = rw (← add_assoc s i 1, ← add_assoc d i 1) (copied_at (k - (i + 1)) (k - i) ws us (s + i) (d + i) (omega arith) r)
 
-pub copied_read : (k i w : ℕ) (ws us : List ℕ) (s d : ℕ) → i < k → slice_get ws (s + i) ≡ Some w → us ≡ slice_set ws (d + i) w → copied (k - i) ws (s + i) (d + i) ≡ copied (k - (i + 1)) us (s + (i + 1)) (d + (i + 1))
+pub copied_read : (k i w : ℕ) (ws us : List ℕ) (s d : ℕ) → i < k → slice_get ws (s + i) ≡ Some w → us ≡ slice_set ws (d + i) w
+    → copied (k - i) ws (s + i) (d + i) ≡ copied (k - (i + 1)) us (s + (i + 1)) (d + (i + 1))
 copied_read k i w ws us s d h g r =
     copied_turn k i ws us s d h (r ∙ ap (λ (x : ℕ). slice_set ws (d + i) x) (sym (get_or_from_slice_get ws (s + i) w 0 g)))
 
@@ -58,6 +62,8 @@ moved_core zero ac core s d a b t l = refl
 moved_core (suc k) ac core s d a b t l =
     let e = stored_core ac core s d a b (omega arith) (omega arith) in
     let n : length (slice_set core d (slice_index core s)) ≡ length core = length-set core d (slice_index core s) in
-    ap (λ (x : Store). moved_words k x (s + 1) (d + 1)) e ∙ moved_core k ac (slice_set core d (slice_index core s)) (s + 1) (d + 1) (omega arith) (omega arith) (omega arith) (omega arith)
+    ap (λ (x : Store). moved_words k x (s + 1) (d + 1)) e
+    ∙ moved_core k ac (slice_set core d (slice_index core s)) (s + 1) (d + 1) (omega arith) (omega arith) (omega arith)
+    (omega arith)
 
 pub ruleset move_steps = (moved_turn, moved_end)

@@ -11,11 +11,13 @@ use Rattle.ka_cpu.proofs.Legal.{legal_from_read}
 put_back : (xs : List ℕ) (e old new : ℕ) → slice_get xs e ≡ Some old → set (set xs e new) e old ≡ xs
 put_back xs e old new h = set-set xs e new old ∙ rw (← get_or_from_slice_get xs e old 0 h) (set-get_or xs e 0)
 
-ac_back : (b : Bool) (xs ys : List ℕ) (e old new : ℕ) → cond b (slice_get xs e) (slice_get ys e) ≡ Some old → cond b (set (cond b (set xs e new) xs) e old) (cond b (set xs e new) xs) ≡ xs
+ac_back : (b : Bool) (xs ys : List ℕ) (e old new : ℕ) → cond b (slice_get xs e) (slice_get ys e) ≡ Some old
+    → cond b (set (cond b (set xs e new) xs) e old) (cond b (set xs e new) xs) ≡ xs
 ac_back true xs ys e old new h = put_back xs e old new h
 ac_back false xs ys e old new h = refl
 
-core_back : (b : Bool) (xs ys : List ℕ) (e old new : ℕ) → cond b (slice_get xs e) (slice_get ys e) ≡ Some old → cond b (cond b ys (set ys e new)) (set (cond b ys (set ys e new)) e old) ≡ ys
+core_back : (b : Bool) (xs ys : List ℕ) (e old new : ℕ) → cond b (slice_get xs e) (slice_get ys e) ≡ Some old
+    → cond b (cond b ys (set ys e new)) (set (cond b ys (set ys e new)) e old) ≡ ys
 core_back true xs ys e old new h = refl
 core_back false xs ys e old new h = put_back ys e old new h
 
@@ -29,17 +31,20 @@ restore_core ac core e old new h = core_back (nat_lt e 16) ac core e old new h
 pub ruleset restore_steps = (restore_ac, restore_core)
 
 -- the place of a byte by the address of its pointer
-place_by : (x : Result Target StopReason) (ac core : List ℕ) (e : ℕ) (o : Option ℕ) → Ok e ≡ address_in x → word_at ac core e ≡ o → at_target {A = ℕ × ℕ} x (λ t. reading (word_at ac core t.e) (λ w. Ok (t.e, w))) ≡ reading o (λ w. Ok (e, w))
+place_by : (x : Result Target StopReason) (ac core : List ℕ) (e : ℕ) (o : Option ℕ) → Ok e ≡ address_in x → word_at ac core e ≡ o
+    → at_target {A = ℕ × ℕ} x (λ t. reading (word_at ac core t.e) (λ w. Ok (t.e, w))) ≡ reading o (λ w. Ok (e, w))
 place_by (Err r) ac core e o h p = cc
 place_by (Ok t) ac core e o h p = let q : t.e ≡ e = cc in rw (q, p) refl
 
 pub place_ok : (ac core : List ℕ) (p e w : ℕ) → Ok e ≡ address_in (target_of ac core p) → word_at ac core e ≡ Some w → byte_place ac core p ≡ Ok (e, w)
 place_ok ac core p e w h q = place_by (target_of ac core p) ac core e (Some w) h q
 
-pub place_illegal : (ac core : List ℕ) (p e : ℕ) → Ok e ≡ address_in (target_of ac core p) → word_at ac core e ≡ None → byte_place ac core p ≡ Err IllegalAddress
+pub place_illegal : (ac core : List ℕ) (p e : ℕ) → Ok e ≡ address_in (target_of ac core p) → word_at ac core e ≡ None
+    → byte_place ac core p ≡ Err IllegalAddress
 place_illegal ac core p e h q = place_by (target_of ac core p) ac core e None h q
 
-refused_by : (x : Result Target StopReason) (ac core : List ℕ) (r : StopReason) → Err r ≡ address_in x → at_target {A = ℕ × ℕ} x (λ t. reading (word_at ac core t.e) (λ w. Ok (t.e, w))) ≡ Err r
+refused_by : (x : Result Target StopReason) (ac core : List ℕ) (r : StopReason) → Err r ≡ address_in x
+    → at_target {A = ℕ × ℕ} x (λ t. reading (word_at ac core t.e) (λ w. Ok (t.e, w))) ≡ Err r
 refused_by (Err s) ac core r h = cc
 refused_by (Ok t) ac core r h = cc
 

@@ -15,21 +15,30 @@ end_at : (n : ℕ) (ac core : List ℕ) (w : ℕ) (u : Option ℕ) → n ≡ 0 �
 unfolding target_from
 end_at n ac core w u e h = rw e (rw h refl)
 
-pub target_end : (i : ℕ) (ac core : List ℕ) (w : ℕ) (u : Option ℕ) → MOST_LINKS ≤ i → is_indirect w ≡ true → target_from (MOST_LINKS - i) ac core w u ≡ Err AddressChain
+pub target_end : (i : ℕ) (ac core : List ℕ) (w : ℕ) (u : Option ℕ) → MOST_LINKS ≤ i → is_indirect w ≡ true
+    → target_from (MOST_LINKS - i) ac core w u ≡ Err AddressChain
 target_end i ac core w u b h = end_at (MOST_LINKS - i) ac core w u (omega arith) h
 
-illegal_at : (m n : ℕ) (ac core : List ℕ) (w : ℕ) (u : Option ℕ) → n ≡ suc m → is_indirect w ≡ true → word_at ac core (direct_address ac w) ≡ None → target_from n ac core w u ≡ Err IllegalAddress
+illegal_at : (m n : ℕ) (ac core : List ℕ) (w : ℕ) (u : Option ℕ) → n ≡ suc m → is_indirect w ≡ true
+    → word_at ac core (direct_address ac w) ≡ None
+    → target_from n ac core w u ≡ Err IllegalAddress
 unfolding target_from
 illegal_at m n ac core w u e h r = rw e (rw h (rw r refl))
 
-turn_at : (m n : ℕ) (ac core : List ℕ) (w v : ℕ) (u : Option ℕ) → n ≡ suc m → is_indirect w ≡ true → word_at ac core (direct_address ac w) ≡ Some v → target_from n ac core w u ≡ target_from m ac core v (Some v)
+turn_at : (m n : ℕ) (ac core : List ℕ) (w v : ℕ) (u : Option ℕ) → n ≡ suc m → is_indirect w ≡ true
+    → word_at ac core (direct_address ac w) ≡ Some v
+    → target_from n ac core w u ≡ target_from m ac core v (Some v)
 unfolding target_from
 turn_at m n ac core w v u e h r = rw e (rw h (rw r refl))
 
-pub target_illegal : (i : ℕ) (ac core : List ℕ) (w : ℕ) (u : Option ℕ) → i < MOST_LINKS → is_indirect w ≡ true → word_at ac core (direct_address ac w) ≡ None → target_from (MOST_LINKS - i) ac core w u ≡ Err IllegalAddress
+pub target_illegal : (i : ℕ) (ac core : List ℕ) (w : ℕ) (u : Option ℕ) → i < MOST_LINKS → is_indirect w ≡ true
+    → word_at ac core (direct_address ac w) ≡ None
+    → target_from (MOST_LINKS - i) ac core w u ≡ Err IllegalAddress
 target_illegal i ac core w u b h r = illegal_at (MOST_LINKS - (i + 1)) (MOST_LINKS - i) ac core w u (omega arith) h r
 
-pub target_turn : (i : ℕ) (ac core : List ℕ) (w v : ℕ) (u : Option ℕ) → i < MOST_LINKS → is_indirect w ≡ true → word_at ac core (direct_address ac w) ≡ Some v → target_from (MOST_LINKS - i) ac core w u ≡ target_from (MOST_LINKS - (i + 1)) ac core v (Some v)
+pub target_turn : (i : ℕ) (ac core : List ℕ) (w v : ℕ) (u : Option ℕ) → i < MOST_LINKS → is_indirect w ≡ true
+    → word_at ac core (direct_address ac w) ≡ Some v
+    → target_from (MOST_LINKS - i) ac core w u ≡ target_from (MOST_LINKS - (i + 1)) ac core v (Some v)
 target_turn i ac core w v u b h r = turn_at (MOST_LINKS - (i + 1)) (MOST_LINKS - i) ac core w v u (omega arith) h r
 
 pub ruleset chain_steps = (target_direct, target_end, target_illegal, target_turn)

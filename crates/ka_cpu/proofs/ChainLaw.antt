@@ -6,7 +6,9 @@ use Rattle.ka_cpu.specs.declared.outcome.StopReason.{StopReason}
 use Rattle.ka_cpu.specs.declared.outcome.StopReason.TheVariants.{AddressChain}
 use Rattle.ka_cpu.proofs.Chain.{target_direct}
 
-chain_found : (n : ℕ) (ac core : List ℕ) (w : ℕ) (u : Option ℕ) (vs : List ℕ) (t : Target) → length vs ≤ n → LeadsTo ac core w u vs t → target_from n ac core w u ≡ Ok t
+chain_found : (n : ℕ) (ac core : List ℕ) (w : ℕ) (u : Option ℕ) (vs : List ℕ) (t : Target) → length vs ≤ n
+    → LeadsTo ac core w u vs t
+    → target_from n ac core w u ≡ Ok t
 unfolding target_from
 chain_found n ac core w u [] t b h = target_direct n ac core w u h.0 ∙ ap (λ (x : Target). Ok x) (sym h.1)
 chain_found zero ac core w u (v ∷ vs) t b h = absurd (omega arith)
@@ -21,11 +23,13 @@ found_on : (o : Option ℕ) (f : ℕ → Result Target StopReason) (t : Target) 
 found_on None f t h = cc
 found_on (Some v) f t h = (v, refl, h)
 
-found_step : (b : Bool) (o : Option ℕ) (f : ℕ → Result Target StopReason) (u t : Target) → cond b (reading o f) (Ok u) ≡ Ok t → ((b ≡ false) × (t ≡ u)) ⊎ ((b ≡ true) × (reading o f ≡ Ok t))
+found_step : (b : Bool) (o : Option ℕ) (f : ℕ → Result Target StopReason) (u t : Target) → cond b (reading o f) (Ok u) ≡ Ok t
+    → ((b ≡ false) × (t ≡ u)) ⊎ ((b ≡ true) × (reading o f ≡ Ok t))
 found_step true o f u t h = inr (refl, h)
 found_step false o f u t h = inl (refl, cc)
 
-chain_only : (n : ℕ) (ac core : List ℕ) (w : ℕ) (u : Option ℕ) (t : Target) → target_from n ac core w u ≡ Ok t → (vs : List ℕ) × (length vs ≤ n) × LeadsTo ac core w u vs t
+chain_only : (n : ℕ) (ac core : List ℕ) (w : ℕ) (u : Option ℕ) (t : Target) → target_from n ac core w u ≡ Ok t
+    → (vs : List ℕ) × (length vs ≤ n) × LeadsTo ac core w u vs t
 unfolding target_from
 chain_only zero ac core w u t h = ([], omega arith, found_here (is_indirect w) (target_here ac w u) t h)
 chain_only (suc n) ac core w u t h =

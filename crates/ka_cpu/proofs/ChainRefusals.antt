@@ -25,7 +25,8 @@ link-on n ac core w v (Err IllegalInstruction) l h = h
 link-on n ac core w v (Err Halt) l h = h
 link-on n ac core w v (Err Pushdown) l h = h
 
-links-read : (n : ℕ) (ac core : List ℕ) (w : ℕ) (o : Option ℕ) (f : ℕ → Result Target StopReason) → is_indirect w ≡ true → word_at ac core (direct_address ac w) ≡ o
+links-read : (n : ℕ) (ac core : List ℕ) (w : ℕ) (o : Option ℕ) (f : ℕ → Result Target StopReason) → is_indirect w ≡ true
+    → word_at ac core (direct_address ac w) ≡ o
     → ((v : ℕ) → LinksFrom n ac core v (f v)) → LinksFrom (suc n) ac core w (reading o f)
 unfolding LinksFrom
 links-read n ac core w None f i q h = ([], w, omega arith, refl, i, q)
@@ -42,7 +43,8 @@ unfolding LinksFrom target_from
 links-from zero ac core w used =
     links-test (is_indirect w) zero ac core w (Err AddressChain) (target_here ac w used) refl (λ i. ([], w, refl, refl, i))
 links-from (suc n) ac core w used =
-    links-test (is_indirect w) (suc n) ac core w (reading (word_at ac core (direct_address ac w)) (λ v. target_from n ac core v (Some v))) (target_here ac w used) refl
+    links-test (is_indirect w) (suc n) ac core w
+    (reading (word_at ac core (direct_address ac w)) (λ v. target_from n ac core v (Some v))) (target_here ac w used) refl
     (λ i. links-read n ac core w (word_at ac core (direct_address ac w)) (λ v. target_from n ac core v (Some v)) i refl (λ v. links-from n ac core v (Some v)))
 
 outside-only : (ac core : List ℕ) (w : ℕ) → target_of ac core w ≡ Err IllegalAddress → LeadsOutside ac core w
@@ -162,7 +164,9 @@ refused-only : (ac core : List ℕ) (w : ℕ) (r : StopReason) → word_behind M
 unfolding XctsFrom
 refused-only ac core w r e = let P : Result ℕ StopReason → Type 0 = λ x. XctsFrom MOST_EXECUTES ac core w x in subst P e (xcts-from MOST_EXECUTES ac core w)
 
-comes-found : (n : ℕ) (ac core : List ℕ) (w v : ℕ) (vs : List ℕ) → length vs ≤ n → Path (Executes ac core) w vs v → is_xct v ≡ false → word_behind n ac core w ≡ Ok v
+comes-found : (n : ℕ) (ac core : List ℕ) (w v : ℕ) (vs : List ℕ) → length vs ≤ n → Path (Executes ac core) w vs v
+    → is_xct v ≡ false
+    → word_behind n ac core w ≡ Ok v
 comes-found n ac core w v [] b p x = rw (← p) (behind_plain n ac core v x)
 comes-found zero ac core w v (y ∷ ys) b p x = absurd (omega arith)
 comes-found (suc n) ac core w v (y ∷ ys) b p x = behind_on n ac core w y p.0 ∙ comes-found n ac core y v ys (omega arith) p.1 x
@@ -173,7 +177,8 @@ way-found zero ac core w v r vs b p x q = absurd (omega arith)
 way-found (suc n) ac core w v r [] b p x q = rw (← p) (behind_err n ac core v r x q)
 way-found (suc n) ac core w v r (y ∷ ys) b p x q = behind_on n ac core w y p.0 ∙ way-found n ac core y v r ys (omega arith) p.1 x q
 
-far-xct : (n : ℕ) (ac core : List ℕ) (w v : ℕ) (vs : List ℕ) → length vs ≡ n → Path (Executes ac core) w vs v → is_xct v ≡ true → word_behind n ac core w ≡ Err AddressChain
+far-xct : (n : ℕ) (ac core : List ℕ) (w v : ℕ) (vs : List ℕ) → length vs ≡ n → Path (Executes ac core) w vs v → is_xct v ≡ true
+    → word_behind n ac core w ≡ Err AddressChain
 far-xct zero ac core w v [] b p x = rw (← p) (behind_zero ac core v x)
 far-xct zero ac core w v (y ∷ ys) b p x = absurd (omega arith)
 far-xct (suc n) ac core w v [] b p x = absurd (omega arith)

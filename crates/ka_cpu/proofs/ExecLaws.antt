@@ -108,7 +108,11 @@ ends-told g core n m a x f p Halts h = rw (h.0, h.1, h.2, h.3) (refl, refl)
 ends-told g core n m a x f p (Calls kind k e) h = (h.5, h.6, rw (h.0, h.1, h.2, h.3, h.4) refl, rw h.0 refl)
 
 keeps-done : (g : Regs) (core : List ℕ) (n : Instruction) (x : Effect) → Fair g x
-    → Keeps g core (record { regs = record { ac = ac_put (ac_put (ac_memory g.ac x.memory) n.ac x.ac) (next_ac n) x.next; pc = x.pc; flags = x.flags }; core = core_memory core x.memory; outcome = told x.ending })
+    → Keeps g core (record {
+      regs = record { ac = ac_put (ac_put (ac_memory g.ac x.memory) n.ac x.ac) (next_ac n) x.next; pc = x.pc; flags = x.flags };
+      core = core_memory core x.memory;
+      outcome = told x.ending;
+    })
 keeps-done g core n x h = record {
   cells = length-core_memory core x.memory;
   registers = length-ac_put _ (next_ac n) x.next ∙ (length-ac_put _ n.ac x.ac ∙ length-ac_memory g.ac x.memory);
@@ -140,12 +144,14 @@ fair-if g true x y h i = h
 fair-if g false x y h i = i
 
 -- the program goes on
-fair-on : (g : Regs) (m : Option (ℕ × ℕ)) (a x : Option ℕ) (f : Flags) (k : ℕ) → Fair g (record { memory = m; ac = a; next = x; flags = f; pc = (g.pc + k) % 2 ^ 18; ending = Goes_on })
+fair-on : (g : Regs) (m : Option (ℕ × ℕ)) (a x : Option ℕ) (f : Flags) (k : ℕ)
+    → Fair g (record { memory = m; ac = a; next = x; flags = f; pc = (g.pc + k) % 2 ^ 18; ending = Goes_on })
 unfolding EndsWith
 fair-on g m a x f k = record { pc = omega arith; ends = tt }
 
 -- it goes to a place
-fair-to : (g : Regs) (m : Option (ℕ × ℕ)) (a x : Option ℕ) (f : Flags) (e : ℕ) → e < 2 ^ 18 → Fair g (record { memory = m; ac = a; next = x; flags = f; pc = e; ending = Goes_on })
+fair-to : (g : Regs) (m : Option (ℕ × ℕ)) (a x : Option ℕ) (f : Flags) (e : ℕ) → e < 2 ^ 18
+    → Fair g (record { memory = m; ac = a; next = x; flags = f; pc = e; ending = Goes_on })
 unfolding EndsWith
 fair-to g m a x f e h = record { pc = h; ends = tt }
 
@@ -153,11 +159,13 @@ either-below : (b : Bool) (e p : ℕ) → e < 2 ^ 18 → p < 2 ^ 18 → (if b th
 either-below true e p h i = h
 either-below false e p h i = i
 
-fair-either : (g : Regs) (m : Option (ℕ × ℕ)) (a x : Option ℕ) (f : Flags) (b : Bool) (e : ℕ) → e < 2 ^ 18 → Fair g (record { memory = m; ac = a; next = x; flags = f; pc = if b then e else next_pc g; ending = Goes_on })
+fair-either : (g : Regs) (m : Option (ℕ × ℕ)) (a x : Option ℕ) (f : Flags) (b : Bool) (e : ℕ) → e < 2 ^ 18
+    → Fair g (record { memory = m; ac = a; next = x; flags = f; pc = if b then e else next_pc g; ending = Goes_on })
 fair-either g m a x f b e h = fair-to g m a x f (if b then e else next_pc g) (either-below b e (next_pc g) h (omega arith))
 
 -- a pushdown instruction
-fair-stack : (g : Regs) (m : Option (ℕ × ℕ)) (a x : Option ℕ) (f : Flags) (p : ℕ) (b : Bool) → p < 2 ^ 18 → Fair g (record { memory = m; ac = a; next = x; flags = f; pc = p; ending = if b then Overruns else Goes_on })
+fair-stack : (g : Regs) (m : Option (ℕ × ℕ)) (a x : Option ℕ) (f : Flags) (p : ℕ) (b : Bool) → p < 2 ^ 18
+    → Fair g (record { memory = m; ac = a; next = x; flags = f; pc = p; ending = if b then Overruns else Goes_on })
 unfolding EndsWith
 fair-stack g m a x f p true h = record { pc = h; ends = tt }
 fair-stack g m a x f p false h = record { pc = h; ends = tt }
@@ -281,9 +289,12 @@ fair-halt g n h = record { pc = h; ends = (refl, refl, refl, refl) }
 fair-jrst : (g : Regs) (n : Instruction) (used : Option ℕ) → n.e < 2 ^ 18 → Fair g (jrst_row g n used)
 unfolding jrst_row
 fair-jrst g n used h =
-    fair-if g (nat_eq n.ac 0) (goes_to g n.e) (if nat_eq n.ac 2 then record (goes_to g n.e) { flags = restored g.flags used } else record (goes_to g n.e) { ending = Halts })
+    fair-if g (nat_eq n.ac 0) (goes_to g n.e)
+    (if nat_eq n.ac 2 then record (goes_to g n.e) { flags = restored g.flags used }
+    else record (goes_to g n.e) { ending = Halts })
     (fair-to g _ _ _ _ _ h)
-    (fair-if g (nat_eq n.ac 2) (record (goes_to g n.e) { flags = restored g.flags used }) (record (goes_to g n.e) { ending = Halts }) (fair-to g _ _ _ _ _ h) (fair-halt g n h))
+    (fair-if g (nat_eq n.ac 2) (record (goes_to g n.e) { flags = restored g.flags used })
+    (record (goes_to g n.e) { ending = Halts }) (fair-to g _ _ _ _ _ h) (fair-halt g n h))
 
 fair-call : (kind : CallKind) (g : Regs) (n : Instruction) → n.ac < 16 → n.e < 2 ^ 18 → Fair g (call_row kind g n)
 unfolding call_row EndsWith
@@ -295,7 +306,10 @@ fair-pair g d = fair-on g _ _ _ _ _
 fair-shift : (g : Regs) (n : Instruction) → Fair g (shift_row g n)
 unfolding shift_row
 fair-shift g n =
-    let ash = record (goes_on g 1) { ac = Some (ash_of n.e (a_of g n)); flags = record g.flags { overflow = g.flags.overflow || ash_overflows n.e (a_of g n) } } in
+    let ash = record (goes_on g 1) {
+      ac = Some (ash_of n.e (a_of g n));
+      flags = record g.flags { overflow = g.flags.overflow || ash_overflows n.e (a_of g n) };
+    } in
     let rot = record (goes_on g 1) { ac = Some (rot_of n.e (a_of g n)) } in
     let lsh = record (goes_on g 1) { ac = Some (lsh_of n.e (a_of g n)) } in
     let rotc = pair_effect g (rotc_of n.e (pair_of g n)) in
@@ -430,7 +444,8 @@ unfolding byte_after
 keeps-byte_after g core n = keeps-pointer g core n (word_at g.ac core n.e)
 
 -- any instruction
-keeps-carried : (f : Family) (g : Regs) (core : List ℕ) (n : Instruction) (used : Option ℕ) → n.ac < 16 → n.e < 2 ^ 18 → Keeps g core (carried_out f g core n used)
+keeps-carried : (f : Family) (g : Regs) (core : List ℕ) (n : Instruction) (used : Option ℕ) → n.ac < 16 → n.e < 2 ^ 18
+    → Keeps g core (carried_out f g core n used)
 keeps-carried Blt g core n used k h = keeps-blt g core n
 keeps-carried Byte g core n used k h = keeps-byte_after g core n
 keeps-carried Move g core n used k h = keeps-finished g core n (row_of Move g core n used) (fair-row Move g core n used k h)
@@ -487,7 +502,9 @@ target-below : (n : ℕ) (ac core : List ℕ) (w : ℕ) (used : Option ℕ) → 
 unfolding BelowIn target_from
 target-below zero ac core w used = by_test BelowIn (is_indirect w) _ _ (λ _. tt) (λ _. direct-below ac w)
 target-below (suc n) ac core w used =
-    by_test BelowIn (is_indirect w) _ _ (λ _. read-below (word_at ac core (direct_address ac w)) _ (λ v. target-below n ac core v (Some v))) (λ _. direct-below ac w)
+    by_test BelowIn (is_indirect w) _ _
+    (λ _. read-below (word_at ac core (direct_address ac w)) _ (λ v. target-below n ac core v (Some v)))
+    (λ _. direct-below ac w)
 
 keeps-address : (g : Regs) (core : List ℕ) (w : ℕ) (t : Result Target StopReason) → BelowIn t → Keeps g core (at_address g core w t)
 unfolding BelowIn

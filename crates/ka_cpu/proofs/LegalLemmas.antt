@@ -3,12 +3,14 @@ use Rattle.std.proofs.Common.{◌≡◌, ℕ, suc, zero, ◌+◌, ◌^◌, ◌<�
 use Rattle.std.proofs.lemmas.Bool.Decides.{nat_tests}
 use Rattle.ka_cpu.specs.Places.{is_legal, are_legal}
 
-pub are_legal-suc : (core : List ℕ) (a n : ℕ) → are_legal core a (suc n) ≡ (nat_le (a + suc n) (2 ^ 18) && (nat_le (a + suc n) 16 || nat_le (a + suc n) (length core)))
+pub are_legal-suc : (core : List ℕ) (a n : ℕ)
+    → are_legal core a (suc n) ≡ (nat_le (a + suc n) (2 ^ 18) && (nat_le (a + suc n) 16 || nat_le (a + suc n) (length core)))
 unfolding are_legal
 are_legal-suc core a zero = grind (arith, nat_tests)
 are_legal-suc core a (suc n) = let more = are_legal-suc core (a + 1) n in grind (arith, nat_tests)
 
-pub last_word_decides : (core : List ℕ) (a n : ℕ) → 1 ≤ n → are_legal core a n ≡ (nat_le (a + n) (2 ^ 18) && (nat_le (a + n) 16 || nat_le (a + n) (length core)))
+pub last_word_decides : (core : List ℕ) (a n : ℕ) → 1 ≤ n
+    → are_legal core a n ≡ (nat_le (a + n) (2 ^ 18) && (nat_le (a + n) 16 || nat_le (a + n) (length core)))
 last_word_decides core a zero h = absurd (omega arith)
 last_word_decides core a (suc n) h = are_legal-suc core a n
 

@@ -15,7 +15,9 @@ done_after : (a : After) → is_done a.outcome ≡ true → record { regs = a.re
 done_after a h = ap (λ (o : Outcome). record { regs = a.regs; core = a.core; outcome = o }) (sym (done_is a.outcome h))
 
 one_of : (a : After) (b : Bool) → is_done a.outcome ≡ b
-    → ◌≡◌ {A = Ran} (cond b (record { steps = 1; after = record { regs = a.regs; core = a.core; outcome = Done } }) (record { steps = 1; after = a })) (record { steps = 1; after = a })
+    → ◌≡◌ {A = Ran}
+    (cond b (record { steps = 1; after = record { regs = a.regs; core = a.core; outcome = Done } })
+    (record { steps = 1; after = a })) (record { steps = 1; after = a })
 one_of a true h = ap (λ (x : After). record { steps = 1; after = x }) (done_after a h)
 one_of a false h = refl
 
@@ -37,7 +39,8 @@ on_then : (k : ℕ) (r : Ran) → ran_on 1 (ran_then k r) ≡ ran_then k (ran_on
 on_then k r = on_either (is_done r.after.outcome) r (ran k r.after.regs r.after.core)
 
 split_step : (j k n : ℕ) (a : After) (b : Bool) → is_done a.outcome ≡ b → ran n a.regs a.core ≡ ran_then k (ran j a.regs a.core)
-    → cond b (ran_on 1 (ran n a.regs a.core)) (record { steps = 1; after = a }) ≡ ran_then k (cond b (ran_on 1 (ran j a.regs a.core)) (record { steps = 1; after = a }))
+    → cond b (ran_on 1 (ran n a.regs a.core)) (record { steps = 1; after = a })
+    ≡ ran_then k (cond b (ran_on 1 (ran j a.regs a.core)) (record { steps = 1; after = a }))
 split_step j k n a true h e = ap (ran_on 1) e ∙ on_then k (ran j a.regs a.core)
 split_step j k n a false h e = rw h refl
 
@@ -45,7 +48,9 @@ split_at : (j k n : ℕ) → n ≡ j + k → (g : Regs) (core : List ℕ) → ra
 unfolding ran
 split_at zero k n e g core = let f : n ≡ k = omega arith in ap (λ (i : ℕ). ran i g core) f ∙ sym (none_on (ran k g core))
 split_at (suc j) k zero e g core = absurd (omega arith)
-split_at (suc j) k (suc n) e g core = split_step j k n (exec g core) (is_done (exec g core).outcome) refl (split_at j k n (omega arith) (exec g core).regs (exec g core).core)
+split_at (suc j) k (suc n) e g core =
+    split_step j k n (exec g core) (is_done (exec g core).outcome) refl
+    (split_at j k n (omega arith) (exec g core).regs (exec g core).core)
 
 pub split_law : (j k : ℕ) (g : Regs) (core : List ℕ) → ran (j + k) g core ≡ ran_then k (ran j g core)
 split_law j k g core = split_at j k (j + k) refl g core

@@ -12,7 +12,8 @@ on_steps r i j e = ap (λ (n : ℕ). ran_on n r) e
 on_twice : (i : ℕ) (r : Ran) → ran_on i (ran_on 1 r) ≡ ran_on (i + 1) r
 on_twice i r = let e : i + (1 + r.steps) ≡ i + 1 + r.steps = omega arith in ap (λ (n : ℕ). record { steps = n; after = r.after }) e
 
-ran_at : (m : ℕ) (g h : Regs) (core rest : List ℕ) → record { regs = h; core = rest; outcome = Done } ≡ exec g core → ran (suc m) g core ≡ ran_on 1 (ran m h rest)
+ran_at : (m : ℕ) (g h : Regs) (core rest : List ℕ) → record { regs = h; core = rest; outcome = Done } ≡ exec g core
+    → ran (suc m) g core ≡ ran_on 1 (ran m h rest)
 unfolding ran
 ran_at m g h core rest x = rw (← x) refl
 
@@ -29,10 +30,15 @@ ended_at m g h core rest o x d = rw (← x) (rw d refl)
 pub ran_turn : (k j n : ℕ) (g h : Regs) (core rest : List ℕ) → j < k → n ≡ suc j → record { regs = h; core = rest; outcome = Done } ≡ exec g core
     → ran_on (k - j) (ran j h rest) ≡ ran_on (k - n) (ran n g core)
 ran_turn k j n g h core rest b e x =
-    rw e (sym (ap (ran_on (k - suc j)) (ran_at j g h core rest x) ∙ (on_twice (k - suc j) (ran j h rest) ∙ on_steps (ran j h rest) (k - suc j + 1) (k - j) (omega arith))))
+    rw e
+    (sym
+    (ap (ran_on (k - suc j)) (ran_at j g h core rest x)
+    ∙ (on_twice (k - suc j) (ran j h rest) ∙ on_steps (ran j h rest) (k - suc j + 1) (k - j) (omega arith))))
 
 -- and one that ends the run
-pub ran_ended : (k j n : ℕ) (g h : Regs) (core rest : List ℕ) (o : Outcome) → j < k → n ≡ suc j → record { regs = h; core = rest; outcome = o } ≡ exec g core → (o ≡ Done → ⊥)
+pub ran_ended : (k j n : ℕ) (g h : Regs) (core rest : List ℕ) (o : Outcome) → j < k → n ≡ suc j
+    → record { regs = h; core = rest; outcome = o } ≡ exec g core
+    → (o ≡ Done → ⊥)
     → record { steps = k - j; after = record { regs = h; core = rest; outcome = o } } ≡ ran_on (k - n) (ran n g core)
 ran_ended k j n g h core rest o b e x d =
     rw e (sym (ap (ran_on (k - suc j)) (ended_at j g h core rest o x (not_done o d))
@@ -48,7 +54,8 @@ ran_start k g core = let e : k - k ≡ 0 = omega arith in on_steps (ran k g core
     zero_on : (r : Ran) → ran_on 0 r ≡ r
     zero_on r = let e : 0 + r.steps ≡ r.steps = omega arith in ap (λ (n : ℕ). record { steps = n; after = r.after }) e
 
-pub ran_end : (k j : ℕ) (g : Regs) (core : List ℕ) → j ≡ 0 → record { steps = k; after = record { regs = g; core = core; outcome = Done } } ≡ ran_on (k - j) (ran j g core)
+pub ran_end : (k j : ℕ) (g : Regs) (core : List ℕ) → j ≡ 0
+    → record { steps = k; after = record { regs = g; core = core; outcome = Done } } ≡ ran_on (k - j) (ran j g core)
 ran_end k j g core e =
     rw e (let s : k - 0 + 0 ≡ k = omega arith in
     sym (ap (ran_on (k - 0)) (ran_zero g core) ∙ ap (λ (n : ℕ). record { steps = n; after = record { regs = g; core = core; outcome = Done } }) s))

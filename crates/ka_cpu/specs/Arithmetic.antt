@@ -31,7 +31,10 @@ to_next n w = if nat_eq (n.op % 4) 2 then None else Some w
 unfoldable pub mul_row : Regs → List ℕ → Instruction → Result Effect StopReason
 mul_row g core n =
     reading (computed_operand g core n)
-    (λ m. Ok (record (computed_to g n (high_word (a_of g n) m)) { next = to_next n (if both_least (a_of g n) m then 2 ^ 35 else low_word (a_of g n) m); flags = record g.flags { overflow = g.flags.overflow || both_least (a_of g n) m } }))
+    (λ m. Ok (record (computed_to g n (high_word (a_of g n) m)) {
+      next = to_next n (if both_least (a_of g n) m then 2 ^ 35 else low_word (a_of g n) m);
+      flags = record g.flags { overflow = g.flags.overflow || both_least (a_of g n) m };
+    }))
 
 -- not done: Overflow, No Divide, nothing stored
 abbrev pub divided : Regs → Instruction → ℕ → Effect

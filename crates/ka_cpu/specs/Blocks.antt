@@ -38,7 +38,9 @@ copied (suc k) words s d = copied k (slice_set words d (slice_index words s)) (s
 
 -- k words from d on are those that were from s on, and the others stay
 abbrev pub IsCopied : List ℕ → List ℕ → ℕ → ℕ → ℕ → Type 0
-IsCopied old new s d k = ((i : ℕ) → i < k → slice_index new (d + i) ≡ slice_index old (s + i)) × ((j : ℕ) → (j < d) ⊎ (d + k ≤ j) → slice_index new j ≡ slice_index old j)
+IsCopied old new s d k =
+    ((i : ℕ) → i < k → slice_index new (d + i) ≡ slice_index old (s + i))
+    × ((j : ℕ) → (j < d) ⊎ (d + k ≤ j) → slice_index new j ≡ slice_index old j)
 
 -- BLT: A is `s,,d`; AC is not stored (this project's profile)
 unfoldable pub blt_after : Regs → List ℕ → Instruction → After

@@ -49,4 +49,8 @@ jump_row c g n =
 unfoldable pub skip_row : Change → Regs → List ℕ → Instruction → Result Effect StopReason
 skip_row c g core n =
     reading (word_at g.ac core n.e)
-    (λ m. Ok (record (skips_if g (holds (condition_of n) (signed_value (changed_word c m)) (pos 0))) { memory = if_changed c (n.e, changed_word c m); ac = if nat_eq n.ac 0 then None else Some (changed_word c m); flags = changed_flags c g.flags m }))
+    (λ m. Ok (record (skips_if g (holds (condition_of n) (signed_value (changed_word c m)) (pos 0))) {
+      memory = if_changed c (n.e, changed_word c m);
+      ac = if nat_eq n.ac 0 then None else Some (changed_word c m);
+      flags = changed_flags c g.flags m;
+    }))

@@ -147,7 +147,11 @@ stopped g core r = record { regs = g; core = core; outcome = outcome.Stop r }
 abbrev pub applied : Regs → List ℕ → Instruction → Effect → After
 applied g core n x =
     if memory_legal core x.memory
-    then record { regs = record { ac = ac_put (ac_put (ac_memory g.ac x.memory) n.ac x.ac) (next_ac n) x.next; pc = x.pc; flags = x.flags }; core = core_memory core x.memory; outcome = told x.ending }
+    then record {
+      regs = record { ac = ac_put (ac_put (ac_memory g.ac x.memory) n.ac x.ac) (next_ac n) x.next; pc = x.pc; flags = x.flags };
+      core = core_memory core x.memory;
+      outcome = told x.ending;
+    }
     else stopped g core IllegalAddress
 
 -- a row with what it does, or the reason why it is refused

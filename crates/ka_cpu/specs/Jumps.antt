@@ -20,7 +20,12 @@ pc_word f pc =
 
 -- the flags in the left half of a PC word; the others of its bits are not looked at
 unfoldable pub flags_of : ℕ → Flags
-flags_of w = record { overflow = nat_eq (w / 2 ^ 35 % 2) 1; carry0 = nat_eq (w / 2 ^ 34 % 2) 1; carry1 = nat_eq (w / 2 ^ 33 % 2) 1; no_divide = nat_eq (w / 2 ^ 23 % 2) 1 }
+flags_of w = record {
+  overflow = nat_eq (w / 2 ^ 35 % 2) 1;
+  carry0 = nat_eq (w / 2 ^ 34 % 2) 1;
+  carry1 = nat_eq (w / 2 ^ 33 % 2) 1;
+  no_divide = nat_eq (w / 2 ^ 23 % 2) 1;
+}
 
 -- JFFO: A not 0: AC+1 is the number of leading zeros, go to E; A 0: AC+1 is 0
 unfoldable pub jffo_row : Regs → Instruction → Effect
@@ -32,7 +37,9 @@ jffo_row g n =
 -- A with both halves counted up: AOBJP goes to E where the sum is not negative, AOBJN, the odd operation, where it is
 unfoldable pub aobj_row : Regs → Instruction → Effect
 aobj_row g n =
-    record (jumps_if g (if nat_eq (n.op % 2) 0 then not (is_negative (counted_up (a_of g n))) else is_negative (counted_up (a_of g n))) n.e) { ac = Some (counted_up (a_of g n)) }
+    record (jumps_if g (if nat_eq (n.op % 2) 0 then not (is_negative (counted_up (a_of g n))) else is_negative (counted_up (a_of g n))) n.e) {
+      ac = Some (counted_up (a_of g n));
+    }
 
 -- flags from the register or word that was used last in the address; unchanged where none was (this project's profile)
 abbrev pub restored : Flags → Option ℕ → Flags
@@ -53,8 +60,13 @@ selects n k = nat_eq (n.ac / 2 ^ k % 2) 1
 -- JFCL: where a selected flag is set go to E; clear the selected ones
 unfoldable pub jfcl_row : Regs → Instruction → Effect
 jfcl_row g n =
-    record (jumps_if g ((g.flags.overflow && selects n 3) || (g.flags.carry0 && selects n 2) || (g.flags.carry1 && selects n 1)) n.e)
-    { flags = record g.flags { overflow = g.flags.overflow && not (selects n 3); carry0 = g.flags.carry0 && not (selects n 2); carry1 = g.flags.carry1 && not (selects n 1) } }
+    record (jumps_if g ((g.flags.overflow && selects n 3) || (g.flags.carry0 && selects n 2) || (g.flags.carry1 && selects n 1)) n.e) {
+      flags = record g.flags {
+        overflow = g.flags.overflow && not (selects n 3);
+        carry0 = g.flags.carry0 && not (selects n 2);
+        carry1 = g.flags.carry1 && not (selects n 1);
+      };
+    }
 
 -- JSR: `flags,,next PC` to E, go to E+1
 unfoldable pub jsr_row : Regs → Instruction → Effect

@@ -15,7 +15,11 @@ pair_effect g d = record (goes_on g 1) { ac = Some (d / 2 ^ 36); next = Some (d 
 -- 240 ASH, 241 ROT, 242 LSH, 245 ROTC, 246 LSHC (octal)
 unfoldable pub shift_row : Regs → Instruction → Effect
 shift_row g n =
-    if nat_eq n.op 0o240 then record (goes_on g 1) { ac = Some (ash_of n.e (a_of g n)); flags = record g.flags { overflow = g.flags.overflow || ash_overflows n.e (a_of g n) } } else
+    if nat_eq n.op 0o240
+    then record (goes_on g 1) {
+      ac = Some (ash_of n.e (a_of g n));
+      flags = record g.flags { overflow = g.flags.overflow || ash_overflows n.e (a_of g n) };
+    } else
     if nat_eq n.op 0o241 then record (goes_on g 1) { ac = Some (rot_of n.e (a_of g n)) } else
     if nat_eq n.op 0o242 then record (goes_on g 1) { ac = Some (lsh_of n.e (a_of g n)) } else
     if nat_eq n.op 0o245 then pair_effect g (rotc_of n.e (pair_of g n)) else

@@ -20,13 +20,21 @@ pop_ending a = if runs_under a then Overruns else Goes_on
 -- PUSHJ: A + 1000001 to AC, `flags,,next PC` at its right half, go to E
 unfoldable pub pushj_row : Regs → Instruction → Effect
 pushj_row g n =
-    record (goes_to g n.e) { memory = Some (right_half (counted_up (a_of g n)), pc_word g.flags (next_pc g)); ac = Some (counted_up (a_of g n)); ending = push_ending (a_of g n) }
+    record (goes_to g n.e) {
+      memory = Some (right_half (counted_up (a_of g n)), pc_word g.flags (next_pc g));
+      ac = Some (counted_up (a_of g n));
+      ending = push_ending (a_of g n);
+    }
 
 -- PUSH: A + 1000001 to AC, M at its right half
 unfoldable pub push_row : Regs → List ℕ → Instruction → Result Effect StopReason
 push_row g core n =
     reading (word_at g.ac core n.e)
-    (λ m. Ok (record (goes_on g 1) { memory = Some (right_half (counted_up (a_of g n)), m); ac = Some (counted_up (a_of g n)); ending = push_ending (a_of g n) }))
+    (λ m. Ok (record (goes_on g 1) {
+      memory = Some (right_half (counted_up (a_of g n)), m);
+      ac = Some (counted_up (a_of g n));
+      ending = push_ending (a_of g n);
+    }))
 
 -- POP: the word at A's right half to E, A - 1000001 to AC
 unfoldable pub pop_row : Regs → List ℕ → Instruction → Result Effect StopReason

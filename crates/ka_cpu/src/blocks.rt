@@ -30,7 +30,8 @@ fn are_legal<M: JobMemory>(memory: &M, from: u32, to: u32, count: u32) -> bool
 
 /// Moves one word, where there is one.
 fn move_word<M: JobMemory>(regs: &mut Regs, memory: &mut M, from: u32, to: u32)
-    ensures moved { record { ac = regs.new.ac; core = M.words memory.new } ≡ stored (record { ac = regs.old.ac; core = M.words memory.old }) to (word_at regs.old.ac (M.words memory.old) from) }
+    ensures moved { record { ac = regs.new.ac; core = M.words memory.new }
+        ≡ stored (record { ac = regs.old.ac; core = M.words memory.old }) to (word_at regs.old.ac (M.words memory.old) from) }
     ensures kept { regs.new ≡ record regs.old { ac = regs.new.ac } }
     ensures place { M.place memory.new ≡ M.place memory.old }
 {
@@ -45,7 +46,8 @@ fn move_words<M: JobMemory>(regs: &mut Regs, memory: &mut M, from: u32, to: u32,
     requires from { from < 2 ^ 18 }
     requires to { to < 2 ^ 18 }
     requires count { count ≤ 2 ^ 18 }
-    ensures moved { record { ac = regs.new.ac; core = M.words memory.new } ≡ moved_words count (record { ac = regs.old.ac; core = M.words memory.old }) from to }
+    ensures moved { record { ac = regs.new.ac; core = M.words memory.new }
+        ≡ moved_words count (record { ac = regs.old.ac; core = M.words memory.old }) from to }
     ensures kept { regs.new ≡ record regs.old { ac = regs.new.ac } }
     ensures place { M.place memory.new ≡ M.place memory.old }
 {
@@ -70,7 +72,8 @@ fn move_block<M: JobMemory>(regs: &mut Regs, memory: &mut M, from: u32, to: u32,
     requires from { from < 2 ^ 18 }
     requires to { to < 2 ^ 18 }
     requires count { count ≤ 2 ^ 18 }
-    ensures moved { record { ac = regs.new.ac; core = M.words memory.new } ≡ moved_words count (record { ac = regs.old.ac; core = M.words memory.old }) from to }
+    ensures moved { record { ac = regs.new.ac; core = M.words memory.new }
+        ≡ moved_words count (record { ac = regs.old.ac; core = M.words memory.old }) from to }
     ensures kept { regs.new ≡ record regs.old { ac = regs.new.ac } }
     ensures place { M.place memory.new ≡ M.place memory.old }
 {

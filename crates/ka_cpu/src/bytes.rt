@@ -43,7 +43,8 @@ fn move_byte<M: JobMemory>(
 ) -> Outcome
     requires load { loads n.op ≡ is_load }
     requires legal { is_legal (M.words memory.old) e ≡ true }
-    ensures after { record { regs = regs.new; core = M.words memory.new; outcome = result } ≡ applied regs.old (M.words memory.old) n (byte_effect regs.old n pointer e word) }
+    ensures after { record { regs = regs.new; core = M.words memory.new; outcome = result }
+        ≡ applied regs.old (M.words memory.old) n (byte_effect regs.old n pointer e word) }
     ensures place { M.place memory.new ≡ M.place memory.old }
 {
     let next = regs.pc.plus(1);

@@ -45,7 +45,8 @@ pub fn do_compare<M: JobMemory>(
 ) -> Outcome
     requires digit { digit ≡ n.op % 8 }
     requires op { nat_lt n.op 0o310 ≡ is_immediate }
-    ensures after { record { regs = regs.new; core = M.words memory.new; outcome = result } ≡ finished regs.old (M.words memory.old) n (compare_row regs.old (M.words memory.old) n) }
+    ensures after { record { regs = regs.new; core = M.words memory.new; outcome = result }
+        ≡ finished regs.old (M.words memory.old) n (compare_row regs.old (M.words memory.old) n) }
     ensures place { M.place memory.new ≡ M.place memory.old }
 {
     let Some(word) = operand_to_compare(is_immediate, regs, memory, n) else {
@@ -99,7 +100,8 @@ pub fn do_jump<M: JobMemory>(
     n: Instruction,
 ) -> Outcome
     requires digit { digit ≡ n.op % 8 }
-    ensures after { record { regs = regs.new; core = M.words memory.new; outcome = result } ≡ finished regs.old (M.words memory.old) n (Ok (jump_row change regs.old n)) }
+    ensures after { record { regs = regs.new; core = M.words memory.new; outcome = result }
+        ≡ finished regs.old (M.words memory.old) n (Ok (jump_row change regs.old n)) }
     ensures place { M.place memory.new ≡ M.place memory.old }
 {
     let a = regs.ac[n.ac()];
@@ -148,7 +150,8 @@ pub fn do_skip<M: JobMemory>(
     n: Instruction,
 ) -> Outcome
     requires digit { digit ≡ n.op % 8 }
-    ensures after { record { regs = regs.new; core = M.words memory.new; outcome = result } ≡ finished regs.old (M.words memory.old) n (skip_row change regs.old (M.words memory.old) n) }
+    ensures after { record { regs = regs.new; core = M.words memory.new; outcome = result }
+        ≡ finished regs.old (M.words memory.old) n (skip_row change regs.old (M.words memory.old) n) }
     ensures place { M.place memory.new ≡ M.place memory.old }
 {
     let Some(old) = read_to_change(change, regs, memory, n.e().number()) else {

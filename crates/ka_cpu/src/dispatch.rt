@@ -71,7 +71,12 @@ fn carry_out_common<M: JobMemory, const CALLER: u8>(
     requires range { (0o250 ≤ op) × (op < 0o400) }
     ensures none { IsNone result ↔ (family_of op ≡ Xct) }
     ensures kept { IsNone result → (regs.new ≡ regs.old) × (M.words memory.new ≡ M.words memory.old) }
-    ensures after { IfSome result (λ o. record { regs = regs.new; core = M.words memory.new; outcome = o } ≡ (if is_listed (family_of op) n.ac then carried_out (family_of op) regs.old (M.words memory.old) n (used_in (target_of regs.old.ac (M.words memory.old) word)) else stopped regs.old (M.words memory.old) IllegalInstruction)) }
+    ensures after { IfSome result
+        (λ o. record { regs = regs.new; core = M.words memory.new; outcome = o }
+        ≡ (if is_listed (family_of op) n.ac
+        then carried_out (family_of op) regs.old (M.words memory.old) n
+        (used_in (target_of regs.old.ac (M.words memory.old) word))
+        else stopped regs.old (M.words memory.old) IllegalInstruction)) }
     ensures place { M.place memory.new ≡ M.place memory.old }
 {
     let outcome = match op {
@@ -187,7 +192,12 @@ fn carry_out_rest<M: JobMemory, const CALLER: u8>(
     requires range { (op < 0o250) ⊎ (0o400 ≤ op) × (op < 0o1000) }
     ensures none { IsNone result ↔ (family_of op ≡ Xct) }
     ensures kept { IsNone result → (regs.new ≡ regs.old) × (M.words memory.new ≡ M.words memory.old) }
-    ensures after { IfSome result (λ o. record { regs = regs.new; core = M.words memory.new; outcome = o } ≡ (if is_listed (family_of op) n.ac then carried_out (family_of op) regs.old (M.words memory.old) n (used_in (target_of regs.old.ac (M.words memory.old) word)) else stopped regs.old (M.words memory.old) IllegalInstruction)) }
+    ensures after { IfSome result
+        (λ o. record { regs = regs.new; core = M.words memory.new; outcome = o }
+        ≡ (if is_listed (family_of op) n.ac
+        then carried_out (family_of op) regs.old (M.words memory.old) n
+        (used_in (target_of regs.old.ac (M.words memory.old) word))
+        else stopped regs.old (M.words memory.old) IllegalInstruction)) }
     ensures place { M.place memory.new ≡ M.place memory.old }
 {
     let outcome = match op {
@@ -249,7 +259,12 @@ pub fn carry_out<M: JobMemory, const CALLER: u8>(
 ) -> Option<Outcome>
     ensures none { IsNone result ↔ (family_of n.op ≡ Xct) }
     ensures kept { IsNone result → (regs.new ≡ regs.old) × (M.words memory.new ≡ M.words memory.old) }
-    ensures after { IfSome result (λ o. record { regs = regs.new; core = M.words memory.new; outcome = o } ≡ (if is_listed (family_of n.op) n.ac then carried_out (family_of n.op) regs.old (M.words memory.old) n (used_in (target_of regs.old.ac (M.words memory.old) word)) else stopped regs.old (M.words memory.old) IllegalInstruction)) }
+    ensures after { IfSome result
+        (λ o. record { regs = regs.new; core = M.words memory.new; outcome = o }
+        ≡ (if is_listed (family_of n.op) n.ac
+        then carried_out (family_of n.op) regs.old (M.words memory.old) n
+        (used_in (target_of regs.old.ac (M.words memory.old) word))
+        else stopped regs.old (M.words memory.old) IllegalInstruction)) }
     ensures place { M.place memory.new ≡ M.place memory.old }
 {
     let op = n.op();

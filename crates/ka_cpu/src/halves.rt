@@ -34,7 +34,8 @@ fn find_destination<M: JobMemory>(
 #[tactic(auto, unfolding(crate::specs::Halves::half_row))]
 pub fn do_half<M: JobMemory>(mode: u32, regs: &mut Regs, memory: &mut M, n: Instruction) -> Outcome
     requires mode { mode ≡ n.op % 4 }
-    ensures after { record { regs = regs.new; core = M.words memory.new; outcome = result } ≡ finished regs.old (M.words memory.old) n (half_row regs.old (M.words memory.old) n) }
+    ensures after { record { regs = regs.new; core = M.words memory.new; outcome = result }
+        ≡ finished regs.old (M.words memory.old) n (half_row regs.old (M.words memory.old) n) }
     ensures place { M.place memory.new ≡ M.place memory.old }
 {
     let Some(word) = operand_to_move(mode, regs, memory, n) else {

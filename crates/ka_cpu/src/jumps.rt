@@ -18,7 +18,8 @@ use word36::{Address, Word};
 #[inline(always)]
 #[tactic(auto, unfolding(crate::specs::Jumps::jffo_row))]
 pub fn do_jffo<M: JobMemory>(regs: &mut Regs, memory: &mut M, n: Instruction) -> Outcome
-    ensures after { record { regs = regs.new; core = M.words memory.new; outcome = result } ≡ finished regs.old (M.words memory.old) n (Ok (jffo_row regs.old n)) }
+    ensures after { record { regs = regs.new; core = M.words memory.new; outcome = result }
+        ≡ finished regs.old (M.words memory.old) n (Ok (jffo_row regs.old n)) }
     ensures place { M.place memory.new ≡ M.place memory.old }
 {
     let a = regs.ac[n.ac()];
@@ -36,7 +37,8 @@ pub fn do_jffo<M: JobMemory>(regs: &mut Regs, memory: &mut M, n: Instruction) ->
 #[inline(always)]
 #[tactic(auto, unfolding(crate::specs::Jumps::aobj_row))]
 pub fn do_aobj<M: JobMemory>(regs: &mut Regs, memory: &mut M, n: Instruction) -> Outcome
-    ensures after { record { regs = regs.new; core = M.words memory.new; outcome = result } ≡ finished regs.old (M.words memory.old) n (Ok (aobj_row regs.old n)) }
+    ensures after { record { regs = regs.new; core = M.words memory.new; outcome = result }
+        ≡ finished regs.old (M.words memory.old) n (Ok (aobj_row regs.old n)) }
     ensures place { M.place memory.new ≡ M.place memory.old }
 {
     let word = count_up(regs.ac[n.ac()]);
@@ -51,7 +53,9 @@ pub fn do_aobj<M: JobMemory>(regs: &mut Regs, memory: &mut M, n: Instruction) ->
 #[inline(always)]
 #[tactic(auto, unfolding(crate::specs::Jumps::jrst_row))]
 pub fn do_jrst<M: JobMemory>(regs: &mut Regs, memory: &mut M, n: Instruction, word: Word) -> Outcome
-    ensures after { record { regs = regs.new; core = M.words memory.new; outcome = result } ≡ finished regs.old (M.words memory.old) n (Ok (jrst_row regs.old n (used_in (target_of regs.old.ac (M.words memory.old) word)))) }
+    ensures after { record { regs = regs.new; core = M.words memory.new; outcome = result }
+        ≡ finished regs.old (M.words memory.old) n
+        (Ok (jrst_row regs.old n (used_in (target_of regs.old.ac (M.words memory.old) word)))) }
     ensures place { M.place memory.new ≡ M.place memory.old }
 {
     match n.ac() {
@@ -77,7 +81,8 @@ pub fn do_jrst<M: JobMemory>(regs: &mut Regs, memory: &mut M, n: Instruction, wo
 #[inline(always)]
 #[tactic(auto, unfolding(crate::specs::Jumps::jfcl_row))]
 pub fn do_jfcl<M: JobMemory>(regs: &mut Regs, memory: &mut M, n: Instruction) -> Outcome
-    ensures after { record { regs = regs.new; core = M.words memory.new; outcome = result } ≡ finished regs.old (M.words memory.old) n (Ok (jfcl_row regs.old n)) }
+    ensures after { record { regs = regs.new; core = M.words memory.new; outcome = result }
+        ≡ finished regs.old (M.words memory.old) n (Ok (jfcl_row regs.old n)) }
     ensures place { M.place memory.new ≡ M.place memory.old }
 {
     let old = regs.flags;
@@ -116,7 +121,8 @@ fn enter_behind<M: JobMemory>(regs: &mut Regs, memory: &mut M, n: Instruction, w
 #[inline(always)]
 #[tactic(auto, unfolding(crate::specs::Jumps::jsr_row))]
 pub fn do_jsr<M: JobMemory>(regs: &mut Regs, memory: &mut M, n: Instruction) -> Outcome
-    ensures after { record { regs = regs.new; core = M.words memory.new; outcome = result } ≡ finished regs.old (M.words memory.old) n (Ok (jsr_row regs.old n)) }
+    ensures after { record { regs = regs.new; core = M.words memory.new; outcome = result }
+        ≡ finished regs.old (M.words memory.old) n (Ok (jsr_row regs.old n)) }
     ensures place { M.place memory.new ≡ M.place memory.old }
 {
     let word = pc_word(regs.flags, regs.pc.plus(1));
@@ -130,7 +136,8 @@ pub fn do_jsr<M: JobMemory>(regs: &mut Regs, memory: &mut M, n: Instruction) -> 
 #[inline(always)]
 #[tactic(auto, unfolding(crate::specs::Jumps::jsp_row))]
 pub fn do_jsp<M: JobMemory>(regs: &mut Regs, memory: &mut M, n: Instruction) -> Outcome
-    ensures after { record { regs = regs.new; core = M.words memory.new; outcome = result } ≡ finished regs.old (M.words memory.old) n (Ok (jsp_row regs.old n)) }
+    ensures after { record { regs = regs.new; core = M.words memory.new; outcome = result }
+        ≡ finished regs.old (M.words memory.old) n (Ok (jsp_row regs.old n)) }
     ensures place { M.place memory.new ≡ M.place memory.old }
 {
     regs.ac[n.ac()] = pc_word(regs.flags, regs.pc.plus(1));
@@ -142,7 +149,8 @@ pub fn do_jsp<M: JobMemory>(regs: &mut Regs, memory: &mut M, n: Instruction) -> 
 #[inline(always)]
 #[tactic(auto, unfolding(crate::specs::Jumps::jsa_row))]
 pub fn do_jsa<M: JobMemory>(regs: &mut Regs, memory: &mut M, n: Instruction) -> Outcome
-    ensures after { record { regs = regs.new; core = M.words memory.new; outcome = result } ≡ finished regs.old (M.words memory.old) n (Ok (jsa_row regs.old n)) }
+    ensures after { record { regs = regs.new; core = M.words memory.new; outcome = result }
+        ≡ finished regs.old (M.words memory.old) n (Ok (jsa_row regs.old n)) }
     ensures place { M.place memory.new ≡ M.place memory.old }
 {
     let link = Word::join(n.e().number(), regs.pc.plus(1).number());
@@ -158,7 +166,8 @@ pub fn do_jsa<M: JobMemory>(regs: &mut Regs, memory: &mut M, n: Instruction) -> 
 #[inline(always)]
 #[tactic(auto, unfolding(crate::specs::Jumps::jra_row))]
 pub fn do_jra<M: JobMemory>(regs: &mut Regs, memory: &mut M, n: Instruction) -> Outcome
-    ensures after { record { regs = regs.new; core = M.words memory.new; outcome = result } ≡ finished regs.old (M.words memory.old) n (jra_row regs.old (M.words memory.old) n) }
+    ensures after { record { regs = regs.new; core = M.words memory.new; outcome = result }
+        ≡ finished regs.old (M.words memory.old) n (jra_row regs.old (M.words memory.old) n) }
     ensures place { M.place memory.new ≡ M.place memory.old }
 {
     let a = regs.ac[n.ac()];
@@ -179,7 +188,8 @@ pub fn do_call<M: JobMemory>(
     memory: &mut M,
     n: Instruction,
 ) -> Outcome
-    ensures after { record { regs = regs.new; core = M.words memory.new; outcome = result } ≡ finished regs.old (M.words memory.old) n (Ok (call_row kind regs.old n)) }
+    ensures after { record { regs = regs.new; core = M.words memory.new; outcome = result }
+        ≡ finished regs.old (M.words memory.old) n (Ok (call_row kind regs.old n)) }
     ensures place { M.place memory.new ≡ M.place memory.old }
 {
     regs.pc = regs.pc.plus(1);

@@ -21,7 +21,8 @@ use crate::{Regs, StopReason};
 #[tactic(auto, using(crate::proofs::ChainLaw::chain_laws))]
 pub fn address_laws()
     ensures found { (ac core vs : List ℕ) (w : ℕ) (t : Target) → length vs ≤ MOST_LINKS → LeadsTo ac core w None vs t → target_of ac core w ≡ Ok t }
-    ensures only { (ac core : List ℕ) (w : ℕ) (t : Target) → target_of ac core w ≡ Ok t → ((vs : List ℕ) × (length vs ≤ MOST_LINKS) × LeadsTo ac core w None vs t) }
+    ensures only { (ac core : List ℕ) (w : ℕ) (t : Target) → target_of ac core w ≡ Ok t
+        → ((vs : List ℕ) × (length vs ≤ MOST_LINKS) × LeadsTo ac core w None vs t) }
 {}
 
 /// An address is refused as illegal exactly where a link before the limit names an illegal place, and
@@ -36,7 +37,9 @@ pub fn refusal_laws()
 /// word of one of them is, or, as too long a chain, where so many lead to one more.
 pub fn xct_laws()
     ensures found { (ac core : List ℕ) (w v : ℕ) → (word_behind MOST_EXECUTES ac core w ≡ Ok v) ↔ ComesTo ac core w v }
-    ensures refused { (ac core : List ℕ) (w : ℕ) (r : StopReason) → (word_behind MOST_EXECUTES ac core w ≡ Err r) ↔ (RefusedOnTheWay ac core w r ⊎ ((r ≡ AddressChain) × ExecutesTooFar ac core w)) }
+    ensures refused { (ac core : List ℕ) (w : ℕ) (r : StopReason)
+        → (word_behind MOST_EXECUTES ac core w ≡ Err r)
+        ↔ (RefusedOnTheWay ac core w r ⊎ ((r ≡ AddressChain) × ExecutesTooFar ac core w)) }
 {}
 
 /// An instruction leaves as many registers and words of core as there were, and a PC below 1000000
@@ -60,11 +63,19 @@ pub fn run_laws()
 /// BLT copies a block of core to another with which it shares no place: the words from d on are those
 /// that were from s on, and nothing else changes but the PC.
 pub fn block_laws()
-    ensures { (g : Regs) (core : List ℕ) (n : Instruction) (s d k : ℕ) → left_half (a_of g n) ≡ s → right_half (a_of g n) ≡ d → word_count d n.e ≡ k → 16 ≤ s → 16 ≤ d → s + k ≤ 2 ^ 18 → s + k ≤ length core → d + k ≤ length core → (s + k ≤ d) ⊎ (d + k ≤ s) → ((blt_after g core n).outcome ≡ Done) × ((blt_after g core n).regs ≡ record g { pc = next_pc g }) × IsCopied core (blt_after g core n).core s d k }
+    ensures { (g : Regs) (core : List ℕ) (n : Instruction) (s d k : ℕ) → left_half (a_of g n) ≡ s → right_half (a_of g n) ≡ d
+        → word_count d n.e ≡ k → 16 ≤ s → 16 ≤ d → s + k ≤ 2 ^ 18 → s + k ≤ length core → d + k ≤ length core
+        → (s + k ≤ d) ⊎ (d + k ≤ s)
+        → ((blt_after g core n).outcome ≡ Done) × ((blt_after g core n).regs ≡ record g { pc = next_pc g })
+        × IsCopied core (blt_after g core n).core s d k }
 {}
 
 /// POP by the pointer that PUSH left finds the word that was pushed, and leaves the pointer as it was
 /// before, where the places are legal and the pointer's register is not among them.
 pub fn stack_laws()
-    ensures { (g : Regs) (core : List ℕ) (n m : Instruction) (w : ℕ) → length g.ac ≡ 16 → n.ac < 16 → m.ac ≡ n.ac → a_of g n < 2 ^ 36 → word_at g.ac core n.e ≡ Some w → is_legal core (right_half (counted_up (a_of g n))) ≡ true → right_half (counted_up (a_of g n)) ≢ n.ac → is_legal core m.e ≡ true → m.e ≢ n.ac → (a_of (popped (pushed g core n) m).regs m ≡ a_of g n) × (word_at (popped (pushed g core n) m).regs.ac (popped (pushed g core n) m).core m.e ≡ Some w) }
+    ensures { (g : Regs) (core : List ℕ) (n m : Instruction) (w : ℕ) → length g.ac ≡ 16 → n.ac < 16 → m.ac ≡ n.ac
+        → a_of g n < 2 ^ 36 → word_at g.ac core n.e ≡ Some w → is_legal core (right_half (counted_up (a_of g n))) ≡ true
+        → right_half (counted_up (a_of g n)) ≢ n.ac → is_legal core m.e ≡ true → m.e ≢ n.ac
+        → (a_of (popped (pushed g core n) m).regs m ≡ a_of g n)
+        × (word_at (popped (pushed g core n) m).regs.ac (popped (pushed g core n) m).core m.e ≡ Some w) }
 {}

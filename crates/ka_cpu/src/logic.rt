@@ -33,7 +33,8 @@ pub fn do_boolean<M: JobMemory>(
     n: Instruction,
 ) -> Outcome
     requires mode { mode ≡ n.op % 4 }
-    ensures after { record { regs = regs.new; core = M.words memory.new; outcome = result } ≡ finished regs.old (M.words memory.old) n (boolean_row regs.old (M.words memory.old) n) }
+    ensures after { record { regs = regs.new; core = M.words memory.new; outcome = result }
+        ≡ finished regs.old (M.words memory.old) n (boolean_row regs.old (M.words memory.old) n) }
     ensures place { M.place memory.new ≡ M.place memory.old }
 {
     let Some(word) = boolean_operand(mode, regs, memory, n) else {
@@ -90,7 +91,8 @@ pub fn do_test<M: JobMemory>(
     n: Instruction,
 ) -> Outcome
     requires change { change ≡ n.op / 16 % 4 }
-    ensures after { record { regs = regs.new; core = M.words memory.new; outcome = result } ≡ finished regs.old (M.words memory.old) n (test_row regs.old (M.words memory.old) n) }
+    ensures after { record { regs = regs.new; core = M.words memory.new; outcome = result }
+        ≡ finished regs.old (M.words memory.old) n (test_row regs.old (M.words memory.old) n) }
     ensures place { M.place memory.new ≡ M.place memory.old }
 {
     let Some(mask) = read_mask(regs, memory, n) else {

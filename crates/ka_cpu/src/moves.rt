@@ -31,7 +31,11 @@ pub enum Transfer {
 #[inline(always)]
 fn put_negated<M: JobMemory>(mode: u32, regs: &mut Regs, memory: &mut M, n: Instruction, word: Word)
     requires mode { mode ≡ n.op % 4 }
-    ensures regs { regs.new ≡ record regs.old { ac = ac_put (ac_memory regs.old.ac (to_memory n (negated word))) n.ac (moved_to_ac n (negated word)); flags = sum_flags regs.old.flags (complement word) 1 0 } }
+    ensures regs { regs.new
+        ≡ record regs.old {
+          ac = ac_put (ac_memory regs.old.ac (to_memory n (negated word))) n.ac (moved_to_ac n (negated word));
+          flags = sum_flags regs.old.flags (complement word) 1 0;
+        } }
     ensures core { M.words memory.new ≡ core_memory (M.words memory.old) (to_memory n (negated word)) }
     ensures place { M.place memory.new ≡ M.place memory.old }
 {
@@ -51,7 +55,8 @@ pub fn do_move<M: JobMemory>(
     n: Instruction,
 ) -> Outcome
     requires mode { mode ≡ n.op % 4 }
-    ensures after { record { regs = regs.new; core = M.words memory.new; outcome = result } ≡ finished regs.old (M.words memory.old) n (move_row transfer regs.old (M.words memory.old) n) }
+    ensures after { record { regs = regs.new; core = M.words memory.new; outcome = result }
+        ≡ finished regs.old (M.words memory.old) n (move_row transfer regs.old (M.words memory.old) n) }
     ensures place { M.place memory.new ≡ M.place memory.old }
 {
     let Some(word) = operand_to_move(mode, regs, memory, n) else {
@@ -80,7 +85,8 @@ pub fn do_move<M: JobMemory>(
 #[inline(always)]
 #[tactic(auto, using(crate::proofs::Legal::legal_from_read), unfolding(crate::specs::Moves::exch_row))]
 pub fn do_exch<M: JobMemory>(regs: &mut Regs, memory: &mut M, n: Instruction) -> Outcome
-    ensures after { record { regs = regs.new; core = M.words memory.new; outcome = result } ≡ finished regs.old (M.words memory.old) n (exch_row regs.old (M.words memory.old) n) }
+    ensures after { record { regs = regs.new; core = M.words memory.new; outcome = result }
+        ≡ finished regs.old (M.words memory.old) n (exch_row regs.old (M.words memory.old) n) }
     ensures place { M.place memory.new ≡ M.place memory.old }
 {
     let Some(word) = fetch(regs, memory, n.e().number()) else {

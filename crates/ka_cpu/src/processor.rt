@@ -85,7 +85,8 @@ fn find_executed<M: JobMemory>(regs: &Regs, memory: &M, e: Address) -> Result<Wo
 #[inline(always)]
 #[tactic(auto, using(crate::proofs::Executes::executions))]
 fn execute<M: JobMemory, const CALLER: u8>(regs: &mut Regs, memory: &mut M, word: Word) -> Outcome
-    ensures after { record { regs = regs.new; core = M.words memory.new; outcome = result } ≡ word_performed regs.old (M.words memory.old) (word_behind MOST_EXECUTES regs.old.ac (M.words memory.old) word) }
+    ensures after { record { regs = regs.new; core = M.words memory.new; outcome = result }
+        ≡ word_performed regs.old (M.words memory.old) (word_behind MOST_EXECUTES regs.old.ac (M.words memory.old) word) }
     ensures place { M.place memory.new ≡ M.place memory.old }
 {
     let mut word = word;

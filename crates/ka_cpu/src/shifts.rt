@@ -32,7 +32,8 @@ fn write_pair(regs: &mut Regs, n: Instruction, pair: u128)
 #[inline(always)]
 #[tactic(auto, unfolding(crate::specs::Shifts::shift_row))]
 pub fn do_shift<M: JobMemory>(regs: &mut Regs, memory: &mut M, n: Instruction) -> Outcome
-    ensures after { record { regs = regs.new; core = M.words memory.new; outcome = result } ≡ finished regs.old (M.words memory.old) n (Ok (shift_row regs.old n)) }
+    ensures after { record { regs = regs.new; core = M.words memory.new; outcome = result }
+        ≡ finished regs.old (M.words memory.old) n (Ok (shift_row regs.old n)) }
     ensures place { M.place memory.new ≡ M.place memory.old }
 {
     let a = regs.ac[n.ac()];

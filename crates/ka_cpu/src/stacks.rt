@@ -28,7 +28,8 @@ fn ending(runs_out: bool) -> Outcome
 #[inline(always)]
 #[tactic(auto, unfolding(crate::specs::Stacks::pushj_row))]
 pub fn do_pushj<M: JobMemory>(regs: &mut Regs, memory: &mut M, n: Instruction) -> Outcome
-    ensures after { record { regs = regs.new; core = M.words memory.new; outcome = result } ≡ finished regs.old (M.words memory.old) n (Ok (pushj_row regs.old n)) }
+    ensures after { record { regs = regs.new; core = M.words memory.new; outcome = result }
+        ≡ finished regs.old (M.words memory.old) n (Ok (pushj_row regs.old n)) }
     ensures place { M.place memory.new ≡ M.place memory.old }
 {
     let old = regs.ac[n.ac()];
@@ -46,7 +47,8 @@ pub fn do_pushj<M: JobMemory>(regs: &mut Regs, memory: &mut M, n: Instruction) -
 #[inline(always)]
 #[tactic(auto, unfolding(crate::specs::Stacks::push_row))]
 pub fn do_push<M: JobMemory>(regs: &mut Regs, memory: &mut M, n: Instruction) -> Outcome
-    ensures after { record { regs = regs.new; core = M.words memory.new; outcome = result } ≡ finished regs.old (M.words memory.old) n (push_row regs.old (M.words memory.old) n) }
+    ensures after { record { regs = regs.new; core = M.words memory.new; outcome = result }
+        ≡ finished regs.old (M.words memory.old) n (push_row regs.old (M.words memory.old) n) }
     ensures place { M.place memory.new ≡ M.place memory.old }
 {
     let Some(word) = fetch(regs, memory, n.e().number()) else {
@@ -67,7 +69,8 @@ pub fn do_push<M: JobMemory>(regs: &mut Regs, memory: &mut M, n: Instruction) ->
 #[inline(always)]
 #[tactic(auto, unfolding(crate::specs::Stacks::pop_row))]
 pub fn do_pop<M: JobMemory>(regs: &mut Regs, memory: &mut M, n: Instruction) -> Outcome
-    ensures after { record { regs = regs.new; core = M.words memory.new; outcome = result } ≡ finished regs.old (M.words memory.old) n (pop_row regs.old (M.words memory.old) n) }
+    ensures after { record { regs = regs.new; core = M.words memory.new; outcome = result }
+        ≡ finished regs.old (M.words memory.old) n (pop_row regs.old (M.words memory.old) n) }
     ensures place { M.place memory.new ≡ M.place memory.old }
 {
     let old = regs.ac[n.ac()];
@@ -88,7 +91,8 @@ pub fn do_pop<M: JobMemory>(regs: &mut Regs, memory: &mut M, n: Instruction) -> 
 #[inline(always)]
 #[tactic(auto, unfolding(crate::specs::Stacks::popj_row))]
 pub fn do_popj<M: JobMemory>(regs: &mut Regs, memory: &mut M, n: Instruction) -> Outcome
-    ensures after { record { regs = regs.new; core = M.words memory.new; outcome = result } ≡ finished regs.old (M.words memory.old) n (popj_row regs.old (M.words memory.old) n) }
+    ensures after { record { regs = regs.new; core = M.words memory.new; outcome = result }
+        ≡ finished regs.old (M.words memory.old) n (popj_row regs.old (M.words memory.old) n) }
     ensures place { M.place memory.new ≡ M.place memory.old }
 {
     let old = regs.ac[n.ac()];

@@ -46,13 +46,18 @@ known : (o : Option ℕ) (code : ℕ) → is_code o code ≡ true → Some code 
 known None code h = absurd (false≢true h)
 known (Some k) code h = ap Some (sym (eqb-true k code h))
 
-first_or_later : (b : Bool) (o : Operation) (code : ℕ) (name : Name) (later : Option Name) → (o.code == code) ≡ b → is_code (code_in operations o.name) o.code ≡ true → (Some name ≡ later → Some code ≡ code_in operations name) → Some name ≡ (if b then Some o.name else later) → Some code ≡ code_in operations name
+first_or_later : (b : Bool) (o : Operation) (code : ℕ) (name : Name) (later : Option Name) → (o.code == code) ≡ b
+    → is_code (code_in operations o.name) o.code ≡ true → (Some name ≡ later → Some code ≡ code_in operations name)
+    → Some name ≡ (if b then Some o.name else later)
+    → Some code ≡ code_in operations name
 first_or_later true o code name later t here rest e =
     let n : name ≡ o.name = cc in
     ap Some (sym (eqb-true o.code code t)) ∙ known _ o.code here ∙ ap (code_in operations) (sym n)
 first_or_later false o code name later t here rest e = rest e
 
-found : (os : List Operation) (code : ℕ) (name : Name) → list_all (λ o. is_code (code_in operations o.name) o.code) os ≡ true → Some name ≡ name_in os code → Some code ≡ code_in operations name
+found : (os : List Operation) (code : ℕ) (name : Name) → list_all (λ o. is_code (code_in operations o.name) o.code) os ≡ true
+    → Some name ≡ name_in os code
+    → Some code ≡ code_in operations name
 found [] code name h e = cc
 found (o ∷ os) code name h e =
     let parts = and_parts (is_code (code_in operations o.name) o.code) (list_all (λ o. is_code (code_in operations o.name) o.code) os) h in
@@ -63,5 +68,6 @@ unfolding name_of
 named_of_name code name e = named_of_operation name code (found operations code name all_found e)
 
 -- what a name means, of an operation that may have none
-pub named_of_name_of : (code : ℕ) (name : Name) (r : Option Name) → r ≡ name_of code → r ≡ Some name → named_of name ≡ option_map (λ _. operation_meaning code) (name_of code)
+pub named_of_name_of : (code : ℕ) (name : Name) (r : Option Name) → r ≡ name_of code → r ≡ Some name
+    → named_of name ≡ option_map (λ _. operation_meaning code) (name_of code)
 named_of_name_of code name r e s = named_of_name code name (sym s ∙ e) ∙ ap (option_map (λ _. operation_meaning code)) (sym s ∙ e)

@@ -33,7 +33,9 @@ no_blank a h e =
     let au = ltb-true a 96 p.1 in
     omega (arith, e)
 
-codes_tell : (n : ℕ) (xs ys : List ℕ) → length xs ≤ n → length ys ≤ n → list_all has_code xs ≡ true → list_all has_code ys ≡ true → ((i : ℕ) → i < n → code_at xs i ≡ code_at ys i) → xs ≡ ys
+codes_tell : (n : ℕ) (xs ys : List ℕ) → length xs ≤ n → length ys ≤ n → list_all has_code xs ≡ true → list_all has_code ys ≡ true
+    → ((i : ℕ) → i < n → code_at xs i ≡ code_at ys i)
+    → xs ≡ ys
 codes_tell n [] [] a b h k e = refl
 codes_tell n [] (y ∷ ys) a b h k e = absurd (no_blank y (and_parts _ _ k).0 (sym (e 0 (omega arith))))
 codes_tell n (x ∷ xs) [] a b h k e = absurd (no_blank x (and_parts _ _ h).0 (e 0 (omega arith)))
@@ -52,7 +54,9 @@ one_number : (a b c d e f x y z u v w : ℕ) → b < 64 → c < 64 → d < 64 �
     → a * 2 ^ 30 + b * 2 ^ 24 + c * 2 ^ 18 + d * 2 ^ 12 + e * 2 ^ 6 + f ≡ x * 2 ^ 30 + y * 2 ^ 24 + z * 2 ^ 18 + u * 2 ^ 12 + v * 2 ^ 6 + w
     → (a ≡ x) × (b ≡ y) × (c ≡ z) × (d ≡ u) × (e ≡ v) × (f ≡ w)
 one_number a b c d e f x y z u v w b' c' d' e' f' y' z' u' v' w' same =
-    let last = two_digits (a * 2 ^ 24 + b * 2 ^ 18 + c * 2 ^ 12 + d * 2 ^ 6 + e) (x * 2 ^ 24 + y * 2 ^ 18 + z * 2 ^ 12 + u * 2 ^ 6 + v) f w f' w' (omega (arith, same)) in
+    let last =
+    two_digits (a * 2 ^ 24 + b * 2 ^ 18 + c * 2 ^ 12 + d * 2 ^ 6 + e) (x * 2 ^ 24 + y * 2 ^ 18 + z * 2 ^ 12 + u * 2 ^ 6 + v) f
+    w f' w' (omega (arith, same)) in
     let fifth = two_digits (a * 2 ^ 18 + b * 2 ^ 12 + c * 2 ^ 6 + d) (x * 2 ^ 18 + y * 2 ^ 12 + z * 2 ^ 6 + u) e v e' v' (omega (arith, last.0)) in
     let fourth = two_digits (a * 2 ^ 12 + b * 2 ^ 6 + c) (x * 2 ^ 12 + y * 2 ^ 6 + z) d u d' u' (omega (arith, fifth.0)) in
     let third = two_digits (a * 2 ^ 6 + b) (x * 2 ^ 6 + y) c z c' z' (omega (arith, fourth.0)) in
@@ -62,13 +66,20 @@ one_number a b c d e f x y z u v w b' c' d' e' f' y' z' u' v' w' same =
 six_bits : (xs : List ℕ) (i : ℕ) → code_at xs i < 64
 six_bits xs i = omega arith
 
-pub sixbit_tells : (xs ys : List ℕ) → length xs ≤ 6 → length ys ≤ 6 → list_all has_code xs ≡ true → list_all has_code ys ≡ true → sixbit_of xs ≡ sixbit_of ys → xs ≡ ys
+pub sixbit_tells : (xs ys : List ℕ) → length xs ≤ 6 → length ys ≤ 6 → list_all has_code xs ≡ true → list_all has_code ys ≡ true
+    → sixbit_of xs ≡ sixbit_of ys
+    → xs ≡ ys
 sixbit_tells xs ys a b h k same =
-    let p = one_number (code_at xs 0) (code_at xs 1) (code_at xs 2) (code_at xs 3) (code_at xs 4) (code_at xs 5) (code_at ys 0) (code_at ys 1) (code_at ys 2) (code_at ys 3) (code_at ys 4) (code_at ys 5)
-    (six_bits xs 1) (six_bits xs 2) (six_bits xs 3) (six_bits xs 4) (six_bits xs 5) (six_bits ys 1) (six_bits ys 2) (six_bits ys 3) (six_bits ys 4) (six_bits ys 5) same in
+    let p =
+    one_number (code_at xs 0) (code_at xs 1) (code_at xs 2) (code_at xs 3) (code_at xs 4) (code_at xs 5) (code_at ys 0)
+    (code_at ys 1) (code_at ys 2) (code_at ys 3) (code_at ys 4) (code_at ys 5)
+    (six_bits xs 1) (six_bits xs 2) (six_bits xs 3) (six_bits xs 4) (six_bits xs 5) (six_bits ys 1) (six_bits ys 2)
+    (six_bits ys 3) (six_bits ys 4) (six_bits ys 5) same in
     codes_tell 6 xs ys a b h k (λ i lt. each p i lt)
   where
-    each : (code_at xs 0 ≡ code_at ys 0) × (code_at xs 1 ≡ code_at ys 1) × (code_at xs 2 ≡ code_at ys 2) × (code_at xs 3 ≡ code_at ys 3) × (code_at xs 4 ≡ code_at ys 4) × (code_at xs 5 ≡ code_at ys 5) → (i : ℕ) → i < 6 → code_at xs i ≡ code_at ys i
+    each : (code_at xs 0 ≡ code_at ys 0) × (code_at xs 1 ≡ code_at ys 1) × (code_at xs 2 ≡ code_at ys 2)
+        × (code_at xs 3 ≡ code_at ys 3) × (code_at xs 4 ≡ code_at ys 4) × (code_at xs 5 ≡ code_at ys 5) → (i : ℕ) → i < 6
+        → code_at xs i ≡ code_at ys i
     each p zero lt = p.0
     each p (suc zero) lt = p.1
     each p (suc (suc zero)) lt = p.2
@@ -96,7 +107,8 @@ plain_name : (os : List Operation) (name : Name) (code : ℕ) → list_all (λ o
 plain_name [] name code h found = cc
 plain_name (o ∷ os) name code h found =
     let parts = and_parts (is_plain o.name) (list_all (λ o. is_plain o.name) os) h in
-    plain_first (bytes_eq o.name name) o.name name o.code code (code_in os name) (same o.name name) parts.0 found (λ later. plain_name os name code parts.1 later)
+    plain_first (bytes_eq o.name name) o.name name o.code code (code_in os name) (same o.name name) parts.0 found
+    (λ later. plain_name os name code parts.1 later)
 
 -- an operation by its key
 pub record IsOperation (key code : ℕ) : Type 0 where
@@ -106,7 +118,8 @@ pub record IsOperation (key code : ℕ) : Type 0 where
   pub its_code : Some code ≡ code_in operations name
   pub small : code < 512
 
-stands_at : (names : List Name) (keys codes : List ℕ) (place : ℕ) → are_by_name names keys codes ≡ true → place < length keys → (place < length codes) × IsOperation (get_or keys place 0) (get_or codes place 0)
+stands_at : (names : List Name) (keys codes : List ℕ) (place : ℕ) → are_by_name names keys codes ≡ true → place < length keys
+    → (place < length codes) × IsOperation (get_or keys place 0) (get_or codes place 0)
 unfolding are_by_name
 stands_at names keys codes place h within =
     let parts = and_parts _ _ h in
@@ -127,14 +140,19 @@ stands_at names keys codes place h within =
 pub operation_at : (place : ℕ) → place < length KEYS → (place < length CODES) × IsOperation (get_or KEYS place 0) (get_or CODES place 0)
 operation_at place within = stands_at (map (λ name. name.now) NAMES) KEYS CODES place tables_agree within
 
-pub means : (key code : ℕ) (name : Name) → IsOperation key code → is_plain name ≡ true → sixbit_of name ≡ key → Some (operation_meaning code) ≡ option_map operation_meaning (code_in operations name)
+pub means : (key code : ℕ) (name : Name) → IsOperation key code → is_plain name ≡ true → sixbit_of name ≡ key
+    → Some (operation_meaning code) ≡ option_map operation_meaning (code_in operations name)
 means key code name operation plain e =
     let here = and_parts (nat_le (length name) 6) (list_all has_code name) plain in
     let there = and_parts (nat_le (length operation.name) 6) (list_all has_code operation.name) operation.plain in
-    let one = sixbit_tells operation.name name (leb-true (length operation.name) 6 there.0) (leb-true (length name) 6 here.0) there.1 here.1 (sym operation.its_key ∙ sym e) in
+    let one =
+    sixbit_tells operation.name name (leb-true (length operation.name) 6 there.0) (leb-true (length name) 6 here.0) there.1
+    here.1 (sym operation.its_key ∙ sym e) in
     ap (option_map operation_meaning) (operation.its_code ∙ ap (code_in operations) one)
 
-pub means_nothing : (key place : ℕ) (name : Name) → IsBinarySearchResult (λ y. nat_cmp y key) KEYS (Err place) → sixbit_of name ≡ key → None ≡ option_map operation_meaning (code_in operations name)
+pub means_nothing : (key place : ℕ) (name : Name) → IsBinarySearchResult (λ y. nat_cmp y key) KEYS (Err place)
+    → sixbit_of name ≡ key
+    → None ≡ option_map operation_meaning (code_in operations name)
 means_nothing key place name found e =
     ap (option_map operation_meaning) (no_code_found (map (λ name. name.now) NAMES) KEYS CODES key place name tables_agree found e)
 

@@ -20,7 +20,9 @@ differ xs ys h e = both_ways _ h ((bytes_eq-Decides xs ys).1 e)
 
 -- ---- a name that stands in the table
 
-pub code_beside : (os : List Operation) (names : List Name) (codes : List ℕ) (place : ℕ) → have_codes os names codes ≡ true → place < length names → (place < length codes) × (Some (get_or codes place 0) ≡ code_in os (get_or names place []))
+pub code_beside : (os : List Operation) (names : List Name) (codes : List ℕ) (place : ℕ) → have_codes os names codes ≡ true
+    → place < length names
+    → (place < length codes) × (Some (get_or codes place 0) ≡ code_in os (get_or names place []))
 code_beside os [] codes place h p = absurd (omega arith)
 code_beside os (n ∷ ns) [] place h p = absurd (false≢true h)
 code_beside os (n ∷ ns) (c ∷ cs) zero h p =
@@ -38,7 +40,9 @@ code_beside os (n ∷ ns) (c ∷ cs) (suc place) h p =
 abbrev names_of : List (Bor (List ℕ)) → List Name
 names_of table = map (λ x. x.now) table
 
-pub code_found : (table : List (Bor (List ℕ))) (keys codes name : List ℕ) (place : ℕ) (d : Bor (List ℕ)) → are_by_name (names_of table) keys codes ≡ true → place < length table → (get_or table place d).now ≡ name → (place < length codes) × (Some (get_or codes place 0) ≡ code_in operations name)
+pub code_found : (table : List (Bor (List ℕ))) (keys codes name : List ℕ) (place : ℕ) (d : Bor (List ℕ))
+    → are_by_name (names_of table) keys codes ≡ true → place < length table → (get_or table place d).now ≡ name
+    → (place < length codes) × (Some (get_or codes place 0) ≡ code_in operations name)
 unfolding are_by_name
 code_found table keys codes name place d h p here =
     let parts = and_parts _ _ h in
@@ -48,7 +52,8 @@ code_found table keys codes name place d h p here =
 
 -- ---- keys
 
-pub key_there : (names : List Name) (keys : List ℕ) (k : ℕ) → have_keys names keys ≡ true → k < length names → (k < length keys) × (get_or keys k 0 ≡ sixbit_of (get_or names k []))
+pub key_there : (names : List Name) (keys : List ℕ) (k : ℕ) → have_keys names keys ≡ true → k < length names
+    → (k < length keys) × (get_or keys k 0 ≡ sixbit_of (get_or names k []))
 key_there [] keys k h p = absurd (omega arith)
 key_there (n ∷ ns) [] k h p = absurd (false≢true h)
 key_there (n ∷ ns) (x ∷ xs) zero h p = (omega arith, sym (eqb-true (sixbit_of n) x (and_parts _ _ h).0))
@@ -95,24 +100,32 @@ one_place xs i j h p q e = elim (cases_lt i j) [
   ]
 ]
 
-keys_of : (table : List (Bor (List ℕ))) (keys codes : List ℕ) → are_by_name (names_of table) keys codes ≡ true → (have_keys (names_of table) keys ≡ true) × (are_rising keys ≡ true)
+keys_of : (table : List (Bor (List ℕ))) (keys codes : List ℕ) → are_by_name (names_of table) keys codes ≡ true
+    → (have_keys (names_of table) keys ≡ true) × (are_rising keys ≡ true)
 unfolding are_by_name
 keys_of table keys codes h = and_parts _ _ (and_parts _ _ (and_parts _ _ h).0).1
 
 pub as_long : (table : List (Bor (List ℕ))) (keys codes : List ℕ) → are_by_name (names_of table) keys codes ≡ true → length table ≡ length keys
 as_long table keys codes h = sym (length-map table (λ x. x.now)) ∙ as_many (names_of table) keys (keys_of table keys codes h).0
 
-key_of_name : (table : List (Bor (List ℕ))) (keys codes : List ℕ) (k : ℕ) (d : Bor (List ℕ)) → are_by_name (names_of table) keys codes ≡ true → k < length table → get_or keys k 0 ≡ sixbit_of (get_or table k d).now
+key_of_name : (table : List (Bor (List ℕ))) (keys codes : List ℕ) (k : ℕ) (d : Bor (List ℕ))
+    → are_by_name (names_of table) keys codes ≡ true → k < length table
+    → get_or keys k 0 ≡ sixbit_of (get_or table k d).now
 key_of_name table keys codes k d h p =
     (key_there (names_of table) keys k (keys_of table keys codes h).0 (omega (arith, length-map table (λ x. x.now)))).1
     ∙ ap sixbit_of (get_or-map (λ x. x.now) table k d [] p)
 
-pub key_found : (table : List (Bor (List ℕ))) (keys codes : List ℕ) (x : ℕ) (r : Result ℕ ℕ) → are_by_name (names_of table) keys codes ≡ true → IsBinarySearchResult (λ y. nat_cmp y x) keys r → MatchResult r (λ i. (i < length keys) × (get_or keys i 0 ≡ x)) (λ i. (i ≤ length keys) × ((k : ℕ) → k < i → get_or keys k 0 < x) × ((k : ℕ) → i ≤ k → k < length keys → x < get_or keys k 0))
+pub key_found : (table : List (Bor (List ℕ))) (keys codes : List ℕ) (x : ℕ) (r : Result ℕ ℕ)
+    → are_by_name (names_of table) keys codes ≡ true → IsBinarySearchResult (λ y. nat_cmp y x) keys r
+    → MatchResult r (λ i. (i < length keys) × (get_or keys i 0 ≡ x))
+    (λ i. (i ≤ length keys) × ((k : ℕ) → k < i → get_or keys k 0 < x) × ((k : ℕ) → i ≤ k → k < length keys → x < get_or keys k 0))
 key_found table keys codes x r h s = searched keys x r s (not_falling keys (keys_of table keys codes h).1)
 
 -- ---- a name that does not stand in it
 
-none_there : (table : List (Bor (List ℕ))) (name : List ℕ) → ((k : ℕ) (d : Bor (List ℕ)) → k < length table → (get_or table k d).now ≢ name) → list_any (bytes_eq name) (map (λ x. x.now) table) ≡ false
+none_there : (table : List (Bor (List ℕ))) (name : List ℕ)
+    → ((k : ℕ) (d : Bor (List ℕ)) → k < length table → (get_or table k d).now ≢ name)
+    → list_any (bytes_eq name) (map (λ x. x.now) table) ≡ false
 none_there [] name h = refl
 none_there (x ∷ xs) name h =
     let first = false_from_ne_true (bytes_eq name x.now) (λ e. h 0 x (omega arith) (sym (same name x.now e))) in
@@ -122,15 +135,22 @@ no_code : (os : List Operation) (names : List Name) (name : Name) → have_names
 no_code [] names name h none = refl
 no_code (o ∷ os) names name h none =
     let parts = and_parts (list_any (bytes_eq o.name) names) (have_names names os) h in
-    let other = false_from_ne_true (bytes_eq o.name name) (λ e. both_ways _ none (ap (λ n. list_any (bytes_eq n) names) (sym (same o.name name e)) ∙ parts.0)) in
+    let other =
+    false_from_ne_true (bytes_eq o.name name)
+    (λ e. both_ways _ none (ap (λ n. list_any (bytes_eq n) names) (sym (same o.name name e)) ∙ parts.0)) in
     rw other (no_code os names name parts.1 none)
 
-other_name : (table : List (Bor (List ℕ))) (keys codes name : List ℕ) → are_by_name (names_of table) keys codes ≡ true → ((k : ℕ) (d : Bor (List ℕ)) → k < length table → (get_or table k d).now ≢ name) → None ≡ code_in operations name
+other_name : (table : List (Bor (List ℕ))) (keys codes name : List ℕ) → are_by_name (names_of table) keys codes ≡ true
+    → ((k : ℕ) (d : Bor (List ℕ)) → k < length table → (get_or table k d).now ≢ name)
+    → None ≡ code_in operations name
 unfolding are_by_name
 other_name table keys codes name h other = no_code operations (names_of table) name (and_parts _ _ h).1 (none_there table name other)
 
 -- the name beside the key is another
-pub other_beside_key : (table : List (Bor (List ℕ))) (keys codes name : List ℕ) (place : ℕ) (d : Bor (List ℕ)) → are_by_name (names_of table) keys codes ≡ true → place < length keys → get_or keys place 0 ≡ sixbit_of name → (get_or table place d).now ≢ name → None ≡ code_in operations name
+pub other_beside_key : (table : List (Bor (List ℕ))) (keys codes name : List ℕ) (place : ℕ) (d : Bor (List ℕ))
+    → are_by_name (names_of table) keys codes ≡ true → place < length keys → get_or keys place 0 ≡ sixbit_of name
+    → (get_or table place d).now ≢ name
+    → None ≡ code_in operations name
 other_beside_key table keys codes name place d h p key other = other_name table keys codes name h (λ k e within is.
     let long = as_long table keys codes h in
     let its_key = key_of_name table keys codes k e h within ∙ ap sixbit_of is in
@@ -143,15 +163,21 @@ other_beside_key table keys codes name place d h p key other = other_name table 
     any_default (x ∷ xs) (suc k) d e p = any_default xs k d e (omega arith)
 
 -- the key is that of no name
-absent : (names : List Name) (keys : List ℕ) (name : Name) → have_keys names keys ≡ true → ((k : ℕ) → k < length keys → get_or keys k 0 ≢ sixbit_of name) → list_any (bytes_eq name) names ≡ false
+absent : (names : List Name) (keys : List ℕ) (name : Name) → have_keys names keys ≡ true
+    → ((k : ℕ) → k < length keys → get_or keys k 0 ≢ sixbit_of name)
+    → list_any (bytes_eq name) names ≡ false
 absent [] keys name h other = refl
 absent (n ∷ ns) [] name h other = absurd (false≢true h)
 absent (n ∷ ns) (x ∷ xs) name h other =
     let parts = and_parts (sixbit_of n == x) (have_keys ns xs) h in
-    let first = false_from_ne_true (bytes_eq name n) (λ e. other 0 (omega arith) (sym (eqb-true (sixbit_of n) x parts.0) ∙ ap sixbit_of (sym (same name n e)))) in
+    let first =
+    false_from_ne_true (bytes_eq name n)
+    (λ e. other 0 (omega arith) (sym (eqb-true (sixbit_of n) x parts.0) ∙ ap sixbit_of (sym (same name n e)))) in
     rw first (absent ns xs name parts.1 (λ k p. other (suc k) (omega arith)))
 
-pub no_code_found : (names : List Name) (keys codes : List ℕ) (key place : ℕ) (name : Name) → are_by_name names keys codes ≡ true → IsBinarySearchResult (λ y. nat_cmp y key) keys (Err place) → sixbit_of name ≡ key → None ≡ code_in operations name
+pub no_code_found : (names : List Name) (keys codes : List ℕ) (key place : ℕ) (name : Name) → are_by_name names keys codes ≡ true
+    → IsBinarySearchResult (λ y. nat_cmp y key) keys (Err place) → sixbit_of name ≡ key
+    → None ≡ code_in operations name
 unfolding are_by_name
 no_code_found names keys codes key place name h found e =
     let parts = and_parts _ _ h in

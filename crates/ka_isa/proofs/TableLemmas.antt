@@ -31,9 +31,11 @@ entry_none None entry h p = refl
 entry_none (Some name) [] h p = absurd (false≢true h)
 entry_none (Some name) (c ∷ cs) h p = absurd (omega arith)
 
-within : (os : List Operation) (entries : List Name) (from k : ℕ) → are_entries os from entries ≡ true → k < length entries → is_entry (name_in os (from + k)) (get_or entries k []) ≡ true
+within : (os : List Operation) (entries : List Name) (from k : ℕ) → are_entries os from entries ≡ true → k < length entries
+    → is_entry (name_in os (from + k)) (get_or entries k []) ≡ true
 within os [] from k h p = absurd (omega arith)
-within os (e ∷ es) from zero h p = let parts = and_parts (is_entry (name_in os from) e) (are_entries os (from + 1) es) h in let z : from + 0 ≡ from = omega arith in rw z parts.0
+within os (e ∷ es) from zero h p = let parts = and_parts (is_entry (name_in os from) e) (are_entries os (from + 1) es) h in
+    let z : from + 0 ≡ from = omega arith in rw z parts.0
 within os (e ∷ es) from (suc k) h p =
     let parts = and_parts (is_entry (name_in os from) e) (are_entries os (from + 1) es) h in
     let z : from + suc k ≡ from + 1 + k = omega arith in
@@ -46,7 +48,8 @@ past (o ∷ os) end code h p =
     let below = leb-true (o.code + 1) end parts.0 in
     rw (ne_eqb o.code code (λ e. omega arith)) (past os end code parts.1 p)
 
-pub is_entry_at : (entries : List Name) (code : ℕ) → are_by_code entries ≡ true → code < length entries → is_entry (name_of code) (get_or entries code []) ≡ true
+pub is_entry_at : (entries : List Name) (code : ℕ) → are_by_code entries ≡ true → code < length entries
+    → is_entry (name_of code) (get_or entries code []) ≡ true
 unfolding name_of are_by_code
 is_entry_at entries code h p =
     let parts = and_parts (are_entries operations 0 entries) (end_before operations (length entries)) h in
@@ -61,7 +64,9 @@ none_past entries code h p =
     sym (past operations (length entries) code parts.1 p)
 
 -- an entry that was read from a table of texts is that of its code
-pub is_entry_read : (table : List (Bor (List ℕ))) (code : ℕ) (entry d : Bor (List ℕ)) → are_by_code (map (λ name. name.now) table) ≡ true → true ≡ nat_lt code (length table) → entry ≡ get_or table code d → is_entry (name_of code) entry.now ≡ true
+pub is_entry_read : (table : List (Bor (List ℕ))) (code : ℕ) (entry d : Bor (List ℕ))
+    → are_by_code (map (λ name. name.now) table) ≡ true → true ≡ nat_lt code (length table) → entry ≡ get_or table code d
+    → is_entry (name_of code) entry.now ≡ true
 is_entry_read table code entry d h p e =
     let below = ltb-true code (length table) (sym p) in
     let read = ap (λ name. name.now) e ∙ sym (get_or-map (λ name. name.now) table code d [] below) in

@@ -1,4 +1,5 @@
--- The operations and the named calls, in the order of the DECsystem-10 Processor Reference Manual and of the TOPS-10 Monitor Calls Manual. A name is the list of its ASCII codes.
+-- The operations and the named calls, in the order of the DECsystem-10 Processor Reference Manual and of
+-- the TOPS-10 Monitor Calls Manual. A name is the list of its ASCII codes.
 use Rattle.std.specs.Prelude.{ℕ, ◌+◌, ◌*◌, ◌^◌, true, false, ◌==◌, List, [], ◌∷◌, ◌++◌, codes, map, Option, Some, None, if◌then◌else◌}
 use Rattle.std.specs.List.{flat_map}
 use Rattle.std.specs.Str.{bytes_eq}
@@ -48,7 +49,9 @@ tests_with change one other =
     flat_map (λ skip. (codes "T" ++ one ++ change ++ skip) ∷ (codes "T" ++ other ++ change ++ skip) ∷ []) (codes "" ∷ codes "E" ∷ codes "A" ∷ codes "N" ∷ [])
 
 abbrev pub tests : List Name
-tests = flat_map (λ change. tests_with change (codes "R") (codes "L") ++ tests_with change (codes "D") (codes "S")) (codes "N" ∷ codes "Z" ∷ codes "C" ∷ codes "O" ∷ [])
+tests =
+    flat_map (λ change. tests_with change (codes "R") (codes "L") ++ tests_with change (codes "D") (codes "S"))
+    (codes "N" ∷ codes "Z" ∷ codes "C" ∷ codes "O" ∷ [])
 
 -- names whose codes follow one another
 abbrev pub numbered : ℕ → List Name → List Operation
@@ -67,7 +70,10 @@ operations =
     ++ numbered 0o250 (codes "EXCH" ∷ codes "BLT" ∷ codes "AOBJP" ∷ codes "AOBJN" ∷ codes "JRST" ∷ codes "JFCL" ∷ codes "XCT" ∷ [])
     ++ numbered 0o260 (codes "PUSHJ" ∷ codes "PUSH" ∷ codes "POP" ∷ codes "POPJ" ∷ codes "JSR" ∷ codes "JSP" ∷ codes "JSA" ∷ codes "JRA" ∷ [])
     ++ numbered 0o270 (combined (codes "ADD" ∷ codes "SUB" ∷ []) computing)
-    ++ numbered 0o300 (combined (codes "CAI" ∷ codes "CAM" ∷ codes "JUMP" ∷ codes "SKIP" ∷ codes "AOJ" ∷ codes "AOS" ∷ codes "SOJ" ∷ codes "SOS" ∷ []) conditions)
+    ++ numbered 0o300
+    (combined
+    (codes "CAI" ∷ codes "CAM" ∷ codes "JUMP" ∷ codes "SKIP" ∷ codes "AOJ" ∷ codes "AOS" ∷ codes "SOJ" ∷ codes "SOS" ∷ [])
+    conditions)
     ++ numbered 0o400 (combined booleans computing)
     ++ numbered 0o500 (combined halves moving)
     ++ numbered 0o600 tests

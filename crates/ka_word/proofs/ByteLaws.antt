@@ -18,15 +18,20 @@ replaced_at p k a w =
     omega (arith, f, g)
 
 replaced_right : (p k a w : ℕ) → replaced p k a w % 2 ^ p ≡ w % 2 ^ p
-replaced_right p k a w = ap (λ (m : ℕ). m % 2 ^ p) (replaced_at p k a w) ∙ mod_low (w / 2 ^ (p + k) * 2 ^ k + a % 2 ^ k) p (w % 2 ^ p) (mod_below w (2 ^ p) (pow_pos p))
+replaced_right p k a w =
+    ap (λ (m : ℕ). m % 2 ^ p) (replaced_at p k a w)
+    ∙ mod_low (w / 2 ^ (p + k) * 2 ^ k + a % 2 ^ k) p (w % 2 ^ p) (mod_below w (2 ^ p) (pow_pos p))
 
 replaced_from : (p k a w : ℕ) → replaced p k a w / 2 ^ p ≡ w / 2 ^ (p + k) * 2 ^ k + a % 2 ^ k
-replaced_from p k a w = ap (λ (m : ℕ). m / 2 ^ p) (replaced_at p k a w) ∙ shr_high (w / 2 ^ (p + k) * 2 ^ k + a % 2 ^ k) p (w % 2 ^ p) (mod_below w (2 ^ p) (pow_pos p))
+replaced_from p k a w =
+    ap (λ (m : ℕ). m / 2 ^ p) (replaced_at p k a w)
+    ∙ shr_high (w / 2 ^ (p + k) * 2 ^ k + a % 2 ^ k) p (w % 2 ^ p) (mod_below w (2 ^ p) (pow_pos p))
 
 replaced_left : (p k a w : ℕ) → replaced p k a w / 2 ^ (p + k) ≡ w / 2 ^ (p + k)
 replaced_left p k a w =
     let e : 2 ^ p * 2 ^ k ≡ 2 ^ (p + k) = sym (pow-add 2 p k) in
-    let m : a % 2 ^ k * 2 ^ p + w % 2 ^ p < 2 ^ p * 2 ^ k = mul-add-lt (a % 2 ^ k) (2 ^ p) (w % 2 ^ p) (2 ^ k) (mod_below a (2 ^ k) (pow_pos k)) (mod_below w (2 ^ p) (pow_pos p)) in
+    let m : a % 2 ^ k * 2 ^ p + w % 2 ^ p < 2 ^ p * 2 ^ k =
+    mul-add-lt (a % 2 ^ k) (2 ^ p) (w % 2 ^ p) (2 ^ k) (mod_below a (2 ^ k) (pow_pos k)) (mod_below w (2 ^ p) (pow_pos p)) in
     shr_high (w / 2 ^ (p + k)) (p + k) (a % 2 ^ k * 2 ^ p + w % 2 ^ p) (rw e at m)
 
 -- a word has no bits from bit 36 on
@@ -41,7 +46,8 @@ placed : (p s : ℕ) → p < 36 → Placed p s (min s (36 - p))
 placed p s h = elim (cases_lt (36 - p) s) [ inl k ↦ inr (omega arith, omega arith) | inr k ↦ inl (omega arith, omega arith) ]
 
 wider : (a k s : ℕ) → k ≤ s → a % 2 ^ k % 2 ^ s ≡ a % 2 ^ k
-wider a k s h = let p : 2 ^ k ≤ 2 ^ s = pow_mono h in let q : a % 2 ^ k < 2 ^ k = mod_below a (2 ^ k) (pow_pos k) in let r : a % 2 ^ k < 2 ^ s = omega (arith, p, q) in mod-eq_of_lt r
+wider a k s h = let p : 2 ^ k ≤ 2 ^ s = pow_mono h in let q : a % 2 ^ k < 2 ^ k = mod_below a (2 ^ k) (pow_pos k) in
+    let r : a % 2 ^ k < 2 ^ s = omega (arith, p, q) in mod-eq_of_lt r
 
 narrower : (x k s : ℕ) → k ≤ s → x % 2 ^ s % 2 ^ k ≡ x % 2 ^ k
 narrower x k s h = let e : (s - k) + k ≡ s = omega arith in rw e at (mod-mod-pow x (s - k) k)
@@ -75,7 +81,10 @@ deposit_none p a w h = rw (le-ltb (position_of p) 36 h) refl
 pub loaded_law : (p a w : ℕ) → w < 2 ^ 36 → byte_of p (deposited p a w) ≡ a % 2 ^ min (size_of p) (36 - position_of p)
 unfolding byte_of deposited
 loaded_law p a w h = elim (cases_lt (position_of p) 36) [
-  | inl b ↦ ap (λ (v : ℕ). v / 2 ^ position_of p % 2 ^ size_of p) (deposit_done p a w b) ∙ load_replaced (position_of p) (size_of p) (min (size_of p) (36 - position_of p)) a w h (placed (position_of p) (size_of p) b)
+  | inl b ↦
+      ap (λ (v : ℕ). v / 2 ^ position_of p % 2 ^ size_of p) (deposit_done p a w b)
+      ∙ load_replaced (position_of p) (size_of p) (min (size_of p) (36 - position_of p)) a w h
+      (placed (position_of p) (size_of p) b)
   | inr b ↦ ap (λ (v : ℕ). v / 2 ^ position_of p % 2 ^ size_of p) (deposit_none p a w b) ∙ load_none (position_of p) (size_of p) a w h b
 ]
 
@@ -87,11 +96,16 @@ right_law p a w h = elim (cases_lt (position_of p) 36) [
 
 left_replaced : (p s k a w : ℕ) → w < 2 ^ 36 → Placed p s k → replaced p k a w / 2 ^ (p + s) ≡ w / 2 ^ (p + s)
 left_replaced p s k a w h (inl q) = rw q.0 (replaced_left p s a w)
-left_replaced p s k a w h (inr q) = word_gone (replaced p k a w) (p + s) (deposit_below w a p k h (omega arith)) (omega arith) ∙ sym (word_gone w (p + s) h (omega arith))
+left_replaced p s k a w h (inr q) =
+    word_gone (replaced p k a w) (p + s) (deposit_below w a p k h (omega arith)) (omega arith)
+    ∙ sym (word_gone w (p + s) h (omega arith))
 
 pub left_law : (p a w : ℕ) → w < 2 ^ 36 → deposited p a w / 2 ^ (position_of p + size_of p) ≡ w / 2 ^ (position_of p + size_of p)
 left_law p a w h = elim (cases_lt (position_of p) 36) [
-  | inl b ↦ ap (λ (v : ℕ). v / 2 ^ (position_of p + size_of p)) (deposit_done p a w b) ∙ left_replaced (position_of p) (size_of p) (min (size_of p) (36 - position_of p)) a w h (placed (position_of p) (size_of p) b)
+  | inl b ↦
+      ap (λ (v : ℕ). v / 2 ^ (position_of p + size_of p)) (deposit_done p a w b)
+      ∙ left_replaced (position_of p) (size_of p) (min (size_of p) (36 - position_of p)) a w h
+      (placed (position_of p) (size_of p) b)
   | inr b ↦ ap (λ (v : ℕ). v / 2 ^ (position_of p + size_of p)) (deposit_none p a w b)
 ]
 
@@ -105,6 +119,8 @@ same_replaced p s k w q = ap (λ (m : ℕ). w / 2 ^ (p + k) * 2 ^ (p + k) + (m *
 pub same_law : (p w : ℕ) → w < 2 ^ 36 → deposited p (byte_of p w) w ≡ w
 unfolding byte_of
 same_law p w h = elim (cases_lt (position_of p) 36) [
-  | inl b ↦ deposit_done p (byte_of p w) w b ∙ same_replaced (position_of p) (size_of p) (min (size_of p) (36 - position_of p)) w (placed (position_of p) (size_of p) b)
+  | inl b ↦
+      deposit_done p (byte_of p w) w b
+      ∙ same_replaced (position_of p) (size_of p) (min (size_of p) (36 - position_of p)) w (placed (position_of p) (size_of p) b)
   | inr b ↦ deposit_none p (byte_of p w) w b
 ]

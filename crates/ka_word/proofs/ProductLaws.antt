@@ -25,15 +25,21 @@ size_le_turned m n p q = let h : m * n ≤ (2 ^ 35 - 1) * 2 ^ 35 = mul-le m n (2
 
 pub size_small : (a b : ℕ) → a < 2 ^ 36 → b < 2 ^ 36 → both_least a b ≡ false → size_of_product a b < 2 ^ 70
 size_small a b ha hb h = elim (cases_eq a (2 ^ 35)) [
-  | inl p ↦ size_le (magnitude a) (magnitude b) (magnitude_le a ha) (magnitude_less b hb (λ q. both_ways (both_least a b) h (and_from (nat_eq a (2 ^ 35)) (nat_eq b (2 ^ 35)) (eq-eqb a (2 ^ 35) p) (eq-eqb b (2 ^ 35) q))))
+  | inl p ↦
+      size_le (magnitude a) (magnitude b) (magnitude_le a ha)
+      (magnitude_less b hb
+      (λ q. both_ways (both_least a b) h
+      (and_from (nat_eq a (2 ^ 35)) (nat_eq b (2 ^ 35)) (eq-eqb a (2 ^ 35) p) (eq-eqb b (2 ^ 35) q))))
   | inr p ↦ size_le_turned (magnitude a) (magnitude b) (magnitude_less a ha p) (magnitude_le b hb)
 ]
 
 size_most : (a b : ℕ) → a < 2 ^ 36 → b < 2 ^ 36 → size_of_product a b ≤ 2 ^ 70
-size_most a b ha hb = let h : magnitude a * magnitude b ≤ 2 ^ 35 * 2 ^ 35 = mul-le (magnitude a) (magnitude b) (2 ^ 35) (2 ^ 35) (magnitude_le a ha) (magnitude_le b hb) in h
+size_most a b ha hb = let h : magnitude a * magnitude b ≤ 2 ^ 35 * 2 ^ 35 =
+    mul-le (magnitude a) (magnitude b) (2 ^ 35) (2 ^ 35) (magnitude_le a ha) (magnitude_le b hb) in h
 
 some_size : (d : Bool) (s : ℕ) → (d && not (nat_eq s 0)) ≡ true → 0 < s
-some_size d s h = let n = eqb-false s 0 (not-true (nat_eq s 0) (and_parts d (not (nat_eq s 0)) h).1) in elim (cases_eq s 0) [ inl e ↦ absurd (n e) | inr e ↦ (omega (arith, e)) ]
+some_size d s h = let n = eqb-false s 0 (not-true (nat_eq s 0) (and_parts d (not (nat_eq s 0)) h).1) in
+    elim (cases_eq s 0) [ inl e ↦ absurd (n e) | inr e ↦ (omega (arith, e)) ]
 
 size_some : (a b : ℕ) → product_is_negative a b ≡ true → 0 < size_of_product a b
 size_some a b h = some_size (signs_differ a b) (size_of_product a b) h
@@ -51,10 +57,14 @@ low_by false s p h = refl
 
 pub high_is : (a b : ℕ) → a < 2 ^ 36 → b < 2 ^ 36 → high_word a b ≡ wide (product_is_negative a b) (size_of_product a b) / 2 ^ 35
 unfolding high_word
-high_is a b ha hb = ap (λ (z : ℤ). word_of (int_div_euclid z (pos (2 ^ 35)))) (product_value a b ha hb) ∙ high_by (product_is_negative a b) (size_of_product a b) (size_most a b ha hb) (size_some a b)
+high_is a b ha hb =
+    ap (λ (z : ℤ). word_of (int_div_euclid z (pos (2 ^ 35)))) (product_value a b ha hb)
+    ∙ high_by (product_is_negative a b) (size_of_product a b) (size_most a b ha hb) (size_some a b)
 
 below_zero : (a b : ℕ) → a < 2 ^ 36 → b < 2 ^ 36 → int_lt (signed_value a *ℤ signed_value b) (pos 0) ≡ product_is_negative a b
-below_zero a b ha hb = ap (λ (z : ℤ). int_lt z (pos 0)) (product_value a b ha hb) ∙ of_sign-below_zero (product_is_negative a b) (size_of_product a b) (size_some a b)
+below_zero a b ha hb =
+    ap (λ (z : ℤ). int_lt z (pos 0)) (product_value a b ha hb)
+    ∙ of_sign-below_zero (product_is_negative a b) (size_of_product a b) (size_some a b)
 
 pub low_is : (a b : ℕ) → a < 2 ^ 36 → b < 2 ^ 36 → low_word a b ≡ low_of (product_is_negative a b) (size_of_product a b)
 unfolding low_word
@@ -73,7 +83,11 @@ two_words false s h p =
     rw (signed_low (s / 2 ^ 35) b) (omega (arith, ints))
 
 pub product_law : (a b : ℕ) → a < 2 ^ 36 → b < 2 ^ 36 → both_least a b ≡ false → double_value (high_word a b) (low_word a b) ≡ signed_value a *ℤ signed_value b
-product_law a b ha hb h = ap (λ (x : ℕ). double_value x (low_word a b)) (high_is a b ha hb) ∙ ap (λ (y : ℕ). double_value (wide (product_is_negative a b) (size_of_product a b) / 2 ^ 35) y) (low_is a b ha hb) ∙ two_words (product_is_negative a b) (size_of_product a b) (size_small a b ha hb h) (size_some a b) ∙ sym (product_value a b ha hb)
+product_law a b ha hb h =
+    ap (λ (x : ℕ). double_value x (low_word a b)) (high_is a b ha hb)
+    ∙ ap (λ (y : ℕ). double_value (wide (product_is_negative a b) (size_of_product a b) / 2 ^ 35) y) (low_is a b ha hb)
+    ∙ two_words (product_is_negative a b) (size_of_product a b) (size_small a b ha hb h) (size_some a b)
+    ∙ sym (product_value a b ha hb)
 
 high_sign : (n : Bool) (s : ℕ) → s < 2 ^ 70 → is_negative (wide n s / 2 ^ 35) ≡ n
 high_sign true s h = le-leb (2 ^ 35) ((2 ^ 71 - s) / 2 ^ 35) (omega arith)
@@ -83,7 +97,9 @@ low_sign : (n : Bool) (s : ℕ) → is_negative (low_of n s) ≡ n
 low_sign true s = le-leb (2 ^ 35) (2 ^ 35 + (2 ^ 71 - s) % 2 ^ 35) (omega arith)
 low_sign false s = lt-leb (2 ^ 35) (0 + s % 2 ^ 35) (omega arith)
 
-pub signs_law : (a b : ℕ) → a < 2 ^ 36 → b < 2 ^ 36 → both_least a b ≡ false → (is_negative (high_word a b) ≡ int_lt (signed_value a *ℤ signed_value b) (pos 0)) × (is_negative (low_word a b) ≡ int_lt (signed_value a *ℤ signed_value b) (pos 0))
+pub signs_law : (a b : ℕ) → a < 2 ^ 36 → b < 2 ^ 36 → both_least a b ≡ false
+    → (is_negative (high_word a b) ≡ int_lt (signed_value a *ℤ signed_value b) (pos 0))
+    × (is_negative (low_word a b) ≡ int_lt (signed_value a *ℤ signed_value b) (pos 0))
 signs_law a b ha hb h = (
   ap is_negative (high_is a b ha hb) ∙ high_sign (product_is_negative a b) (size_of_product a b) (size_small a b ha hb h) ∙ sym (below_zero a b ha hb),
   ap is_negative (low_is a b ha hb) ∙ low_sign (product_is_negative a b) (size_of_product a b) ∙ sym (below_zero a b ha hb),
@@ -104,7 +120,9 @@ fits_test (pos n) = (
   (λ f. not_from_true (nat_lt n (2 ^ 35)) (lt-ltb n (2 ^ 35) (omega (arith, ints)))),
 )
 fits_test (negsuc n) = (
-  (λ h. let p : n ≤ 2 ^ 35 - 1 = leb-true n (2 ^ 35 - 1) (and_parts (nat_le n (2 ^ 35 - 1)) true (not-false (nat_le n (2 ^ 35 - 1) && true) h)).0 in (omega (arith, ints), omega (arith, ints))),
+  (λ h. let p : n ≤ 2 ^ 35 - 1 =
+      leb-true n (2 ^ 35 - 1) (and_parts (nat_le n (2 ^ 35 - 1)) true (not-false (nat_le n (2 ^ 35 - 1) && true) h)).0 in
+      (omega (arith, ints), omega (arith, ints))),
   (λ f. not_from_true (nat_le n (2 ^ 35 - 1) && true) (and_from (nat_le n (2 ^ 35 - 1)) true (le-leb n (2 ^ 35 - 1) (omega (arith, ints))) refl)),
 )
 
@@ -136,6 +154,9 @@ low_value false s h p =
     rw (signed_low (0 + s % 2 ^ 35) (omega arith)) (omega (arith, ints))
 
 pub whole_law : (a b : ℕ) → a < 2 ^ 36 → b < 2 ^ 36 → overflows a b ≡ false → signed_value (low_word a b) ≡ signed_value a *ℤ signed_value b
-whole_law a b ha hb h = ap signed_value (low_is a b ha hb) ∙ low_value (product_is_negative a b) (size_of_product a b) (sym (overflows_is a b ha hb) ∙ h) (size_some a b) ∙ sym (product_value a b ha hb)
+whole_law a b ha hb h =
+    ap signed_value (low_is a b ha hb)
+    ∙ low_value (product_is_negative a b) (size_of_product a b) (sym (overflows_is a b ha hb) ∙ h) (size_some a b)
+    ∙ sym (product_value a b ha hb)
 
 pub ruleset split_products = (high_is, low_is, overflows_is)

@@ -50,7 +50,10 @@ not_zero : (a m : ℕ) → no_quotient a m ≡ false → m ≡ 0 → ⊥
 not_zero a m h e = eqb-false m 0 (or_parts (nat_eq m 0) (nat_eq a (2 ^ 35) && nat_eq m (2 ^ 36 - 1)) h).0 e
 
 not_past : (a m : ℕ) → no_quotient a m ≡ false → a ≡ 2 ^ 35 → m ≡ 2 ^ 36 - 1 → ⊥
-not_past a m h e f = both_ways (nat_eq a (2 ^ 35) && nat_eq m (2 ^ 36 - 1)) (or_parts (nat_eq m 0) (nat_eq a (2 ^ 35) && nat_eq m (2 ^ 36 - 1)) h).1 (and_from (nat_eq a (2 ^ 35)) (nat_eq m (2 ^ 36 - 1)) (eq-eqb a (2 ^ 35) e) (eq-eqb m (2 ^ 36 - 1) f))
+not_past a m h e f =
+    both_ways (nat_eq a (2 ^ 35) && nat_eq m (2 ^ 36 - 1))
+    (or_parts (nat_eq m 0) (nat_eq a (2 ^ 35) && nat_eq m (2 ^ 36 - 1)) h).1
+    (and_from (nat_eq a (2 ^ 35)) (nat_eq m (2 ^ 36 - 1)) (eq-eqb a (2 ^ 35) e) (eq-eqb m (2 ^ 36 - 1) f))
 
 half_at_most : (x y : ℕ) → x ≤ 2 ^ 35 → 2 ≤ y → x / y < 2 ^ 35
 half_at_most x y h k = elim (cases_lt (x / y) (2 ^ 35)) [
@@ -82,7 +85,9 @@ quotient_small a m ha hm h d = elim (cases_eq a (2 ^ 35)) [
 
     at_least_two : (a m : ℕ) → m < 2 ^ 36 → no_quotient a m ≡ false → signs_differ a m ≡ false → a ≡ 2 ^ 35 → 2 ≤ magnitude m
     at_least_two a m hm h d p = elim (cases_lt m (2 ^ 35)) [
-      | inl k ↦ (let s : is_negative m ≡ false = lt-leb (2 ^ 35) m k in let t : is_negative a ≡ true = le-leb (2 ^ 35) a (omega arith) in absurd (apart (is_negative a) (is_negative m) t s d))
+      | inl k ↦
+          (let s : is_negative m ≡ false = lt-leb (2 ^ 35) m k in
+          let t : is_negative a ≡ true = le-leb (2 ^ 35) a (omega arith) in absurd (apart (is_negative a) (is_negative m) t s d))
       | inr k ↦ rw (magnitude_high m k) (elim (cases_eq m (2 ^ 36 - 1)) [
         | inl e ↦ absurd (not_past a m h p e)
         | inr n ↦ above m hm n
@@ -107,14 +112,22 @@ sign_below true m h = omega arith
 sign_below false m h = omega arith
 
 -- the value of the word that the code gives
-quotient_sized : (a m : ℕ) → a < 2 ^ 36 → m < 2 ^ 36 → no_quotient a m ≡ false → signed_value (with_sign (signs_differ a m) (magnitude a / magnitude m)) ≡ int_div (signed_value a) (signed_value m)
+quotient_sized : (a m : ℕ) → a < 2 ^ 36 → m < 2 ^ 36 → no_quotient a m ≡ false
+    → signed_value (with_sign (signs_differ a m) (magnitude a / magnitude m)) ≡ int_div (signed_value a) (signed_value m)
 quotient_sized a m ha hm h =
     let e = sign_value (signs_differ a m) (magnitude a / magnitude m) (quotient_most a m ha) (quotient_small a m ha hm h) in
-    e ∙ sym (ap (λ (x : ℤ). int_div x (signed_value m)) (signed_parts a ha) ∙ ap (λ (y : ℤ). int_div (of_sign (is_negative a) (magnitude a)) y) (signed_parts m hm) ∙ div_by_sign (is_negative a) (is_negative m) (magnitude a) (magnitude m) (size_some m hm (not_zero a m h)))
+    e
+    ∙ sym
+    (ap (λ (x : ℤ). int_div x (signed_value m)) (signed_parts a ha)
+    ∙ ap (λ (y : ℤ). int_div (of_sign (is_negative a) (magnitude a)) y) (signed_parts m hm)
+    ∙ div_by_sign (is_negative a) (is_negative m) (magnitude a) (magnitude m) (size_some m hm (not_zero a m h)))
 
 pub quotient_is : (a m : ℕ) → a < 2 ^ 36 → m < 2 ^ 36 → no_quotient a m ≡ false → quotient_of a m ≡ with_sign (signs_differ a m) (magnitude a / magnitude m)
 unfolding quotient_of
-quotient_is a m ha hm h = ap word_of (sym (quotient_sized a m ha hm h)) ∙ word_of_value (with_sign (signs_differ a m) (magnitude a / magnitude m)) (sign_below (signs_differ a m) (magnitude a / magnitude m) (quotient_most a m ha))
+quotient_is a m ha hm h =
+    ap word_of (sym (quotient_sized a m ha hm h))
+    ∙ word_of_value (with_sign (signs_differ a m) (magnitude a / magnitude m))
+    (sign_below (signs_differ a m) (magnitude a / magnitude m) (quotient_most a m ha))
 
 pub quotient_law : (a m : ℕ) → a < 2 ^ 36 → m < 2 ^ 36 → no_quotient a m ≡ false → signed_value (quotient_of a m) ≡ int_div (signed_value a) (signed_value m)
 quotient_law a m ha hm h = ap signed_value (quotient_is a m ha hm h) ∙ quotient_sized a m ha hm h
@@ -128,20 +141,28 @@ rest_small a m ha h = elim (cases_lt a (2 ^ 35)) [
 rest_most : (a m : ℕ) → a < 2 ^ 36 → magnitude a % magnitude m ≤ 2 ^ 35
 rest_most a m ha = let k = magnitude_le a ha in let l = mod-le (magnitude a) (magnitude m) in omega arith
 
-rest_sized : (a m : ℕ) → a < 2 ^ 36 → m < 2 ^ 36 → signed_value (with_sign (is_negative a) (magnitude a % magnitude m)) ≡ int_rem (signed_value a) (signed_value m)
+rest_sized : (a m : ℕ) → a < 2 ^ 36 → m < 2 ^ 36
+    → signed_value (with_sign (is_negative a) (magnitude a % magnitude m)) ≡ int_rem (signed_value a) (signed_value m)
 rest_sized a m ha hm =
     let e = sign_value (is_negative a) (magnitude a % magnitude m) (rest_most a m ha) (rest_small a m ha) in
     let d : unsigned_abs (signed_value m) ≡ magnitude m = ap unsigned_abs (signed_parts m hm) ∙ abs_of_sign (is_negative m) (magnitude m) in
-    e ∙ sym (ap (λ (x : ℤ). int_rem x (signed_value m)) (signed_parts a ha) ∙ rem_signs (is_negative a) (magnitude a) (signed_value m) ∙ ap (λ (k : ℕ). of_sign (is_negative a) (magnitude a % k)) d)
+    e
+    ∙ sym
+    (ap (λ (x : ℤ). int_rem x (signed_value m)) (signed_parts a ha) ∙ rem_signs (is_negative a) (magnitude a) (signed_value m)
+    ∙ ap (λ (k : ℕ). of_sign (is_negative a) (magnitude a % k)) d)
 
 pub remainder_is : (a m : ℕ) → a < 2 ^ 36 → m < 2 ^ 36 → remainder_of a m ≡ with_sign (is_negative a) (magnitude a % magnitude m)
 unfolding remainder_of
-remainder_is a m ha hm = ap word_of (sym (rest_sized a m ha hm)) ∙ word_of_value (with_sign (is_negative a) (magnitude a % magnitude m)) (sign_below (is_negative a) (magnitude a % magnitude m) (rest_most a m ha))
+remainder_is a m ha hm =
+    ap word_of (sym (rest_sized a m ha hm))
+    ∙ word_of_value (with_sign (is_negative a) (magnitude a % magnitude m))
+    (sign_below (is_negative a) (magnitude a % magnitude m) (rest_most a m ha))
 
 pub remainder_law : (a m : ℕ) → a < 2 ^ 36 → m < 2 ^ 36 → no_quotient a m ≡ false → signed_value (remainder_of a m) ≡ int_rem (signed_value a) (signed_value m)
 remainder_law a m ha hm h = ap signed_value (remainder_is a m ha hm) ∙ rest_sized a m ha hm
 
-pub divides_law : (a m : ℕ) → a < 2 ^ 36 → m < 2 ^ 36 → no_quotient a m ≡ false → signed_value a ≡ signed_value (quotient_of a m) *ℤ signed_value m +ℤ signed_value (remainder_of a m)
+pub divides_law : (a m : ℕ) → a < 2 ^ 36 → m < 2 ^ 36 → no_quotient a m ≡ false
+    → signed_value a ≡ signed_value (quotient_of a m) *ℤ signed_value m +ℤ signed_value (remainder_of a m)
 divides_law a m ha hm h = rw (quotient_law a m ha hm h, remainder_law a m ha hm h) (sym (quot-rem (signed_value a) (signed_value m)))
 
 divisor_some : (a m : ℕ) → m < 2 ^ 36 → no_quotient a m ≡ false → 0 < unsigned_abs (signed_value m)
@@ -158,7 +179,9 @@ sign_kept true (suc r) h p = inr (le-leb (2 ^ 35) ((2 ^ 36 - suc r) % 2 ^ 36) (o
 sign_kept false r h p = inr (lt-leb (2 ^ 35) r (p refl))
 
 pub sign_law : (a m : ℕ) → a < 2 ^ 36 → m < 2 ^ 36 → no_quotient a m ≡ false → (remainder_of a m ≡ 0) ⊎ (is_negative (remainder_of a m) ≡ is_negative a)
-sign_law a m ha hm h = subst (λ (r : ℕ). (r ≡ 0) ⊎ (is_negative r ≡ is_negative a)) (sym (remainder_is a m ha hm)) (sign_kept (is_negative a) (magnitude a % magnitude m) (rest_most a m ha) (rest_small a m ha))
+sign_law a m ha hm h =
+    subst (λ (r : ℕ). (r ≡ 0) ⊎ (is_negative r ≡ is_negative a)) (sym (remainder_is a m ha hm))
+    (sign_kept (is_negative a) (magnitude a % magnitude m) (rest_most a m ha) (rest_small a m ha))
 
 -- no word has the value 2 ^ 35
 no_word : (w : ℕ) (z : ℤ) → w < 2 ^ 36 → Reads w z → z ≡ pos (2 ^ 35) → ⊥
@@ -172,7 +195,8 @@ zero_word : (m : ℕ) (z : ℤ) → m < 2 ^ 36 → Reads m z → z ≡ pos 0 →
 zero_word m z h (inl p) e = omega (arith, ints)
 zero_word m z h (inr p) e = absurd (omega (arith, ints))
 
-refused : (a m : ℕ) → (nat_eq m 0 ≡ true) ⊎ ((nat_eq a (2 ^ 35) && nat_eq m (2 ^ 36 - 1)) ≡ true) → (signed_value m ≡ pos 0) ⊎ (int_div (signed_value a) (signed_value m) ≡ pos (2 ^ 35))
+refused : (a m : ℕ) → (nat_eq m 0 ≡ true) ⊎ ((nat_eq a (2 ^ 35) && nat_eq m (2 ^ 36 - 1)) ≡ true)
+    → (signed_value m ≡ pos 0) ⊎ (int_div (signed_value a) (signed_value m) ≡ pos (2 ^ 35))
 refused a m (inl p) = let e = eqb-true m 0 p in inl (rw e refl)
 refused a m (inr p) =
     let q = and_parts (nat_eq a (2 ^ 35)) (nat_eq m (2 ^ 36 - 1)) p in
@@ -182,9 +206,12 @@ refused a m (inr p) =
 
 done : (a m : ℕ) → a < 2 ^ 36 → m < 2 ^ 36 → no_quotient a m ≡ false → (signed_value m ≡ pos 0) ⊎ (int_div (signed_value a) (signed_value m) ≡ pos (2 ^ 35)) → ⊥
 done a m ha hm h (inl p) = not_zero a m h (zero_word m (signed_value m) hm (reads m) p)
-done a m ha hm h (inr p) = no_word (quotient_of a m) (signed_value (quotient_of a m)) (quotient_below a m ha hm h) (reads (quotient_of a m)) (quotient_law a m ha hm h ∙ p)
+done a m ha hm h (inr p) =
+    no_word (quotient_of a m) (signed_value (quotient_of a m)) (quotient_below a m ha hm h) (reads (quotient_of a m))
+    (quotient_law a m ha hm h ∙ p)
 
-pub none_law : (a m : ℕ) → a < 2 ^ 36 → m < 2 ^ 36 → (no_quotient a m ≡ true) ↔ ((signed_value m ≡ pos 0) ⊎ (int_div (signed_value a) (signed_value m) ≡ pos (2 ^ 35)))
+pub none_law : (a m : ℕ) → a < 2 ^ 36 → m < 2 ^ 36
+    → (no_quotient a m ≡ true) ↔ ((signed_value m ≡ pos 0) ⊎ (int_div (signed_value a) (signed_value m) ≡ pos (2 ^ 35)))
 none_law a m ha hm = (
   (λ h. refused a m (or_cases (nat_eq m 0) (nat_eq a (2 ^ 35) && nat_eq m (2 ^ 36 - 1)) h)),
   (λ p. true_from_ne_false (no_quotient a m) (λ h. done a m ha hm h p)),

@@ -44,7 +44,8 @@ turn_zero : (n w : ℕ) → 0 < n → w < 2 ^ n → turn n 0 w ≡ w
 turn_zero n w p h = let e : 0 % n ≡ 0 = mod-eq_of_lt p in turn_left n 0 w (omega arith) ∙ rw e (turn_none n w h)
 
 turn_half : (n w : ℕ) → 0 < n → w < 2 ^ n → turn n (2 ^ 17) w ≡ w
-turn_half n w p h = let e : 0 % n ≡ 0 = mod-eq_of_lt p in turn_right n (2 ^ 17) w (omega arith) ∙ (let f : n - 0 ≡ n = omega arith in rw (e, f) (turn_all n w h))
+turn_half n w p h = let e : 0 % n ≡ 0 = mod-eq_of_lt p in
+    turn_right n (2 ^ 17) w (omega arith) ∙ (let f : n - 0 ≡ n = omega arith in rw (e, f) (turn_all n w h))
 
 turn_opposite : (n e w : ℕ) → 0 < n → e < 2 ^ 18 → w < 2 ^ n → turn n (opposite e) (turn n e w) ≡ w
 turn_opposite n e w p b h = elim (cases_order e (2 ^ 17)) [
@@ -63,7 +64,10 @@ turn_opposite n e w p b h = elim (cases_order e (2 ^ 17)) [
         let o : opposite e ≡ 2 ^ 18 - e = omega arith in
         let i : 2 ^ 18 - (2 ^ 18 - e) ≡ e = omega arith in
         let r : e % 256 % n < n = mod_below (e % 256) n p in
-        ap (λ (v : ℕ). turn n (opposite e) v) (turn_left n e w l) ∙ (ap (λ (d : ℕ). turn n d (turned_left n (e % 256 % n) w)) o ∙ (turn_right n (2 ^ 18 - e) (turned_left n (e % 256 % n) w) (omega arith) ∙ rw i (turn_back n (e % 256 % n) w h (omega arith))))
+        ap (λ (v : ℕ). turn n (opposite e) v) (turn_left n e w l)
+        ∙ (ap (λ (d : ℕ). turn n d (turned_left n (e % 256 % n) w)) o
+        ∙ (turn_right n (2 ^ 18 - e) (turned_left n (e % 256 % n) w) (omega arith)
+        ∙ rw i (turn_back n (e % 256 % n) w h (omega arith))))
 
     from_right : (n e w : ℕ) → 0 < n → w < 2 ^ n → 2 ^ 17 < e → e < 2 ^ 18 → turn n (opposite e) (turn n e w) ≡ w
     from_right n e w p h g b =
@@ -71,7 +75,10 @@ turn_opposite n e w p b h = elim (cases_order e (2 ^ 17)) [
         let r : ℕ = (2 ^ 18 - e) % 256 % n in
         let q : (2 ^ 18 - e) % 256 % n < n = mod_below ((2 ^ 18 - e) % 256) n p in
         let i : n - (n - r) ≡ r = omega arith in
-        ap (λ (v : ℕ). turn n (opposite e) v) (turn_right n e w (omega arith)) ∙ (ap (λ (d : ℕ). turn n d (turned_left n (n - r) w)) o ∙ (turn_left n (2 ^ 18 - e) (turned_left n (n - r) w) (omega arith) ∙ (ap (λ (k : ℕ). turned_left n k (turned_left n (n - r) w)) (sym i) ∙ turn_back n (n - r) w h (omega arith))))
+        ap (λ (v : ℕ). turn n (opposite e) v) (turn_right n e w (omega arith))
+        ∙ (ap (λ (d : ℕ). turn n d (turned_left n (n - r) w)) o
+        ∙ (turn_left n (2 ^ 18 - e) (turned_left n (n - r) w) (omega arith)
+        ∙ (ap (λ (k : ℕ). turned_left n k (turned_left n (n - r) w)) (sym i) ∙ turn_back n (n - r) w h (omega arith))))
 
 pub word_law : (e w : ℕ) → e < 2 ^ 18 → w < 2 ^ 36 → rot_of (opposite e) (rot_of e w) ≡ w
 unfolding rot_of

@@ -75,8 +75,14 @@ all_lost x f z p l e = (
 
 left_fits_by : (w f : ℕ) → w < 2 ^ 36 → 0 < f → (left_past f w ≡ false) ↔ FitsWord (signed_value w *ℤ pos f)
 left_fits_by w f b p = elim (cases_lt w (2 ^ 35)) [
-  | inl h ↦ same_test (left_past f w) (not (nat_eq (w * f / 2 ^ 35) 0)) (FitsWord (pos (w * f))) (FitsWord (signed_value w *ℤ pos f)) (past_low w f h) (λ q. subst FitsWord (sym (low_product w f h)) q) (λ q. subst FitsWord (low_product w f h) q) (none_lost (w * f))
-  | inr h ↦ same_test (left_past f w) (not (nat_eq (w % 2 ^ 35 * f / 2 ^ 35) (f - 1))) (FitsWord (signed_value w *ℤ pos f)) (FitsWord (signed_value w *ℤ pos f)) (past_high w f h) (λ q. q) (λ q. q) (all_lost (w % 2 ^ 35 * f) f (signed_value w *ℤ pos f) p (low_times w f p) (negative_product w f h b))
+  | inl h ↦
+      same_test (left_past f w) (not (nat_eq (w * f / 2 ^ 35) 0)) (FitsWord (pos (w * f))) (FitsWord (signed_value w *ℤ pos f))
+      (past_low w f h) (λ q. subst FitsWord (sym (low_product w f h)) q) (λ q. subst FitsWord (low_product w f h) q)
+      (none_lost (w * f))
+  | inr h ↦
+      same_test (left_past f w) (not (nat_eq (w % 2 ^ 35 * f / 2 ^ 35) (f - 1))) (FitsWord (signed_value w *ℤ pos f))
+      (FitsWord (signed_value w *ℤ pos f)) (past_high w f h) (λ q. q) (λ q. q)
+      (all_lost (w % 2 ^ 35 * f) f (signed_value w *ℤ pos f) p (low_times w f p) (negative_product w f h b))
 ]
 
 value_low : (x : ℕ) → not (nat_eq (x / 2 ^ 35) 0) ≡ false → signed_value (0 + x % 2 ^ 35) ≡ pos x
@@ -87,8 +93,13 @@ value_low x k =
 left_value_by : (w f : ℕ) → w < 2 ^ 36 → 0 < f → left_past f w ≡ false → signed_value (left_word f w) ≡ signed_value w *ℤ pos f
 left_value_by w f b p k = elim (cases_lt w (2 ^ 35)) [
   | inl h ↦ ap signed_value (word_low w f h) ∙ (value_low (w * f) (sym (past_low w f h) ∙ k) ∙ sym (low_product w f h))
-  | inr h ↦ (let q : w % 2 ^ 35 * f / 2 ^ 35 ≡ f - 1 = eqb-true (w % 2 ^ 35 * f / 2 ^ 35) (f - 1) (not-false (nat_eq (w % 2 ^ 35 * f / 2 ^ 35) (f - 1)) (sym (past_high w f h) ∙ k)) in
-      ap signed_value (word_high w f h) ∙ (signed_high (2 ^ 35 + w % 2 ^ 35 * f % 2 ^ 35) (omega arith) ∙ value_high (w % 2 ^ 35 * f) f (signed_value w *ℤ pos f) p (low_times w f p) (negative_product w f h b) q))
+  | inr h ↦
+      (let q : w % 2 ^ 35 * f / 2 ^ 35 ≡ f - 1 =
+      eqb-true (w % 2 ^ 35 * f / 2 ^ 35) (f - 1)
+      (not-false (nat_eq (w % 2 ^ 35 * f / 2 ^ 35) (f - 1)) (sym (past_high w f h) ∙ k)) in
+      ap signed_value (word_high w f h)
+      ∙ (signed_high (2 ^ 35 + w % 2 ^ 35 * f % 2 ^ 35) (omega arith)
+      ∙ value_high (w % 2 ^ 35 * f) f (signed_value w *ℤ pos f) p (low_times w f p) (negative_product w f h b) q))
 ]
 
 -- to the right, by a divisor f
@@ -106,7 +117,8 @@ pub left_law : (e w : ℕ) → w < 2 ^ 36 → is_left e ≡ true → ash_overflo
 unfolding ash_overflows ash_of
 left_law e w b h k =
     let q : left_past (2 ^ places_of e) w ≡ false = sym (cond-true (is_left e) (left_past (2 ^ places_of e) w) false h) ∙ k in
-    ap signed_value (cond-true (is_left e) (left_word (2 ^ places_of e) w) (right_word (2 ^ places_of e) w) h) ∙ left_value_by w (2 ^ places_of e) b (pow_pos (places_of e)) q
+    ap signed_value (cond-true (is_left e) (left_word (2 ^ places_of e) w) (right_word (2 ^ places_of e) w) h)
+    ∙ left_value_by w (2 ^ places_of e) b (pow_pos (places_of e)) q
 
 -- the value of a word of which all bits are turned round
 complement_high : (q : ℕ) → q < 2 ^ 35 → signed_value (complement q) ≡ negsuc q
@@ -132,8 +144,10 @@ floor_high : (c q f r : ℕ) → q * f + r ≡ c → r < f → IsFloor (negsuc q
 floor_high c q f r e h =
     let d : suc q * f ≡ q * f + f = more_by q f in
     let x : negsuc q *ℤ pos f ≡ neg_ℤ (pos (suc q * f)) = negsuc-*ℤ-pos q f in
-    let y : (negsuc q +ℤ pos 1) *ℤ pos f ≡ neg_ℤ (pos (q * f)) = ap (λ (z : ℤ). z *ℤ pos f) (one_less q) ∙ neg_mul q f in
-    (subst (λ (z : ℤ). z ≤ℤ negsuc c) (sym x) (low_side c (suc q * f) (omega arith)), subst (λ (z : ℤ). negsuc c <ℤ z) (sym y) (high_side c (q * f) (omega arith)))
+    let y : (negsuc q +ℤ pos 1) *ℤ pos f ≡ neg_ℤ (pos (q * f)) = ap (λ (z : ℤ). z *ℤ pos f) (one_less q) ∙ neg_mul q f in (
+      subst (λ (z : ℤ). z ≤ℤ negsuc c) (sym x) (low_side c (suc q * f) (omega arith)),
+      subst (λ (z : ℤ). negsuc c <ℤ z) (sym y) (high_side c (q * f) (omega arith)),
+    )
   where
     more_by : (q f : ℕ) → suc q * f ≡ q * f + f
     more_by q f = omega arith
@@ -149,17 +163,23 @@ right_by w f b p = elim (cases_lt w (2 ^ 35)) [
   | inl h ↦ (let e : right_word f w ≡ w / f = rw (lt-leb (2 ^ 35) w h) refl in
       let l = div-le_self w f in
       let v : signed_value (right_word f w) ≡ pos (w / f) = ap signed_value e ∙ signed_low (w / f) (omega arith) in
-      at_values (signed_value (right_word f w)) (pos (w / f)) (signed_value w) (pos w) v (signed_low w h) (floor_low w (w / f) f (w % f) (div-add-mod' w f) (mod_below w f p)))
+      at_values (signed_value (right_word f w)) (pos (w / f)) (signed_value w) (pos w) v (signed_low w h)
+      (floor_low w (w / f) f (w % f) (div-add-mod' w f) (mod_below w f p)))
   | inr h ↦ (let e : right_word f w ≡ complement (complement w / f) = rw (le-leb (2 ^ 35) w h) refl in
       let l = div-le_self (complement w) f in
       let v : signed_value (right_word f w) ≡ negsuc (complement w / f) = ap signed_value e ∙ complement_high (complement w / f) (omega arith) in
-      at_values (signed_value (right_word f w)) (negsuc (complement w / f)) (signed_value w) (negsuc (complement w)) v (negative_complement w h b) (floor_high (complement w) (complement w / f) f (complement w % f) (div-add-mod' (complement w) f) (mod_below (complement w) f p)))
+      at_values (signed_value (right_word f w)) (negsuc (complement w / f)) (signed_value w) (negsuc (complement w)) v
+      (negative_complement w h b)
+      (floor_high (complement w) (complement w / f) f (complement w % f) (div-add-mod' (complement w) f)
+      (mod_below (complement w) f p)))
 ]
   where
     at_values : (z z2 x x2 : ℤ) → z ≡ z2 → x ≡ x2 → IsFloor z2 x2 f → IsFloor z x f
     at_values z z2 x x2 e g k = rw (e, g) k
 
-pub right_law : (e w : ℕ) → w < 2 ^ 36 → is_left e ≡ false → ((signed_value (ash_of e w) *ℤ pos (2 ^ places_of e)) ≤ℤ signed_value w) × (signed_value w <ℤ ((signed_value (ash_of e w) +ℤ pos 1) *ℤ pos (2 ^ places_of e)))
+pub right_law : (e w : ℕ) → w < 2 ^ 36 → is_left e ≡ false
+    → ((signed_value (ash_of e w) *ℤ pos (2 ^ places_of e)) ≤ℤ signed_value w)
+    × (signed_value w <ℤ ((signed_value (ash_of e w) +ℤ pos 1) *ℤ pos (2 ^ places_of e)))
 unfolding ash_of
 right_law e w b h =
     let t : ash_of e w ≡ right_word (2 ^ places_of e) w = cond-false (is_left e) (left_word (2 ^ places_of e) w) (right_word (2 ^ places_of e) w) h in
@@ -173,12 +193,19 @@ opposite_right : (e : ℕ) → 0 < e → e < 2 ^ 17 → is_left (opposite e) ≡
 opposite_right e h b = le-ltb (opposite e) (2 ^ 17) (omega arith)
 
 opposite_places : (e : ℕ) → 0 < e → e < 2 ^ 17 → places_of (opposite e) ≡ places_of e
-opposite_places e h b = cond-false (is_left (opposite e)) (opposite e % 256) ((2 ^ 18 - opposite e) % 256) (opposite_right e h b) ∙ (let p : 2 ^ 18 - opposite e ≡ e = omega arith in ap (λ (k : ℕ). k % 256) p ∙ sym (cond-true (is_left e) (e % 256) ((2 ^ 18 - e) % 256) (lt-ltb e (2 ^ 17) b)))
+opposite_places e h b =
+    cond-false (is_left (opposite e)) (opposite e % 256) ((2 ^ 18 - opposite e) % 256) (opposite_right e h b)
+    ∙ (let p : 2 ^ 18 - opposite e ≡ e = omega arith in
+    ap (λ (k : ℕ). k % 256) p ∙ sym (cond-true (is_left e) (e % 256) ((2 ^ 18 - e) % 256) (lt-ltb e (2 ^ 17) b)))
 
 pub back_law : (e w : ℕ) → e < 2 ^ 17 → w < 2 ^ 36 → lsh_of e (lsh_of (opposite e) w) ≡ w / 2 ^ places_of e * 2 ^ places_of e
 unfolding lsh_of
 back_law zero w h b = omega arith
 back_law (suc d) w h b =
     let e : ℕ = suc d in
-    let inner : lsh_of (opposite e) w ≡ w / 2 ^ places_of e = cond-false (is_left (opposite e)) (shifted_left 36 (places_of (opposite e)) w) (shifted_right (places_of (opposite e)) w) (opposite_right e (omega arith) h) ∙ ap (λ (k : ℕ). w / 2 ^ k) (opposite_places e (omega arith) h) in
-    ap (λ (v : ℕ). lsh_of e v) inner ∙ (cond-true (is_left e) (shifted_left 36 (places_of e) (w / 2 ^ places_of e)) (shifted_right (places_of e) (w / 2 ^ places_of e)) (lt-ltb e (2 ^ 17) h) ∙ there_and_back w (2 ^ places_of e) b)
+    let inner : lsh_of (opposite e) w ≡ w / 2 ^ places_of e =
+    cond-false (is_left (opposite e)) (shifted_left 36 (places_of (opposite e)) w) (shifted_right (places_of (opposite e)) w)
+    (opposite_right e (omega arith) h) ∙ ap (λ (k : ℕ). w / 2 ^ k) (opposite_places e (omega arith) h) in
+    ap (λ (v : ℕ). lsh_of e v) inner
+    ∙ (cond-true (is_left e) (shifted_left 36 (places_of e) (w / 2 ^ places_of e))
+    (shifted_right (places_of e) (w / 2 ^ places_of e)) (lt-ltb e (2 ^ 17) h) ∙ there_and_back w (2 ^ places_of e) b)

@@ -12,7 +12,9 @@ pow_split k n h = let s : (k - n) + n ≡ k = omega arith in sym (pow-add 2 (k -
 -- as many places as there are bits, or more, leave nothing
 left_gone : (w k n : ℕ) → n ≤ k → w * 2 ^ k % 2 ^ n ≡ 0
 left_gone w k n h =
-    let f : w * 2 ^ k ≡ w * 2 ^ (k - n) * 2 ^ n + 0 = ap (λ (m : ℕ). w * m) (sym (pow_split k n h)) ∙ (sym (mul_assoc w (2 ^ (k - n)) (2 ^ n)) ∙ sym (add-zero (w * 2 ^ (k - n) * 2 ^ n))) in
+    let f : w * 2 ^ k ≡ w * 2 ^ (k - n) * 2 ^ n + 0 =
+    ap (λ (m : ℕ). w * m) (sym (pow_split k n h))
+    ∙ (sym (mul_assoc w (2 ^ (k - n)) (2 ^ n)) ∙ sym (add-zero (w * 2 ^ (k - n) * 2 ^ n))) in
     ap (λ (m : ℕ). m % 2 ^ n) f ∙ mod_low (w * 2 ^ (k - n)) n 0 (pow_pos n)
 
 pub left_gone_35 : (w k : ℕ) → 35 ≤ k → w * 2 ^ k % 2 ^ 35 ≡ 0
@@ -55,7 +57,8 @@ turn_below w r n h b =
     let e : 2 ^ r * 2 ^ (n - r) ≡ 2 ^ n = sym (pow-add 2 r (n - r)) ∙ ap (λ (m : ℕ). 2 ^ m) s in
     let hw : w < 2 ^ (r + (n - r)) = rw s h in
     let q : w / 2 ^ (n - r) < 2 ^ r = shr_below w r (n - r) hw in
-    let m : w % 2 ^ (n - r) * 2 ^ r + w / 2 ^ (n - r) < 2 ^ r * 2 ^ (n - r) = mul-add-lt (w % 2 ^ (n - r)) (2 ^ r) (w / 2 ^ (n - r)) (2 ^ (n - r)) (mod_below w (2 ^ (n - r)) (pow_pos (n - r))) q in
+    let m : w % 2 ^ (n - r) * 2 ^ r + w / 2 ^ (n - r) < 2 ^ r * 2 ^ (n - r) =
+    mul-add-lt (w % 2 ^ (n - r)) (2 ^ r) (w / 2 ^ (n - r)) (2 ^ (n - r)) (mod_below w (2 ^ (n - r)) (pow_pos (n - r))) q in
     rw e at m
 
 pub turn_36 : (w r : ℕ) → w < 2 ^ 36 → r ≤ 36 → w % 2 ^ (36 - r) * 2 ^ r + w / 2 ^ (36 - r) < 2 ^ 36

@@ -33,7 +33,9 @@ alike a b c h = by_carries (2 ^ 36) (2 ^ 35) (a + b + c) (a % 2 ^ 35 + b % 2 ^ 3
 unlike : (a b c : ℕ) → sum_overflows a b c ≡ true → Unlike a b c
 unlike a b c h = by_unlike (2 ^ 36) (2 ^ 35) (a + b + c) (a % 2 ^ 35 + b % 2 ^ 35 + c) _ _ refl refl h
 
-sum_reads : (a b c s : ℕ) (x y z : ℤ) → a < 2 ^ 36 → b < 2 ^ 36 → c ≤ 1 → s ≡ (a + b + c) % 2 ^ 36 → Reads a x → Reads b y → Reads s z → Alike a b c → z ≡ x +ℤ y +ℤ pos c
+sum_reads : (a b c s : ℕ) (x y z : ℤ) → a < 2 ^ 36 → b < 2 ^ 36 → c ≤ 1 → s ≡ (a + b + c) % 2 ^ 36 → Reads a x → Reads b y
+    → Reads s z → Alike a b c
+    → z ≡ x +ℤ y +ℤ pos c
 sum_reads a b c s x y z ha hb hc e (inl p) (inl q) (inl r) (inl k) = omega (arith, ints)
 sum_reads a b c s x y z ha hb hc e (inl p) (inl q) (inl r) (inr k) = omega (arith, ints)
 sum_reads a b c s x y z ha hb hc e (inl p) (inl q) (inr r) (inl k) = omega (arith, ints)
@@ -65,15 +67,19 @@ sum_past a b c x y z ha hb hc (inr p) (inl q) (inr k) e f = omega (arith, ints)
 sum_past a b c x y z ha hb hc (inr p) (inr q) (inl k) e f = omega (arith, ints)
 sum_past a b c x y z ha hb hc (inr p) (inr q) (inr k) e f = omega (arith, ints)
 
-sum_value : (a b c : ℕ) → a < 2 ^ 36 → b < 2 ^ 36 → c ≤ 1 → sum_overflows a b c ≡ false → signed_value (sum_of a b c) ≡ signed_value a +ℤ signed_value b +ℤ pos c
-sum_value a b c ha hb hc h = sum_reads a b c (sum_of a b c) (signed_value a) (signed_value b) (signed_value (sum_of a b c)) ha hb hc refl (reads a) (reads b) (reads (sum_of a b c)) (alike a b c h)
+sum_value : (a b c : ℕ) → a < 2 ^ 36 → b < 2 ^ 36 → c ≤ 1 → sum_overflows a b c ≡ false
+    → signed_value (sum_of a b c) ≡ signed_value a +ℤ signed_value b +ℤ pos c
+sum_value a b c ha hb hc h =
+    sum_reads a b c (sum_of a b c) (signed_value a) (signed_value b) (signed_value (sum_of a b c)) ha hb hc refl (reads a)
+    (reads b) (reads (sum_of a b c)) (alike a b c h)
 
 sum_below : (a b c : ℕ) → sum_of a b c < 2 ^ 36
 sum_below a b c = omega arith
 
 sum_fits : (a b c : ℕ) (z : ℤ) → a < 2 ^ 36 → b < 2 ^ 36 → c ≤ 1 → z ≡ signed_value a +ℤ signed_value b +ℤ pos c → (sum_overflows a b c ≡ false) ↔ FitsWord z
 sum_fits a b c z ha hb hc e = (
-  (λ h. reads_fit (sum_of a b c) z (sum_below a b c) (let v : signed_value (sum_of a b c) ≡ z = sum_value a b c ha hb hc h ∙ sym e in rw v at (reads (sum_of a b c)))),
+  (λ h. reads_fit (sum_of a b c) z (sum_below a b c)
+      (let v : signed_value (sum_of a b c) ≡ z = sum_value a b c ha hb hc h ∙ sym e in rw v at (reads (sum_of a b c)))),
   (λ f. elim (cases_Bool (sum_overflows a b c)) [
     | inl k ↦ absurd (sum_past a b c (signed_value a) (signed_value b) z ha hb hc (reads a) (reads b) (unlike a b c k) e f)
     | inr k ↦ k
@@ -112,7 +118,8 @@ difference a b hb = minus_by_complement (signed_value a) (signed_value b) (signe
 pub sub_fits_law : (a b : ℕ) → a < 2 ^ 36 → b < 2 ^ 36 → (sum_overflows a (complement b) 1 ≡ false) ↔ FitsWord (signed_value a -ℤ signed_value b)
 sub_fits_law a b ha hb = sum_fits a (complement b) 1 (signed_value a -ℤ signed_value b) ha (complement_below b) (omega arith) (difference a b hb)
 
-pub sub_law : (a b : ℕ) → a < 2 ^ 36 → b < 2 ^ 36 → sum_overflows a (complement b) 1 ≡ false → signed_value (sum_of a (complement b) 1) ≡ signed_value a -ℤ signed_value b
+pub sub_law : (a b : ℕ) → a < 2 ^ 36 → b < 2 ^ 36 → sum_overflows a (complement b) 1 ≡ false
+    → signed_value (sum_of a (complement b) 1) ≡ signed_value a -ℤ signed_value b
 sub_law a b ha hb h = sum_value a (complement b) 1 ha (complement_below b) (omega arith) h ∙ sym (difference a b hb)
 
 -- the negated number is the complement and 1

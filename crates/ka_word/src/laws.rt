@@ -17,7 +17,8 @@ pub fn sum_laws()
     ensures add_fits { (a b : ℕ) → a < 2 ^ 36 → b < 2 ^ 36 → (sum_overflows a b 0 ≡ false) ↔ FitsWord (signed_value a +ℤ signed_value b) }
     ensures add { (a b : ℕ) → a < 2 ^ 36 → b < 2 ^ 36 → sum_overflows a b 0 ≡ false → signed_value (sum_of a b 0) ≡ signed_value a +ℤ signed_value b }
     ensures sub_fits { (a b : ℕ) → a < 2 ^ 36 → b < 2 ^ 36 → (sum_overflows a (complement b) 1 ≡ false) ↔ FitsWord (signed_value a -ℤ signed_value b) }
-    ensures sub { (a b : ℕ) → a < 2 ^ 36 → b < 2 ^ 36 → sum_overflows a (complement b) 1 ≡ false → signed_value (sum_of a (complement b) 1) ≡ signed_value a -ℤ signed_value b }
+    ensures sub { (a b : ℕ) → a < 2 ^ 36 → b < 2 ^ 36 → sum_overflows a (complement b) 1 ≡ false
+        → signed_value (sum_of a (complement b) 1) ≡ signed_value a -ℤ signed_value b }
     ensures negate_fits { (a : ℕ) → a < 2 ^ 36 → (sum_overflows (complement a) 1 0 ≡ false) ↔ (a ≢ 2 ^ 35) }
     ensures negate { (a : ℕ) → a < 2 ^ 36 → a ≢ 2 ^ 35 → signed_value (negated a) ≡ neg_ℤ (signed_value a) }
     ensures least { negated (2 ^ 35) ≡ 2 ^ 35 }
@@ -27,8 +28,11 @@ pub fn sum_laws()
 /// multiplied by itself; Overflow of IMUL is set exactly where the signed product does not fit a word,
 /// and where it fits the word's value is the product.
 pub fn product_laws()
-    ensures product { (a b : ℕ) → a < 2 ^ 36 → b < 2 ^ 36 → both_least a b ≡ false → double_value (high_word a b) (low_word a b) ≡ signed_value a *ℤ signed_value b }
-    ensures signs { (a b : ℕ) → a < 2 ^ 36 → b < 2 ^ 36 → both_least a b ≡ false → (is_negative (high_word a b) ≡ int_lt (signed_value a *ℤ signed_value b) (pos 0)) × (is_negative (low_word a b) ≡ int_lt (signed_value a *ℤ signed_value b) (pos 0)) }
+    ensures product { (a b : ℕ) → a < 2 ^ 36 → b < 2 ^ 36 → both_least a b ≡ false
+        → double_value (high_word a b) (low_word a b) ≡ signed_value a *ℤ signed_value b }
+    ensures signs { (a b : ℕ) → a < 2 ^ 36 → b < 2 ^ 36 → both_least a b ≡ false
+        → (is_negative (high_word a b) ≡ int_lt (signed_value a *ℤ signed_value b) (pos 0))
+        × (is_negative (low_word a b) ≡ int_lt (signed_value a *ℤ signed_value b) (pos 0)) }
     ensures fits { (a b : ℕ) → a < 2 ^ 36 → b < 2 ^ 36 → (overflows a b ≡ false) ↔ FitsWord (signed_value a *ℤ signed_value b) }
     ensures whole { (a b : ℕ) → a < 2 ^ 36 → b < 2 ^ 36 → overflows a b ≡ false → signed_value (low_word a b) ≡ signed_value a *ℤ signed_value b }
 {}
@@ -37,11 +41,16 @@ pub fn product_laws()
 /// words are the quotient toward 0 and the remainder, which is smaller than the divisor and is 0 or has
 /// the sign of the dividend.
 pub fn quotient_laws()
-    ensures none { (a m : ℕ) → a < 2 ^ 36 → m < 2 ^ 36 → (no_quotient a m ≡ true) ↔ ((signed_value m ≡ pos 0) ⊎ (int_div (signed_value a) (signed_value m) ≡ pos (2 ^ 35))) }
-    ensures quotient { (a m : ℕ) → a < 2 ^ 36 → m < 2 ^ 36 → no_quotient a m ≡ false → signed_value (quotient_of a m) ≡ int_div (signed_value a) (signed_value m) }
-    ensures remainder { (a m : ℕ) → a < 2 ^ 36 → m < 2 ^ 36 → no_quotient a m ≡ false → signed_value (remainder_of a m) ≡ int_rem (signed_value a) (signed_value m) }
-    ensures divides { (a m : ℕ) → a < 2 ^ 36 → m < 2 ^ 36 → no_quotient a m ≡ false → signed_value a ≡ signed_value (quotient_of a m) *ℤ signed_value m +ℤ signed_value (remainder_of a m) }
-    ensures smaller { (a m : ℕ) → a < 2 ^ 36 → m < 2 ^ 36 → no_quotient a m ≡ false → unsigned_abs (signed_value (remainder_of a m)) < unsigned_abs (signed_value m) }
+    ensures none { (a m : ℕ) → a < 2 ^ 36 → m < 2 ^ 36
+        → (no_quotient a m ≡ true) ↔ ((signed_value m ≡ pos 0) ⊎ (int_div (signed_value a) (signed_value m) ≡ pos (2 ^ 35))) }
+    ensures quotient { (a m : ℕ) → a < 2 ^ 36 → m < 2 ^ 36 → no_quotient a m ≡ false
+        → signed_value (quotient_of a m) ≡ int_div (signed_value a) (signed_value m) }
+    ensures remainder { (a m : ℕ) → a < 2 ^ 36 → m < 2 ^ 36 → no_quotient a m ≡ false
+        → signed_value (remainder_of a m) ≡ int_rem (signed_value a) (signed_value m) }
+    ensures divides { (a m : ℕ) → a < 2 ^ 36 → m < 2 ^ 36 → no_quotient a m ≡ false
+        → signed_value a ≡ signed_value (quotient_of a m) *ℤ signed_value m +ℤ signed_value (remainder_of a m) }
+    ensures smaller { (a m : ℕ) → a < 2 ^ 36 → m < 2 ^ 36 → no_quotient a m ≡ false
+        → unsigned_abs (signed_value (remainder_of a m)) < unsigned_abs (signed_value m) }
     ensures sign { (a m : ℕ) → a < 2 ^ 36 → m < 2 ^ 36 → no_quotient a m ≡ false → (remainder_of a m ≡ 0) ⊎ (is_negative (remainder_of a m) ≡ is_negative a) }
 {}
 
@@ -51,7 +60,9 @@ pub fn quotient_laws()
 pub fn shift_laws()
     ensures left_fits { (e w : ℕ) → w < 2 ^ 36 → is_left e ≡ true → (ash_overflows e w ≡ false) ↔ FitsWord (signed_value w *ℤ pos (2 ^ places_of e)) }
     ensures left { (e w : ℕ) → w < 2 ^ 36 → is_left e ≡ true → ash_overflows e w ≡ false → signed_value (ash_of e w) ≡ signed_value w *ℤ pos (2 ^ places_of e) }
-    ensures right { (e w : ℕ) → w < 2 ^ 36 → is_left e ≡ false → ((signed_value (ash_of e w) *ℤ pos (2 ^ places_of e)) ≤ℤ signed_value w) × (signed_value w <ℤ ((signed_value (ash_of e w) +ℤ pos 1) *ℤ pos (2 ^ places_of e))) }
+    ensures right { (e w : ℕ) → w < 2 ^ 36 → is_left e ≡ false
+        → ((signed_value (ash_of e w) *ℤ pos (2 ^ places_of e)) ≤ℤ signed_value w)
+        × (signed_value w <ℤ ((signed_value (ash_of e w) +ℤ pos 1) *ℤ pos (2 ^ places_of e))) }
     ensures back { (e w : ℕ) → e < 2 ^ 17 → w < 2 ^ 36 → lsh_of e (lsh_of (opposite e) w) ≡ w / 2 ^ places_of e * 2 ^ places_of e }
 {}
 
@@ -75,8 +86,11 @@ pub fn byte_laws()
 /// word: each moves the position down by the size while there is room for another byte, and the next
 /// one after that names the leftmost byte one place further on.
 pub fn pointer_laws()
-    ensures within { (p n : ℕ) → p < 2 ^ 36 → n * size_of p ≤ position_of p → (position_of (times n incremented p) ≡ position_of p - n * size_of p) × (times n incremented p % 2 ^ 30 ≡ p % 2 ^ 30) }
-    ensures onward { (p : ℕ) → p < 2 ^ 36 → position_of p < size_of p → (position_of (incremented p) ≡ 36 - size_of p) × (incremented p % 2 ^ 30 / 2 ^ 18 ≡ p % 2 ^ 30 / 2 ^ 18) × (incremented p % 2 ^ 18 ≡ (p + 1) % 2 ^ 18) }
+    ensures within { (p n : ℕ) → p < 2 ^ 36 → n * size_of p ≤ position_of p
+        → (position_of (times n incremented p) ≡ position_of p - n * size_of p) × (times n incremented p % 2 ^ 30 ≡ p % 2 ^ 30) }
+    ensures onward { (p : ℕ) → p < 2 ^ 36 → position_of p < size_of p
+        → (position_of (incremented p) ≡ 36 - size_of p) × (incremented p % 2 ^ 30 / 2 ^ 18 ≡ p % 2 ^ 30 / 2 ^ 18)
+        × (incremented p % 2 ^ 18 ≡ (p + 1) % 2 ^ 18) }
 {}
 
 /// A pushdown pointer that is counted up and then down is as before; up, it names the next place; and

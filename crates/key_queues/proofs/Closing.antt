@@ -52,10 +52,15 @@ index_closed buckets then locks n h index shut hash put = record {
       λ g.
       subst (λ (b : Bucket). All (λ m. m < length locks) b.numbers.items) (sym (bucket g))
       (elim (g == h) as (λ v. All (λ m. m < length locks) (cond v (without_number (bucket_at buckets h) n) (bucket_at buckets g)).numbers.items) [
-        | true ↦ all_less (λ m. m < length locks) (bucket_at buckets h).numbers.items (position_or_len (λ m. m == n) (bucket_at buckets h).numbers.items) (index.within h)
+        | true ↦
+            all_less (λ m. m < length locks) (bucket_at buckets h).numbers.items
+            (position_or_len (λ m. m == n) (bucket_at buckets h).numbers.items) (index.within h)
         | false ↦ index.within g
       ]);
-  holds = λ m some. still (hash_of (lock_at locks m).key) m (λ e. both_ways (is_open (lock_at locks n).queue) shut (subst (λ z. is_open (lock_at locks z).queue ≡ true) e some)) (index.holds m some);
+  holds =
+      λ m some. still (hash_of (lock_at locks m).key) m
+      (λ e. both_ways (is_open (lock_at locks n).queue) shut (subst (λ z. is_open (lock_at locks z).queue ≡ true) e some))
+      (index.holds m some);
 }
   where
     bucket : (g : ℕ) → bucket_at then g ≡ cond (g == h) (without_number (bucket_at buckets h) n) (bucket_at buckets g)

@@ -145,7 +145,9 @@ numbered_within : (b : Bucket) (n few : ℕ) → All (λ m. m < few) b.numbers.i
     → All (λ m. m < few) (numbered b n).numbers.items
 numbered_within b n few all lt = go (length b.numbers.items == ROOM)
   where
-    go : (v : Bool) → All (λ m. m < few) (cond v (record b { crowded = true }) (record b { numbers = record { items = b.numbers.items ++ n ∷ [] } })).numbers.items
+    go : (v : Bool)
+        → All (λ m. m < few)
+        (cond v (record b { crowded = true }) (record b { numbers = record { items = b.numbers.items ++ n ∷ [] } })).numbers.items
     go true = all
     go false = All-push (λ m. m < few) b.numbers.items n all lt
 

@@ -29,7 +29,8 @@ open_given_up s t p k kept_s kept_t present lt gives counted used m some =
     elim (cases_eq m (get_or (s.own p) k 0)) [
       | inl e ↦
           subst (IsUsed t) (sym e)
-          (used_after s t p k kept_s kept_t present lt gives counted (not-true (length (t.queue (get_or (s.own p) k 0)).places == 0) (subst (λ j. is_open (t.queue j) ≡ true) e some)))
+          (used_after s t p k kept_s kept_t present lt gives counted
+          (not-true (length (t.queue (get_or (s.own p) k 0)).places == 0) (subst (λ j. is_open (t.queue j) ≡ true) e some)))
       | inr ne ↦
           let u : IsUsed s m = used m (subst (λ (q : KeptQueue). is_open q ≡ true) (gives.others m ne) some) in
           record {

@@ -102,7 +102,8 @@ want_at_queue key (v ∷ ws) (m ∷ ns) n q h = go (m == n) refl (want_at_queue 
 
     go : (b : Bool) → (m == n) ≡ b
         → (is_there n ns ≡ true → (rest < length ws) × Has ws (want_in ns ws n) × ((want_in ns ws n).key ≡ key n))
-        → (cond (not b) (1 + rest) 0 < suc (length ws)) × Has (v ∷ ws) (get_or (v ∷ ws) (cond (not b) (1 + rest) 0) unused_want) × ((get_or (v ∷ ws) (cond (not b) (1 + rest) 0) unused_want).key ≡ key n)
+        → (cond (not b) (1 + rest) 0 < suc (length ws)) × Has (v ∷ ws) (get_or (v ∷ ws) (cond (not b) (1 + rest) 0) unused_want)
+        × ((get_or (v ∷ ws) (cond (not b) (1 + rest) 0) unused_want).key ≡ key n)
     go true e later = (omega arith, inl refl, sym q.0 ∙ ap key (eqb-true m n e))
     go false e later =
         let there : is_there n ns ≡ true = sym (ap (λ b. b || is_there n ns) e) ∙ h in
@@ -162,7 +163,8 @@ pub full_at_end : (s : State) (n : ℕ) → IsKept s → IsUsed s n → slice_ge
     → IsFull s n
 full_at_end s n kept used e =
     let c = kept.counts used.place n used.stands in
-    (counts_to_end (s.size n) (wants_at (map s.at s.order) (s.key n)) (s.queue n) c.counts (omega (arith, past_none (s.queue n).places (s.queue n).fitting e, c.counts.places))).all
+    (counts_to_end (s.size n) (wants_at (map s.at s.order) (s.key n)) (s.queue n) c.counts
+    (omega (arith, past_none (s.queue n).places (s.queue n).fitting e, c.counts.places))).all
 
 pub full_where_unfit : (s : State) (n p : ℕ) (w : Want) → IsKept s → IsUsed s n → Next s n p w
     → fits_next (s.queue n) w w.pool ≡ false
@@ -267,7 +269,9 @@ used_after s t p k kept_s kept_t present lt gives counted some =
     let any : (x : ℕ) × (slice_get places 0 ≡ Some x) =
     found_within places 0 (omega (arith, eqb-false (length places) 0 some)) in
     let x : ℕ = any.0 in
-    let both = there_kept (λ y. names (t.at y).wants.items (t.key n)) x t.order (subst (λ l. is_there x l ≡ true) counted.places (found_there x 0 places any.1)) in
+    let both =
+    there_kept (λ y. names (t.at y).wants.items (t.key n)) x t.order
+    (subst (λ l. is_there x l ≡ true) counted.places (found_there x 0 places any.1)) in
     let of = names-found (t.at x).wants.items (t.key n) both.1 in
     let m = queue_of_want t.key (t.at x).wants.items (t.own x) of.0 (kept_t.queues x both.0) of.1 in
     let same : m.0 ≡ n = same_queue s t p k x m.0 of.0.key kept_s present lt gives both.0 m.1 m.2 of.2 in
@@ -286,7 +290,10 @@ full_extended s t n but e full x m st =
           let same : (λ y. t.at y) ≡ (λ y. s.at y) = λ i y. e.at y i in
           ap (λ (q : KeptQueue). q.fitting) (e.others m ne)
           ∙ but x m was ne
-          ∙ ap fitting (sym (ap (λ l. wants_at (map t.at l) (t.key m)) e.order ∙ ap (λ (f : ℕ → Request). wants_at (map f s.order) (t.key m)) same ∙ ap (wants_at (map s.at s.order)) (e.key m)))
+          ∙ ap fitting
+          (sym
+          (ap (λ l. wants_at (map t.at l) (t.key m)) e.order
+          ∙ ap (λ (f : ℕ → Request). wants_at (map f s.order) (t.key m)) same ∙ ap (wants_at (map s.at s.order)) (e.key m)))
     ]
 
 pub full_empty : (s : State) (n : ℕ) → IsKept s → CountsBut n s → (length (s.queue n).places == 0) ≡ true → CountsAll s

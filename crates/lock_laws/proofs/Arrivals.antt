@@ -117,7 +117,11 @@ module _ (size : ℕ) (requests : List Request) (job : ℕ) (wants : List Want) 
   pub own_claims : Passed → Pairs Ordered (map (claim_of job) wants)
   own_claims p =
       Pairs-map InCall Ordered (claim_of job)
-      (λ v w h. record { alike = λ same. absurd (keys-apart v.key w.key h.apart same); apart = λ e. keys-apart v.key w.key h.apart; rises = λ e free. h.rises free }) wants
+      (λ v w h. record {
+        alike = λ same. absurd (keys-apart v.key w.key h.apart same);
+        apart = λ e. keys-apart v.key w.key h.apart;
+        rises = λ e free. h.rises free;
+      }) wants
       (Pairs-from_splits InCall wants (λ a b v w is h.
       let f = fault-None p a b w is in
       record {
@@ -162,7 +166,9 @@ module _ (size : ℕ) (requests : List Request) (job : ℕ) (asking : Asking) (w
   step-arrival : Passed size requests job wants.items → Grows size job requests (arrival requests job asking wants).requests
   step-arrival p =
       elim (granted (with_arrival requests job asking false wants) (length requests)) as (λ b.
-      Grows size job requests (cond b (outcome (with_arrival requests job asking (is_interrupt asking.kind) wants) Granted) (not_granted requests (with_arrival requests job asking false wants) asking.kind)).requests) [
+      Grows size job requests
+      (cond b (outcome (with_arrival requests job asking (is_interrupt asking.kind) wants) Granted)
+      (not_granted requests (with_arrival requests job asking false wants) asking.kind)).requests) [
         | true ↦ arrived p (is_interrupt asking.kind)
         | false ↦ step-not_granted p asking.kind
       ]

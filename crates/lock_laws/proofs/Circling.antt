@@ -104,7 +104,8 @@ waits-grows job before after (changes f e c) free w a b r is blocking waits q h 
     let was : granted_behind s.before s.item ≡ false =
     false_from_ne_true _ (λ t.
     let now : granted_behind a r ≡ true =
-    subst (λ l. granted_behind l r ≡ true) s.before_is (subst (λ u. granted_behind (map f s.before) u ≡ true) s.item_is (c.kept s.before s.after s.item s.is t)) in
+    subst (λ l. granted_behind l r ≡ true) s.before_is
+    (subst (λ u. granted_behind (map f s.before) u ≡ true) s.item_is (c.kept s.before s.after s.item s.is t)) in
     both_ways (granted_behind a r) waits now) in
     let from = map-Has f s.after q (subst (λ l. Has l q) (sym s.after_is) h) in
     λ mine.

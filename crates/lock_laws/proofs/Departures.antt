@@ -81,7 +81,8 @@ releases-without (r ∷ rs) job named =
     go : Releases job rs rest-left → (b : Bool) → (r.job == job) ≡ b
         → Releases job (r ∷ rs) (cond (has_wants (cond b (without_keys named r) r)) (cond b (without_keys named r) r ∷ rest-left) rest-left)
     go rest true e =
-        one-left job named r (without_keys named r) rs rest-left refl refl (Sub-filter (λ w. not (names named w.key)) r.wants.items) (inl (eqb-true r.job job e)) rest
+        one-left job named r (without_keys named r) rs rest-left refl refl
+        (Sub-filter (λ w. not (names named w.key)) r.wants.items) (inl (eqb-true r.job job e)) rest
     go rest false e = one-left job named r r rs rest-left refl refl (Sub-refl r.wants.items) (inr refl) rest
 
 -- function 0
@@ -106,7 +107,9 @@ releases-blocked waiters e (r ∷ rs) = go (releases-blocked waiters (e ++ r ∷
   where
     go : Leaves (λ n. waiters n ≡ true) rs (chosen_behind (is_not_blocked_where waiters) (e ++ r ∷ []) rs) → (b : Bool)
         → is_blocked_where waiters e r ≡ b
-        → Leaves (λ n. waiters n ≡ true) (r ∷ rs) (cond (not b) (r ∷ chosen_behind (is_not_blocked_where waiters) (e ++ r ∷ []) rs) (chosen_behind (is_not_blocked_where waiters) (e ++ r ∷ []) rs))
+        → Leaves (λ n. waiters n ≡ true) (r ∷ rs)
+        (cond (not b) (r ∷ chosen_behind (is_not_blocked_where waiters) (e ++ r ∷ []) rs)
+        (chosen_behind (is_not_blocked_where waiters) (e ++ r ∷ []) rs))
     go rest true t =
         let parts = and_parts (waiters r.job && is_blocking r.kind) (not (granted_behind e r)) t in
         gone r (inl (and_parts (waiters r.job) (is_blocking r.kind) parts.0).0) rest

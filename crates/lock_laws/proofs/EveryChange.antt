@@ -28,7 +28,9 @@ pub safety_is_kept : (size : ℕ) → SafetyIsKept size
 safety_is_kept size = record {
   by_calls = λ requests job call s. safe-kept size _ (kept-call size requests job call (kept-safe size requests s));
   by_releases = λ requests job s. safe-kept size _ (kept-releases size (is_job_of job) requests _ (releases-released requests job) (kept-safe size requests s));
-  by_withdrawals = λ requests waiters s. safe-kept size _ (kept-releases size (λ n. waiters n ≡ true) requests _ (releases-withdrawn requests waiters) (kept-safe size requests s));
+  by_withdrawals =
+      λ requests waiters s. safe-kept size _
+      (kept-releases size (λ n. waiters n ≡ true) requests _ (releases-withdrawn requests waiters) (kept-safe size requests s));
   by_telling = λ requests job s. safe-kept size _ (kept-retold size requests _ (told requests job) (kept-safe size requests s));
 }
 
@@ -44,7 +46,9 @@ pub latest_is_kept : (size : ℕ) → LatestIsKept size
 latest_is_kept size = record {
   by_calls = λ requests job call free w. by_latest _ (waits-step job call requests _ (step_of size requests job call) free (waits_last requests w));
   by_releases = λ requests job w. by_latest _ (waits-releases (is_job_of job) requests _ (releases-released requests job) (waits_last requests w));
-  by_withdrawals = λ requests waiters w. by_latest _ (waits-releases (λ n. waiters n ≡ true) requests _ (releases-withdrawn requests waiters) (waits_last requests w));
+  by_withdrawals =
+      λ requests waiters w. by_latest _
+      (waits-releases (λ n. waiters n ≡ true) requests _ (releases-withdrawn requests waiters) (waits_last requests w));
   by_telling = λ requests job w. by_latest _ (waits-retold requests _ (told requests job) (waits_last requests w));
 }
 

@@ -107,7 +107,8 @@ owns-withdrawn requests waiters job key h =
     Sub-flat_map (λ (q : Request). q.wants.items) (Sub-chosen (is_not_blocked_where waiters) [] a) in
     owns-at (withdrawn_where requests waiters) (chosen_behind (is_not_blocked_where waiters) [] a)
     (chosen_behind (is_not_blocked_where waiters) (a ++ o.request ∷ []) o.split.after) o.request job key
-    (ap (chosen_behind (is_not_blocked_where waiters) []) o.split.is ∙ chosen-place (is_not_blocked_where waiters) [] a o.split.after o.request stays) o.by o.named
+    (ap (chosen_behind (is_not_blocked_where waiters) []) o.split.is
+    ∙ chosen-place (is_not_blocked_where waiters) [] a o.split.after o.request stays) o.by o.named
     (granted_behind-fewer (chosen_behind (is_not_blocked_where waiters) [] a) a o.request o.request front (Sub-refl o.request.wants.items) o.granted)
 
 -- telling a job changes no grant

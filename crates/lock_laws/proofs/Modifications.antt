@@ -32,7 +32,15 @@ keeps-changed : (cs : List Want) (w : Want) → Keeps w (changed_want cs w)
 keeps-changed [] w = record { key = refl; bypass = refl; level = refl; pool = refl }
 keeps-changed (c ∷ cs) w =
     elim (same_key w.key c.key) as (λ b.
-    Keeps w (cond b (record { key = w.key; shared = c.shared; group = changed_group c.shared w; bypass = w.bypass; level = w.level; pool = w.pool }) (changed_want cs w))) [
+    Keeps w
+    (cond b (record {
+      key = w.key;
+      shared = c.shared;
+      group = changed_group c.shared w;
+      bypass = w.bypass;
+      level = w.level;
+      pool = w.pool;
+    }) (changed_want cs w))) [
       | true ↦ record { key = refl; bypass = refl; level = refl; pool = refl }
       | false ↦ keeps-changed cs w
     ]
@@ -129,7 +137,8 @@ none-lost f e g (x ∷ rs) h [] b r is t =
     let here = (or_parts (granted_behind e x && not (granted_behind g (f x))) (some_lost_behind (e ++ x ∷ []) (g ++ f x ∷ []) rs (map f rs)) h).0 in
     let was : granted_behind e x ≡ true = subst (λ u. granted_behind e u ≡ true) (sym same) (subst (λ l. granted_behind l r ≡ true) (nil-append e) t) in
     let now : granted_behind g (f x) ≡ true =
-    elim (and_cases (granted_behind e x) (not (granted_behind g (f x))) here) [ inl lost ↦ absurd (both_ways (granted_behind e x) lost was) | inr held ↦ not-false _ held ] in
+    elim (and_cases (granted_behind e x) (not (granted_behind g (f x))) here)
+    [ inl lost ↦ absurd (both_ways (granted_behind e x) lost was) | inr held ↦ not-false _ held ] in
     subst (λ l. granted_behind l (f r) ≡ true) (sym (nil-append g)) (subst (λ u. granted_behind g (f u) ≡ true) same now)
 none-lost f e g (x ∷ rs) h (y ∷ a) b r is t =
     let same : x ≡ y = cc in

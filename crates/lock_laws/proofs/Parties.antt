@@ -54,7 +54,10 @@ one_party rs p key r w has_r has_w e none = go w.shared refl
     o = owner key rs r (Contains-Has (owners rs key) r has_r)
 
     go : (b : Bool) → w.shared ≡ b
-        → (owners rs key ≡ r ∷ []) ⊎ ((w.shared ≡ true) × ((s : Request) (v : Want) → Contains (owners rs key) s → Contains s.wants.items v → v.key ≡ key → (v.shared ≡ true) × (v.group ≡ w.group)))
+        → (owners rs key ≡ r ∷ [])
+        ⊎ ((w.shared ≡ true)
+        × ((s : Request) (v : Want) → Contains (owners rs key) s → Contains s.wants.items v → v.key ≡ key
+        → (v.shared ≡ true) × (v.group ≡ w.group)))
     go false is = inl (alone rs p key r w has_r has_w e (and_from _ _ (ap not is) (ap (λ u. not (is_some u)) none)))
     go true is = inr (
       is,
@@ -73,10 +76,16 @@ one_party rs p key r w has_r has_w e none = go w.shared refl
               | inl before ↦
                   let bare : v.pool ≡ None =
                   kin-no_pool w.pool v.pool (kin rs p r s w v (in-split rs r o.split) (in-split rs s q.split) hw hv (e ∙ sym f)).sizes none in
-                  let a = of-group w v (owners_agree rs (length o.split.before) (length q.split.before) r s w v before (at-split rs r o.split) (at-split rs s q.split) (granted-split rs s q.split q.granted) has_w has_v (e ∙ sym f) bare) in
+                  let a =
+                  of-group w v
+                  (owners_agree rs (length o.split.before) (length q.split.before) r s w v before (at-split rs r o.split)
+                  (at-split rs s q.split) (granted-split rs s q.split q.granted) has_w has_v (e ∙ sym f) bare) in
                   (a.0.1, sym a.1)
               | inr behind ↦
-                  let a = of-group v w (owners_agree rs (length q.split.before) (length o.split.before) s r v w behind (at-split rs s q.split) (at-split rs r o.split) (granted-split rs r o.split o.granted) has_v has_w (f ∙ sym e) none) in
+                  let a =
+                  of-group v w
+                  (owners_agree rs (length q.split.before) (length o.split.before) s r v w behind (at-split rs s q.split)
+                  (at-split rs r o.split) (granted-split rs r o.split o.granted) has_v has_w (f ∙ sym e) none) in
                   (a.0.0, a.1)
             ]
           ],

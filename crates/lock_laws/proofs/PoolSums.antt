@@ -79,7 +79,8 @@ room : (e : List Request) (key : Key) (size : ℕ) (r : Request) → Takes key s
     → sum_by amount_of (wants_at e key) + sum_by amount_of (wants_at (r ∷ []) key) ≤ size
 room e key size r t g =
     let fit : fits e t.want ≡ true = list_all-Has (fits e) r.wants.items t.want g t.has in
-    let pooled : fits_beside (wants_at e t.want.key) t.want (Some t.share) ≡ true = subst (λ o. fits_beside (wants_at e t.want.key) t.want o ≡ true) t.pool fit in
+    let pooled : fits_beside (wants_at e t.want.key) t.want (Some t.share) ≡ true =
+    subst (λ o. fits_beside (wants_at e t.want.key) t.want o ≡ true) t.pool fit in
     let sum : sum_by amount_of (wants_at e t.want.key) + t.share.amount ≤ t.share.size = leb-true _ _ pooled in
     let here : sum_by amount_of (wants_at e t.want.key) ≡ sum_by amount_of (wants_at e key) = ap (λ k. sum_by amount_of (wants_at e k)) t.of in
     omega (arith, sum, here, t.only, t.fit)
@@ -89,7 +90,9 @@ amounts-within : (key : Key) (size : ℕ) (e rs : List Request) (n : ℕ) → n 
     → ((r : Request) → Has rs r → names r.wants.items key ≡ true → Takes key size r)
     → n + sum_by amount_of (wants_at (chosen_behind (is_owner key) e rs) key) ≤ size
 amounts-within key size e [] n le fit takes = omega (arith, fit)
-amounts-within key size e (r ∷ rs) n le fit takes = go (is_owner key e r) refl (λ m below within. amounts-within key size (e ++ r ∷ []) rs m below within (λ q h. takes q (inr h)))
+amounts-within key size e (r ∷ rs) n le fit takes =
+    go (is_owner key e r) refl
+    (λ m below within. amounts-within key size (e ++ r ∷ []) rs m below within (λ q h. takes q (inr h)))
   where
     rest : List Request
     rest = chosen_behind (is_owner key) (e ++ r ∷ []) rs

@@ -156,8 +156,12 @@ none-bare r h = absurd h
 
 pub requests_are_simple : RequestsAreSimple
 requests_are_simple rs t = record {
-  owned = λ key. chosen-alike (is_owner key) (is_simple_owner key) (λ e r b own. ap (λ g. names r.wants.items key && g) (granted-simply e r b own)) [] rs none-bare (bare-all rs t);
-  awaited = λ key. chosen-alike (is_waiter key) (is_simple_waiter key) (λ e r b own. ap (λ g. names r.wants.items key && not g) (granted-simply e r b own)) [] rs none-bare (bare-all rs t);
+  owned =
+      λ key. chosen-alike (is_owner key) (is_simple_owner key)
+      (λ e r b own. ap (λ g. names r.wants.items key && g) (granted-simply e r b own)) [] rs none-bare (bare-all rs t);
+  awaited =
+      λ key. chosen-alike (is_waiter key) (is_simple_waiter key)
+      (λ e r b own. ap (λ g. names r.wants.items key && not g) (granted-simply e r b own)) [] rs none-bare (bare-all rs t);
   waits = λ job other. some-alike (is_blocked_by job other) (is_simply_blocked_by job other) (waits-alike job other) [] rs none-bare (bare-all rs t);
 }
 
@@ -210,7 +214,9 @@ lost-simply before after (r ∷ rest) [] a b c d = refl
 lost-simply before after (r ∷ rest) (s ∷ later) a b c d =
     let had = granted-simply before r a (c r (inl refl)) in
     let has = granted-simply after s b (d s (inl refl)) in
-    let behind = lost-simply (before ++ r ∷ []) (after ++ s ∷ []) rest later (bare-push before r a (c r (inl refl))) (bare-push after s b (d s (inl refl))) (λ q h. c q (inr h)) (λ q h. d q (inr h)) in
+    let behind =
+    lost-simply (before ++ r ∷ []) (after ++ s ∷ []) rest later (bare-push before r a (c r (inl refl)))
+    (bare-push after s b (d s (inl refl))) (λ q h. c q (inr h)) (λ q h. d q (inr h)) in
     λ i. (had i && not (has i)) || behind i
 
 -- a call leaves and answers the same
@@ -228,14 +234,18 @@ module _ (size : ℕ) (rs : List Request) (b : BareAll rs) (job : ℕ) where
     enqueue-bare (Some f) = b
     enqueue-bare None =
         elim (simply_granted (with_arrival rs job asking false wants) (length rs)) as (λ t.
-        BareAll (cond t (outcome (with_arrival rs job asking (is_interrupt asking.kind) wants) Granted) (not_granted rs (with_arrival rs job asking false wants) asking.kind)).requests) [
+        BareAll
+        (cond t (outcome (with_arrival rs job asking (is_interrupt asking.kind) wants) Granted)
+        (not_granted rs (with_arrival rs job asking false wants) asking.kind)).requests) [
           | true ↦ arrival-bare (is_interrupt asking.kind)
           | false ↦ not_granted-bare asking.kind
         ]
 
     arrival-simply : arrival rs job asking wants ≡ simple_arrival rs job asking wants
     arrival-simply =
-        ap (λ t. cond t (outcome (with_arrival rs job asking (is_interrupt asking.kind) wants) Granted) (not_granted rs (with_arrival rs job asking false wants) asking.kind))
+        ap
+        (λ t. cond t (outcome (with_arrival rs job asking (is_interrupt asking.kind) wants) Granted)
+        (not_granted rs (with_arrival rs job asking false wants) asking.kind))
         (granted_at-simply (with_arrival rs job asking false wants) (length rs) (arrival-bare false))
 
     refusal-simply : length rs ≤ size → size < asking.quota
@@ -244,7 +254,11 @@ module _ (size : ℕ) (rs : List Request) (b : BareAll rs) (job : ℕ) where
         let fewer = Sub-length (Sub-filter (λ r. r.job == job) rs) in
         let under : nat_le asking.quota (length (requests_of rs job)) ≡ false =
         lt-leb asking.quota (length (requests_of rs job)) (omega arith) in
-        ap (λ t. or_else (first_refusal (enqueue_fault rs job) [] wants.items) (or_else (refuse_if (some_too_low (wants_of rs job) wants.items) LevelOrder) (or_else (refuse_if (is_interrupt asking.kind && not asking.armed) NoVector) (or_else (refuse_if t OverQuota) (refuse_if (nat_le size (length rs)) QueueFull))))) under
+        ap
+        (λ t. or_else (first_refusal (enqueue_fault rs job) [] wants.items)
+        (or_else (refuse_if (some_too_low (wants_of rs job) wants.items) LevelOrder)
+        (or_else (refuse_if (is_interrupt asking.kind && not asking.armed) NoVector)
+        (or_else (refuse_if t OverQuota) (refuse_if (nat_le size (length rs)) QueueFull))))) under
 
     enqueue-simply : length rs ≤ size → size < asking.quota
         → outcome_of size rs job (Enqueue asking wants) ≡ simple_outcome size rs job (Enqueue asking wants)

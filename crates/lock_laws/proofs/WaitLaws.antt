@@ -14,7 +14,11 @@ told requests job = Retold-told (is_pending job) [] requests
 pub waiting_is_kept : (size : ℕ) → WaitingIsKept size
 waiting_is_kept size = record {
   by_calls = waits-call size;
-  by_releases = λ requests gone n h. (waits-releases (is_job_of gone) requests _ n (releases-released requests gone) h, jobs-released requests gone n (has-waiting _ n h));
+  by_releases =
+      λ requests gone n h. (
+        waits-releases (is_job_of gone) requests _ n (releases-released requests gone) h,
+        jobs-released requests gone n (has-waiting _ n h),
+      );
   by_withdrawals = λ requests waiters n h. waits-releases (λ n. waiters n ≡ true) requests _ n (releases-withdrawn requests waiters) h;
   by_telling = λ requests job n h. waits-retold requests _ n (told requests job) h;
 }

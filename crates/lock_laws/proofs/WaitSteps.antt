@@ -79,7 +79,10 @@ waits-releases whose before after n s h =
       is = o.is;
       by = sym o.by ∙ w.by;
       blocking = subst (λ k. is_blocking k ≡ true) o.kind w.blocking;
-      late = false_from_ne_true _ (λ t. both_ways (granted_behind w.before w.request) w.late (granted_behind-fewer w.before o.earlier w.request o.request o.fewer o.wants t));
+      late =
+          false_from_ne_true _
+          (λ t. both_ways (granted_behind w.before w.request) w.late
+          (granted_behind-fewer w.before o.earlier w.request o.request o.fewer o.wants t));
     })
 
 -- nor does telling
@@ -147,7 +150,8 @@ waits-changes before f n c h =
       blocking = subst (λ k. is_blocking k ≡ true) (sym (ap (λ (u : Request). u.kind) s.item_is) ∙ c.kind s.item) w.blocking;
       late = false_from_ne_true _ (λ t.
           let now : granted_behind w.before w.request ≡ true =
-          subst (λ l. granted_behind l w.request ≡ true) s.before_is (subst (λ u. granted_behind (map f s.before) u ≡ true) s.item_is (c.kept s.before s.after s.item s.is t)) in
+          subst (λ l. granted_behind l w.request ≡ true) s.before_is
+          (subst (λ u. granted_behind (map f s.before) u ≡ true) s.item_is (c.kept s.before s.after s.item s.is t)) in
           both_ways (granted_behind w.before w.request) w.late now);
     })
 
@@ -202,9 +206,12 @@ module _ (size : ℕ) (requests : List Request) (caller n : ℕ) (asking : Askin
   queues-arrival = go (granted (with_arrival requests caller asking false wants) (length requests)) refl
     where
       go : (b : Bool) → granted (with_arrival requests caller asking false wants) (length requests) ≡ b
-          → Queues requests caller n (cond b (outcome (with_arrival requests caller asking (is_interrupt asking.kind) wants) Granted) (not_granted requests (with_arrival requests caller asking false wants) asking.kind))
+          → Queues requests caller n
+          (cond b (outcome (with_arrival requests caller asking (is_interrupt asking.kind) wants) Granted)
+          (not_granted requests (with_arrival requests caller asking false wants) asking.kind))
       go true e h =
-          let t : granted_behind requests (request_of caller asking (is_interrupt asking.kind) wants) ≡ true = sym (granted_last requests (request_of caller asking false wants)) ∙ e in
+          let t : granted_behind requests (request_of caller asking (is_interrupt asking.kind) wants) ≡ true =
+          sym (granted_last requests (request_of caller asking false wants)) ∙ e in
           inl (waiting-granted requests (request_of caller asking (is_interrupt asking.kind) wants) n t h)
       go false e h = queues-not_granted asking.kind refl h
 
@@ -264,7 +271,10 @@ jobs-grows caller before after n (arrives r e a) h =
       ]
     ]
 jobs-grows caller before after n (changes f e c) h =
-    inl (jobs-from before (map f before) n (λ q k. let from = map-Has f before q k in (from.0, from.1, ap (λ (u : Request). u.job) (sym from.2) ∙ c.job from.0)) (subst (λ l. has_job l n ≡ true) e h))
+    inl
+    (jobs-from before (map f before) n
+    (λ q k. let from = map-Has f before q k in (from.0, from.1, ap (λ (u : Request). u.job) (sym from.2) ∙ c.job from.0))
+    (subst (λ l. has_job l n ≡ true) e h))
 
 jobs-step : {size : ℕ} (requests after : List Request) (caller n : ℕ) (call : LockCall) → Step size caller call requests after → has_job after n ≡ true
     → (has_job requests n ≡ true) ⊎ (n ≡ caller)
@@ -285,4 +295,5 @@ jobs-released requests gone n h mine =
 pub has-waiting : (requests : List Request) (n : ℕ) → is_waiting_job requests n ≡ true → has_job requests n ≡ true
 has-waiting requests n h =
     let w = waits_found requests n h in
-    list_any-Has (λ (q : Request). q.job == n) requests w.request (eq-eqb w.request.job n w.by) (subst (λ l. Has l w.request) (sym w.is) (Has-right w.before (w.request ∷ w.after) w.request (inl refl)))
+    list_any-Has (λ (q : Request). q.job == n) requests w.request (eq-eqb w.request.job n w.by)
+    (subst (λ l. Has l w.request) (sym w.is) (Has-right w.before (w.request ∷ w.after) w.request (inl refl)))

@@ -38,7 +38,9 @@ module _ (size : ℕ) (requests : List Request) (job : ℕ) (asking : Asking) (w
   well-granted : StaysWell → are_well_formed (arrival requests job asking wants).requests ≡ true
   well-granted arrives =
       elim (granted (with_arrival requests job asking false wants) (length requests)) as (λ b.
-      are_well_formed (cond b (outcome (with_arrival requests job asking (is_interrupt asking.kind) wants) Granted) (not_granted requests (with_arrival requests job asking false wants) asking.kind)).requests ≡ true) [
+      are_well_formed
+      (cond b (outcome (with_arrival requests job asking (is_interrupt asking.kind) wants) Granted)
+      (not_granted requests (with_arrival requests job asking false wants) asking.kind)).requests ≡ true) [
         | true ↦ arrives (is_interrupt asking.kind)
         | false ↦ well-not_granted arrives asking.kind
       ]

@@ -15,7 +15,8 @@ front-written text =
 
 pub filled-written : (text front : List ℕ) → front ≡ text → written text front ≡ filled_up (take (length text) (written text front))
 filled-written text front is =
-    ap (written text) is ∙ ap (λ l. text ++ l) (drop-replicate (length text) 32 0) ∙ ap filled_up (sym (ap (λ l. take (length text) (written text l)) is ∙ front-written text))
+    ap (written text) is ∙ ap (λ l. text ++ l) (drop-replicate (length text) 32 0)
+    ∙ ap filled_up (sym (ap (λ l. take (length text) (written text l)) is ∙ front-written text))
 
 pub written-utf8 : (text front : List ℕ) → front ≡ text → IsUtf8 text → ∥ IsUtf8 (take (length text) (written text front)) ∥₁
 written-utf8 text front is h = merely (subst IsUtf8 (sym (ap (λ l. take (length text) (written text l)) is ∙ front-written text)) h)

@@ -149,7 +149,9 @@ changed-key (c ∷ cs) w =
 changed-range : (cs : List Want) (w : Want) → is_in_range (changed_want cs w) ≡ is_in_range w
 changed-range [] w = refl
 changed-range (c ∷ cs) w =
-    elim (same_key w.key c.key) as (λ b. is_in_range (cond b (record w { shared = c.shared; group = changed_group c.shared w }) (changed_want cs w)) ≡ is_in_range w) [
+    elim (same_key w.key c.key) as
+    (λ b. is_in_range (cond b (record w { shared = c.shared; group = changed_group c.shared w }) (changed_want cs w))
+    ≡ is_in_range w) [
       | true ↦ refl
       | false ↦ changed-range cs w
     ]
@@ -274,7 +276,9 @@ module _ (requests : List Request) (job : ℕ) where
       → (list_all (λ u. list_all (λ v. not (same_key v.key u.key)) e) ws ≡ true) × (list_all (λ u. not (same_key w.key u.key)) ws ≡ true)
   parted e w [] h = (refl, refl)
   parted e w (u ∷ ws) h =
-      let p = and_parts (list_all (λ v. not (same_key v.key u.key)) (e ++ w ∷ [])) (list_all (λ u. list_all (λ v. not (same_key v.key u.key)) (e ++ w ∷ [])) ws) h in
+      let p =
+      and_parts (list_all (λ v. not (same_key v.key u.key)) (e ++ w ∷ []))
+      (list_all (λ u. list_all (λ v. not (same_key v.key u.key)) (e ++ w ∷ [])) ws) h in
       let rest = parted e w ws p.1 in
       let both : (list_all (λ v. not (same_key v.key u.key)) e && list_all (λ v. not (same_key v.key u.key)) (w ∷ [])) ≡ true =
       sym (list_all-append (λ v. not (same_key v.key u.key)) e (w ∷ [])) ∙ p.0 in
@@ -322,7 +326,9 @@ module _ (size : ℕ) (requests : List Request) (job : ℕ) (well : are_well_for
 
   well-where : (test : Request → Bool) → are_well_formed (dequeue_where requests test).requests ≡ true
   well-where test =
-      elim (list_any test requests) as (λ b. are_well_formed (cond b (outcome (filter (λ r. not (test r)) requests) Done) (outcome requests (Refused NotPresent))).requests ≡ true) [
+      elim (list_any test requests) as
+      (λ b. are_well_formed
+      (cond b (outcome (filter (λ r. not (test r)) requests) Done) (outcome requests (Refused NotPresent))).requests ≡ true) [
         | true ↦ well-sub requests _ (Sub-filter (λ r. not (test r)) requests) well
         | false ↦ well
       ]

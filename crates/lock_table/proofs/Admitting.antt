@@ -55,7 +55,8 @@ had_key s job key x present mine named =
     let here : Has (requests_in s) (request_at s x) = Has-map (request_at s) s.order x (there_Has s.order x present) in
     let own : Has (requests_of (requests_in s) job) (request_at s x) =
     Has-filter (λ (r : Request). r.job == job) (requests_in s) (request_at s x) (eq-eqb (request_at s x).job job mine) here in
-    names-Has (wants_of (requests_in s) job) key of.0 (Has-flat_map (λ (r : Request). r.wants.items) (requests_of (requests_in s) job) (request_at s x) of.0 own of.1) of.2
+    names-Has (wants_of (requests_in s) job) key of.0
+    (Has-flat_map (λ (r : Request). r.wants.items) (requests_of (requests_in s) job) (request_at s x) of.0 own of.1) of.2
 
 share_alike : (size : Option ℕ) (a b : Option PoolShare) → is_share_of size a ≡ true → same_pool_size a b ≡ true → is_share_of size b ≡ true
 share_alike (Some n) (Some a) (Some b) h e = eq-eqb b.size n (sym (eqb-true a.size b.size e) ∙ eqb-true a.size n h)
@@ -86,8 +87,12 @@ passed_one s job e w h =
     or_else-None (refuse_if (not (list_all (λ v. are_alike v w) (wants_at (requests_in s) w.key))) Differs)
     (refuse_if (names e w.key || names (wants_of (requests_in s) job) w.key) NamedAlready) h in
     record {
-      alike = not-false (list_all (λ v. are_alike v w) (wants_at (requests_in s) w.key)) (refuse_if-None (not (list_all (λ v. are_alike v w) (wants_at (requests_in s) w.key))) Differs both.0);
-      new = (or_parts (names e w.key) (names (wants_of (requests_in s) job) w.key) (refuse_if-None (names e w.key || names (wants_of (requests_in s) job) w.key) NamedAlready both.1)).1;
+      alike =
+          not-false (list_all (λ v. are_alike v w) (wants_at (requests_in s) w.key))
+          (refuse_if-None (not (list_all (λ v. are_alike v w) (wants_at (requests_in s) w.key))) Differs both.0);
+      new =
+          (or_parts (names e w.key) (names (wants_of (requests_in s) job) w.key)
+          (refuse_if-None (names e w.key || names (wants_of (requests_in s) job) w.key) NamedAlready both.1)).1;
     }
 
 -- no key of the wants is the job's already
@@ -95,20 +100,30 @@ pub fresh : (s : Stored) (job : ℕ) (e ws : List Want) (w : Want) → first_ref
     → names (wants_of (requests_in s) job) w.key ≡ false
 fresh s job e [] w h has = absurd has
 fresh s job e (v ∷ ws) w h (inl same) =
-    let passed = passed_one s job e v (or_else-None (enqueue_fault (requests_in s) job e v) (first_refusal (enqueue_fault (requests_in s) job) (e ++ v ∷ []) ws) h).0 in
+    let passed =
+    passed_one s job e v
+    (or_else-None (enqueue_fault (requests_in s) job e v) (first_refusal (enqueue_fault (requests_in s) job) (e ++ v ∷ []) ws)
+    h).0 in
     subst (λ (u : Want). names (wants_of (requests_in s) job) u.key ≡ false) same passed.new
 fresh s job e (v ∷ ws) w h (inr has) =
-    fresh s job (e ++ v ∷ []) ws w (or_else-None (enqueue_fault (requests_in s) job e v) (first_refusal (enqueue_fault (requests_in s) job) (e ++ v ∷ []) ws) h).1 has
+    fresh s job (e ++ v ∷ []) ws w
+    (or_else-None (enqueue_fault (requests_in s) job e v) (first_refusal (enqueue_fault (requests_in s) job) (e ++ v ∷ []) ws)
+    h).1 has
 
 -- each want is like the present ones of its key
 pub alike_of : (s : Stored) (job : ℕ) (e ws : List Want) (w : Want) → first_refusal (enqueue_fault (requests_in s) job) e ws ≡ None → Has ws w
     → list_all (λ v. are_alike v w) (wants_at (requests_in s) w.key) ≡ true
 alike_of s job e [] w h has = absurd has
 alike_of s job e (v ∷ ws) w h (inl same) =
-    let passed = passed_one s job e v (or_else-None (enqueue_fault (requests_in s) job e v) (first_refusal (enqueue_fault (requests_in s) job) (e ++ v ∷ []) ws) h).0 in
+    let passed =
+    passed_one s job e v
+    (or_else-None (enqueue_fault (requests_in s) job e v) (first_refusal (enqueue_fault (requests_in s) job) (e ++ v ∷ []) ws)
+    h).0 in
     subst (λ (u : Want). list_all (λ x. are_alike x u) (wants_at (requests_in s) u.key) ≡ true) same passed.alike
 alike_of s job e (v ∷ ws) w h (inr has) =
-    alike_of s job (e ++ v ∷ []) ws w (or_else-None (enqueue_fault (requests_in s) job e v) (first_refusal (enqueue_fault (requests_in s) job) (e ++ v ∷ []) ws) h).1 has
+    alike_of s job (e ++ v ∷ []) ws w
+    (or_else-None (enqueue_fault (requests_in s) job e v) (first_refusal (enqueue_fault (requests_in s) job) (e ++ v ∷ []) ws)
+    h).1 has
 
 module _ (size : ℕ) (s : Stored) (locks : List Lock) (buckets : List Bucket) (job : ℕ) where
   admits_one : (w : Want) → IsWhole size s locks buckets → is_job job ≡ true → Passed s job w → Admits locks w
@@ -157,7 +172,9 @@ module _ (size : ℕ) (s : Stored) (locks : List Lock) (buckets : List Bucket) (
 
   pub short_of : IsWhole size s locks buckets → AreShort s
   short_of whole x h =
-      let many = as_many_queues (λ w n. (state_of s locks).key n ≡ w.key) (request_at s x).wants.items (filed_at s x).queues.items (whole.table.kept.queues x h) in
+      let many =
+      as_many_queues (λ w n. (state_of s locks).key n ≡ w.key) (request_at s x).wants.items (filed_at s x).queues.items
+      (whole.table.kept.queues x h) in
       let r : Request = request_at s x in
       let both = and_parts (is_job r.job && (has_wants r && nat_le (length r.wants.items) LOCKS_A_CALL)) (are_right_wants r.wants.items) (whole.right x h) in
       let front = and_parts (is_job r.job) (has_wants r && nat_le (length r.wants.items) LOCKS_A_CALL) both.0 in
@@ -170,7 +187,9 @@ module _ (s t : Stored) (p job : ℕ) (r : Request) where
       → ((x : ℕ) → (x ≡ p → ⊥) → (filed_at t x).request ≡ (filed_at s x).request)
       → requests_in t ≡ requests_in s ++ r ∷ []
   requests_after out order mine others =
-      ap (map (request_at t)) order ∙ both s.order ∙ ap (λ l. l ++ request_at t p ∷ []) (map_same (request_at t) (request_at s) p s.order out others) ∙ ap (λ q. requests_in s ++ q ∷ []) mine
+      ap (map (request_at t)) order ∙ both s.order
+      ∙ ap (λ l. l ++ request_at t p ∷ []) (map_same (request_at t) (request_at s) p s.order out others)
+      ∙ ap (λ q. requests_in s ++ q ∷ []) mine
     where
       both : (xs : List ℕ) → map (request_at t) (xs ++ p ∷ []) ≡ map (request_at t) xs ++ request_at t p ∷ []
       both [] = refl
@@ -185,11 +204,19 @@ module _ (s t : Stored) (p job : ℕ) (r : Request) where
         | inl ex ↦
             elim (cases_eq y p) [
               | inl ey ↦ ex ∙ sym ey
-              | inr ney ↦ absurd (other y (was y ney hy) ney ny (sym e ∙ ap (λ z. (request_at t z).job) ex ∙ ap (λ (q : Request). q.job) mine ∙ job_is) (subst (λ z. names (request_at t z).wants.items key ≡ true) ex nx))
+              | inr ney ↦
+                  absurd
+                  (other y (was y ney hy) ney ny
+                  (sym e ∙ ap (λ z. (request_at t z).job) ex ∙ ap (λ (q : Request). q.job) mine ∙ job_is)
+                  (subst (λ z. names (request_at t z).wants.items key ≡ true) ex nx))
             ]
         | inr nex ↦
             elim (cases_eq y p) [
-              | inl ey ↦ absurd (other x (was x nex hx) nex nx (e ∙ ap (λ z. (request_at t z).job) ey ∙ ap (λ (q : Request). q.job) mine ∙ job_is) (subst (λ z. names (request_at t z).wants.items key ≡ true) ey ny))
+              | inl ey ↦
+                  absurd
+                  (other x (was x nex hx) nex nx
+                  (e ∙ ap (λ z. (request_at t z).job) ey ∙ ap (λ (q : Request). q.job) mine ∙ job_is)
+                  (subst (λ z. names (request_at t z).wants.items key ≡ true) ey ny))
               | inr ney ↦
                   apart x y key (was x nex hx) (was y ney hy)
                   (subst (λ (q : Request). names q.wants.items key ≡ true) (others x nex) nx)
@@ -214,9 +241,11 @@ module _ (s t : Stored) (p job : ℕ) (r : Request) where
           → ⊥
       other x h ne nx ex np =
           let of = names-found r.wants.items key (subst (λ (q : Request). names q.wants.items key ≡ true) mine np) in
-          let new : names (wants_of (requests_in s) job) key ≡ false = subst (λ k. names (wants_of (requests_in s) job) k ≡ false) of.2 (fresh s job [] r.wants.items of.0 passed of.1) in
+          let new : names (wants_of (requests_in s) job) key ≡ false =
+          subst (λ k. names (wants_of (requests_in s) job) k ≡ false) of.2 (fresh s job [] r.wants.items of.0 passed of.1) in
           both_ways (names (wants_of (requests_in s) job) key) new
-          (had_key s job key x h (sym (ap (λ (q : Request). q.job) (others x ne)) ∙ ex) (subst (λ (q : Request). names q.wants.items key ≡ true) (others x ne) nx))
+          (had_key s job key x h (sym (ap (λ (q : Request). q.job) (others x ne)) ∙ ex)
+          (subst (λ (q : Request). names q.wants.items key ≡ true) (others x ne) nx))
 
 -- the requests with one that comes are well-formed, and its keys are apart
 module _ (s : Stored) (job : ℕ) (asking : Asking) (wants : ArrayVec Want) where
@@ -232,7 +261,9 @@ module _ (s : Stored) (job : ℕ) (asking : Asking) (wants : ArrayVec Want) wher
   pub apart_after : are_well_formed (requests_in s ++ request_of job asking false wants ∷ []) ≡ true → are_apart wants.items ≡ true
   apart_after well =
       let r : Request = request_of job asking false wants in
-      let both = and_parts (are_well_formed (requests_in s)) (list_all is_well_formed (r ∷ [])) (sym (list_all-append is_well_formed (requests_in s) (r ∷ [])) ∙ well) in
+      let both =
+      and_parts (are_well_formed (requests_in s)) (list_all is_well_formed (r ∷ []))
+      (sym (list_all-append is_well_formed (requests_in s) (r ∷ [])) ∙ well) in
       let one = (and_parts (is_well_formed r) true both.1).0 in
       let parts = and_parts (is_job r.job && (has_wants r && nat_le (length r.wants.items) LOCKS_A_CALL)) (are_right_wants r.wants.items) one in
       (and_parts (list_all is_in_range r.wants.items && list_all shares_rightly r.wants.items) (are_apart r.wants.items) parts.1).1
@@ -242,12 +273,16 @@ module _ (rs : List Request) (job : ℕ) (asking : Asking) (wants : ArrayVec Wan
   pub arrives_granted : granted (with_arrival rs job asking false wants) (length rs) ≡ true
       → arrival rs job asking wants ≡ outcome (with_arrival rs job asking (is_interrupt asking.kind) wants) Granted
   arrives_granted h =
-      ap (λ b. cond b (outcome (with_arrival rs job asking (is_interrupt asking.kind) wants) Granted) (not_granted rs (with_arrival rs job asking false wants) asking.kind)) h
+      ap
+      (λ b. cond b (outcome (with_arrival rs job asking (is_interrupt asking.kind) wants) Granted)
+      (not_granted rs (with_arrival rs job asking false wants) asking.kind)) h
 
   pub arrives_waiting : granted (with_arrival rs job asking false wants) (length rs) ≡ false
       → arrival rs job asking wants ≡ not_granted rs (with_arrival rs job asking false wants) asking.kind
   arrives_waiting h =
-      ap (λ b. cond b (outcome (with_arrival rs job asking (is_interrupt asking.kind) wants) Granted) (not_granted rs (with_arrival rs job asking false wants) asking.kind)) h
+      ap
+      (λ b. cond b (outcome (with_arrival rs job asking (is_interrupt asking.kind) wants) Granted)
+      (not_granted rs (with_arrival rs job asking false wants) asking.kind)) h
 
 pub knows : (job : ℕ) (asking : Asking) (wants : ArrayVec Want) (r : Request) → r ≡ request_of job asking false wants
     → cond (is_interrupt asking.kind) (as_told r) r ≡ request_of job asking (is_interrupt asking.kind) wants

@@ -90,7 +90,8 @@ changed_key : (cs : List Want) (w : Want) → (changed_want cs w).key ≡ w.key
 changed_key [] w = refl
 changed_key (c ∷ cs) w = go (same_key w.key c.key) (changed_key cs w)
   where
-    go : (b : Bool) → (changed_want cs w).key ≡ w.key → (cond b (record w { shared = c.shared; group = changed_group c.shared w }) (changed_want cs w)).key ≡ w.key
+    go : (b : Bool) → (changed_want cs w).key ≡ w.key
+        → (cond b (record w { shared = c.shared; group = changed_group c.shared w }) (changed_want cs w)).key ≡ w.key
     go true h = refl
     go false h = h
 
@@ -98,7 +99,8 @@ changed_level : (cs : List Want) (w : Want) → (changed_want cs w).level ≡ w.
 changed_level [] w = refl
 changed_level (c ∷ cs) w = go (same_key w.key c.key) (changed_level cs w)
   where
-    go : (b : Bool) → (changed_want cs w).level ≡ w.level → (cond b (record w { shared = c.shared; group = changed_group c.shared w }) (changed_want cs w)).level ≡ w.level
+    go : (b : Bool) → (changed_want cs w).level ≡ w.level
+        → (cond b (record w { shared = c.shared; group = changed_group c.shared w }) (changed_want cs w)).level ≡ w.level
     go true h = refl
     go false h = h
 
@@ -106,7 +108,10 @@ level_mapped : (cs ws : List Want) (key : Key)
     → first_level (filter (λ v. same_key v.key key) (map (changed_want cs) ws)) ≡ first_level (filter (λ v. same_key v.key key) ws)
 level_mapped cs [] key = refl
 level_mapped cs (w ∷ ws) key =
-    ap (λ k. first_level (cond (same_key k key) (changed_want cs w ∷ filter t (map (changed_want cs) ws)) (filter t (map (changed_want cs) ws)))) (changed_key cs w)
+    ap
+    (λ k. first_level
+    (cond (same_key k key) (changed_want cs w ∷ filter t (map (changed_want cs) ws)) (filter t (map (changed_want cs) ws))))
+    (changed_key cs w)
     ∙ go (same_key w.key key) (level_mapped cs ws key)
   where
     t : Want → Bool

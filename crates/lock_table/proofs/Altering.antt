@@ -39,7 +39,8 @@ unnamed_stays [] w key e f = refl
 unnamed_stays (c ∷ cs) w key e f =
     let parts = or_parts (same_key c.key key) (names cs key) f in
     let other : same_key w.key c.key ≡ false =
-    false_from_ne_true (same_key w.key c.key) (λ t. both_ways (same_key c.key key) parts.0 (subst (λ k. same_key c.key k ≡ true) e (same_key-swap w.key c.key t))) in
+    false_from_ne_true (same_key w.key c.key)
+    (λ t. both_ways (same_key c.key key) parts.0 (subst (λ k. same_key c.key k ≡ true) e (same_key-swap w.key c.key t))) in
     rw other (unnamed_stays cs w key e parts.1)
 
 -- a want of a change's key
@@ -54,7 +55,8 @@ first_named (d ∷ cs) c w apart (inr h) e =
     let parts = and_parts (list_all (λ v. not (same_key d.key v.key)) cs) (are_apart cs) apart in
     let ne : same_key d.key c.key ≡ false = not-true (same_key d.key c.key) (list_all-Has (λ v. not (same_key d.key v.key)) cs c parts.0 h) in
     let other : same_key w.key d.key ≡ false =
-    false_from_ne_true (same_key w.key d.key) (λ t. both_ways (same_key d.key c.key) ne (subst (λ k. same_key d.key k ≡ true) e (same_key-swap w.key d.key t))) in
+    false_from_ne_true (same_key w.key d.key)
+    (λ t. both_ways (same_key d.key c.key) ne (subst (λ k. same_key d.key k ≡ true) e (same_key-swap w.key d.key t))) in
     rw other (first_named cs c w parts.1 h e)
 
 -- the first change, and then the others
@@ -79,7 +81,9 @@ pub own_changed : (cs ws : List Want) (key : Key)
     → filter (λ w. same_key w.key key) (map (changed_want cs) ws) ≡ map (changed_want cs) (filter (λ w. same_key w.key key) ws)
 own_changed cs [] key = refl
 own_changed cs (w ∷ ws) key =
-    ap (λ k. cond (same_key k key) (changed_want cs w ∷ filter (λ w. same_key w.key key) (map (changed_want cs) ws)) (filter (λ w. same_key w.key key) (map (changed_want cs) ws))) (changed_key cs w)
+    ap
+    (λ k. cond (same_key k key) (changed_want cs w ∷ filter (λ w. same_key w.key key) (map (changed_want cs) ws))
+    (filter (λ w. same_key w.key key) (map (changed_want cs) ws))) (changed_key cs w)
     ∙ ap (λ l. cond (same_key w.key key) (changed_want cs w ∷ l) l) (own_changed cs ws key)
     ∙ go (same_key w.key key)
   where
@@ -218,9 +222,12 @@ pub changed_then : (job : ℕ) (c : Want) (later : List Want) (r : Request) → 
 changed_then job c later r f = go (r.job == job) refl
   where
     go : (b : Bool) → (r.job == job) ≡ b
-        → changed job later (cond b (with_wants r (map (changed_want (c ∷ [])) r.wants.items)) r) ≡ cond b (with_wants r (map (changed_want (c ∷ later)) r.wants.items)) r
+        → changed job later (cond b (with_wants r (map (changed_want (c ∷ [])) r.wants.items)) r)
+        ≡ cond b (with_wants r (map (changed_want (c ∷ later)) r.wants.items)) r
     go true e =
-        ap (λ b. cond b (with_wants r (map (changed_want later) (map (changed_want (c ∷ [])) r.wants.items))) (with_wants r (map (changed_want (c ∷ [])) r.wants.items))) e
+        ap
+        (λ b. cond b (with_wants r (map (changed_want later) (map (changed_want (c ∷ [])) r.wants.items)))
+        (with_wants r (map (changed_want (c ∷ [])) r.wants.items))) e
         ∙ ap (with_wants r)
         (map_twice (changed_want later) (changed_want (c ∷ [])) r.wants.items
         ∙ map_each (λ w. changed_want later (changed_want (c ∷ []) w)) (changed_want (c ∷ later)) r.wants.items (λ w h. changed_first c later w f))

@@ -112,7 +112,8 @@ pub record Given (store : Stored) (locks : List Lock) (p k : ℕ) : Type 0 where
   pub wants_in : k < length (filed_at store p).request.wants.items
   pub lock_in : own_at store p k < length locks
   pub place_in : position_or_len (λ m. m == p) (lock_at locks (own_at store p k)).queue.places < length (lock_at locks (own_at store p k)).queue.places
-  pub place_is : slice_get (lock_at locks (own_at store p k)).queue.places (position_or_len (λ m. m == p) (lock_at locks (own_at store p k)).queue.places) ≡ Some p
+  pub place_is : slice_get (lock_at locks (own_at store p k)).queue.places
+      (position_or_len (λ m. m == p) (lock_at locks (own_at store p k)).queue.places) ≡ Some p
 
 pub given : (store : Stored) (locks : List Lock) (p k : ℕ) → IsKept (state_of store locks)
     → is_there p store.order ≡ true

@@ -65,7 +65,8 @@ full_but_changed s t locks more job changes table i x m stands f =
     (ap (λ l. wants_at (map (request_at t) l) (lock_at locks m).key) i.order
     ∙ wants_same_there (lock_at locks m).key (request_at s) (request_at t) s.order
     (λ y present.
-    ap (own_wants (lock_at locks m).key) (sym (changed_none job (request_at t y)) ∙ i.at y present) ∙ own_unnamed job changes (request_at s y) (lock_at locks m).key f_s))
+    ap (own_wants (lock_at locks m).key) (sym (changed_none job (request_at t y)) ∙ i.at y present)
+    ∙ own_unnamed job changes (request_at s y) (lock_at locks m).key f_s))
     (table.full x m (record { present = there; there = subst (λ l. is_there m l ≡ true) (i.own x) stands.there }))
 
 -- one more key
@@ -88,7 +89,9 @@ extending_more s0 s t locks0 locks more c later i e = record {
           present = subst (λ l. is_there x l ≡ true) e.order stands.present;
           there = subst (λ l. is_there m l ≡ true) (e.own x) stands.there;
         }) (or_from (same_key c.key (lock_at locks m).key) (names later (lock_at locks m).key) other f_s) in
-        still_full s t locks more m (e.keys m) (e.others m (λ k. both_ways (same_key c.key (lock_at locks m).key) other (eq-same_key c.key (lock_at locks m).key (sym k))))
+        still_full s t locks more m (e.keys m)
+        (e.others m
+        (λ k. both_ways (same_key c.key (lock_at locks m).key) other (eq-same_key c.key (lock_at locks m).key (sym k))))
         (ap (λ l. wants_at (map (request_at t) l) (lock_at locks m).key) e.order
         ∙ wants_same (lock_at locks m).key (request_at s) (request_at t) s.order (λ y. ap (own_wants (lock_at locks m).key) (e.at y)))
         was
@@ -121,7 +124,9 @@ pub modified : (requests : List Request) (job : ℕ) (changes : List Want) → f
     → some_lost requests (with_changes requests job changes) ≡ false
     → modify requests job changes ≡ outcome (with_changes requests job changes) Done
 modified requests job changes none kept =
-    ap (λ o. unless_refused requests (or_else o (refuse_if (some_lost requests (with_changes requests job changes)) WouldLose)) (outcome (with_changes requests job changes) Done)) none
+    ap
+    (λ o. unless_refused requests (or_else o (refuse_if (some_lost requests (with_changes requests job changes)) WouldLose))
+    (outcome (with_changes requests job changes) Done)) none
     ∙ ap (λ b. unless_refused requests (refuse_if b WouldLose) (outcome (with_changes requests job changes) Done)) kept
 
 -- right requests are well-formed

@@ -106,14 +106,26 @@ quiet size requests job (DequeueNamed wants) e = refused _ _ e (woken (left_of j
     refused (Some f) l e grants = refl
 quiet size requests job DequeueAll e = where_none (list_any (is_of_job job) requests) e
   where
-    where_none : (b : Bool) → is_done (cond b (outcome (filter (λ r. not (is_of_job job r)) requests) Done) (outcome requests (Refused NotPresent))).reply ≡ false
-        → [] ≡ unless_refused_grants (cond b (outcome (filter (λ r. not (is_of_job job r)) requests) Done) (outcome requests (Refused NotPresent))).reply (woken (left_of job DequeueAll) requests)
+    where_none : (b : Bool)
+        → is_done
+        (cond b (outcome (filter (λ r. not (is_of_job job r)) requests) Done) (outcome requests (Refused NotPresent))).reply
+        ≡ false
+        → []
+        ≡ unless_refused_grants
+        (cond b (outcome (filter (λ r. not (is_of_job job r)) requests) Done) (outcome requests (Refused NotPresent))).reply
+        (woken (left_of job DequeueAll) requests)
     where_none true e = cc
     where_none false e = refl
 quiet size requests job (DequeueId id) e = where_none (list_any (has_id job id) requests) e
   where
-    where_none : (b : Bool) → is_done (cond b (outcome (filter (λ r. not (has_id job id r)) requests) Done) (outcome requests (Refused NotPresent))).reply ≡ false
-        → [] ≡ unless_refused_grants (cond b (outcome (filter (λ r. not (has_id job id r)) requests) Done) (outcome requests (Refused NotPresent))).reply (woken (left_of job (DequeueId id)) requests)
+    where_none : (b : Bool)
+        → is_done
+        (cond b (outcome (filter (λ r. not (has_id job id r)) requests) Done) (outcome requests (Refused NotPresent))).reply
+        ≡ false
+        → []
+        ≡ unless_refused_grants
+        (cond b (outcome (filter (λ r. not (has_id job id r)) requests) Done) (outcome requests (Refused NotPresent))).reply
+        (woken (left_of job (DequeueId id)) requests)
     where_none true e = cc
     where_none false e = refl
 

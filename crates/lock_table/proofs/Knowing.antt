@@ -155,7 +155,8 @@ module _ (test : List Request → Request → Bool) (at : ℕ → Request) (mark
       here = right before xs x is
 
       step : (b : Bool) → test (map at before) (at x) ≡ b
-          → told_behind test (map at before) (at x ∷ map at xs) ≡ cond b (as_told (at x) ∷ map at xs) (at x ∷ told_behind test (map at before ++ at x ∷ []) (map at xs))
+          → told_behind test (map at before) (at x ∷ map at xs)
+          ≡ cond b (as_told (at x) ∷ map at xs) (at x ∷ told_behind test (map at before ++ at x ∷ []) (map at xs))
       step b h = ap (λ c. cond c (as_told (at x) ∷ map at xs) (at x ∷ told_behind test (map at before ++ at x ∷ []) (map at xs))) h
 
       go : (b : Bool) → mark x ≡ b → cond b (Some x) (find mark xs) ≡ Some p
@@ -202,7 +203,8 @@ module _ (s : Stored) (locks : List Lock) (job : ℕ) (table : IsTable (state_of
   marks_right : (before after : List ℕ) (p : ℕ) → s.order ≡ before ++ p ∷ after → is_pending job (map (request_at s) before) (request_at s p) ≡ marks p
   unfolding marks
   marks_right before after p is =
-      ap (λ b. (((request_at s p).job == job && is_interrupt (request_at s p).kind) && not (request_at s p).told) && b) (sym (flags_tell_grants (state_of s locks) table.kept table.full table.flags before after p is))
+      ap (λ b. (((request_at s p).job == job && is_interrupt (request_at s p).kind) && not (request_at s p).told) && b)
+      (sym (flags_tell_grants (state_of s locks) table.kept table.full table.flags before after p is))
       ∙ assoc ((request_at s p).job == job) (is_interrupt (request_at s p).kind) (not (request_at s p).told) (filed_at s p).granted
 
   pub told_is : (t : Stored) (p : ℕ) → find (λ x. is_pending_filed (filed_at s x)) (places_of s job) ≡ Some p
@@ -214,14 +216,20 @@ module _ (s : Stored) (locks : List Lock) (job : ℕ) (table : IsTable (state_of
   told_is t p found order mine others =
       let each : (x : ℕ) → request_at t x ≡ cond (x == p) (as_told (request_at s x)) (request_at s x) =
       λ x. elim (cases_eq x p) [
-        | inl e ↦ subst (λ y. request_at t y ≡ cond (y == p) (as_told (request_at s y)) (request_at s y)) (sym e) (mine ∙ ap (λ b. cond b (as_told (request_at s p)) (request_at s p)) (sym (eq-eqb p p refl)))
+        | inl e ↦
+            subst (λ y. request_at t y ≡ cond (y == p) (as_told (request_at s y)) (request_at s y)) (sym e)
+            (mine ∙ ap (λ b. cond b (as_told (request_at s p)) (request_at s p)) (sym (eq-eqb p p refl)))
         | inr ne ↦ others x ne ∙ ap (λ b. cond b (as_told (request_at s x)) (request_at s x)) (sym (ne_eqb x p ne))
       ] in
       ap (map (request_at t)) order
       ∙ ap (λ (g : ℕ → Request). map g s.order) (λ i x. each x i)
-      ∙ sym (told_first (is_pending job) (request_at s) marks s.order marks_right [] s.order p table.kept.once refl (sym (find_among (is_of s job) (λ x. is_pending_filed (filed_at s x)) s.order) ∙ found))
+      ∙ sym
+      (told_first (is_pending job) (request_at s) marks s.order marks_right [] s.order p table.kept.once refl
+      (sym (find_among (is_of s job) (λ x. is_pending_filed (filed_at s x)) s.order) ∙ found))
 
   pub none_told : find (λ x. is_pending_filed (filed_at s x)) (places_of s job) ≡ None → requests_in s ≡ told_of (requests_in s) job
   unfolding marks
   none_told found =
-      sym (told_none (is_pending job) (request_at s) marks s.order marks_right [] s.order refl (sym (find_among (is_of s job) (λ x. is_pending_filed (filed_at s x)) s.order) ∙ found))
+      sym
+      (told_none (is_pending job) (request_at s) marks s.order marks_right [] s.order refl
+      (sym (find_among (is_of s job) (λ x. is_pending_filed (filed_at s x)) s.order) ∙ found))

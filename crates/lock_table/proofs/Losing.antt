@@ -112,7 +112,9 @@ module _ (job : ℕ) (cs : List Want) (at : ℕ → Request) (order : List ℕ) 
       → list_all (λ w. is_share_of size w.pool) (own_wants key (new x)) ≡ list_all (λ w. is_share_of size w.pool) (own_wants key (at x))
   pools_own size key x = ap (list_all (λ w. is_share_of size w.pool)) (own_of_changed job cs (at x) key) ∙ go ((at x).job == job)
     where
-      go : (b : Bool) → list_all (λ w. is_share_of size w.pool) (cond b (map (changed_want cs) (own_wants key (at x))) (own_wants key (at x))) ≡ list_all (λ w. is_share_of size w.pool) (own_wants key (at x))
+      go : (b : Bool)
+          → list_all (λ w. is_share_of size w.pool) (cond b (map (changed_want cs) (own_wants key (at x))) (own_wants key (at x)))
+          ≡ list_all (λ w. is_share_of size w.pool) (own_wants key (at x))
       go true = pools_of size (own_wants key (at x))
       go false = refl
 
@@ -189,7 +191,9 @@ module _ (s : State) (job : ℕ) (cs : List Want) (t : IsTable s) where
 
   stays_granted : (before after : List ℕ) (p : ℕ) → s.order ≡ before ++ p ∷ after → granted_behind (map then before) (then p) ≡ stays p
   stays_granted before after p is =
-      list_all_same (fits (map then before)) (λ w. is_there p (take (fitting (wants_at (map then s.order) w.key)) (places_at then s.order w.key))) (then p).wants.items
+      list_all_same (fits (map then before))
+      (λ w. is_there p (take (fitting (wants_at (map then s.order) w.key)) (places_at then s.order w.key)))
+      (then p).wants.items
       (λ w h.
       let alike = alike_of s w.key t in
       fits_in_order then s.order before after p alike.0 w t.kept.once apart_then is h
@@ -234,14 +238,19 @@ module _ (s : State) (job : ℕ) (cs : List Want) (t : IsTable s) where
                 let at_key : is_there p (take (fitting (wants_at (map s.at s.order) w.key)) (places_at s.at s.order w.key)) ≡ true =
                 subst (λ k. is_there p (take (fitting (wants_at (map s.at s.order) k)) (places_at s.at s.order k)) ≡ true) of.2 within in
                 ap (λ l. is_there p (take (fitting (wants_at (map then s.order) w.key)) l)) (places_changed job cs s.at s.order w.key)
-                ∙ ap (λ l. is_there p (take (fitting l) (places_at s.at s.order w.key))) (wants_same w.key s.at then s.order (λ x. own_unnamed job cs (s.at x) w.key e))
+                ∙ ap (λ l. is_there p (take (fitting l) (places_at s.at s.order w.key)))
+                (wants_same w.key s.at then s.order (λ x. own_unnamed job cs (s.at x) w.key e))
                 ∙ at_key
             go true e =
                 let of = names-found cs w.key e in
                 let k : ℕ = fitting_then s.at s.order job of.0 in
-                let there_c : is_there p (places_at s.at s.order of.0.key) ≡ true = subst (λ q. is_there p (places_at s.at s.order q) ≡ true) (sym of.2) there in
+                let there_c : is_there p (places_at s.at s.order of.0.key) ≡ true =
+                subst (λ q. is_there p (places_at s.at s.order q) ≡ true) (sym of.2) there in
                 let front : is_there p (take k (places_at s.at s.order of.0.key)) ≡ true =
-                elim (or_cases (is_there p (take k (places_at s.at s.order of.0.key))) (is_there p (drop k (places_at s.at s.order of.0.key))) (sym (there_parts k p (places_at s.at s.order of.0.key)) ∙ there_c)) [
+                elim
+                (or_cases (is_there p (take k (places_at s.at s.order of.0.key)))
+                (is_there p (drop k (places_at s.at s.order of.0.key)))
+                (sym (there_parts k p (places_at s.at s.order of.0.key)) ∙ there_c)) [
                   | inl f ↦ f
                   | inr b ↦
                       absurd (both_ways (is_lost_by s.at s.flag s.order job of.0) (safe of.0 of.1)
@@ -261,7 +270,9 @@ module _ (s : State) (job : ℕ) (cs : List Want) (t : IsTable s) where
         let p : ℕ = found.0 in
         let behind : is_there p (drop k (places_at s.at s.order c.key)) ≡ true = Has-there (drop k (places_at s.at s.order c.key)) p found.1 in
         let there : is_there p (places_at s.at s.order c.key) ≡ true =
-        there_parts k p (places_at s.at s.order c.key) ∙ or_true (is_there p (take k (places_at s.at s.order c.key))) (is_there p (drop k (places_at s.at s.order c.key))) behind in
+        there_parts k p (places_at s.at s.order c.key)
+        ∙ or_true (is_there p (take k (places_at s.at s.order c.key))) (is_there p (drop k (places_at s.at s.order c.key)))
+        behind in
         let both = there_kept (λ x. names (s.at x).wants.items c.key) p s.order there in
         let of = names-found (then p).wants.items c.key (named_changed job cs (s.at p) c.key ∙ both.1) in
         let once : StandsOnce (places_at s.at s.order c.key) = stands_filter (λ x. names (s.at x).wants.items c.key) s.order t.kept.once in
@@ -273,7 +284,10 @@ module _ (s : State) (job : ℕ) (cs : List Want) (t : IsTable s) where
         let here : is_there p (take (fitting (wants_at (map then s.order) of.0.key)) (places_at then s.order of.0.key)) ≡ false =
         subst (λ q. is_there p (take (fitting (wants_at (map then s.order) q)) (places_at then s.order q)) ≡ false) (sym of.2) then_c in
         let falls : stays p ≡ false =
-        false_from_ne_true (stays p) (λ all. both_ways _ here (list_all-Has (λ w. is_there p (take (fitting (wants_at (map then s.order) w.key)) (places_at then s.order w.key))) (then p).wants.items of.0 all of.1)) in
+        false_from_ne_true (stays p)
+        (λ all. both_ways _ here
+        (list_all-Has (λ w. is_there p (take (fitting (wants_at (map then s.order) w.key)) (places_at then s.order w.key)))
+        (then p).wants.items of.0 all of.1)) in
         list_any-Has (λ p. s.flag p && not (stays p)) s.order p (ap (λ b. b && not (stays p)) found.2 ∙ ap not falls) (there_Has p s.order both.0)
       where
         or_true : (a b : Bool) → b ≡ true → (a || b) ≡ true

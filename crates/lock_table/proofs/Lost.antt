@@ -131,7 +131,8 @@ key_given store later locks more p k key table present want lost =
     let s : State = state_of store locks in
     let few = as_many_queues (λ w n. s.key n ≡ w.key) (s.at p).wants.items (s.own p) (table.kept.queues p present) in
     lost.left
-    ∙ ap (with_wants (filed_at store p).request) (remove_key (filed_at store p).request.wants.items k key (table.kept.apart p) (omega (arith, want.within, few)) want.of)
+    ∙ ap (with_wants (filed_at store p).request)
+    (remove_key (filed_at store p).request.wants.items k key (table.kept.apart p) (omega (arith, want.within, few)) want.of)
 
 -- a request without wants has no queues
 pub none_left : (store : Stored) (locks : List Lock) (p : ℕ) → IsTable (state_of store locks)

@@ -71,7 +71,10 @@ is_next s job named i passed lt =
     let none = passes_at (dequeue_fault (requests_in s) job) [] named i passed lt in
     let both = or_else-None (refuse_if (names (take i named) key) NamedAlready) (refuse_if (not (names (wants_of (requests_in s) job) key)) NotPresent) none in
     record {
-      has = has_key s job key (not-false (names (wants_of (requests_in s) job) key) (refuse_if-None (not (names (wants_of (requests_in s) job) key)) NotPresent both.1));
+      has =
+          has_key s job key
+          (not-false (names (wants_of (requests_in s) job) key)
+          (refuse_if-None (not (names (wants_of (requests_in s) job) key)) NotPresent both.1));
       new = refuse_if-None (names (take i named) key) NamedAlready both.0;
     }
 
@@ -93,7 +96,10 @@ pub fewer_named : (s : Stored) (job : ℕ) (named : List Want) (x : ℕ) (key : 
     → names (request_at s x).wants.items key ≡ true
 fewer_named s job named x key h = go ((request_at s x).job == job) h
   where
-    go : (b : Bool) → names (cond b (with_wants (request_at s x) (filter (λ w. not (names named w.key)) (request_at s x).wants.items)) (request_at s x)).wants.items key ≡ true
+    go : (b : Bool)
+        → names
+        (cond b (with_wants (request_at s x) (filter (λ w. not (names named w.key)) (request_at s x).wants.items))
+        (request_at s x)).wants.items key ≡ true
         → names (request_at s x).wants.items key ≡ true
     go true t = names_fewer (λ w. not (names named w.key)) (request_at s x).wants.items key t
     go false t = t
@@ -101,7 +107,9 @@ fewer_named s job named x key h = go ((request_at s x).job == job) h
 pub job_named : (s : Stored) (job : ℕ) (named : List Want) (x : ℕ) → (left_named s job named x).job ≡ (request_at s x).job
 job_named s job named x = go ((request_at s x).job == job)
   where
-    go : (b : Bool) → (cond b (with_wants (request_at s x) (filter (λ w. not (names named w.key)) (request_at s x).wants.items)) (request_at s x)).job ≡ (request_at s x).job
+    go : (b : Bool)
+        → (cond b (with_wants (request_at s x) (filter (λ w. not (names named w.key)) (request_at s x).wants.items))
+        (request_at s x)).job ≡ (request_at s x).job
     go true = refl
     go false = refl
 
@@ -154,7 +162,10 @@ pub still_named : (s : Stored) (job : ℕ) (named : List Want) (x : ℕ) (key : 
     → names (left_named s job named x).wants.items key ≡ true
 still_named s job named x key h new = go ((request_at s x).job == job)
   where
-    go : (b : Bool) → names (cond b (with_wants (request_at s x) (filter (λ w. not (names named w.key)) (request_at s x).wants.items)) (request_at s x)).wants.items key ≡ true
+    go : (b : Bool)
+        → names
+        (cond b (with_wants (request_at s x) (filter (λ w. not (names named w.key)) (request_at s x).wants.items))
+        (request_at s x)).wants.items key ≡ true
     go true = names_left (request_at s x).wants.items named key h new
     go false = h
 
@@ -170,7 +181,9 @@ filter_more named w [] = refl
 filter_more named w (v ∷ ws) = go (names named v.key) (same_key w.key v.key) refl refl (filter_more named w ws)
   where
     both : (b c : Bool) → names named v.key ≡ b → same_key w.key v.key ≡ c → names (named ++ w ∷ []) v.key ≡ (b || c)
-    both b c e f = list_any-append (λ u. same_key u.key v.key) named (w ∷ []) ∙ ap (λ d. d || (same_key w.key v.key || false)) e ∙ ap (λ d. b || (d || false)) f ∙ or_last b c
+    both b c e f =
+        list_any-append (λ u. same_key u.key v.key) named (w ∷ []) ∙ ap (λ d. d || (same_key w.key v.key || false)) e
+        ∙ ap (λ d. b || (d || false)) f ∙ or_last b c
 
     rest : List Want
     rest = filter (λ u. not (names named u.key)) ws
@@ -186,7 +199,9 @@ filter_more named w (v ∷ ws) = go (names named v.key) (same_key w.key v.key) r
         → filter (λ u. not (names (named ++ w ∷ []) u.key)) (v ∷ ws) ≡ filter (λ u. not (same_key w.key u.key)) (cond (not b) (v ∷ rest) rest)
     go true c e f h = ap (λ d. cond (not d) (v ∷ longer) longer) (both true c e f) ∙ h
     go false true e f h = ap (λ d. cond (not d) (v ∷ longer) longer) (both false true e f) ∙ h ∙ sym (ap (λ d. cond (not d) (v ∷ later) later) f)
-    go false false e f h = ap (λ d. cond (not d) (v ∷ longer) longer) (both false false e f) ∙ ap (λ l. v ∷ l) h ∙ sym (ap (λ d. cond (not d) (v ∷ later) later) f)
+    go false false e f h =
+        ap (λ d. cond (not d) (v ∷ longer) longer) (both false false e f) ∙ ap (λ l. v ∷ l) h
+        ∙ sym (ap (λ d. cond (not d) (v ∷ later) later) f)
 
 left_more : (s : Stored) (job : ℕ) (named : List Want) (w : Want) (x : ℕ)
     → left_named s job (named ++ w ∷ []) x ≡ cond ((request_at s x).job == job) (without_key w.key (left_named s job named x)) (request_at s x)
@@ -245,7 +260,8 @@ module _ (s t u : Stored) (job i : ℕ) (named : List Want) (p : ℕ) where
   next_present once next left =
       let h = next.has in
       let still = still_named s job (take i named) h.place (get_or named i unused_want).key h.named next.new in
-      let stays : has_wants (left_named s job (take i named) h.place) ≡ true = has_where_named (left_named s job (take i named) h.place) (get_or named i unused_want).key still in
+      let stays : has_wants (left_named s job (take i named) h.place) ≡ true =
+      has_where_named (left_named s job (take i named) h.place) (get_or named i unused_want).key still in
       let present : is_there h.place t.order ≡ true =
       ap (is_there h.place) left.order ∙ kept_there (λ x. has_wants (left_named s job (take i named) x)) h.place s.order h.present stays in
       let is = left.left h.place present in
@@ -270,7 +286,9 @@ module _ (s t u : Stored) (job i : ℕ) (named : List Want) (p : ℕ) where
     left =
         λ x h.
         elim (cases_eq x p) [
-          | inl e ↦ subst (λ z. (filed_at u z).request ≡ f2 z) (sym e) (given (subst (λ z. is_there z u.order ≡ true) e h) ∙ ap (without_key w.key) (left.left p present) ∙ sym at_p)
+          | inl e ↦
+              subst (λ z. (filed_at u z).request ≡ f2 z) (sym e)
+              (given (subst (λ z. is_there z u.order ≡ true) e h) ∙ ap (without_key w.key) (left.left p present) ∙ sym at_p)
           | inr ne ↦
               let both = there_kept u2 x s.order (subst (λ l. is_there x l ≡ true) new_order h) in
               let same : f2 x ≡ f1 x = other x both.0 ne in
@@ -363,7 +381,9 @@ left_start s job right = record {
     same : (x : ℕ) → left_named s job [] x ≡ request_at s x
     same x = go ((request_at s x).job == job)
       where
-        go : (b : Bool) → cond b (with_wants (request_at s x) (filter (λ w. not (names [] w.key)) (request_at s x).wants.items)) (request_at s x) ≡ request_at s x
+        go : (b : Bool)
+            → cond b (with_wants (request_at s x) (filter (λ w. not (names [] w.key)) (request_at s x).wants.items))
+            (request_at s x) ≡ request_at s x
         go true = ap (with_wants (request_at s x)) (keep (request_at s x).wants.items)
         go false = refl
 

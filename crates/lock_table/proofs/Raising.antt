@@ -72,7 +72,9 @@ module _ (s t : Stored) (locks more : List Lock) (left : Request → Option Requ
       turned x there ∙ ap (turned_if (not (beq (filed_at s x).granted (filed_at t x).granted))) (none x) in
       let of : left (request_at s x) ≡ Some (request_at t x) = leaves x present ∙ ap (λ b. staying_if b (request_at t x)) stay in
       ap (λ b. (b && (filed_at t x).granted) && is_told_of (request_at t x).kind) mark
-      ∙ ap (λ k. (turned_if (not (beq (filed_at s x).granted (filed_at t x).granted)) false && (filed_at t x).granted) && is_told_of k) (kinds (request_at s x) (request_at t x) of)
+      ∙ ap
+      (λ k. (turned_if (not (beq (filed_at s x).granted (filed_at t x).granted)) false && (filed_at t x).granted)
+      && is_told_of k) (kinds (request_at s x) (request_at t x) of)
       ∙ same_test (filed_at s x).granted (filed_at t x).granted (is_told_of (request_at s x).kind)
       ∙ ap (λ b. (is_told_of (request_at s x).kind && not (filed_at s x).granted) && (b && (filed_at t x).granted)) (sym stay)
 
@@ -138,7 +140,10 @@ only_kept : (t : ℕ → Bool) (p : ℕ) (xs : List ℕ) → ((x : ℕ) → (x �
     → filter t xs ≡ cond (is_there p xs && t p) (p ∷ []) []
 only_kept t p [] only once = refl
 only_kept t p (x ∷ xs) only once =
-    let rest = only_kept t p xs only (λ before after q is. let parts = once (x ∷ before) after q (ap (λ l. x ∷ l) is) in ((or_parts (x == q) (is_there q before) parts.0).1, parts.1)) in
+    let rest =
+    only_kept t p xs only
+    (λ before after q is. let parts = once (x ∷ before) after q (ap (λ l. x ∷ l) is) in
+    ((or_parts (x == q) (is_there q before) parts.0).1, parts.1)) in
     elim (cases_eq x p) [
       | inl e ↦
           let out : is_there p xs ≡ false = subst (λ y. is_there y xs ≡ false) e (once [] xs x refl).1 in

@@ -72,7 +72,11 @@ module _ (store : Stored) (locks : List Lock) (buckets : List Bucket) (p : ℕ) 
           there_owned (λ x. (filed_at store x).queues.items) u.place m store.order u.stands.present u.stands.there in
           let long = covers (length locks) (owned (λ x. (filed_at store x).queues.items) store.order) all in
           let before : List ℕ = a.last.0 in
-          let few = owned_few (λ x. (filed_at store x).queues.items) before p (λ x h. a.short x (subst (λ l. is_there x l ≡ true) (sym a.last.1) (list_any-append (λ z. z == x) before (p ∷ []) ∙ or_left (is_there x before) (is_there x (p ∷ [])) h))) in
+          let few =
+          owned_few (λ x. (filed_at store x).queues.items) before p
+          (λ x h. a.short x
+          (subst (λ l. is_there x l ≡ true) (sym a.last.1)
+          (list_any-append (λ z. z == x) before (p ∷ []) ∙ or_left (is_there x before) (is_there x (p ∷ [])) h))) in
           let same = ap (λ l. length (owned (λ x. (filed_at store x).queues.items) l)) a.last.1 in
           let count = ap length a.last.1 in
           absurd (omega (arith, long, few, same, count, length-append before (p ∷ []), a.room, more, a.few, a.own))

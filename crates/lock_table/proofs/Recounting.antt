@@ -110,21 +110,27 @@ module _ (s : Stored) (locks : List Lock) (n : ℕ) (kept : IsKept (state_of s l
         ∙ go ((request_at s p).job == job)
         ∙ ap (λ u. cond ((request_at s p).job == job) u v) (named_once c v (w.key_is ∙ key))
       where
-        go : (b : Bool) → get_or (cond b (changed_want (c ∷ []) (want_filed s p n) ∷ []) (want_filed s p n ∷ [])) 0 unused_want ≡ cond b (changed_want (c ∷ []) (want_filed s p n)) (want_filed s p n)
+        go : (b : Bool)
+            → get_or (cond b (changed_want (c ∷ []) (want_filed s p n) ∷ []) (want_filed s p n ∷ [])) 0 unused_want
+            ≡ cond b (changed_want (c ∷ []) (want_filed s p n)) (want_filed s p n)
         go true = refl
         go false = refl
 
     pub wants_then : wants_at (map (λ x. changed_once job c (request_at s x)) s.order) c.key ≡ map (want_then s n job c) (lock_at locks n).queue.places
     wants_then =
         subst (λ k. wants_at (map (λ x. changed_once job c (request_at s x)) s.order) k ≡ map (want_then s n job c) (lock_at locks n).queue.places) key
-        (wants_by_places (λ x. changed_once job c (request_at s x)) (λ x. apart_changed job (c ∷ []) (request_at s x) ∙ kept.apart x) s.order (lock_at locks n).key
-        ∙ ap (map (λ p. want_of (lock_at locks n).key (changed_once job c (request_at s p)))) (places_changed job (c ∷ []) (request_at s) s.order (lock_at locks n).key ∙ sym counts.places)
+        (wants_by_places (λ x. changed_once job c (request_at s x))
+        (λ x. apart_changed job (c ∷ []) (request_at s x) ∙ kept.apart x) s.order (lock_at locks n).key
+        ∙ ap (map (λ p. want_of (lock_at locks n).key (changed_once job c (request_at s p))))
+        (places_changed job (c ∷ []) (request_at s) s.order (lock_at locks n).key ∙ sym counts.places)
         ∙ map_each (λ p. want_of (lock_at locks n).key (changed_once job c (request_at s p))) (want_then s n job c) (lock_at locks n).queue.places want_is)
 
     pub fitting_is : fitting_then (request_at s) s.order job c ≡ fitting (map (want_then s n job c) (lock_at locks n).queue.places)
     fitting_is = ap fitting wants_then
 
-    pub lost_is : loses_by s job c ≡ list_any (λ x. (filed_at s x).granted) (drop (fitting (map (want_then s n job c) (lock_at locks n).queue.places)) (lock_at locks n).queue.places)
+    pub lost_is : loses_by s job c
+        ≡ list_any (λ x. (filed_at s x).granted)
+        (drop (fitting (map (want_then s n job c) (lock_at locks n).queue.places)) (lock_at locks n).queue.places)
     lost_is =
         ap (λ k. list_any (λ x. (filed_at s x).granted) (drop k (places_at (request_at s) s.order c.key))) fitting_is
         ∙ ap (λ l. list_any (λ x. (filed_at s x).granted) (drop (fitting (map (want_then s n job c) (lock_at locks n).queue.places)) l))
@@ -154,16 +160,24 @@ module _ (s : Stored) (job : ℕ) (c : Want) (right : AreRight s) (spares : Spar
       → changed_by c w ≡ w
   pool_stays x w present mine h e pooled =
       let in_rs : Has (requests_of (requests_in s) job) (request_at s x) =
-      Has-filter (λ (q : Request). q.job == job) (requests_in s) (request_at s x) (eq-eqb (request_at s x).job job mine) (Has-map (request_at s) s.order x (there_Has x s.order present)) in
+      Has-filter (λ (q : Request). q.job == job) (requests_in s) (request_at s x) (eq-eqb (request_at s x).job job mine)
+      (Has-map (request_at s) s.order x (there_Has x s.order present)) in
       let there : Has (wants_at (requests_of (requests_in s) job) c.key) w =
       Has-filter (λ v. same_key v.key c.key) (all_wants (requests_of (requests_in s) job)) w (eq-same_key w.key c.key e)
       (Has-flat_map (λ (q : Request). q.wants.items) (requests_of (requests_in s) job) (request_at s x) w in_rs h) in
-      let some : list_any is_pooled (wants_at (requests_of (requests_in s) job) c.key) ≡ true = list_any-Has is_pooled (wants_at (requests_of (requests_in s) job) c.key) w pooled there in
-      let unshared : c.shared ≡ false = false_from_ne_true c.shared (λ t. both_ways (c.shared && list_any is_pooled (wants_at (requests_of (requests_in s) job) c.key)) spares (and_from c.shared _ t some)) in
-      let rightly : shares_rightly w ≡ true = list_all-Has shares_rightly (request_at s x).wants.items w (parts_of_right (request_at s x) (right x present)) h in
+      let some : list_any is_pooled (wants_at (requests_of (requests_in s) job) c.key) ≡ true =
+      list_any-Has is_pooled (wants_at (requests_of (requests_in s) job) c.key) w pooled there in
+      let unshared : c.shared ≡ false =
+      false_from_ne_true c.shared
+      (λ t. both_ways (c.shared && list_any is_pooled (wants_at (requests_of (requests_in s) job) c.key)) spares
+      (and_from c.shared _ t some)) in
+      let rightly : shares_rightly w ≡ true =
+      list_all-Has shares_rightly (request_at s x).wants.items w (parts_of_right (request_at s x) (right x present)) h in
       let parts = and_parts (not (w.shared && is_pooled w)) (w.shared || w.group == 0) rightly in
       let exclusive : w.shared ≡ false =
-      false_from_ne_true w.shared (λ t. both_ways (w.shared && is_pooled w) (not-true (w.shared && is_pooled w) parts.0) (and_from w.shared (is_pooled w) t pooled)) in
+      false_from_ne_true w.shared
+      (λ t. both_ways (w.shared && is_pooled w) (not-true (w.shared && is_pooled w) parts.0)
+      (and_from w.shared (is_pooled w) t pooled)) in
       still_exclusive c w unshared exclusive
     where
       parts_of_right : (r : Request) → is_well_formed r ≡ true → list_all shares_rightly r.wants.items ≡ true
@@ -182,7 +196,9 @@ module _ (s : Stored) (locks : List Lock) (n : ℕ) (job : ℕ) (c : Want) (t : 
       share_pooled (Some k) None a b = cc
       share_pooled None o a b = cc
 
-      go : (b : Bool) → ((request_at s x).job == job) ≡ b → cond b (map (changed_want (c ∷ [])) (own_wants c.key (request_at s x))) (own_wants c.key (request_at s x)) ≡ own_wants c.key (request_at s x)
+      go : (b : Bool) → ((request_at s x).job == job) ≡ b
+          → cond b (map (changed_want (c ∷ [])) (own_wants c.key (request_at s x))) (own_wants c.key (request_at s x))
+          ≡ own_wants c.key (request_at s x)
       go true e =
           map_each (changed_want (c ∷ [])) (λ w. w) (own_wants c.key (request_at s x))
           (λ w h.
@@ -196,19 +212,24 @@ module _ (s : Stored) (locks : List Lock) (n : ℕ) (job : ℕ) (c : Want) (t : 
 
   pub pool_keeps : loses_by s job c ≡ false
   pool_keeps = false_from_ne_true (loses_by s job c) (λ lost.
-      let found = list_any-found (λ x. (filed_at s x).granted) (drop (fitting_then (request_at s) s.order job c) (places_at (request_at s) s.order c.key)) lost in
+      let found =
+      list_any-found (λ x. (filed_at s x).granted)
+      (drop (fitting_then (request_at s) s.order job c) (places_at (request_at s) s.order c.key)) lost in
       let p : ℕ = found.0 in
-      let places : (lock_at locks n).queue.places ≡ places_at (request_at s) s.order c.key = (counts s locks n t.kept used).places ∙ ap (places_at (request_at s) s.order) key in
+      let places : (lock_at locks n).queue.places ≡ places_at (request_at s) s.order c.key =
+      (counts s locks n t.kept used).places ∙ ap (places_at (request_at s) s.order) key in
       let behind : is_there p (drop (fitting_then (request_at s) s.order job c) (places_at (request_at s) s.order c.key)) ≡ true =
       Has-there (drop (fitting_then (request_at s) s.order job c) (places_at (request_at s) s.order c.key)) p found.1 in
       let same : fitting_then (request_at s) s.order job c ≡ (lock_at locks n).queue.fitting =
       ap fitting (wants_same_there c.key (request_at s) (λ x. changed_once job c (request_at s x)) s.order pool_once)
       ∙ sym (t.full used.place n used.stands ∙ ap (λ k. fitting (wants_at (requests_in s) k)) key) in
       let past : is_there p (drop (lock_at locks n).queue.fitting (lock_at locks n).queue.places) ≡ true =
-      ap (λ l. is_there p (drop (lock_at locks n).queue.fitting l)) places ∙ ap (λ k. is_there p (drop k (places_at (request_at s) s.order c.key))) (sym same) ∙ behind in
+      ap (λ l. is_there p (drop (lock_at locks n).queue.fitting l)) places
+      ∙ ap (λ k. is_there p (drop k (places_at (request_at s) s.order c.key))) (sym same) ∙ behind in
       let there : is_there p (lock_at locks n).queue.places ≡ true =
       there_parts (lock_at locks n).queue.fitting p (lock_at locks n).queue.places
-      ∙ or_right (is_there p (take (lock_at locks n).queue.fitting (lock_at locks n).queue.places)) (is_there p (drop (lock_at locks n).queue.fitting (lock_at locks n).queue.places)) past in
+      ∙ or_right (is_there p (take (lock_at locks n).queue.fitting (lock_at locks n).queue.places))
+      (is_there p (drop (lock_at locks n).queue.fitting (lock_at locks n).queue.places)) past in
       let w = wanted_at s locks n t.kept used p there in
       let all : all_count (state_of s locks) p ≡ true = sym (t.flags p w.present) ∙ found.2 in
       let front : is_there p (take (lock_at locks n).queue.fitting (lock_at locks n).queue.places) ≡ true =

@@ -47,12 +47,17 @@ module _ (s : Stored) (job : ℕ) (named : List Want) (p : ℕ) (is : IsSoleName
   mine_left : has_wants (left_named s job named p) ≡ false
   mine_left =
       ap (λ l. has_wants (left_named s job l p)) is.named_is
-      ∙ ap (λ b. has_wants (cond b (with_wants (request_at s p) (filter (λ v. not (names (is.want ∷ []) v.key)) (request_at s p).wants.items)) (request_at s p))) both.1
+      ∙ ap
+      (λ b. has_wants
+      (cond b (with_wants (request_at s p) (filter (λ v. not (names (is.want ∷ []) v.key)) (request_at s p).wants.items))
+      (request_at s p))) both.1
       ∙ ap (λ (l : List Want). not (length l == 0)) (none_left (request_at s p).wants.items is.want is.sole.one is.sole.named)
 
   other_left : (x : ℕ) → is_there x s.order ≡ true → x ≢ p → left_named s job named x ≡ request_at s x
   other_left x there ne =
-      ap (λ b. cond b (with_wants (request_at s x) (filter (λ v. not (names named v.key)) (request_at s x).wants.items)) (request_at s x)) (others_of x there ne)
+      ap
+      (λ b. cond b (with_wants (request_at s x) (filter (λ v. not (names named v.key)) (request_at s x).wants.items))
+      (request_at s x)) (others_of x there ne)
 
   pub sole_left : (t : Stored) → AreRight s → StandsOnce s.order → t.order ≡ without_place s.order p
       → ((x : ℕ) → (x ≡ p → ⊥) → (filed_at t x).request ≡ (filed_at s x).request)

@@ -136,8 +136,13 @@ module _ (s : Stored) (locks : List Lock) (job : ℕ) (t : IsTable (state_of s l
                   (share_pooled (lock_at locks n).size w.pool pooled (pool_of s locks n t.kept used x w present h (key_w ∙ sym key)))
               at false other = rw other refl
 
-          go : (b : Bool) → ((request_at s x).job == job) ≡ b → cond b (with_wants (request_at s x) (map (changed_want (c ∷ [])) (request_at s x).wants.items)) (request_at s x) ≡ request_at s x
-          go true e = ap (with_wants (request_at s x)) (map_each (changed_want (c ∷ [])) (λ w. w) (request_at s x).wants.items (each e) ∙ map_id (request_at s x).wants.items)
+          go : (b : Bool) → ((request_at s x).job == job) ≡ b
+              → cond b (with_wants (request_at s x) (map (changed_want (c ∷ [])) (request_at s x).wants.items)) (request_at s x)
+              ≡ request_at s x
+          go true e =
+              ap (with_wants (request_at s x))
+              (map_each (changed_want (c ∷ [])) (λ w. w) (request_at s x).wants.items (each e)
+              ∙ map_id (request_at s x).wants.items)
           go false e = refl
 
 -- ---- still sound
@@ -166,7 +171,9 @@ twice_swapped job c d r apart =
     named_false : (a b : Want) → same_key a.key b.key ≡ false → names (a ∷ []) b.key ≡ false
     named_false a b f = ap (λ v. v || false) f
 
-    go : (b : Bool) → cond b (with_wants r (map (changed_want (c ∷ d ∷ [])) r.wants.items)) r ≡ cond b (with_wants r (map (changed_want (d ∷ c ∷ [])) r.wants.items)) r
+    go : (b : Bool)
+        → cond b (with_wants r (map (changed_want (c ∷ d ∷ [])) r.wants.items)) r
+        ≡ cond b (with_wants r (map (changed_want (d ∷ c ∷ [])) r.wants.items)) r
     go true = ap (with_wants r) (map_each (changed_want (c ∷ d ∷ [])) (changed_want (d ∷ c ∷ [])) r.wants.items (λ w h. swapped c d w apart))
     go false = refl
 
@@ -175,7 +182,9 @@ own_other : (job : ℕ) (c d : Want) (r : Request) → same_key c.key d.key ≡ 
     → own_wants d.key (changed_once job d (changed_once job c r)) ≡ own_wants d.key (changed_once job d r)
 own_other job c d r apart =
     own_of_changed job (d ∷ []) (changed_once job c r) d.key
-    ∙ ap (λ j. cond (j == job) (map (changed_want (d ∷ [])) (own_wants d.key (changed_once job c r))) (own_wants d.key (changed_once job c r))) (job_changed job (c ∷ []) r)
+    ∙ ap
+    (λ j. cond (j == job) (map (changed_want (d ∷ [])) (own_wants d.key (changed_once job c r)))
+    (own_wants d.key (changed_once job c r))) (job_changed job (c ∷ []) r)
     ∙ ap (λ l. cond (r.job == job) (map (changed_want (d ∷ [])) l) l) (own_unnamed job (c ∷ []) r d.key (ap (λ v. v || false) apart))
     ∙ sym (own_of_changed job (d ∷ []) r d.key)
 
@@ -196,7 +205,8 @@ module _ (s t : Stored) (locks more : List Lock) (job : ℕ) (c : Want) (a : Alt
   loses_same : (d : Want) → same_key c.key d.key ≡ false → loses_by t job d ≡ loses_by s job d
   loses_same d apart =
       ap (λ l. is_lost_by (request_at t) (λ x. (filed_at t x).granted) l job d) a.order
-      ∙ any_each (λ x. (filed_at t x).granted) (λ x. (filed_at s x).granted) (drop (fitting_then (request_at t) s.order job d) (places_at (request_at t) s.order d.key)) a.flag
+      ∙ any_each (λ x. (filed_at t x).granted) (λ x. (filed_at s x).granted)
+      (drop (fitting_then (request_at t) s.order job d) (places_at (request_at t) s.order d.key)) a.flag
       ∙ ap (λ l. list_any (λ x. (filed_at s x).granted) (drop (fitting_then (request_at t) s.order job d) l))
       (filter_there (λ x. names (request_at t x).wants.items d.key) (λ x. names (request_at s x).wants.items d.key) s.order
       (λ x h. ap (λ (r : Request). names r.wants.items d.key) (a.at x h) ∙ named_changed job (c ∷ []) (request_at s x) d.key))
@@ -217,7 +227,8 @@ module _ (s t : Stored) (locks more : List Lock) (job : ℕ) (c : Want) (a : Alt
         let same : changed_once job d (request_at s x) ≡ request_at s x =
         sound.spared n (sym (a.key n) ∙ key) (ap is_some (sym (a.size n)) ∙ pooled)
         (used_same (state_of t more) (state_of s locks) n (sym a.order) (λ y. sym (a.own y)) used) x (back x present) in
-        ap (changed_once job d) (a.at x (back x present)) ∙ twice_swapped job c d (request_at s x) apart ∙ ap (changed_once job c) same ∙ sym (a.at x (back x present));
+        ap (changed_once job d) (a.at x (back x present)) ∙ twice_swapped job c d (request_at s x) apart
+        ∙ ap (changed_once job c) same ∙ sym (a.at x (back x present));
     safe = loses_same d apart ∙ sound.safe;
   }
 
@@ -250,7 +261,10 @@ module _ (s t : Stored) (locks more : List Lock) (job : ℕ) (c : Want) (a : Alt
     size = λ m. a.size m ∙ i.size m;
     others =
         λ m f.
-        a.others m (λ e. both_ways (names changes (lock_at locks0 m).key) f (subst (λ k. names changes k ≡ true) (sym e ∙ i.key m) (i.named c.key (or_left (same_key c.key c.key) (names later c.key) (eq-same_key c.key c.key refl)))))
+        a.others m
+        (λ e. both_ways (names changes (lock_at locks0 m).key) f
+        (subst (λ k. names changes k ≡ true) (sym e ∙ i.key m)
+        (i.named c.key (or_left (same_key c.key c.key) (names later c.key) (eq-same_key c.key c.key refl)))))
         ∙ i.others m f;
     named = λ key h. i.named key (or_right (same_key c.key key) (names later key) h);
   }
@@ -258,5 +272,7 @@ module _ (s t : Stored) (locks more : List Lock) (job : ℕ) (c : Want) (a : Alt
       unnamed : names later c.key ≡ false
       unnamed = false_from_ne_true (names later c.key) (λ t.
           let of = names-found later c.key t in
-          let ne = list_all-Has (λ v. not (same_key c.key v.key)) later of.0 (and_parts (list_all (λ v. not (same_key c.key v.key)) later) (are_apart later) apart).0 of.1 in
+          let ne =
+          list_all-Has (λ v. not (same_key c.key v.key)) later of.0
+          (and_parts (list_all (λ v. not (same_key c.key v.key)) later) (are_apart later) apart).0 of.1 in
           both_ways (same_key c.key of.0.key) (not-true (same_key c.key of.0.key) ne) (eq-same_key c.key of.0.key (sym of.2)))

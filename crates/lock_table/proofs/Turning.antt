@@ -58,7 +58,9 @@ turned_by s t m n p g lt within is marks x h =
       | inr ne ↦
           let other : filed_at t x ≡ filed_at s x = place x ∙ rw (ne_eqb x p ne) refl in
           let there : mark_at n x ≡ mark_at m x = ap (λ l. mark_at l x) marks ∙ get_or-set_other m p x v false ne in
-          there ∙ subst (λ b. mark_at m x ≡ turned_if (not (beq (filed_at s x).granted b)) (mark_at m x)) (sym (ap (λ (k : Filed). k.granted) other)) (still (filed_at s x).granted (mark_at m x))
+          there
+          ∙ subst (λ b. mark_at m x ≡ turned_if (not (beq (filed_at s x).granted b)) (mark_at m x))
+          (sym (ap (λ (k : Filed). k.granted) other)) (still (filed_at s x).granted (mark_at m x))
     ]
 
 -- a request that is changed otherwise keeps its flag

@@ -167,7 +167,10 @@ module _ (s : Stored) (locks : List Lock) (buckets : List Bucket) (n p job : ℕ
   request_p =
       ap (λ (g : Filed). g.request) filed_p
       ∙ ap (with_wants (request_at s p)) (set_is_changed c (request_at s p).wants.items i w (b.kept.apart p) at_i key_w)
-      ∙ sym (ap (λ v. cond v (with_wants (request_at s p) (map (changed_want (c ∷ [])) (request_at s p).wants.items)) (request_at s p)) (eq-eqb (request_at s p).job job mine))
+      ∙ sym
+      (ap
+      (λ v. cond v (with_wants (request_at s p) (map (changed_want (c ∷ [])) (request_at s p).wants.items)) (request_at s p))
+      (eq-eqb (request_at s p).job job mine))
 
   -- and all others stay
   request_x : (x : ℕ) → is_there x s.order ≡ true → (x ≡ p → ⊥) → request_at s x ≡ changed_once job c (request_at s x)
@@ -233,7 +236,8 @@ module _ (s : Stored) (locks : List Lock) (buckets : List Bucket) (n p job : ℕ
   -- the wants of the key after the change
   wants_t : wants_at (map (request_at t) s.order) (lock_at locks n).key ≡ map (want_then s n job c) (lock_at locks n).queue.places
   wants_t =
-      wants_same_there (lock_at locks n).key (λ x. changed_once job c (request_at s x)) (request_at t) s.order (λ x h. ap (own_wants (lock_at locks n).key) (request_t x h))
+      wants_same_there (lock_at locks n).key (λ x. changed_once job c (request_at s x)) (request_at t) s.order
+      (λ x h. ap (own_wants (lock_at locks n).key) (request_t x h))
       ∙ ap (wants_at (map (λ x. changed_once job c (request_at s x)) s.order)) of_key
       ∙ wants_then s locks n b.kept used job c of_key
 
@@ -243,16 +247,20 @@ module _ (s : Stored) (locks : List Lock) (buckets : List Bucket) (n p job : ℕ
       (record {
         each =
             alike_changed job (c ∷ []) (request_at s) None (lock_at locks n).key s.order
-            ∙ subst (λ o. list_all (λ w. is_share_of o w.pool) (wants_at (requests_in s) (lock_at locks n).key) ≡ true) none (counts s locks n b.kept used).counts.alike.each;
+            ∙ subst (λ o. list_all (λ w. is_share_of o w.pool) (wants_at (requests_in s) (lock_at locks n).key) ≡ true) none
+            (counts s locks n b.kept used).counts.alike.each;
       })
 
   taken_none : (lock_at locks n).queue.taken ≡ 0
   taken_none =
       let old = (counts s locks n b.kept used).counts in
-      let alike : Alike None (wants_at (requests_in s) (lock_at locks n).key) = subst (λ o. Alike o (wants_at (requests_in s) (lock_at locks n).key)) none old.alike in
+      let alike : Alike None (wants_at (requests_in s) (lock_at locks n).key) =
+      subst (λ o. Alike o (wants_at (requests_in s) (lock_at locks n).key)) none old.alike in
       old.taken
       ∙ none_taken (take (lock_at locks n).queue.fitting (wants_at (requests_in s) (lock_at locks n).key))
-      (λ u h. no_pool u.pool (alike-Has None (wants_at (requests_in s) (lock_at locks n).key) u alike (take_Has (lock_at locks n).queue.fitting (wants_at (requests_in s) (lock_at locks n).key) u h)))
+      (λ u h. no_pool u.pool
+      (alike-Has None (wants_at (requests_in s) (lock_at locks n).key) u alike
+      (take_Has (lock_at locks n).queue.fitting (wants_at (requests_in s) (lock_at locks n).key) u h)))
 
   counts_then : Counts None (map (want_then s n job c) (lock_at locks n).queue.places) (counting q k (f (get_or q.places 0 0)))
   counts_then =
@@ -314,20 +322,25 @@ module _ (s : Stored) (locks : List Lock) (buckets : List Bucket) (n p job : ℕ
 
   kept_t : IsKept (state_of t more) × (FlagsAll (state_of s locks) → FlagsAll (state_of t more))
   kept_t =
-      changing_keeps (state_of s locks) (state_of t more) p n (take i (request_at s p).wants.items) (drop (suc i) (request_at s p).wants.items) w (changed_by c w) b.kept step
+      changing_keeps (state_of s locks) (state_of t more) p n (take i (request_at s p).wants.items)
+      (drop (suc i) (request_at s p).wants.items) w (changed_by c w) b.kept step
 
   pub between_then : IsBetween t more buckets
   between_then = record {
     kept = kept_t.0;
     flags = kept_t.1 b.flags;
     used = λ m some. used_same (state_of s locks) (state_of t more) m refl own_t (b.used m (subst (λ l. not (length l == 0) ≡ true) (places_t m) some));
-    index = index_kept buckets locks more b.index (length-set locks n (record (lock_at locks n) { queue = counting q k (f (get_or q.places 0 0)) })) key_t (λ m some. subst (λ l. not (length l == 0) ≡ true) (places_t m) some);
+    index =
+        index_kept buckets locks more b.index
+        (length-set locks n (record (lock_at locks n) { queue = counting q k (f (get_or q.places 0 0)) })) key_t
+        (λ m some. subst (λ l. not (length l == 0) ≡ true) (places_t m) some);
     jobs =
         λ x y key px py nx ny same.
         b.jobs x y key px py (named_back x key px nx) (named_back y key py ny) (sym (job_back x px) ∙ same ∙ job_back y py);
   }
     where
-      named_back : (x : ℕ) (key : Key) → is_there x s.order ≡ true → names (request_at t x).wants.items key ≡ true → names (request_at s x).wants.items key ≡ true
+      named_back : (x : ℕ) (key : Key) → is_there x s.order ≡ true → names (request_at t x).wants.items key ≡ true
+          → names (request_at s x).wants.items key ≡ true
       named_back x key present h =
           sym (named_changed job (c ∷ []) (request_at s x) key) ∙ ap (λ (r : Request). names r.wants.items key) (sym (request_t x present)) ∙ h
 
@@ -353,7 +366,9 @@ module _ (s : Stored) (locks : List Lock) (buckets : List Bucket) (n p job : ℕ
       (subst (λ x. IsBetween t x buckets × Altered s t locks x job c) (sym all) (between_then, altered_then))
     where
       all : l ≡ more
-      all = put ∙ ap (λ y. with_queue locks n (counting (lock_at locks n).queue y v)) count ∙ ap (λ y. with_queue locks n (counting (lock_at locks n).queue k y)) first
+      all =
+          put ∙ ap (λ y. with_queue locks n (counting (lock_at locks n).queue y v)) count
+          ∙ ap (λ y. with_queue locks n (counting (lock_at locks n).queue k y)) first
 
 -- a request with a want of a key stands in its open queue
 pub open_named : (s : Stored) (locks : List Lock) (x : ℕ) (key : Key) → IsKept (state_of s locks) → is_there x s.order ≡ true

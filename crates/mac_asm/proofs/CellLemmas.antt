@@ -91,19 +91,24 @@ put_clamped cells place len words is = elim (cases_lt place len) [
 ]
 
 -- one more zero
-pub zeros_more : (cells : Cells) (place total at : ℕ) → at < total → put_from cells place (replicate (total - at) 0) ≡ put_from (set cells place (Some 0)) (place + 1) (replicate (total - (at + 1)) 0)
+pub zeros_more : (cells : Cells) (place total at : ℕ) → at < total
+    → put_from cells place (replicate (total - at) 0)
+    ≡ put_from (set cells place (Some 0)) (place + 1) (replicate (total - (at + 1)) 0)
 zeros_more cells place total at lt =
     let k : total - at ≡ suc (total - (at + 1)) = omega arith in
     ap (λ n. put_from cells place (replicate n 0)) k
 
 -- no zero is left that has a cell
-pub zeros_done : (cells : Cells) (first count at len : ℕ) → at ≡ first + min count (len - first) → first ≤ len → len ≡ length cells → put_from cells at (replicate (first + count - at) 0) ≡ cells
+pub zeros_done : (cells : Cells) (first count at len : ℕ) → at ≡ first + min count (len - first) → first ≤ len
+    → len ≡ length cells
+    → put_from cells at (replicate (first + count - at) 0) ≡ cells
 zeros_done cells first count at len end le is = elim (cases_lt count (len - first)) [
   | inl lt ↦ let k : first + count - at ≡ 0 = omega arith in ap (λ n. put_from cells at (replicate n 0)) k
   | inr ge ↦ put_past cells at (replicate (first + count - at) 0) (omega arith)
 ]
 
-pub zeros_begin : (cells : Cells) (place first count len : ℕ) → first ≡ min place len → len ≡ length cells → put_from cells first (replicate (first + count - first) 0) ≡ put_from cells place (replicate count 0)
+pub zeros_begin : (cells : Cells) (place first count len : ℕ) → first ≡ min place len → len ≡ length cells
+    → put_from cells first (replicate (first + count - first) 0) ≡ put_from cells place (replicate count 0)
 zeros_begin cells place first count len is all =
     let k : first + count - first ≡ count = omega arith in
     ap (λ n. put_from cells first (replicate n 0)) k ∙ ap (λ p. put_from cells p (replicate count 0)) is ∙ put_clamped cells place len (replicate count 0) all

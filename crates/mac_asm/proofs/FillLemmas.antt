@@ -22,7 +22,8 @@ ends start (at ∷ later) = ends (unwrap_or (start_by at.names at.line.statement
 abbrev pub filled_from : Cells → ℕ → ℕ → List Placed → Result (Cells × ℕ) Fault
 filled_from cells start number lines = filled_with cells (ends start lines) (words_given number lines)
 
-ends_is : (start : ℕ) (before : Option Placed) (lines : List Placed) → start ≡ unwrap_or (start_from before) first_place → ends start lines ≡ unwrap_or (start_from (last_or before lines)) first_place
+ends_is : (start : ℕ) (before : Option Placed) (lines : List Placed) → start ≡ unwrap_or (start_from before) first_place
+    → ends start lines ≡ unwrap_or (start_from (last_or before lines)) first_place
 ends_is start before [] is = is
 ends_is start before (at ∷ later) is = ends_is (unwrap_or (start_by at.names at.line.statement) first_place) (Some at) later refl
 
@@ -37,7 +38,9 @@ none_given number = refl
 pub filled_ends : (cells : Cells) (start number : ℕ) → filled_from cells start number [] ≡ Ok (cells, start)
 filled_ends cells start number = ap (filled_with cells start) (none_given number)
 
-given_more : (number : ℕ) (at : Placed) (later : List Placed) → words_given number (at ∷ later) ≡ unless_fault number (value_code at) (and_words (unwrap_or (line_words at) []) (words_given (number + 1) later))
+given_more : (number : ℕ) (at : Placed) (later : List Placed)
+    → words_given number (at ∷ later)
+    ≡ unless_fault number (value_code at) (and_words (unwrap_or (line_words at) []) (words_given (number + 1) later))
 unfolding words_given
 given_more number at later = refl
 
@@ -45,15 +48,18 @@ code_none : (at : Placed) → (is_some (line_words at) && has_start at.names at.
 unfolding value_code
 code_none at is = ap (λ b. cond b None (Some (cond (is_line_known at) DoesNotFit UnknownName))) is
 
-code_some : (at : Placed) → (is_some (line_words at) && has_start at.names at.line.statement) ≡ false → value_code at ≡ Some (cond (is_line_known at) DoesNotFit UnknownName)
+code_some : (at : Placed) → (is_some (line_words at) && has_start at.names at.line.statement) ≡ false
+    → value_code at ≡ Some (cond (is_line_known at) DoesNotFit UnknownName)
 unfolding value_code
 code_some at is = ap (λ b. cond b None (Some (cond (is_line_known at) DoesNotFit UnknownName))) is
 
-put_first : (cells : Cells) (start : ℕ) (words : List (ℕ × ℕ)) (given : Result (List (ℕ × ℕ)) Fault) → filled_with cells start (and_words words given) ≡ filled_with (put_all cells words) start given
+put_first : (cells : Cells) (start : ℕ) (words : List (ℕ × ℕ)) (given : Result (List (ℕ × ℕ)) Fault)
+    → filled_with cells start (and_words words given) ≡ filled_with (put_all cells words) start given
 put_first cells start words (Ok more) = ap (λ c. Ok (c, start)) (put_more cells words more)
 put_first cells start words (Err fault) = refl
 
-some_words : (cells new : Cells) (words : Option (List (ℕ × ℕ))) → option_map (put_all cells) words ≡ Some new → (is_some words ≡ true) × (put_all cells (unwrap_or words []) ≡ new)
+some_words : (cells new : Cells) (words : Option (List (ℕ × ℕ))) → option_map (put_all cells) words ≡ Some new
+    → (is_some words ≡ true) × (put_all cells (unwrap_or words []) ≡ new)
 some_words cells new None is = cc
 some_words cells new (Some words) is = (refl, cc)
 
@@ -62,28 +68,39 @@ starts_there true n start is = (refl, cc)
 starts_there false n start is = cc
 
 -- one more line, whose words are put
-pub filled_more : (cells new : Cells) (before start number : ℕ) (at : Placed) (later : List Placed) → PutsLine (Some start) cells new at → filled_from cells before number (at ∷ later) ≡ filled_from new start (number + 1) later
+pub filled_more : (cells new : Cells) (before start number : ℕ) (at : Placed) (later : List Placed)
+    → PutsLine (Some start) cells new at
+    → filled_from cells before number (at ∷ later) ≡ filled_from new start (number + 1) later
 filled_more cells new before start number at later puts =
     let words = some_words cells new (line_words at) puts.0 in
     let begins = starts_there (has_start at.names at.line.statement) (unwrap_or (start_by at.names at.line.statement) first_place) start puts.1 in
-    let right : (is_some (line_words at) && has_start at.names at.line.statement) ≡ true = ap (λ b. b && has_start at.names at.line.statement) words.0 ∙ begins.0 in
+    let right : (is_some (line_words at) && has_start at.names at.line.statement) ≡ true =
+    ap (λ b. b && has_start at.names at.line.statement) words.0 ∙ begins.0 in
     let rest = words_given (number + 1) later in
     let then = ends (unwrap_or (start_by at.names at.line.statement) first_place) later in
-    ap (filled_with cells then) (given_more number at later ∙ ap (λ code. unless_fault number code (and_words (unwrap_or (line_words at) []) rest)) (code_none at right))
+    ap (filled_with cells then)
+    (given_more number at later
+    ∙ ap (λ code. unless_fault number code (and_words (unwrap_or (line_words at) []) rest)) (code_none at right))
     ∙ put_first cells then (unwrap_or (line_words at) []) rest
     ∙ ap (λ c. filled_with c then rest) words.1
     ∙ ap (λ s. filled_with new (ends s later) rest) begins.1
 
 -- a line at fault
-pub filled_fails : (cells : Cells) (before number : ℕ) (at : Placed) (later : List Placed) → (is_some (line_words at) && has_start at.names at.line.statement) ≡ false
+pub filled_fails : (cells : Cells) (before number : ℕ) (at : Placed) (later : List Placed)
+    → (is_some (line_words at) && has_start at.names at.line.statement) ≡ false
     → filled_from cells before number (at ∷ later) ≡ Err (record { line = number; code = cond (is_line_known at) DoesNotFit UnknownName })
 filled_fails cells before number at later wrong =
     let then = ends (unwrap_or (start_by at.names at.line.statement) first_place) later in
-    ap (filled_with cells then) (given_more number at later ∙ ap (λ code. unless_fault number code (and_words (unwrap_or (line_words at) []) (words_given (number + 1) later))) (code_some at wrong))
+    ap (filled_with cells then)
+    (given_more number at later
+    ∙ ap (λ code. unless_fault number code (and_words (unwrap_or (line_words at) []) (words_given (number + 1) later)))
+    (code_some at wrong))
 
 -- the lines with their places
 with_more : (labels : Labels) (place : ℕ) (places literals : List ℕ) (line : Line) (lines : List Line)
-    → lines_with labels (place ∷ places) literals (line ∷ lines) ≡ record { names = names_at labels place (take (length line.literals) literals); line = line } ∷ lines_with labels places (drop (length line.literals) literals) lines
+    → lines_with labels (place ∷ places) literals (line ∷ lines)
+    ≡ record { names = names_at labels place (take (length line.literals) literals); line = line }
+    ∷ lines_with labels places (drop (length line.literals) literals) lines
 unfolding lines_with
 with_more labels place places literals line lines = refl
 
@@ -112,19 +129,31 @@ drop_least n xs = elim (cases_lt (length xs) n) [
 
 -- the line at i with its share of the literals, and those behind it
 pub lines_next : (labels : Labels) (places literals : List ℕ) (lines : List Line) (i place split : ℕ) (line : Line) (own rest : List ℕ)
-    → i < length lines → line ≡ get_or lines i line → slice_get places i ≡ Some place → split ≡ min (length literals) (length line.literals) → own ≡ take split literals → rest ≡ drop split literals
-    → lines_with labels (drop i places) literals (drop i lines) ≡ record { names = names_at labels place own; line = line } ∷ lines_with labels (drop (i + 1) places) rest (drop (i + 1) lines)
+    → i < length lines → line ≡ get_or lines i line → slice_get places i ≡ Some place
+    → split ≡ min (length literals) (length line.literals) → own ≡ take split literals
+    → rest ≡ drop split literals
+    → lines_with labels (drop i places) literals (drop i lines)
+    ≡ record { names = names_at labels place own; line = line }
+    ∷ lines_with labels (drop (i + 1) places) rest (drop (i + 1) lines)
 lines_next labels places literals lines i place split line own rest lt is at mid first last =
     let own_is : take (length line.literals) literals ≡ own = sym (first ∙ ap (λ m. take m literals) mid ∙ take_least (length line.literals) literals) in
     let rest_is : drop (length line.literals) literals ≡ rest = sym (last ∙ ap (λ m. drop m literals) mid ∙ drop_least (length line.literals) literals) in
     ap (λ ps. lines_with labels ps literals (drop i lines)) (place_next places i place at)
     ∙ ap (λ ls. lines_with labels (place ∷ drop (i + 1) places) literals ls) (drop_more lines i line lt ∙ ap (λ l. l ∷ drop (i + 1) lines) (sym is))
     ∙ with_more labels place (drop (i + 1) places) literals line (drop (i + 1) lines)
-    ∙ ap (λ o. record { names = names_at labels place o; line = line } ∷ lines_with labels (drop (i + 1) places) (drop (length line.literals) literals) (drop (i + 1) lines)) own_is
+    ∙ ap
+    (λ o. record { names = names_at labels place o; line = line }
+    ∷ lines_with labels (drop (i + 1) places) (drop (length line.literals) literals) (drop (i + 1) lines)) own_is
     ∙ ap (λ r. record { names = names_at labels place own; line = line } ∷ lines_with labels (drop (i + 1) places) r (drop (i + 1) lines)) rest_is
 
-pub lines_done : (labels : Labels) (places literals : List ℕ) (lines : List Line) (i : ℕ) → length lines ≤ i → lines_with labels (drop i places) literals (drop i lines) ≡ []
-lines_done labels places literals lines i done = ap (λ ls. lines_with labels (drop i places) literals ls) (drop_of_length-le lines done) ∙ with_no_lines labels (drop i places) literals
+pub lines_done : (labels : Labels) (places literals : List ℕ) (lines : List Line) (i : ℕ) → length lines ≤ i
+    → lines_with labels (drop i places) literals (drop i lines) ≡ []
+lines_done labels places literals lines i done =
+    ap (λ ls. lines_with labels (drop i places) literals ls) (drop_of_length-le lines done)
+    ∙ with_no_lines labels (drop i places) literals
 
-pub places_done : (labels : Labels) (places literals : List ℕ) (lines : List Line) (i : ℕ) → slice_get places i ≡ None → lines_with labels (drop i places) literals (drop i lines) ≡ []
-places_done labels places literals lines i none = ap (λ ps. lines_with labels ps literals (drop i lines)) (place_none places i none) ∙ with_no_places labels literals (drop i lines)
+pub places_done : (labels : Labels) (places literals : List ℕ) (lines : List Line) (i : ℕ) → slice_get places i ≡ None
+    → lines_with labels (drop i places) literals (drop i lines) ≡ []
+places_done labels places literals lines i none =
+    ap (λ ps. lines_with labels ps literals (drop i lines)) (place_none places i none)
+    ∙ with_no_places labels literals (drop i lines)

@@ -38,10 +38,13 @@ lookup_in_both : (test : ℕ → Bool) (first more : List (ℕ × ℕ)) → look
 lookup_in_both test [] more = refl
 lookup_in_both test (e ∷ es) more = elim (cases_Bool (test e.0)) [
   | inl is ↦ ap (λ b. cond b (Some e.1) (lookup test (es ++ more))) is ∙ sym (ap (λ b. or_else (cond b (Some e.1) (lookup test es)) (lookup test more)) is)
-  | inr is ↦ ap (λ b. cond b (Some e.1) (lookup test (es ++ more))) is ∙ lookup_in_both test es more ∙ sym (ap (λ b. or_else (cond b (Some e.1) (lookup test es)) (lookup test more)) is)
+  | inr is ↦
+      ap (λ b. cond b (Some e.1) (lookup test (es ++ more))) is ∙ lookup_in_both test es more
+      ∙ sym (ap (λ b. or_else (cond b (Some e.1) (lookup test es)) (lookup test more)) is)
 ]
 
-set_read : (cells : Cells) (k : ℕ) (word : ℕ × ℕ) → k < length cells → get_or (set cells word.0 (Some word.1)) k None ≡ or_else (lookup (nat_eq k) (word ∷ [])) (get_or cells k None)
+set_read : (cells : Cells) (k : ℕ) (word : ℕ × ℕ) → k < length cells
+    → get_or (set cells word.0 (Some word.1)) k None ≡ or_else (lookup (nat_eq k) (word ∷ [])) (get_or cells k None)
 set_read cells k word lt = elim (cases_Bool (nat_eq k word.0)) [
   | inl is ↦ let same : k ≡ word.0 = eqb-true k word.0 is in let within : word.0 < length cells = omega arith in
       ap (λ j. get_or (set cells word.0 (Some word.1)) j None) same ∙ get_or-set_same cells word.0 (Some word.1) None within
@@ -52,7 +55,8 @@ set_read cells k word lt = elim (cases_Bool (nat_eq k word.0)) [
 ]
 
 -- what a cell holds after words are put
-put_read : (cells : Cells) (words : List (ℕ × ℕ)) (k : ℕ) → k < length cells → get_or (put_all cells words) k None ≡ or_else (lookup (nat_eq k) (reverse words)) (get_or cells k None)
+put_read : (cells : Cells) (words : List (ℕ × ℕ)) (k : ℕ) → k < length cells
+    → get_or (put_all cells words) k None ≡ or_else (lookup (nat_eq k) (reverse words)) (get_or cells k None)
 put_read cells [] k lt = refl
 put_read cells (word ∷ words) k lt =
     let same = length-set cells word.0 (Some word.1) in
@@ -63,12 +67,15 @@ put_read cells (word ∷ words) k lt =
     ∙ ap (λ o. or_else o (get_or cells k None)) (sym (lookup_in_both (nat_eq k) (reverse words) (word ∷ [])))
     ∙ ap (λ ws. or_else (lookup (nat_eq k) ws) (get_or cells k None)) (sym (reverse-append (word ∷ []) words))
 
-first_cell : (place : ℕ) (cell : Option ℕ) (cells : Cells) → words_in_cells place (cell ∷ cells) ≡ cons_option (option_map (λ w. (place, w)) cell) (words_in_cells (place + 1) cells)
+first_cell : (place : ℕ) (cell : Option ℕ) (cells : Cells)
+    → words_in_cells place (cell ∷ cells) ≡ cons_option (option_map (λ w. (place, w)) cell) (words_in_cells (place + 1) cells)
 first_cell place None cells = refl
 first_cell place (Some word) cells = refl
 
 -- cells by their places
-cells_read : (place : ℕ) (cells : Cells) (f : ℕ → Option (ℕ × ℕ)) → ((k : ℕ) → k < length cells → option_map (λ w. (place + k, w)) (get_or cells k None) ≡ f (place + k)) → words_in_cells place cells ≡ filter_map f (range_with_len place (length cells))
+cells_read : (place : ℕ) (cells : Cells) (f : ℕ → Option (ℕ × ℕ))
+    → ((k : ℕ) → k < length cells → option_map (λ w. (place + k, w)) (get_or cells k None) ≡ f (place + k))
+    → words_in_cells place cells ≡ filter_map f (range_with_len place (length cells))
 cells_read place [] f reads = refl
 cells_read place (cell ∷ cells) f reads =
     let lt : 0 < suc (length cells) = omega arith in
@@ -97,7 +104,9 @@ words_are n words =
     let below : k < length (empty_cells n) = omega arith in
     let below_n : k < n = omega arith in
     ap (λ p. option_map (λ w. (p, w)) (get_or (put_all (empty_cells n) words) k None)) here
-    ∙ ap (option_map (λ w. (k, w))) (put_read (empty_cells n) words k below ∙ ap (or_else (lookup (nat_eq k) (reverse words))) (empty_read n k below_n) ∙ or_none (lookup (nat_eq k) (reverse words)))
+    ∙ ap (option_map (λ w. (k, w)))
+    (put_read (empty_cells n) words k below ∙ ap (or_else (lookup (nat_eq k) (reverse words))) (empty_read n k below_n)
+    ∙ or_none (lookup (nat_eq k) (reverse words)))
     ∙ ap (word_at (reverse words)) (sym here))
     ∙ ap (λ m. filter_map (word_at (reverse words)) (range_with_len 0 m)) all
 
@@ -106,7 +115,8 @@ same_pair a b x y is =
     let pair : ◌≡◌ {A = Cells × ℕ} (a, x) (b, y) = cc in
     (ap (λ (p : Cells × ℕ). p.0) pair, ap (λ (p : Cells × ℕ). p.1) pair)
 
-image_filled : (n start begins : ℕ) (given : Result (List (ℕ × ℕ)) Fault) (new : Cells) → n ≡ 2 ^ 18 → filled_with (empty_cells n) start given ≡ Ok (new, begins)
+image_filled : (n start begins : ℕ) (given : Result (List (ℕ × ℕ)) Fault) (new : Cells) → n ≡ 2 ^ 18
+    → filled_with (empty_cells n) start given ≡ Ok (new, begins)
     → image_with start given ≡ Ok (record { words = words_in_cells 0 new; start = begins })
 image_filled n start begins (Ok words) new all is =
     let cells_are : put_all (empty_cells n) words ≡ new = (same_pair (put_all (empty_cells n) words) new start begins is).0 in
@@ -116,14 +126,18 @@ image_filled n start begins (Ok words) new all is =
 image_filled n start begins (Err fault) new all is = cc
 
 -- the image of lines whose words were put
-pub outcome_filled : (n start : ℕ) (lines : List Placed) (old new : Cells) (words : List (ℕ × ℕ)) → n ≡ 2 ^ 18 → old ≡ empty_cells n → filled old lines ≡ Ok (new, start) → words ≡ words_in_cells 0 new
+pub outcome_filled : (n start : ℕ) (lines : List Placed) (old new : Cells) (words : List (ℕ × ℕ)) → n ≡ 2 ^ 18
+    → old ≡ empty_cells n → filled old lines ≡ Ok (new, start)
+    → words ≡ words_in_cells 0 new
     → outcome_placed lines ≡ Ok (record { words = words; start = start })
 unfolding outcome_placed
 outcome_filled n start lines old new words all empty is words_is =
     image_filled n (unwrap_or (start_at lines) first_place) start (words_given 1 lines) new all (ap (λ cells. filled cells lines) (sym empty) ∙ is)
     ∙ ap (λ ws. Ok (record { words = ws; start = start })) (sym words_is)
 
-image_fails : (start begins : ℕ) (old : Cells) (given : Result (List (ℕ × ℕ)) Fault) (fault : Fault) → filled_with old start given ≡ Err fault → image_with begins given ≡ Err fault
+image_fails : (start begins : ℕ) (old : Cells) (given : Result (List (ℕ × ℕ)) Fault) (fault : Fault)
+    → filled_with old start given ≡ Err fault
+    → image_with begins given ≡ Err fault
 image_fails start begins old (Ok words) fault is = cc
 image_fails start begins old (Err f) fault is =
     let same : f ≡ fault = cc in ap Err same
@@ -131,5 +145,7 @@ image_fails start begins old (Err f) fault is =
 -- a line at fault
 pub outcome_fails : (e : AsmError) (lines : List Placed) (old new : Cells) → PutsLines (Err e) old new lines → Assembles (Err e) (outcome_placed lines)
 unfolding outcome_placed
-outcome_fails (errors.Line line code) lines old new is = image_fails (unwrap_or (start_at lines) first_place) (unwrap_or (start_at lines) first_place) old (words_given 1 lines) (record { line = line; code = code }) is
+outcome_fails (errors.Line line code) lines old new is =
+    image_fails (unwrap_or (start_at lines) first_place) (unwrap_or (start_at lines) first_place) old (words_given 1 lines)
+    (record { line = line; code = code }) is
 outcome_fails errors.Memory lines old new is = tt

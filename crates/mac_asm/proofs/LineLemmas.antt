@@ -32,7 +32,8 @@ pub put_nothing : (cells : Cells) (words : Option (List (ℕ × ℕ))) → optio
 put_nothing cells None is = refl
 put_nothing cells (Some words) is = cc
 
-literals_more : (names : Names) (place : ℕ) (given : Data) (later : List (ℕ × Data)) → literal_words names ((place, given) ∷ later) ≡ then_words (words_from names place given) (literal_words names later)
+literals_more : (names : Names) (place : ℕ) (given : Data) (later : List (ℕ × Data))
+    → literal_words names ((place, given) ∷ later) ≡ then_words (words_from names place given) (literal_words names later)
 unfolding literal_words
 literals_more names place given later = refl
 
@@ -64,8 +65,11 @@ zip_nothing [] = refl
 zip_nothing (p ∷ ps) = refl
 
 -- the literal at i, and those behind it
-literal_next : (names : Names) (places : List ℕ) (givens : List Data) (i place : ℕ) (given : Data) → i < length givens → slice_get places i ≡ Some place → get_or givens i given ≡ given
-    → literal_words names (zip (drop i places) (drop i givens)) ≡ then_words (words_from names place given) (literal_words names (zip (drop (i + 1) places) (drop (i + 1) givens)))
+literal_next : (names : Names) (places : List ℕ) (givens : List Data) (i place : ℕ) (given : Data) → i < length givens
+    → slice_get places i ≡ Some place
+    → get_or givens i given ≡ given
+    → literal_words names (zip (drop i places) (drop i givens))
+    ≡ then_words (words_from names place given) (literal_words names (zip (drop (i + 1) places) (drop (i + 1) givens)))
 literal_next names places givens i place given lt at is =
     ap (λ ps. literal_words names (zip ps (drop i givens))) (place_next places i place at)
     ∙ ap (λ gs. literal_words names (zip (place ∷ drop (i + 1) places) gs)) (drop_more givens i given lt ∙ ap (λ g. g ∷ drop (i + 1) givens) is)
@@ -83,11 +87,15 @@ literal_put names places givens i place given cells new total lt at is puts so_f
 pub literal_fails : (names : Names) (places : List ℕ) (givens : List Data) (i place : ℕ) (given : Data) (cells first : Cells)
     → i < length givens → slice_get places i ≡ Some place → get_or givens i given ≡ given
     → words_from names place given ≡ None
-    → option_map (put_all cells) (literal_words names (zip (drop i places) (drop i givens))) ≡ option_map (put_all first) (literal_words names (zip places givens))
+    → option_map (put_all cells) (literal_words names (zip (drop i places) (drop i givens)))
+    ≡ option_map (put_all first) (literal_words names (zip places givens))
     → literal_words names (zip places givens) ≡ None
 literal_fails names places givens i place given cells first lt at is fails so_far =
     put_nothing first (literal_words names (zip places givens))
-    (sym so_far ∙ ap (option_map (put_all cells)) (literal_next names places givens i place given lt at is ∙ ap (λ w. then_words w (literal_words names (zip (drop (i + 1) places) (drop (i + 1) givens)))) fails))
+    (sym so_far
+    ∙ ap (option_map (put_all cells))
+    (literal_next names places givens i place given lt at is
+    ∙ ap (λ w. then_words w (literal_words names (zip (drop (i + 1) places) (drop (i + 1) givens)))) fails))
 
 -- no place is left, or no literal
 pub literals_done : (names : Names) (places : List ℕ) (givens : List Data) (i : ℕ) (cells : Cells) (total : Option Cells)
@@ -115,7 +123,9 @@ item_past xs i past =
     slice_get_past xs i le
 
 -- the words of a line
-line_is : (names : Names) (line : Line) → line_words (record { names = names; line = line }) ≡ then_words (literal_words names (zip names.literals line.literals)) (statement_words names line.statement)
+line_is : (names : Names) (line : Line)
+    → line_words (record { names = names; line = line })
+    ≡ then_words (literal_words names (zip names.literals line.literals)) (statement_words names line.statement)
 unfolding line_words
 line_is names line = refl
 
@@ -123,16 +133,19 @@ pub line_put : (names : Names) (line : Line) (old middle new : Cells)
     → option_map (put_all old) (literal_words names (zip names.literals line.literals)) ≡ Some middle
     → option_map (put_all middle) (statement_words names line.statement) ≡ Some new
     → option_map (put_all old) (line_words (record { names = names; line = line })) ≡ Some new
-line_put names line old middle new first then = ap (option_map (put_all old)) (line_is names line) ∙ put_then old middle _ (statement_words names line.statement) first ∙ then
+line_put names line old middle new first then =
+    ap (option_map (put_all old)) (line_is names line) ∙ put_then old middle _ (statement_words names line.statement) first ∙ then
 
-pub no_literal_words : (names : Names) (line : Line) → literal_words names (zip names.literals line.literals) ≡ None → is_some (line_words (record { names = names; line = line })) ≡ false
+pub no_literal_words : (names : Names) (line : Line) → literal_words names (zip names.literals line.literals) ≡ None
+    → is_some (line_words (record { names = names; line = line })) ≡ false
 no_literal_words names line none = ap is_some (line_is names line ∙ ap (λ w. then_words w (statement_words names line.statement)) none)
 
 then_none : (first : Option (List (ℕ × ℕ))) → then_words first None ≡ None
 then_none None = refl
 then_none (Some words) = refl
 
-pub no_statement_words : (names : Names) (line : Line) → statement_words names line.statement ≡ None → is_some (line_words (record { names = names; line = line })) ≡ false
+pub no_statement_words : (names : Names) (line : Line) → statement_words names line.statement ≡ None
+    → is_some (line_words (record { names = names; line = line })) ≡ false
 no_statement_words names line none =
     let first = literal_words names (zip names.literals line.literals) in
     ap is_some (line_is names line ∙ ap (then_words first) none ∙ then_none first)
@@ -150,6 +163,10 @@ if_none true n is = cc
 if_none false n is = refl
 
 -- a line whose words are put, with what is found for its start
-pub line_starts : (start : Option ℕ) (old new : Cells) (at : Placed) → option_map (put_all old) (line_words at) ≡ Some new → start ≡ start_named at.names at.line.statement → PutsLine start old new at
+pub line_starts : (start : Option ℕ) (old new : Cells) (at : Placed) → option_map (put_all old) (line_words at) ≡ Some new
+    → start ≡ start_named at.names at.line.statement
+    → PutsLine start old new at
 line_starts (Some start) old new at words is = (words, sym is)
-line_starts None old new at words is = and_fails_right (is_some (line_words at)) (has_start at.names at.line.statement) (if_none (has_start at.names at.line.statement) _ is)
+line_starts None old new at words is =
+    and_fails_right (is_some (line_words at)) (has_start at.names at.line.statement)
+    (if_none (has_start at.names at.line.statement) _ is)

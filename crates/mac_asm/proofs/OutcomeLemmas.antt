@@ -47,16 +47,26 @@ not_read parse_errors.Memory source is = tt
 not_read (parse_errors.Syntax number) source is = out_of_grammar source number is
 
 -- END is missing
-pub without_end : (source : List ℕ) (lines : List Line) → program_of source ≡ Ok lines → has_end lines ≡ false → outcome_of source ≡ Err (record { line = length lines; code = NoEnd })
+pub without_end : (source : List ℕ) (lines : List Line) → program_of source ≡ Ok lines → has_end lines ≡ false
+    → outcome_of source ≡ Err (record { line = length lines; code = NoEnd })
 unfolding outcome_of outcome_read
-without_end source lines is none = ap outcome_read is ∙ ap (λ b. cond b (outcome_from lines (laid_out empty_layout 1 lines)) (Err (record { line = length lines; code = NoEnd }))) none
+without_end source lines is none =
+    ap outcome_read is
+    ∙ ap (λ b. cond b (outcome_from lines (laid_out empty_layout 1 lines)) (Err (record { line = length lines; code = NoEnd })))
+    none
 
-with_end : (source : List ℕ) (lines : List Line) → program_of source ≡ Ok lines → has_end lines ≡ true → outcome_of source ≡ outcome_from lines (laid_out empty_layout 1 lines)
+with_end : (source : List ℕ) (lines : List Line) → program_of source ≡ Ok lines → has_end lines ≡ true
+    → outcome_of source ≡ outcome_from lines (laid_out empty_layout 1 lines)
 unfolding outcome_of outcome_read
-with_end source lines is end = ap outcome_read is ∙ ap (λ b. cond b (outcome_from lines (laid_out empty_layout 1 lines)) (Err (record { line = length lines; code = NoEnd }))) end
+with_end source lines is end =
+    ap outcome_read is
+    ∙ ap (λ b. cond b (outcome_from lines (laid_out empty_layout 1 lines)) (Err (record { line = length lines; code = NoEnd })))
+    end
 
 -- a line that cannot be laid out
-pub not_laid_out : (e : AsmError) (source : List ℕ) (lines : List Line) → program_of source ≡ Ok lines → has_end lines ≡ true → Refuses e lines → Assembles (Err e) (outcome_of source)
+pub not_laid_out : (e : AsmError) (source : List ℕ) (lines : List Line) → program_of source ≡ Ok lines → has_end lines ≡ true
+    → Refuses e lines
+    → Assembles (Err e) (outcome_of source)
 not_laid_out (errors.Line number code) source lines is end refused = with_end source lines is end ∙ ap (outcome_from lines) refused
 not_laid_out errors.Memory source lines is end refused = tt
 
@@ -69,6 +79,8 @@ laid source lines given is end l =
     ∙ ap (λ places. outcome_placed (lines_with given.labels.entries places (places_of_literals l.layout) lines)) (sym l.places)
     ∙ ap (λ literals. outcome_placed (lines_with given.labels.entries given.places.items literals lines)) (sym l.literals)
 
-pub told : (r : Result Image AsmError) (source : List ℕ) (lines : List Line) (given : Given) → program_of source ≡ Ok lines → has_end lines ≡ true → IsLayoutOf given lines
+pub told : (r : Result Image AsmError) (source : List ℕ) (lines : List Line) (given : Given) → program_of source ≡ Ok lines
+    → has_end lines ≡ true
+    → IsLayoutOf given lines
     → Assembles r (outcome_placed (lines_with given.labels.entries given.places.items given.literals.items lines)) → Assembles r (outcome_of source)
 told r source lines given is end l tells = subst (Assembles r) (sym (laid source lines given is end l)) tells

@@ -9,7 +9,8 @@ put_places : (cells : Cells) (place : ℕ) (words : List ℕ) → put_all cells 
 put_places cells place [] = refl
 put_places cells place (word ∷ words) = put_places (set cells place (Some word)) (place + 1) words
 
-pub some_put : (cells : Cells) (place : ℕ) (words : Option (List ℕ)) (next : List ℕ) → words ≡ Some next → option_map (put_all cells) (option_map (at_places place) words) ≡ Some (put_from cells place next)
+pub some_put : (cells : Cells) (place : ℕ) (words : Option (List ℕ)) (next : List ℕ) → words ≡ Some next
+    → option_map (put_all cells) (option_map (at_places place) words) ≡ Some (put_from cells place next)
 some_put cells place words next is = ap (λ o. option_map (put_all cells) (option_map (at_places place) o)) is ∙ ap Some (put_places cells place next)
 
 -- words that were added to none

@@ -68,7 +68,9 @@ impl Core {
         count: &'a Expression,
         scope: &Scope<'a>,
     ) -> Result<bool, AllocError>
-        ensures { IfOk result (λ fits. Puts fits self.old.cells self.new.cells (option_map (at_places place.now) (option_map (λ n. replicate n 0) (count_of (names_of scope.now) count.now)))) }
+        ensures { IfOk result
+            (λ fits. Puts fits self.old.cells self.new.cells
+            (option_map (at_places place.now) (option_map (λ n. replicate n 0) (count_of (names_of scope.now) count.now)))) }
     {
         match block_len(alloc, count, scope)? {
             None => Ok(false),
@@ -87,7 +89,9 @@ impl Core {
         values: &'a [Expression],
         scope: &Scope<'a>,
     ) -> Result<bool, AllocError>
-        ensures { IfOk result (λ fits. Puts fits self.old.cells self.new.cells (option_map (at_places place.now) (words_of_all (word_of (names_of scope.now)) values.now))) }
+        ensures { IfOk result
+            (λ fits. Puts fits self.old.cells self.new.cells
+            (option_map (at_places place.now) (words_of_all (word_of (names_of scope.now)) values.now))) }
     {
         self.next.clear();
         if !push_all(alloc, &mut self.next, values, scope)? {
@@ -99,7 +103,9 @@ impl Core {
 
     /// Puts the words of a text from a place on; false where a character has no code.
     fn put_text(&mut self, place: &Natural, form: TextForm, text: &[u8]) -> Result<bool, AllocError>
-        ensures { IfOk result (λ fits. Puts fits self.old.cells self.new.cells (option_map (at_places place.now) (text_words_from form text.now 0 (words_in form (length text.now))))) }
+        ensures { IfOk result
+            (λ fits. Puts fits self.old.cells self.new.cells
+            (option_map (at_places place.now) (text_words_from form text.now 0 (words_in form (length text.now))))) }
     {
         self.next.clear();
         if !push_text(&mut self.next, form, text)? {

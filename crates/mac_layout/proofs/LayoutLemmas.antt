@@ -25,7 +25,9 @@ part_fits : (place first len count : ℕ) → len ≡ count → (place ≡ first
 part_fits place first len count e (inl same) = ap (λ p. range_with_len p len) (sym same) ∙ ap (range_with_len place) e
 part_fits place first len count e (inr none) = ap (range_with_len first) none ∙ ap (range_with_len place) (sym none ∙ e)
 
-part_by : (place size first len : ℕ) (b : Bool) → first ≡ min place (2 ^ 18) → len ≡ min size (2 ^ 18 - first) → nat_le size (2 ^ 18 - place) ≡ b → range_with_len first len ≡ range_with_len place (cond b size (2 ^ 18 - place))
+part_by : (place size first len : ℕ) (b : Bool) → first ≡ min place (2 ^ 18) → len ≡ min size (2 ^ 18 - first)
+    → nat_le size (2 ^ 18 - place) ≡ b
+    → range_with_len first len ≡ range_with_len place (cond b size (2 ^ 18 - place))
 part_by place size first len true f l e =
     let at : (place ≡ first) ⊎ (len ≡ 0) = elim (leb_tells place (2 ^ 18)) [ inl h ↦ inl (omega (arith, h.1)) | inr h ↦ inr (omega (arith, h.1)) ] in
     part_fits place first len size (grind (arith, nat_tests)) at
@@ -34,12 +36,14 @@ part_by place size first len false f l e =
     part_fits place first len (2 ^ 18 - place) (grind (arith, nat_tests)) at
 
 -- of so many places from one on, those below 2 ^ 18
-pub part_is : (all place size first len : ℕ) → first ≡ min place all → len ≡ min size (all - first) → all ≡ 2 ^ 18 → range_with_len first len ≡ places_in place size
+pub part_is : (all place size first len : ℕ) → first ≡ min place all → len ≡ min size (all - first) → all ≡ 2 ^ 18
+    → range_with_len first len ≡ places_in place size
 part_is all place size first len f l a =
     part_by place size first len (nat_le size (2 ^ 18 - place)) (f ∙ ap (min place) a) (l ∙ ap (λ n. min size (n - first)) a) refl
 
 -- whether they are all below
-pub room_is : (all place size first : ℕ) → first ≡ min place all → all ≡ 2 ^ 18 → not (nat_le size (all - first)) ≡ (not (size == 0) && not (nat_le (place + size) (2 ^ 18)))
+pub room_is : (all place size first : ℕ) → first ≡ min place all → all ≡ 2 ^ 18
+    → not (nat_le size (all - first)) ≡ (not (size == 0) && not (nat_le (place + size) (2 ^ 18)))
 room_is all place size first f a = grind (arith, nat_tests)
 
 pub no_room : (place size : ℕ) → 2 ^ 64 ≤ size → true ≡ (not (size == 0) && not (nat_le (place + size) (2 ^ 18)))
@@ -78,10 +82,13 @@ unfolding least
 least_none None = refl
 least_none (Some code) = refl
 
-taking_by : (past : List ℕ) (place size : ℕ) (any high : Bool) → list_any (is_taken past) (places_in place size) ≡ any → (not (size == 0) && not (nat_le (place + size) (2 ^ 18))) ≡ high
+taking_by : (past : List ℕ) (place size : ℕ) (any high : Bool) → list_any (is_taken past) (places_in place size) ≡ any
+    → (not (size == 0) && not (nat_le (place + size) (2 ^ 18))) ≡ high
     → taking past place size ≡ least (code_if any DefinedTwice) (code_if high PlaceTooHigh)
 unfolding taking
-taking_by past place size any high a h = ap (λ b. least (code_if b DefinedTwice) (code_if (not (size == 0) && not (nat_le (place + size) (2 ^ 18))) PlaceTooHigh)) a ∙ ap (λ b. least (code_if any DefinedTwice) (code_if b PlaceTooHigh)) h
+taking_by past place size any high a h =
+    ap (λ b. least (code_if b DefinedTwice) (code_if (not (size == 0) && not (nat_le (place + size) (2 ^ 18))) PlaceTooHigh)) a
+    ∙ ap (λ b. least (code_if any DefinedTwice) (code_if b PlaceTooHigh)) h
 
 any_of_part : (marks : List Bool) (past : List ℕ) (place size first len : ℕ) (any : Bool) → AreMarks marks past → first + len ≤ length marks
     → (length marks ≡ 2 ^ 18 → range_with_len first len ≡ places_in place size) → any ≡ list_any (λ m. m) (between first (first + len) marks)
@@ -104,7 +111,10 @@ pub taking_once : (marks : List Bool) (past : List ℕ) (place size first len : 
     → any ≡ false → (length marks ≡ 2 ^ 18 → high ≡ (not (size == 0) && not (nat_le (place + size) (2 ^ 18))))
     → code_if high PlaceTooHigh ≡ taking past place size
 taking_once marks past place size first len any high m within places is e h =
-    sym (least_none (code_if high PlaceTooHigh)) ∙ sym (taking_by past place size false high (any_of_part marks past place size first len any m within places is ∙ e) (sym (h m.all)))
+    sym (least_none (code_if high PlaceTooHigh))
+    ∙ sym
+    (taking_by past place size false high (any_of_part marks past place size first len any m within places is ∙ e)
+    (sym (h m.all)))
 
 -- which numbers stand in a range
 range_above : (p first len : ℕ) → p < first → list_any (nat_eq p) (range_with_len first len) ≡ false
@@ -137,7 +147,8 @@ range_has p first (suc len) ge lt =
     ]
 
 -- a mark of a list in three parts
-first_part : (marks part rest : List Bool) (first p : ℕ) → first ≤ length marks → p < first → get_or (take first marks ++ (part ++ rest)) p false ≡ get_or marks p false
+first_part : (marks part rest : List Bool) (first p : ℕ) → first ≤ length marks → p < first
+    → get_or (take first marks ++ (part ++ rest)) p false ≡ get_or marks p false
 first_part marks part rest first p le lt =
     let n = length-take-le first marks le in
     get_or_append_left (take first marks) (part ++ rest) false p (omega arith) ∙ get_or-take first marks p false lt
@@ -165,7 +176,9 @@ third_part marks part first len p le k ge =
 taken_more : (past more : List ℕ) (p : ℕ) (b : Bool) → list_any (nat_eq p) more ≡ b → is_taken (past ++ more) p ≡ (is_taken past p || b)
 taken_more past more p b e = list_any-append (nat_eq p) past more ∙ ap (λ x. is_taken past p || x) e
 
-marked_each : (marks part : List Bool) (past : List ℕ) (first len p : ℕ) → AreMarks marks past → first + len ≤ length marks → part ≡ replicate len true → p < 2 ^ 18
+marked_each : (marks part : List Bool) (past : List ℕ) (first len p : ℕ) → AreMarks marks past → first + len ≤ length marks
+    → part ≡ replicate len true
+    → p < 2 ^ 18
     → get_or (take first marks ++ (part ++ drop len (drop first marks))) p false ≡ is_taken (past ++ range_with_len first len) p
 marked_each marks part past first len p m within is lt =
     let k : length part ≡ len = ap length is ∙ length-replicate len true in
@@ -182,7 +195,9 @@ marked_each marks part past first len p m within is lt =
     ]
 
 -- the marks where a part is marked
-pub marked : (marks part : List Bool) (past : List ℕ) (place size first len n : ℕ) → AreMarks marks past → first + len ≤ length marks → n ≡ len → part ≡ replicate len true
+pub marked : (marks part : List Bool) (past : List ℕ) (place size first len n : ℕ) → AreMarks marks past
+    → first + len ≤ length marks → n ≡ len
+    → part ≡ replicate len true
     → (length marks ≡ 2 ^ 18 → range_with_len first len ≡ places_in place size)
     → AreMarks (take first marks ++ (part ++ drop n (drop first marks))) (past ++ places_in place size)
 marked marks part past place size first len n m within e is places =
@@ -190,7 +205,15 @@ marked marks part past place size first len n m within e is places =
     let rest = drop len (drop first marks) in
     let new = take first marks ++ (part ++ rest) in
     let all : length new ≡ 2 ^ 18 =
-    omega (arith, m.all, length-append (take first marks) (part ++ rest), length-append part rest, length-take-le first marks (omega arith), length-drop len (drop first marks), length-drop first marks) in
+    omega (
+      arith,
+      m.all,
+      length-append (take first marks) (part ++ rest),
+      length-append part rest,
+      length-take-le first marks (omega arith),
+      length-drop len (drop first marks),
+      length-drop first marks,
+    ) in
     let each = λ (p : ℕ) (lt : p < 2 ^ 18). marked_each marks part past first len p m within is lt in
     let R : ℕ → List ℕ → Type 0 = λ i places. AreMarks (take first marks ++ (part ++ drop i (drop first marks))) (past ++ places) in
     subst (λ i. R i (places_in place size)) (sym e) (subst (R len) (places m.all) (record { all = all; each = each }))
@@ -203,10 +226,13 @@ apart_twice name (k ∷ front) rest h =
     elim (eqb_tells name k) [
       | inl e ↦ (let yes : nat_eq k name ≡ true = grind (arith, nat_tests, e.1) in
           let there : list_any (nat_eq k) (front ++ name ∷ rest) ≡ true =
-          list_any-append (nat_eq k) front (name ∷ rest) ∙ ap (λ b. list_any (nat_eq k) front || (b || list_any (nat_eq k) rest)) yes ∙ or_true (list_any (nat_eq k) front) in
+          list_any-append (nat_eq k) front (name ∷ rest)
+          ∙ ap (λ b. list_any (nat_eq k) front || (b || list_any (nat_eq k) rest)) yes
+          ∙ or_true (list_any (nat_eq k) front) in
           ap (λ b. not b && are_apart (front ++ name ∷ rest)) there)
       | inr e ↦ (let later : list_any (nat_eq name) front ≡ true = sym (ap (λ b. b || list_any (nat_eq name) front) e.0) ∙ h in
-          ap (λ b. not (list_any (nat_eq k) (front ++ name ∷ rest)) && b) (apart_twice name front rest later) ∙ and_false (not (list_any (nat_eq k) (front ++ name ∷ rest))))
+          ap (λ b. not (list_any (nat_eq k) (front ++ name ∷ rest)) && b) (apart_twice name front rest later)
+          ∙ and_false (not (list_any (nat_eq k) (front ++ name ∷ rest))))
     ]
 
 -- a label that is new
@@ -235,7 +261,8 @@ insert_at : (name place : ℕ) (e : ℕ × ℕ) (labels : Labels) (b : Bool) →
     → (lookup (nat_eq name) labels ≡ None → insert_entry nat_eq labels name place ≡ labels ++ (name, place) ∷ [])
     → insert_entry nat_eq (e ∷ labels) name place ≡ e ∷ (labels ++ (name, place) ∷ [])
 insert_at name place e labels true is h more = absurd (cc)
-insert_at name place e labels false is h more = ap (λ b. cond b ((e.0, place) ∷ labels) (e ∷ insert_entry nat_eq labels name place)) is ∙ ap (λ l. e ∷ l) (more h)
+insert_at name place e labels false is h more =
+    ap (λ b. cond b ((e.0, place) ∷ labels) (e ∷ insert_entry nat_eq labels name place)) is ∙ ap (λ l. e ∷ l) (more h)
 
 insert_new : (labels : Labels) (name place : ℕ) → lookup (nat_eq name) labels ≡ None → insert_entry nat_eq labels name place ≡ labels ++ (name, place) ∷ []
 insert_new [] name place h = refl
@@ -246,7 +273,9 @@ pub define_fails : (old now : Labels) (names : List ℕ) (place i name d : ℕ) 
     → name ≡ get_or names i d → is_some (lookup (nat_eq name) now) ≡ true → false ≡ are_apart (keys_of old ++ names)
 define_fails old now names place i name d lt so_far item h =
     let keys : keys_of now ≡ keys_of old ++ take i names = ap keys_of so_far ∙ keys_more old place (take i names) in
-    let parted : take i names ++ (name ∷ drop (i + 1) names) ≡ names = ap (λ l. take i names ++ l) (ap (λ n. n ∷ drop (i + 1) names) item ∙ sym (drop_more names i d lt)) ∙ take-append-drop i names in
+    let parted : take i names ++ (name ∷ drop (i + 1) names) ≡ names =
+    ap (λ l. take i names ++ l) (ap (λ n. n ∷ drop (i + 1) names) item ∙ sym (drop_more names i d lt))
+    ∙ take-append-drop i names in
     let all : keys_of now ++ name ∷ drop (i + 1) names ≡ keys_of old ++ names =
     ap (λ l. l ++ name ∷ drop (i + 1) names) keys ∙ append_assoc (keys_of old) (take i names) (name ∷ drop (i + 1) names) ∙ ap (λ l. keys_of old ++ l) parted in
     sym (ap are_apart (sym all) ∙ apart_twice name (keys_of now) (drop (i + 1) names) (sym (is_some-lookup (nat_eq name) now) ∙ h))
@@ -258,7 +287,9 @@ pub define_more : (old now new : Labels) (names : List ℕ) (place i name d : �
 define_more old now new names place i name d lt so_far item h is =
     is ∙ insert_new now name place (is_nothing (lookup (nat_eq name) now) h)
     ∙ ap (λ l. l ++ (name, place) ∷ []) so_far ∙ append_assoc old (own place (take i names)) ((name, place) ∷ [])
-    ∙ ap (λ l. old ++ l) (sym (map-append (λ n. (n, place)) (take i names) (name ∷ [])) ∙ ap (own place) (ap (λ n. take i names ++ n ∷ []) item ∙ sym (take_more names i d lt)))
+    ∙ ap (λ l. old ++ l)
+    (sym (map-append (λ n. (n, place)) (take i names) (name ∷ []))
+    ∙ ap (own place) (ap (λ n. take i names ++ n ∷ []) item ∙ sym (take_more names i d lt)))
 
 pub still_apart : (now new : Labels) (name place : ℕ) → is_some (lookup (nat_eq name) now) ≡ false → new ≡ insert_entry nat_eq now name place
     → are_apart (keys_of now) ≡ true → are_apart (keys_of new) ≡ true
@@ -279,7 +310,8 @@ unmarked_all marks n all is = record {
 }
 
 -- what is taken from a place on settles what is wrong from there on
-any_same : (a b : List ℕ) (first n : ℕ) → ((q : ℕ) → first ≤ q → is_taken a q ≡ is_taken b q) → list_any (is_taken a) (range_with_len first n) ≡ list_any (is_taken b) (range_with_len first n)
+any_same : (a b : List ℕ) (first n : ℕ) → ((q : ℕ) → first ≤ q → is_taken a q ≡ is_taken b q)
+    → list_any (is_taken a) (range_with_len first n) ≡ list_any (is_taken b) (range_with_len first n)
 any_same a b first zero same = refl
 any_same a b first (suc n) same =
     ap (λ x. x || list_any (is_taken a) (range_with_len (first + 1) n)) (same first (omega arith))
@@ -291,7 +323,8 @@ taking_same a b place size same =
     ap (λ x. least (code_if x DefinedTwice) (code_if (not (size == 0) && not (nat_le (place + size) (2 ^ 18))) PlaceTooHigh))
     (any_same a b place (cond (nat_le size (2 ^ 18 - place)) size (2 ^ 18 - place)) same)
 
-size_same : (a b : List ℕ) (place : ℕ) (size : Result ℕ AsmCode) → ((q : ℕ) → place ≤ q → is_taken a q ≡ is_taken b q) → taking_size a place size ≡ taking_size b place size
+size_same : (a b : List ℕ) (place : ℕ) (size : Result ℕ AsmCode) → ((q : ℕ) → place ≤ q → is_taken a q ≡ is_taken b q)
+    → taking_size a place size ≡ taking_size b place size
 size_same a b place (Ok size) same = taking_same a b place size same
 size_same a b place (Err code) same = refl
 
@@ -303,13 +336,18 @@ all_apart taken place (size ∷ sizes) = least (taking_size taken place size) (a
 behind : (taken : List ℕ) (place size q : ℕ) → place + size ≤ q → is_taken (taken ++ places_in place size) q ≡ is_taken taken q
 behind taken place size q ge =
     let few : cond (nat_le size (2 ^ 18 - place)) size (2 ^ 18 - place) ≤ size = grind (arith, nat_tests) in
-    taken_more taken (places_in place size) q false (range_below q place (cond (nat_le size (2 ^ 18 - place)) size (2 ^ 18 - place)) (omega arith)) ∙ or_false (is_taken taken q)
+    taken_more taken (places_in place size) q false
+    (range_below q place (cond (nat_le size (2 ^ 18 - place)) size (2 ^ 18 - place)) (omega arith))
+    ∙ or_false (is_taken taken q)
 
-all_same : (sizes : List (Result ℕ AsmCode)) (a b : List ℕ) (place : ℕ) → ((q : ℕ) → place ≤ q → is_taken a q ≡ is_taken b q) → all_apart b place sizes ≡ taking_all a place sizes
+all_same : (sizes : List (Result ℕ AsmCode)) (a b : List ℕ) (place : ℕ) → ((q : ℕ) → place ≤ q → is_taken a q ≡ is_taken b q)
+    → all_apart b place sizes ≡ taking_all a place sizes
 unfolding taking_all
 all_same [] a b place same = refl
 all_same (size ∷ sizes) a b place same =
-    let more = all_same sizes (a ++ places_in place (count_or 0 size)) b (place + count_or 0 size) (λ q ge. behind a place (count_or 0 size) q ge ∙ same q (omega arith)) in
+    let more =
+    all_same sizes (a ++ places_in place (count_or 0 size)) b (place + count_or 0 size)
+    (λ q ge. behind a place (count_or 0 size) q ge ∙ same q (omega arith)) in
     ap (λ c. least c (all_apart b (place + count_or 0 size) sizes)) (sym (size_same a b place size same)) ∙ ap (least (taking_size a place size)) more
 
 pub all_apart_is : (taken : List ℕ) (place : ℕ) (sizes : List (Result ℕ AsmCode)) → all_apart taken place sizes ≡ taking_all taken place sizes
@@ -331,7 +369,8 @@ unfolding least
 code_least_none None = refl
 code_least_none (Some code) = refl
 
-three : (a b c : AsmCode) (ab bc ac : Bool) → nat_le (number_of a) (number_of b) ≡ ab → nat_le (number_of b) (number_of c) ≡ bc → nat_le (number_of a) (number_of c) ≡ ac
+three : (a b c : AsmCode) (ab bc ac : Bool) → nat_le (number_of a) (number_of b) ≡ ab → nat_le (number_of b) (number_of c) ≡ bc
+    → nat_le (number_of a) (number_of c) ≡ ac
     → least_code (least_code a b) c ≡ least_code a (least_code b c)
 unfolding least_code
 three a b c true true true e f g = rw (e, f, g, e) refl
@@ -371,7 +410,8 @@ one_low marks past at place twice clamped within m is =
     let lt : place < 2 ^ 18 = omega (arith, m.all) in
     let low : (not (1 == 0) && not (nat_le (place + 1) (2 ^ 18))) ≡ false = grind (arith, nat_tests) in
     let any : list_any (is_taken past) (places_in place 1) ≡ twice =
-    ap (list_any (is_taken past)) (own_place place lt) ∙ or_false (is_taken past place) ∙ sym (m.each place lt) ∙ sym (ap (λ p. get_or marks p false) same) ∙ is in
+    ap (list_any (is_taken past)) (own_place place lt) ∙ or_false (is_taken past place) ∙ sym (m.each place lt)
+    ∙ sym (ap (λ p. get_or marks p false) same) ∙ is in
     sym (taking_by past place 1 twice false any low ∙ code_least_none (code_if twice DefinedTwice))
 
 set_each : (marks : List Bool) (past : List ℕ) (place p : ℕ) → place < 2 ^ 18 → p < 2 ^ 18 → AreMarks marks past
@@ -392,7 +432,8 @@ pub low_marks : (marks : List Bool) (past : List ℕ) (at place : ℕ) → at �
 low_marks marks past at place clamped within m =
     let same : place ≡ at = omega arith in
     let lt : place < 2 ^ 18 = omega (arith, m.all) in
-    subst (λ p. AreMarks (set marks p true) (past ++ places_in place 1)) same (subst (λ l. AreMarks (set marks place true) (past ++ l)) (sym (own_place place lt)) (record {
+    subst (λ p. AreMarks (set marks p true) (past ++ places_in place 1)) same
+    (subst (λ l. AreMarks (set marks place true) (past ++ l)) (sym (own_place place lt)) (record {
       all = length-set marks place true ∙ m.all;
       each = λ p below. set_each marks past place p lt below m;
     }))
@@ -408,7 +449,9 @@ least_assoc (Some a) (Some b) (Some c) =
     ∙ sym (least_some a (least_code b c)) ∙ ap (least (Some a)) (sym (least_some b c))
 
 -- one literal more
-pub literals_more : (past : List ℕ) (code next : Option AsmCode) (at at' : ℕ) (sizes : List (Result ℕ AsmCode)) (i : ℕ) (size d : Result ℕ AsmCode) (total : Option AsmCode) → i < length sizes
+pub literals_more : (past : List ℕ) (code next : Option AsmCode) (at at' : ℕ) (sizes : List (Result ℕ AsmCode)) (i : ℕ)
+    (size d : Result ℕ AsmCode) (total : Option AsmCode)
+    → i < length sizes
     → size ≡ get_or sizes i d → next ≡ least code (taking_size past at size) → at' ≡ at + count_or 0 size
     → least code (all_apart past at (drop i sizes)) ≡ total → least next (all_apart past at' (drop (i + 1) sizes)) ≡ total
 literals_more past code next at at' sizes i size d total lt item n a so_far =
@@ -427,7 +470,8 @@ literals_end past code at place sizes i ge so_far =
 abbrev pub places_with : List ℕ → ℕ → List (Result ℕ AsmCode) → List ℕ
 places_with front at sizes = front ++ places_from at (map (count_or 0) sizes)
 
-places_cons : (at : ℕ) (size : Result ℕ AsmCode) (sizes : List (Result ℕ AsmCode)) → places_from at (map (count_or 0) (size ∷ sizes)) ≡ at ∷ places_from (at + count_or 0 size) (map (count_or 0) sizes)
+places_cons : (at : ℕ) (size : Result ℕ AsmCode) (sizes : List (Result ℕ AsmCode))
+    → places_from at (map (count_or 0) (size ∷ sizes)) ≡ at ∷ places_from (at + count_or 0 size) (map (count_or 0) sizes)
 unfolding places_from
 places_cons at size sizes = refl
 
@@ -462,7 +506,8 @@ pub with_labels_stands : (p q : Progress) (s : Layout) (line : Line) → StandsF
     → StandsFor q (with_labels s line)
 unfolding with_labels
 with_labels_stands p q s line m apart labels place places taken sizes =
-    let all : q.labels.entries ≡ s.labels ++ own s.place line.labels = labels ∙ ap (λ l. l ++ own p.place line.labels) m.labels ∙ ap (λ n. s.labels ++ own n line.labels) m.place in
+    let all : q.labels.entries ≡ s.labels ++ own s.place line.labels =
+    labels ∙ ap (λ l. l ++ own p.place line.labels) m.labels ∙ ap (λ n. s.labels ++ own n line.labels) m.place in
     record {
       labels = all;
       apart = ap are_apart (keys_more s.labels s.place line.labels) ∙ apart;
@@ -476,7 +521,9 @@ with_labels_stands p q s line m apart labels place places taken sizes =
 
 -- a statement of a size
 pub with_size_stands : (p q : Progress) (s : Layout) (words : ℕ) → StandsFor p s → q.labels.entries ≡ p.labels.entries → q.place ≡ p.place + words
-    → q.places.items ≡ p.places.items → AreMarks q.taken.items (s.taken ++ places_in p.place words) → q.sizes.items ≡ p.sizes.items → StandsFor q (with_size s (Ok words))
+    → q.places.items ≡ p.places.items → AreMarks q.taken.items (s.taken ++ places_in p.place words)
+    → q.sizes.items ≡ p.sizes.items
+    → StandsFor q (with_size s (Ok words))
 with_size_stands p q s words m labels place places taken sizes = record {
   labels = labels ∙ m.labels;
   apart = m.apart;
@@ -505,25 +552,32 @@ stands_still p s m = record {
   sizes = m.sizes;
 }
 
-pub lays_data : (p q : Progress) (st : Option Statement) (given : Data) (size : Result ℕ AsmCode) (code : Option AsmCode) → st ≡ Some (statements.Data given) → size ≡ checked_size p.labels.entries p.place given
+pub lays_data : (p q : Progress) (st : Option Statement) (given : Data) (size : Result ℕ AsmCode) (code : Option AsmCode)
+    → st ≡ Some (statements.Data given)
+    → size ≡ checked_size p.labels.entries p.place given
     → Lays p q (λ s. taking_size s.taken s.place size) (λ s. with_size s size) code → Lays p q (λ s. statement_code s st) (λ s. with_statement s st) code
 unfolding statement_code with_statement
 lays_data p q st given size code is sized h = λ s m.
-    let measured : size ≡ checked_size s.labels s.place given = sized ∙ ap (λ l. checked_size l p.place given) m.labels ∙ ap (λ n. checked_size s.labels n given) m.place in
+    let measured : size ≡ checked_size s.labels s.place given =
+    sized ∙ ap (λ l. checked_size l p.place given) m.labels ∙ ap (λ n. checked_size s.labels n given) m.place in
     let R : Option Statement → Type 0 = λ t. (code ≡ statement_code s t) × (code ≡ None → StandsFor q (with_statement s t)) in
     let S : Result ℕ AsmCode → Type 0 = λ z. (code ≡ taking_size s.taken s.place z) × (code ≡ None → StandsFor q (with_size s z)) in
     subst R (sym is) (subst S measured (h s m))
 
-counted : (p : Progress) (s : Layout) (e : List SignedTerm) (r : Result ℕ AsmCode) → StandsFor p s → r ≡ checked_count p.labels.entries p.place e → r ≡ checked_count s.labels s.place e
+counted : (p : Progress) (s : Layout) (e : List SignedTerm) (r : Result ℕ AsmCode) → StandsFor p s
+    → r ≡ checked_count p.labels.entries p.place e
+    → r ≡ checked_count s.labels s.place e
 counted p s e r m is = is ∙ ap (λ l. checked_count l p.place e) m.labels ∙ ap (λ n. checked_count s.labels n e) m.place
 
-pub lays_loc_not : (p q : Progress) (st : Option Statement) (e : List SignedTerm) (code : AsmCode) → st ≡ Some (statements.Loc e) → Err code ≡ checked_count p.labels.entries p.place e
+pub lays_loc_not : (p q : Progress) (st : Option Statement) (e : List SignedTerm) (code : AsmCode) → st ≡ Some (statements.Loc e)
+    → Err code ≡ checked_count p.labels.entries p.place e
     → Lays p q (λ s. statement_code s st) (λ s. with_statement s st) (Some code)
 unfolding statement_code
 lays_loc_not p q st e code is wrong = λ s m.
     (ap code_of (counted p s e (Err code) m wrong) ∙ sym (ap (statement_code s) is), λ h. absurd (cc))
 
-pub lays_loc : (p q : Progress) (st : Option Statement) (e : List SignedTerm) (n : ℕ) → st ≡ Some (statements.Loc e) → Ok n ≡ checked_count p.labels.entries p.place e
+pub lays_loc : (p q : Progress) (st : Option Statement) (e : List SignedTerm) (n : ℕ) → st ≡ Some (statements.Loc e)
+    → Ok n ≡ checked_count p.labels.entries p.place e
     → q.labels.entries ≡ p.labels.entries → q.place ≡ n → q.places.items ≡ p.places.items → q.taken.items ≡ p.taken.items → q.sizes.items ≡ p.sizes.items
     → Lays p q (λ s. statement_code s st) (λ s. with_statement s st) None
 unfolding statement_code with_statement
@@ -539,7 +593,8 @@ lays_loc p q st e n is right labels place places taken sizes = λ s m.
     } in
     (ap code_of counts ∙ sym (ap (statement_code s) is), λ h. subst (λ t. StandsFor q (with_statement s t)) (sym is) next)
 
-pub lays_radix : (p : Progress) (st : Option Statement) (n : ℕ) (code : Option AsmCode) → st ≡ Some (statements.Radix n) → code ≡ code_if (not (nat_le 2 n && nat_le n 10)) DoesNotFit
+pub lays_radix : (p : Progress) (st : Option Statement) (n : ℕ) (code : Option AsmCode) → st ≡ Some (statements.Radix n)
+    → code ≡ code_if (not (nat_le 2 n && nat_le n 10)) DoesNotFit
     → Lays p p (λ s. statement_code s st) (λ s. with_statement s st) code
 unfolding statement_code with_statement
 lays_radix p st n code is h = λ s m.
@@ -568,8 +623,12 @@ lays_nothing p st is = λ s m.
 pub line_twice : (p q mid : Progress) (line : Line) → ((s : Layout) → StandsFor p s → Defines false s line mid)
     → Lays p q (λ s. line_code s line) (λ s. with_line s line) (Some DefinedTwice)
 unfolding line_code
-line_twice p q mid line defines = λ s m.
-    (sym (ap (λ b. cond b (least (labels_code s line) (statement_code (with_labels s line) line.statement)) (Some DefinedTwice)) (sym (defines s m).0)), λ h. absurd (cc))
+line_twice p q mid line defines = λ s m. (
+  sym
+      (ap (λ b. cond b (least (labels_code s line) (statement_code (with_labels s line) line.statement)) (Some DefinedTwice))
+      (sym (defines s m).0)),
+  λ h. absurd (cc),
+)
 
 last_none : (a b : Option AsmCode) → least a b ≡ None → b ≡ None
 last_none a None h = refl
@@ -593,7 +652,8 @@ line_lays p mid q line labels own code high defines lays is = λ s m.
     )
 
 -- the lines so far are laid out
-laid_out-cons : (s : Layout) (number : ℕ) (line : Line) (lines : List Line) → laid_out s number (line ∷ lines) ≡ unless_fault number (line_code s line) (laid_out (with_line s line) (number + 1) lines)
+laid_out-cons : (s : Layout) (number : ℕ) (line : Line) (lines : List Line)
+    → laid_out s number (line ∷ lines) ≡ unless_fault number (line_code s line) (laid_out (with_line s line) (number + 1) lines)
 unfolding laid_out
 laid_out-cons s number line lines = refl
 
@@ -601,20 +661,28 @@ laid_out-nil : (s : Layout) (number : ℕ) → laid_out s number [] ≡ Ok s
 unfolding laid_out
 laid_out-nil s number = refl
 
-next_line : (s : Layout) (lines : List Line) (i : ℕ) (line d : Line) (code : Option AsmCode) (total : Result Layout Fault) → i < length lines → line ≡ get_or lines i d → code ≡ line_code s line
+next_line : (s : Layout) (lines : List Line) (i : ℕ) (line d : Line) (code : Option AsmCode) (total : Result Layout Fault)
+    → i < length lines → line ≡ get_or lines i d
+    → code ≡ line_code s line
     → laid_out s (i + 1) (drop i lines) ≡ total → total ≡ unless_fault (i + 1) code (laid_out (with_line s line) (i + 1 + 1) (drop (i + 1) lines))
 next_line s lines i line d code total lt item is so_far =
     sym so_far ∙ ap (laid_out s (i + 1)) (drop_more lines i d lt ∙ ap (λ x. x ∷ drop (i + 1) lines) (sym item))
     ∙ laid_out-cons s (i + 1) line (drop (i + 1) lines)
     ∙ ap (λ c. unless_fault (i + 1) c (laid_out (with_line s line) (i + 1 + 1) (drop (i + 1) lines))) (sym is)
 
-pub line_goes_on : (s : Layout) (lines : List Line) (i : ℕ) (line d : Line) (total : Result Layout Fault) → i < length lines → line ≡ get_or lines i d → None ≡ line_code s line
+pub line_goes_on : (s : Layout) (lines : List Line) (i : ℕ) (line d : Line) (total : Result Layout Fault) → i < length lines
+    → line ≡ get_or lines i d
+    → None ≡ line_code s line
     → laid_out s (i + 1) (drop i lines) ≡ total → laid_out (with_line s line) (i + 1 + 1) (drop (i + 1) lines) ≡ total
 line_goes_on s lines i line d total lt item is so_far = sym (next_line s lines i line d None total lt item is so_far)
 
-pub line_fails : (s : Layout) (lines : List Line) (i : ℕ) (line d : Line) (code : AsmCode) (total : Result Layout Fault) → i < length lines → line ≡ get_or lines i d → Some code ≡ line_code s line
+pub line_fails : (s : Layout) (lines : List Line) (i : ℕ) (line d : Line) (code : AsmCode) (total : Result Layout Fault)
+    → i < length lines → line ≡ get_or lines i d
+    → Some code ≡ line_code s line
     → laid_out s (i + 1) (drop i lines) ≡ total → total ≡ Err (record { line = i + 1; code = code })
 line_fails s lines i line d code total lt item is so_far = next_line s lines i line d (Some code) total lt item is so_far
 
-pub lines_done : (s : Layout) (lines : List Line) (i : ℕ) (total : Result Layout Fault) → length lines ≤ i → laid_out s (i + 1) (drop i lines) ≡ total → total ≡ Ok s
+pub lines_done : (s : Layout) (lines : List Line) (i : ℕ) (total : Result Layout Fault) → length lines ≤ i
+    → laid_out s (i + 1) (drop i lines) ≡ total
+    → total ≡ Ok s
 lines_done s lines i total ge so_far = sym so_far ∙ at_drop_all (laid_out s (i + 1)) lines i ge ∙ laid_out-nil s (i + 1)

@@ -18,8 +18,11 @@ use Rattle.mac_text.specs.Scan.{word_of}
 greater_is_ascii : (a b : ℕ) → is_ascii (max a b) ≡ (is_ascii a && is_ascii b)
 greater_is_ascii a b = grind (arith, nat_tests)
 
-pub ascii_so_far : (greatest : ℕ) (text : List ℕ) (i : ℕ) → i < length text → is_ascii greatest ≡ list_all is_ascii (take i text) → is_ascii (max greatest (get_or text i 0)) ≡ list_all is_ascii (take (i + 1) text)
-ascii_so_far greatest text i lt h = greater_is_ascii greatest (get_or text i 0) ∙ ap (λ b. b && is_ascii (get_or text i 0)) h ∙ sym (list_all_more is_ascii text i 0 lt)
+pub ascii_so_far : (greatest : ℕ) (text : List ℕ) (i : ℕ) → i < length text → is_ascii greatest ≡ list_all is_ascii (take i text)
+    → is_ascii (max greatest (get_or text i 0)) ≡ list_all is_ascii (take (i + 1) text)
+ascii_so_far greatest text i lt h =
+    greater_is_ascii greatest (get_or text i 0) ∙ ap (λ b. b && is_ascii (get_or text i 0)) h
+    ∙ sym (list_all_more is_ascii text i 0 lt)
 
 -- ---- names
 

@@ -29,7 +29,9 @@ no_name c [] h = rw h refl
 no_name c (d ∷ cs) h = rw h refl
 
 -- a word of digits goes as far as they do
-word_ends : (radix i : ℕ) (text : List ℕ) → radix ≤ 10 → i ≤ length text → list_all (is_digit_of radix) (take i text) ≡ true → (i < length text → is_name_character (get_or text i 0) ≡ false) → prefix_len is_name_character text ≡ i
+word_ends : (radix i : ℕ) (text : List ℕ) → radix ≤ 10 → i ≤ length text → list_all (is_digit_of radix) (take i text) ≡ true
+    → (i < length text → is_name_character (get_or text i 0) ≡ false)
+    → prefix_len is_name_character text ≡ i
 word_ends radix zero [] r w h e = refl
 word_ends radix zero (c ∷ cs) r w h e = rw (e (omega arith)) refl
 word_ends radix (suc i) [] r w h e = absurd (omega arith)
@@ -38,7 +40,8 @@ word_ends radix (suc i) (c ∷ cs) r w h e =
     let more = word_ends radix i cs r (omega arith) p.1 (λ lt. e (omega arith)) in
     rw (digit_names c (digit_is_digit radix c r p.0), more) (omega arith)
 
-pub digits_term : (radix : ℕ) (digits : List ℕ) → radix ≤ 10 → 0 < length digits → list_all (is_digit_of radix) digits ≡ true → term_of_word radix digits ≡ Some (Number (digits_value radix digits))
+pub digits_term : (radix : ℕ) (digits : List ℕ) → radix ≤ 10 → 0 < length digits → list_all (is_digit_of radix) digits ≡ true
+    → term_of_word radix digits ≡ Some (Number (digits_value radix digits))
 unfolding number_of
 digits_term radix [] r w h = absurd (omega arith)
 digits_term radix (c ∷ cs) r w h =
@@ -47,8 +50,14 @@ digits_term radix (c ∷ cs) r w h =
     let some = ne_eqb (length (c ∷ cs)) 0 (λ e. omega arith) in
     rw (no_name c cs digit, digit_is_no_point c cs digit, some, h) refl
 
-pub digits_length : (radix i : ℕ) (text : List ℕ) → radix ≤ 10 → i ≤ length text → list_all (is_digit_of radix) (take i text) ≡ true → (i < length text → is_name_character (get_or text i 0) ≡ false) → length (word_of text) ≡ i
+pub digits_length : (radix i : ℕ) (text : List ℕ) → radix ≤ 10 → i ≤ length text
+    → list_all (is_digit_of radix) (take i text) ≡ true → (i < length text → is_name_character (get_or text i 0) ≡ false)
+    → length (word_of text) ≡ i
 digits_length radix i text r w h e = word_length text ∙ word_ends radix i text r w h e
 
-pub leading_term : (radix i : ℕ) (text : List ℕ) → radix ≤ 10 → 0 < i → i ≤ length text → list_all (is_digit_of radix) (take i text) ≡ true → (i < length text → is_name_character (get_or text i 0) ≡ false) → term_of_word radix (word_of text) ≡ Some (Number (digits_value radix (take i text)))
-leading_term radix i text r some w h e = ap (λ n. term_of_word radix (take n text)) (word_ends radix i text r w h e) ∙ digits_term radix (take i text) r (omega (arith, length-take i text)) h
+pub leading_term : (radix i : ℕ) (text : List ℕ) → radix ≤ 10 → 0 < i → i ≤ length text
+    → list_all (is_digit_of radix) (take i text) ≡ true → (i < length text → is_name_character (get_or text i 0) ≡ false)
+    → term_of_word radix (word_of text) ≡ Some (Number (digits_value radix (take i text)))
+leading_term radix i text r some w h e =
+    ap (λ n. term_of_word radix (take n text)) (word_ends radix i text r w h e)
+    ∙ digits_term radix (take i text) r (omega (arith, length-take i text)) h

@@ -5,7 +5,9 @@ use Rattle.mac_text.specs.declared.fault.Fault.{Fault}
 use Rattle.mac_text.specs.declared.fault.Fault.TheVariants as faults
 
 -- the first item and those behind it
-pub one_more : {X : Type 0} (next : Scan → Option (Option X × Scan)) (n : ℕ) (s t u : Scan) (x : X) (xs : List X) → next s ≡ Some (Some x, t) → items_at next n t ≡ Some (xs, u) → items_at next (suc n) s ≡ Some (x ∷ xs, u)
+pub one_more : {X : Type 0} (next : Scan → Option (Option X × Scan)) (n : ℕ) (s t u : Scan) (x : X) (xs : List X)
+    → next s ≡ Some (Some x, t) → items_at next n t ≡ Some (xs, u)
+    → items_at next (suc n) s ≡ Some (x ∷ xs, u)
 unfolding items_at
 one_more next n s t u x xs a b = rw (a, b) refl
 
@@ -14,7 +16,8 @@ pub no_more : {X : Type 0} (next : Scan → Option (Option X × Scan)) (n : ℕ)
 unfolding items_at
 no_more next n s t a = rw a refl
 
-regroup : {X : Type 0} (front : List X) (x : X) (read : Option (List X × Scan)) → with_front front (with_front (x ∷ []) read) ≡ with_front (front ++ x ∷ []) read
+regroup : {X : Type 0} (front : List X) (x : X) (read : Option (List X × Scan))
+    → with_front front (with_front (x ∷ []) read) ≡ with_front (front ++ x ∷ []) read
 regroup front x None = refl
 regroup front x (Some r) = ap (λ l. Some (l, r.1)) (sym (append_assoc front (x ∷ []) r.0))
 
@@ -24,7 +27,8 @@ pub items_go_on : {X : Type 0} (next : Scan → Option (Option X × Scan)) (fron
 unfolding items_at
 items_go_on next front n i s t x total lt h so_far =
     let k : n - i ≡ suc (n - (i + 1)) = omega arith in
-    let one : with_front front (items_at next (n - i) s) ≡ with_front (front ++ x ∷ []) (items_at next (n - (i + 1)) t) = rw (k, h) (regroup front x (items_at next (n - (i + 1)) t)) in
+    let one : with_front front (items_at next (n - i) s) ≡ with_front (front ++ x ∷ []) (items_at next (n - (i + 1)) t) =
+    rw (k, h) (regroup front x (items_at next (n - (i + 1)) t)) in
     sym one ∙ so_far
 
 -- no more item came
@@ -37,7 +41,9 @@ items_end next front n i s t total lt h so_far =
     sym so_far ∙ one
 
 -- an item could not be read
-pub items_fail : {X : Type 0} (next : Scan → Option (Option X × Scan)) (e : Fault) (front : List X) (n i : ℕ) (s : Scan) (total : Option (List X × Scan)) → i < n
+pub items_fail : {X : Type 0} (next : Scan → Option (Option X × Scan)) (e : Fault) (front : List X) (n i : ℕ) (s : Scan)
+    (total : Option (List X × Scan))
+    → i < n
     → Fails e (next s) → with_front front (items_at next (n - i) s) ≡ total → Fails e total
 unfolding items_at
 items_fail next faults.Memory front n i s total lt h so_far = tt

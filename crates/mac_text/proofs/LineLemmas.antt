@@ -27,25 +27,37 @@ regroup : {X : Type 0} (front : List X) (x : X) (read : Option (List X)) → wit
 regroup front x None = refl
 regroup front x (Some xs) = ap Some (sym (append_assoc front (x ∷ []) xs))
 
-literals_of-cons : (radix : ℕ) (text : List ℕ) (texts : List (List ℕ)) → literals_of radix (text ∷ texts) ≡ (literal_of radix text >>= λ given. with_earlier (given ∷ []) (literals_of radix texts))
+literals_of-cons : (radix : ℕ) (text : List ℕ) (texts : List (List ℕ))
+    → literals_of radix (text ∷ texts) ≡ (literal_of radix text >>= λ given. with_earlier (given ∷ []) (literals_of radix texts))
 unfolding literals_of
 literals_of-cons radix text texts = refl
 
-texts_of-drop : (texts : List (Bor (List ℕ))) (i : ℕ) (d : Bor (List ℕ)) → i < length texts → texts_of (drop i texts) ≡ (get_or texts i d).now ∷ texts_of (drop (i + 1) texts)
+texts_of-drop : (texts : List (Bor (List ℕ))) (i : ℕ) (d : Bor (List ℕ)) → i < length texts
+    → texts_of (drop i texts) ≡ (get_or texts i d).now ∷ texts_of (drop (i + 1) texts)
 texts_of-drop texts i d lt = ap texts_of (drop_more texts i d lt)
 
-pub literals_go_on : (radix : ℕ) (front : List Data) (texts : List (Bor (List ℕ))) (i : ℕ) (d : Bor (List ℕ)) (given : Data) (total : Option (List Data)) → i < length texts
+pub literals_go_on : (radix : ℕ) (front : List Data) (texts : List (Bor (List ℕ))) (i : ℕ) (d : Bor (List ℕ)) (given : Data)
+    (total : Option (List Data))
+    → i < length texts
     → literal_of radix (get_or texts i d).now ≡ Some given → with_earlier front (literals_of radix (texts_of (drop i texts))) ≡ total
     → with_earlier (front ++ given ∷ []) (literals_of radix (texts_of (drop (i + 1) texts))) ≡ total
 literals_go_on radix front texts i d given total lt h so_far =
-    let e = ap (literals_of radix) (texts_of-drop texts i d lt) ∙ literals_of-cons radix (get_or texts i d).now (texts_of (drop (i + 1) texts)) ∙ ap (λ o. o >>= λ g. with_earlier (g ∷ []) (literals_of radix (texts_of (drop (i + 1) texts)))) h in
+    let e =
+    ap (literals_of radix) (texts_of-drop texts i d lt)
+    ∙ literals_of-cons radix (get_or texts i d).now (texts_of (drop (i + 1) texts))
+    ∙ ap (λ o. o >>= λ g. with_earlier (g ∷ []) (literals_of radix (texts_of (drop (i + 1) texts)))) h in
     sym (regroup front given (literals_of radix (texts_of (drop (i + 1) texts)))) ∙ sym (ap (with_earlier front) e) ∙ so_far
 
-pub literals_fail : (radix : ℕ) (e : Fault) (front : List Data) (texts : List (Bor (List ℕ))) (i : ℕ) (d : Bor (List ℕ)) (total : Option (List Data)) → i < length texts
+pub literals_fail : (radix : ℕ) (e : Fault) (front : List Data) (texts : List (Bor (List ℕ))) (i : ℕ) (d : Bor (List ℕ))
+    (total : Option (List Data))
+    → i < length texts
     → Fails e (literal_of radix (get_or texts i d).now) → with_earlier front (literals_of radix (texts_of (drop i texts))) ≡ total → Fails e total
 literals_fail radix faults.Memory front texts i d total lt h so_far = tt
 literals_fail radix faults.Syntax front texts i d total lt h so_far =
-    let e = ap (literals_of radix) (texts_of-drop texts i d lt) ∙ literals_of-cons radix (get_or texts i d).now (texts_of (drop (i + 1) texts)) ∙ ap (λ o. o >>= λ g. with_earlier (g ∷ []) (literals_of radix (texts_of (drop (i + 1) texts)))) h in
+    let e =
+    ap (literals_of radix) (texts_of-drop texts i d lt)
+    ∙ literals_of-cons radix (get_or texts i d).now (texts_of (drop (i + 1) texts))
+    ∙ ap (λ o. o >>= λ g. with_earlier (g ∷ []) (literals_of radix (texts_of (drop (i + 1) texts)))) h in
     sym so_far ∙ ap (with_earlier front) e
 
 literals_of-nil : (radix : ℕ) → literals_of radix [] ≡ Some []
@@ -61,7 +73,8 @@ drop_past (x ∷ xs) (suc i) h = drop_past xs i (omega arith)
 pub literals_done : (radix : ℕ) (front : List Data) (texts : List (Bor (List ℕ))) (i : ℕ) (total : Option (List Data)) → length texts ≤ i
     → with_earlier front (literals_of radix (texts_of (drop i texts))) ≡ total → total ≡ Some front
 literals_done radix front texts i total le so_far =
-    sym so_far ∙ ap (λ ts. with_earlier front (literals_of radix (texts_of ts))) (drop_past texts i le) ∙ ap (with_earlier front) (literals_of-nil radix) ∙ ap Some (append-nil front)
+    sym so_far ∙ ap (λ ts. with_earlier front (literals_of radix (texts_of ts))) (drop_past texts i le)
+    ∙ ap (with_earlier front) (literals_of-nil radix) ∙ ap Some (append-nil front)
 
 -- ---- lines
 
@@ -91,14 +104,19 @@ lines_at text i within before here =
     ap lines_of_parts (ap (slice_split newline) e ∙ s) ∙ parts_more (take i text) (slice_split newline (drop (i + 1) text)) (parts_some (drop (i + 1) text))
 
 -- the last line has none
-pub lines_last : (text : List ℕ) → 0 < length text → ((k : ℕ) → k < length text → get_or text k 0 ≡ 10 → ⊥) → lines text ≡ text ∷ lines (drop (length text) text)
+pub lines_last : (text : List ℕ) → 0 < length text → ((k : ℕ) → k < length text → get_or text k 0 ≡ 10 → ⊥)
+    → lines text ≡ text ∷ lines (drop (length text) text)
 lines_last text some before =
     let none = subst (All (λ b. newline b ≡ false)) (take_all (length text) text (omega arith)) (none_before text (length text) (omega arith) before) in
-    ap lines_of_parts (slice_split_none newline text none) ∙ ap (λ b. cond b [] (text ∷ [])) (ne_eqb (length text) 0 (λ e. omega arith)) ∙ sym (ap (λ l. text ∷ lines l) (drop_past text (length text) (omega arith)))
+    ap lines_of_parts (slice_split_none newline text none)
+    ∙ ap (λ b. cond b [] (text ∷ [])) (ne_eqb (length text) 0 (λ e. omega arith))
+    ∙ sym (ap (λ l. text ∷ lines l) (drop_past text (length text) (omega arith)))
 
 -- what holds of each character holds of those in front and those behind
 pub parts_pass : (p : ℕ → Bool) (n : ℕ) (text : List ℕ) → list_all p text ≡ true → (list_all p (take n text) ≡ true) × (list_all p (drop n text) ≡ true)
-parts_pass p n text h = and_parts (list_all p (take n text)) (list_all p (drop n text)) (sym (list_all-append p (take n text) (drop n text)) ∙ ap (list_all p) (take-append-drop n text) ∙ h)
+parts_pass p n text h =
+    and_parts (list_all p (take n text)) (list_all p (drop n text))
+    (sym (list_all-append p (take n text) (drop n text)) ∙ ap (list_all p) (take-append-drop n text) ∙ h)
 
 pub front_passes : (p : ℕ → Bool) (n : ℕ) (text : List ℕ) → list_all p text ≡ true → list_all p (strip_carriage_return (take n text)) ≡ true
 front_passes p n text h = stripped (get_or (take n text) (length (take n text) - 1) 0 == 13) (take n text) (parts_pass p n text h).0

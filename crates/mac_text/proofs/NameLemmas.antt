@@ -39,10 +39,13 @@ pub folded_short : (name : List ℕ) → length (folded name) ≤ 6
 folded_short name = omega (arith, length-map (take 6 name) upper_case, length-take 6 name)
 
 -- the symbol of a name is that of a list of characters in upper case only where they are the name's first six
-pub symbol_tells : (name known : List ℕ) → list_all is_name_character name ≡ true → length known ≤ 6 → list_all has_code known ≡ true → symbol_of name ≡ sixbit_of known → folded name ≡ known
+pub symbol_tells : (name known : List ℕ) → list_all is_name_character name ≡ true → length known ≤ 6
+    → list_all has_code known ≡ true → symbol_of name ≡ sixbit_of known
+    → folded name ≡ known
 unfolding symbol_of
 symbol_tells name known h short k same = sixbit_tells (folded name) known (folded_short name) short (folded_has_codes name h) k same
 
-pub one_symbol : (a b : List ℕ) → list_all is_name_character a ≡ true → list_all is_name_character b ≡ true → (symbol_of a ≡ symbol_of b) ↔ (folded a ≡ folded b)
+pub one_symbol : (a b : List ℕ) → list_all is_name_character a ≡ true → list_all is_name_character b ≡ true
+    → (symbol_of a ≡ symbol_of b) ↔ (folded a ≡ folded b)
 unfolding symbol_of
 one_symbol a b h k = (λ same. symbol_tells a (folded b) h (folded_short b) (folded_has_codes b k) same, λ same. ap (sixbit_of) same)

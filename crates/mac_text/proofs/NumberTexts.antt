@@ -76,7 +76,9 @@ unfolding octal_within
 octal_digits zero n = refl
 octal_digits (suc k) n =
     let last : list_all (is_digit_of 8) (last_digit n ∷ []) ≡ true = rw (last_is_digit n) refl in
-    by_digits (λ _ ds. list_all (is_digit_of 8) ds ≡ true) k n (λ _. last) (λ _. list_all-append (is_digit_of 8) (octal_within k (n / 8)) (last_digit n ∷ []) ∙ rw (octal_digits k (n / 8), last) refl)
+    by_digits (λ _ ds. list_all (is_digit_of 8) ds ≡ true) k n (λ _. last)
+    (λ _. list_all-append (is_digit_of 8) (octal_within k (n / 8)) (last_digit n ∷ [])
+    ∙ rw (octal_digits k (n / 8), last) refl)
 
 octal_some : (k n : ℕ) → 0 < length (octal_within (suc k) n)
 octal_some k n = by_digits (λ _ ds. 0 < length ds) k n (λ _. omega arith) (λ _. omega (arith, length-append (octal_within k (n / 8)) (last_digit n ∷ [])))
@@ -122,7 +124,15 @@ begins (d ∷ ds) tail some h =
       at_sign = ne_eqb d 64 (λ e. omega (arith, within.1));
       bracket = ne_eqb d 91 (λ e. omega (arith, within.1));
       arrow = ne_eqb d 94 (λ e. omega (arith, within.1));
-      expression = rw (ne_eqb d 43 (λ e. omega (arith, within.0)), ne_eqb d 45 (λ e. omega (arith, within.0)), ne_eqb d 94 (λ e. omega (arith, within.1)), ne_eqb d 91 (λ e. omega (arith, within.1)), digit_is_name_character d is) refl;
+      expression =
+          rw (
+            ne_eqb d 43 (λ e. omega (arith, within.0)),
+            ne_eqb d 45 (λ e. omega (arith, within.0)),
+            ne_eqb d 94 (λ e. omega (arith, within.1)),
+            ne_eqb d 91 (λ e. omega (arith, within.1)),
+            digit_is_name_character d is,
+          )
+          refl;
     }
 
 pub octal_begins : (n : ℕ) (tail : List ℕ) → BeginsNumber (octal_text n ++ tail)
@@ -135,7 +145,9 @@ term_of_digits (d ∷ ds) some h =
     let is = (and_parts (is_digit_of 8 d) (list_all (is_digit_of 8) ds) h).0 in
     rw (digits_are_no_name d ds is, ne_eqb d 46 (λ e. omega (arith, (digit_between d is).0)), ne_eqb (length (d ∷ ds)) 0 (λ e. omega arith), h) refl
 
-word_term : (text word tail : List ℕ) (term : Term) → word_of text ≡ word → term_of_word 8 word ≡ Some term → drop (length word) text ≡ tail → word_term_at (place text) ≡ Some (term, place tail)
+word_term : (text word tail : List ℕ) (term : Term) → word_of text ≡ word → term_of_word 8 word ≡ Some term
+    → drop (length word) text ≡ tail
+    → word_term_at (place text) ≡ Some (term, place tail)
 unfolding word_term_at
 word_term text word tail term a b c = rw (a, b, c) refl
 
@@ -156,7 +168,9 @@ no_term : (text : List ℕ) → EndsExpression text → next_term_at (place text
 unfolding next_term_at
 no_term text h = rw (no_sign text h.starts h.plus h.minus) refl
 
-number_read : (text tail : List ℕ) (n : ℕ) → BeginsNumber text → EndsExpression tail → word_term_at (place text) ≡ Some (Number n, place tail) → expression_at (place text) ≡ Some (number_alone n, place tail)
+number_read : (text tail : List ℕ) (n : ℕ) → BeginsNumber text → EndsExpression tail
+    → word_term_at (place text) ≡ Some (Number n, place tail)
+    → expression_at (place text) ≡ Some (number_alone n, place tail)
 unfolding expression_at signed_at
 number_read text tail n begin end is =
     rw (no_sign text begin.starts begin.plus begin.minus, plain_term text begin, is, no_items next_term_at (length tail) (place tail) (no_term tail end)) refl
@@ -167,9 +181,13 @@ octal_read n tail small end =
     let ds = octal_text n in
     let all = octal_digits 22 n in
     let value = term_of_digits ds (octal_some 21 n) all ∙ ap (λ m. Some (Number m)) (octal_value 22 n (omega arith) small) in
-    number_read (ds ++ tail) tail n (octal_begins n tail) end (word_term (ds ++ tail) ds tail (Number n) (word_read ds tail (digits_are_name_characters ds all) end.word) value (drop-append_seam ds tail))
+    number_read (ds ++ tail) tail n (octal_begins n tail) end
+    (word_term (ds ++ tail) ds tail (Number n) (word_read ds tail (digits_are_name_characters ds all) end.word) value
+    (drop-append_seam ds tail))
 
-pub optional_read : (text text' tail : List ℕ) (n : ℕ) → after_blanks text ≡ text' → begins_expression text' ≡ true → expression_at (place text') ≡ Some (number_alone n, place tail) → optional_at (place text) ≡ Some (Some (number_alone n), place tail)
+pub optional_read : (text text' tail : List ℕ) (n : ℕ) → after_blanks text ≡ text' → begins_expression text' ≡ true
+    → expression_at (place text') ≡ Some (number_alone n, place tail)
+    → optional_at (place text) ≡ Some (Some (number_alone n), place tail)
 unfolding optional_at
 optional_read text text' tail n a b c = rw (a, b, c) refl
 

@@ -29,11 +29,14 @@ no_form_first : (b : Bool) (first name : Name) (here code : ℕ) (rest : Option 
 no_form_first true first name here code rest e none found later = ap form_of (sym (e refl)) ∙ none_is (form_of first) none
 no_form_first false first name here code rest e none found later = later found
 
-no_form : (os : List Operation) (name : Name) (code : ℕ) → list_all (λ o. is_none (form_of o.name)) os ≡ true → Some code ≡ code_in os name → form_of name ≡ None
+no_form : (os : List Operation) (name : Name) (code : ℕ) → list_all (λ o. is_none (form_of o.name)) os ≡ true
+    → Some code ≡ code_in os name
+    → form_of name ≡ None
 no_form [] name code h found = cc
 no_form (o ∷ os) name code h found =
     let parts = and_parts (is_none (form_of o.name)) (list_all (λ o. is_none (form_of o.name)) os) h in
-    no_form_first (bytes_eq o.name name) o.name name o.code code (code_in os name) (same o.name name) parts.0 found (λ later. no_form os name code parts.1 later)
+    no_form_first (bytes_eq o.name name) o.name name o.code code (code_in os name) (same o.name name) parts.0 found
+    (λ later. no_form os name code parts.1 later)
 
 -- the first six characters of a name are a plain name
 pub folded_plain : (name : List ℕ) → list_all is_name_character name ≡ true → is_plain (folded name) ≡ true
@@ -44,7 +47,9 @@ pub record Says (name : Name) (found : Option Named) : Type 0 where
   pub form : IfSome found (λ named. form_of name ≡ None)
   pub named : IfSome found (λ named. named_of name ≡ Some named)
 
-meaning_says : (name : Name) (found : Option Named) (code : Option ℕ) → code ≡ code_in operations name → found ≡ option_map operation_meaning code → Says name found
+meaning_says : (name : Name) (found : Option Named) (code : Option ℕ) → code ≡ code_in operations name
+    → found ≡ option_map operation_meaning code
+    → Says name found
 meaning_says name None code is e = record { form = tt; named = tt }
 meaning_says name (Some named) None is e = cc
 meaning_says name (Some named) (Some code) is e =

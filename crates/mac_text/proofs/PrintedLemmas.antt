@@ -48,7 +48,8 @@ index_none : (text : List ℕ) → after_blanks text ≡ text → begins_with 40
 unfolding index_at
 index_none text a b = rw (a, b) refl
 
-index_number : (text : List ℕ) (n : ℕ) → expression_at (place text) ≡ Some (number_alone n, place (41 ∷ [])) → index_at (place (40 ∷ text)) ≡ Some (Some (number_alone n), place [])
+index_number : (text : List ℕ) (n : ℕ) → expression_at (place text) ≡ Some (number_alone n, place (41 ∷ []))
+    → index_at (place (40 ∷ text)) ≡ Some (Some (number_alone n), place [])
 unfolding index_at
 index_number text n e = rw e refl
 
@@ -58,14 +59,18 @@ ends_at_bracket = record { starts = refl; plus = refl; minus = refl; word = refl
 ends_at_comma : (more : List ℕ) → EndsExpression (44 ∷ more)
 ends_at_comma more = record { starts = refl; plus = refl; minus = refl; word = refl }
 
-index_case : (none : Bool) (x : ℕ) → x < 8 ^ 22 → index_at (place (cond none [] (codes "(" ++ octal_text x ++ codes ")"))) ≡ Some (cond none None (Some (number_alone x)), place [])
+index_case : (none : Bool) (x : ℕ) → x < 8 ^ 22
+    → index_at (place (cond none [] (codes "(" ++ octal_text x ++ codes ")")))
+    ≡ Some (cond none None (Some (number_alone x)), place [])
 index_case true x small = index_none [] refl refl
 index_case false x small = index_number (octal_text x ++ 41 ∷ []) x (octal_read x (41 ∷ []) small ends_at_bracket)
 
 index_read : (x : ℕ) → x < 8 ^ 22 → index_at (place (index_text x)) ≡ Some (unless_zero x, place [])
 index_read x small = index_case (x == 0) x small
 
-index_ends : (none : Bool) (x : ℕ) → EndsExpression (cond none [] (codes "(" ++ octal_text x ++ codes ")")) × (begins_with 44 (cond none [] (codes "(" ++ octal_text x ++ codes ")")) ≡ false)
+index_ends : (none : Bool) (x : ℕ)
+    → EndsExpression (cond none [] (codes "(" ++ octal_text x ++ codes ")"))
+    × (begins_with 44 (cond none [] (codes "(" ++ octal_text x ++ codes ")")) ≡ false)
 index_ends true x = (record { starts = refl; plus = refl; minus = refl; word = refl }, refl)
 index_ends false x = (record { starts = refl; plus = refl; minus = refl; word = refl }, refl)
 
@@ -85,20 +90,26 @@ unfolding operand_at
 operand_indirect text rest y index c d = rw (c, d) refl
 
 operand_read : (i : Bool) (y x : ℕ) → y < 8 ^ 22 → x < 8 ^ 22
-    → operand_at (place (cond i (codes "@") [] ++ (octal_text y ++ index_text x))) ≡ Some (record { indirect = i; address = Some (number_alone y); index = unless_zero x }, place [])
+    → operand_at (place (cond i (codes "@") [] ++ (octal_text y ++ index_text x)))
+    ≡ Some (record { indirect = i; address = Some (number_alone y); index = unless_zero x }, place [])
 operand_read true y x small small' =
     let begin = octal_begins y (index_text x) in
-    operand_indirect (octal_text y ++ index_text x) (index_text x) y (unless_zero x) (optional_read _ _ (index_text x) y begin.starts begin.expression (address_read y x small)) (index_read x small')
+    operand_indirect (octal_text y ++ index_text x) (index_text x) y (unless_zero x)
+    (optional_read _ _ (index_text x) y begin.starts begin.expression (address_read y x small)) (index_read x small')
 operand_read false y x small small' =
     let begin = octal_begins y (index_text x) in
-    operand_direct (octal_text y ++ index_text x) (index_text x) y (unless_zero x) begin.starts begin.at_sign (optional_read _ _ (index_text x) y begin.starts begin.expression (address_read y x small)) (index_read x small')
+    operand_direct (octal_text y ++ index_text x) (index_text x) y (unless_zero x) begin.starts begin.at_sign
+    (optional_read _ _ (index_text x) y begin.starts begin.expression (address_read y x small)) (index_read x small')
 
-operands_with : (text rest : List ℕ) (ac : ℕ) (operand : Operand) → optional_at (place text) ≡ Some (Some (number_alone ac), place (44 ∷ rest)) → operand_at (place rest) ≡ Some (operand, place [])
+operands_with : (text rest : List ℕ) (ac : ℕ) (operand : Operand)
+    → optional_at (place text) ≡ Some (Some (number_alone ac), place (44 ∷ rest))
+    → operand_at (place rest) ≡ Some (operand, place [])
     → operands_at (place text) ≡ Some ((Some (number_alone ac), operand), place [])
 unfolding operands_at
 operands_with text rest ac operand a b = rw (a, b) refl
 
-operands_without : (text rest : List ℕ) (operand : Operand) → optional_at (place text) ≡ Some (None, place rest) → operand_at (place rest) ≡ Some (operand, place [])
+operands_without : (text rest : List ℕ) (operand : Operand) → optional_at (place text) ≡ Some (None, place rest)
+    → operand_at (place rest) ≡ Some (operand, place [])
     → operands_at (place text) ≡ Some ((None, operand), place [])
 unfolding operands_at
 operands_without text rest operand a b = rw (a, b) refl
@@ -113,15 +124,23 @@ operands_case : (none i : Bool) (ac y x : ℕ) → ac < 8 ^ 22 → y < 8 ^ 22 �
     → operands_at (place (32 ∷ (cond none [] (octal_text ac ++ codes ",") ++ (cond i (codes "@") [] ++ (octal_text y ++ index_text x)))))
     ≡ Some ((cond none None (Some (number_alone ac)), record { indirect = i; address = Some (number_alone y); index = unless_zero x }), place [])
 operands_case true true ac y x s t u =
-    operands_without (32 ∷ 64 ∷ (octal_text y ++ index_text x)) (64 ∷ (octal_text y ++ index_text x)) _ (optional_none _ _ refl refl) (operand_read true y x t u)
+    operands_without (32 ∷ 64 ∷ (octal_text y ++ index_text x)) (64 ∷ (octal_text y ++ index_text x)) _
+    (optional_none _ _ refl refl) (operand_read true y x t u)
 operands_case true false ac y x s t u =
     let begin = octal_begins y (index_text x) in
     let ends = index_ends (x == 0) x in
-    operands_address (32 ∷ (octal_text y ++ index_text x)) (index_text x) y (unless_zero x) (optional_read (32 ∷ (octal_text y ++ index_text x)) (octal_text y ++ index_text x) (index_text x) y (after_blank (octal_text y ++ index_text x) ∙ begin.starts) begin.expression (address_read y x t)) ends.0.starts ends.1 (index_read x u)
+    operands_address (32 ∷ (octal_text y ++ index_text x)) (index_text x) y (unless_zero x)
+    (optional_read (32 ∷ (octal_text y ++ index_text x)) (octal_text y ++ index_text x) (index_text x) y
+    (after_blank (octal_text y ++ index_text x) ∙ begin.starts) begin.expression (address_read y x t)) ends.0.starts ends.1
+    (index_read x u)
 operands_case false i ac y x s t u =
     let rest = cond i (codes "@") [] ++ (octal_text y ++ index_text x) in
     let begin = octal_begins ac (44 ∷ rest) in
-    let read = operands_with (32 ∷ (octal_text ac ++ 44 ∷ rest)) rest ac _ (optional_read (32 ∷ (octal_text ac ++ 44 ∷ rest)) (octal_text ac ++ 44 ∷ rest) (44 ∷ rest) ac (after_blank (octal_text ac ++ 44 ∷ rest) ∙ begin.starts) begin.expression (octal_read ac (44 ∷ rest) s (ends_at_comma rest))) (operand_read i y x t u) in
+    let read =
+    operands_with (32 ∷ (octal_text ac ++ 44 ∷ rest)) rest ac _
+    (optional_read (32 ∷ (octal_text ac ++ 44 ∷ rest)) (octal_text ac ++ 44 ∷ rest) (44 ∷ rest) ac
+    (after_blank (octal_text ac ++ 44 ∷ rest) ∙ begin.starts) begin.expression
+    (octal_read ac (44 ∷ rest) s (ends_at_comma rest))) (operand_read i y x t u) in
     ap (λ l. operands_at (place (32 ∷ l))) (append_assoc (octal_text ac) (44 ∷ []) rest) ∙ read
 
 -- ---- names of operations
@@ -134,7 +153,9 @@ all_plain : list_all (λ o. is_plain o.name) operations ≡ true
 unfolding operations form_of
 all_plain = refl
 
-plain_first : (b : Bool) (one name : Name) (later : Option Name) → is_plain one ≡ true → Some name ≡ (cond b (Some one) later) → (Some name ≡ later → is_plain name ≡ true) → is_plain name ≡ true
+plain_first : (b : Bool) (one name : Name) (later : Option Name) → is_plain one ≡ true → Some name ≡ (cond b (Some one) later)
+    → (Some name ≡ later → is_plain name ≡ true)
+    → is_plain name ≡ true
 plain_first true one name later h e rest = let same : name ≡ one = cc in rw same h
 plain_first false one name later h e rest = rest e
 
@@ -165,12 +186,15 @@ plain_name code name e =
 
 -- ---- statements
 
-instruction_read : (code : ℕ) (text : List ℕ) (accumulator : Option (List SignedTerm)) (operand : Operand) → operands_at (place text) ≡ Some ((accumulator, operand), place [])
+instruction_read : (code : ℕ) (text : List ℕ) (accumulator : Option (List SignedTerm)) (operand : Operand)
+    → operands_at (place text) ≡ Some ((accumulator, operand), place [])
     → instruction_at (operation_meaning code) (place text) ≡ Some (record { word = code * 2 ^ 27; accumulator = accumulator; operand = operand }, place [])
 unfolding instruction_at
 instruction_read code text accumulator operand e = rw e refl
 
-named_read : (text name rest : List ℕ) (code : ℕ) (given : Instruction) → after_blanks text ≡ text → word_of text ≡ name → drop (length name) text ≡ rest → IsPlain name
+named_read : (text name rest : List ℕ) (code : ℕ) (given : Instruction) → after_blanks text ≡ text → word_of text ≡ name
+    → drop (length name) text ≡ rest
+    → IsPlain name
     → named_of name ≡ Some (operation_meaning code) → instruction_at (operation_meaning code) (place rest) ≡ Some (given, place [])
     → statement_at (place text) ≡ Some (statements.Data (data_of.Instruction given), place [])
 unfolding statement_at
@@ -181,7 +205,8 @@ skips_one : (text : List ℕ) → expression_at (place (32 ∷ text)) ≡ expres
 unfolding expression_at sign_at
 skips_one text = rw (after_blank text) refl
 
-pair_read : (text rest : List ℕ) (l r : ℕ) → expression_at (place text) ≡ Some (number_alone l, place (44 ∷ rest)) → expression_at (place rest) ≡ Some (number_alone r, place [])
+pair_read : (text rest : List ℕ) (l r : ℕ) → expression_at (place text) ≡ Some (number_alone l, place (44 ∷ rest))
+    → expression_at (place rest) ≡ Some (number_alone r, place [])
     → pair_at (place text) ≡ Some ((number_alone l, number_alone r), place [])
 unfolding pair_at
 pair_read text rest l r a b = rw (a, b) refl
@@ -191,11 +216,17 @@ halves_form : (text : List ℕ) (l r : ℕ) → pair_at (place (32 ∷ text)) �
 unfolding statement_at form_of form_at
 halves_form text l r e = rw e refl
 
-halves_read : (l r : ℕ) → l < 8 ^ 22 → r < 8 ^ 22 → statement_at (place (codes "XWD " ++ octal_text l ++ codes "," ++ octal_text r)) ≡ Some (statements.Data (data_of.Halves (number_alone l) (number_alone r)), place [])
+halves_read : (l r : ℕ) → l < 8 ^ 22 → r < 8 ^ 22
+    → statement_at (place (codes "XWD " ++ octal_text l ++ codes "," ++ octal_text r))
+    ≡ Some (statements.Data (data_of.Halves (number_alone l) (number_alone r)), place [])
 halves_read l r s t =
-    let right = ap (λ text. expression_at (place text)) (sym (append-nil (octal_text r))) ∙ octal_read r [] t (record { starts = refl; plus = refl; minus = refl; word = refl }) in
+    let right =
+    ap (λ text. expression_at (place text)) (sym (append-nil (octal_text r)))
+    ∙ octal_read r [] t (record { starts = refl; plus = refl; minus = refl; word = refl }) in
     ap (λ t. statement_at (place (codes "XWD " ++ t))) (append_assoc (octal_text l) (44 ∷ []) (octal_text r))
-    ∙ halves_form (octal_text l ++ 44 ∷ octal_text r) l r (pair_read (32 ∷ (octal_text l ++ 44 ∷ octal_text r)) (octal_text r) l r (skips_one (octal_text l ++ 44 ∷ octal_text r) ∙ octal_read l (44 ∷ octal_text r) s (ends_at_comma (octal_text r))) right)
+    ∙ halves_form (octal_text l ++ 44 ∷ octal_text r) l r
+    (pair_read (32 ∷ (octal_text l ++ 44 ∷ octal_text r)) (octal_text r) l r
+    (skips_one (octal_text l ++ 44 ∷ octal_text r) ∙ octal_read l (44 ∷ octal_text r) s (ends_at_comma (octal_text r))) right)
 
 -- ---- lines
 
@@ -223,14 +254,21 @@ no_items_first : {X : Type 0} (next : Scan → Option (Option X × Scan)) (n : �
 unfolding items_at
 no_items_first next n s t h = rw h refl
 
-whole_read : (text : List ℕ) (given : Statement) → IsStatementText text → statement_at (place text) ≡ Some (given, place []) → whole_statement_at (place text) ≡ Some (Some given, place [])
+whole_read : (text : List ℕ) (given : Statement) → IsStatementText text → statement_at (place text) ≡ Some (given, place [])
+    → whole_statement_at (place text) ≡ Some (Some given, place [])
 unfolding whole_statement_at optional_statement_at
 whole_read text given is e = rw (is.starts, is.more, e) refl
 
-line_read : (text : List ℕ) (given : Statement) → IsStatementText text → statement_at (place text) ≡ Some (given, place []) → line_of 8 (32 ∷ text) ≡ Some (record { labels = []; statement = Some given; literals = [] })
+line_read : (text : List ℕ) (given : Statement) → IsStatementText text → statement_at (place text) ≡ Some (given, place [])
+    → line_of 8 (32 ∷ text) ≡ Some (record { labels = []; statement = Some given; literals = [] })
 unfolding line_of literals_of
 line_read text given is e =
-    rw (text_is_ascii text is.printed, no_items_first next_label_at (length text) (place (32 ∷ text)) (place text) (no_label text is), whole_read text given is e) refl
+    rw (
+      text_is_ascii text is.printed,
+      no_items_first next_label_at (length text) (place (32 ∷ text)) (place text) (no_label text is),
+      whole_read text given is e,
+    )
+    refl
 
 no_newline : (c : ℕ) → is_printed c ≡ true → (c == 10) ≡ false
 no_newline c h = grind (arith, nat_tests)
@@ -254,7 +292,8 @@ one_line text h =
     ap lines_of_parts (slice_split_at (λ b. b == 10) text 10 [] (no_newlines text h) refl)
     ∙ ap (λ b. (cond b (take (length text - 1) text) text) ∷ []) (no_return text (length text - 1) h)
 
-one_program : (text : List ℕ) (line : Data) → lines (text ++ 10 ∷ []) ≡ text ∷ [] → line_of 8 text ≡ Some (record { labels = []; statement = Some (statements.Data line); literals = [] })
+one_program : (text : List ℕ) (line : Data) → lines (text ++ 10 ∷ []) ≡ text ∷ []
+    → line_of 8 text ≡ Some (record { labels = []; statement = Some (statements.Data line); literals = [] })
     → program_of (text ++ 10 ∷ []) ≡ Ok (record { labels = []; statement = Some (statements.Data line); literals = [] } ∷ [])
 unfolding program_of lines_from
 one_program text line a b = rw (a, b) refl
@@ -284,7 +323,8 @@ operands_shown f = 32 ∷ (accumulator_text f.ac ++ (cond f.i (codes "@") [] ++ 
 operands_printed : (f : Fields) → list_all is_printed (operands_shown f) ≡ true
 operands_printed f =
     joined_printed (accumulator_text f.ac) (cond f.i (codes "@") [] ++ (octal_text f.y ++ index_text f.x)) (accumulator_printed (f.ac == 0) f.ac)
-    (joined_printed (cond f.i (codes "@") []) (octal_text f.y ++ index_text f.x) (sign_printed f.i) (joined_printed (octal_text f.y) (index_text f.x) (octal_is_printed f.y) (index_printed (f.x == 0) f.x)))
+    (joined_printed (cond f.i (codes "@") []) (octal_text f.y ++ index_text f.x) (sign_printed f.i)
+    (joined_printed (octal_text f.y) (index_text f.x) (octal_is_printed f.y) (index_printed (f.x == 0) f.x)))
 
 -- the same text with its parts grouped to the right
 regrouped : (name ac sign y x : List ℕ) → name ++ (32 ∷ []) ++ ac ++ sign ++ y ++ x ≡ name ++ (32 ∷ (ac ++ (sign ++ (y ++ x))))
@@ -303,7 +343,8 @@ name_character_facts c h = (name_no_blank c h, name_no_comment c h)
     name_no_comment : (c : ℕ) → is_name_character c ≡ true → (c == 59) ≡ false
     name_no_comment c h = grind (arith, nat_tests)
 
-name_starts : (name rest : List ℕ) → list_all is_name_character name ≡ true → is_name name ≡ true → (after_blanks (name ++ rest) ≡ name ++ rest) × (is_at_end false (name ++ rest) ≡ false)
+name_starts : (name rest : List ℕ) → list_all is_name_character name ≡ true → is_name name ≡ true
+    → (after_blanks (name ++ rest) ≡ name ++ rest) × (is_at_end false (name ++ rest) ≡ false)
 name_starts [] rest h k = absurd (false≢true k)
 name_starts (c ∷ cs) rest h k =
     let facts = name_character_facts c (and_parts (is_name_character c) (list_all is_name_character cs) h).0 in
@@ -325,7 +366,10 @@ halves_text_is l r =
       starts = refl;
       label = refl;
       more = refl;
-      printed = joined_printed (codes "XWD " ++ octal_text l ++ codes ",") (octal_text r) (joined_printed (codes "XWD " ++ octal_text l) (codes ",") (joined_printed (codes "XWD ") (octal_text l) refl (octal_is_printed l)) refl) (octal_is_printed r);
+      printed =
+          joined_printed (codes "XWD " ++ octal_text l ++ codes ",") (octal_text r)
+          (joined_printed (codes "XWD " ++ octal_text l) (codes ",")
+          (joined_printed (codes "XWD ") (octal_text l) refl (octal_is_printed l)) refl) (octal_is_printed r);
     }
 
 one_statement : (text : List ℕ) (given : Data) → IsStatementText text → statement_at (place text) ≡ Some (statements.Data given, place [])
@@ -337,17 +381,22 @@ named_statement : (code : ℕ) (name : Name) (f : Fields) → Some name ≡ name
 named_statement code name f e op s t u =
     let plain = plain_name code name e in
     let text = name ++ operands_shown f in
-    named_read text name (operands_shown f) f.op (instruction_with f) (name_starts name (operands_shown f) plain.characters plain.names).0 (word_read name (operands_shown f) plain.characters refl) (drop-append_seam name (operands_shown f)) plain
+    named_read text name (operands_shown f) f.op (instruction_with f)
+    (name_starts name (operands_shown f) plain.characters plain.names).0
+    (word_read name (operands_shown f) plain.characters refl) (drop-append_seam name (operands_shown f)) plain
     (rw op (named_of_name code name e)) (instruction_read f.op (operands_shown f) (unless_zero f.ac) _ (operands_case (f.ac == 0) f.i f.ac f.y f.x s t u))
 
 word_read_back : (name : Option Name) (w : ℕ) → name ≡ name_of (w / 2 ^ 27) → w < 2 ^ 36
     → program_of ((32 ∷ named_text name w) ++ 10 ∷ []) ≡ Ok (record { labels = []; statement = Some (statements.Data (named_data name w)); literals = [] } ∷ [])
 word_read_back None w e small =
-    one_statement (halves_text w) (data_of.Halves (number_alone (left_half w)) (number_alone (right_half w))) (halves_text_is (left_half w) (right_half w)) (halves_read (left_half w) (right_half w) (omega arith) (omega arith))
+    one_statement (halves_text w) (data_of.Halves (number_alone (left_half w)) (number_alone (right_half w)))
+    (halves_text_is (left_half w) (right_half w)) (halves_read (left_half w) (right_half w) (omega arith) (omega arith))
 word_read_back (Some name) w e small =
     let f = fields_of w in
     ap (λ t. program_of ((32 ∷ t) ++ 10 ∷ [])) (regrouped name (accumulator_text f.ac) (cond f.i (codes "@") []) (octal_text f.y) (index_text f.x))
-    ∙ one_statement (name ++ operands_shown f) (data_of.Instruction (instruction_with f)) (named_text_is name f (plain_name (w / 2 ^ 27) name e)) (named_statement (w / 2 ^ 27) name f e refl (omega arith) (omega arith) (omega arith))
+    ∙ one_statement (name ++ operands_shown f) (data_of.Instruction (instruction_with f))
+    (named_text_is name f (plain_name (w / 2 ^ 27) name e))
+    (named_statement (w / 2 ^ 27) name f e refl (omega arith) (omega arith) (omega arith))
 
 -- each word is read back from its line
 pub program_of_word : (w : ℕ) → w < 2 ^ 36 → program_of (source_of_word w) ≡ Ok (line_of_word w ∷ [])

@@ -15,7 +15,9 @@ regroup : (front : List Line) (line : Line) (read : Result (List Line) ℕ) → 
 regroup front line (Ok more) = ap Ok (sym (append_assoc front (line ∷ []) more))
 regroup front line (Err n) = refl
 
-pub lines_from-cons : (radix number : ℕ) (text : List ℕ) (texts : List (List ℕ)) → lines_from radix number (text ∷ texts) ≡ line_then number (line_of radix text) (λ line. lines_from (radix_after line radix) (number + 1) texts)
+pub lines_from-cons : (radix number : ℕ) (text : List ℕ) (texts : List (List ℕ))
+    → lines_from radix number (text ∷ texts)
+    ≡ line_then number (line_of radix text) (λ line. lines_from (radix_after line radix) (number + 1) texts)
 unfolding lines_from
 lines_from-cons radix number text texts = refl
 
@@ -77,7 +79,8 @@ lines_of_nothing (b ∷ bs) h = absurd (omega arith)
 pub placed : (front all : List Line) (line given : Line) (at : ℕ) → at ≡ length front → all ≡ front ++ line ∷ [] → set all at given ≡ front ++ given ∷ []
 placed front all line given at here e = rw (here, e) (set-append_seam front line [] given)
 
-pub there : (front all : List Line) (line given : Line) (at : ℕ) (d : Line) → at ≡ length front → all ≡ front ++ line ∷ [] → get_or (set all at given) at d ≡ given
+pub there : (front all : List Line) (line given : Line) (at : ℕ) (d : Line) → at ≡ length front → all ≡ front ++ line ∷ []
+    → get_or (set all at given) at d ≡ given
 there front all line given at d here e = rw (placed front all line given at here e, here) (get_or-append_seam front given [] d)
 
 pub one_longer : (front all : List Line) (line : Line) → all ≡ front ++ line ∷ [] → length all ≡ length front + 1

@@ -10,7 +10,8 @@ use Rattle.mac_text.specs.Scan.{word_of, after_blanks}
 pub word_length : (text : List ℕ) → length (word_of text) ≡ prefix_len is_name_character text
 word_length text = length-prefix_len is_name_character text
 
-passing : (c : ℕ) (text : List ℕ) (named : Bool) → is_name_character c ≡ named → list_all is_name_character (word_of text) ≡ true → list_all is_name_character (word_of (c ∷ text)) ≡ true
+passing : (c : ℕ) (text : List ℕ) (named : Bool) → is_name_character c ≡ named → list_all is_name_character (word_of text) ≡ true
+    → list_all is_name_character (word_of (c ∷ text)) ≡ true
 passing c text true e h = let one : 1 + prefix_len is_name_character text ≡ suc (prefix_len is_name_character text) = omega arith in rw (e, one, e) h
 passing c text false e h = rw e refl
 
@@ -23,7 +24,8 @@ word_passes (c ∷ text) = passing c text (is_name_character c) refl (word_passe
 pub word_within : (text : List ℕ) → length (word_of text) ≤ length text
 word_within text = omega (arith, word_length text, prefix_len-le-length is_name_character text)
 
-skip_further : (c : ℕ) (text : List ℕ) (blank : Bool) → is_blank c ≡ blank → after_blanks (after_blanks text) ≡ after_blanks text → after_blanks (after_blanks (c ∷ text)) ≡ after_blanks (c ∷ text)
+skip_further : (c : ℕ) (text : List ℕ) (blank : Bool) → is_blank c ≡ blank → after_blanks (after_blanks text) ≡ after_blanks text
+    → after_blanks (after_blanks (c ∷ text)) ≡ after_blanks (c ∷ text)
 skip_further c text true e h = let one : 1 + prefix_len is_blank text ≡ suc (prefix_len is_blank text) = omega arith in rw (e, one) h
 skip_further c text false e h = rw (e, e) refl
 

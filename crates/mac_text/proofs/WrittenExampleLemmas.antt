@@ -21,7 +21,9 @@ one = record { text = 32 ∷ []; blank = refl }
 abbrev asciz : NameText
 asciz = record { text = codes "ASCIZ"; characters = refl; names = refl }
 
-literal_legal : IsStatement {radix = 8} true Written.nothing_of (Written.Formed asciz (Written.Text Asciz (record { before = none; delimiter = 58; text = codes "a]"; firm = refl; within = refl })))
+literal_legal : IsStatement {radix = 8} true Written.nothing_of
+    (Written.Formed asciz
+    (Written.Text Asciz (record { before = none; delimiter = 58; text = codes "a]"; firm = refl; within = refl })))
 unfolding form_of
 literal_legal = (refl, refl)
 

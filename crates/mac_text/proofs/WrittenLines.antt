@@ -22,7 +22,8 @@ use Rattle.mac_text.proofs.WrittenStatements.{EndsStatement, statement_ends, sta
 
 -- ---- literals
 
-literal_ends : (radix : ℕ) → radix ≤ 10 → (l : LiteralText radix) (rest : List ℕ) → (false ≡ false) × (literal_len (literal_text l ++ 93 ∷ rest) ≡ Some (length (literal_text l)))
+literal_ends : (radix : ℕ) → radix ≤ 10 → (l : LiteralText radix) (rest : List ℕ)
+    → (false ≡ false) × (literal_len (literal_text l ++ 93 ∷ rest) ≡ Some (length (literal_text l)))
 literal_ends radix small l rest = (refl, literal_cut radix small l rest)
 
 blanks_gone : (b : Blanks) → after_blanks b.text ≡ []
@@ -32,7 +33,10 @@ literal_read : (radix : ℕ) (l : LiteralText radix) → radix ≤ 10 → litera
 unfolding literal_of
 literal_read radix l small =
     let ended = ap (is_at_end true) (blanks_gone l.behind) in
-    let whole = whole_read radix true nothing_of small cut_nothing (literal_text l) l.statement l.behind.text (skip_blanks l.before (statement_before nothing_of l.statement l.behind.text)) l.legal (statement_ends_blank l.behind) ended in
+    let whole =
+    whole_read radix true nothing_of small cut_nothing (literal_text l) l.statement l.behind.text
+    (skip_blanks l.before (statement_before nothing_of l.statement l.behind.text)) l.legal (statement_ends_blank l.behind)
+    ended in
     let given : literal_data (Some (statement_given l.statement)) ≡ Some l.given = rw (l.is_given, l.words) refl in
     ap (λ o. o >>= λ x. literal_data x.0) whole ∙ given
 
@@ -46,23 +50,28 @@ literals_read radix (l ∷ ls) small = rw (literal_read radix l small, literals_
 symbol_written : LabelText → ℕ
 symbol_written l = symbol_of l.name.text
 
-label_found : (s : Scan) (name x : List ℕ) → after_blanks s.rest ≡ name ++ 58 ∷ x → word_of (name ++ 58 ∷ x) ≡ name → after_word (name ++ 58 ∷ x) ≡ 58 ∷ x → is_name name ≡ true
+label_found : (s : Scan) (name x : List ℕ) → after_blanks s.rest ≡ name ++ 58 ∷ x → word_of (name ++ 58 ∷ x) ≡ name
+    → after_word (name ++ 58 ∷ x) ≡ 58 ∷ x
+    → is_name name ≡ true
     → next_label_at s ≡ Some (Some (symbol_of name), record s { rest = x })
 unfolding next_label_at
 label_found s name x a b c d = rw (a, c, b, d, drop_further name 58 x) refl
 
-label_read : (s : Scan) (l : LabelText) (x : List ℕ) → s.rest ≡ l.before.text ++ (l.name.text ++ 58 ∷ x) → next_label_at s ≡ Some (Some (symbol_of l.name.text), record s { rest = x })
+label_read : (s : Scan) (l : LabelText) (x : List ℕ) → s.rest ≡ l.before.text ++ (l.name.text ++ 58 ∷ x)
+    → next_label_at s ≡ Some (Some (symbol_of l.name.text), record s { rest = x })
 label_read s l x e =
     let name = l.name in
     let begin = word_begins name.text (58 ∷ x) (name_some name.text name.names) name.characters in
-    label_found s name.text x (ap after_blanks e ∙ skip_to l.before (name.text ++ 58 ∷ x) begin.firm) (word_read name.text (58 ∷ x) name.characters refl) (behind_read name.text (58 ∷ x) name.characters refl) name.names
+    label_found s name.text x (ap after_blanks e ∙ skip_to l.before (name.text ++ 58 ∷ x) begin.firm)
+    (word_read name.text (58 ∷ x) name.characters refl) (behind_read name.text (58 ∷ x) name.characters refl) name.names
 
 no_label : (s : Scan) → is_label (after_blanks s.rest) ≡ false → next_label_at s ≡ Some (None, skipped s)
 unfolding next_label_at
 no_label s h = rw h refl
 
 labels_read : (n radix : ℕ) (labels : List LabelText) (rest : List ℕ) → length (labels_before labels rest) ≤ n → is_label (after_blanks rest) ≡ false
-    → items_at next_label_at n (scan_of radix false (labels_before labels rest)) ≡ Some (map (λ l. symbol_of l.name.text) labels, scan_of radix false (after_blanks rest))
+    → items_at next_label_at n (scan_of radix false (labels_before labels rest))
+    ≡ Some (map (λ l. symbol_of l.name.text) labels, scan_of radix false (after_blanks rest))
 unfolding labels_before items_at
 labels_read zero radix [] [] le none = refl
 labels_read zero radix [] (c ∷ cs) le none = absurd (omega arith)
@@ -111,20 +120,24 @@ module _ (radix : ℕ) {L : Type 0} (text_of : L → List ℕ) (small : radix �
       signs_part Plus x = refl
       signs_part Minus x = refl
 
-  term_no_label : (sign : Option SignText) (t : TermText radix L) (x : List ℕ) → parts_name false x ≡ true → is_label (before_if sign_before sign (term_before text_of t x)) ≡ false
+  term_no_label : (sign : Option SignText) (t : TermText radix L) (x : List ℕ) → parts_name false x ≡ true
+      → is_label (before_if sign_before sign (term_before text_of t x)) ≡ false
   term_no_label (Some s) t x h = sign_no_label s.sign (s.behind.text ++ term_before text_of t x)
     where
       sign_no_label : (sign : Sign) (x : List ℕ) → is_label (sign_character sign ∷ x) ≡ false
       sign_no_label Plus x = refl
       sign_no_label Minus x = refl
   term_no_label None (Written.Number digits) x h =
-      no_name_no_label (digits.text ++ x) digits.text (word_read digits.text x (digits_are_characters radix digits.text small digits.digits) (parts_word_end false x h)) (digits_no_name radix digits.text small digits.some digits.digits)
+      no_name_no_label (digits.text ++ x) digits.text
+      (word_read digits.text x (digits_are_characters radix digits.text small digits.digits) (parts_word_end false x h))
+      (digits_no_name radix digits.text small digits.some digits.digits)
   term_no_label None (Written.Marked m) x h = refl
   term_no_label None (Written.Label name) x h = parted_no_label name x h
   term_no_label None Written.Point x h = no_name_no_label (46 ∷ x) (46 ∷ []) (word_read (46 ∷ []) x refl (parts_word_end false x h)) refl
   term_no_label None (Written.Literal l) x h = refl
 
-  value_no_label : (e : ExpressionText radix L) (rest : List ℕ) → parts_name false rest ≡ true → is_label (after_blanks (expression_before text_of e rest)) ≡ false
+  value_no_label : (e : ExpressionText radix L) (rest : List ℕ) → parts_name false rest ≡ true
+      → is_label (after_blanks (expression_before text_of e rest)) ≡ false
   value_no_label e rest h =
       let x = more_before text_of e.more rest in
       ap is_label (skip_to e.before _ (firm_case radix false text_of small cut e.sign e.term x)) ∙ term_no_label e.sign e.term x (parts_more e.more rest h)
@@ -134,9 +147,14 @@ module _ (radix : ℕ) {L : Type 0} (text_of : L → List ℕ) (small : radix �
       let begin = word_begins name.text body (name_some name.text name.names) name.characters in
       ap is_label (firm_stays (name.text ++ body) begin.firm) ∙ parted_no_label name body h
 
-  statement_no_label : (st : StatementText radix L) (rest : List ℕ) → IsStatement false text_of st → EndsStatement rest → is_label (after_blanks (statement_before text_of st rest)) ≡ false
-  statement_no_label (Written.Formed name form) rest is end = named_no_label name (form_before text_of form rest) (parts_form radix false text_of small cut form [] rest (λ _. end.name false) is.1)
-  statement_no_label (Written.Instruction name named o) rest is end = named_no_label name (operands_before text_of o rest) (parts_operands radix false text_of small cut o.accumulator o.operand [] rest (λ _. end.name false) is.3)
+  statement_no_label : (st : StatementText radix L) (rest : List ℕ) → IsStatement false text_of st → EndsStatement rest
+      → is_label (after_blanks (statement_before text_of st rest)) ≡ false
+  statement_no_label (Written.Formed name form) rest is end =
+      named_no_label name (form_before text_of form rest)
+      (parts_form radix false text_of small cut form [] rest (λ _. end.name false) is.1)
+  statement_no_label (Written.Instruction name named o) rest is end =
+      named_no_label name (operands_before text_of o rest)
+      (parts_operands radix false text_of small cut o.accumulator o.operand [] rest (λ _. end.name false) is.3)
   statement_no_label (Written.Value e) rest is end = value_no_label e rest (end.name false)
   statement_no_label (Written.Halves p) rest is end =
       let right = expression_before text_of p.right rest in
@@ -144,7 +162,10 @@ module _ (radix : ℕ) {L : Type 0} (text_of : L → List ℕ) (small : radix �
 
 -- ---- lines
 
-line_steps : (radix : ℕ) (text : List ℕ) (s t : Scan) (labels : List ℕ) (statement : Option Statement) (literals : List Data) → list_all is_ascii text ≡ true → items_at next_label_at (length text) (scan_of radix false text) ≡ Some (labels, s) → whole_statement_at s ≡ Some (statement, t) → literals_of radix t.cuts ≡ Some literals
+line_steps : (radix : ℕ) (text : List ℕ) (s t : Scan) (labels : List ℕ) (statement : Option Statement) (literals : List Data)
+    → list_all is_ascii text ≡ true → items_at next_label_at (length text) (scan_of radix false text) ≡ Some (labels, s)
+    → whole_statement_at s ≡ Some (statement, t)
+    → literals_of radix t.cuts ≡ Some literals
     → line_of radix text ≡ Some (record { labels = labels; statement = statement; literals = literals })
 unfolding line_of
 line_steps radix text s t labels statement literals a b c d = rw (a, b, c, d) refl
@@ -161,7 +182,9 @@ comment_behind : (b : Blanks) (comment : Option (List ℕ)) → after_blanks (b.
 comment_behind b None = skip_to b [] refl
 comment_behind b (Some comment) = skip_to b (59 ∷ comment) refl
 
-line_case : (radix : ℕ) → radix ≤ 10 → (labels : List LabelText) (before : Blanks) (st : Option (StatementText radix (LiteralText radix))) (behind : Blanks) (comment : Option (List ℕ))
+line_case : (radix : ℕ) → radix ≤ 10
+    → (labels : List LabelText) (before : Blanks) (st : Option (StatementText radix (LiteralText radix))) (behind : Blanks)
+    (comment : Option (List ℕ))
     → IsStatementOr st → list_all is_ascii (line_text (record { labels = labels; before = before; statement = st; behind = behind; comment = comment })) ≡ true
     → line_of radix (line_text (record { labels = labels; before = before; statement = st; behind = behind; comment = comment }))
     ≡ Some (line_given (record { labels = labels; before = before; statement = st; behind = behind; comment = comment }))
@@ -172,7 +195,8 @@ line_case radix small labels before None behind comment is ascii =
     let none = ap is_label there ∙ comment_no_label comment in
     let ended = ap (is_at_end false) (Rattle.mac_text.proofs.WordLemmas.skip_twice rest ∙ there) ∙ comment_ends comment in
     line_steps radix (labels_before labels rest) _ _ _ None [] ascii (labels_read (length (labels_before labels rest)) radix labels rest (omega arith) none)
-    (nothing_read radix false (λ (l : LiteralText radix). literal_text l) small (literal_ends radix small) (after_blanks rest) ended) (literals_read radix [] small)
+    (nothing_read radix false (λ (l : LiteralText radix). literal_text l) small (literal_ends radix small) (after_blanks rest)
+    ended) (literals_read radix [] small)
 line_case radix small labels before (Some st) behind comment is ascii =
     let tail = behind.text ++ comment_text comment in
     let text = statement_before literal_text st tail in
@@ -182,7 +206,9 @@ line_case radix small labels before (Some st) behind comment is ascii =
     let none = ap is_label there ∙ statement_no_label radix (λ (l : LiteralText radix). literal_text l) small (literal_ends radix small) st tail is end in
     let ended = ap (is_at_end false) (comment_behind behind comment) ∙ comment_ends comment in
     line_steps radix (labels_before labels rest) _ _ _ _ _ ascii (labels_read (length (labels_before labels rest)) radix labels rest (omega arith) none)
-    (whole_read radix false (λ (l : LiteralText radix). literal_text l) small (literal_ends radix small) (after_blanks rest) st tail (Rattle.mac_text.proofs.WordLemmas.skip_twice rest ∙ there) is end ended) (literals_read radix (statement_literals st) small)
+    (whole_read radix false (λ (l : LiteralText radix). literal_text l) small (literal_ends radix small) (after_blanks rest) st
+    tail (Rattle.mac_text.proofs.WordLemmas.skip_twice rest ∙ there) is end ended)
+    (literals_read radix (statement_literals st) small)
 
 -- each line is read as it is written
 pub line_read : (radix : ℕ) (line : LineText radix) → radix ≤ 10 → IsLine line → line_of radix (line_text line) ≡ Some (line_given line)

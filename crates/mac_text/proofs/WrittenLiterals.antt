@@ -65,10 +65,14 @@ sign_free Plus x h = h
 sign_free Minus x h = h
 
 marked_free : (m : MarkedText) (x : List ℕ) → Free x → Free (marked_before m x)
-marked_free m x h = rw (mark_free m.letter m.radix m.marks) (word_free m.digits.text x (digits_are_characters m.radix m.digits.text (marked_small m) m.digits.digits) h)
+marked_free m x h =
+    rw (mark_free m.letter m.radix m.marks)
+    (word_free m.digits.text x (digits_are_characters m.radix m.digits.text (marked_small m) m.digits.digits) h)
 
 number_free : (n : NumberText) (x : List ℕ) → Free x → Free (number_before n x)
-number_free (Written.Decimal b digits) x h = blanks_free b (digits.text ++ x) (word_free digits.text x (digits_are_characters 10 digits.text (omega arith) digits.digits) h)
+number_free (Written.Decimal b digits) x h =
+    blanks_free b (digits.text ++ x)
+    (word_free digits.text x (digits_are_characters 10 digits.text (omega arith) digits.digits) h)
 number_free (Written.Marked b m) x h = blanks_free b (marked_before m x) (marked_free m x h)
 
 position_free : (p : Option PositionText) (x : List ℕ) → Free x → Free (before_if Written.position_before p x)
@@ -97,7 +101,9 @@ module _ (radix : ℕ) (small : radix ≤ 10) where
   more_free [] x h = h
   more_free (m ∷ ms) x h =
       let t = term_before nothing_of m.term (more_before nothing_of ms x) in
-      blanks_free m.before (sign_character m.sign.sign ∷ (m.sign.behind.text ++ t)) (sign_free m.sign.sign (m.sign.behind.text ++ t) (blanks_free m.sign.behind t (term_free m.term (more_before nothing_of ms x) (more_free ms x h))))
+      blanks_free m.before (sign_character m.sign.sign ∷ (m.sign.behind.text ++ t))
+      (sign_free m.sign.sign (m.sign.behind.text ++ t)
+      (blanks_free m.sign.behind t (term_free m.term (more_before nothing_of ms x) (more_free ms x h))))
 
   signed_free : (sign : Option SignText) (x : List ℕ) → Free x → Free (before_if sign_before sign x)
   signed_free None x h = h
@@ -147,7 +153,8 @@ module _ (radix : ℕ) (small : radix ≤ 10) where
 
   -- ---- where a literal without a text ends
 
-  bracket_found : (text rest : List ℕ) → Free text → behind_text (text ++ 93 ∷ rest) ≡ Some (text ++ 93 ∷ rest) → literal_len (text ++ 93 ∷ rest) ≡ Some (length text)
+  bracket_found : (text rest : List ℕ) → Free text → behind_text (text ++ 93 ∷ rest) ≡ Some (text ++ 93 ∷ rest)
+      → literal_len (text ++ 93 ∷ rest) ≡ Some (length text)
   unfolding literal_len
   bracket_found text rest h a = rw (a, position_read 93 text rest h) (ap Some (omega arith))
 
@@ -173,11 +180,14 @@ module _ (radix : ℕ) (small : radix ≤ 10) where
       (there, ap word_of there ∙ word_read w x characters (ends_further body rest e))
 
   -- a word with the name of a form that has no text
-  other_form : (bytes word : List ℕ) (f : Form) → word_of (after_blanks bytes) ≡ word → form_of (folded word) ≡ Some f → ((x : List ℕ) → behind_form (Some f) bytes x ≡ Some bytes) → behind_text bytes ≡ Some bytes
+  other_form : (bytes word : List ℕ) (f : Form) → word_of (after_blanks bytes) ≡ word → form_of (folded word) ≡ Some f
+      → ((x : List ℕ) → behind_form (Some f) bytes x ≡ Some bytes)
+      → behind_text bytes ≡ Some bytes
   unfolding behind_text
   other_form bytes word f a b c = rw (a, b) (c (after_word (after_blanks bytes)))
 
-  named_word : (b : Blanks) (name : NameText) (body rest : List ℕ) → parts_name true body ≡ true → word_of (after_blanks ((b.text ++ (name.text ++ body)) ++ 93 ∷ rest)) ≡ name.text
+  named_word : (b : Blanks) (name : NameText) (body rest : List ℕ) → parts_name true body ≡ true
+      → word_of (after_blanks ((b.text ++ (name.text ++ body)) ++ 93 ∷ rest)) ≡ name.text
   named_word b name body rest parted = (word_there b name.text body rest (name_some name.text name.names) name.characters (parts_word_end true body parted)).1
 
   named_free : (b : Blanks) (name : NameText) (body : List ℕ) → Free body → Free (b.text ++ (name.text ++ body))
@@ -191,11 +201,14 @@ module _ (radix : ℕ) (small : radix ≤ 10) where
       → literal_len ((b.text ++ (name.text ++ body)) ++ 93 ∷ rest) ≡ Some (length (b.text ++ (name.text ++ body)))
   plain_form b name body rest f is parted free other =
       let text = b.text ++ (name.text ++ body) in
-      bracket_found text rest (named_free b name body free) (other_form (text ++ 93 ∷ rest) name.text f (named_word b name body rest parted) is (other (text ++ 93 ∷ rest)))
+      bracket_found text rest (named_free b name body free)
+      (other_form (text ++ 93 ∷ rest) name.text f (named_word b name body rest parted) is (other (text ++ 93 ∷ rest)))
 
   -- ---- where a literal with a text ends
 
-  text_steps : (bytes word body tail text : List ℕ) (form : TextForm) (more : ℕ) → word_of (after_blanks bytes) ≡ word → form_of (folded word) ≡ Some (forms.Text form) → after_word (after_blanks bytes) ≡ body → text_at body ≡ Some (text, tail) → Rattle.std.specs.Prelude.position (λ c. c == 93) tail ≡ Some more
+  text_steps : (bytes word body tail text : List ℕ) (form : TextForm) (more : ℕ) → word_of (after_blanks bytes) ≡ word
+      → form_of (folded word) ≡ Some (forms.Text form) → after_word (after_blanks bytes) ≡ body → text_at body ≡ Some (text, tail)
+      → Rattle.std.specs.Prelude.position (λ c. c == 93) tail ≡ Some more
       → literal_len bytes ≡ Some (length bytes - length tail + more)
   unfolding literal_len behind_text
   text_steps bytes word body tail text form more a b c d e = rw (a, b, c, d, e) refl
@@ -205,7 +218,9 @@ module _ (radix : ℕ) (small : radix ≤ 10) where
       append_assoc q.before.text (q.delimiter ∷ (q.text ++ q.delimiter ∷ x)) (93 ∷ rest)
       ∙ ap (λ y. q.before.text ++ q.delimiter ∷ y) (append_assoc q.text (q.delimiter ∷ x) (93 ∷ rest))
 
-  text_form : (b : Blanks) (name : NameText) (form : TextForm) (q : QuotedText) (behind : Blanks) (rest : List ℕ) → form_of (folded name.text) ≡ Some (forms.Text form) → parts_name true (quoted_before q behind.text) ≡ true
+  text_form : (b : Blanks) (name : NameText) (form : TextForm) (q : QuotedText) (behind : Blanks) (rest : List ℕ)
+      → form_of (folded name.text) ≡ Some (forms.Text form)
+      → parts_name true (quoted_before q behind.text) ≡ true
       → literal_len ((b.text ++ (name.text ++ quoted_before q behind.text)) ++ 93 ∷ rest) ≡ Some (length (b.text ++ (name.text ++ quoted_before q behind.text)))
   text_form b name form q behind rest is parted =
       let body = quoted_before q behind.text in
@@ -213,22 +228,43 @@ module _ (radix : ℕ) (small : radix ≤ 10) where
       let tail = behind.text ++ 93 ∷ rest in
       let e = parts_word_end true body parted in
       let there = word_there b name.text body rest (name_some name.text name.names) name.characters e in
-      let after = ap after_word there.0 ∙ behind_read name.text (body ++ 93 ∷ rest) name.characters (ends_further body rest e) ∙ quoted_further q behind.text rest in
+      let after =
+      ap after_word there.0 ∙ behind_read name.text (body ++ 93 ∷ rest) name.characters (ends_further body rest e)
+      ∙ quoted_further q behind.text rest in
       let long : length (text ++ 93 ∷ rest) - length tail + length behind.text ≡ length text =
-      omega (arith, length-append text (93 ∷ rest), length-append behind.text (93 ∷ rest), length-append b.text (name.text ++ body), length-append name.text body, length-append q.before.text (q.delimiter ∷ (q.text ++ q.delimiter ∷ behind.text)), length-append q.text (q.delimiter ∷ behind.text)) in
-      text_steps (text ++ 93 ∷ rest) name.text (quoted_before q tail) tail q.text form (length behind.text) there.1 is after (text_read q tail) (position_read 93 behind.text rest (behind_free behind))
+      omega (
+        arith,
+        length-append text (93 ∷ rest),
+        length-append behind.text (93 ∷ rest),
+        length-append b.text (name.text ++ body),
+        length-append name.text body,
+        length-append q.before.text (q.delimiter ∷ (q.text ++ q.delimiter ∷ behind.text)),
+        length-append q.text (q.delimiter ∷ behind.text),
+      ) in
+      text_steps (text ++ 93 ∷ rest) name.text (quoted_before q tail) tail q.text form (length behind.text) there.1 is after
+      (text_read q tail) (position_read 93 behind.text rest (behind_free behind))
       ∙ ap Some long
 
   -- ---- forms and operations
 
-  form_cut : (b : Blanks) (name : NameText) (form : FormText radix ⊥) (behind : Blanks) (rest : List ℕ) (given : Data) → form_of (folded name.text) ≡ Some (form_written form) → parts_name true (form_before nothing_of form behind.text) ≡ true → Written.form_given [] form ≡ statements.Data given
-      → literal_len ((b.text ++ (name.text ++ form_before nothing_of form behind.text)) ++ 93 ∷ rest) ≡ Some (length (b.text ++ (name.text ++ form_before nothing_of form behind.text)))
-  form_cut b name (Written.Xwd p) behind rest given is parted gives = plain_form b name _ rest forms.Xwd is parted (pair_free p behind.text (behind_free behind)) (λ bytes x. refl)
-  form_cut b name (Written.Iowd p) behind rest given is parted gives = plain_form b name _ rest forms.Iowd is parted (pair_free p behind.text (behind_free behind)) (λ bytes x. refl)
-  form_cut b name (Written.Exp e more) behind rest given is parted gives = plain_form b name _ rest forms.Exp is parted (expression_free e (items_before nothing_of more behind.text) (items_free more behind.text (behind_free behind))) (λ bytes x. refl)
-  form_cut b name (Written.Point p) behind rest given is parted gives = plain_form b name _ rest forms.Point is parted (point_free p behind.text (behind_free behind)) (λ bytes x. refl)
+  form_cut : (b : Blanks) (name : NameText) (form : FormText radix ⊥) (behind : Blanks) (rest : List ℕ) (given : Data)
+      → form_of (folded name.text) ≡ Some (form_written form) → parts_name true (form_before nothing_of form behind.text) ≡ true
+      → Written.form_given [] form ≡ statements.Data given
+      → literal_len ((b.text ++ (name.text ++ form_before nothing_of form behind.text)) ++ 93 ∷ rest)
+      ≡ Some (length (b.text ++ (name.text ++ form_before nothing_of form behind.text)))
+  form_cut b name (Written.Xwd p) behind rest given is parted gives =
+      plain_form b name _ rest forms.Xwd is parted (pair_free p behind.text (behind_free behind)) (λ bytes x. refl)
+  form_cut b name (Written.Iowd p) behind rest given is parted gives =
+      plain_form b name _ rest forms.Iowd is parted (pair_free p behind.text (behind_free behind)) (λ bytes x. refl)
+  form_cut b name (Written.Exp e more) behind rest given is parted gives =
+      plain_form b name _ rest forms.Exp is parted
+      (expression_free e (items_before nothing_of more behind.text) (items_free more behind.text (behind_free behind)))
+      (λ bytes x. refl)
+  form_cut b name (Written.Point p) behind rest given is parted gives =
+      plain_form b name _ rest forms.Point is parted (point_free p behind.text (behind_free behind)) (λ bytes x. refl)
   form_cut b name (Written.Text form q) behind rest given is parted gives = text_form b name form q behind rest is parted
-  form_cut b name (Written.Block e) behind rest given is parted gives = plain_form b name _ rest forms.Block is parted (expression_free e behind.text (behind_free behind)) (λ bytes x. refl)
+  form_cut b name (Written.Block e) behind rest given is parted gives =
+      plain_form b name _ rest forms.Block is parted (expression_free e behind.text (behind_free behind)) (λ bytes x. refl)
   form_cut b name (Written.Loc e) behind rest given is parted gives = cc
   form_cut b name (Written.End e) behind rest given is parted gives = cc
   form_cut b name (Written.Radix n) behind rest given is parted gives = cc
@@ -245,8 +281,20 @@ module _ (radix : ℕ) (small : radix ≤ 10) where
   digit_no_form : (c : ℕ) (cs : List ℕ) → is_digit c ≡ true → form_of (c ∷ cs) ≡ None
   unfolding form_of
   digit_no_form c cs is =
-      let other : (k : ℕ) → is_digit k ≡ false → (c == k) ≡ false = λ k h. ne_eqb c k (λ same. Rattle.std.proofs.lemmas.Bool.false≢true (sym h ∙ ap is_digit (sym same) ∙ is)) in
-      rw (other 88 refl, other 69 refl, other 76 refl, other 73 refl, other 80 refl, other 65 refl, other 66 refl, other 82 refl, other 84 refl, other 83 refl) refl
+      let other : (k : ℕ) → is_digit k ≡ false → (c == k) ≡ false =
+      λ k h. ne_eqb c k (λ same. Rattle.std.proofs.lemmas.Bool.false≢true (sym h ∙ ap is_digit (sym same) ∙ is)) in
+      rw (
+        other 88 refl,
+        other 69 refl,
+        other 76 refl,
+        other 73 refl,
+        other 80 refl,
+        other 65 refl,
+        other 66 refl,
+        other 82 refl,
+        other 84 refl,
+        other 83 refl,
+      ) refl
 
   digit_stays : (c : ℕ) → is_digit c ≡ true → upper_case c ≡ c
   digit_stays c h = grind (arith, nat_tests)
@@ -270,9 +318,11 @@ module _ (radix : ℕ) (small : radix ≤ 10) where
   is_nothing (Some x) h = absurd (Rattle.std.proofs.lemmas.Bool.false≢true h)
 
   -- no word behind blanks, in a literal
-  mark_there : (b : Blanks) (c : ℕ) (x rest : List ℕ) → is_blank c ≡ false → is_name_character c ≡ false → word_of (after_blanks ((b.text ++ c ∷ x) ++ 93 ∷ rest)) ≡ []
+  mark_there : (b : Blanks) (c : ℕ) (x rest : List ℕ) → is_blank c ≡ false → is_name_character c ≡ false
+      → word_of (after_blanks ((b.text ++ c ∷ x) ++ 93 ∷ rest)) ≡ []
   mark_there b c x rest firm other =
-      ap (λ y. word_of (after_blanks y)) (append_assoc b.text (c ∷ x) (93 ∷ rest)) ∙ ap word_of (Rattle.mac_text.proofs.WrittenTerms.skip_to b (c ∷ (x ++ 93 ∷ rest)) (ap not firm)) ∙ rw other refl
+      ap (λ y. word_of (after_blanks y)) (append_assoc b.text (c ∷ x) (93 ∷ rest))
+      ∙ ap word_of (Rattle.mac_text.proofs.WrittenTerms.skip_to b (c ∷ (x ++ 93 ∷ rest)) (ap not firm)) ∙ rw other refl
 
   -- what stands behind a further run of blanks is what comes next
   strip : (b : Blanks) (x rest : List ℕ) → after_blanks ((b.text ++ x) ++ 93 ∷ rest) ≡ after_blanks (x ++ 93 ∷ rest)
@@ -282,18 +332,26 @@ module _ (radix : ℕ) (small : radix ≤ 10) where
   sign_there Plus b x rest = mark_there b 43 x rest refl refl
   sign_there Minus b x rest = mark_there b 45 x rest refl refl
 
-  value_case : (b before : Blanks) (sign : Option SignText) (t : TermText radix ⊥) (x rest : List ℕ) → (is_some sign || tells_nothing t) ≡ true → ends_word x ≡ true
-      → behind_text ((b.text ++ (before.text ++ before_if sign_before sign (term_before nothing_of t x))) ++ 93 ∷ rest) ≡ Some ((b.text ++ (before.text ++ before_if sign_before sign (term_before nothing_of t x))) ++ 93 ∷ rest)
+  value_case : (b before : Blanks) (sign : Option SignText) (t : TermText radix ⊥) (x rest : List ℕ)
+      → (is_some sign || tells_nothing t) ≡ true
+      → ends_word x ≡ true
+      → behind_text ((b.text ++ (before.text ++ before_if sign_before sign (term_before nothing_of t x))) ++ 93 ∷ rest)
+      ≡ Some ((b.text ++ (before.text ++ before_if sign_before sign (term_before nothing_of t x))) ++ 93 ∷ rest)
   value_case b before (Some s) t x rest bare e =
       let y = s.behind.text ++ term_before nothing_of t x in
       no_text _ [] (ap word_of (strip b (before.text ++ sign_character s.sign ∷ y) rest) ∙ sign_there s.sign before y rest) nothing_no_form
   value_case b before None (Written.Number digits) x rest bare e =
-      no_text _ digits.text (ap word_of (strip b (before.text ++ (digits.text ++ x)) rest) ∙ (word_there before digits.text x rest digits.some (digits_are_characters radix digits.text small digits.digits) e).1) (digits_no_form digits.text digits.some digits.digits)
+      no_text _ digits.text
+      (ap word_of (strip b (before.text ++ (digits.text ++ x)) rest)
+      ∙ (word_there before digits.text x rest digits.some (digits_are_characters radix digits.text small digits.digits) e).1)
+      (digits_no_form digits.text digits.some digits.digits)
   value_case b before None (Written.Marked m) x rest bare e =
       let y = m.letter ∷ (m.digits.text ++ x) in
       no_text _ [] (ap word_of (strip b (before.text ++ 94 ∷ y) rest) ∙ mark_there before 94 y rest refl refl) nothing_no_form
   value_case b before None (Written.Label name) x rest bare e =
-      no_text _ name.text (ap word_of (strip b (before.text ++ (name.text ++ x)) rest) ∙ (word_there before name.text x rest (name_some name.text name.names) name.characters e).1)
+      no_text _ name.text
+      (ap word_of (strip b (before.text ++ (name.text ++ x)) rest)
+      ∙ (word_there before name.text x rest (name_some name.text name.names) name.characters e).1)
       (is_nothing _ (and_parts (is_none (form_of (folded name.text))) (is_none (named_of (folded name.text))) bare).0)
   value_case b before None Written.Point x rest bare e =
       no_text _ (46 ∷ []) (ap word_of (strip b (before.text ++ 46 ∷ x) rest) ∙ (word_there before (46 ∷ []) x rest (omega arith) refl e).1) point_no_form
@@ -303,20 +361,28 @@ module _ (radix : ℕ) (small : radix ≤ 10) where
       → literal_len ((b.text ++ expression_before nothing_of e x) ++ 93 ∷ rest) ≡ Some (length (b.text ++ expression_before nothing_of e x))
   value_cut b e x rest bare end free =
       bracket_found (b.text ++ expression_before nothing_of e x) rest (blanks_free b (expression_before nothing_of e x) (expression_free e x free))
-      (value_case b e.before e.sign e.term (more_before nothing_of e.more x) rest bare (Rattle.mac_text.proofs.WrittenTerms.more_end radix true nothing_of small cut_nothing e.more x end))
+      (value_case b e.before e.sign e.term (more_before nothing_of e.more x) rest bare
+      (Rattle.mac_text.proofs.WrittenTerms.more_end radix true nothing_of small cut_nothing e.more x end))
 
-  statement_cut : (b : Blanks) (st : StatementText radix ⊥) (behind : Blanks) (rest : List ℕ) (given : Data) → IsStatement true nothing_of st → statement_given st ≡ statements.Data given
+  statement_cut : (b : Blanks) (st : StatementText radix ⊥) (behind : Blanks) (rest : List ℕ) (given : Data)
+      → IsStatement true nothing_of st
+      → statement_given st ≡ statements.Data given
       → literal_len ((b.text ++ statement_before nothing_of st behind.text) ++ 93 ∷ rest) ≡ Some (length (b.text ++ statement_before nothing_of st behind.text))
   statement_cut b (Written.Formed name form) behind rest given is gives =
-      form_cut b name form behind rest given is.0 (parts_form radix true nothing_of small cut_nothing form [] behind.text (λ _. (statement_ends_blank behind).name true) is.1) gives
+      form_cut b name form behind rest given is.0
+      (parts_form radix true nothing_of small cut_nothing form [] behind.text (λ _. (statement_ends_blank behind).name true)
+      is.1) gives
   statement_cut b (Written.Instruction name named o) behind rest given is gives =
-      operation_cut b name (operands_before nothing_of o behind.text) rest is.0 (parts_operands radix true nothing_of small cut_nothing o.accumulator o.operand [] behind.text (λ _. (statement_ends_blank behind).name true) is.3)
+      operation_cut b name (operands_before nothing_of o behind.text) rest is.0
+      (parts_operands radix true nothing_of small cut_nothing o.accumulator o.operand [] behind.text
+      (λ _. (statement_ends_blank behind).name true) is.3)
       (accumulator_free o.accumulator (operand_before nothing_of o.operand behind.text) (operand_free o.operand behind.text (behind_free behind)))
   statement_cut b (Written.Value e) behind rest given is gives = value_cut b e behind.text rest is (statement_ends_blank behind).part.word (behind_free behind)
   statement_cut b (Written.Halves p) behind rest given is gives =
       let right = expression_before nothing_of p.right behind.text in
       let tail = p.behind.text ++ 44 ∷ 44 ∷ right in
-      value_cut b p.left tail rest is (Rattle.mac_text.proofs.WrittenTerms.blanks_end p.behind (44 ∷ 44 ∷ right) refl) (blanks_free p.behind (44 ∷ 44 ∷ right) (expression_free p.right behind.text (behind_free behind)))
+      value_cut b p.left tail rest is (Rattle.mac_text.proofs.WrittenTerms.blanks_end p.behind (44 ∷ 44 ∷ right) refl)
+      (blanks_free p.behind (44 ∷ 44 ∷ right) (expression_free p.right behind.text (behind_free behind)))
 
   -- the bracket behind a literal is the one that ends it
   pub literal_cut : (l : LiteralText radix) (rest : List ℕ) → literal_len (literal_text l ++ 93 ∷ rest) ≡ Some (length (literal_text l))

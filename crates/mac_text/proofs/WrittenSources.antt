@@ -81,17 +81,22 @@ one_then line front (Err n) = refl
 
 source_line_read : (l : SourceLine) (radix : ℕ) → radix ≤ 10 → l.radix ≡ radix → line_of radix (source_line_text l) ≡ Some (source_line_given l)
 source_line_read l radix small same =
-    subst (λ (r : ℕ). line_of r (source_line_text l) ≡ Some (source_line_given l)) same (line_read l.radix l.line (subst (λ (r : ℕ). r ≤ 10) (sym same) small) l.legal)
+    subst (λ (r : ℕ). line_of r (source_line_text l) ≡ Some (source_line_given l)) same
+    (line_read l.radix l.line (subst (λ (r : ℕ). r ≤ 10) (sym same) small) l.legal)
 
 -- a line that is read, at the head of others
-line_first : (radix number : ℕ) (text : List ℕ) (texts all : List (List ℕ)) (line : Line) → all ≡ text ∷ texts → line_of radix text ≡ Some line → is_end line ≡ false
+line_first : (radix number : ℕ) (text : List ℕ) (texts all : List (List ℕ)) (line : Line) → all ≡ text ∷ texts
+    → line_of radix text ≡ Some line
+    → is_end line ≡ false
     → lines_from radix number all ≡ with_line line (lines_from (radix_after line radix) (number + 1) texts)
 line_first radix number text texts all line parted is goes =
     ap (lines_from radix number) parted ∙ lines_from-cons radix number text texts
     ∙ ap (λ o. line_then number o (λ l. lines_from (radix_after l radix) (number + 1) texts)) is
     ∙ ap (λ b. cond b (Ok (line ∷ [])) (with_line line (lines_from (radix_after line radix) (number + 1) texts))) goes
 
-line_ends : (radix number : ℕ) (text : List ℕ) (texts all : List (List ℕ)) (line : Line) → all ≡ text ∷ texts → line_of radix text ≡ Some line → is_end line ≡ true
+line_ends : (radix number : ℕ) (text : List ℕ) (texts all : List (List ℕ)) (line : Line) → all ≡ text ∷ texts
+    → line_of radix text ≡ Some line
+    → is_end line ≡ true
     → lines_from radix number all ≡ Ok (line ∷ [])
 line_ends radix number text texts all line parted is ends =
     ap (lines_from radix number) parted ∙ lines_from-cons radix number text texts
@@ -106,7 +111,8 @@ line_fails radix number text texts all parted is =
 
 -- what stands behind lines is read with the next number, in the radix that they leave
 lines_read : (ls : List SourceLine) (radix number : ℕ) (rest : List ℕ) → radix ≤ 10 → GoOn radix ls
-    → lines_from radix number (lines (source_before ls rest)) ≡ with_lines (source_given ls) (lines_from (radix_behind radix ls) (number + length ls) (lines rest))
+    → lines_from radix number (lines (source_before ls rest))
+    ≡ with_lines (source_given ls) (lines_from (radix_behind radix ls) (number + length ls) (lines rest))
 unfolding source_before radix_behind GoOn
 lines_read [] radix number rest small on =
     let same : number ≡ number + 0 = omega arith in
@@ -116,7 +122,8 @@ lines_read (l ∷ ls) radix number rest small on =
     let next = radix_after line radix in
     let behind = source_before ls rest in
     let more : number + 1 + length ls ≡ number + length (l ∷ ls) = omega arith in
-    line_first radix number (source_line_text l) (lines behind) (lines (source_line_text l ++ end_before l.end behind)) line (first_line (source_line_text l) l.end behind l.one) (source_line_read l radix small on.0) on.1
+    line_first radix number (source_line_text l) (lines behind) (lines (source_line_text l ++ end_before l.end behind)) line
+    (first_line (source_line_text l) l.end behind l.one) (source_line_read l radix small on.0) on.1
     ∙ ap (with_line line) (lines_read ls next (number + 1) rest (radix_stays line.statement radix small) on.2)
     ∙ one_then line (source_given ls) (lines_from (radix_behind next ls) (number + 1 + length ls) (lines rest))
     ∙ ap (λ n. with_lines (line ∷ source_given ls) (lines_from (radix_behind next ls) n (lines rest))) more
@@ -132,10 +139,14 @@ source_read ls rest on = lines_read ls 8 1 rest (omega arith) on
 pub whole_source_read : (ls : List SourceLine) → GoOn 8 ls → program_of (source_before ls []) ≡ Ok (source_given ls)
 whole_source_read ls on =
     source_read ls [] on
-    ∙ ap (with_lines (source_given ls)) (ap (lines_from (radix_behind 8 ls) (1 + length ls)) (lines_of_nothing [] refl) ∙ lines_from-nil (radix_behind 8 ls) (1 + length ls))
+    ∙ ap (with_lines (source_given ls))
+    (ap (lines_from (radix_behind 8 ls) (1 + length ls)) (lines_of_nothing [] refl)
+    ∙ lines_from-nil (radix_behind 8 ls) (1 + length ls))
     ∙ ap Ok (append-nil (source_given ls))
 
-last_read : (ends : Bool) (l : SourceLine) (radix number : ℕ) → is_end (source_line_given l) ≡ ends → lines (source_line_text l) ≡ source_line_text l ∷ [] → line_of radix (source_line_text l) ≡ Some (source_line_given l)
+last_read : (ends : Bool) (l : SourceLine) (radix number : ℕ) → is_end (source_line_given l) ≡ ends
+    → lines (source_line_text l) ≡ source_line_text l ∷ []
+    → line_of radix (source_line_text l) ≡ Some (source_line_given l)
     → lines_from radix number (lines (source_line_text l)) ≡ Ok (source_line_given l ∷ [])
 last_read true l radix number is there read = line_ends radix number (source_line_text l) [] (lines (source_line_text l)) (source_line_given l) there read is
 last_read false l radix number is there read =
@@ -152,19 +163,25 @@ open_source_read ls last on same some =
     ∙ ap (with_lines (source_given ls)) (last_read (is_end (source_line_given last)) last (radix_behind 8 ls) (1 + length ls) refl there read)
 
 -- END, behind which nothing is looked at
-pub ended_source_read : (ls : List SourceLine) (last : SourceLine) (rest : List ℕ) → GoOn 8 ls → last.radix ≡ radix_behind 8 ls → is_end (source_line_given last) ≡ true
+pub ended_source_read : (ls : List SourceLine) (last : SourceLine) (rest : List ℕ) → GoOn 8 ls → last.radix ≡ radix_behind 8 ls
+    → is_end (source_line_given last) ≡ true
     → program_of (source_before ls (source_line_text last ++ end_before last.end rest)) ≡ Ok (source_given ls ++ source_line_given last ∷ [])
 ended_source_read ls last rest on same ends =
     let read = source_line_read last (radix_behind 8 ls) (radix_behind_small ls 8 (omega arith)) same in
     let behind = source_line_text last ++ end_before last.end rest in
     source_read ls behind on
-    ∙ ap (with_lines (source_given ls)) (line_ends (radix_behind 8 ls) (1 + length ls) (source_line_text last) (lines rest) (lines behind) (source_line_given last) (first_line (source_line_text last) last.end rest last.one) read ends)
+    ∙ ap (with_lines (source_given ls))
+    (line_ends (radix_behind 8 ls) (1 + length ls) (source_line_text last) (lines rest) (lines behind)
+    (source_line_given last) (first_line (source_line_text last) last.end rest last.one) read ends)
 
 -- a line that is not in the grammar
-pub source_refused : (ls : List SourceLine) (text : List ℕ) (end : LineEnd) (rest : List ℕ) → GoOn 8 ls → IsOneLine text → line_of (radix_behind 8 ls) text ≡ None
+pub source_refused : (ls : List SourceLine) (text : List ℕ) (end : LineEnd) (rest : List ℕ) → GoOn 8 ls → IsOneLine text
+    → line_of (radix_behind 8 ls) text ≡ None
     → program_of (source_before ls (text ++ end_before end rest)) ≡ Err (length ls + 1)
 source_refused ls text end rest on one none =
     let behind = text ++ end_before end rest in
     let number : 1 + length ls ≡ length ls + 1 = omega arith in
     source_read ls behind on
-    ∙ ap (with_lines (source_given ls)) (line_fails (radix_behind 8 ls) (1 + length ls) text (lines rest) (lines behind) (first_line text end rest one) none ∙ ap Err number)
+    ∙ ap (with_lines (source_given ls))
+    (line_fails (radix_behind 8 ls) (1 + length ls) text (lines rest) (lines behind) (first_line text end rest one) none
+    ∙ ap Err number)

@@ -85,7 +85,8 @@ pub blanks_part : (in_literal : Bool) (bs x : List ℕ) → list_all is_blank bs
 blanks_part in_literal [] x h e = e
 blanks_part in_literal (b ∷ bs) x h e = blank_parts in_literal b (and_parts (is_blank b) (list_all is_blank bs) h).0
 
-title_behind : (xs ys : List ℕ) → list_all is_title_character xs ≡ true → drop (prefix_len is_title_character (xs ++ ys)) (xs ++ ys) ≡ drop (prefix_len is_title_character ys) ys
+title_behind : (xs ys : List ℕ) → list_all is_title_character xs ≡ true
+    → drop (prefix_len is_title_character (xs ++ ys)) (xs ++ ys) ≡ drop (prefix_len is_title_character ys) ys
 title_behind [] ys h = refl
 title_behind (x ∷ xs) ys h =
     let p = and_parts (is_title_character x) (list_all is_title_character xs) h in
@@ -97,7 +98,12 @@ pub statement_ends : (b : Blanks) (comment : Option (List ℕ)) → EndsStatemen
 statement_ends b None =
     let there = skip_to b [] refl in
     record {
-      part = record { word = blanks_end b [] refl; expression = ap begins_expression there; bracket = ap (begins_with 40) there; at_sign = ap (begins_with 64) there };
+      part = record {
+        word = blanks_end b [] refl;
+        expression = ap begins_expression there;
+        bracket = ap (begins_with 40) there;
+        at_sign = ap (begins_with 64) there;
+      };
       name = λ in_literal. blanks_part in_literal b.text [] b.blank refl;
       comma = ap (begins_with 44) there;
       title = ap after_blanks (title_behind b.text [] (blanks_in_title b.text b.blank)) ∙ sym there;
@@ -105,7 +111,12 @@ statement_ends b None =
 statement_ends b (Some comment) =
     let there = skip_to b (59 ∷ comment) refl in
     record {
-      part = record { word = blanks_end b (59 ∷ comment) refl; expression = ap begins_expression there; bracket = ap (begins_with 40) there; at_sign = ap (begins_with 64) there };
+      part = record {
+        word = blanks_end b (59 ∷ comment) refl;
+        expression = ap begins_expression there;
+        bracket = ap (begins_with 40) there;
+        at_sign = ap (begins_with 64) there;
+      };
       name = λ in_literal. blanks_part in_literal b.text (59 ∷ comment) b.blank refl;
       comma = ap (begins_with 44) there;
       title = ap after_blanks (title_behind b.text (59 ∷ comment) (blanks_in_title b.text b.blank)) ∙ sym there;
@@ -116,7 +127,9 @@ statement_ends_blank b = subst EndsStatement (append-nil b.text) (statement_ends
 
 -- ---- a name stays parted from what stands behind it, whatever stands behind that
 
-parts_blanks : (in_literal : Bool) (bs x y : List ℕ) → (parts_name in_literal x ≡ true → parts_name in_literal y ≡ true) → parts_name in_literal (bs ++ x) ≡ true → parts_name in_literal (bs ++ y) ≡ true
+parts_blanks : (in_literal : Bool) (bs x y : List ℕ) → (parts_name in_literal x ≡ true → parts_name in_literal y ≡ true)
+    → parts_name in_literal (bs ++ x) ≡ true
+    → parts_name in_literal (bs ++ y) ≡ true
 parts_blanks in_literal [] x y f h = f h
 parts_blanks in_literal (b ∷ bs) x y f h = h
 
@@ -124,11 +137,14 @@ parts_word : (in_literal : Bool) (w x y : List ℕ) → 0 < length w → parts_n
 parts_word in_literal [] x y some h = absurd (omega arith)
 parts_word in_literal (c ∷ cs) x y some h = h
 
-parts_number : (in_literal : Bool) (n : NumberText) (x y : List ℕ) → parts_name in_literal (number_before n x) ≡ true → parts_name in_literal (number_before n y) ≡ true
+parts_number : (in_literal : Bool) (n : NumberText) (x y : List ℕ) → parts_name in_literal (number_before n x) ≡ true
+    → parts_name in_literal (number_before n y) ≡ true
 parts_number in_literal (Written.Decimal before digits) x y h = parts_blanks in_literal before.text _ _ (parts_word in_literal digits.text x y digits.some) h
 parts_number in_literal (Written.Marked before m) x y h = parts_blanks in_literal before.text (Written.marked_before m x) (Written.marked_before m y) (λ k. k) h
 
-parts_title : (in_literal : Bool) (t x y : List ℕ) → (parts_name in_literal x ≡ true → parts_name in_literal y ≡ true) → parts_name in_literal (t ++ x) ≡ true → parts_name in_literal (t ++ y) ≡ true
+parts_title : (in_literal : Bool) (t x y : List ℕ) → (parts_name in_literal x ≡ true → parts_name in_literal y ≡ true)
+    → parts_name in_literal (t ++ x) ≡ true
+    → parts_name in_literal (t ++ y) ≡ true
 parts_title in_literal t x y f h = parts_blanks in_literal t x y f h
 
 pub parts_word_end : (in_literal : Bool) (x : List ℕ) → parts_name in_literal x ≡ true → ends_word x ≡ true
@@ -137,20 +153,28 @@ parts_word_end in_literal (c ∷ cs) h = (and_parts (not (is_name_character c)) 
 
 -- ---- the steps of each reader
 
-value_alone : (s t : Scan) (e : List SignedTerm) → expression_at s ≡ Some (e, t) → begins_with_commas (after_blanks t.rest) ≡ false → value_at s ≡ Some (data_of.Value e, skipped t)
+value_alone : (s t : Scan) (e : List SignedTerm) → expression_at s ≡ Some (e, t)
+    → begins_with_commas (after_blanks t.rest) ≡ false
+    → value_at s ≡ Some (data_of.Value e, skipped t)
 unfolding value_at
 value_alone s t e a b = rw (a, b) refl
 
-value_halves : (s t u : Scan) (x : List ℕ) (l r : List SignedTerm) → expression_at s ≡ Some (l, t) → after_blanks t.rest ≡ 44 ∷ 44 ∷ x → expression_at (left t x) ≡ Some (r, u) → value_at s ≡ Some (data_of.Halves l r, u)
+value_halves : (s t u : Scan) (x : List ℕ) (l r : List SignedTerm) → expression_at s ≡ Some (l, t)
+    → after_blanks t.rest ≡ 44 ∷ 44 ∷ x → expression_at (left t x) ≡ Some (r, u)
+    → value_at s ≡ Some (data_of.Halves l r, u)
 unfolding value_at
 value_halves s t u x l r a b c = rw (a, b, c) refl
 
-statement_formed : (s t : Scan) (name body : List ℕ) (form : Form) (given : Statement) → after_blanks s.rest ≡ name ++ body → word_of (name ++ body) ≡ name → is_name name ≡ true → form_of (folded name) ≡ Some form → form_at form (left s body) ≡ Some (given, t)
+statement_formed : (s t : Scan) (name body : List ℕ) (form : Form) (given : Statement) → after_blanks s.rest ≡ name ++ body
+    → word_of (name ++ body) ≡ name → is_name name ≡ true → form_of (folded name) ≡ Some form
+    → form_at form (left s body) ≡ Some (given, t)
     → statement_at s ≡ Some (given, t)
 unfolding statement_at
 statement_formed s t name body form given a b c d e = rw (a, b, c, d, drop-append_seam name body) e
 
-statement_named : (s t : Scan) (name body : List ℕ) (named : Named) (given : Instruction) → after_blanks s.rest ≡ name ++ body → word_of (name ++ body) ≡ name → is_name name ≡ true → form_of (folded name) ≡ None → named_of (folded name) ≡ Some named → instruction_at named (left s body) ≡ Some (given, t)
+statement_named : (s t : Scan) (name body : List ℕ) (named : Named) (given : Instruction) → after_blanks s.rest ≡ name ++ body
+    → word_of (name ++ body) ≡ name → is_name name ≡ true → form_of (folded name) ≡ None → named_of (folded name) ≡ Some named
+    → instruction_at named (left s body) ≡ Some (given, t)
     → statement_at s ≡ Some (statements.Data (data_of.Instruction given), t)
 unfolding statement_at
 statement_named s t name body named given a b c d e f = rw (a, b, c, d, e, drop-append_seam name body, f) refl
@@ -186,46 +210,70 @@ module _ (radix : ℕ) (in_literal : Bool) {L : Type 0} (text_of : L → List �
   abbrev at : List L → List ℕ → Scan
   at earlier rest = record { radix = radix; in_literal = in_literal; cuts = map text_of earlier; rest = rest }
 
-  parts_term : (t : TermText radix L) (x y : List ℕ) → parts_name in_literal (term_before text_of t x) ≡ true → parts_name in_literal (term_before text_of t y) ≡ true
+  parts_term : (t : TermText radix L) (x y : List ℕ) → parts_name in_literal (term_before text_of t x) ≡ true
+      → parts_name in_literal (term_before text_of t y) ≡ true
   parts_term (Written.Number digits) x y h = parts_word in_literal digits.text x y digits.some h
   parts_term (Written.Marked m) x y h = h
   parts_term (Written.Label name) x y h = parts_word in_literal name.text x y (name_some name.text name.names) h
   parts_term Written.Point x y h = h
   parts_term (Written.Literal l) x y h = h
 
-  parts_signed : (sign : Option SignText) (t : TermText radix L) (x y : List ℕ) → parts_name in_literal (before_if sign_before sign (term_before text_of t x)) ≡ true → parts_name in_literal (before_if sign_before sign (term_before text_of t y)) ≡ true
+  parts_signed : (sign : Option SignText) (t : TermText radix L) (x y : List ℕ)
+      → parts_name in_literal (before_if sign_before sign (term_before text_of t x)) ≡ true
+      → parts_name in_literal (before_if sign_before sign (term_before text_of t y)) ≡ true
   parts_signed None t x y h = parts_term t x y h
   parts_signed (Some s) t x y h = h
 
-  parts_expression : (e : ExpressionText radix L) (x y : List ℕ) → parts_name in_literal (expression_before text_of e x) ≡ true → parts_name in_literal (expression_before text_of e y) ≡ true
-  parts_expression e x y h = parts_blanks in_literal e.before.text _ _ (parts_signed e.sign e.term (more_before text_of e.more x) (more_before text_of e.more y)) h
+  parts_expression : (e : ExpressionText radix L) (x y : List ℕ) → parts_name in_literal (expression_before text_of e x) ≡ true
+      → parts_name in_literal (expression_before text_of e y) ≡ true
+  parts_expression e x y h =
+      parts_blanks in_literal e.before.text _ _
+      (parts_signed e.sign e.term (more_before text_of e.more x) (more_before text_of e.more y)) h
 
-  parts_optional : (e : Option (ExpressionText radix L)) (x y : List ℕ) → (parts_name in_literal x ≡ true → parts_name in_literal y ≡ true) → parts_name in_literal (before_if (expression_before text_of) e x) ≡ true → parts_name in_literal (before_if (expression_before text_of) e y) ≡ true
+  parts_optional : (e : Option (ExpressionText radix L)) (x y : List ℕ)
+      → (parts_name in_literal x ≡ true → parts_name in_literal y ≡ true)
+      → parts_name in_literal (before_if (expression_before text_of) e x) ≡ true
+      → parts_name in_literal (before_if (expression_before text_of) e y) ≡ true
   parts_optional None x y f h = f h
   parts_optional (Some e) x y f h = parts_expression e x y h
 
-  parts_index : (i : Option (IndexText radix L)) (x y : List ℕ) → (parts_name in_literal x ≡ true → parts_name in_literal y ≡ true) → parts_name in_literal (before_if (index_before text_of) i x) ≡ true → parts_name in_literal (before_if (index_before text_of) i y) ≡ true
+  parts_index : (i : Option (IndexText radix L)) (x y : List ℕ)
+      → (parts_name in_literal x ≡ true → parts_name in_literal y ≡ true)
+      → parts_name in_literal (before_if (index_before text_of) i x) ≡ true
+      → parts_name in_literal (before_if (index_before text_of) i y) ≡ true
   parts_index None x y f h = f h
   parts_index (Some i) x y f h =
-      parts_blanks in_literal i.before.text (40 ∷ expression_before text_of i.register (i.behind.text ++ 41 ∷ x)) (40 ∷ expression_before text_of i.register (i.behind.text ++ 41 ∷ y)) (λ k. k) h
+      parts_blanks in_literal i.before.text (40 ∷ expression_before text_of i.register (i.behind.text ++ 41 ∷ x))
+      (40 ∷ expression_before text_of i.register (i.behind.text ++ 41 ∷ y)) (λ k. k) h
 
-  parts_indirect : (b : Option Blanks) (x y : List ℕ) → (parts_name in_literal x ≡ true → parts_name in_literal y ≡ true) → parts_name in_literal (before_if indirect_before b x) ≡ true → parts_name in_literal (before_if indirect_before b y) ≡ true
+  parts_indirect : (b : Option Blanks) (x y : List ℕ) → (parts_name in_literal x ≡ true → parts_name in_literal y ≡ true)
+      → parts_name in_literal (before_if indirect_before b x) ≡ true
+      → parts_name in_literal (before_if indirect_before b y) ≡ true
   parts_indirect None x y f h = f h
   parts_indirect (Some b) x y f h = parts_blanks in_literal b.text (64 ∷ x) (64 ∷ y) (λ k. k) h
 
-  parts_operand : (o : OperandText radix L) (x y : List ℕ) → (parts_name in_literal x ≡ true → parts_name in_literal y ≡ true) → parts_name in_literal (operand_before text_of o x) ≡ true → parts_name in_literal (operand_before text_of o y) ≡ true
+  parts_operand : (o : OperandText radix L) (x y : List ℕ) → (parts_name in_literal x ≡ true → parts_name in_literal y ≡ true)
+      → parts_name in_literal (operand_before text_of o x) ≡ true
+      → parts_name in_literal (operand_before text_of o y) ≡ true
   parts_operand o x y f h = parts_indirect o.indirect _ _ (parts_optional o.address _ _ (parts_index o.index x y f)) h
 
-  pub parts_operands : (a : Option (AccumulatorText radix L)) (o : OperandText radix L) (x y : List ℕ) → (parts_name in_literal x ≡ true → parts_name in_literal y ≡ true) → parts_name in_literal (before_if (accumulator_before text_of) a (operand_before text_of o x)) ≡ true → parts_name in_literal (before_if (accumulator_before text_of) a (operand_before text_of o y)) ≡ true
+  pub parts_operands : (a : Option (AccumulatorText radix L)) (o : OperandText radix L) (x y : List ℕ)
+      → (parts_name in_literal x ≡ true → parts_name in_literal y ≡ true)
+      → parts_name in_literal (before_if (accumulator_before text_of) a (operand_before text_of o x)) ≡ true
+      → parts_name in_literal (before_if (accumulator_before text_of) a (operand_before text_of o y)) ≡ true
   parts_operands None o x y f h = parts_operand o x y f h
   parts_operands (Some a) o x y f h = parts_expression a.register _ _ h
 
-  pub parts_form : (form : FormText radix L) (x y : List ℕ) → (parts_name in_literal x ≡ true → parts_name in_literal y ≡ true) → parts_name in_literal (form_before text_of form x) ≡ true → parts_name in_literal (form_before text_of form y) ≡ true
+  pub parts_form : (form : FormText radix L) (x y : List ℕ) → (parts_name in_literal x ≡ true → parts_name in_literal y ≡ true)
+      → parts_name in_literal (form_before text_of form x) ≡ true
+      → parts_name in_literal (form_before text_of form y) ≡ true
   parts_form (Written.Xwd p) x y f h = parts_expression p.left _ _ h
   parts_form (Written.Iowd p) x y f h = parts_expression p.left _ _ h
   parts_form (Written.Exp e more) x y f h = parts_expression e _ _ h
   parts_form (Written.Point p) x y f h = parts_number in_literal p.size _ _ h
-  parts_form (Written.Text form q) x y f h = parts_blanks in_literal q.before.text (q.delimiter ∷ (q.text ++ q.delimiter ∷ x)) (q.delimiter ∷ (q.text ++ q.delimiter ∷ y)) (λ k. k) h
+  parts_form (Written.Text form q) x y f h =
+      parts_blanks in_literal q.before.text (q.delimiter ∷ (q.text ++ q.delimiter ∷ x))
+      (q.delimiter ∷ (q.text ++ q.delimiter ∷ y)) (λ k. k) h
   parts_form (Written.Block e) x y f h = parts_expression e x y h
   parts_form (Written.Loc e) x y f h = parts_expression e x y h
   parts_form (Written.End e) x y f h = parts_optional e x y f h
@@ -249,9 +297,13 @@ module _ (radix : ℕ) (in_literal : Bool) {L : Type 0} (text_of : L → List �
   form_read : (form : FormText radix L) (rest : List ℕ) → EndsStatement rest
       → form_at (form_written form) (at [] (form_before text_of form rest)) ≡ Some (form_given [] form, at (form_literals [] form) (form_rest form rest))
   unfolding form_at
-  form_read (Written.Xwd p) rest end = ap (with_data (λ p. data_of.Halves p.0 p.1)) (pair_read radix in_literal text_of small cut [] p rest (part_ends_sum end.part))
-  form_read (Written.Iowd p) rest end = ap (with_data (λ p. data_of.Iowd p.0 p.1)) (pair_read radix in_literal text_of small cut [] p rest (part_ends_sum end.part))
-  form_read (Written.Exp e more) rest end = ap (with_data data_of.Exp) (list_read radix in_literal text_of small cut [] e more rest (part_ends_sum end.part) end.comma)
+  form_read (Written.Xwd p) rest end =
+      ap (with_data (λ p. data_of.Halves p.0 p.1))
+      (pair_read radix in_literal text_of small cut [] p rest (part_ends_sum end.part))
+  form_read (Written.Iowd p) rest end =
+      ap (with_data (λ p. data_of.Iowd p.0 p.1)) (pair_read radix in_literal text_of small cut [] p rest (part_ends_sum end.part))
+  form_read (Written.Exp e more) rest end =
+      ap (with_data data_of.Exp) (list_read radix in_literal text_of small cut [] e more rest (part_ends_sum end.part) end.comma)
   form_read (Written.Point p) rest end = ap (with_data (λ d. d)) (point_read radix in_literal text_of small cut p rest end.part end.comma)
   form_read (Written.Text form q) rest end = rw (text_read q rest) refl
   form_read (Written.Block e) rest end = ap (with_data data_of.Block) (expression_read radix in_literal text_of small cut [] e rest (part_ends_sum end.part))
@@ -316,13 +368,17 @@ module _ (radix : ℕ) (in_literal : Bool) {L : Type 0} (text_of : L → List �
       → worded_at (word_of (after_blanks (expression_before text_of e rest))) s ≡ value_statement s
   value_word s e rest bare end =
       let x = more_before text_of e.more rest in
-      ap (λ y. worded_at (word_of y) s) (skip_to e.before _ (firm_case e.sign e.term x)) ∙ bare_case s e.sign e.term x bare (more_end radix in_literal text_of small cut e.more rest end)
+      ap (λ y. worded_at (word_of y) s) (skip_to e.before _ (firm_case e.sign e.term x))
+      ∙ bare_case s e.sign e.term x bare (more_end radix in_literal text_of small cut e.more rest end)
 
   expression_later : (e : ExpressionText radix L) (rest : List ℕ) → EndsSum rest
       → expression_at (skipped (at [] (expression_before text_of e rest))) ≡ Some (expression_given [] e, at (expression_literals [] e) (after_blanks rest))
-  expression_later e rest end = expression_behind_blanks (at [] (expression_before text_of e rest)) ∙ expression_read radix in_literal text_of small cut [] e rest end
+  expression_later e rest end =
+      expression_behind_blanks (at [] (expression_before text_of e rest))
+      ∙ expression_read radix in_literal text_of small cut [] e rest end
 
-  name_read : (name : Written.NameText) (body : List ℕ) → parts_name in_literal body ≡ true → (after_blanks (name.text ++ body) ≡ name.text ++ body) × (word_of (name.text ++ body) ≡ name.text)
+  name_read : (name : Written.NameText) (body : List ℕ) → parts_name in_literal body ≡ true
+      → (after_blanks (name.text ++ body) ≡ name.text ++ body) × (word_of (name.text ++ body) ≡ name.text)
   name_read name body parted =
       let begin = word_begins name.text body (name_some name.text name.names) name.characters in
       (firm_stays (name.text ++ body) begin.firm, word_read name.text body name.characters (parts_word_end in_literal body parted))
@@ -337,19 +393,26 @@ module _ (radix : ℕ) (in_literal : Bool) {L : Type 0} (text_of : L → List �
   statement_read (Written.Instruction name named o) rest is end =
       let body = operands_before text_of o rest in
       let read = name_read name body (parts_operands o.accumulator o.operand [] rest (λ _. end.name in_literal) is.3) in
-      statement_named (at [] (name.text ++ body)) _ name.text body named _ read.0 read.1 name.names is.0 is.1 (instruction_read radix in_literal text_of small cut [] named o rest is.2 end.part end.comma)
+      statement_named (at [] (name.text ++ body)) _ name.text body named _ read.0 read.1 name.names is.0 is.1
+      (instruction_read radix in_literal text_of small cut [] named o rest is.2 end.part end.comma)
   statement_read (Written.Value e) rest is end =
       let s = at [] (expression_before text_of e rest) in
       let none = no_commas (after_blanks (after_blanks rest)) (ap (begins_with 44) (skip_twice rest) ∙ end.comma) in
-      value_word (skipped s) e rest is end.part.word ∙ ap (with_data (λ d. d)) (value_alone (skipped s) (at (expression_literals [] e) (after_blanks rest)) (expression_given [] e) (expression_later e rest (part_ends_sum end.part)) none)
+      value_word (skipped s) e rest is end.part.word
+      ∙ ap (with_data (λ d. d))
+      (value_alone (skipped s) (at (expression_literals [] e) (after_blanks rest)) (expression_given [] e)
+      (expression_later e rest (part_ends_sum end.part)) none)
   statement_read (Written.Halves p) rest is end =
       let right = expression_before text_of p.right rest in
       let tail = p.behind.text ++ 44 ∷ 44 ∷ right in
       let s = at [] (expression_before text_of p.left tail) in
       let ends = sum_ends_at p.behind 44 (44 ∷ right) refl refl in
       let later = expression_literals [] p.left in
-      value_word (skipped s) p.left tail is ends.word ∙ ap (with_data (λ d. d)) (value_halves (skipped s) (at later (after_blanks tail)) _ right (expression_given [] p.left) _ (expression_later p.left tail ends)
-      (skip_twice tail ∙ skip_to p.behind (44 ∷ 44 ∷ right) refl) (expression_read radix in_literal text_of small cut later p.right rest (part_ends_sum end.part)))
+      value_word (skipped s) p.left tail is ends.word ∙ ap (with_data (λ d. d))
+      (value_halves (skipped s) (at later (after_blanks tail)) _ right (expression_given [] p.left) _
+      (expression_later p.left tail ends)
+      (skip_twice tail ∙ skip_to p.behind (44 ∷ 44 ∷ right) refl)
+      (expression_read radix in_literal text_of small cut later p.right rest (part_ends_sum end.part)))
 
   -- ---- whole statements
 
@@ -362,17 +425,23 @@ module _ (radix : ℕ) (in_literal : Bool) {L : Type 0} (text_of : L → List �
   statement_begins (Written.Formed name form) rest = named_begins name (form_before text_of form rest)
   statement_begins (Written.Instruction name named o) rest = named_begins name (operands_before text_of o rest)
   statement_begins (Written.Value e) rest = expression_begins radix in_literal text_of small cut e rest
-  statement_begins (Written.Halves p) rest = expression_begins radix in_literal text_of small cut p.left (p.behind.text ++ 44 ∷ 44 ∷ expression_before text_of p.right rest)
+  statement_begins (Written.Halves p) rest =
+      expression_begins radix in_literal text_of small cut p.left
+      (p.behind.text ++ 44 ∷ 44 ∷ expression_before text_of p.right rest)
 
   begun_no_end : (x : List ℕ) → begins_expression x ≡ true → is_at_end in_literal x ≡ false
   begun_no_end [] h = absurd (Rattle.std.proofs.lemmas.Bool.false≢true h)
   begun_no_end (c ∷ cs) h = rw (begun_not 59 (c ∷ cs) h refl) refl
 
-  optional_statement : (s t : Scan) (given : Statement) → is_at_end s.in_literal (after_blanks s.rest) ≡ false → statement_at (skipped s) ≡ Some (given, t) → optional_statement_at s ≡ Some (Some given, t)
+  optional_statement : (s t : Scan) (given : Statement) → is_at_end s.in_literal (after_blanks s.rest) ≡ false
+      → statement_at (skipped s) ≡ Some (given, t)
+      → optional_statement_at s ≡ Some (Some given, t)
   unfolding optional_statement_at
   optional_statement s t given a b = rw (a, b) refl
 
-  whole_steps : (s t : Scan) (given : Option Statement) → optional_statement_at s ≡ Some (given, t) → is_at_end t.in_literal (after_blanks t.rest) ≡ true → whole_statement_at s ≡ Some (given, skipped t)
+  whole_steps : (s t : Scan) (given : Option Statement) → optional_statement_at s ≡ Some (given, t)
+      → is_at_end t.in_literal (after_blanks t.rest) ≡ true
+      → whole_statement_at s ≡ Some (given, skipped t)
   unfolding whole_statement_at
   whole_steps s t given a b = rw (a, b) refl
 
@@ -381,16 +450,21 @@ module _ (radix : ℕ) (in_literal : Bool) {L : Type 0} (text_of : L → List �
   no_statement s a = rw a refl
 
   -- a statement behind blanks, with nothing behind it but a comment
-  pub whole_read : (text : List ℕ) (st : StatementText radix L) (rest : List ℕ) → after_blanks text ≡ after_blanks (statement_before text_of st rest) → IsStatement in_literal text_of st → EndsStatement rest → is_at_end in_literal (after_blanks rest) ≡ true
+  pub whole_read : (text : List ℕ) (st : StatementText radix L) (rest : List ℕ)
+      → after_blanks text ≡ after_blanks (statement_before text_of st rest) → IsStatement in_literal text_of st
+      → EndsStatement rest
+      → is_at_end in_literal (after_blanks rest) ≡ true
       → whole_statement_at (at [] text) ≡ Some (Some (statement_given st), at (statement_literals st) (after_blanks rest))
   whole_read text st rest there is end ended =
       let begun = begun_no_end (after_blanks text) (ap begins_expression there ∙ statement_begins st rest) in
       let same = statement_rest_blanks st rest end in
       let read = ap (λ x. statement_at (at [] x)) there ∙ statement_behind_blanks (at [] (statement_before text_of st rest)) ∙ statement_read st rest is end in
-      whole_steps (at [] text) (at (statement_literals st) (statement_rest st rest)) _ (optional_statement (at [] text) _ _ begun read) (ap (is_at_end in_literal) same ∙ ended)
+      whole_steps (at [] text) (at (statement_literals st) (statement_rest st rest)) _
+      (optional_statement (at [] text) _ _ begun read) (ap (is_at_end in_literal) same ∙ ended)
       ∙ ap (λ x. Some (Some (statement_given st), at (statement_literals st) x)) same
 
-  pub nothing_read : (text : List ℕ) → is_at_end in_literal (after_blanks text) ≡ true → whole_statement_at (at [] text) ≡ Some (None, at [] (after_blanks text))
+  pub nothing_read : (text : List ℕ) → is_at_end in_literal (after_blanks text) ≡ true
+      → whole_statement_at (at [] text) ≡ Some (None, at [] (after_blanks text))
   nothing_read text ended =
       whole_steps (at [] text) (at [] (after_blanks text)) None (no_statement (at [] text) ended) (ap (is_at_end in_literal) (skip_twice text) ∙ ended)
       ∙ ap (λ x. Some (None, at [] x)) (skip_twice text)

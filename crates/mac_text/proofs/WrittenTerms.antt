@@ -102,9 +102,11 @@ unfolding number_of
 number_of_digits radix ds some h = let there = ne_eqb (length ds) 0 (λ e. omega (arith, e)) in rw (there, h) refl
 
 -- digits are read as their number
-pub digits_read : {radix : ℕ} (digits : DigitsText radix) (rest : List ℕ) → radix ≤ 10 → ends_word rest ≡ true → number_of radix (word_of (digits.text ++ rest)) ≡ Some (digits_value radix digits.text)
+pub digits_read : {radix : ℕ} (digits : DigitsText radix) (rest : List ℕ) → radix ≤ 10 → ends_word rest ≡ true
+    → number_of radix (word_of (digits.text ++ rest)) ≡ Some (digits_value radix digits.text)
 digits_read {radix} digits rest small e =
-    ap (number_of radix) (word_read digits.text rest (digits_are_characters radix digits.text small digits.digits) e) ∙ number_of_digits radix digits.text digits.some digits.digits
+    ap (number_of radix) (word_read digits.text rest (digits_are_characters radix digits.text small digits.digits) e)
+    ∙ number_of_digits radix digits.text digits.some digits.digits
 
 mark_is_small : (c radix : ℕ) → radix_of_mark (Some c) ≡ Some radix → radix ≤ 10
 mark_is_small c radix h = grind (arith, nat_tests)
@@ -134,7 +136,9 @@ module _ (radix : ℕ) (in_literal : Bool) {L : Type 0} (text_of : L → List �
   abbrev pub at : List L → List ℕ → Scan
   at earlier rest = record { radix = radix; in_literal = in_literal; cuts = map text_of earlier; rest = rest }
 
-  word_is_read : (earlier : List L) (text w rest : List ℕ) (term : Term) → after_blanks text ≡ w ++ rest → 0 < length w → list_all is_name_character w ≡ true → ends_word rest ≡ true → term_of_word radix w ≡ Some term
+  word_is_read : (earlier : List L) (text w rest : List ℕ) (term : Term) → after_blanks text ≡ w ++ rest → 0 < length w
+      → list_all is_name_character w ≡ true → ends_word rest ≡ true
+      → term_of_word radix w ≡ Some term
       → term_at (at earlier text) ≡ Some (term, at earlier rest)
   unfolding term_at word_term_at
   word_is_read earlier text w rest term a some h e is =
@@ -146,7 +150,12 @@ module _ (radix : ℕ) (in_literal : Bool) {L : Type 0} (text_of : L → List �
   unfolding marked_at
   marked_is_read earlier m rest e =
       let h = digits_are_characters m.radix m.digits.text (marked_small m) m.digits.digits in
-      simp (m.marks, word_read m.digits.text rest h e, number_of_digits m.radix m.digits.text m.digits.some m.digits.digits, drop-append_seam m.digits.text rest)
+      simp (
+        m.marks,
+        word_read m.digits.text rest h e,
+        number_of_digits m.radix m.digits.text m.digits.some m.digits.digits,
+        drop-append_seam m.digits.text rest,
+      )
 
   mark_is_read : (earlier : List L) (text : List ℕ) (m : MarkedText) (rest : List ℕ) → after_blanks text ≡ marked_before m rest → ends_word rest ≡ true
       → term_at (at earlier text) ≡ Some (terms.Number (marked_number m), at earlier rest)
@@ -158,9 +167,18 @@ module _ (radix : ℕ) (in_literal : Bool) {L : Type 0} (text_of : L → List �
   unfolding term_at literal_at
   literal_is_read earlier text l rest a =
       let c = cut l rest in
-      rw (a, c.0, c.1, take-append_seam (text_of l) (93 ∷ rest), drop_further (text_of l) 93 rest, length-map earlier text_of, map_one_more text_of earlier l) refl
+      rw (
+        a,
+        c.0,
+        c.1,
+        take-append_seam (text_of l) (93 ∷ rest),
+        drop_further (text_of l) 93 rest,
+        length-map earlier text_of,
+        map_one_more text_of earlier l,
+      ) refl
 
-  point_is_read : (earlier : List L) (text rest : List ℕ) → after_blanks text ≡ 46 ∷ rest → ends_word rest ≡ true → term_at (at earlier text) ≡ Some (terms.Here, at earlier rest)
+  point_is_read : (earlier : List L) (text rest : List ℕ) → after_blanks text ≡ 46 ∷ rest → ends_word rest ≡ true
+      → term_at (at earlier text) ≡ Some (terms.Here, at earlier rest)
   point_is_read earlier text rest a e = word_is_read earlier text (46 ∷ []) rest terms.Here a (omega arith) refl e refl
 
   -- how a term begins
@@ -185,27 +203,36 @@ module _ (radix : ℕ) (in_literal : Bool) {L : Type 0} (text_of : L → List �
   label_of_name : (name : NameText) → term_of_word radix name.text ≡ Some (terms.Label (symbol_of name.text))
   label_of_name name = rw name.names refl
 
-  pub term_read : (earlier : List L) (text : List ℕ) (t : TermText radix L) (rest : List ℕ) → after_blanks text ≡ term_before text_of t rest → ends_word rest ≡ true
+  pub term_read : (earlier : List L) (text : List ℕ) (t : TermText radix L) (rest : List ℕ)
+      → after_blanks text ≡ term_before text_of t rest
+      → ends_word rest ≡ true
       → term_at (at earlier text) ≡ Some (term_given earlier t, at (term_literals earlier t) rest)
   term_read earlier text (Written.Number digits) rest a e =
-      word_is_read earlier text digits.text rest _ a digits.some (digits_are_characters radix digits.text small digits.digits) e (digits_term radix digits.text small digits.some digits.digits)
+      word_is_read earlier text digits.text rest _ a digits.some (digits_are_characters radix digits.text small digits.digits) e
+      (digits_term radix digits.text small digits.some digits.digits)
   term_read earlier text (Written.Marked m) rest a e = mark_is_read earlier text m rest a e
-  term_read earlier text (Written.Label name) rest a e = word_is_read earlier text name.text rest _ a (name_some name.text name.names) name.characters e (label_of_name name)
+  term_read earlier text (Written.Label name) rest a e =
+      word_is_read earlier text name.text rest _ a (name_some name.text name.names) name.characters e (label_of_name name)
   term_read earlier text Written.Point rest a e = point_is_read earlier text rest a e
   term_read earlier text (Written.Literal l) rest a e = literal_is_read earlier text l rest a
 
   -- ---- signs
 
-  sign_is_firm : (sign : Sign) (x : List ℕ) → (is_firm (sign_character sign ∷ x) ≡ true) × (ends_word (sign_character sign ∷ x) ≡ true) × (begins_expression (sign_character sign ∷ x) ≡ true)
+  sign_is_firm : (sign : Sign) (x : List ℕ)
+      → (is_firm (sign_character sign ∷ x) ≡ true) × (ends_word (sign_character sign ∷ x) ≡ true)
+      × (begins_expression (sign_character sign ∷ x) ≡ true)
   sign_is_firm Plus x = (refl, refl, refl)
   sign_is_firm Minus x = (refl, refl, refl)
 
-  sign_is_read : (sign : Sign) (earlier : List L) (text x : List ℕ) → after_blanks text ≡ sign_character sign ∷ x → sign_at (at earlier text) ≡ (Some sign, at earlier x)
+  sign_is_read : (sign : Sign) (earlier : List L) (text x : List ℕ) → after_blanks text ≡ sign_character sign ∷ x
+      → sign_at (at earlier text) ≡ (Some sign, at earlier x)
   unfolding sign_at
   sign_is_read Plus earlier text x a = rw a refl
   sign_is_read Minus earlier text x a = rw a refl
 
-  pub no_sign_read : (earlier : List L) (text x : List ℕ) → after_blanks text ≡ x → is_firm x ≡ true → begins_with 43 x ≡ false → begins_with 45 x ≡ false → sign_at (at earlier text) ≡ (None, at earlier x)
+  pub no_sign_read : (earlier : List L) (text x : List ℕ) → after_blanks text ≡ x → is_firm x ≡ true → begins_with 43 x ≡ false
+      → begins_with 45 x ≡ false
+      → sign_at (at earlier text) ≡ (None, at earlier x)
   unfolding sign_at
   no_sign_read earlier text x a firm plus minus = simp (a, firm_stays x firm, plus, minus)
 
@@ -230,16 +257,20 @@ module _ (radix : ℕ) (in_literal : Bool) {L : Type 0} (text_of : L → List �
       blanks_end m.before (sign_character m.sign.sign ∷ tail) (sign_is_firm m.sign.sign tail).1
 
   next_is_read : (earlier : List L) (m : MoreText radix L) (x : List ℕ) → ends_word x ≡ true
-      → next_term_at (at earlier (m.before.text ++ sign_before m.sign (term_before text_of m.term x))) ≡ Some (Some (record { sign = m.sign.sign; term = term_given earlier m.term }), at (term_literals earlier m.term) x)
+      → next_term_at (at earlier (m.before.text ++ sign_before m.sign (term_before text_of m.term x)))
+      ≡ Some (Some (record { sign = m.sign.sign; term = term_given earlier m.term }), at (term_literals earlier m.term) x)
   unfolding next_term_at signed_at
   next_is_read earlier m x e =
       let tail = m.sign.behind.text ++ term_before text_of m.term x in
-      let there = sign_is_read m.sign.sign earlier (m.before.text ++ sign_character m.sign.sign ∷ tail) tail (skip_to m.before _ (sign_is_firm m.sign.sign tail).0) in
+      let there =
+      sign_is_read m.sign.sign earlier (m.before.text ++ sign_character m.sign.sign ∷ tail) tail
+      (skip_to m.before _ (sign_is_firm m.sign.sign tail).0) in
       let term = term_read earlier tail m.term x (skip_to m.sign.behind _ (term_begins m.term x).firm) e in
       rw (there, term) refl
 
   more_read : (n : ℕ) (earlier : List L) (more : List (MoreText radix L)) (rest : List ℕ) → length (more_before text_of more rest) ≤ n → EndsSum rest
-      → items_at next_term_at n (at earlier (more_before text_of more rest)) ≡ Some (more_given earlier more, at (more_literals earlier more) (after_blanks rest))
+      → items_at next_term_at n (at earlier (more_before text_of more rest))
+      ≡ Some (more_given earlier more, at (more_literals earlier more) (after_blanks rest))
   unfolding more_before more_given more_literals items_at
   more_read zero earlier [] [] le end = refl
   more_read zero earlier [] (c ∷ cs) le end = absurd (omega arith)
@@ -251,16 +282,29 @@ module _ (radix : ℕ) (in_literal : Bool) {L : Type 0} (text_of : L → List �
       let x = more_before text_of ms rest in
       let tail = m.sign.behind.text ++ term_before text_of m.term x in
       one_more next_term_at n _ _ _ _ _ (next_is_read earlier m x (more_end ms rest end.word))
-      (more_read n (term_literals earlier m.term) ms rest (omega (arith, length-append m.before.text (sign_character m.sign.sign ∷ tail), length-append m.sign.behind.text (term_before text_of m.term x), longer_term m.term x)) end)
+      (more_read n (term_literals earlier m.term) ms rest
+      (omega (
+        arith,
+        length-append m.before.text (sign_character m.sign.sign ∷ tail),
+        length-append m.sign.behind.text (term_before text_of m.term x),
+        longer_term m.term x,
+      )) end)
 
-  expression_steps : (s t u v : Scan) (sign : Option Sign) (term : Term) (more : List SignedTerm) → sign_at s ≡ (sign, t) → term_at t ≡ Some (term, u) → items_at next_term_at (length u.rest) u ≡ Some (more, v)
+  expression_steps : (s t u v : Scan) (sign : Option Sign) (term : Term) (more : List SignedTerm) → sign_at s ≡ (sign, t)
+      → term_at t ≡ Some (term, u)
+      → items_at next_term_at (length u.rest) u ≡ Some (more, v)
       → expression_at s ≡ Some (record { sign = unwrap_or sign Plus; term = term } ∷ more, v)
   unfolding expression_at signed_at
   expression_steps s t u v sign term more a b c = rw (a, b, c) refl
 
-  expression_case : (earlier : List L) (before : Blanks) (sign : Option SignText) (t : TermText radix L) (more : List (MoreText radix L)) (rest : List ℕ) → EndsSum rest
+  expression_case : (earlier : List L) (before : Blanks) (sign : Option SignText) (t : TermText radix L)
+      (more : List (MoreText radix L)) (rest : List ℕ)
+      → EndsSum rest
       → expression_at (at earlier (before.text ++ before_if sign_before sign (term_before text_of t (more_before text_of more rest))))
-      ≡ Some (record { sign = sign_given sign; term = term_given earlier t } ∷ more_given (term_literals earlier t) more, at (more_literals (term_literals earlier t) more) (after_blanks rest))
+      ≡ Some (
+        record { sign = sign_given sign; term = term_given earlier t } ∷ more_given (term_literals earlier t) more,
+        at (more_literals (term_literals earlier t) more) (after_blanks rest),
+      )
   expression_case earlier before None t more rest end =
       let x = more_before text_of more rest in
       let begin = term_begins t x in
@@ -271,16 +315,21 @@ module _ (radix : ℕ) (in_literal : Bool) {L : Type 0} (text_of : L → List �
       let x = more_before text_of more rest in
       let begin = term_begins t x in
       let tail = s.behind.text ++ term_before text_of t x in
-      expression_steps _ _ _ _ (Some s.sign) _ _ (sign_is_read s.sign earlier (before.text ++ sign_character s.sign ∷ tail) tail (skip_to before (sign_character s.sign ∷ tail) (sign_is_firm s.sign tail).0))
+      expression_steps _ _ _ _ (Some s.sign) _ _
+      (sign_is_read s.sign earlier (before.text ++ sign_character s.sign ∷ tail) tail
+      (skip_to before (sign_character s.sign ∷ tail) (sign_is_firm s.sign tail).0))
       (term_read earlier tail t x (skip_to s.behind _ begin.firm) (more_end more rest end.word))
       (more_read (length x) (term_literals earlier t) more rest (omega arith) end)
 
   -- an expression is read as it is written
   pub expression_read : (earlier : List L) (e : ExpressionText radix L) (rest : List ℕ) → EndsSum rest
-      → expression_at (at earlier (expression_before text_of e rest)) ≡ Some (expression_given earlier e, at (expression_literals earlier e) (after_blanks rest))
+      → expression_at (at earlier (expression_before text_of e rest))
+      ≡ Some (expression_given earlier e, at (expression_literals earlier e) (after_blanks rest))
   expression_read earlier e rest end = expression_case earlier e.before e.sign e.term e.more rest end
 
-  begins_case : (sign : Option SignText) (t : TermText radix L) (x : List ℕ) → (is_firm (before_if sign_before sign (term_before text_of t x)) ≡ true) × (begins_expression (before_if sign_before sign (term_before text_of t x)) ≡ true)
+  begins_case : (sign : Option SignText) (t : TermText radix L) (x : List ℕ)
+      → (is_firm (before_if sign_before sign (term_before text_of t x)) ≡ true)
+      × (begins_expression (before_if sign_before sign (term_before text_of t x)) ≡ true)
   begins_case None t x = let begin = term_begins t x in (begin.firm, begin.expression)
   begins_case (Some s) t x = let is = sign_is_firm s.sign (s.behind.text ++ term_before text_of t x) in (is.0, is.2)
 

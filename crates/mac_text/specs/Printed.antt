@@ -29,7 +29,11 @@ unless_zero n = if n == 0 then None else Some (number_alone n)
 -- the operation's word, with the fields beside it
 abbrev pub instruction_with : Fields → Instruction
 instruction_with f =
-    record { word = f.op * 2 ^ 27; accumulator = unless_zero f.ac; operand = record { indirect = f.i; address = Some (number_alone f.y); index = unless_zero f.x } }
+    record {
+      word = f.op * 2 ^ 27;
+      accumulator = unless_zero f.ac;
+      operand = record { indirect = f.i; address = Some (number_alone f.y); index = unless_zero f.x };
+    }
 
 abbrev pub named_data : Option Name → ℕ → Data
 named_data (Some name) w = data_of.Instruction (instruction_with (fields_of w))

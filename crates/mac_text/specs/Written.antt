@@ -319,7 +319,11 @@ module _ {radix : ℕ} {L : Type 0} where
 
   abbrev pub operand_given : List L → OperandText radix L → Operand
   operand_given earlier o =
-      record { indirect = is_some o.indirect; address = optional_given earlier o.address; index = optional_given (optional_literals earlier o.address) (index_expression o.index) }
+      record {
+        indirect = is_some o.indirect;
+        address = optional_given earlier o.address;
+        index = optional_given (optional_literals earlier o.address) (index_expression o.index);
+      }
 
   abbrev pub accumulator_expression : Option (AccumulatorText radix L) → Option (ExpressionText radix L)
   accumulator_expression a = option_map (λ x. x.register) a
@@ -365,7 +369,9 @@ module _ {radix : ℕ} {L : Type 0} where
   form_given earlier (Xwd p) = statements.Data (data_of.Halves (expression_given earlier p.left) (right_given earlier p))
   form_given earlier (Iowd p) = statements.Data (data_of.Iowd (expression_given earlier p.left) (right_given earlier p))
   form_given earlier (Exp e more) = statements.Data (data_of.Exp (expression_given earlier e ∷ items_given (expression_literals earlier e) more))
-  form_given earlier (Point p) = statements.Data (data_of.Point (number_given p.size) (operand_given earlier p.operand) (option_map (λ x. number_given x.number) p.position))
+  form_given earlier (Point p) =
+      statements.Data
+      (data_of.Point (number_given p.size) (operand_given earlier p.operand) (option_map (λ x. number_given x.number) p.position))
   form_given earlier (Text form q) = statements.Data (data_of.Text form q.text)
   form_given earlier (Block e) = statements.Data (data_of.Block (expression_given earlier e))
   form_given earlier (Loc e) = statements.Loc (expression_given earlier e)
@@ -413,7 +419,8 @@ abbrev pub IsStatement : {radix : ℕ} {L : Type 0} → Bool → (L → List ℕ
 IsStatement in_literal text_of (Formed name form) =
     (form_of (folded name.text) ≡ Some (form_written form)) × (parts_name in_literal (form_before text_of form []) ≡ true)
 IsStatement in_literal text_of (Instruction name named o) =
-    (form_of (folded name.text) ≡ None) × (named_of (folded name.text) ≡ Some named) × (allows named o ≡ true) × (parts_name in_literal (operands_before text_of o []) ≡ true)
+    (form_of (folded name.text) ≡ None) × (named_of (folded name.text) ≡ Some named) × (allows named o ≡ true)
+    × (parts_name in_literal (operands_before text_of o []) ≡ true)
 IsStatement in_literal text_of (Value e) = is_bare e ≡ true
 IsStatement in_literal text_of (Halves p) = is_bare p.left ≡ true
 
@@ -458,7 +465,9 @@ comment_text None = []
 comment_text (Some comment) = 59 ∷ comment
 
 abbrev pub line_text : {radix : ℕ} → LineText radix → List ℕ
-line_text line = labels_before line.labels (line.before.text ++ before_if (statement_before literal_text) line.statement (line.behind.text ++ comment_text line.comment))
+line_text line =
+    labels_before line.labels
+    (line.before.text ++ before_if (statement_before literal_text) line.statement (line.behind.text ++ comment_text line.comment))
 
 abbrev pub literals_written : {radix : ℕ} {L : Type 0} → Option (StatementText radix L) → List L
 literals_written None = []

@@ -27,8 +27,10 @@ pub fn written_sources_are_read()
     ensures whole { (lines : List SourceLine) → GoOn 8 lines → program_of (source_before lines []) ≡ Ok (source_given lines) }
     ensures unended { (lines : List SourceLine) (last : SourceLine) → GoOn 8 lines → last.radix ≡ radix_behind 8 lines → 0 < length (source_line_text last)
         → program_of (source_before lines (source_line_text last)) ≡ Ok (source_given lines ++ source_line_given last ∷ []) }
-    ensures ended { (lines : List SourceLine) (last : SourceLine) (rest : List ℕ) → GoOn 8 lines → last.radix ≡ radix_behind 8 lines → is_end (source_line_given last) ≡ true
+    ensures ended { (lines : List SourceLine) (last : SourceLine) (rest : List ℕ) → GoOn 8 lines → last.radix ≡ radix_behind 8 lines
+        → is_end (source_line_given last) ≡ true
         → program_of (source_before lines (source_line_text last ++ end_before last.end rest)) ≡ Ok (source_given lines ++ source_line_given last ∷ []) }
-    ensures refused { (lines : List SourceLine) (text : List ℕ) (end : LineEnd) (rest : List ℕ) → GoOn 8 lines → IsOneLine text → line_of (radix_behind 8 lines) text ≡ None
+    ensures refused { (lines : List SourceLine) (text : List ℕ) (end : LineEnd) (rest : List ℕ) → GoOn 8 lines → IsOneLine text
+        → line_of (radix_behind 8 lines) text ≡ None
         → program_of (source_before lines (text ++ end_before end rest)) ≡ Err (length lines + 1) }
 {}

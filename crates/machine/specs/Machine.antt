@@ -76,7 +76,13 @@ ran w time n None = w
 -- the step of the job that is next, which becomes the current one
 abbrev pub stepped : S → Option ℕ → Made
 stepped s (Some n) =
-    record { state = record s { world = ran (record s.world { table = chosen s.world.table n s.quantum }) s.time n (job_at s.world.table.jobs n) }; answer = Ran n }
+    record {
+      state = record s {
+        world =
+            ran (record s.world { table = chosen s.world.table n s.quantum }) s.time n (job_at s.world.table.jobs n);
+      };
+      answer = Ran n;
+    }
 stepped s None = unchanged s Idle
 
 -- a tick of the limits: each is one tick shorter, and the requests by which the jobs wait whose limits end leave together,

@@ -74,7 +74,9 @@ fn fill<C: CoreStore>(n: u8, regs: &mut Regs, cores: &mut C, words: &[(u32, Word
     requires some { 1 ≤ blocks }
     requires most { blocks ≤ MOST_BLOCKS }
     ensures regs { regs.new ≡ (placed (record { regs = regs.old; core = core_of (C.meaning cores.old) n }) words.now blocks).regs }
-    ensures core { C.meaning cores.new ≡ with_core (C.meaning cores.old) n (placed (record { regs = regs.old; core = core_of (C.meaning cores.old) n }) words.now blocks).core }
+    ensures core { C.meaning cores.new
+        ≡ with_core (C.meaning cores.old) n
+        (placed (record { regs = regs.old; core = core_of (C.meaning cores.old) n }) words.now blocks).core }
 {
     let lent = cores.window(n);
     let mut window = CoreWords { words: lent };

@@ -52,7 +52,19 @@ impl<L: LockTable, C: CoreStore> Model for Parts<L, C> {
 
     ghost Value = { S };
 
-    ghost view = { λ p. record { world = record { size = L.REQS; table = p.table; lines = p.lines; requests = L.requests p.locks; cores = C.meaning p.cores; shared = p.shared }; time = p.time; quantum = p.quantum; blocks = p.blocks } };
+    ghost view = { λ p. record {
+      world = record {
+        size = L.REQS;
+        table = p.table;
+        lines = p.lines;
+        requests = L.requests p.locks;
+        cores = C.meaning p.cores;
+        shared = p.shared;
+      };
+      time = p.time;
+      quantum = p.quantum;
+      blocks = p.blocks;
+    } };
 }
 
 /// Rounds that were made.

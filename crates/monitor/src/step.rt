@@ -47,8 +47,26 @@ fn run_job<L: LockTable, C: CoreStore, const IN_PLACE: bool>(
     requires some { 1 ≤ most }
     requires there { IsSome (job_at table.old.jobs n) }
     requires core { core_of (C.meaning cores.old) n ≢ [] }
-    ensures { record { world = record { size = L.REQS; table = table.new; lines = lines.new; requests = L.requests locks.new; cores = C.meaning cores.new; shared = shared.new }; time = time.new; rounds = result }
-        ≡ runs_on (record { size = L.REQS; table = table.old; lines = lines.old; requests = L.requests locks.old; cores = C.meaning cores.old; shared = shared.old }) time.old quantum.now n most ticking (job_at table.old.jobs n) }
+    ensures { record {
+      world = record {
+        size = L.REQS;
+        table = table.new;
+        lines = lines.new;
+        requests = L.requests locks.new;
+        cores = C.meaning cores.new;
+        shared = shared.new;
+      };
+      time = time.new;
+      rounds = result;
+    }
+        ≡ runs_on (record {
+          size = L.REQS;
+          table = table.old;
+          lines = lines.old;
+          requests = L.requests locks.old;
+          cores = C.meaning cores.old;
+          shared = shared.old;
+        }) time.old quantum.now n most ticking (job_at table.old.jobs n) }
 {
     let Some(job) = &mut table.jobs[n as usize] else {
         return 1;
@@ -88,8 +106,26 @@ pub(crate) fn run_job_for<L: LockTable, C: CoreStore, const IN_PLACE: bool>(
     requires some { 1 ≤ most }
     requires there { IsSome (job_at table.old.jobs n) }
     requires core { core_of (C.meaning cores.old) n ≢ [] }
-    ensures { record { world = record { size = L.REQS; table = table.new; lines = lines.new; requests = L.requests locks.new; cores = C.meaning cores.new; shared = shared.new }; time = time.new; rounds = result }
-        ≡ runs_on (record { size = L.REQS; table = table.old; lines = lines.old; requests = L.requests locks.old; cores = C.meaning cores.old; shared = shared.old }) time.old quantum.now n most ticking (job_at table.old.jobs n) }
+    ensures { record {
+      world = record {
+        size = L.REQS;
+        table = table.new;
+        lines = lines.new;
+        requests = L.requests locks.new;
+        cores = C.meaning cores.new;
+        shared = shared.new;
+      };
+      time = time.new;
+      rounds = result;
+    }
+        ≡ runs_on (record {
+          size = L.REQS;
+          table = table.old;
+          lines = lines.old;
+          requests = L.requests locks.old;
+          cores = C.meaning cores.old;
+          shared = shared.old;
+        }) time.old quantum.now n most ticking (job_at table.old.jobs n) }
 {
     if IN_PLACE && most == 1 {
         run_job::<L, C, true>(

@@ -29,7 +29,10 @@ fn execute<C: CoreStore, const IN_PLACE: bool>(
     most: u32,
 ) -> (u32, Option<MonitorCall>)
     requires { IsJob number }
-    ensures turn { record { turn = record { job = job.new; cores = C.meaning cores.new; requests = []; call = result.1 }; rounds = result.0 } ≡ stretch_by number job.old (C.meaning cores.old) [] (ran most job.old.regs (core_of (C.meaning cores.old) number)) }
+    ensures turn { record {
+      turn = record { job = job.new; cores = C.meaning cores.new; requests = []; call = result.1 };
+      rounds = result.0;
+    } ≡ stretch_by number job.old (C.meaning cores.old) [] (ran most job.old.regs (core_of (C.meaning cores.old) number)) }
 {
     let words = cores.window(number);
     let (steps, outcome) = run_steps_from::<IN_PLACE>(&mut job.regs, words, u64::from(most));
@@ -82,7 +85,8 @@ fn deliver<L: LockTable, C: CoreStore>(
     cores: &mut C,
 )
     requires { IsJob number }
-    ensures turn { record { job = job.new; cores = C.meaning cores.new; requests = L.requests locks.new; call = None } ≡ delivered number job.old (C.meaning cores.old) (L.requests locks.old) vector id }
+    ensures turn { record { job = job.new; cores = C.meaning cores.new; requests = L.requests locks.new; call = None }
+        ≡ delivered number job.old (C.meaning cores.old) (L.requests locks.old) vector id }
 {
     let words = cores.window(number);
     let mut window = CoreWords { words };
@@ -103,7 +107,10 @@ fn take_turn<L: LockTable, C: CoreStore, const IN_PLACE: bool>(
     requires number { IsJob number }
     ensures cores { C.meaning cores.new ≡ (stretch_of number most job.old (C.meaning cores.old) (L.requests locks.old)).turn.cores }
     ensures job { job.new ≡ (stretch_of number most job.old (C.meaning cores.old) (L.requests locks.old)).turn.job }
-    ensures turn { record { turn = record { job = job.new; cores = C.meaning cores.new; requests = L.requests locks.new; call = result.1 }; rounds = result.0 } ≡ stretch_of number most job.old (C.meaning cores.old) (L.requests locks.old) }
+    ensures turn { record {
+      turn = record { job = job.new; cores = C.meaning cores.new; requests = L.requests locks.new; call = result.1 };
+      rounds = result.0;
+    } ≡ stretch_of number most job.old (C.meaning cores.old) (L.requests locks.old) }
 {
     if job.interrupts.on && !job.interrupts.in_progress {
         if let Some(vector) = job.interrupts.vector {
@@ -127,7 +134,10 @@ pub(crate) fn run_turn<L: LockTable, C: CoreStore, const IN_PLACE: bool>(
 ) -> (u32, Option<MonitorCall>)
     requires number { IsJob number }
     requires core { core_of (C.meaning cores.old) number ≢ [] }
-    ensures turn { record { turn = record { job = job.new; cores = C.meaning cores.new; requests = L.requests locks.new; call = result.1 }; rounds = result.0 } ≡ stretch_of number most job.old (C.meaning cores.old) (L.requests locks.old) }
+    ensures turn { record {
+      turn = record { job = job.new; cores = C.meaning cores.new; requests = L.requests locks.new; call = result.1 };
+      rounds = result.0;
+    } ≡ stretch_of number most job.old (C.meaning cores.old) (L.requests locks.old) }
     ensures least { 1 ≤ most → 1 ≤ result.0 }
     ensures core { core_of (C.meaning cores.new) number ≢ [] }
     ensures wait { job.new.wait ≡ job.old.wait }

@@ -44,7 +44,8 @@ calm-answered j ac limit Queued h = refl
 calm-answered j ac limit DoneReply h = h
 calm-answered j ac limit (Refused refusal) h = h
 
-calm-told : (requests : List Request) (n ac to : ℕ) (j : Job) (core : List ℕ) (r : Result (List Want) Refusal) → Calm j → Calm (told requests n ac to j core r).job
+calm-told : (requests : List Request) (n ac to : ℕ) (j : Job) (core : List ℕ) (r : Result (List Want) Refusal) → Calm j
+    → Calm (told requests n ac to j core r).job
 calm-told requests n ac to j core (Err refusal) h = h
 calm-told requests n ac to j core (Ok wants) h = h
 
@@ -102,10 +103,15 @@ leaves-input : (unit : Awaited) (skips : Bool) (n e : ℕ) (a : Around) → n < 
       ending = (input_called unit skips e (core_of a.cores n) a.job a.lines).ending;
     })
 leaves-input unit skips n e a low d =
-    by_test (λ (o : JobInput). is_for_terminal o.job.wait ≡ true → Leaves n a (record a { job = o.job; cores = with_core a.cores n o.core; lines = o.lines; ending = o.ending }))
+    by_test
+    (λ (o : JobInput). is_for_terminal o.job.wait ≡ true
+    → Leaves n a (record a { job = o.job; cores = with_core a.cores n o.core; lines = o.lines; ending = o.ending }))
     (is_legal (core_of a.cores n) e) _ _
-    (λ _. by_test (λ (o : JobInput). is_for_terminal o.job.wait ≡ true → Leaves n a (record a { job = o.job; cores = with_core a.cores n o.core; lines = o.lines; ending = o.ending }))
-    (has_input unit (input_of a.lines a.job.line)) (stored_input skips e (core_of a.cores n) a.job a.lines) (no_input unit skips (core_of a.cores n) a.job a.lines)
+    (λ _. by_test
+    (λ (o : JobInput). is_for_terminal o.job.wait ≡ true
+    → Leaves n a (record a { job = o.job; cores = with_core a.cores n o.core; lines = o.lines; ending = o.ending }))
+    (has_input unit (input_of a.lines a.job.line)) (stored_input skips e (core_of a.cores n) a.job a.lines)
+    (no_input unit skips (core_of a.cores n) a.job a.lines)
     (λ _ h. absurd (both_ways _ (calm-skipping skips _ d) h))
     (λ _ h. leaves-no_input unit skips n a low d h))
     (λ _ h. absurd (both_ways (is_for_terminal a.job.wait) d h))
@@ -133,7 +139,9 @@ empty-row Deq time n ac e a low d h =
     absurd (both_ways _ (calm-answered a.job ac 0 (asked a.size a.requests n (deq_asks a.job.regs.ac (core_of a.cores n) n (ac_of a.job ac))).reply d) h)
 empty-row Enqc time n ac e a low d h =
     absurd (both_ways _ (by_enqc (λ (o : JobCores). Calm o.job) a.jobs a.requests n ac a.job a.cores (λ w. d) (λ code. d) (λ quota. d)
-    (calm-told a.requests n ac (answers_at a.job ac) a.job (core_of a.cores n) (with_room (core_of a.cores n) (answers_at a.job ac) (enqc_asks a.job.regs.ac (core_of a.cores n) n (ac_of a.job ac))) d)) h)
+    (calm-told a.requests n ac (answers_at a.job ac) a.job (core_of a.cores n)
+    (with_room (core_of a.cores n) (answers_at a.job ac) (enqc_asks a.job.regs.ac (core_of a.cores n) n (ac_of a.job ac)))
+    d)) h)
 empty-row Datrd time n ac e a low d h =
     absurd (both_ways _ (by_test Calm (nat_lt (right_half (ac_of a.job ac)) DATA_WORDS) _ _ (λ _. d) (λ _. d)) h)
 empty-row Datwr time n ac e a low d h =

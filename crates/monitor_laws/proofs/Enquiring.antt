@@ -29,5 +29,6 @@ by_enqc P jobs requests n ac j cores told refused lowered stored =
     (λ _. by_quota P requests (named_job n (right_half (ac_of j ac))) ac j cores (quota_at jobs (named_job n (right_half (ac_of j ac)))) told refused)
     (λ _. by_test P (left_half (ac_of j ac) == 2) _ _
     (λ _. by_test (λ (k : Job). P (record { job = k; cores = cores })) (nat_le (right_half (ac_of j ac)) j.quota)
-    (skipping (record j { quota = right_half (ac_of j ac) })) (refusing j ac (code_of NoSuchQuota)) (λ _. lowered (right_half (ac_of j ac))) (λ _. refused (code_of NoSuchQuota)))
+    (skipping (record j { quota = right_half (ac_of j ac) })) (refusing j ac (code_of NoSuchQuota))
+    (λ _. lowered (right_half (ac_of j ac))) (λ _. refused (code_of NoSuchQuota)))
     (λ _. stored))

@@ -118,7 +118,8 @@ pub housed-taken : (jobs : List (Option Job)) (cores : Cores) (n blocks : ℕ) (
 housed-taken jobs cores n blocks j words number none some room long h =
     let low : n < length cores.cores = omega (arith, h.store.jobs) in
     let below : n < length jobs = omega (arith, h.places) in
-    let at : core_of (taken cores n blocks) n ≡ replicate (blocks * BLOCK_WORDS) 0 = get_or-set_same cores.cores n (replicate (blocks * BLOCK_WORDS) 0) [] low in
+    let at : core_of (taken cores n blocks) n ≡ replicate (blocks * BLOCK_WORDS) 0 =
+    get_or-set_same cores.cores n (replicate (blocks * BLOCK_WORDS) 0) [] low in
     let zeros : length (replicate {A = ℕ} (blocks * BLOCK_WORDS) 0) ≡ blocks * BLOCK_WORDS = grind (arith, common_steps) in
     let filled = length_some words (omega arith) in
     let after : n < length (taken cores n blocks).cores = omega (arith, length-set cores.cores n (replicate (blocks * BLOCK_WORDS) 0)) in
@@ -126,15 +127,21 @@ housed-taken jobs cores n blocks j words number none some room long h =
     record {
       places = length-set jobs n (Some j) ∙ h.places;
       none_0 = get_or-set_other jobs n 0 (Some j) None (omega arith) ∙ h.none_0;
-      store = IsStore-with_core (taken cores n blocks) n words (IsStore-taken cores n blocks h.store number (h.bare n none) room) number (long ∙ sym zeros ∙ sym (ap length at));
+      store =
+          IsStore-with_core (taken cores n blocks) n words (IsStore-taken cores n blocks h.store number (h.bare n none) room)
+          number (long ∙ sym zeros ∙ sym (ap length at));
       core = λ k e. elim (cases_eq k n) [
         | inl is ↦ subst (λ m. core_of (with_core (taken cores n blocks) n words) m ≢ []) (sym is) (λ none. filled (sym same ∙ none))
         | inr other ↦ λ empty. h.core k (sym (ap is_some (get_or-set_other jobs n k (Some j) None other)) ∙ e)
-            (sym (get_or-set_other (taken cores n blocks).cores n k words [] other ∙ get_or-set_other cores.cores n k (replicate (blocks * BLOCK_WORDS) 0) [] other) ∙ empty)
+            (sym
+            (get_or-set_other (taken cores n blocks).cores n k words [] other
+            ∙ get_or-set_other cores.cores n k (replicate (blocks * BLOCK_WORDS) 0) [] other) ∙ empty)
       ];
       bare = λ k e. elim (cases_eq k n) [
         | inl is ↦ absurd (some-none j (sym (get_or-set_same jobs n (Some j) None below) ∙ subst (λ m. job_at (slice_set jobs n (Some j)) m ≡ None) is e))
-        | inr other ↦ get_or-set_other (taken cores n blocks).cores n k words [] other ∙ get_or-set_other cores.cores n k (replicate (blocks * BLOCK_WORDS) 0) [] other
+        | inr other ↦
+            get_or-set_other (taken cores n blocks).cores n k words [] other
+            ∙ get_or-set_other cores.cores n k (replicate (blocks * BLOCK_WORDS) 0) [] other
             ∙ h.bare k (sym (get_or-set_other jobs n k (Some j) None other) ∙ e)
       ];
     }
@@ -221,7 +228,9 @@ mild-broken line = record {
     wait-broken line None e = e
 
     line-broken : (line : ℕ) (o : Option Job) → line_of (option_map (broken_job line) o) ≡ line_of o
-    line-broken line (Some j) = by_test (λ (k : Job). line_of (Some k) ≡ Some j.line) ((j.line == line) && is_none j.stop) (halted j Typed) j (λ _. refl) (λ _. refl)
+    line-broken line (Some j) =
+        by_test (λ (k : Job). line_of (Some k) ≡ Some j.line) ((j.line == line) && is_none j.stop) (halted j Typed) j (λ _. refl)
+        (λ _. refl)
     line-broken line None = refl
 
 pub at-ticked : (jobs : List (Option Job)) (k : ℕ) → job_at (map (option_map ticked_job) jobs) k ≡ option_map ticked_job (job_at jobs k)

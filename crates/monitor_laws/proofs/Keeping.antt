@@ -59,7 +59,8 @@ pub lines-set : (jobs : List (Option Job)) (n : ℕ) (j : Job) → is_some (job_
     → KeepsLines jobs (slice_set jobs n (Some j))
 lines-set jobs n j there same k line e = elim (cases_eq k n) [
   | inl is ↦ subst (λ m. line_of (job_at jobs m) ≡ Some line) (sym is)
-      (same ∙ sym (ap line_of (get_or-set_same jobs n (Some j) None (there-below jobs n there))) ∙ subst (λ m. line_of (job_at (slice_set jobs n (Some j)) m) ≡ Some line) is e)
+      (same ∙ sym (ap line_of (get_or-set_same jobs n (Some j) None (there-below jobs n there)))
+      ∙ subst (λ m. line_of (job_at (slice_set jobs n (Some j)) m) ≡ Some line) is e)
   | inr other ↦ sym (ap line_of (get_or-set_other jobs n k (Some j) None other)) ∙ e
 ]
 
@@ -69,7 +70,9 @@ below-kept old new keeps below a line e = below a line (keeps a line e)
 pub below-new : (jobs : List (Option Job)) (n : ℕ) (j : Job) → n < length jobs → j.line < LINES → LinesBelow jobs → LinesBelow (slice_set jobs n (Some j))
 below-new jobs n j low fits below a line e = elim (cases_eq a n) [
   | inl at ↦ (
-      let same : Some j.line ≡ Some line = sym (ap line_of (get_or-set_same jobs n (Some j) None low)) ∙ subst (λ m. line_of (job_at (slice_set jobs n (Some j)) m) ≡ Some line) at e in
+      let same : Some j.line ≡ Some line =
+      sym (ap line_of (get_or-set_same jobs n (Some j) None low))
+      ∙ subst (λ m. line_of (job_at (slice_set jobs n (Some j)) m) ≡ Some line) at e in
       let is : j.line ≡ line = cc in
       subst (λ l. l < LINES) is fits)
   | inr ao ↦ below a line (sym (ap line_of (get_or-set_other jobs n a (Some j) None ao)) ∙ e)
@@ -80,7 +83,11 @@ none-line line e = cc
 
 pub lines-gone : (jobs : List (Option Job)) (n : ℕ) → is_some (job_at jobs n) ≡ true → KeepsLines jobs (slice_set jobs n None)
 lines-gone jobs n there k line e = elim (cases_eq k n) [
-  | inl is ↦ absurd (none-line line (sym (ap line_of (get_or-set_same jobs n None None (there-below jobs n there))) ∙ subst (λ m. line_of (job_at (slice_set jobs n None) m) ≡ Some line) is e))
+  | inl is ↦
+      absurd
+      (none-line line
+      (sym (ap line_of (get_or-set_same jobs n None None (there-below jobs n there)))
+      ∙ subst (λ m. line_of (job_at (slice_set jobs n None) m) ≡ Some line) is e))
   | inr other ↦ sym (ap line_of (get_or-set_other jobs n k None None other)) ∙ e
 ]
 
@@ -111,7 +118,8 @@ apart-new jobs n j low none apart a b line e f = elim (cases_eq a n) [
 words-set : (s : Cores) (n free : ℕ) (words : List ℕ) → n < length s.cores → length words + free * BLOCK_WORDS ≡ length (core_of s n) + s.free * BLOCK_WORDS
     → all_words (record { cores = slice_set s.cores n words; free = free }) ≡ all_words s
 words-set s n free words low same =
-    let total : sum_by (λ ws. length ws) (slice_set s.cores n words) + length (core_of s n) ≡ sum_by (λ ws. length ws) s.cores + length words = sum_by-set (λ ws. length ws) s.cores n words [] low in
+    let total : sum_by (λ ws. length ws) (slice_set s.cores n words) + length (core_of s n)
+    ≡ sum_by (λ ws. length ws) s.cores + length words = sum_by-set (λ ws. length ws) s.cores n words [] low in
     omega arith
 
 pub words-core : (s : Cores) (n : ℕ) (words : List ℕ) → n < length s.cores → length words ≡ length (core_of s n) → all_words (with_core s n words) ≡ all_words s
@@ -152,13 +160,17 @@ kept-refl w = record { lines = λ k line e. e; words = refl; rings = refl; place
 words-grown : (cores new : Cores) (n : ℕ) (asks : Option ℕ) → IsStore cores → IsJob n → grown cores n asks ≡ Some new → all_words new ≡ all_words cores
 words-grown cores new n None store number = λ e. cc
 words-grown cores new n (Some blocks) store number =
-    by_test (λ o. o ≡ Some new → all_words new ≡ all_words cores) (nat_le blocks (cores.free + blocks_of cores n)) (Some (with_highest (resized cores n blocks) n blocks)) None
+    by_test (λ o. o ≡ Some new → all_words new ≡ all_words cores) (nat_le blocks (cores.free + blocks_of cores n))
+    (Some (with_highest (resized cores n blocks) n blocks)) None
     (λ fits e.
     let same : with_highest (resized cores n blocks) n blocks ≡ new = cc in
     let room : blocks ≤ cores.free + blocks_of cores n = grind (arith, common_steps) in
-    let low : n < length (resized cores n blocks).cores = omega (arith, store.jobs, number.1, length-set cores.cores n (resized_words (core_of cores n) blocks)) in
+    let low : n < length (resized cores n blocks).cores =
+    omega (arith, store.jobs, number.1, length-set cores.cores n (resized_words (core_of cores n) blocks)) in
     subst (λ c. all_words c ≡ all_words cores) same
-    (words-core (resized cores n blocks) n _ low (length-set (core_of (resized cores n blocks) n) 0o44 (blocks * BLOCK_WORDS - 1)) ∙ words-resized cores n blocks store number room))
+    (words-core (resized cores n blocks) n _ low
+    (length-set (core_of (resized cores n blocks) n) 0o44 (blocks * BLOCK_WORDS - 1))
+    ∙ words-resized cores n blocks store number room))
     (λ _ e. cc)
 
 words-done : (ac : ℕ) (o : Option Cores) (j : Job) (cores : Cores) → ((new : Cores) → o ≡ Some new → all_words new ≡ all_words cores)
@@ -169,7 +181,8 @@ words-done ac (Some new) j cores h = h new refl
 words-row : (service : Service) (time n ac e : ℕ) (a : Around) → IsStore a.cores → IsJob n → all_words (row_of service time n ac e a).cores ≡ all_words a.cores
 words-row Reset time n ac e a store number = refl
 words-row Core time n ac e a store number =
-    words-done ac (grown a.cores n (blocks_asked (ac_of a.job ac))) a.job a.cores (λ new is. words-grown a.cores new n (blocks_asked (ac_of a.job ac)) store number is)
+    words-done ac (grown a.cores n (blocks_asked (ac_of a.job ac))) a.job a.cores
+    (λ new is. words-grown a.cores new n (blocks_asked (ac_of a.job ac)) store number is)
 words-row Exit time n ac e a store number = refl
 words-row Monrt time n ac e a store number = refl
 words-row Logout time n ac e a store number = refl
@@ -183,11 +196,13 @@ words-row Enq time n ac e a store number = refl
 words-row Deq time n ac e a store number = refl
 words-row Enqc time n ac e a store number =
     by_enqc (λ (o : JobCores). all_words o.cores ≡ all_words a.cores) a.jobs a.requests n ac a.job a.cores (λ w. refl) (λ code. refl) (λ quota. refl)
-    (words-core a.cores n (status_told a.requests n ac a.job (core_of a.cores n)).core (omega (arith, store.jobs, number.1)) (length-status a.requests n ac a.job (core_of a.cores n)))
+    (words-core a.cores n (status_told a.requests n ac a.job (core_of a.cores n)).core (omega (arith, store.jobs, number.1))
+    (length-status a.requests n ac a.job (core_of a.cores n)))
 words-row Datrd time n ac e a store number = refl
 words-row Datwr time n ac e a store number = refl
 words-row (Input unit skips) time n ac e a store number =
-    words-core a.cores n (input_called unit skips e (core_of a.cores n) a.job a.lines).core (omega (arith, store.jobs, number.1)) (length-input unit skips e (core_of a.cores n) a.job a.lines)
+    words-core a.cores n (input_called unit skips e (core_of a.cores n) a.job a.lines).core (omega (arith, store.jobs, number.1))
+    (length-input unit skips e (core_of a.cores n) a.job a.lines)
 words-row Outchr time n ac e a store number = refl
 words-row Outstr time n ac e a store number = refl
 words-row Clrbfi time n ac e a store number = refl
@@ -206,7 +221,8 @@ line-answered j ac limit QueuedReply = refl
 line-answered j ac limit DoneReply = refl
 line-answered j ac limit (RefusedReply refusal) = refl
 
-line-told : (requests : List Request) (n ac to : ℕ) (j : Job) (core : List ℕ) (r : Result (List Want) Refusal) → (told requests n ac to j core r).job.line ≡ j.line
+line-told : (requests : List Request) (n ac to : ℕ) (j : Job) (core : List ℕ) (r : Result (List Want) Refusal)
+    → (told requests n ac to j core r).job.line ≡ j.line
 line-told requests n ac to j core (Err refusal) = refl
 line-told requests n ac to j core (Ok wants) = refl
 
@@ -233,7 +249,8 @@ line-no_input unit false core j lines = refl
 line-input : (unit : Awaited) (skips : Bool) (e : ℕ) (core : List ℕ) (j : Job) (lines : List Rings) → (input_called unit skips e core j lines).job.line ≡ j.line
 line-input unit skips e core j lines =
     by_test (λ (o : JobInput). o.job.line ≡ j.line) (is_legal core e) _ _
-    (λ _. by_test (λ (o : JobInput). o.job.line ≡ j.line) (has_input unit (input_of lines j.line)) (stored_input skips e core j lines) (no_input unit skips core j lines)
+    (λ _. by_test (λ (o : JobInput). o.job.line ≡ j.line) (has_input unit (input_of lines j.line))
+    (stored_input skips e core j lines) (no_input unit skips core j lines)
     (λ _. line-skipping skips _) (λ _. line-no_input unit skips core j lines))
     (λ _. refl)
 
@@ -246,8 +263,12 @@ line-row Logout time n ac e a = refl
 line-row Mstime time n ac e a = refl
 line-row Pjob time n ac e a = refl
 line-row Sleep time n ac e a = refl
-line-row Piini time n ac e a = by_test (λ (j : Job). j.line ≡ a.job.line) (are_legal (core_of a.cores n) (right_half (ac_of a.job ac)) 4) _ _ (λ _. refl) (λ _. refl)
-line-row Pisys time n ac e a = by_test (λ (j : Job). j.line ≡ a.job.line) (nat_le 2 (ac_of a.job ac)) _ _ (λ _. refl) (λ _. by_test (λ (j : Job). j.line ≡ a.job.line) (is_none a.job.interrupts.vector) _ _ (λ _. refl) (λ _. refl))
+line-row Piini time n ac e a =
+    by_test (λ (j : Job). j.line ≡ a.job.line) (are_legal (core_of a.cores n) (right_half (ac_of a.job ac)) 4) _ _ (λ _. refl)
+    (λ _. refl)
+line-row Pisys time n ac e a =
+    by_test (λ (j : Job). j.line ≡ a.job.line) (nat_le 2 (ac_of a.job ac)) _ _ (λ _. refl)
+    (λ _. by_test (λ (j : Job). j.line ≡ a.job.line) (is_none a.job.interrupts.vector) _ _ (λ _. refl) (λ _. refl))
 line-row Debrk time n ac e a = line-dismissed_at (core_of a.cores n) a.job (vector_in_progress a.job.interrupts)
 line-row Enq time n ac e a =
     line-answered a.job ac (enq_limit a.job.regs.ac (core_of a.cores n) n (ac_of a.job ac))
@@ -255,7 +276,8 @@ line-row Enq time n ac e a =
 line-row Deq time n ac e a = line-answered a.job ac 0 (asked a.size a.requests n (deq_asks a.job.regs.ac (core_of a.cores n) n (ac_of a.job ac))).reply
 line-row Enqc time n ac e a =
     by_enqc (λ (o : JobCores). o.job.line ≡ a.job.line) a.jobs a.requests n ac a.job a.cores (λ w. refl) (λ code. refl) (λ quota. refl)
-    (line-told a.requests n ac (answers_at a.job ac) a.job (core_of a.cores n) (with_room (core_of a.cores n) (answers_at a.job ac) (enqc_asks a.job.regs.ac (core_of a.cores n) n (ac_of a.job ac))))
+    (line-told a.requests n ac (answers_at a.job ac) a.job (core_of a.cores n)
+    (with_room (core_of a.cores n) (answers_at a.job ac) (enqc_asks a.job.regs.ac (core_of a.cores n) n (ac_of a.job ac))))
 line-row Datrd time n ac e a = by_test (λ (j : Job). j.line ≡ a.job.line) (nat_lt (right_half (ac_of a.job ac)) DATA_WORDS) _ _ (λ _. refl) (λ _. refl)
 line-row Datwr time n ac e a = by_test (λ (o : JobData). o.job.line ≡ a.job.line) (nat_lt (right_half (ac_of a.job ac)) DATA_WORDS) _ _ (λ _. refl) (λ _. refl)
 line-row (Input unit skips) time n ac e a = line-input unit skips e (core_of a.cores n) a.job a.lines
@@ -269,16 +291,20 @@ line-row Unlisted time n ac e a = refl
 -- there are as many lines as before
 rings-put : (o : Option (List ℕ)) (j : Job) (lines : List Rings) → length (put_text o j lines).lines ≡ length lines
 rings-put None j lines = refl
-rings-put (Some text) j lines = by_test (λ (o : JobLines). length o.lines ≡ length lines) (nat_le (length text) (room_of lines j.line)) _ _ (λ _. length-set lines j.line _) (λ _. refl)
+rings-put (Some text) j lines =
+    by_test (λ (o : JobLines). length o.lines ≡ length lines) (nat_le (length text) (room_of lines j.line)) _ _
+    (λ _. length-set lines j.line _) (λ _. refl)
 
 rings-no_input : (unit : Awaited) (skips : Bool) (core : List ℕ) (j : Job) (lines : List Rings) → length (no_input unit skips core j lines).lines ≡ length lines
 rings-no_input unit true core j lines = refl
 rings-no_input unit false core j lines = refl
 
-rings-input : (unit : Awaited) (skips : Bool) (e : ℕ) (core : List ℕ) (j : Job) (lines : List Rings) → length (input_called unit skips e core j lines).lines ≡ length lines
+rings-input : (unit : Awaited) (skips : Bool) (e : ℕ) (core : List ℕ) (j : Job) (lines : List Rings)
+    → length (input_called unit skips e core j lines).lines ≡ length lines
 rings-input unit skips e core j lines =
     by_test (λ (o : JobInput). length o.lines ≡ length lines) (is_legal core e) _ _
-    (λ _. by_test (λ (o : JobInput). length o.lines ≡ length lines) (has_input unit (input_of lines j.line)) (stored_input skips e core j lines) (no_input unit skips core j lines)
+    (λ _. by_test (λ (o : JobInput). length o.lines ≡ length lines) (has_input unit (input_of lines j.line))
+    (stored_input skips e core j lines) (no_input unit skips core j lines)
     (λ _. length-set lines j.line _) (λ _. rings-no_input unit skips core j lines))
     (λ _. refl)
 
@@ -310,14 +336,18 @@ rings-row Unlisted time n ac e a = refl
 pub kept-row : (service : Service) (w : World) (time n ac e : ℕ) (j : Job) → job_at w.table.jobs n ≡ Some j → is_some (job_at w.table.jobs n) ≡ true
     → Housed w.table.jobs w.cores → Kept w (with_around w n (row_of service time n ac e (around w j)))
 kept-row service w time n ac e j is there h = record {
-  lines = lines-set w.table.jobs n (row_of service time n ac e (around w j)).job there (ap line_of is ∙ ap Some (sym (line-row service time n ac e (around w j))));
+  lines =
+      lines-set w.table.jobs n (row_of service time n ac e (around w j)).job there
+      (ap line_of is ∙ ap Some (sym (line-row service time n ac e (around w j))));
   words = words-row service time n ac e (around w j) h.store (is_job w.table.jobs w.cores n h there);
   rings = rings-row service time n ac e (around w j);
   placed = λ p. placed-set w.table.jobs n _ (fits-row service time n ac e (around w j) (subst Placed is (p n))) p;
 }
 
 -- a call that may take its job away
-pub kept-left : (o : CallOutcome) (v w : World) (n : ℕ) → is_some (job_at w.table.jobs n) ≡ true → Housed w.table.jobs w.cores → Kept v w → Kept v (left_by o w n)
+pub kept-left : (o : CallOutcome) (v w : World) (n : ℕ) → is_some (job_at w.table.jobs n) ≡ true → Housed w.table.jobs w.cores
+    → Kept v w
+    → Kept v (left_by o w n)
 kept-left ending.Done v w n there h k = k
 kept-left ending.Empty v w n there h k = k
 kept-left ending.Gone v w n there h k = record {
@@ -344,10 +374,12 @@ line-turned n j cores requests (Some x) =
     by_test (λ (t : Turn). t.job.line ≡ j.line) (are_legal (core_of cores n) x.0 4)
     (told_at n cores requests (interrupted_at j (core_of cores n) x.0 x.1)) (done (stopped j IllegalAddress) cores requests) (λ _. refl) (λ _. refl)
 
-words-turned : (n : ℕ) (j : Job) (cores : Cores) (requests : List Request) (o : Option (ℕ × ℕ)) → n < length cores.cores → all_words (turned n j cores requests o).cores ≡ all_words cores
+words-turned : (n : ℕ) (j : Job) (cores : Cores) (requests : List Request) (o : Option (ℕ × ℕ)) → n < length cores.cores
+    → all_words (turned n j cores requests o).cores ≡ all_words cores
 words-turned n j cores requests None low =
     let r : After = exec j.regs (core_of cores n) in
-    words-concluded (record j { regs = r.regs }) (with_core cores n r.core) requests r.outcome ∙ words-core cores n r.core low (length-exec j.regs (core_of cores n))
+    words-concluded (record j { regs = r.regs }) (with_core cores n r.core) requests r.outcome
+    ∙ words-core cores n r.core low (length-exec j.regs (core_of cores n))
 words-turned n j cores requests (Some x) low =
     by_test (λ (t : Turn). all_words t.cores ≡ all_words cores) (are_legal (core_of cores n) x.0 4)
     (told_at n cores requests (interrupted_at j (core_of cores n) x.0 x.1)) (done (stopped j IllegalAddress) cores requests)
@@ -359,8 +391,12 @@ kept-turned w n j is there h =
     let t : Turn = turn_of n (awake j) w.cores w.requests in
     let number = is_job w.table.jobs w.cores n h there in
     record {
-      lines = lines-set w.table.jobs n t.job there (ap line_of is ∙ ap Some (sym (line-turned n (awake j) w.cores w.requests (due j.interrupts (pending w.requests n)))));
+      lines =
+          lines-set w.table.jobs n t.job there
+          (ap line_of is ∙ ap Some (sym (line-turned n (awake j) w.cores w.requests (due j.interrupts (pending w.requests n)))));
       words = words-turned n (awake j) w.cores w.requests (due j.interrupts (pending w.requests n)) (omega (arith, h.store.jobs, number.1));
       rings = refl;
-      placed = λ p. placed-set w.table.jobs n _ (fits-turned n (awake j) w.cores w.requests (due j.interrupts (pending w.requests n)) (subst Placed is (p n))) p;
+      placed =
+          λ p. placed-set w.table.jobs n _
+          (fits-turned n (awake j) w.cores w.requests (due j.interrupts (pending w.requests n)) (subst Placed is (p n))) p;
     }

@@ -65,7 +65,9 @@ counts s n limit ac j w =
       shorter = λ more. at ∙ ap (λ (b : Bool). Some (cond b (timed_out ac j) (record j { wait = Queue (limit - 1) ac }))) (not-last limit more);
       told = λ last. at ∙ ap (λ (b : Bool). Some (cond b (timed_out ac j) (record j { wait = Queue (limit - 1) ac }))) (eq-eqb limit 1 last);
       ended = λ last. withdrawing_ends_waits s.world.requests (expires s.world.requests (ticked_table s.world.table).jobs) n
-          (and_from _ _ w.holds (ap is_last_tick (there-ticked s n limit ac j w.there w.wait) ∙ ap (λ (v : Wait). limit_of v == 1) w.wait ∙ eq-eqb limit 1 last));
+          (and_from _ _ w.holds
+          (ap is_last_tick (there-ticked s n limit ac j w.there w.wait) ∙ ap (λ (v : Wait). limit_of v == 1) w.wait
+          ∙ eq-eqb limit 1 last));
       endless = λ none. after-tick s n limit ac j true w.there w.wait w.holds ∙ ap Some (limited-none true j (ap limit_of w.wait ∙ none));
     }
 
@@ -94,7 +96,8 @@ left-stepped s n limit ac j h w =
     let next : Option ℕ = next_job s.world.table s.world.lines s.world.requests in
     let same = same-stepped s next n j.line h (ap line_of w.there)
     (no-run s next n (λ m e is. both_ways (is_waiting_job s.world.requests n)
-    (subst (λ k. is_waiting_job s.world.requests k ≡ false) is (free-next s m h (next-ready s.world.table s.world.lines s.world.requests m e)).free) w.holds)) in
+    (subst (λ k. is_waiting_job s.world.requests k ≡ false) is
+    (free-next s m h (next-ready s.world.table s.world.lines s.world.requests m e)).free) w.holds)) in
     left-same _ n j (same.jobs ∙ w.there)
 
 pub left-typed : (s : S) (l c n : ℕ) (j : Job) → job_at s.world.table.jobs n ≡ Some j → Left (typed s l c).state.world n j
@@ -133,7 +136,8 @@ left-examined s l ws start None n j there = left-same _ n j there
 left-examined s l ws start (Some top) n j there =
     left-admitted s l ws start (blocks_for top) (free_number s.world.table.jobs) n j (free-number s.world.table.jobs) there
 
-pub left-login : (s : S) (l : ℕ) (ws : List (ℕ × ℕ)) (start n : ℕ) (j : Job) → job_at s.world.table.jobs n ≡ Some j → Left (logged_in s l ws start).state.world n j
+pub left-login : (s : S) (l : ℕ) (ws : List (ℕ × ℕ)) (start n : ℕ) (j : Job) → job_at s.world.table.jobs n ≡ Some j
+    → Left (logged_in s l ws start).state.world n j
 left-login s l ws start n j there =
     by_test (λ (m : Made). Left m.state.world n j) (nat_le LINES l) _ _ (λ _. left-same _ n j there)
     (λ _. by_test (λ (m : Made). Left m.state.world n j) (list_any (is_at l) s.world.table.jobs) _ _ (λ _. left-same _ n j there)
@@ -153,7 +157,9 @@ left-going_on : (w : World) (m n : ℕ) (j : Job) → job_at w.table.jobs n ≡ 
 left-going_on w m n j there = elim (cases_eq n m) [
   | inl same ↦ subst (λ k. Left (record w { table = with_change w.table k going_on }) n j) same (record {
     job = going_on j;
-    there = get_or-set_same w.table.jobs n (option_map going_on (job_at w.table.jobs n)) None (there-below w.table.jobs n (ap is_some there)) ∙ ap (option_map going_on) there;
+    there =
+        get_or-set_same w.table.jobs n (option_map going_on (job_at w.table.jobs n)) None
+        (there-below w.table.jobs n (ap is_some there)) ∙ ap (option_map going_on) there;
     regs = refl;
     wait = refl;
   })
@@ -249,12 +255,22 @@ by-tick : (s : S) (es : List Event) (n limit ac : ℕ) (j : Job) → IsInWait s.
     → Rest (happens s Tick).state es n → (i : ℕ) × HasEnded s (Tick ∷ es) n j limit ac i
 by-tick s es n limit ac j w some enough rest = elim (cases_eq limit 1) [
   | inl last ↦
-      let c = counts s n limit ac j w in
-      (suc zero, inr (record { job = timed_out ac j; there = c.told last; regs = refl; wait = refl; counted = omega (arith, last, ticks-first Tick es); over = c.ended last }))
+      let c = counts s n limit ac j w in (
+        suc zero,
+        inr (record {
+          job = timed_out ac j;
+          there = c.told last;
+          regs = refl;
+          wait = refl;
+          counted = omega (arith, last, ticks-first Tick es);
+          over = c.ended last;
+        }),
+      )
   | inr more ↦
       let c = counts s n limit ac j w in
       let next : 1 ≤ limit - 1 = omega (arith, more, some) in
-      goes-on s Tick es n limit (limit - 1) ac j (record j { wait = Queue (limit - 1) ac }) (c.shorter (omega (arith, next))) refl refl next (omega (arith, next)) enough rest
+      goes-on s Tick es n limit (limit - 1) ac j (record j { wait = Queue (limit - 1) ac }) (c.shorter (omega (arith, next))) refl
+      refl next (omega (arith, next)) enough rest
       (is_waiting_job (happens s Tick).state.world.requests n) refl
 ]
 

@@ -46,7 +46,9 @@ same-turned n job j cores requests (Some x) ne =
     (λ _. refl)
 
 pub jobs-chosen : (t : Table) (n quantum : ℕ) → (chosen t n quantum).jobs ≡ t.jobs
-jobs-chosen t n quantum = by_test (λ (u : Table). u.jobs ≡ t.jobs) ((t.current == n) && nat_lt 0 t.left) t (record t { current = n; left = quantum }) (λ _. refl) (λ _. refl)
+jobs-chosen t n quantum =
+    by_test (λ (u : Table). u.jobs ≡ t.jobs) ((t.current == n) && nat_lt 0 t.left) t (record t { current = n; left = quantum })
+    (λ _. refl) (λ _. refl)
 
 pub ran-killed : (s : S) (n job : ℕ) (o : Option Job) → is_ran job (killed s n o).answer ≡ false
 ran-killed s n job None = refl
@@ -61,9 +63,11 @@ ran-typed s line c job =
 pub ran-taken : (s : S) (line n job : ℕ) → is_ran job (taken s line n).answer ≡ false
 ran-taken s line n job = by_test (λ (m : Made). is_ran job m.answer ≡ false) (nat_le LINES line) _ _ (λ _. refl) (λ _. refl)
 
-pub ran-admitted : (s : S) (line : ℕ) (ws : List (ℕ × ℕ)) (start blocks : ℕ) (o : Option ℕ) (job : ℕ) → is_ran job (admitted s line ws start blocks o).answer ≡ false
+pub ran-admitted : (s : S) (line : ℕ) (ws : List (ℕ × ℕ)) (start blocks : ℕ) (o : Option ℕ) (job : ℕ)
+    → is_ran job (admitted s line ws start blocks o).answer ≡ false
 ran-admitted s line ws start blocks None job = refl
-ran-admitted s line ws start blocks (Some n) job = by_test (λ (m : Made). is_ran job m.answer ≡ false) (nat_le blocks s.world.cores.free) _ _ (λ _. refl) (λ _. refl)
+ran-admitted s line ws start blocks (Some n) job =
+    by_test (λ (m : Made). is_ran job m.answer ≡ false) (nat_le blocks s.world.cores.free) _ _ (λ _. refl) (λ _. refl)
 
 pub ran-examined : (s : S) (line : ℕ) (ws : List (ℕ × ℕ)) (start : ℕ) (o : Option ℕ) (job : ℕ) → is_ran job (examined s line ws start o).answer ≡ false
 ran-examined s line ws start None job = refl

@@ -14,6 +14,8 @@ input-other lines line l cs ne = ap (λ (x : Rings). x.output) (get_or-set_other
 -- input leaves what the line put out
 pub input-same : (lines : List Rings) (line l : ℕ) (cs : List ℕ) → line < length lines → output_of (with_input lines l cs) line ≡ output_of lines line
 input-same lines line l cs within = elim (cases_eq line l) [
-  | inl is ↦ subst (λ m. output_of (with_input lines m cs) line ≡ output_of lines line) is (ap (λ (x : Rings). x.output) (get_or-set_same lines line _ no_characters within))
+  | inl is ↦
+      subst (λ m. output_of (with_input lines m cs) line ≡ output_of lines line) is
+      (ap (λ (x : Rings). x.output) (get_or-set_same lines line _ no_characters within))
   | inr other ↦ input-other lines line l cs other
 ]

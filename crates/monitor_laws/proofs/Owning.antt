@@ -72,7 +72,8 @@ enq-no regs core n w armed quota =
     by_test AsksNoDequeue (left_half w == 0) _ _ (λ _. entering-no Blocking armed quota (block_at regs core (right_half w) n ForWaiting))
     (λ _. by_test AsksNoDequeue (left_half w == 1) _ _ (λ _. entering-no AtOnce armed quota (block_at regs core (right_half w) n Full))
     (λ _. by_test AsksNoDequeue (left_half w == 2) _ _ (λ _. entering-no Interrupt armed quota (block_at regs core (right_half w) n Full))
-    (λ _. by_test AsksNoDequeue (left_half w == 3) (changing (block_at regs core (right_half w) n Named)) (Err NoFunction) (λ _. changing-no (block_at regs core (right_half w) n Named))
+    (λ _. by_test AsksNoDequeue (left_half w == 3) (changing (block_at regs core (right_half w) n Named)) (Err NoFunction)
+    (λ _. changing-no (block_at regs core (right_half w) n Named))
     (λ _. tt))))
 
 -- a job loses a key by what it asks for
@@ -84,7 +85,8 @@ owns-asked size requests n job key (Ok call) h lost = ((owners_are_kept size).by
 owns-asked-no : (size : ℕ) (requests : List Request) (n job : ℕ) (key : Key) (r : Result LockCall Refusal) → AsksNoDequeue r → owns requests job key ≡ true
     → owns (asked size requests n r).requests job key ≡ false → ⊥
 owns-asked-no size requests n job key (Err refusal) free h lost = both_ways (owns requests job key) lost h
-owns-asked-no size requests n job key (Ok call) free h lost = both_ways (is_dequeue call) free ((owners_are_kept size).by_calls requests n call job key h lost).0
+owns-asked-no size requests n job key (Ok call) free h lost =
+    both_ways (is_dequeue call) free ((owners_are_kept size).by_calls requests n call job key h lost).0
 
 owns-row : (service : Service) (time n ac e job : ℕ) (key : Key) (a : Around) → owns a.requests job key ≡ true
     → owns (row_of service time n ac e a).requests job key ≡ false → (n ≡ job) × (is_release service ≡ true)
@@ -101,7 +103,9 @@ owns-row Pisys time n ac e job key a h lost = absurd (both_ways (owns a.requests
 owns-row Debrk time n ac e job key a h lost = absurd (both_ways (owns a.requests job key) lost h)
 owns-row Enq time n ac e job key a h lost =
     let r : Result LockCall Refusal = enq_asks a.job.regs.ac (core_of a.cores n) n (ac_of a.job ac) (is_some a.job.interrupts.vector) a.job.quota in
-    absurd (owns-asked-no a.size a.requests n job key r (enq-no a.job.regs.ac (core_of a.cores n) n (ac_of a.job ac) (is_some a.job.interrupts.vector) a.job.quota) h lost)
+    absurd
+    (owns-asked-no a.size a.requests n job key r
+    (enq-no a.job.regs.ac (core_of a.cores n) n (ac_of a.job ac) (is_some a.job.interrupts.vector) a.job.quota) h lost)
 owns-row Deq time n ac e job key a h lost =
     (owns-asked a.size a.requests n job key (deq_asks a.job.regs.ac (core_of a.cores n) n (ac_of a.job ac)) h lost, refl)
 owns-row Enqc time n ac e job key a h lost = absurd (both_ways (owns a.requests job key) lost h)
@@ -133,14 +137,18 @@ ends-no_input : (unit : Awaited) (skips : Bool) (core : List ℕ) (j : Job) (lin
 ends-no_input unit true core j lines = refl
 ends-no_input unit false core j lines = refl
 
-ends-input : (unit : Awaited) (skips : Bool) (e : ℕ) (core : List ℕ) (j : Job) (lines : List Rings) → leaves (input_called unit skips e core j lines).ending ≡ false
+ends-input : (unit : Awaited) (skips : Bool) (e : ℕ) (core : List ℕ) (j : Job) (lines : List Rings)
+    → leaves (input_called unit skips e core j lines).ending ≡ false
 ends-input unit skips e core j lines =
     by_test (λ (o : JobInput). leaves o.ending ≡ false) (is_legal core e) _ _
-    (λ _. by_test (λ (o : JobInput). leaves o.ending ≡ false) (has_input unit (input_of lines j.line)) (stored_input skips e core j lines) (no_input unit skips core j lines)
+    (λ _. by_test (λ (o : JobInput). leaves o.ending ≡ false) (has_input unit (input_of lines j.line))
+    (stored_input skips e core j lines) (no_input unit skips core j lines)
     (λ _. refl) (λ _. ends-no_input unit skips core j lines))
     (λ _. refl)
 
-ends-row : (service : Service) (time n ac e : ℕ) (a : Around) → leaves a.ending ≡ false → leaves (row_of service time n ac e a).ending ≡ true → is_release service ≡ true
+ends-row : (service : Service) (time n ac e : ℕ) (a : Around) → leaves a.ending ≡ false
+    → leaves (row_of service time n ac e a).ending ≡ true
+    → is_release service ≡ true
 ends-row Reset time n ac e a d h = refl
 ends-row Core time n ac e a d h = absurd (both_ways _ d h)
 ends-row Exit time n ac e a d h = refl
@@ -248,7 +256,8 @@ same-typed s line c job key =
 same-taken : (s : S) (line n job : ℕ) (key : Key) → Loses s job key (taken s line n)
 same-taken s line n job key = by_test (Loses s job key) (nat_le LINES line) _ _ (λ _. nothing s job key) (λ _. nothing s job key)
 
-same-admitted : (s : S) (line : ℕ) (ws : List (ℕ × ℕ)) (start blocks : ℕ) (o : Option ℕ) (job : ℕ) (key : Key) → Loses s job key (admitted s line ws start blocks o)
+same-admitted : (s : S) (line : ℕ) (ws : List (ℕ × ℕ)) (start blocks : ℕ) (o : Option ℕ) (job : ℕ) (key : Key)
+    → Loses s job key (admitted s line ws start blocks o)
 same-admitted s line ws start blocks None job key = nothing s job key
 same-admitted s line ws start blocks (Some n) job key =
     by_test (Loses s job key) (nat_le blocks s.world.cores.free) _ _ (λ _. nothing s job key) (λ _. nothing s job key)
@@ -270,7 +279,8 @@ same-made_if s w (Err e) job key same = nothing s job key
 same-started : (s : S) (n job : ℕ) (key : Key) → Loses s job key (started s n)
 same-started s n job key =
     same-made_if s _ (standing (job_at s.world.table.jobs n)) job key
-    (λ h lost. both_ways (owns (withdrawn s.world.requests n) job key) lost ((owners_are_kept s.world.size).by_withdrawals s.world.requests (is_one n) job key h))
+    (λ h lost. both_ways (owns (withdrawn s.world.requests n) job key) lost
+    ((owners_are_kept s.world.size).by_withdrawals s.world.requests (is_one n) job key h))
 
 same-continued : (s : S) (n job : ℕ) (key : Key) → Loses s job key (continued s n)
 same-continued s n job key = same-made_if s _ (standing (job_at s.world.table.jobs n)) job key (nothing s job key)

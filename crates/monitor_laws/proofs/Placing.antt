@@ -43,7 +43,8 @@ use Rattle.monitor_laws.proofs.Enquiring.{by_enqc}
 abbrev pub Fits : Job → Type 0
 Fits j = Placed (Some j)
 
-pub placed-set : (jobs : List (Option Job)) (n : ℕ) (o : Option Job) → Placed o → ((k : ℕ) → Placed (job_at jobs k)) → (k : ℕ) → Placed (job_at (slice_set jobs n o) k)
+pub placed-set : (jobs : List (Option Job)) (n : ℕ) (o : Option Job) → Placed o → ((k : ℕ) → Placed (job_at jobs k)) → (k : ℕ)
+    → Placed (job_at (slice_set jobs n o) k)
 placed-set [] n o f p k = p k
 placed-set (x ∷ jobs) zero o f p zero = f
 placed-set (x ∷ jobs) zero o f p (suc k) = p (suc k)
@@ -69,7 +70,8 @@ fits-answered j ac limit Queued h = (below _, h.1)
 fits-answered j ac limit DoneReply h = (below _, h.1)
 fits-answered j ac limit (Refused refusal) h = h
 
-fits-told : (requests : List Request) (n ac to : ℕ) (j : Job) (core : List ℕ) (r : Result (List Want) Refusal) → Fits j → Fits (told requests n ac to j core r).job
+fits-told : (requests : List Request) (n ac to : ℕ) (j : Job) (core : List ℕ) (r : Result (List Want) Refusal) → Fits j
+    → Fits (told requests n ac to j core r).job
 fits-told requests n ac to j core (Err refusal) h = h
 fits-told requests n ac to j core (Ok wants) h = (below _, h.1)
 
@@ -121,7 +123,8 @@ fits-row Enq time n ac e a h =
 fits-row Deq time n ac e a h = fits-answered a.job ac 0 (asked a.size a.requests n (deq_asks a.job.regs.ac (core_of a.cores n) n (ac_of a.job ac))).reply h
 fits-row Enqc time n ac e a h =
     by_enqc (λ (o : JobCores). Fits o.job) a.jobs a.requests n ac a.job a.cores (λ w. (below _, h.1)) (λ code. h) (λ quota. (below _, h.1))
-    (fits-told a.requests n ac (answers_at a.job ac) a.job (core_of a.cores n) (with_room (core_of a.cores n) (answers_at a.job ac) (enqc_asks a.job.regs.ac (core_of a.cores n) n (ac_of a.job ac))) h)
+    (fits-told a.requests n ac (answers_at a.job ac) a.job (core_of a.cores n)
+    (with_room (core_of a.cores n) (answers_at a.job ac) (enqc_asks a.job.regs.ac (core_of a.cores n) n (ac_of a.job ac))) h)
 fits-row Datrd time n ac e a h = by_test Fits (nat_lt (right_half (ac_of a.job ac)) DATA_WORDS) _ _ (λ _. (below _, h.1)) (λ _. h)
 fits-row Datwr time n ac e a h = by_test (λ (o : JobData). Fits o.job) (nat_lt (right_half (ac_of a.job ac)) DATA_WORDS) _ _ (λ _. (below _, h.1)) (λ _. h)
 fits-row (Input unit skips) time n ac e a h = fits-input unit skips e (core_of a.cores n) a.job a.lines h

@@ -80,7 +80,8 @@ stands-text w n line j None first taken x b at off core moved endless = λ r. re
 }
 stands-text w n line j (Some text) first taken x b at off core moved endless =
     by_test (λ (p : JobLines). is_for_terminal p.job.wait ≡ false
-    → Stands (with_around w n (record (around w j) { job = p.job; lines = p.lines; ending = p.ending })) n line first taken (record { regs = j.regs; core = x.core; output = x.output ++ text }))
+    → Stands (with_around w n (record (around w j) { job = p.job; lines = p.lines; ending = p.ending })) n line first taken
+    (record { regs = j.regs; core = x.core; output = x.output ++ text }))
     (nat_le (length text) (room_of w.lines j.line)) _ _
     (λ _ r. record {
       job = j;
@@ -91,7 +92,8 @@ stands-text w n line j (Some text) first taken x b at off core moved endless =
       regs = refl;
       core = core;
       output = pushed first x.output taken (output_of w.lines line) text _ b.output
-          (subst (λ l. output_of (with_output w.lines l (output_of w.lines l ++ text)) line ≡ output_of w.lines line ++ text) (sym at) (ap (λ (r : Rings). r.output) (get_or-set_same w.lines line _ no_characters b.within)));
+          (subst (λ l. output_of (with_output w.lines l (output_of w.lines l ++ text)) line ≡ output_of w.lines line ++ text)
+          (sym at) (ap (λ (r : Rings). r.output) (get_or-set_same w.lines line _ no_characters b.within)));
     })
     (λ _ r. cc)
 
@@ -133,16 +135,29 @@ Advanced w n line first taken x v = is_empty v n ≡ false → Stands v n line f
 advanced-row : (w : World) (time n line : ℕ) (j : Job) (kind : CallKind) (ac e : ℕ) (first taken : List ℕ) (x : Solo) → Before w n line first taken x
     → j.line ≡ line → j.interrupts.on ≡ false → core_of w.cores n ≡ x.core → j.regs ≡ record x.regs { pc = next_pc x.regs }
     → limit_of j.wait ≡ 0 → is_output kind ac ≡ true
-    → Advanced w n line first taken (printed x j.regs x.core (text_of ac j.regs x.core e)) (ended w n (row_of (service_of kind ac e) time n ac e (around w j))).world
+    → Advanced w n line first taken (printed x j.regs x.core (text_of ac j.regs x.core e))
+    (ended w n (row_of (service_of kind ac e) time n ac e (around w j))).world
 advanced-row w time n line j kind ac e first taken x b at off core moved endless prints =
     let c = output-cases kind ac prints in
-    subst (λ k. Advanced w n line first taken (printed x j.regs x.core (text_of ac j.regs x.core e)) (ended w n (row_of (service_of k ac e) time n ac e (around w j))).world) (sym c.0)
+    subst
+    (λ k. Advanced w n line first taken (printed x j.regs x.core (text_of ac j.regs x.core e))
+    (ended w n (row_of (service_of k ac e) time n ac e (around w j))).world) (sym c.0)
     (elim c.1 [
-      | inl one ↦ subst (λ a. Advanced w n line first taken (printed x j.regs x.core (text_of a j.regs x.core e)) (ended w n (row_of (service_of Ttcall a e) time n a e (around w j))).world) (sym one)
-          (subst (λ l. Advanced w n line first taken (printed x j.regs x.core (low_character (word_below j.regs.ac l e))) (ended w n (row_of Outchr time n 1 e (around w j))).world) core
+      | inl one ↦
+          subst
+          (λ a. Advanced w n line first taken (printed x j.regs x.core (text_of a j.regs x.core e))
+          (ended w n (row_of (service_of Ttcall a e) time n a e (around w j))).world) (sym one)
+          (subst
+          (λ l. Advanced w n line first taken (printed x j.regs x.core (low_character (word_below j.regs.ac l e)))
+          (ended w n (row_of Outchr time n 1 e (around w j))).world) core
           (λ full. stands-put w n line j (low_character (word_below j.regs.ac (core_of w.cores n) e)) first taken x b at off core moved endless full))
-      | inr three ↦ subst (λ a. Advanced w n line first taken (printed x j.regs x.core (text_of a j.regs x.core e)) (ended w n (row_of (service_of Ttcall a e) time n a e (around w j))).world) (sym three)
-          (subst (λ l. Advanced w n line first taken (printed x j.regs x.core (text_from j.regs.ac l e [] OUTPUT_RING)) (ended w n (row_of Outstr time n 3 e (around w j))).world) core
+      | inr three ↦
+          subst
+          (λ a. Advanced w n line first taken (printed x j.regs x.core (text_of a j.regs x.core e))
+          (ended w n (row_of (service_of Ttcall a e) time n a e (around w j))).world) (sym three)
+          (subst
+          (λ l. Advanced w n line first taken (printed x j.regs x.core (text_from j.regs.ac l e [] OUTPUT_RING))
+          (ended w n (row_of Outstr time n 3 e (around w j))).world) core
           (λ full. stands-put w n line j (text_from j.regs.ac (core_of w.cores n) e [] OUTPUT_RING) first taken x b at off core moved endless full))
     ])
 
@@ -199,8 +214,11 @@ advanced w time n line j core (outcome.Call kind ac e) first taken x b at off en
     let is = performed-is w time n t kind ac e b.low in
     let stored : core_of (with_turn w n t).cores n ≡ x.core = get_or-set_same w.cores.cores n core [] b.house ∙ ends.3 in
     subst (λ (p : Performed). Stands p.world n line first taken (printed x j.regs core (text_of ac j.regs core e))) (sym is)
-    (subst (λ l. Stands (ended (with_turn w n t) n (row_of (service_of kind ac e) time n ac e (around (with_turn w n t) j))).world n line first taken (printed x j.regs l (text_of ac j.regs l e))) (sym ends.3)
-    (advanced-row (with_turn w n t) time n line j kind ac e first taken x (before-turn w n line t core first taken x refl b) at off stored ends.2 endless allowed
+    (subst
+    (λ l. Stands (ended (with_turn w n t) n (row_of (service_of kind ac e) time n ac e (around (with_turn w n t) j))).world n
+    line first taken (printed x j.regs l (text_of ac j.regs l e))) (sym ends.3)
+    (advanced-row (with_turn w n t) time n line j kind ac e first taken x (before-turn w n line t core first taken x refl b)
+    at off stored ends.2 endless allowed
     (subst (λ (p : Performed). is_empty p.world n ≡ false) is full)))
 
 -- an empty step leaves the job as it was
@@ -211,7 +229,10 @@ emptied-left ending.Done w n line a first taken x low stands waits = stands (sym
 emptied-left ending.Empty w n line a first taken x low stands waits = stands (sym (ap is_for_terminal (wait-set w n a.job low)) ∙ waits)
 emptied-left ending.Gone w n line a first taken x low stands waits =
     let low2 : n < length (slice_set w.table.jobs n (Some a.job)) = grind (arith, common_steps, low) in
-    absurd (both_ways false refl (sym (ap (λ o. is_for_terminal (wait_of o)) (get_or-set_same (slice_set w.table.jobs n (Some a.job)) n None None low2)) ∙ waits))
+    absurd
+    (both_ways false refl
+    (sym (ap (λ o. is_for_terminal (wait_of o)) (get_or-set_same (slice_set w.table.jobs n (Some a.job)) n None None low2))
+    ∙ waits))
 
 terminal-endless : (v : Wait) → is_for_terminal v ≡ true → limit_of v ≡ 0
 terminal-endless (Queue limit ac) e = absurd (both_ways false refl e)

@@ -100,7 +100,10 @@ queued-started size jobs requests n j there q = record {
   safe = (safety_is_kept size).by_withdrawals requests (is_one n) q.safe;
   live = λ k h. there-set jobs n k j there ∙ q.live k ((jobs_are_kept size).by_withdrawals requests (is_one n) k h);
   waiting = λ k h. elim (cases_eq k n) [
-    | inl same ↦ absurd (both_ways (is_waiting_job (withdrawn requests n) n) (withdrawing_ends_waits requests (is_one n) n (eq-eqb n n refl)) (subst (λ m. is_waiting_job (withdrawn requests n) m ≡ true) same h))
+    | inl same ↦
+        absurd
+        (both_ways (is_waiting_job (withdrawn requests n) n) (withdrawing_ends_waits requests (is_one n) n (eq-eqb n n refl))
+        (subst (λ m. is_waiting_job (withdrawn requests n) m ≡ true) same h))
     | inr other ↦ ap is_queue (wait-other jobs n k (Some j) other) ∙ q.waiting k ((waiting_is_kept size).by_withdrawals requests (is_one n) k h)
   ];
   latest = (latest_is_kept size).by_withdrawals requests (is_one n) q.latest;
@@ -133,7 +136,9 @@ queued-new size jobs requests n j none q = record {
     not-new : (k : ℕ) → is_some (job_at jobs k) ≡ true → k ≢ n
     not-new k there is = both_ways (is_some (job_at jobs k)) (ap (λ m. is_some (job_at jobs m)) is ∙ ap is_some none) there
 
-pub queued-mapped : (size : ℕ) (f : Option Job → Option Job) (jobs : List (Option Job)) (requests : List Request) → Mild f → Queued size jobs requests → Queued size (map f jobs) requests
+pub queued-mapped : (size : ℕ) (f : Option Job → Option Job) (jobs : List (Option Job)) (requests : List Request) → Mild f
+    → Queued size jobs requests
+    → Queued size (map f jobs) requests
 queued-mapped size f jobs requests m q = record {
   safe = q.safe;
   live = λ k h. ap is_some (at-mapped f jobs k m.none) ∙ m.some (job_at jobs k) ∙ q.live k h;
@@ -142,7 +147,8 @@ queued-mapped size f jobs requests m q = record {
 }
 
 -- a tick of the limits: a job whose limit does not end goes on waiting
-wait-limited : (b : Bool) (o : Option Job) → is_queue (wait_of o) ≡ true → (b && is_last_tick o) ≡ false → is_queue (wait_of (option_map (limited_job b) o)) ≡ true
+wait-limited : (b : Bool) (o : Option Job) → is_queue (wait_of o) ≡ true → (b && is_last_tick o) ≡ false
+    → is_queue (wait_of (option_map (limited_job b) o)) ≡ true
 wait-limited b None waits more = waits
 wait-limited b (Some j) waits more = queue-limited b j waits more
 
@@ -161,6 +167,7 @@ queued-limited size t requests q =
       safe = (safety_is_kept size).by_withdrawals requests gone q.safe;
       live = λ k h. there-limited t requests k ∙ q.live k ((jobs_are_kept size).by_withdrawals requests gone k h);
       waiting = λ k h. ap (λ (o : Option Job). is_queue (wait_of o)) (job-limited t requests k)
-          ∙ wait-limited (is_waiting_job requests k) (job_at t.jobs k) (q.waiting k ((waiting_is_kept size).by_withdrawals requests gone k h)) (goes-on-waiting t.jobs requests k h);
+          ∙ wait-limited (is_waiting_job requests k) (job_at t.jobs k)
+          (q.waiting k ((waiting_is_kept size).by_withdrawals requests gone k h)) (goes-on-waiting t.jobs requests k h);
       latest = (latest_is_kept size).by_withdrawals requests gone q.latest;
     }

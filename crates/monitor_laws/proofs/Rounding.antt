@@ -25,7 +25,8 @@ runs-cons : (a : Answer) (more : List Answer) → runs_in (a ∷ more) ≡ one_i
 runs-cons a more = sum_by-cons (λ x. one_if (has_run x)) a more
 
 runs-rounds : (k : ℕ) (ticking : Bool) (s : S)
-    → runs_in (answers (rounds (suc k) ticking) s) ≡ one_if (has_run (happens s Step).answer) + runs_in (answers (rounds k ticking) (after (rounds 1 ticking) s))
+    → runs_in (answers (rounds (suc k) ticking) s)
+    ≡ one_if (has_run (happens s Step).answer) + runs_in (answers (rounds k ticking) (after (rounds 1 ticking) s))
 runs-rounds k true s =
     let t : S = after (rounds 1 true) s in
     runs-cons (happens s Step).answer (Done ∷ answers (rounds k true) t)
@@ -44,8 +45,10 @@ runs-more_rounds k ticking s n ran =
 -- so many rounds, and then the others
 rounds-parted : (a b : ℕ) (ticking : Bool) (s : S) → after (rounds (a + b) ticking) s ≡ after (rounds b ticking) (after (rounds a ticking) s)
 rounds-parted zero b ticking s = ap (λ (i : ℕ). after (rounds i ticking) s) (zero-add b)
-rounds-parted (suc a) b true s = let e : suc a + b ≡ suc (a + b) = omega arith in ap (λ (i : ℕ). after (rounds i true) s) e ∙ rounds-parted a b true (after (rounds 1 true) s)
-rounds-parted (suc a) b false s = let e : suc a + b ≡ suc (a + b) = omega arith in ap (λ (i : ℕ). after (rounds i false) s) e ∙ rounds-parted a b false (after (rounds 1 false) s)
+rounds-parted (suc a) b true s = let e : suc a + b ≡ suc (a + b) = omega arith in
+    ap (λ (i : ℕ). after (rounds i true) s) e ∙ rounds-parted a b true (after (rounds 1 true) s)
+rounds-parted (suc a) b false s = let e : suc a + b ≡ suc (a + b) = omega arith in
+    ap (λ (i : ℕ). after (rounds i false) s) e ∙ rounds-parted a b false (after (rounds 1 false) s)
 
 runs-parted : (a b : ℕ) (ticking : Bool) (s : S)
     → runs_in (answers (rounds (a + b) ticking) s) ≡ runs_in (answers (rounds a ticking) s) + runs_in (answers (rounds b ticking) (after (rounds a ticking) s))
@@ -56,7 +59,8 @@ runs-parted (suc a) b ticking s =
     ap (λ (i : ℕ). runs_in (answers (rounds i ticking) s)) e
     ∙ runs-rounds (a + b) ticking s
     ∙ ap (λ (n : ℕ). one_if (has_run (happens s Step).answer) + n) (runs-parted a b ticking t)
-    ∙ grouped (one_if (has_run (happens s Step).answer)) (runs_in (answers (rounds a ticking) t)) (runs_in (answers (rounds b ticking) (after (rounds a ticking) t)))
+    ∙ grouped (one_if (has_run (happens s Step).answer)) (runs_in (answers (rounds a ticking) t))
+    (runs_in (answers (rounds b ticking) (after (rounds a ticking) t)))
     ∙ ap (λ (n : ℕ). n + runs_in (answers (rounds b ticking) (after (rounds a ticking) t))) (sym (runs-rounds a ticking s))
     ∙ ap (λ (u : S). runs_in (answers (rounds (suc a) ticking) s) + runs_in (answers (rounds b ticking) u)) (sym (rounds-first a ticking s))
   where
@@ -64,12 +68,14 @@ runs-parted (suc a) b ticking s =
     grouped x y z = omega arith
 
 -- rounds that are made of those that are left
-pub rounds-left : (left made : ℕ) (ticking : Bool) (s t : S) → made ≤ left → t ≡ after (rounds made ticking) s → after (rounds (left - made) ticking) t ≡ after (rounds left ticking) s
+pub rounds-left : (left made : ℕ) (ticking : Bool) (s t : S) → made ≤ left → t ≡ after (rounds made ticking) s
+    → after (rounds (left - made) ticking) t ≡ after (rounds left ticking) s
 rounds-left left made ticking s t few is =
     let e : made + (left - made) ≡ left = omega arith in
     ap (λ (u : S). after (rounds (left - made) ticking) u) is ∙ sym (rounds-parted made (left - made) ticking s) ∙ ap (λ (i : ℕ). after (rounds i ticking) s) e
 
-pub runs-left : (left made ran : ℕ) (ticking : Bool) (s t : S) → made ≤ left → t ≡ after (rounds made ticking) s → ran ≡ runs_in (answers (rounds made ticking) s)
+pub runs-left : (left made ran : ℕ) (ticking : Bool) (s t : S) → made ≤ left → t ≡ after (rounds made ticking) s
+    → ran ≡ runs_in (answers (rounds made ticking) s)
     → ran + runs_in (answers (rounds (left - made) ticking) t) ≡ runs_in (answers (rounds left ticking) s)
 runs-left left made ran ticking s t few is count =
     let e : made + (left - made) ≡ left = omega arith in

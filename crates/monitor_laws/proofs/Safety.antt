@@ -78,7 +78,9 @@ record Fine (size : ℕ) (jobs : List (Option Job)) (n : ℕ) (j : Job) (cores :
   housed : Housed (slice_set jobs n (Some j)) cores
   queued : Queued size (slice_set jobs n (Some j)) requests
 
-fine-job : (size : ℕ) (jobs : List (Option Job)) (n : ℕ) (j : Job) (cores : Cores) (requests : List Request) → Free size jobs n cores requests → Fine size jobs n j cores requests
+fine-job : (size : ℕ) (jobs : List (Option Job)) (n : ℕ) (j : Job) (cores : Cores) (requests : List Request)
+    → Free size jobs n cores requests
+    → Fine size jobs n j cores requests
 fine-job size jobs n j cores requests f = record {
   housed = housed-job jobs cores n j f.there f.housed;
   queued = queued-job size jobs requests n j f.there f.free f.queued;
@@ -117,7 +119,9 @@ housed-grown jobs cores n (Some blocks) new there some h =
     subst (λ c. Housed jobs c) same (housed-highest jobs _ n blocks there (housed-resized jobs cores n blocks there (some blocks refl) room h)))
     (λ _ e. cc)
 
-fine-grown : (size : ℕ) (jobs : List (Option Job)) (n ac : ℕ) (j : Job) (cores : Cores) (requests : List Request) (o : Option Cores) → Free size jobs n cores requests
+fine-grown : (size : ℕ) (jobs : List (Option Job)) (n ac : ℕ) (j : Job) (cores : Cores) (requests : List Request)
+    (o : Option Cores)
+    → Free size jobs n cores requests
     → ((new : Cores) → o ≡ Some new → Housed jobs new)
     → Fine size jobs n (core_done ac o j cores).job (core_done ac o j cores).cores requests
 fine-grown size jobs n ac j cores requests None f h = fine-job size jobs n _ cores requests f
@@ -166,7 +170,8 @@ fine-row Enqc jobs time n ac e a f = fine-enqc a.size jobs a.jobs n ac a.job a.c
 fine-row Datrd jobs time n ac e a f = fine-job a.size jobs n _ a.cores a.requests f
 fine-row Datwr jobs time n ac e a f = fine-job a.size jobs n _ a.cores a.requests f
 fine-row (Input unit skips) jobs time n ac e a f =
-    fine-core a.size jobs n _ a.cores a.requests (input_called unit skips e (core_of a.cores n) a.job a.lines).core (length-input unit skips e (core_of a.cores n) a.job a.lines) f
+    fine-core a.size jobs n _ a.cores a.requests (input_called unit skips e (core_of a.cores n) a.job a.lines).core
+    (length-input unit skips e (core_of a.cores n) a.job a.lines) f
 fine-row Outchr jobs time n ac e a f = fine-job a.size jobs n _ a.cores a.requests f
 fine-row Outstr jobs time n ac e a f = fine-job a.size jobs n _ a.cores a.requests f
 fine-row Clrbfi jobs time n ac e a f = fine-job a.size jobs n _ a.cores a.requests f
@@ -183,13 +188,22 @@ turned-concluded : (size : ℕ) (jobs : List (Option Job)) (n : ℕ) (j : Job) (
     → length words ≡ length (core_of cores n) → Free size jobs n cores requests
     → Turned size jobs n (concluded j (with_core cores n words) requests o)
 turned-concluded size jobs n j cores requests words outcome.Done same f = record { fine = fine-core size jobs n _ cores requests words same f; free = f.free }
-turned-concluded size jobs n j cores requests words (outcome.Stop reason) same f = record { fine = fine-core size jobs n _ cores requests words same f; free = f.free }
-turned-concluded size jobs n j cores requests words (outcome.Call kind ac e) same f = record { fine = fine-core size jobs n _ cores requests words same f; free = f.free }
+turned-concluded size jobs n j cores requests words (outcome.Stop reason) same f = record {
+  fine = fine-core size jobs n _ cores requests words same f;
+  free = f.free;
+}
+turned-concluded size jobs n j cores requests words (outcome.Call kind ac e) same f = record {
+  fine = fine-core size jobs n _ cores requests words same f;
+  free = f.free;
+}
 
-turned-delivered : (size : ℕ) (jobs : List (Option Job)) (n : ℕ) (j : Job) (cores : Cores) (requests : List Request) (vector id : ℕ) → Free size jobs n cores requests
+turned-delivered : (size : ℕ) (jobs : List (Option Job)) (n : ℕ) (j : Job) (cores : Cores) (requests : List Request)
+    (vector id : ℕ)
+    → Free size jobs n cores requests
     → Turned size jobs n (delivered n j cores requests vector id)
 turned-delivered size jobs n j cores requests vector id f =
-    by_test (Turned size jobs n) (are_legal (core_of cores n) vector 4) (told_at n cores requests (interrupted_at j (core_of cores n) vector id)) (done (stopped j IllegalAddress) cores requests)
+    by_test (Turned size jobs n) (are_legal (core_of cores n) vector 4)
+    (told_at n cores requests (interrupted_at j (core_of cores n) vector id)) (done (stopped j IllegalAddress) cores requests)
     (λ _. record {
       fine = record {
         housed = housed-job jobs _ n _ f.there (housed-core jobs cores n _ f.there (length-noted j.regs (core_of cores n) vector id) f.housed);
@@ -199,7 +213,9 @@ turned-delivered size jobs n j cores requests vector id f =
     })
     (λ _. record { fine = fine-job size jobs n (stopped j IllegalAddress) cores requests f; free = f.free })
 
-turned-turned : (size : ℕ) (jobs : List (Option Job)) (n : ℕ) (j : Job) (cores : Cores) (requests : List Request) (o : Option (ℕ × ℕ)) → Free size jobs n cores requests
+turned-turned : (size : ℕ) (jobs : List (Option Job)) (n : ℕ) (j : Job) (cores : Cores) (requests : List Request)
+    (o : Option (ℕ × ℕ))
+    → Free size jobs n cores requests
     → Turned size jobs n (turned n j cores requests o)
 turned-turned size jobs n j cores requests (Some x) f = turned-delivered size jobs n j cores requests x.0 x.1 f
 turned-turned size jobs n j cores requests None f =
@@ -248,10 +264,12 @@ sound-ran : (w : World) (time n : ℕ) (o : Option Job) → Free w.size w.table.
 sound-ran w time n None f = record { housed = f.housed; queued = f.queued }
 sound-ran w time n (Some j) f =
     let t : Turn = turn_of n (awake j) w.cores w.requests in
-    sound-called (with_turn w n t) time n t.call (free-turn w n t f.there (turned-turned w.size w.table.jobs n (awake j) w.cores w.requests (due j.interrupts _) f))
+    sound-called (with_turn w n t) time n t.call
+    (free-turn w n t f.there (turned-turned w.size w.table.jobs n (awake j) w.cores w.requests (due j.interrupts _) f))
 
 -- lines and all words
-kept-performed : (w : World) (time n : ℕ) (o : Option Job) (service : Service) (ac e : ℕ) → job_at w.table.jobs n ≡ o → Free w.size w.table.jobs n w.cores w.requests
+kept-performed : (w : World) (time n : ℕ) (o : Option Job) (service : Service) (ac e : ℕ) → job_at w.table.jobs n ≡ o
+    → Free w.size w.table.jobs n w.cores w.requests
     → Kept w (performed_by w time n o service ac e).world
 kept-performed w time n None service ac e is f = kept-refl w
 kept-performed w time n (Some j) service ac e is f =
@@ -271,7 +289,12 @@ kept-ran w time n (Some j) is f =
     let g = free-turn w n t f.there (turned-turned w.size w.table.jobs n (awake j) w.cores w.requests (due j.interrupts _) f) in
     let before = kept-turned w n j is f.there f.housed in
     let later = kept-called (with_turn w n t) time n t.call g in
-    record { lines = λ k line e. before.lines k line (later.lines k line e); words = later.words ∙ before.words; rings = later.rings ∙ before.rings; placed = λ p. later.placed (before.placed p) }
+    record {
+      lines = λ k line e. before.lines k line (later.lines k line e);
+      words = later.words ∙ before.words;
+      rings = later.rings ∙ before.rings;
+      placed = λ p. later.placed (before.placed p);
+    }
 
 -- the job that runs is ready
 ready-first : (test : ℕ → Bool) (k n m : ℕ) → first_from test k n ≡ Some m → test m ≡ true
@@ -404,7 +427,16 @@ safe-broken s line h =
 
 -- lines alone
 safe-lines : (s : S) (lines : List Rings) → length lines ≡ length s.world.lines → Safe s → Safe (record s { world = record s.world { lines = lines } })
-safe-lines s lines same h = record { housed = h.housed; queued = h.queued; apart = h.apart; total = h.total; most = h.most; rings = same ∙ h.rings; numbers = h.numbers; placed = h.placed }
+safe-lines s lines same h = record {
+  housed = h.housed;
+  queued = h.queued;
+  apart = h.apart;
+  total = h.total;
+  most = h.most;
+  rings = same ∙ h.rings;
+  numbers = h.numbers;
+  placed = h.placed;
+}
 
 safe-typed : (s : S) (line c : ℕ) → Safe s → Safe (typed s line c).state
 safe-typed s line c h =
@@ -447,7 +479,11 @@ safe-started : (s : S) (n : ℕ) → Safe s → Safe (started s n).state
 safe-started s n h =
     safe-made_if s _ (standing (job_at s.world.table.jobs n)) h (λ ok.
     let p = standing-there (job_at s.world.table.jobs n) ok in
-    subst (λ o. Safe (made s (record s.world { table = with_job s.world.table n (option_map started_job o); requests = withdrawn s.world.requests n })).state) (sym p.1)
+    subst
+    (λ o. Safe
+    (made s
+    (record s.world { table = with_job s.world.table n (option_map started_job o); requests = withdrawn s.world.requests n })).state)
+    (sym p.1)
     (safe-set s n p.0 (started_job p.0) (withdrawn s.world.requests n) h p.1 refl (start-fits p.0 (subst Placed p.1 (h.placed n)))
     (queued-started s.world.size s.world.table.jobs s.world.requests n (started_job p.0) (ap is_some p.1) h.queued)))
 
@@ -501,24 +537,36 @@ pc-loaded : (p : Places) (ws : List (ℕ × ℕ)) → (loaded p ws).regs.pc ≡ 
 pc-loaded p [] = refl
 pc-loaded p (w ∷ ws) = pc-loaded (stored_at p w.0 w.1) ws
 
-safe-image : (s : S) (n line : ℕ) (ws : List (ℕ × ℕ)) (start blocks : ℕ) → start < 2 ^ 18 → 1 ≤ blocks → blocks ≤ s.world.cores.free → IsFree s.world.table.jobs n
+safe-image : (s : S) (n line : ℕ) (ws : List (ℕ × ℕ)) (start blocks : ℕ) → start < 2 ^ 18 → 1 ≤ blocks
+    → blocks ≤ s.world.cores.free
+    → IsFree s.world.table.jobs n
     → line < LINES → list_any (is_at line) s.world.table.jobs ≡ false → Safe s
     → Safe (record s { world = with_image s.world n line ws start blocks })
 safe-image s n line ws start blocks low some room free fits none h =
     let number : IsJob n = (free.least, omega (arith, h.housed.places, free.below)) in
     let p : Places = image_places ws start blocks in
     record {
-      housed = housed-taken s.world.table.jobs s.world.cores n blocks (new_job line p.regs start (first_quota s.world.size)) p.core number free.none some room (length-image ws start blocks) h.housed;
+      housed =
+          housed-taken s.world.table.jobs s.world.cores n blocks (new_job line p.regs start (first_quota s.world.size)) p.core
+          number free.none some room (length-image ws start blocks) h.housed;
       queued = queued-new s.world.size s.world.table.jobs s.world.requests n (new_job line p.regs start (first_quota s.world.size)) free.none h.queued;
-      apart = apart-new s.world.table.jobs n (new_job line p.regs start (first_quota s.world.size)) free.below (λ k e. free-line s.world.table.jobs line k none e) h.apart;
+      apart =
+          apart-new s.world.table.jobs n (new_job line p.regs start (first_quota s.world.size)) free.below
+          (λ k e. free-line s.world.table.jobs line k none e) h.apart;
       total = words-taken s.world.cores n blocks p.core number room h.housed.store (h.housed.bare n free.none) (length-image ws start blocks) ∙ h.total;
       most = h.most;
       rings = h.rings;
       numbers = below-new s.world.table.jobs n (new_job line p.regs start (first_quota s.world.size)) free.below fits h.numbers;
-      placed = placed-set s.world.table.jobs n (Some (new_job line p.regs start (first_quota s.world.size))) (subst (λ pc. pc < 2 ^ 18) (sym (pc-loaded (record { regs = fresh_regs start; core = replicate (blocks * BLOCK_WORDS) 0 }) ws)) low, low) h.placed;
+      placed =
+          placed-set s.world.table.jobs n (Some (new_job line p.regs start (first_quota s.world.size))) (
+            subst (λ pc. pc < 2 ^ 18)
+                (sym (pc-loaded (record { regs = fresh_regs start; core = replicate (blocks * BLOCK_WORDS) 0 }) ws)) low,
+            low,
+          ) h.placed;
     }
 
-safe-admitted : (s : S) (line : ℕ) (ws : List (ℕ × ℕ)) (start blocks : ℕ) (o : Option ℕ) → start < 2 ^ 18 → 1 ≤ blocks → ((n : ℕ) → o ≡ Some n → IsFree s.world.table.jobs n)
+safe-admitted : (s : S) (line : ℕ) (ws : List (ℕ × ℕ)) (start blocks : ℕ) (o : Option ℕ) → start < 2 ^ 18 → 1 ≤ blocks
+    → ((n : ℕ) → o ≡ Some n → IsFree s.world.table.jobs n)
     → line < LINES → list_any (is_at line) s.world.table.jobs ≡ false → Safe s → Safe (admitted s line ws start blocks o).state
 safe-admitted s line ws start blocks None low some free fits none h = h
 safe-admitted s line ws start blocks (Some n) low some free fits none h =
@@ -534,7 +582,8 @@ safe-examined : (s : S) (line : ℕ) (ws : List (ℕ × ℕ)) (start : ℕ) (o :
     → line < LINES → list_any (is_at line) s.world.table.jobs ≡ false → Safe s → Safe (examined s line ws start o).state
 safe-examined s line ws start None is fits none h = h
 safe-examined s line ws start (Some top) is fits none h =
-    safe-admitted s line ws start (blocks_for top) (free_number s.world.table.jobs) (start-below ws start top is) (omega arith) (free-number s.world.table.jobs) fits none h
+    safe-admitted s line ws start (blocks_for top) (free_number s.world.table.jobs) (start-below ws start top is) (omega arith)
+    (free-number s.world.table.jobs) fits none h
 
 safe-logged_in : (s : S) (line : ℕ) (ws : List (ℕ × ℕ)) (start : ℕ) → Safe s → Safe (logged_in s line ws start).state
 safe-logged_in s line ws start h =
@@ -563,7 +612,12 @@ sum-replicate zero = refl
 sum-replicate (suc k) = sum-replicate k
 
 safe-empty : (size blocks : ℕ) (shared : List ℕ) (time quantum : ℕ) → blocks ≤ MOST_BLOCKS
-    → Safe (record { world = record { size = size; table = no_jobs; lines = all_clear; requests = []; cores = all_free blocks; shared = shared }; time = time; quantum = quantum; blocks = blocks })
+    → Safe (record {
+      world = record { size = size; table = no_jobs; lines = all_clear; requests = []; cores = all_free blocks; shared = shared };
+      time = time;
+      quantum = quantum;
+      blocks = blocks;
+    })
 safe-empty size blocks shared time quantum few =
     let none = sum-replicate (JOBS + 1) in
     record {

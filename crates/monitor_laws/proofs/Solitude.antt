@@ -65,7 +65,9 @@ moves-stepped : (s : S) (o : Option ℕ) (n line : ℕ) (first taken : List ℕ)
 moves-stepped s None n line first taken x h small a r = cc
 moves-stepped s (Some m) n line first taken x h small a r =
     let is : m ≡ n = eqb-true m n r in
-    subst (λ k. Moves n line first taken x (ran (record s.world { table = chosen s.world.table k s.quantum }) s.time k (job_at s.world.table.jobs k))) (sym is) (
+    subst
+    (λ k. Moves n line first taken x
+    (ran (record s.world { table = chosen s.world.table k s.quantum }) s.time k (job_at s.world.table.jobs k))) (sym is) (
     let w : World = record s.world { table = chosen s.world.table n s.quantum } in
     let jobs = jobs-chosen s.world.table n s.quantum in
     let there : is_some (job_at s.world.table.jobs n) ≡ true = ap is_some a.there in
@@ -115,9 +117,12 @@ Later s es n line first =
 abbrev Reaches : S → Event → List Event → ℕ → ℕ → List ℕ → List ℕ → Solo → ℕ → Type 0
 Reaches s e es n line first taken x k =
     OnlyPrints x k
-    → Stands (after es (happens s e).state).world n line first (taken ++ (taken_by line e (happens s e).answer ++ taken_from line (happens s e).state es)) (solo x k)
+    → Stands (after es (happens s e).state).world n line first
+    (taken ++ (taken_by line e (happens s e).answer ++ taken_from line (happens s e).state es)) (solo x k)
 
-runs-on : (s : S) (e : Event) (es : List Event) (n line : ℕ) (first taken : List ℕ) (x : Solo) → Safe s → Stands s.world n line first taken x → spares n e ≡ true
+runs-on : (s : S) (e : Event) (es : List Event) (n line : ℕ) (first taken : List ℕ) (x : Solo) → Safe s
+    → Stands s.world n line first taken x
+    → spares n e ≡ true
     → Later (happens s e).state es n line first
     → (ran : Bool) → is_ran n (happens s e).answer ≡ ran → (empty : Bool) → is_empty (happens s e).state.world n ≡ empty
     → Reaches s e es n line first taken x (steps_of n s (e ∷ es))
@@ -144,8 +149,11 @@ runs-on s e es n line first taken x h a spared later true ran false is =
     let count : advances n m ≡ true = rw (ran, is) refl in
     let step = moves s e n line first taken x h (small-pc s n line first taken x h a) a ran in
     let P : Bool → Type 0 = λ b. Reaches s e es n line first taken x (cond b (suc rest) rest) in
-    let goal : P true = λ q. taken-on (after es m.state).world n line first taken (taken_by line e m.answer) (taken_from line m.state es) (solo (solo_step x) rest)
-    (later (taken ++ taken_by line e m.answer) (solo_step x) (taken-none m.state.world n line first taken (taken_by line e m.answer) (solo_step x) step.1 (step.0.full is q.0)) q.1) in
+    let goal : P true =
+    λ q. taken-on (after es m.state).world n line first taken (taken_by line e m.answer) (taken_from line m.state es)
+    (solo (solo_step x) rest)
+    (later (taken ++ taken_by line e m.answer) (solo_step x)
+    (taken-none m.state.world n line first taken (taken_by line e m.answer) (solo_step x) step.1 (step.0.full is q.0)) q.1) in
     subst P (sym count) goal
 
 runs : (s : S) (es : List Event) (n line : ℕ) (first taken : List ℕ) (x : Solo) → Safe s → Stands s.world n line first taken x → Spares n es
@@ -160,5 +168,14 @@ runs s (e ∷ es) n line first taken x h a spared prints =
 pub runs_alone : (s : S) (es : List Event) → Safe s → RunsAlone s es
 runs_alone s es h n j there off endless spared prints =
     let a = runs s es n j.line (output_of s.world.lines j.line) [] (solo_of s.world n j) h
-    (record { job = j; there = there; at = refl; off = off; endless = endless; regs = refl; core = refl; output = append-none (output_of s.world.lines j.line) }) spared prints in
+    (record {
+      job = j;
+      there = there;
+      at = refl;
+      off = off;
+      endless = endless;
+      regs = refl;
+      core = refl;
+      output = append-none (output_of s.world.lines j.line);
+    }) spared prints in
     record { job = a.job; there = a.there; regs = a.regs; core = a.core; output = a.output }

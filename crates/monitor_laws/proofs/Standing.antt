@@ -79,7 +79,8 @@ other-line : (w : World) (n m line : ℕ) → LinesApart w.table.jobs → line_o
 other-line w n m line apart at ne j is same = ne (apart n m line at (ap line_of is ∙ ap Some (sym same)))
 
 -- another job's step
-same-performed : (w : World) (time m n line : ℕ) (c : MonitorCall) (o : Option Job) → job_at w.table.jobs m ≡ o → n ≢ m → ((j : Job) → o ≡ Some j → line ≢ j.line)
+same-performed : (w : World) (time m n line : ℕ) (c : MonitorCall) (o : Option Job) → job_at w.table.jobs m ≡ o → n ≢ m
+    → ((j : Job) → o ≡ Some j → line ≢ j.line)
     → Same w (performed w time m c).world n line
 same-performed w time m n line c None is ne other =
     subst (λ (o : Option Job). Same w (performed_by w time m o (service_of c.kind c.ac c.e) c.ac c.e).world n line) (sym is) (same-world w n line)
@@ -196,7 +197,8 @@ kept-typed s l c n line first taken x within a =
     (λ _. kept-lines s.world _ n line first taken x (input-same s.world.lines line l _ within) a)))
 
 -- what is taken goes over from the ring
-over : (first output taken ring part rest now : List ℕ) → first ++ output ≡ taken ++ ring → part ++ rest ≡ ring → now ≡ rest → first ++ output ≡ (taken ++ part) ++ now
+over : (first output taken ring part rest now : List ℕ) → first ++ output ≡ taken ++ ring → part ++ rest ≡ ring → now ≡ rest
+    → first ++ output ≡ (taken ++ part) ++ now
 over first output taken ring part rest now all parts is = rw is (all ∙ ap (λ l. taken ++ l) (sym parts) ∙ sym (append_assoc taken part rest))
 
 take-drop : (k : ℕ) (l : List ℕ) → take k l ++ drop k l ≡ l
@@ -219,8 +221,12 @@ kept-here s k n line first taken_before x within a =
       endless = a.endless;
       regs = a.regs;
       core = a.core;
-      output = over first x.output taken_before (output_of s.world.lines line) (take (min k TAKEN_AT_ONCE) (output_of s.world.lines line)) (drop (min k TAKEN_AT_ONCE) (output_of s.world.lines line)) _
-          a.output (take-drop (min k TAKEN_AT_ONCE) (output_of s.world.lines line)) (ap (λ (r : Rings). r.output) (get_or-set_same s.world.lines line _ no_characters within));
+      output =
+          over first x.output taken_before (output_of s.world.lines line)
+          (take (min k TAKEN_AT_ONCE) (output_of s.world.lines line)) (drop (min k TAKEN_AT_ONCE) (output_of s.world.lines line))
+          _
+          a.output (take-drop (min k TAKEN_AT_ONCE) (output_of s.world.lines line))
+          (ap (λ (r : Rings). r.output) (get_or-set_same s.world.lines line _ no_characters within));
     }))
 
 kept-elsewhere : (s : S) (l k n line : ℕ) (first taken_before : List ℕ) (x : Solo) → line ≢ l → Stands s.world n line first taken_before x
@@ -279,7 +285,11 @@ kept-started : (s : S) (m n line : ℕ) (first taken : List ℕ) (x : Solo) → 
     → Stands (started s m).state.world n line first taken x
 kept-started s m n line first taken x ne a =
     kept-made_if s _ (standing (job_at s.world.table.jobs m)) n line first taken x a
-    (stands-same s.world _ n line first taken x (record { jobs = get_or-set_other s.world.table.jobs m n (option_map started_job (job_at s.world.table.jobs m)) None ne; core = refl; output = refl }) a)
+    (stands-same s.world _ n line first taken x (record {
+      jobs = get_or-set_other s.world.table.jobs m n (option_map started_job (job_at s.world.table.jobs m)) None ne;
+      core = refl;
+      output = refl;
+    }) a)
 
 -- a job that goes on is as it was but for its stop
 kept-going_on : (w : World) (m n line : ℕ) (first taken : List ℕ) (x : Solo) → Stands w n line first taken x
@@ -287,7 +297,9 @@ kept-going_on : (w : World) (m n line : ℕ) (first taken : List ℕ) (x : Solo)
 kept-going_on w m n line first taken x a = elim (cases_eq n m) [
   | inl same ↦ subst (λ k. Stands (record w { table = with_change w.table k going_on }) n line first taken x) same (record {
     job = going_on a.job;
-    there = get_or-set_same w.table.jobs n (option_map going_on (job_at w.table.jobs n)) None (there-below w.table.jobs n (ap is_some a.there)) ∙ ap (option_map going_on) a.there;
+    there =
+        get_or-set_same w.table.jobs n (option_map going_on (job_at w.table.jobs n)) None
+        (there-below w.table.jobs n (ap is_some a.there)) ∙ ap (option_map going_on) a.there;
     at = a.at;
     off = a.off;
     endless = a.endless;
@@ -295,7 +307,12 @@ kept-going_on w m n line first taken x a = elim (cases_eq n m) [
     core = a.core;
     output = a.output;
   })
-  | inr other ↦ stands-same w _ n line first taken x (record { jobs = get_or-set_other w.table.jobs m n (option_map going_on (job_at w.table.jobs m)) None other; core = refl; output = refl }) a
+  | inr other ↦
+      stands-same w _ n line first taken x (record {
+        jobs = get_or-set_other w.table.jobs m n (option_map going_on (job_at w.table.jobs m)) None other;
+        core = refl;
+        output = refl;
+      }) a
 ]
 
 kept-continued : (s : S) (m n line : ℕ) (first taken : List ℕ) (x : Solo) → Stands s.world n line first taken x
@@ -337,5 +354,7 @@ kept s (Start m) n line first taken x h a spared no_run =
 kept s (Continue m) n line first taken x h a spared no_run =
     nothing-taken _ n line first taken x (kept-continued s m n line first taken x a)
 kept s (Kill m) n line first taken x h a spared no_run =
-    nothing-taken _ n line first taken x (stands-same s.world _ n line first taken x (same-killed s m n line (job_at s.world.table.jobs m) (other-number m n spared)) a)
+    nothing-taken _ n line first taken x
+    (stands-same s.world _ n line first taken x
+    (same-killed s m n line (job_at s.world.table.jobs m) (other-number m n spared)) a)
 kept s Restart n line first taken x h a spared no_run = cc

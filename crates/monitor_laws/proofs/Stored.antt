@@ -31,7 +31,8 @@ pub length-input : (unit : Awaited) (skips : Bool) (e : ℕ) (core : List ℕ) (
     → length (input_called unit skips e core j lines).core ≡ length core
 length-input unit skips e core j lines =
     by_test (λ (o : JobInput). length o.core ≡ length core) (is_legal core e) _ _
-    (λ _. by_test (λ (o : JobInput). length o.core ≡ length core) (has_input unit (input_of lines j.line)) (stored_input skips e core j lines) (no_input unit skips core j lines)
+    (λ _. by_test (λ (o : JobInput). length o.core ≡ length core) (has_input unit (input_of lines j.line))
+    (stored_input skips e core j lines) (no_input unit skips core j lines)
     (λ _. length-core_with core e (first_of (input_of lines j.line)))
     (λ _. by_test (λ (o : JobInput). length o.core ≡ length core) skips _ _ (λ _. refl) (λ _. refl)))
     (λ _. refl)

@@ -56,7 +56,9 @@ ran-last a d = ap (λ (b : After). record { steps = 1; after = b }) (done-after 
 
 pub ran-one : (g : Regs) (core : List ℕ) → ran 1 g core ≡ record { steps = 1; after = exec g core }
 unfolding ran
-ran-one g core = by_test (λ (r : Ran). r ≡ record { steps = 1; after = exec g core }) (is_done (exec g core).outcome) _ _ (λ d. ran-last (exec g core) d) (λ _. refl)
+ran-one g core =
+    by_test (λ (r : Ran). r ≡ record { steps = 1; after = exec g core }) (is_done (exec g core).outcome) _ _
+    (λ d. ran-last (exec g core) d) (λ _. refl)
 
 ran-some : (k : ℕ) (g : Regs) (core : List ℕ) → 1 ≤ (ran (suc k) g core).steps
 unfolding ran
@@ -66,7 +68,8 @@ pub ran-most : (k : ℕ) (g : Regs) (core : List ℕ) → (ran k g core).steps �
 unfolding ran
 ran-most zero g core = omega arith
 ran-most (suc k) g core =
-    by_test (λ (r : Ran). r.steps ≤ suc k) (is_done (exec g core).outcome) _ _ (λ _. let h = ran-most k (exec g core).regs (exec g core).core in omega arith) (λ _. omega arith)
+    by_test (λ (r : Ran). r.steps ≤ suc k) (is_done (exec g core).outcome) _ _
+    (λ _. let h = ran-most k (exec g core).regs (exec g core).core in omega arith) (λ _. omega arith)
 
 pub ran-length : (k : ℕ) (g : Regs) (core : List ℕ) → length (ran k g core).after.core ≡ length core
 unfolding ran
@@ -96,12 +99,14 @@ ran-fields (suc k) g core =
 
 -- a turn of one round
 
-stretched-one : (n : ℕ) (j : Job) (cores : Cores) (requests : List Request) (o : Option (ℕ × ℕ)) → stretched n 1 j cores requests o ≡ record { turn = turned n j cores requests o; rounds = 1 }
+stretched-one : (n : ℕ) (j : Job) (cores : Cores) (requests : List Request) (o : Option (ℕ × ℕ))
+    → stretched n 1 j cores requests o ≡ record { turn = turned n j cores requests o; rounds = 1 }
 stretched-one n j cores requests (Some x) = refl
 stretched-one n j cores requests None =
     ap (λ (r : Ran). record { turn = executed n j cores requests r.after; rounds = r.steps }) (ran-one j.regs (core_of cores n))
 
-pub stretch-one : (n : ℕ) (j : Job) (cores : Cores) (requests : List Request) → stretch_of n 1 j cores requests ≡ record { turn = turn_of n j cores requests; rounds = 1 }
+pub stretch-one : (n : ℕ) (j : Job) (cores : Cores) (requests : List Request)
+    → stretch_of n 1 j cores requests ≡ record { turn = turn_of n j cores requests; rounds = 1 }
 stretch-one n j cores requests = stretched-one n j cores requests (due j.interrupts (pending requests n))
 
 pub table-none : (t : Table) (quantum : ℕ) (ticking : Bool) → table_after t quantum ticking 0 ≡ t
@@ -114,25 +119,34 @@ time-none time true = refl
 
 ended-none : (w : World) (time quantum n : ℕ) (ticking : Bool) (t : Turn) → ended w time quantum n ticking 0 t ≡ after_turn w time n t
 ended-none w time quantum n ticking t =
-    ap (λ (u : Table). called (record (with_turn w n t) { table = u }) (time_after time ticking 0) n t.call) (table-none (with_turn w n t).table quantum ticking)
+    ap (λ (u : Table). called (record (with_turn w n t) { table = u }) (time_after time ticking 0) n t.call)
+    (table-none (with_turn w n t).table quantum ticking)
     ∙ ap (λ (x : ℕ). called (with_turn w n t) x n t.call) (time-none time ticking)
 
 -- one round of a job is its step
-pub runs-one : (w : World) (time quantum n : ℕ) (ticking : Bool) (o : Option Job) → runs_on w time quantum n 1 ticking o ≡ record { world = ran_job w time n o; time = time; rounds = 1 }
+pub runs-one : (w : World) (time quantum n : ℕ) (ticking : Bool) (o : Option Job)
+    → runs_on w time quantum n 1 ticking o ≡ record { world = ran_job w time n o; time = time; rounds = 1 }
 runs-one w time quantum n ticking None = refl
 runs-one w time quantum n ticking (Some j) =
     let t = turn_of n (awake j) w.cores w.requests in
-    ap (λ (x : Stretch). record { world = ended w time quantum n ticking (x.rounds - 1) x.turn; time = time_after time ticking (x.rounds - 1); rounds = x.rounds }) (stretch-one n (awake j) w.cores w.requests)
+    ap
+    (λ (x : Stretch). record {
+      world = ended w time quantum n ticking (x.rounds - 1) x.turn;
+      time = time_after time ticking (x.rounds - 1);
+      rounds = x.rounds;
+    }) (stretch-one n (awake j) w.cores w.requests)
     ∙ ap (λ (v : World). record { world = v; time = time_after time ticking 0; rounds = 1 }) (ended-none w time quantum n ticking t)
     ∙ ap (λ (x : ℕ). record { world = after_turn w time n t; time = x; rounds = 1 }) (time-none time ticking)
 
 -- a stretch leaves a job its core, and what it waits for
-some-stretched : (n k : ℕ) (j : Job) (cores : Cores) (requests : List Request) (o : Option (ℕ × ℕ)) → core_of cores n ≢ [] → core_of (stretched n k j cores requests o).turn.cores n ≢ []
+some-stretched : (n k : ℕ) (j : Job) (cores : Cores) (requests : List Request) (o : Option (ℕ × ℕ)) → core_of cores n ≢ []
+    → core_of (stretched n k j cores requests o).turn.cores n ≢ []
 some-stretched n k j cores requests None some =
     some-concluded _ _ requests (ran k j.regs (core_of cores n)).after.outcome n (some-with_core cores n _ some (ran-length k j.regs (core_of cores n)))
 some-stretched n k j cores requests (Some x) some = some-turned n j cores requests (Some x) some
 
-pub some-stretch : (n k : ℕ) (j : Job) (cores : Cores) (requests : List Request) → core_of cores n ≢ [] → core_of (stretch_of n k j cores requests).turn.cores n ≢ []
+pub some-stretch : (n k : ℕ) (j : Job) (cores : Cores) (requests : List Request) → core_of cores n ≢ []
+    → core_of (stretch_of n k j cores requests).turn.cores n ≢ []
 some-stretch n k j cores requests some = some-stretched n k j cores requests (due j.interrupts (pending requests n)) some
 
 wait-stretched : (n k : ℕ) (j : Job) (cores : Cores) (requests : List Request) (o : Option (ℕ × ℕ)) → (stretched n k j cores requests o).turn.job.wait ≡ j.wait
@@ -172,7 +186,11 @@ between t quantum false i = t
 abbrev going : S → ℕ → Job → Bool → ℕ → Regs → List ℕ → S
 going s n j ticking i g core =
     record s {
-      world = record s.world { table = between (with_job s.world.table n (Some (record (awake j) { regs = g }))) s.quantum ticking i; cores = with_core s.world.cores n core };
+      world = record s.world {
+        table =
+            between (with_job s.world.table n (Some (record (awake j) { regs = g }))) s.quantum ticking i;
+        cores = with_core s.world.cores n core;
+      };
       time = time_after s.time ticking (suc i);
     }
 
@@ -210,13 +228,20 @@ with_regs j g = record (awake j) { regs = g }
 -- a state with these parts
 abbrev state_of : S → ℕ → List (Option Job) → ℕ → List ℕ → ℕ → S
 state_of s n jobs left core time =
-    record s { world = record s.world { table = record { jobs = jobs; current = s.world.table.current; left = left }; cores = with_core s.world.cores n core }; time = time }
+    record s {
+      world = record s.world {
+        table = record { jobs = jobs; current = s.world.table.current; left = left };
+        cores = with_core s.world.cores n core;
+      };
+      time = time;
+    }
 
 -- a tick of the limits where nobody sleeps and no limit runs
 quiet-limited : (w : World) → list_any is_sleeper w.table.jobs ≡ false → limited w ≡ w
 quiet-limited w none =
     ap (λ (t : Table). record w { table = t; requests = withdrawn_where w.requests (expires w.requests w.table.jobs) }) (table-awake w.table w.requests none)
-    ∙ ap (λ (l : List Request). record w { requests = l }) (withdrawn-none w.requests (expires w.requests w.table.jobs) (expires-awake w.requests w.table.jobs none))
+    ∙ ap (λ (l : List Request). record w { requests = l })
+    (withdrawn-none w.requests (expires w.requests w.table.jobs) (expires-awake w.requests w.table.jobs none))
 
 -- a tick after a step that is done
 tick-done : (s : S) (n : ℕ) (j : Job) (ticking : Bool) (i : ℕ) (g : Regs) (core : List ℕ) → (ticking ≡ true → list_any is_sleeper s.world.table.jobs ≡ false)
@@ -231,28 +256,43 @@ tick-done s n j true i g core awake =
     ∙ ap (λ (w : World). record s { world = w; time = time }) (quiet-limited (state_of s n jobs left core time).world none)
 
 -- a step whose job is known, and takes no interrupt
-step-known : (t : S) (n : ℕ) (j : Job) → next_job t.world.table t.world.lines t.world.requests ≡ Some n → job_at t.world.table.jobs n ≡ Some j → takes_interrupts j.interrupts ≡ false
+step-known : (t : S) (n : ℕ) (j : Job) → next_job t.world.table t.world.lines t.world.requests ≡ Some n
+    → job_at t.world.table.jobs n ≡ Some j
+    → takes_interrupts j.interrupts ≡ false
     → happens t Step
     ≡ record {
-      state = record t { world = after_turn (record t.world { table = chosen t.world.table n t.quantum }) t.time n (executed n (awake j) t.world.cores t.world.requests (exec j.regs (core_of t.world.cores n))) };
+      state = record t {
+        world =
+            after_turn (record t.world { table = chosen t.world.table n t.quantum }) t.time n
+            (executed n (awake j) t.world.cores t.world.requests (exec j.regs (core_of t.world.cores n)));
+      };
       answer = RanAnswer n;
     }
 step-known t n j next there closed =
     let w : World = record t.world { table = chosen t.world.table n t.quantum } in
     ap (λ o. stepped t o) next
     ∙ ap (λ (o : Option Job). record { state = record t { world = ran_job w t.time n o }; answer = RanAnswer n }) there
-    ∙ ap (λ (d : Option (ℕ × ℕ)). record { state = record t { world = after_turn w t.time n (turned n (awake j) t.world.cores t.world.requests d) }; answer = RanAnswer n })
+    ∙ ap
+    (λ (d : Option (ℕ × ℕ)). record {
+      state = record t { world = after_turn w t.time n (turned n (awake j) t.world.cores t.world.requests d) };
+      answer = RanAnswer n;
+    })
     (none-due j.interrupts (pending t.world.requests n) closed)
 
 -- the first step of the job
-poised-first : (s : S) (n : ℕ) (j : Job) (ticking : Bool) → next_job s.world.table s.world.lines s.world.requests ≡ Some n → job_at s.world.table.jobs n ≡ Some j → takes_interrupts j.interrupts ≡ false
+poised-first : (s : S) (n : ℕ) (j : Job) (ticking : Bool) → next_job s.world.table s.world.lines s.world.requests ≡ Some n
+    → job_at s.world.table.jobs n ≡ Some j
+    → takes_interrupts j.interrupts ≡ false
     → Poised (record s { world = record s.world { table = chosen s.world.table n s.quantum } }) n j ticking 0 j.regs (core_of s.world.cores n) s
 poised-first s n j ticking next there closed =
     let w : World = record s.world { table = chosen s.world.table n s.quantum } in
     let t = executed n (awake j) s.world.cores s.world.requests (exec j.regs (core_of s.world.cores n)) in
     record {
       step = step-known s n j next there closed
-          ∙ sym (ap (λ (v : World). record { state = record s { world = v; time = time_after s.time ticking 0 }; answer = RanAnswer n }) (ended-none w s.time s.quantum n ticking t)
+          ∙ sym
+          (ap
+          (λ (v : World). record { state = record s { world = v; time = time_after s.time ticking 0 }; answer = RanAnswer n })
+          (ended-none w s.time s.quantum n ticking t)
           ∙ ap (λ (x : ℕ). record { state = record s { world = after_turn w s.time n t; time = x }; answer = RanAnswer n }) (time-none s.time ticking));
     }
 
@@ -263,7 +303,9 @@ next-current t w n j is some there stop =
     let lasts : nat_lt 0 t.left ≡ true = lt-ltb 0 t.left some in
     let ready : is_ready t.jobs w.lines w.requests t.current ≡ true =
     ap (λ (m : ℕ). is_ready t.jobs w.lines w.requests m) is ∙ ap (λ (o : Option Job). is_ready_job w.lines w.requests n o) there ∙ ap (λ b. b && true) stop in
-    ap (λ b. cond (b && is_ready t.jobs w.lines w.requests t.current) (Some t.current) (first_from (is_ready t.jobs w.lines w.requests) JOBS (after_number t.current))) lasts
+    ap
+    (λ b. cond (b && is_ready t.jobs w.lines w.requests t.current) (Some t.current)
+    (first_from (is_ready t.jobs w.lines w.requests) JOBS (after_number t.current))) lasts
     ∙ ap (λ b. cond b (Some t.current) (first_from (is_ready t.jobs w.lines w.requests) JOBS (after_number t.current))) ready
     ∙ ap (λ (m : ℕ). Some m) is
 
@@ -284,14 +326,18 @@ chosen-again t n quantum is =
     by_left true = refl
     by_left false = ap (λ (m : ℕ). record t { current = m; left = quantum }) (sym is)
 
-chosen-between : (t : Table) (n quantum : ℕ) (ticking : Bool) (i : ℕ) → t.current ≡ n → 0 < t.left → chosen (between t quantum ticking i) n quantum ≡ table_after t quantum ticking (suc i)
+chosen-between : (t : Table) (n quantum : ℕ) (ticking : Bool) (i : ℕ) → t.current ≡ n → 0 < t.left
+    → chosen (between t quantum ticking i) n quantum ≡ table_after t quantum ticking (suc i)
 chosen-between t n quantum false i is some = chosen-current t n quantum is some
 chosen-between t n quantum true i is some = chosen-again (between t quantum true i) n quantum is
 
 -- the job that is found first after itself is next, whatever is left of its quantum
-next-only : (t : Table) (w : World) (n : ℕ) → t.current ≡ n → first_from (is_ready t.jobs w.lines w.requests) JOBS (after_number n) ≡ Some n → next_job t w.lines w.requests ≡ Some n
+next-only : (t : Table) (w : World) (n : ℕ) → t.current ≡ n
+    → first_from (is_ready t.jobs w.lines w.requests) JOBS (after_number n) ≡ Some n
+    → next_job t w.lines w.requests ≡ Some n
 next-only t w n is only =
-    by_test (λ o. o ≡ Some n) (nat_lt 0 t.left && is_ready t.jobs w.lines w.requests t.current) (Some t.current) (first_from (is_ready t.jobs w.lines w.requests) JOBS (after_number t.current))
+    by_test (λ o. o ≡ Some n) (nat_lt 0 t.left && is_ready t.jobs w.lines w.requests t.current) (Some t.current)
+    (first_from (is_ready t.jobs w.lines w.requests) JOBS (after_number t.current))
     (λ _. ap (λ (m : ℕ). Some m) is)
     (λ _. ap (λ (m : ℕ). first_from (is_ready t.jobs w.lines w.requests) JOBS (after_number m)) is ∙ only)
 
@@ -302,7 +348,8 @@ ready-going jobs w n k place ready stop m = elim (cases_eq m n) [
   | inl is ↦
       let there : is_ready (slice_set jobs n (Some (awake k))) w.lines w.requests n ≡ true =
       ap (λ (o : Option Job). is_ready_job w.lines w.requests n o) (get_or-set_same jobs n (Some (awake k)) None place) ∙ ap (λ b. b && true) stop in
-      ap (λ (i : ℕ). is_ready (slice_set jobs n (Some (awake k))) w.lines w.requests i) is ∙ there ∙ sym (ap (λ (i : ℕ). is_ready jobs w.lines w.requests i) is ∙ ready)
+      ap (λ (i : ℕ). is_ready (slice_set jobs n (Some (awake k))) w.lines w.requests i) is ∙ there
+      ∙ sym (ap (λ (i : ℕ). is_ready jobs w.lines w.requests i) is ∙ ready)
   | inr other ↦ ap (λ (o : Option Job). is_ready_job w.lines w.requests m o) (get_or-set_other jobs n m (Some (awake k)) None other)
 ]
 
@@ -326,18 +373,24 @@ ended-turn s n ticking i o core t =
     (table-twice s.world.table n o (Some t.job) s.quantum ticking i)
 
 ended-again : (s : S) (n : ℕ) (j : Job) (ticking : Bool) (i : ℕ) (o : Option Job) (core : List ℕ) (r : After)
-    → after_turn (record s.world { table = table_after (with_job s.world.table n o) s.quantum ticking i; cores = with_core s.world.cores n core }) (time_after s.time ticking i) n
+    → after_turn (record s.world {
+      table = table_after (with_job s.world.table n o) s.quantum ticking i;
+      cores = with_core s.world.cores n core;
+    }) (time_after s.time ticking i) n
     (executed n (awake j) (with_core s.world.cores n core) s.world.requests r)
     ≡ ended s.world s.time s.quantum n ticking i (executed n (awake j) s.world.cores s.world.requests r)
 ended-again s n j ticking i o core r =
-    ap (λ (cores : List (List ℕ)). after_turn (start_of s n ticking i o core) (time_after s.time ticking i) n (turn_in s j r.regs cores r.outcome)) (set-set s.world.cores.cores n core r.core)
+    ap
+    (λ (cores : List (List ℕ)). after_turn (start_of s n ticking i o core) (time_after s.time ticking i) n
+    (turn_in s j r.regs cores r.outcome)) (set-set s.world.cores.cores n core r.core)
     ∙ ended-turn s n ticking i o core (executed n (awake j) s.world.cores s.world.requests r)
 
 -- the job is next again, as its quantum lasts or no other is ready
 next-going : (s : S) (n : ℕ) (j : Job) (ticking alone : Bool) (most i : ℕ) (g : Regs) → Computes s n j ticking alone most → suc i < most
     → next_job (between (with_job s.world.table n (Some (with_regs j g))) s.quantum ticking i) s.world.lines s.world.requests ≡ Some n
 next-going s n j false alone most i g h more =
-    next-current (with_job s.world.table n (Some (with_regs j g))) s.world n (with_regs j g) h.current h.quantum (get_or-set_same s.world.table.jobs n (Some (with_regs j g)) None h.place) h.stop
+    next-current (with_job s.world.table n (Some (with_regs j g))) s.world n (with_regs j g) h.current h.quantum
+    (get_or-set_same s.world.table.jobs n (Some (with_regs j g)) None h.place) h.stop
 next-going s n j true true most i g h more =
     let k : Job = with_regs j g in
     let jobs = slice_set s.world.table.jobs n (Some k) in
@@ -349,7 +402,8 @@ next-going s n j true false most i g h more =
     let k : Job = with_regs j g in
     let lasts : most ≤ s.world.table.left = h.lasts refl refl in
     let left : left_after s.quantum s.world.table.left i ≡ s.world.table.left - i = left-before s.quantum s.world.table.left i (omega arith) in
-    next-current (between (with_job s.world.table n (Some k)) s.quantum true i) s.world n k h.current (omega (arith, left)) (get_or-set_same s.world.table.jobs n (Some k) None h.place) h.stop
+    next-current (between (with_job s.world.table n (Some k)) s.quantum true i) s.world n k h.current (omega (arith, left))
+    (get_or-set_same s.world.table.jobs n (Some k) None h.place) h.stop
 
 -- a later step of the job
 poised-going : (s : S) (n : ℕ) (j : Job) (ticking alone : Bool) (most i : ℕ) (g : Regs) (core : List ℕ) → Computes s n j ticking alone most → suc i < most
@@ -358,14 +412,32 @@ poised-going s n j ticking alone most i g core h more =
     let t : S = going s n j ticking i g core in
     let k : Job = record (awake j) { regs = g } in
     let base : Table = with_job s.world.table n (Some k) in
-    let there : job_at t.world.table.jobs n ≡ Some k = ap (λ (l : List (Option Job)). job_at l n) (jobs-between base ticking i) ∙ get_or-set_same s.world.table.jobs n (Some k) None h.place in
+    let there : job_at t.world.table.jobs n ≡ Some k =
+    ap (λ (l : List (Option Job)). job_at l n) (jobs-between base ticking i)
+    ∙ get_or-set_same s.world.table.jobs n (Some k) None h.place in
     let next : next_job t.world.table t.world.lines t.world.requests ≡ Some n = next-going s n j ticking alone most i g h more in
     let words : core_of t.world.cores n ≡ core = get_or-set_same s.world.cores.cores n core [] h.core in
     record {
       step = step-known t n k next there h.closed
-          ∙ ap (λ (u : Table). record { state = record t { world = after_turn (record t.world { table = u }) t.time n (executed n k t.world.cores t.world.requests (exec g (core_of t.world.cores n))) }; answer = RanAnswer n })
+          ∙ ap
+          (λ (u : Table). record {
+            state = record t {
+              world =
+                  after_turn (record t.world { table = u }) t.time n
+                  (executed n k t.world.cores t.world.requests (exec g (core_of t.world.cores n)));
+            };
+            answer = RanAnswer n;
+          })
           (chosen-between base n s.quantum ticking i h.current h.quantum)
-          ∙ ap (λ (c : List ℕ). record { state = record t { world = after_turn (start_of s n ticking (suc i) (Some k) core) t.time n (executed n k t.world.cores t.world.requests (exec g c)) }; answer = RanAnswer n }) words
+          ∙ ap
+          (λ (c : List ℕ). record {
+            state = record t {
+              world =
+                  after_turn (start_of s n ticking (suc i) (Some k) core) t.time n
+                  (executed n k t.world.cores t.world.requests (exec g c));
+            };
+            answer = RanAnswer n;
+          }) words
           ∙ ap (λ (w : World). record { state = record t { world = w }; answer = RanAnswer n }) (ended-again s n j ticking (suc i) (Some k) core (exec g core));
     }
   where
@@ -383,23 +455,34 @@ reached-one : (s : S) (n : ℕ) (j : Job) (ticking : Bool) (i : ℕ) (g : Regs) 
 reached-one s n j ticking i g core t p =
     let e : i ≡ i + (1 - 1) = omega arith in
     record {
-      state = round-is t ticking ∙ ap (λ (m : Made). ticked_if ticking m.state) p.step ∙ ap (λ (k : ℕ). ticked_if ticking (ended_by s n j ticking k (exec g core))) e;
+      state =
+          round-is t ticking ∙ ap (λ (m : Made). ticked_if ticking m.state) p.step
+          ∙ ap (λ (k : ℕ). ticked_if ticking (ended_by s n j ticking k (exec g core))) e;
       count = runs-more_rounds 0 ticking t n (ap (λ (m : Made). m.answer) p.step);
     }
 
-reached-more : (s : S) (n : ℕ) (j : Job) (ticking : Bool) (i : ℕ) (t u : S) (r : Ran) → 1 ≤ r.steps → (happens t Step).answer ≡ RanAnswer n → after (rounds 1 ticking) t ≡ u
+reached-more : (s : S) (n : ℕ) (j : Job) (ticking : Bool) (i : ℕ) (t u : S) (r : Ran) → 1 ≤ r.steps
+    → (happens t Step).answer ≡ RanAnswer n
+    → after (rounds 1 ticking) t ≡ u
     → Reached s n j ticking (suc i) u r → Reached s n j ticking i t (ran_on 1 r)
 reached-more s n j ticking i t u r some first goes h =
     let e : suc i + (r.steps - 1) ≡ i + (1 + r.steps - 1) = omega arith in
     record {
-      state = rounds-more r.steps ticking t ∙ ap (λ (v : S). after (rounds r.steps ticking) v) goes ∙ h.state ∙ ap (λ (k : ℕ). ticked_if ticking (ended_by s n j ticking k r.after)) e;
-      count = runs-more_rounds r.steps ticking t n first ∙ ap (λ (v : S). 1 + runs_in (answers (rounds r.steps ticking) v)) goes ∙ ap (λ (k : ℕ). 1 + k) h.count;
+      state =
+          rounds-more r.steps ticking t ∙ ap (λ (v : S). after (rounds r.steps ticking) v) goes ∙ h.state
+          ∙ ap (λ (k : ℕ). ticked_if ticking (ended_by s n j ticking k r.after)) e;
+      count =
+          runs-more_rounds r.steps ticking t n first ∙ ap (λ (v : S). 1 + runs_in (answers (rounds r.steps ticking) v)) goes
+          ∙ ap (λ (k : ℕ). 1 + k) h.count;
     }
 
-reached : (k : ℕ) (s : S) (n : ℕ) (j : Job) (ticking alone : Bool) (most i : ℕ) (g : Regs) (core : List ℕ) (t : S) → i + suc k ≤ most → Computes s n j ticking alone most → Poised s n j ticking i g core t
+reached : (k : ℕ) (s : S) (n : ℕ) (j : Job) (ticking alone : Bool) (most i : ℕ) (g : Regs) (core : List ℕ) (t : S)
+    → i + suc k ≤ most → Computes s n j ticking alone most
+    → Poised s n j ticking i g core t
     → Reached s n j ticking i t (ran (suc k) g core)
 unfolding ran
-reached zero s n j ticking alone most i g core t few h p = subst (λ (r : Ran). Reached s n j ticking i t r) (sym (ran-one g core)) (reached-one s n j ticking i g core t p)
+reached zero s n j ticking alone most i g core t few h p =
+    subst (λ (r : Ran). Reached s n j ticking i t r) (sym (ran-one g core)) (reached-one s n j ticking i g core t p)
 reached (suc k) s n j ticking alone most i g core t few h p =
     let x : After = exec g core in
     by_test (λ (r : Ran). Reached s n j ticking i t r) (is_done x.outcome) (ran_on 1 (ran (suc k) x.regs x.core)) (record { steps = 1; after = x })
@@ -448,7 +531,8 @@ goes-some s n k ticking (Some j) safe next u there =
     let alone : Bool = is_alone s.world.table n in
     let is_next : is_ready s.world.table.jobs s.world.lines s.world.requests n ≡ true = next-ready s.world.table s.world.lines s.world.requests n next in
     let closed : takes_interrupts j.interrupts ≡ false = sym (ap (λ (l : List (Option Job)). is_open (job_at l n)) jobs ∙ ap is_open there) ∙ u.closed in
-    let ready : is_ready_job s.world.lines s.world.requests n (Some j) ≡ true = sym (ap (λ (o : Option Job). is_ready_job s.world.lines s.world.requests n o) there) ∙ is_next in
+    let ready : is_ready_job s.world.lines s.world.requests n (Some j) ≡ true =
+    sym (ap (λ (o : Option Job). is_ready_job s.world.lines s.world.requests n o) there) ∙ is_next in
     let places : length (chosen s.world.table n s.quantum).jobs ≡ JOBS + 1 = ap (λ (l : List (Option Job)). length l) jobs ∙ safe.housed.places in
     let low : n ≤ JOBS = runs.number.1 in
     let base : S = record s { world = chosen_world s n } in
@@ -456,7 +540,9 @@ goes-some s n k ticking (Some j) safe next u there =
       current = u.current;
       quantum = u.quantum;
       lasts = u.lasts;
-      only = λ e. ap (λ (l : List (Option Job)). first_from (is_ready l s.world.lines s.world.requests) JOBS (after_number n)) jobs ∙ after-itself s.world.table s.world.lines s.world.requests n next e;
+      only =
+          λ e. ap (λ (l : List (Option Job)). first_from (is_ready l s.world.lines s.world.requests) JOBS (after_number n)) jobs
+          ∙ after-itself s.world.table s.world.lines s.world.requests n next e;
       quiet = u.awake;
       ready = ap (λ (l : List (Option Job)). is_ready l s.world.lines s.world.requests n) jobs ∙ is_next;
       closed = closed;
@@ -465,8 +551,10 @@ goes-some s n k ticking (Some j) safe next u there =
       core = omega (arith, safe.housed.store.jobs, low);
     } in
     let r : Ran = ran (suc k) j.regs core in
-    let all : Reached base n j ticking 0 s r = reached k base n j ticking alone (suc k) 0 j.regs core s (omega arith) h (poised-first s n j ticking next there closed) in
-    let turn : stretch_of n (suc k) (awake j) s.world.cores s.world.requests ≡ record { turn = executed n (awake j) s.world.cores s.world.requests r.after; rounds = r.steps } =
+    let all : Reached base n j ticking 0 s r =
+    reached k base n j ticking alone (suc k) 0 j.regs core s (omega arith) h (poised-first s n j ticking next there closed) in
+    let turn : stretch_of n (suc k) (awake j) s.world.cores s.world.requests
+    ≡ record { turn = executed n (awake j) s.world.cores s.world.requests r.after; rounds = r.steps } =
     ap (λ (d : Option (ℕ × ℕ)). stretched n (suc k) (awake j) s.world.cores s.world.requests d) (none-due j.interrupts (pending s.world.requests n) closed) in
     let from : 0 + (r.steps - 1) ≡ r.steps - 1 = omega arith in
     subst (λ (x : Stretch). GoesOn s ticking (suc k) (run_out (chosen_world s n) s.time s.quantum n ticking x)) (sym turn)
@@ -483,11 +571,14 @@ pub goes-on : (s : S) (n k : ℕ) (ticking : Bool) → Safe s → next_job s.wor
     → GoesOn s ticking k (runs_on (record s.world { table = chosen s.world.table n s.quantum }) s.time s.quantum n k ticking (job_at s.world.table.jobs n))
 goes-on s n zero ticking safe next some alone = absurd (omega arith)
 goes-on s n (suc zero) ticking safe next some alone =
-    subst (λ (x : Stretched). GoesOn s ticking 1 x) (sym (runs-one (chosen_world s n) s.time s.quantum n ticking (job_at s.world.table.jobs n))) (goes-one s n ticking next)
+    subst (λ (x : Stretched). GoesOn s ticking 1 x)
+    (sym (runs-one (chosen_world s n) s.time s.quantum n ticking (job_at s.world.table.jobs n))) (goes-one s n ticking next)
 goes-on s n (suc (suc k)) ticking safe next some alone = goes-some s n (suc k) ticking (job_at s.world.table.jobs n) safe next (alone (omega arith)) refl
 
 -- what the job that is next leaves
-pub rounds-made : (s : S) (n k : ℕ) (ticking : Bool) (w : World) (time made : ℕ) → Safe s → next_job s.world.table s.world.lines s.world.requests ≡ Some n → 1 ≤ k
+pub rounds-made : (s : S) (n k : ℕ) (ticking : Bool) (w : World) (time made : ℕ) → Safe s
+    → next_job s.world.table s.world.lines s.world.requests ≡ Some n
+    → 1 ≤ k
     → (2 ≤ k → Undisturbed (chosen s.world.table n s.quantum) n ticking (is_alone s.world.table n) k)
     → record { world = w; time = time; rounds = made }
     ≡ runs_on (record s.world { table = chosen s.world.table n s.quantum }) s.time s.quantum n k ticking (job_at (chosen s.world.table n s.quantum).jobs n)

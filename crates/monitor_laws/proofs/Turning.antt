@@ -29,7 +29,8 @@ some-with_core cores n words some same none =
     let is : words ≡ [] = sym (get_or-set_same cores.cores n words [] low) ∙ none in
     some (length-zero (core_of cores n) (sym same ∙ ap length is))
 
-pub some-concluded : (j : Job) (cores : Cores) (requests : List Request) (o : Outcome) (n : ℕ) → core_of cores n ≢ [] → core_of (concluded j cores requests o).cores n ≢ []
+pub some-concluded : (j : Job) (cores : Cores) (requests : List Request) (o : Outcome) (n : ℕ) → core_of cores n ≢ []
+    → core_of (concluded j cores requests o).cores n ≢ []
 some-concluded j cores requests outcome.Done n some = some
 some-concluded j cores requests (outcome.Stop reason) n some = some
 some-concluded j cores requests (outcome.Call kind ac e) n some = some
@@ -38,7 +39,8 @@ pub length-noted : (g : Regs) (core : List ℕ) (vector id : ℕ) → length (no
 length-noted g core vector id =
     length-core_with (core_with core (vector + 1) (pc_word g.flags g.pc)) (vector + 3) id ∙ length-core_with core (vector + 1) (pc_word g.flags g.pc)
 
-pub some-turned : (n : ℕ) (j : Job) (cores : Cores) (requests : List Request) (o : Option (ℕ × ℕ)) → core_of cores n ≢ [] → core_of (turned n j cores requests o).cores n ≢ []
+pub some-turned : (n : ℕ) (j : Job) (cores : Cores) (requests : List Request) (o : Option (ℕ × ℕ)) → core_of cores n ≢ []
+    → core_of (turned n j cores requests o).cores n ≢ []
 some-turned n j cores requests None some =
     some-concluded _ _ requests (exec j.regs (core_of cores n)).outcome n (some-with_core cores n _ some (length-exec j.regs (core_of cores n)))
 some-turned n j cores requests (Some x) some =

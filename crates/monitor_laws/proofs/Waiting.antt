@@ -18,7 +18,8 @@ use Rattle.machine.specs.Safe.{Safe, wait_of}
 use Rattle.machine.specs.Waits.{waiting_for, WaitsForGrants}
 
 -- a wait for a grant holds while a blocking request is not granted
-pub holds-grant : (lines : List Rings) (requests : List Request) (n line : ℕ) (v : Wait) → is_queue v ≡ true → holds lines requests n line v ≡ is_waiting_job requests n
+pub holds-grant : (lines : List Rings) (requests : List Request) (n line : ℕ) (v : Wait) → is_queue v ≡ true
+    → holds lines requests n line v ≡ is_waiting_job requests n
 holds-grant lines requests n line (Queue limit ac) grant = refl
 holds-grant lines requests n line Nothing grant = absurd (both_ways false refl grant)
 holds-grant lines requests n line (Sleep ticks) grant = absurd (both_ways false refl grant)

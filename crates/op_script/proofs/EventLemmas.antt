@@ -22,7 +22,8 @@ none-left k n h = omega arith
 pub repeat-start : (n : ℕ) (e : Event) (s : S) → after (replicate (n - 0) e) s ≡ after (replicate n e) s
 repeat-start n e s = ap (λ m. after (replicate m e) s) (let h : n - 0 ≡ n = omega arith in h)
 
-pub repeat-step : (k n : ℕ) (e : Event) (s t w : S) → k < n → t ≡ (happens s e).state → after (replicate (n - k) e) s ≡ w → after (replicate (n - (k + 1)) e) t ≡ w
+pub repeat-step : (k n : ℕ) (e : Event) (s t w : S) → k < n → t ≡ (happens s e).state → after (replicate (n - k) e) s ≡ w
+    → after (replicate (n - (k + 1)) e) t ≡ w
 repeat-step k n e s t w within happened before =
     ap (after (replicate (n - (k + 1)) e)) happened ∙ sym (ap (λ m. after (replicate m e) s) (one-more k n within)) ∙ before
 
@@ -32,7 +33,9 @@ repeat-end k n e s w end before = sym (ap (λ m. after (replicate m e) s) (none-
 -- ---- characters that are typed
 
 typed_by-first : (c : ℕ) (more : List ℕ) (s : S) (line : ℕ)
-    → typed_by (c ∷ more) s line ≡ typed_with (happens s (event.Typed line c)).state (refusal_in (happens s (event.Typed line c)).answer) (typed_by more (happens s (event.Typed line c)).state line)
+    → typed_by (c ∷ more) s line
+    ≡ typed_with (happens s (event.Typed line c)).state (refusal_in (happens s (event.Typed line c)).answer)
+    (typed_by more (happens s (event.Typed line c)).state line)
 unfolding typed_by
 typed_by-first c more s line = refl
 
@@ -52,7 +55,8 @@ module _ (text : List ℕ) (i line c : ℕ) (s t : S) (w : Typing) (within : i <
   pub typed-refused : (r : RefusedEvent) → Some r ≡ refusal_in (happens s (event.Typed line c)).answer → record { machine = t; refusal = Some r } ≡ w
   typed-refused r refused = typed-now (Some r) refused
 
-pub typed-end : (text : List ℕ) (i line : ℕ) (s : S) (w : Typing) → length text ≤ i → typed_by (drop i text) s line ≡ w → record { machine = s; refusal = None } ≡ w
+pub typed-end : (text : List ℕ) (i line : ℕ) (s : S) (w : Typing) → length text ≤ i → typed_by (drop i text) s line ≡ w
+    → record { machine = s; refusal = None } ≡ w
 unfolding typed_by
 typed-end text i line s w end before = sym (ap (λ l. typed_by l s line) (drop_all i text end)) ∙ before
 
@@ -69,7 +73,8 @@ taken_by-first n e s = refl
 pub taken-start : (n : ℕ) (e : Event) (s : S) (text : List ℕ) → text ≡ [] → behind text (taken_by (n - 0) e s) ≡ taken_by n e s
 taken-start n e s text empty = ap (λ l. behind l (taken_by (n - 0) e s)) empty ∙ ap (λ m. taken_by m e s) (let h : n - 0 ≡ n = omega arith in h)
 
-module _ (k n : ℕ) (e : Event) (s t : S) (text : List ℕ) (w : Taking) (within : k < n) (happened : t ≡ (happens s e).state) (before : behind text (taken_by (n - k) e s) ≡ w) where
+module _ (k n : ℕ) (e : Event) (s t : S) (text : List ℕ) (w : Taking) (within : k < n) (happened : t ≡ (happens s e).state)
+    (before : behind text (taken_by (n - k) e s) ≡ w) where
   taken-now : (a : Answer) → a ≡ (happens s e).answer → behind text (taken_with t a (taken_by (n - (k + 1)) e t)) ≡ w
   taken-now a answered =
       ap (λ u. behind text (taken_with u a (taken_by (n - (k + 1)) e u))) happened
@@ -80,15 +85,26 @@ module _ (k n : ℕ) (e : Event) (s t : S) (text : List ℕ) (w : Taking) (withi
       → record { machine = t; text = text'; refusal = None } ≡ w
   taken-last taken text' answered short pushed =
       ap (λ l. record { machine = t; text = l; refusal = None }) pushed
-      ∙ sym (ap (λ b. behind text (cond b (record { machine = t; text = taken; refusal = None }) (behind taken (taken_by (n - (k + 1)) e t)))) (lt-ltb (length taken) TAKEN_AT_ONCE short))
+      ∙ sym
+      (ap
+      (λ b. behind text
+      (cond b (record { machine = t; text = taken; refusal = None }) (behind taken (taken_by (n - (k + 1)) e t))))
+      (lt-ltb (length taken) TAKEN_AT_ONCE short))
       ∙ taken-now (Text taken) answered
 
   pub taken-more : (taken text' : List ℕ) → Text taken ≡ (happens s e).answer → TAKEN_AT_ONCE ≤ length taken → text' ≡ text ++ taken
       → behind text' (taken_by (n - (k + 1)) e t) ≡ w
   taken-more taken text' answered long pushed =
       ap (λ l. behind l (taken_by (n - (k + 1)) e t)) pushed
-      ∙ ap (λ l. record { machine = (taken_by (n - (k + 1)) e t).machine; text = l; refusal = (taken_by (n - (k + 1)) e t).refusal }) (append_assoc text taken (taken_by (n - (k + 1)) e t).text)
-      ∙ sym (ap (λ b. behind text (cond b (record { machine = t; text = taken; refusal = None }) (behind taken (taken_by (n - (k + 1)) e t)))) (le-ltb (length taken) TAKEN_AT_ONCE long))
+      ∙ ap
+      (λ l.
+      record { machine = (taken_by (n - (k + 1)) e t).machine; text = l; refusal = (taken_by (n - (k + 1)) e t).refusal })
+      (append_assoc text taken (taken_by (n - (k + 1)) e t).text)
+      ∙ sym
+      (ap
+      (λ b. behind text
+      (cond b (record { machine = t; text = taken; refusal = None }) (behind taken (taken_by (n - (k + 1)) e t))))
+      (le-ltb (length taken) TAKEN_AT_ONCE long))
       ∙ taken-now (Text taken) answered
 
   pub taken-refused : (r : RefusedEvent) → Refused r ≡ (happens s e).answer → record { machine = t; text = text; refusal = Some r } ≡ w

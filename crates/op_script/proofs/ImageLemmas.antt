@@ -11,7 +11,8 @@ use Rattle.op_script.specs.Images.{Named, assembled_in, image_of, with_image}
 abbrev pub seen : List (List ℕ × Image) → Named
 seen entries = map (λ e. (e.0, assembled_in e.1)) entries
 
-chosen : (b : Bool) (image : Image) (rest : Option Image) → option_map assembled_in (cond b (Some image) rest) ≡ cond b (Some (assembled_in image)) (option_map assembled_in rest)
+chosen : (b : Bool) (image : Image) (rest : Option Image)
+    → option_map assembled_in (cond b (Some image) rest) ≡ cond b (Some (assembled_in image)) (option_map assembled_in rest)
 chosen true image rest = refl
 chosen false image rest = refl
 
@@ -21,11 +22,14 @@ image_of-seen name (e ∷ more) =
     chosen (bytes_eq name e.0) e.1 (lookup (bytes_eq name) more)
     ∙ ap (λ rest. cond (bytes_eq name e.0) (Some (assembled_in e.1)) rest) (image_of-seen name more)
 
-put : (b : Bool) (name : List ℕ) (image : Image) (e : List ℕ × Image) (more rest : List (List ℕ × Image)) → seen (cond b ((e.0, image) ∷ more) (e ∷ rest)) ≡ cond b ((e.0, assembled_in image) ∷ seen more) ((e.0, assembled_in e.1) ∷ seen rest)
+put : (b : Bool) (name : List ℕ) (image : Image) (e : List ℕ × Image) (more rest : List (List ℕ × Image))
+    → seen (cond b ((e.0, image) ∷ more) (e ∷ rest))
+    ≡ cond b ((e.0, assembled_in image) ∷ seen more) ((e.0, assembled_in e.1) ∷ seen rest)
 put true name image e more rest = refl
 put false name image e more rest = refl
 
-pub with_image-seen : (name : List ℕ) (image : Image) (entries : List (List ℕ × Image)) → seen (insert_entry bytes_eq entries name image) ≡ with_image (seen entries) name (assembled_in image)
+pub with_image-seen : (name : List ℕ) (image : Image) (entries : List (List ℕ × Image))
+    → seen (insert_entry bytes_eq entries name image) ≡ with_image (seen entries) name (assembled_in image)
 with_image-seen name image [] = refl
 with_image-seen name image (e ∷ more) =
     put (bytes_eq name e.0) name image e more (insert_entry bytes_eq more name image)

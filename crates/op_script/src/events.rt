@@ -165,7 +165,10 @@ pub fn take_text(
     out: &mut Vec<u8>,
 ) -> Result<(), AllocError>
     ensures state { OnOk result (machine.new ≡ (taken_by MOST_TAKES event.now machine.old).machine) }
-    ensures text { OnOk result (out.new.items ≡ out.old.items ++ taken_line (taken_by MOST_TAKES event.now machine.old).refusal (taken_by MOST_TAKES event.now machine.old).text) }
+    ensures text { OnOk result
+        (out.new.items
+        ≡ out.old.items
+        ++ taken_line (taken_by MOST_TAKES event.now machine.old).refusal (taken_by MOST_TAKES event.now machine.old).text) }
 {
     let mut text = ArrayVec::new();
     let refusal = take_characters(machine, event, &mut text);

@@ -211,7 +211,8 @@ pub fn serve<R: ByteIn, W: ByteOut>(
     requires reader_sound { R.has_failed reader.old ≡ false }
     requires writer_sound { W.has_failed writer.old ≡ false }
     requires few { R.reads_left reader.old ≤ 2 ^ 63 }
-    ensures serves { Serves (transcript config.blocks config.quantum) (R.to_come reader.old) (R.to_come reader.new) (W.written writer.old) (W.written writer.new) (served_as result) }
+    ensures serves { Serves (transcript config.blocks config.quantum) (R.to_come reader.old) (R.to_come reader.new)
+        (W.written writer.old) (W.written writer.new) (served_as result) }
     ensures blames { IfErr (served_as result) (λ e. Blames e (R.has_failed reader.new) (W.has_failed writer.new)) }
 {
     let service = match RunService::new(alloc, config) {

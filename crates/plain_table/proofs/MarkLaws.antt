@@ -81,7 +81,8 @@ module _ (left : Request → Option Request) where
           let rest : raised_behind (filter_map left e ++ s ∷ []) marks (filter_map left rs) ≡ map grant_of chosen-later =
           ap (λ l. raised_behind l marks (filter_map left rs)) (sym (left-stays left e r s is)) ∙ h in
           elim (awaits_grant e r && granted_behind (filter_map left e) s) as (λ b.
-          cond b (grant_of s ∷ raised_behind (filter_map left e ++ s ∷ []) marks (filter_map left rs)) (raised_behind (filter_map left e ++ s ∷ []) marks (filter_map left rs))
+          cond b (grant_of s ∷ raised_behind (filter_map left e ++ s ∷ []) marks (filter_map left rs))
+          (raised_behind (filter_map left e ++ s ∷ []) marks (filter_map left rs))
           ≡ map grant_of (cond b (r ∷ chosen-later) chosen-later)) [
             | true ↦ ap (λ g. g ∷ raised_behind (filter_map left e ++ s ∷ []) marks (filter_map left rs)) (keep r s is) ∙ ap (λ l. grant_of r ∷ l) rest
             | false ↦ rest

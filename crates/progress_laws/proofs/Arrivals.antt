@@ -92,12 +92,14 @@ enq-no regs core n w armed quota other =
 stay : (requests : List Request) → Thinned (Remains IsSame) requests requests
 stay requests = stay-same IsSame (λ w. refl) requests
 
-thin-asked : (size : ℕ) (requests : List Request) (n : ℕ) (r : Result LockCall Refusal) → AsksDequeue r → Thinned (Remains IsSame) requests (asked size requests n r).requests
+thin-asked : (size : ℕ) (requests : List Request) (n : ℕ) (r : Result LockCall Refusal) → AsksDequeue r
+    → Thinned (Remains IsSame) requests (asked size requests n r).requests
 thin-asked size requests n (Err refusal) h = stay requests
 thin-asked size requests n (Ok call) h = (nobody_comes_in_front size).by_dequeues requests n call h
 
 -- every row of the table but that of ENQ.
-thin-row : (service : Service) (time n ac e : ℕ) (a : Around) → is_enq service ≡ false → Thinned (Remains IsSame) a.requests (row_of service time n ac e a).requests
+thin-row : (service : Service) (time n ac e : ℕ) (a : Around) → is_enq service ≡ false
+    → Thinned (Remains IsSame) a.requests (row_of service time n ac e a).requests
 thin-row Reset time n ac e a other = (nobody_comes_in_front a.size).by_releases a.requests n
 thin-row Core time n ac e a other = stay a.requests
 thin-row Exit time n ac e a other = (nobody_comes_in_front a.size).by_releases a.requests n
@@ -110,7 +112,9 @@ thin-row Piini time n ac e a other = stay a.requests
 thin-row Pisys time n ac e a other = stay a.requests
 thin-row Debrk time n ac e a other = stay a.requests
 thin-row Enq time n ac e a other = absurd (cc)
-thin-row Deq time n ac e a other = thin-asked a.size a.requests n (deq_asks a.job.regs.ac (core_of a.cores n) n (ac_of a.job ac)) (deq-asked a.job.regs.ac (core_of a.cores n) n (ac_of a.job ac))
+thin-row Deq time n ac e a other =
+    thin-asked a.size a.requests n (deq_asks a.job.regs.ac (core_of a.cores n) n (ac_of a.job ac))
+    (deq-asked a.job.regs.ac (core_of a.cores n) n (ac_of a.job ac))
 thin-row Enqc time n ac e a other = stay a.requests
 thin-row Datrd time n ac e a other = stay a.requests
 thin-row Datwr time n ac e a other = stay a.requests
@@ -142,7 +146,8 @@ leave-typed : (s : S) (line c : ℕ) → Thinned (Remains IsSame) s.world.reques
 leave-typed s line c =
     by_test (λ (m : Made). Thinned (Remains IsSame) s.world.requests m.state.world.requests) (nat_le LINES line) _ _ (λ _. stay s.world.requests)
     (λ _. by_test (λ (m : Made). Thinned (Remains IsSame) s.world.requests m.state.world.requests) (c == INTERRUPT_CHARACTER) _ _ (λ _. stay s.world.requests)
-    (λ _. by_test (λ (m : Made). Thinned (Remains IsSame) s.world.requests m.state.world.requests) (nat_le INPUT_RING (length (input_of s.world.lines line))) _ _
+    (λ _. by_test (λ (m : Made). Thinned (Remains IsSame) s.world.requests m.state.world.requests)
+    (nat_le INPUT_RING (length (input_of s.world.lines line))) _ _
     (λ _. stay s.world.requests) (λ _. stay s.world.requests)))
 
 leave-taken : (s : S) (line n : ℕ) → Thinned (Remains IsSame) s.world.requests (taken s line n).state.world.requests
@@ -161,20 +166,24 @@ leave-started s n = leave-made_if s _ (standing (job_at s.world.table.jobs n)) (
 leave-continued : (s : S) (n : ℕ) → Thinned (Remains IsSame) s.world.requests (continued s n).state.world.requests
 leave-continued s n = leave-made_if s _ (standing (job_at s.world.table.jobs n)) (stay s.world.requests)
 
-leave-admitted : (s : S) (line : ℕ) (words : List (ℕ × ℕ)) (start blocks : ℕ) (o : Option ℕ) → Thinned (Remains IsSame) s.world.requests (admitted s line words start blocks o).state.world.requests
+leave-admitted : (s : S) (line : ℕ) (words : List (ℕ × ℕ)) (start blocks : ℕ) (o : Option ℕ)
+    → Thinned (Remains IsSame) s.world.requests (admitted s line words start blocks o).state.world.requests
 leave-admitted s line words start blocks None = stay s.world.requests
 leave-admitted s line words start blocks (Some n) =
     by_test (λ (m : Made). Thinned (Remains IsSame) s.world.requests m.state.world.requests) (nat_le blocks s.world.cores.free) _ _
     (λ _. stay s.world.requests) (λ _. stay s.world.requests)
 
-leave-examined : (s : S) (line : ℕ) (words : List (ℕ × ℕ)) (start : ℕ) (o : Option ℕ) → Thinned (Remains IsSame) s.world.requests (examined s line words start o).state.world.requests
+leave-examined : (s : S) (line : ℕ) (words : List (ℕ × ℕ)) (start : ℕ) (o : Option ℕ)
+    → Thinned (Remains IsSame) s.world.requests (examined s line words start o).state.world.requests
 leave-examined s line words start None = stay s.world.requests
 leave-examined s line words start (Some top) = leave-admitted s line words start (blocks_for top) (free_number s.world.table.jobs)
 
-leave-logged_in : (s : S) (line : ℕ) (words : List (ℕ × ℕ)) (start : ℕ) → Thinned (Remains IsSame) s.world.requests (logged_in s line words start).state.world.requests
+leave-logged_in : (s : S) (line : ℕ) (words : List (ℕ × ℕ)) (start : ℕ)
+    → Thinned (Remains IsSame) s.world.requests (logged_in s line words start).state.world.requests
 leave-logged_in s line words start =
     by_test (λ (m : Made). Thinned (Remains IsSame) s.world.requests m.state.world.requests) (nat_le LINES line) _ _ (λ _. stay s.world.requests)
-    (λ _. by_test (λ (m : Made). Thinned (Remains IsSame) s.world.requests m.state.world.requests) (list_any (is_at line) s.world.table.jobs) _ _ (λ _. stay s.world.requests)
+    (λ _. by_test (λ (m : Made). Thinned (Remains IsSame) s.world.requests m.state.world.requests)
+    (list_any (is_at line) s.world.table.jobs) _ _ (λ _. stay s.world.requests)
     (λ _. leave-examined s line words start (image_top words start)))
 
 all-leave : (requests : List Request) → Thinned (Remains IsSame) requests []
@@ -186,7 +195,9 @@ module _ (P : Want → Want → Type 0) (from : (a b : List Request) → Thinned
   come-same n requests = inl (from requests requests (stay requests))
 
   come-performed : (w : World) (time n : ℕ) (service : Service) (ac e : ℕ) (j : Job)
-      → (is_enq service ≡ true → LeaveOrCome P n w.requests (asked w.size w.requests n (enq_asks j.regs.ac (core_of w.cores n) n (ac_of j ac) (is_some j.interrupts.vector) j.quota)).requests)
+      → (is_enq service ≡ true
+      → LeaveOrCome P n w.requests
+      (asked w.size w.requests n (enq_asks j.regs.ac (core_of w.cores n) n (ac_of j ac) (is_some j.interrupts.vector) j.quota)).requests)
       → LeaveOrCome P n w.requests (performed_by w time n (Some j) service ac e).world.requests
   come-performed w time n Reset ac e j enq = inl (from w.requests _ (thin-performed w time n Reset ac e j refl))
   come-performed w time n Core ac e j enq = inl (from w.requests _ (thin-performed w time n Core ac e j refl))
@@ -213,53 +224,69 @@ module _ (P : Want → Want → Type 0) (from : (a b : List Request) → Thinned
   come-performed w time n Unlisted ac e j enq = inl (from w.requests _ (thin-performed w time n Unlisted ac e j refl))
 
   -- a step, where ENQ. lets nobody in front
-  module _ (Allowed : Job → Option MonitorCall → Type 0) (enq : (size : ℕ) (requests : List Request) (cores : Cores) (n : ℕ) (j : Job) (c : MonitorCall) → Allowed j (Some c) → is_enq (service_of c.kind c.ac c.e) ≡ true → LeaveOrCome P n requests (asked size requests n (enq_asks j.regs.ac (core_of cores n) n (ac_of j c.ac) (is_some j.interrupts.vector) j.quota)).requests) where
-    come-made : (w : World) (time n : ℕ) (j : Job) (service : Service) (ac e : ℕ) (o : Option Job) → (o ≡ Some j) ⊎ (o ≡ None)
-        → (is_enq service ≡ true → LeaveOrCome P n w.requests (asked w.size w.requests n (enq_asks j.regs.ac (core_of w.cores n) n (ac_of j ac) (is_some j.interrupts.vector) j.quota)).requests)
-        → LeaveOrCome P n w.requests (performed_by w time n o service ac e).world.requests
-    come-made w time n j service ac e o (inl is) asks =
-        subst (λ (o : Option Job). LeaveOrCome P n w.requests (performed_by w time n o service ac e).world.requests) (sym is) (come-performed w time n service ac e j asks)
-    come-made w time n j service ac e o (inr is) asks =
-        subst (λ (o : Option Job). LeaveOrCome P n w.requests (performed_by w time n o service ac e).world.requests) (sym is) (come-same n w.requests)
+  module _ (Allowed : Job → Option MonitorCall → Type 0)
+      (enq : (size : ℕ) (requests : List Request) (cores : Cores) (n : ℕ) (j : Job) (c : MonitorCall) → Allowed j (Some c)
+      → is_enq (service_of c.kind c.ac c.e) ≡ true
+      → LeaveOrCome P n requests
+      (asked size requests n (enq_asks j.regs.ac (core_of cores n) n (ac_of j c.ac) (is_some j.interrupts.vector) j.quota)).requests)
+    where
+      come-made : (w : World) (time n : ℕ) (j : Job) (service : Service) (ac e : ℕ) (o : Option Job) → (o ≡ Some j) ⊎ (o ≡ None)
+          → (is_enq service ≡ true
+          → LeaveOrCome P n w.requests
+          (asked w.size w.requests n
+          (enq_asks j.regs.ac (core_of w.cores n) n (ac_of j ac) (is_some j.interrupts.vector) j.quota)).requests)
+          → LeaveOrCome P n w.requests (performed_by w time n o service ac e).world.requests
+      come-made w time n j service ac e o (inl is) asks =
+          subst (λ (o : Option Job). LeaveOrCome P n w.requests (performed_by w time n o service ac e).world.requests) (sym is)
+          (come-performed w time n service ac e j asks)
+      come-made w time n j service ac e o (inr is) asks =
+          subst (λ (o : Option Job). LeaveOrCome P n w.requests (performed_by w time n o service ac e).world.requests) (sym is) (come-same n w.requests)
 
-    come-called : (w : World) (time n : ℕ) (j : Job) (c : Option MonitorCall) → Allowed j c → (job_at w.table.jobs n ≡ Some j) ⊎ (job_at w.table.jobs n ≡ None)
-        → LeaveOrCome P n w.requests (called w time n c).requests
-    come-called w time n j None allowed is = come-same n w.requests
-    come-called w time n j (Some c) allowed is =
-        come-made w time n j (service_of c.kind c.ac c.e) c.ac c.e (job_at w.table.jobs n) is (enq w.size w.requests w.cores n j c allowed)
+      come-called : (w : World) (time n : ℕ) (j : Job) (c : Option MonitorCall) → Allowed j c
+          → (job_at w.table.jobs n ≡ Some j) ⊎ (job_at w.table.jobs n ≡ None)
+          → LeaveOrCome P n w.requests (called w time n c).requests
+      come-called w time n j None allowed is = come-same n w.requests
+      come-called w time n j (Some c) allowed is =
+          come-made w time n j (service_of c.kind c.ac c.e) c.ac c.e (job_at w.table.jobs n) is (enq w.size w.requests w.cores n j c allowed)
 
-    -- the requests are the same where an instruction is executed, and no call is made where an interrupt is delivered
-    come-concluded : (w : World) (time n : ℕ) (j : Job) (cores : Cores) (o : Outcome)
-        → Allowed (concluded j cores w.requests o).job (concluded j cores w.requests o).call
-        → LeaveOrCome P n w.requests (after_turn w time n (concluded j cores w.requests o)).requests
-    come-concluded w time n j cores outcome.Done allowed = come-same n w.requests
-    come-concluded w time n j cores (outcome.Stop reason) allowed = come-same n w.requests
-    come-concluded w time n j cores (outcome.Call kind ac e) allowed =
-        let t : Turn = concluded j cores w.requests (outcome.Call kind ac e) in
-        come-called (with_turn w n t) time n t.job t.call allowed (at-set w.table.jobs n t.job)
+      -- the requests are the same where an instruction is executed, and no call is made where an interrupt is delivered
+      come-concluded : (w : World) (time n : ℕ) (j : Job) (cores : Cores) (o : Outcome)
+          → Allowed (concluded j cores w.requests o).job (concluded j cores w.requests o).call
+          → LeaveOrCome P n w.requests (after_turn w time n (concluded j cores w.requests o)).requests
+      come-concluded w time n j cores outcome.Done allowed = come-same n w.requests
+      come-concluded w time n j cores (outcome.Stop reason) allowed = come-same n w.requests
+      come-concluded w time n j cores (outcome.Call kind ac e) allowed =
+          let t : Turn = concluded j cores w.requests (outcome.Call kind ac e) in
+          come-called (with_turn w n t) time n t.job t.call allowed (at-set w.table.jobs n t.job)
 
-    come-delivered : (w : World) (time n : ℕ) (j : Job) (vector id : ℕ) → LeaveOrCome P n w.requests (after_turn w time n (delivered n j w.cores w.requests vector id)).requests
-    come-delivered w time n j vector id =
-        by_test (λ (t : Turn). LeaveOrCome P n w.requests (after_turn w time n t).requests) (are_legal (core_of w.cores n) vector 4)
-        (told_at n w.cores w.requests (interrupted_at j (core_of w.cores n) vector id)) (done (stopped j IllegalAddress) w.cores w.requests)
-        (λ _. inl (from w.requests _ ((nobody_comes_in_front w.size).by_telling w.requests n))) (λ _. come-same n w.requests)
+      come-delivered : (w : World) (time n : ℕ) (j : Job) (vector id : ℕ)
+          → LeaveOrCome P n w.requests (after_turn w time n (delivered n j w.cores w.requests vector id)).requests
+      come-delivered w time n j vector id =
+          by_test (λ (t : Turn). LeaveOrCome P n w.requests (after_turn w time n t).requests) (are_legal (core_of w.cores n) vector 4)
+          (told_at n w.cores w.requests (interrupted_at j (core_of w.cores n) vector id)) (done (stopped j IllegalAddress) w.cores w.requests)
+          (λ _. inl (from w.requests _ ((nobody_comes_in_front w.size).by_telling w.requests n))) (λ _. come-same n w.requests)
 
-    come-turn : (w : World) (time n : ℕ) (j : Job) (o : Option (ℕ × ℕ)) → Allowed (turned n j w.cores w.requests o).job (turned n j w.cores w.requests o).call
-        → LeaveOrCome P n w.requests (after_turn w time n (turned n j w.cores w.requests o)).requests
-    come-turn w time n j None allowed = come-concluded w time n _ _ (exec j.regs (core_of w.cores n)).outcome allowed
-    come-turn w time n j (Some x) allowed = come-delivered w time n j x.0 x.1
+      come-turn : (w : World) (time n : ℕ) (j : Job) (o : Option (ℕ × ℕ)) → Allowed (turned n j w.cores w.requests o).job (turned n j w.cores w.requests o).call
+          → LeaveOrCome P n w.requests (after_turn w time n (turned n j w.cores w.requests o)).requests
+      come-turn w time n j None allowed = come-concluded w time n _ _ (exec j.regs (core_of w.cores n)).outcome allowed
+      come-turn w time n j (Some x) allowed = come-delivered w time n j x.0 x.1
 
-    come-stepped : (s : S) (n : ℕ) (o : Option Job) → ((j : Job) → o ≡ Some j → Allowed (turn_of n (awake j) s.world.cores s.world.requests).job (turn_of n (awake j) s.world.cores s.world.requests).call)
-        → LeaveOrCome P n s.world.requests (ran (record s.world { table = chosen s.world.table n s.quantum }) s.time n o).requests
-    come-stepped s n None allowed = come-same n s.world.requests
-    come-stepped s n (Some j) allowed =
-        come-turn (record s.world { table = chosen s.world.table n s.quantum }) s.time n (awake j) (due j.interrupts (pending s.world.requests n)) (allowed j refl)
+      come-stepped : (s : S) (n : ℕ) (o : Option Job)
+          → ((j : Job) → o ≡ Some j
+          → Allowed (turn_of n (awake j) s.world.cores s.world.requests).job
+          (turn_of n (awake j) s.world.cores s.world.requests).call)
+          → LeaveOrCome P n s.world.requests (ran (record s.world { table = chosen s.world.table n s.quantum }) s.time n o).requests
+      come-stepped s n None allowed = come-same n s.world.requests
+      come-stepped s n (Some j) allowed =
+          come-turn (record s.world { table = chosen s.world.table n s.quantum }) s.time n (awake j)
+          (due j.interrupts (pending s.world.requests n)) (allowed j refl)
 
 shared-from : (a b : List Request) → Thinned (Remains IsSame) a b → Thinned (Remains IsSameButSharing) a b
 shared-from a b t = thin-shared t
 
 -- whatever is asked for
-any-enq : (size : ℕ) (requests : List Request) (n : ℕ) (r : Result LockCall Refusal) → LeaveOrCome IsSameButSharing n requests (asked size requests n r).requests
+any-enq : (size : ℕ) (requests : List Request) (n : ℕ) (r : Result LockCall Refusal)
+    → LeaveOrCome IsSameButSharing n requests (asked size requests n r).requests
 any-enq size requests n (Err refusal) = come-same IsSameButSharing shared-from n requests
 any-enq size requests n (Ok call) = (nobody_comes_in_front size).by_calls requests n call
 
@@ -271,18 +298,22 @@ over-step P s n (inl t) = inl t
 over-step P s n (inr h) = inr (h.0, ap Ran (sym h.1), h.2)
 
 abbrev Over : (Want → Want → Type 0) → S → Made → Type 0
-Over P s m = Thinned (Remains P) s.world.requests m.state.world.requests ⊎ ((r : Request) × (m.answer ≡ Ran r.job) × (m.state.world.requests ≡ s.world.requests ++ r ∷ []))
+Over P s m =
+    Thinned (Remains P) s.world.requests m.state.world.requests
+    ⊎ ((r : Request) × (m.answer ≡ Ran r.job) × (m.state.world.requests ≡ s.world.requests ++ r ∷ []))
 
 any-step : (s : S) (o : Option ℕ) → Over IsSameButSharing s (stepped s o)
 any-step s None = inl (thin-shared (stay s.world.requests))
 any-step s (Some n) =
     over-step IsSameButSharing s n
     (come-stepped IsSameButSharing shared-from (λ j c. Unit {0})
-    (λ size requests cores n j c allowed is. any-enq size requests n (enq_asks j.regs.ac (core_of cores n) n (ac_of j c.ac) (is_some j.interrupts.vector) j.quota))
+    (λ size requests cores n j c allowed is. any-enq size requests n
+    (enq_asks j.regs.ac (core_of cores n) n (ac_of j c.ac) (is_some j.interrupts.vector) j.quota))
     s n (job_at s.world.table.jobs n) (λ j is. tt))
 
 -- where no wants are changed
-other-asked : (size : ℕ) (requests : List Request) (n : ℕ) (r : Result LockCall Refusal) → AsksNoChange r → LeaveOrCome IsSame n requests (asked size requests n r).requests
+other-asked : (size : ℕ) (requests : List Request) (n : ℕ) (r : Result LockCall Refusal) → AsksNoChange r
+    → LeaveOrCome IsSame n requests (asked size requests n r).requests
 other-asked size requests n (Err refusal) h = inl (stay requests)
 other-asked size requests n (Ok call) h = (nobody_comes_in_front size).by_other_calls requests n call h
 
@@ -290,8 +321,11 @@ other-allowed : (a b : Bool) → (a && b) ≡ false → a ≡ true → b ≡ fal
 other-allowed true b bare h = bare
 other-allowed false b bare h = absurd (cc)
 
-other-enq : (size : ℕ) (requests : List Request) (cores : Cores) (n : ℕ) (j : Job) (c : MonitorCall) → changes_wants j (Some c) ≡ false → is_enq (service_of c.kind c.ac c.e) ≡ true
-    → LeaveOrCome IsSame n requests (asked size requests n (enq_asks j.regs.ac (core_of cores n) n (ac_of j c.ac) (is_some j.interrupts.vector) j.quota)).requests
+other-enq : (size : ℕ) (requests : List Request) (cores : Cores) (n : ℕ) (j : Job) (c : MonitorCall)
+    → changes_wants j (Some c) ≡ false
+    → is_enq (service_of c.kind c.ac c.e) ≡ true
+    → LeaveOrCome IsSame n requests
+    (asked size requests n (enq_asks j.regs.ac (core_of cores n) n (ac_of j c.ac) (is_some j.interrupts.vector) j.quota)).requests
 other-enq size requests cores n j c bare is =
     other-asked size requests n _
     (enq-no j.regs.ac (core_of cores n) n (ac_of j c.ac) (is_some j.interrupts.vector) j.quota
@@ -306,7 +340,10 @@ other-step s (Some n) bare =
 
 other-event : (s : S) (e : Event) → is_change_of_wants s e ≡ false → LeaveOrComeOver IsSame s e
 other-event s Step bare = other-step s (next_job s.world.table s.world.lines s.world.requests) bare
-other-event s Tick bare = inl ((nobody_comes_in_front s.world.size).by_withdrawals s.world.requests (expires s.world.requests (ticked_table s.world.table).jobs))
+other-event s Tick bare =
+    inl
+    ((nobody_comes_in_front s.world.size).by_withdrawals s.world.requests
+    (expires s.world.requests (ticked_table s.world.table).jobs))
 other-event s (Typed line c) bare = inl (leave-typed s line c)
 other-event s (Take line n) bare = inl (leave-taken s line n)
 other-event s (Login line image) bare = inl (leave-logged_in s line image.now.words.items image.now.start)

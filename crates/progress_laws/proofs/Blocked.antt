@@ -149,7 +149,9 @@ blocked-wanted job key requests b =
     list_any-Has (wants_key job key) requests b.request (and_from _ _ (eq-eqb b.request.job job b.by) (blocked-named job key requests b))
     (subst (λ l. Has l b.request) (sym b.is) (Has-middle b.before b.later b.request))
 
-pub blocked-without : {size : ℕ} (job : ℕ) (key : Key) (requests : List Request) → SafeRequests size requests → BlockedFor job key requests → owns requests job key ≡ false
+pub blocked-without : {size : ℕ} (job : ℕ) (key : Key) (requests : List Request) → SafeRequests size requests
+    → BlockedFor job key requests
+    → owns requests job key ≡ false
 blocked-without job key requests safe b = false-of (owns requests job key) (λ owning.
     let f = list_any-found (λ (r : Request). r.job == job) (owners requests key) owning in
     let c = chosen-Has (is_owner key) [] requests f.0 f.1 in
@@ -161,7 +163,9 @@ blocked-without job key requests safe b = false-of (owns requests job key) (λ o
     both_ways _ b.late granted)
 
 -- a job waits for one key
-pub blocked-once : (job : ℕ) (key other : Key) (requests : List Request) → WaitsByLatest requests → BlockedFor job key requests → BlockedFor job other requests → key ≡ other
+pub blocked-once : (job : ℕ) (key other : Key) (requests : List Request) → WaitsByLatest requests → BlockedFor job key requests
+    → BlockedFor job other requests
+    → key ≡ other
 unfolding WaitsLast
 blocked-once job key other requests latest b c =
     elim (places b.before b.later c.before c.later b.request c.request (sym b.is ∙ c.is)) [
@@ -174,7 +178,9 @@ blocked-once job key other requests latest b c =
     ]
 
 -- the level rises from what a job has to what it waits for
-pub blocked-rises : {size : ℕ} (job : ℕ) (key : Key) (requests a m : List Request) (r : Request) (v : Want) → SafeRequests size requests → WaitsByLatest requests → IsPlainList requests
+pub blocked-rises : {size : ℕ} (job : ℕ) (key : Key) (requests a m : List Request) (r : Request) (v : Want)
+    → SafeRequests size requests → WaitsByLatest requests
+    → IsPlainList requests
     → (b : BlockedFor job key requests) → requests ≡ a ++ r ∷ m → r.job ≡ job → granted_behind a r ≡ true → Has r.wants.items v → v.level < b.want.level
 unfolding WaitsLast
 blocked-rises job key requests a m r v safe latest plain b is by granted has =

@@ -63,7 +63,8 @@ right-requested key terms low =
     by_test P (not terms.shared && not (terms.group == 0)) (Err BadPool) _ (λ _. tt)
     (λ grouped. by_test P (terms.pool_size == 0 && terms.pool_amount == 0) _ _
     (λ _. record { range = and_from _ _ low refl; shares = and_from _ _ (none-pooled terms.shared) (group-right terms.shared terms.group grouped) })
-    (λ _. by_test P (not terms.shared && is_right_share (share_of terms.pool_size terms.pool_amount)) (Ok (Some (share_of terms.pool_size terms.pool_amount))) (Err BadPool)
+    (λ _. by_test P (not terms.shared && is_right_share (share_of terms.pool_size terms.pool_amount))
+    (Ok (Some (share_of terms.pool_size terms.pool_amount))) (Err BadPool)
     (λ right. record {
       range = and_from _ _ low (and_parts (not terms.shared) (is_right_share (share_of terms.pool_size terms.pool_amount)) right).1;
       shares = and_from _ _ (pool-right terms.shared _ right) (group-right terms.shared terms.group grouped);
@@ -147,9 +148,14 @@ block-of n id limit (Ok ws) k h = record { some = omega (arith, h.count); few = 
 pub right-block : (ac core : List ℕ) (a job : ℕ) (use_of : BlockUse) → AsksFor use_of → OkHolds IsBlock (block_at ac core a job use_of)
 unfolding block_at
 right-block ac core a job use_of asks =
-    by_test (OkHolds IsBlock) (not (are_legal core a (2 + 3 * left_half (word ac core a)) && right_half (word ac core a) == 2 + 3 * left_half (word ac core a) && (may_have_limit use_of || left_half (word ac core (a + 1)) == 0))) (Err BadBlock) _ (λ _. tt)
+    by_test (OkHolds IsBlock)
+    (not
+    (are_legal core a (2 + 3 * left_half (word ac core a))
+    && right_half (word ac core a) == 2 + 3 * left_half (word ac core a)
+    && (may_have_limit use_of || left_half (word ac core (a + 1)) == 0))) (Err BadBlock) _ (λ _. tt)
     (λ _. by_test (OkHolds IsBlock) (left_half (word ac core a) == 0 || nat_lt LOCKS_A_CALL (left_half (word ac core a))) (Err BadCount) _ (λ _. tt)
-    (λ some. block-of (left_half (word ac core a)) _ _ (wants_at ac core job use_of (a + 2) (left_half (word ac core a))) (count-some _ some) (right-wants ac core job use_of (a + 2) (left_half (word ac core a)) asks)))
+    (λ some. block-of (left_half (word ac core a)) _ _ (wants_at ac core job use_of (a + 2) (left_half (word ac core a)))
+    (count-some _ some) (right-wants ac core job use_of (a + 2) (left_half (word ac core a)) asks)))
 
 some-of : (n id limit : ℕ) (r : Result (List Want) Refusal) → (1 ≤ n) × (n ≤ LOCKS_A_CALL) → OkHolds (λ (ws : List Want). length ws ≡ n) r
     → OkHolds (λ (b : Block). 1 ≤ length b.wants.items) (r >>= (λ wants. Ok (record { id = id; limit = limit; wants = record { items = wants } })))
@@ -160,6 +166,11 @@ pub some-block : (ac core : List ℕ) (a job : ℕ) (use_of : BlockUse) → OkHo
 unfolding block_at
 some-block ac core a job use_of =
     let P : Result Block Refusal → Type 0 = OkHolds (λ (b : Block). 1 ≤ length b.wants.items) in
-    by_test P (not (are_legal core a (2 + 3 * left_half (word ac core a)) && right_half (word ac core a) == 2 + 3 * left_half (word ac core a) && (may_have_limit use_of || left_half (word ac core (a + 1)) == 0))) (Err BadBlock) _ (λ _. tt)
+    by_test P
+    (not
+    (are_legal core a (2 + 3 * left_half (word ac core a))
+    && right_half (word ac core a) == 2 + 3 * left_half (word ac core a)
+    && (may_have_limit use_of || left_half (word ac core (a + 1)) == 0))) (Err BadBlock) _ (λ _. tt)
     (λ _. by_test P (left_half (word ac core a) == 0 || nat_lt LOCKS_A_CALL (left_half (word ac core a))) (Err BadCount) _ (λ _. tt)
-    (λ some. some-of (left_half (word ac core a)) _ _ (wants_at ac core job use_of (a + 2) (left_half (word ac core a))) (count-some _ some) (counted ac core job use_of (a + 2) (left_half (word ac core a)))))
+    (λ some. some-of (left_half (word ac core a)) _ _ (wants_at ac core job use_of (a + 2) (left_half (word ac core a)))
+    (count-some _ some) (counted ac core job use_of (a + 2) (left_half (word ac core a)))))

@@ -95,13 +95,16 @@ owed-falls b test s (Typed line c) j least most may has ticks other =
 owed-falls b test s (Take line n) j least most may has ticks other =
     owed-other b test j s (happens s (Take line n)).state (still-taken s line n).quantum (still-taken s line n).calm
 owed-falls b test s (Login line image) j least most may has ticks other =
-    owed-other b test j s (happens s (Login line image)).state (steady-logged_in s line image.now.words.items image.now.start).quantum (steady-logged_in s line image.now.words.items image.now.start).calm
+    owed-other b test j s (happens s (Login line image)).state
+    (steady-logged_in s line image.now.words.items image.now.start).quantum
+    (steady-logged_in s line image.now.words.items image.now.start).calm
 owed-falls b test s (Start n) j least most may has ticks other =
     owed-other b test j s (happens s (Start n)).state (still-started s n).quantum (still-started s n).calm
 owed-falls b test s (Continue n) j least most may has ticks other =
     owed-other b test j s (happens s (Continue n)).state (still-continued s n).quantum (still-continued s n).calm
 owed-falls b test s (Kill n) j least most may has ticks other =
-    owed-other b test j s (happens s (Kill n)).state (still-killed s n (job_at s.world.table.jobs n)).quantum (still-killed s n (job_at s.world.table.jobs n)).calm
+    owed-other b test j s (happens s (Kill n)).state (still-killed s n (job_at s.world.table.jobs n)).quantum
+    (still-killed s n (job_at s.world.table.jobs n)).calm
 owed-falls b test s Restart j least most may has ticks other = absurd may
 
 pub quantum-kept : (s : S) (e : Event) → (happens s e).state.quantum ≡ s.quantum

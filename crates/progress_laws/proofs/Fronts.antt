@@ -145,7 +145,8 @@ module _ (P : Want → Want → Type 0) (same : (w : Want) → P w w) (after : (
 changed-same : (changes : List Want) (w : Want) → IsSameButSharing w (changed_want changes w)
 changed-same [] w = refl
 changed-same (c ∷ later) w =
-    by_test (λ (v : Want). IsSameButSharing w v) (same_key w.key c.key) (record w { shared = c.shared; group = changed_group c.shared w }) (changed_want later w)
+    by_test (λ (v : Want). IsSameButSharing w v) (same_key w.key c.key)
+    (record w { shared = c.shared; group = changed_group c.shared w }) (changed_want later w)
     refl (changed-same later w)
 
 remains-changed : (job : ℕ) (changes : List Want) (r : Request) → Remains IsSameButSharing r (changed job changes r)
@@ -170,21 +171,24 @@ thin-shared none = none
 thin-shared (stays p t) = stays (remains-shared _ _ p) (thin-shared t)
 thin-shared (leaves t) = leaves (thin-shared t)
 
-dequeues : (size : ℕ) (requests : List Request) (job : ℕ) (call : LockCall) → is_dequeue call ≡ true → Thinned (Remains IsSame) requests (outcome_of size requests job call).requests
+dequeues : (size : ℕ) (requests : List Request) (job : ℕ) (call : LockCall) → is_dequeue call ≡ true
+    → Thinned (Remains IsSame) requests (outcome_of size requests job call).requests
 dequeues size requests job (Enqueue asking wants) h = absurd (cc)
 dequeues size requests job (Modify wants) h = absurd (cc)
 dequeues size requests job (DequeueNamed wants) h = leave-named IsSame (λ w. refl) same-then requests job wants.items
 dequeues size requests job DequeueAll h = leave-where IsSame (λ w. refl) requests (is_of_job job)
 dequeues size requests job (DequeueId id) h = leave-where IsSame (λ w. refl) requests (has_id job id)
 
-calls : (size : ℕ) (requests : List Request) (job : ℕ) (call : LockCall) → LeaveOrCome IsSameButSharing job requests (outcome_of size requests job call).requests
+calls : (size : ℕ) (requests : List Request) (job : ℕ) (call : LockCall)
+    → LeaveOrCome IsSameButSharing job requests (outcome_of size requests job call).requests
 calls size requests job (Enqueue asking wants) = come-enqueue IsSameButSharing (λ w. refl) size requests job asking wants
 calls size requests job (Modify wants) = inl (leave-modify requests job wants.items)
 calls size requests job (DequeueNamed wants) = inl (thin-shared (dequeues size requests job (DequeueNamed wants) refl))
 calls size requests job DequeueAll = inl (thin-shared (dequeues size requests job DequeueAll refl))
 calls size requests job (DequeueId id) = inl (thin-shared (dequeues size requests job (DequeueId id) refl))
 
-other-calls : (size : ℕ) (requests : List Request) (job : ℕ) (call : LockCall) → is_change call ≡ false → LeaveOrCome IsSame job requests (outcome_of size requests job call).requests
+other-calls : (size : ℕ) (requests : List Request) (job : ℕ) (call : LockCall) → is_change call ≡ false
+    → LeaveOrCome IsSame job requests (outcome_of size requests job call).requests
 other-calls size requests job (Enqueue asking wants) h = come-enqueue IsSame (λ w. refl) size requests job asking wants
 other-calls size requests job (Modify wants) h = absurd (cc)
 other-calls size requests job (DequeueNamed wants) h = inl (dequeues size requests job (DequeueNamed wants) refl)

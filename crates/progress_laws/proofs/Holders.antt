@@ -169,7 +169,8 @@ pub heads : (n : ℕ) (key : Key) (before after : List Request) → Head n key b
 heads n key before after b a t =
     let u : Thinned (Remains IsSameButSharing) (ahead_of n key before) (ahead_of n key after) =
     thin-passing (Remains IsSameButSharing) (is_for key) (for-remains key) t in
-    let v : Thinned (Remains IsSameButSharing) (b.first ∷ b.more) (ahead_of n key after) = subst (λ l. Thinned (Remains IsSameButSharing) l (ahead_of n key after)) b.is u in
+    let v : Thinned (Remains IsSameButSharing) (b.first ∷ b.more) (ahead_of n key after) =
+    subst (λ l. Thinned (Remains IsSameButSharing) l (ahead_of n key after)) b.is u in
     go (thin-first (Remains IsSameButSharing) v a.first a.more a.is)
   where
     go : (Remains IsSameButSharing b.first a.first × (length (ahead_of n key after) ≤ suc (length b.more))) ⊎ (length (ahead_of n key after) ≤ length b.more)

@@ -82,7 +82,8 @@ key-none j requests plain none waits = go (chosen (is_blocked j) requests) refl 
     there : Has (chosen (is_blocked j) requests) w.request
     there =
         subst (λ l. Has (chosen (is_blocked j) l) w.request) (sym w.is)
-        (Has-chosen (is_blocked j) [] w.before w.after w.request (and_from _ _ (and_from _ _ (eq-eqb w.request.job j w.by) w.blocking) (not_from_false _ w.late)))
+        (Has-chosen (is_blocked j) [] w.before w.after w.request
+        (and_from _ _ (and_from _ _ (eq-eqb w.request.job j w.by) w.blocking) (not_from_false _ w.late)))
 
     go : (l : List Request) → chosen (is_blocked j) requests ≡ l → key_of l ≡ None → ⊥
     go [] is e = subst (λ l. Has l w.request) is there
@@ -262,10 +263,13 @@ module _ (test : ℕ → Bool) (q most few : ℕ) (levels : List ℕ) (some : 1 
         granted = first-granted key s.world.requests g.well (λ r has named. alone-of s g key r (Has-Contains s.world.requests r has) named) f;
       }
 
-  held-rises : (n : ℕ) (key other : Key) (s : S) (g : Ground s) (w : IsWithout n key s) (b : BlockedFor (held key s) other s.world.requests) → (held-by n key s g w).want.level < b.want.level
+  held-rises : (n : ℕ) (key other : Key) (s : S) (g : Ground s) (w : IsWithout n key s)
+      (b : BlockedFor (held key s) other s.world.requests)
+      → (held-by n key s g w).want.level < b.want.level
   held-rises n key other s g w b =
       let h : Held key s = held-by n key s g w in
-      blocked-rises (held key s) other s.world.requests h.first.before h.first.later h.first.request h.want g.safe.queued.safe g.safe.queued.latest g.plain b h.first.is (sym h.first.job) h.granted h.has
+      blocked-rises (held key s) other s.world.requests h.first.before h.first.later h.first.request h.want g.safe.queued.safe
+      g.safe.queued.latest g.plain b h.first.is (sym h.first.job) h.granted h.has
 
   held-in : (n : ℕ) (key : Key) (s : S) (g : Ground s) (w : IsWithout n key s) → Has s.world.requests (held-by n key s g w).first.request
   held-in n key s g w =
@@ -286,14 +290,18 @@ module _ (test : ℕ → Bool) (q most few : ℕ) (levels : List ℕ) (some : 1 
       let fewer = fewer-above levels h.want.level b.want.level (level-in s g b.request b.want here mine) up in
       omega (arith, fewer, most_level)
 
-  above-next : (d n : ℕ) (key other : Key) (s : S) → Ground s → IsWithout n key s → Above (suc d) key s → BlockedFor (held key s) other s.world.requests → Above d other s
+  above-next : (d n : ℕ) (key other : Key) (s : S) → Ground s → IsWithout n key s → Above (suc d) key s
+      → BlockedFor (held key s) other s.world.requests
+      → Above d other s
   above-next d n key other s g w above b r v has wants named =
       let h : Held key s = held-by n key s g w in
       let up = held-rises n key other s g w b in
       let most_level = above h.first.request h.want (held-in n key s g w) h.has h.key_is in
       let here : Has s.world.requests b.request = subst (λ l. Has l b.request) (sym b.is) (Has-middle b.before b.later b.request) in
       let mine : Has b.request.wants.items b.want = subst (λ l. Has l b.want) (sym b.wants) (inl refl) in
-      let alike : Kin v b.want = kin s.world.requests (kept-safe s.world.size s.world.requests g.safe.queued.safe).ordered r b.request v b.want has here wants mine (named ∙ sym b.key_is) in
+      let alike : Kin v b.want =
+      kin s.world.requests (kept-safe s.world.size s.world.requests g.safe.queued.safe).ordered r b.request v b.want has here
+      wants mine (named ∙ sym b.key_is) in
       let fewer = fewer-above levels h.want.level b.want.level (level-in s g b.request b.want here mine) up in
       let most_other : above_in levels b.want.level ≤ d = omega (arith, fewer, most_level) in
       subst (λ (l : ℕ). above_in levels l ≤ d) (sym alike.level) most_other
@@ -310,7 +318,8 @@ module _ (test : ℕ → Bool) (q most few : ℕ) (levels : List ℕ) (some : 1 
       go true c h = omega arith
       go false c h = by-for (is_for key r) h
         where
-          by-for : (c : Bool) → length (filter (is_for key) front) ≤ length rs → length (cond c (r ∷ filter (is_for key) front) (filter (is_for key) front)) ≤ suc (length rs)
+          by-for : (c : Bool) → length (filter (is_for key) front) ≤ length rs
+              → length (cond c (r ∷ filter (is_for key) front) (filter (is_for key) front)) ≤ suc (length rs)
           by-for true h = omega (arith, h)
           by-for false h = omega (arith, h)
 
@@ -329,7 +338,8 @@ module _ (test : ℕ → Bool) (q most few : ℕ) (levels : List ℕ) (some : 1 
         let steps = steps-few most (held key s) key s es some (given key) in
         let one = head-some n key s.world.requests (stage-head n key test q s (stage-of n key s g w)) in
         let all : pot false n key s es < ahead n key s * (most * cost d) =
-        whole (pot false n key s es) (clock d false (held key s) s es) (steps_owning (held key s) key s es) (ahead n key s) most (cost d) low steps one (omega arith) in
+        whole (pot false n key s es) (clock d false (held key s) s es) (steps_owning (held key s) key s es) (ahead n key s) most
+        (cost d) low steps one (omega arith) in
         omega (arith, all)
 
     pot-high : (s : S) (es : List Event) (n : ℕ) (key : Key) → Ground s → IsWithout n key s → Above d key s → AllGiven s es
@@ -338,8 +348,10 @@ module _ (test : ℕ → Bool) (q most few : ℕ) (levels : List ℕ) (some : 1 
         let high = k.high s es n key g w above given in
         let steps = steps-few most (held key s) key s es some (given key) in
         let one = head-some n key s.world.requests (stage-head n key test q s (stage-of n key s g w)) in
-        let p : steps_owning (held key s) key s es * cost d + cost d ≤ most * cost d = times-one-less (steps_owning (held key s) key s es) most (cost d) steps in
-        let r : (ahead n key s - 1) * (most * cost d) + most * cost d ≤ ahead n key s * (most * cost d) = times-one-less (ahead n key s - 1) (ahead n key s) (most * cost d) (omega (arith, one)) in
+        let p : steps_owning (held key s) key s es * cost d + cost d ≤ most * cost d =
+        times-one-less (steps_owning (held key s) key s es) most (cost d) steps in
+        let r : (ahead n key s - 1) * (most * cost d) + most * cost d ≤ ahead n key s * (most * cost d) =
+        times-one-less (ahead n key s - 1) (ahead n key s) (most * cost d) (omega (arith, one)) in
         omega (arith, high, p, r)
 
     pot-falls : (b : Bool) (s : S) (e : Event) (es : List Event) (n : ℕ) (key : Key) → Ground s → Ground (happens s e).state → IsWithout n key s
@@ -355,10 +367,12 @@ module _ (test : ℕ → Bool) (q most few : ℕ) (levels : List ℕ) (some : 1 
         go owing steps gs gu (stage-moves n key test q s e gs gu) (is_ran (held key s) (happens s e).answer) refl
       where
         more : Stays n key s.world.requests (happens s e).state.world.requests
-            → steps_owning (held key s) key s (e ∷ es) ≡ cond (is_ran (held key s) (happens s e).answer) 1 0 + steps_owning (held key s) key (happens s e).state es
+            → steps_owning (held key s) key s (e ∷ es)
+            ≡ cond (is_ran (held key s) (happens s e).answer) 1 0 + steps_owning (held key s) key (happens s e).state es
         more t =
             steps-more (held key s) key s e es (stage-owns n key test q s (stage-of n key s g w))
-            (subst (λ (j : ℕ). owns (happens s e).state.world.requests j key ≡ true) t.same (stage-owns n key test q (happens s e).state (stage-of n key (happens s e).state h v)))
+            (subst (λ (j : ℕ). owns (happens s e).state.world.requests j key ≡ true) t.same
+            (stage-owns n key test q (happens s e).state (stage-of n key (happens s e).state h v)))
 
         go : counted b e + clock d (begun_after b e) (held key (happens s e).state) (happens s e).state es ≤ cost d
             → steps_owning (held key (happens s e).state) key (happens s e).state es + 1 ≤ most
@@ -370,19 +384,29 @@ module _ (test : ℕ → Bool) (q most few : ℕ) (levels : List ℕ) (some : 1 
             let u : S = (happens s e).state in
             let one : 1 ≤ ahead n key u = head-some n key u.world.requests (stage-head n key test q u gu) in
             let all : counted b e + pot (begun_after b e) n key u es ≤ (ahead n key s - 1) * (most * cost d) =
-            fewer-ahead (counted b e + pot (begun_after b e) n key u es) (counted b e + clock d (begun_after b e) (held key u) u es) (steps_owning (held key u) key u es)
-            (ahead n key u) (ahead n key s) most (cost d) owing steps one fewer (sum-of (counted b e) (clock d (begun_after b e) (held key u) u es) (steps_owning (held key u) key u es * cost d) ((ahead n key u - 1) * (most * cost d))) in
-            over-of (counted b e + pot (begun_after b e) n key u es) (clock d b (held key s) s (e ∷ es)) (steps_owning (held key s) key s (e ∷ es) * cost d) ((ahead n key s - 1) * (most * cost d)) all
+            fewer-ahead (counted b e + pot (begun_after b e) n key u es)
+            (counted b e + clock d (begun_after b e) (held key u) u es) (steps_owning (held key u) key u es)
+            (ahead n key u) (ahead n key s) most (cost d) owing steps one fewer
+            (sum-of (counted b e) (clock d (begun_after b e) (held key u) u es) (steps_owning (held key u) key u es * cost d)
+            ((ahead n key u - 1) * (most * cost d))) in
+            over-of (counted b e + pot (begun_after b e) n key u es) (clock d b (held key s) s (e ∷ es))
+            (steps_owning (held key s) key s (e ∷ es) * cost d) ((ahead n key s - 1) * (most * cost d)) all
         go owing steps gs gu (inl t) true ran =
             let u : S = (happens s e).state in
             let is : steps_owning (held key s) key s (e ∷ es) ≡ 1 + steps_owning (held key u) key u es =
             more t ∙ ap (λ (c : Bool). cond c 1 0 + steps_owning (held key s) key u es) ran ∙ ap (λ (j : ℕ). 1 + steps_owning j key u es) (sym t.same) in
-            let all : counted b e + pot (begun_after b e) n key u es ≤ (1 + steps_owning (held key u) key u es) * cost d + (ahead n key s - 1) * (most * cost d) =
-            one-step (counted b e + pot (begun_after b e) n key u es) (counted b e + clock d (begun_after b e) (held key u) u es) (steps_owning (held key u) key u es)
-            (ahead n key u) (ahead n key s) (most * cost d) (cost d) owing t.fewer (sum-of (counted b e) (clock d (begun_after b e) (held key u) u es) (steps_owning (held key u) key u es * cost d) ((ahead n key u - 1) * (most * cost d))) in
-            let with : counted b e + pot (begun_after b e) n key u es ≤ steps_owning (held key s) key s (e ∷ es) * cost d + (ahead n key s - 1) * (most * cost d) =
+            let all : counted b e + pot (begun_after b e) n key u es
+            ≤ (1 + steps_owning (held key u) key u es) * cost d + (ahead n key s - 1) * (most * cost d) =
+            one-step (counted b e + pot (begun_after b e) n key u es) (counted b e + clock d (begun_after b e) (held key u) u es)
+            (steps_owning (held key u) key u es)
+            (ahead n key u) (ahead n key s) (most * cost d) (cost d) owing t.fewer
+            (sum-of (counted b e) (clock d (begun_after b e) (held key u) u es) (steps_owning (held key u) key u es * cost d)
+            ((ahead n key u - 1) * (most * cost d))) in
+            let with : counted b e + pot (begun_after b e) n key u es
+            ≤ steps_owning (held key s) key s (e ∷ es) * cost d + (ahead n key s - 1) * (most * cost d) =
             subst (λ (x : ℕ). counted b e + pot (begun_after b e) n key u es ≤ x * cost d + (ahead n key s - 1) * (most * cost d)) (sym is) all in
-            with-of (counted b e + pot (begun_after b e) n key u es) (clock d b (held key s) s (e ∷ es)) (steps_owning (held key s) key s (e ∷ es) * cost d) ((ahead n key s - 1) * (most * cost d)) with
+            with-of (counted b e + pot (begun_after b e) n key u es) (clock d b (held key s) s (e ∷ es))
+            (steps_owning (held key s) key s (e ∷ es) * cost d) ((ahead n key s - 1) * (most * cost d)) with
         go owing steps gs gu (inl t) false ran =
             let u : S = (happens s e).state in
             let less : counted b e + clock d (begun_after b e) (held key u) u es ≤ clock d b (held key s) s (e ∷ es) =
@@ -390,9 +414,12 @@ module _ (test : ℕ → Bool) (q most few : ℕ) (levels : List ℕ) (some : 1 
             (k.falls b s e es n key g h w v above over goes given t.same ran) in
             let is : steps_owning (held key s) key s (e ∷ es) ≡ 0 + steps_owning (held key u) key u es =
             more t ∙ ap (λ (c : Bool). cond c 1 0 + steps_owning (held key s) key u es) ran ∙ ap (λ (j : ℕ). 0 + steps_owning j key u es) (sym t.same) in
-            no-step (counted b e + pot (begun_after b e) n key u es) (counted b e + clock d (begun_after b e) (held key u) u es) (clock d b (held key s) s (e ∷ es))
+            no-step (counted b e + pot (begun_after b e) n key u es) (counted b e + clock d (begun_after b e) (held key u) u es)
+            (clock d b (held key s) s (e ∷ es))
             (steps_owning (held key u) key u es) (steps_owning (held key s) key s (e ∷ es)) (ahead n key u) (ahead n key s) (most * cost d) (cost d)
-            less (omega (arith, is)) t.fewer (sum-of (counted b e) (clock d (begun_after b e) (held key u) u es) (steps_owning (held key u) key u es * cost d) ((ahead n key u - 1) * (most * cost d)))
+            less (omega (arith, is)) t.fewer
+            (sum-of (counted b e) (clock d (begun_after b e) (held key u) u es) (steps_owning (held key u) key u es * cost d)
+            ((ahead n key u - 1) * (most * cost d)))
 
   -- a holder that cannot wait
   clocked-zero : Clocked 0
@@ -443,10 +470,13 @@ module _ (test : ℕ → Bool) (q most few : ℕ) (levels : List ℕ) (some : 1 
         → IsWithout n key (happens s e).state → Above (suc d) key s → Above (suc d) key (happens s e).state → OwnersGoOn s e → AllGiven (happens s e).state es
         → held key (happens s e).state ≡ held key s → is_ran (held key s) (happens s e).answer ≡ false → (o p : Option Key)
         → blocked_key (held key s) s.world.requests ≡ o → blocked_key (held key s) (happens s e).state.world.requests ≡ p
-        → counted b e + clock_by p once (owed (begun_after b e) test (held key s) (happens s e).state) (λ other. pot_by (clock d) (cost d) (begun_after b e) (held key s) other (happens s e).state es)
+        → counted b e
+        + clock_by p once (owed (begun_after b e) test (held key s) (happens s e).state)
+        (λ other. pot_by (clock d) (cost d) (begun_after b e) (held key s) other (happens s e).state es)
         ≤ clock_by o once (owed b test (held key s) s) (λ other. pot_by (clock d) (cost d) b (held key s) other s (e ∷ es))
     falls-next b s e es n key g h w v above over goes given same other None None is at =
-        owed-falls b test s e (held key s) (stage-least n key test q s (stage-of n key s g w)) (stage-most n key test q s (stage-of n key s g w)) may g.has g.time.some_ticks other
+        owed-falls b test s e (held key s) (stage-least n key test q s (stage-of n key s g w))
+        (stage-most n key test q s (stage-of n key s g w)) may g.has g.time.some_ticks other
       where
         may : MayRun (held key s) s e
         may = elim (goes (held key s) key (stage-owns n key test q s (stage-of n key s g w))) [
@@ -475,7 +505,8 @@ module _ (test : ℕ → Bool) (q most few : ℕ) (levels : List ℕ) (some : 1 
         let it : two ≡ one = blocked-once j two one s.world.requests g.safe.queued.latest was had in
         let held_later : BlockedFor (held key u) two u.world.requests = subst (λ (i : ℕ). BlockedFor i two u.world.requests) (sym same) later in
         let less : counted b e + pot_by (clock d) (cost d) (begun_after b e) j two u es ≤ pot_by (clock d) (cost d) b j two s (e ∷ es) =
-        pot-falls d k b s e es j two g h (without-of j two s g was) (without-of j two u h later) (above-next d n key two s g w above was) (above-next d n key two u h v over held_later) goes given in
+        pot-falls d k b s e es j two g h (without-of j two s g was) (without-of j two u h later)
+        (above-next d n key two s g w above was) (above-next d n key two u h v over held_later) goes given in
         let whole_less : counted b e + pot_by (clock d) (cost d) (begun_after b e) j two u es ≤ pot_by (clock d) (cost d) b j one s (e ∷ es) =
         subst (λ (x : Key). counted b e + pot_by (clock d) (cost d) (begun_after b e) j two u es ≤ pot_by (clock d) (cost d) b j x s (e ∷ es)) it less in
         both-of (counted b e) (pot_by (clock d) (cost d) (begun_after b e) j two u es) (pot_by (clock d) (cost d) b j one s (e ∷ es)) once whole_less
@@ -528,7 +559,8 @@ module _ (test : ℕ → Bool) (q most few : ℕ) (levels : List ℕ) (some : 1 
 
   ground-next : (n : ℕ) (key : Key) (s : S) (e : Event) (es : List Event) → Ground s → Course n key s (e ∷ es) → Ground (happens s e).state
   ground-next n key s e es g c =
-      ground-of n key (happens s e).state es (safe-happens s e g.safe) (time_is_kept s e g.time) (well_is_kept s e g.safe g.well) (quantum-kept s e ∙ g.quantum) (course-next n key s e es c)
+      ground-of n key (happens s e).state es (safe-happens s e g.safe) (time_is_kept s e g.time) (well_is_kept s e g.safe g.well)
+      (quantum-kept s e ∙ g.quantum) (course-next n key s e es c)
 
   above-all : (key : Key) (s : S) → Ground s → Above (length levels - 1) key s
   above-all key s g r w has wants named =
@@ -547,7 +579,8 @@ module _ (test : ℕ → Bool) (q most few : ℕ) (levels : List ℕ) (some : 1 
       let above : (t : S) → Ground t → Above d key t = λ t gt. subst (λ (x : ℕ). Above x key t) (sym is) (above-all key t gt) in
       let less = pot-falls d (clocked d) b s e es n key g h w v (above s g) (above u h) c.goes.0 next.given in
       let rest = goes-on d is (begun_after b e) n key u es h next in
-      along-of (rounds_from b (e ∷ es)) (counted b e) (rounds_from (begun_after b e) es) (pot_by (clock d) (cost d) (begun_after b e) n key u es) (pot_by (clock d) (cost d) b n key s (e ∷ es))
+      along-of (rounds_from b (e ∷ es)) (counted b e) (rounds_from (begun_after b e) es)
+      (pot_by (clock d) (cost d) (begun_after b e) n key u es) (pot_by (clock d) (cost d) b n key s (e ∷ es))
       (rounds-cons b e es) rest less
 
 pub is_granted_by_levels : (s : S) (es : List Event) → Safe s → KeepsTime s → IsWellFormed s → IsGrantedByLevels s es

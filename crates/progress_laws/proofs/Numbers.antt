@@ -41,7 +41,8 @@ moved-low : (m : ℕ) (g : ℕ → ℕ) → Low (suc m) g → Apart (suc m) g �
 moved-low m g low apart i few = elim (cases_eq (g i) m) [
   | inl e ↦
       let last = low (suc m) (omega arith) in
-      let ne : g (suc m) ≢ m = λ f. let same : i ≡ suc m = apart i (suc m) (omega (arith, few)) (omega arith) (e ∙ sym f) in absurd (omega (arith, same, few)) in
+      let ne : g (suc m) ≢ m = λ f. let same : i ≡ suc m = apart i (suc m) (omega (arith, few)) (omega arith) (e ∙ sym f) in
+      absurd (omega (arith, same, few)) in
       rw (moved-top m g i e) (omega (arith, last, ne))
   | inr ne ↦ let here = low i (omega (arith, few)) in rw (moved-other m g i ne) (omega (arith, here, ne))
 ]
@@ -133,7 +134,8 @@ free-low jobs line n apart below low none is = elim (cases_lt LINES n) [
         | inr also ↦
             let f : line_in (job_at jobs (suc i)) ≡ line_in (job_at jobs (suc j)) = sym (line-other jobs line i ne) ∙ e ∙ line-other jobs line j also in
             let same : suc i ≡ suc j =
-            apart (suc i) (suc j) (line_in (job_at jobs (suc j))) (there high i (omega (arith, few, ne)) ∙ ap Some f) (there high j (omega (arith, less, also))) in
+            apart (suc i) (suc j) (line_in (job_at jobs (suc j))) (there high i (omega (arith, few, ne)) ∙ ap Some f)
+            (there high j (omega (arith, less, also))) in
             omega (arith, same)
       ]
     ]
@@ -161,7 +163,9 @@ low-admitted s line words start blocks None low has = has
 low-admitted s line words start blocks (Some n) low has =
     by_test (λ (m : Made). LowState m.state) (nat_le blocks s.world.cores.free) _ _ (λ _. low-come s.world.table.jobs n _ (low n refl) has) (λ _. has)
 
-low-examined : (s : S) (line : ℕ) (words : List (ℕ × ℕ)) (start : ℕ) (o : Option ℕ) → ((n : ℕ) → free_number s.world.table.jobs ≡ Some n → n ≤ LINES) → LowState s
+low-examined : (s : S) (line : ℕ) (words : List (ℕ × ℕ)) (start : ℕ) (o : Option ℕ)
+    → ((n : ℕ) → free_number s.world.table.jobs ≡ Some n → n ≤ LINES)
+    → LowState s
     → LowState (examined s line words start o).state
 low-examined s line words start None low has = has
 low-examined s line words start (Some top) low has = low-admitted s line words start (blocks_for top) (free_number s.world.table.jobs) low has

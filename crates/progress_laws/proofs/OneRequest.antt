@@ -120,7 +120,8 @@ module _ (n : ℕ) (key : Key) (test : ℕ → Bool) (q most : ℕ) (some : 1 �
 
   stage-next : (s : S) (e : Event) (es : List Event) → Stage s → Course s (e ∷ es) → Stage (happens s e).state
   stage-next s e es g c =
-      stage-of (happens s e).state es (safe-happens s e g.safe) (time_is_kept s e g.time) (well_is_kept s e g.safe g.well) (quantum-kept s e ∙ g.quantum) (course-next s e es c)
+      stage-of (happens s e).state es (safe-happens s e g.safe) (time_is_kept s e g.time) (well_is_kept s e g.safe g.well)
+      (quantum-kept s e ∙ g.quantum) (course-next s e es c)
 
   -- the job of the first request is there, and is owed a turn at most
   abbrev led_by : (s : S) → Stage s → ℕ
@@ -214,10 +215,13 @@ module _ (n : ℕ) (key : Key) (test : ℕ → Bool) (q most : ℕ) (some : 1 �
             owes (λ d. owed d test (led_by u h) u) (turn test q) b e (led-owed u h) (led-begun u h) in
             let is : steps_owning (led_by s g) t.0 s (e ∷ es) ≡ 1 + steps_owning (led_by u h) t.0 u es =
             more ∙ ap (λ (a : Bool). cond a 1 0 + steps_owning (led_by u h) t.0 u es) ran in
-            let all : counted b e + rounds_from (begun_after b e) es ≤ (1 + steps_owning (led_by u h) t.0 u es) * turn test q + (in_line s - 1) * (most * turn test q) =
-            one-step (counted b e + rounds_from (begun_after b e) es) (counted b e + owed (begun_after b e) test (led_by u h) u) (steps_owning (led_by u h) t.0 u es)
+            let all : counted b e + rounds_from (begun_after b e) es
+            ≤ (1 + steps_owning (led_by u h) t.0 u es) * turn test q + (in_line s - 1) * (most * turn test q) =
+            one-step (counted b e + rounds_from (begun_after b e) es) (counted b e + owed (begun_after b e) test (led_by u h) u)
+            (steps_owning (led_by u h) t.0 u es)
             (in_line u) (in_line s) (most * turn test q) (turn test q) owing fewer (omega (arith, t.2)) in
-            let with : counted b e + rounds_from (begun_after b e) es ≤ steps_owning (led_by s g) t.0 s (e ∷ es) * turn test q + (in_line s - 1) * (most * turn test q) =
+            let with : counted b e + rounds_from (begun_after b e) es
+            ≤ steps_owning (led_by s g) t.0 s (e ∷ es) * turn test q + (in_line s - 1) * (most * turn test q) =
             subst (λ (x : ℕ). counted b e + rounds_from (begun_after b e) es ≤ x * turn test q + (in_line s - 1) * (most * turn test q)) (sym is) all in
             omega (arith, rounds-cons b e es, with)
         sum false ran =
@@ -228,7 +232,9 @@ module _ (n : ℕ) (key : Key) (test : ℕ → Bool) (q most : ℕ) (some : 1 �
             subst (λ (j : ℕ). counted b e + owed (begun_after b e) test j u ≤ owed b test (led_by s g) s) (sym r.job) falls in
             let is : steps_owning (led_by s g) t.0 s (e ∷ es) ≡ 0 + steps_owning (led_by u h) t.0 u es =
             more ∙ ap (λ (a : Bool). cond a 1 0 + steps_owning (led_by u h) t.0 u es) ran in
-            let all = no-step (counted b e + rounds_from (begun_after b e) es) (counted b e + owed (begun_after b e) test (led_by u h) u) (owed b test (led_by s g) s)
+            let all =
+            no-step (counted b e + rounds_from (begun_after b e) es)
+            (counted b e + owed (begun_after b e) test (led_by u h) u) (owed b test (led_by s g) s)
             (steps_owning (led_by u h) t.0 u es) (steps_owning (led_by s g) t.0 s (e ∷ es)) (in_line u) (in_line s) (most * turn test q) (turn test q)
             less (omega (arith, is)) fewer (omega (arith, t.2)) in
             omega (arith, rounds-cons b e es, all)

@@ -92,7 +92,11 @@ rounds-step test t lines requests q k n l next some most ready counts other tick
     found-before (is_ready t.jobs lines requests) JOBS (after t.current) k i e (omega arith)
     (subst (λ (m : ℕ). is_ready t.jobs lines requests m ≡ true) (sym (reached t.current n some most)) ready) in
     let new : (chosen t k q).left ≡ q =
-    left-new t k q (λ same left. both_ways _ stops (let a = lt-ltb 0 t.left left in let b : is_ready t.jobs lines requests t.current ≡ true = subst (λ (m : ℕ). is_ready t.jobs lines requests m ≡ true) (sym same) here in rw (a, b) refl)) in
+    left-new t k q
+    (λ same left. both_ways _ stops
+    (let a = lt-ltb 0 t.left left in
+    let b : is_ready t.jobs lines requests t.current ≡ true =
+    subst (λ (m : ℕ). is_ready t.jobs lines requests m ≡ true) (sym same) here in rw (a, b) refl)) in
     let before : f.place ≢ i = λ is. other (f.is ∙ ap (λ (x : ℕ). at (after t.current) x) is ∙ reached t.current n some most) in
     rounds-next test q t.current k t.left l n f.place some most f.is (omega (arith, f.low, before))
     (counts k (ready-there lines requests k (job_at t.jobs k) here)) other ticks (omega (arith, low, new)))
@@ -141,7 +145,8 @@ ends-calm : (begun : Bool) (test : ℕ → Bool) (n : ℕ) (s u : S) (es : List 
 ends-calm begun test n s u es a same c (inl few) = inl (omega (arith, few, owed-calm begun test n s u same c))
 ends-calm begun test n s u es a same c (inr runs) = inr (contains-later a (Ran n) (answers es u) runs)
 
-ends-ticked : (test : ℕ → Bool) (n : ℕ) (s u : S) (es : List Event) (a : Answer) → owed false test n u ≡ rounds_before test s.quantum s.world.table.current (s.world.table.left - 1) n
+ends-ticked : (test : ℕ → Bool) (n : ℕ) (s u : S) (es : List Event) (a : Answer)
+    → owed false test n u ≡ rounds_before test s.quantum s.world.table.current (s.world.table.left - 1) n
     → Ends false test n u es → (suc (rounds_from false es) ≤ owed true test n s) ⊎ Contains (a ∷ answers es u) (Ran n)
 ends-ticked test n s u es a is (inl few) = inl (omega (arith, few, is))
 ends-ticked test n s u es a is (inr runs) = inr (contains-later a (Ran n) (answers es u) runs)
@@ -240,7 +245,9 @@ pub runs_in_time : (s : S) (es : List Event) → Safe s → KeepsTime s → Runs
 runs_in_time s es h time n test may has many =
     let o = seen test n s es may (always_safe s es h) has (omega (arith, many)) in
     let first : HasJobs test s = always-first (HasJobs test) s es has in
-    let most = rounds-most test s.quantum s.world.table.current s.world.table.left n o.number.0 o.number.1 o.counts time.most (current-counts test s h first time) in
+    let most =
+    rounds-most test s.quantum s.world.table.current s.world.table.left n o.number.0 o.number.1 o.counts time.most
+    (current-counts test s h first time) in
     by-ends most many (ends false test n s es o.number.0 o.number.1 time.some_ticks may has)
   where
     by-ends : owed false test n s ≤ (how_many test - 1) * s.quantum → (how_many test - 1) * s.quantum < rounds_in es
@@ -305,7 +312,9 @@ runs_in_time_among_these s es h time n may old many =
 
 -- every state of a run keeps time
 chosen-most : (t : Table) (k q : ℕ) → t.left ≤ q → (chosen t k q).left ≤ q
-chosen-most t k q low = by_test (λ (u : Table). u.left ≤ q) ((t.current == k) && nat_lt 0 t.left) t (record t { current = k; left = q }) (λ _. low) (λ _. omega arith)
+chosen-most t k q low =
+    by_test (λ (u : Table). u.left ≤ q) ((t.current == k) && nat_lt 0 t.left) t (record t { current = k; left = q }) (λ _. low)
+    (λ _. omega arith)
 
 time-calm : (s u : S) → u.quantum ≡ s.quantum → Calm s.world.table u.world.table → KeepsTime s → KeepsTime u
 time-calm s u same c h = record {

@@ -95,7 +95,8 @@ was-blocked s e job key safe after plain other (inl t) b =
       late = false-of (granted_behind c.front r) (λ granted.
           let named : names r.wants.items key ≡ true = names-Has r.wants.items key one.want (subst (λ l. Has l one.want) (sym one.is) (inl refl)) key_is in
           let had : owns s.world.requests job key ≡ true = owns-by s.world.requests c.front c.back r job key c.is by named granted in
-          let lacks : owns (happens s e).state.world.requests job key ≡ false = blocked-without job key (happens s e).state.world.requests after.queued.safe b in
+          let lacks : owns (happens s e).state.world.requests job key ≡ false =
+          blocked-without job key (happens s e).state.world.requests after.queued.safe b in
           given-not s e job key safe other had b (keeps_owners s e job key had lacks));
       wants = one.is;
       key_is = key_is;

@@ -34,7 +34,9 @@ use Rattle.progress_laws.proofs.Places.{or-behind}
 use Rattle.progress_laws.specs.Wakes.{FirstIsGranted, HasRoom, WhoHasRoomIsGranted, WaitersWaitForOthers, GrantedAreReady, IsReadyUnlessStopped, NobodyWaitsPastALimit}
 
 -- a request that is there has pools that are right
-pub right-pool : (requests : List Request) (r : Request) (w : Want) → are_well_formed requests ≡ true → Has requests r → Has r.wants.items w → is_right_pool w.pool ≡ true
+pub right-pool : (requests : List Request) (r : Request) (w : Want) → are_well_formed requests ≡ true → Has requests r
+    → Has r.wants.items w
+    → is_right_pool w.pool ≡ true
 right-pool requests r w well has wants =
     let range = wants_in_range r (list_all-Has is_well_formed requests r well has) in
     (and_parts _ (is_right_pool w.pool) (list_all-Has is_in_range r.wants.items w range wants)).1
@@ -118,7 +120,9 @@ in-the-way ws w (Some share) right late = go (list_any is_pooled ws) refl
         absurd (both_ways _ late fit)
 
 -- whose it is: no job wants a key twice
-other-than : {size : ℕ} (requests : List Request) (n : ℕ) (f : Waits requests n) (s : Request) (v w : Want) → SafeRequests size requests → Has f.before s → Has s.wants.items v
+other-than : {size : ℕ} (requests : List Request) (n : ℕ) (f : Waits requests n) (s : Request) (v w : Want)
+    → SafeRequests size requests → Has f.before s
+    → Has s.wants.items v
     → Has f.request.wants.items w → v.key ≡ w.key → s.job ≢ n
 other-than requests n f s v w safe has one two same is =
     let all : Pairs AreApart (claims requests) = AllPairs-Pairs AreApart (claims requests) safe.apart in
@@ -129,7 +133,8 @@ other-than requests n f s v w safe has one two same is =
     (Has-left (claims_of f.request) (claims f.after) (claim_of f.request.job w) (Has-map (claim_of f.request.job) f.request.wants.items w two))
     (is ∙ sym f.by) same
 
-pub waiters_wait_for_others : {size : ℕ} (requests : List Request) → are_well_formed requests ≡ true → SafeRequests size requests → WaitersWaitForOthers requests
+pub waiters_wait_for_others : {size : ℕ} (requests : List Request) → are_well_formed requests ≡ true → SafeRequests size requests
+    → WaitersWaitForOthers requests
 waiters_wait_for_others requests well safe n waits =
     let f : Waits requests n = waits_found requests n waits in
     let r : Request = f.request in
@@ -144,10 +149,14 @@ waiters_wait_for_others requests well safe n waits =
     let kept : list_any (λ u. is_in_the_way u w) (wants_at (requests_of f.before other) w.key) ≡ true =
     list_any-Has (λ u. is_in_the_way u w) (wants_at (requests_of f.before other) w.key) v.want v.stands
     (Has-filter (λ u. same_key u.key w.key) (all_wants (requests_of f.before other)) v.want k.0
-    (Has-flat_map (λ r. r.wants.items) (requests_of f.before other) s.0 v.want (Has-filter (λ r. r.job == other) f.before s.0 (eq-eqb s.0.job other refl) s.1) s.2)) in
+    (Has-flat_map (λ r. r.wants.items) (requests_of f.before other) s.0 v.want
+    (Has-filter (λ r. r.job == other) f.before s.0 (eq-eqb s.0.job other refl) s.1) s.2)) in
     let by : is_kept_by other f.before w ≡ true = and_from _ _ (not_from_false _ late.2) kept in
-    let blocked : is_blocked_by n other f.before r ≡ true = and_from _ _ mine (list_any-Has (is_kept_by other f.before) r.wants.items w by late.1) in
-    (other, other-than requests n f s.0 v.want w safe s.1 s.2 late.1 (same_key-eq v.want.key w.key k.0), subst (λ l. waits_for l n other ≡ true) (sym f.is) (some-split (is_blocked_by n other) [] f.before f.after r blocked))
+    let blocked : is_blocked_by n other f.before r ≡ true = and_from _ _ mine (list_any-Has (is_kept_by other f.before) r.wants.items w by late.1) in (
+      other,
+      other-than requests n f s.0 v.want w safe s.1 s.2 late.1 (same_key-eq v.want.key w.key k.0),
+      subst (λ l. waits_for l n other ≡ true) (sym f.is) (some-split (is_blocked_by n other) [] f.before f.after r blocked),
+    )
 
 -- the wait of a job that waits for no grant any more does not hold
 queue-free : (lines : List Rings) (requests : List Request) (n line : ℕ) (w : Wait) → is_queue w ≡ true → is_waiting_job requests n ≡ false

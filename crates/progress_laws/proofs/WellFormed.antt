@@ -76,15 +76,26 @@ naming-call (Ok block) h = record { right = and_from _ _ (le-leb 1 (length block
 
 enq-call : (regs core : List ℕ) (n w : ℕ) (armed : Bool) (quota : ℕ) → OkHolds IsCall (enq_asks regs core n w armed quota)
 enq-call regs core n w armed quota =
-    by_test (OkHolds IsCall) (left_half w == 0) _ _ (λ _. entering-call Blocking armed quota (block_at regs core (right_half w) n block_use.Blocking) (right-block regs core (right_half w) n block_use.Blocking tt))
-    (λ _. by_test (OkHolds IsCall) (left_half w == 1) _ _ (λ _. entering-call AtOnce armed quota (block_at regs core (right_half w) n block_use.Full) (right-block regs core (right_half w) n block_use.Full tt))
-    (λ _. by_test (OkHolds IsCall) (left_half w == 2) _ _ (λ _. entering-call Interrupt armed quota (block_at regs core (right_half w) n block_use.Full) (right-block regs core (right_half w) n block_use.Full tt))
-    (λ _. by_test (OkHolds IsCall) (left_half w == 3) (changing (block_at regs core (right_half w) n block_use.Named)) (Err NoFunction) (λ _. changing-call (block_at regs core (right_half w) n block_use.Named) (some-block regs core (right_half w) n block_use.Named))
+    by_test (OkHolds IsCall) (left_half w == 0) _ _
+    (λ _. entering-call Blocking armed quota (block_at regs core (right_half w) n block_use.Blocking)
+    (right-block regs core (right_half w) n block_use.Blocking tt))
+    (λ _. by_test (OkHolds IsCall) (left_half w == 1) _ _
+    (λ _. entering-call AtOnce armed quota (block_at regs core (right_half w) n block_use.Full)
+    (right-block regs core (right_half w) n block_use.Full tt))
+    (λ _. by_test (OkHolds IsCall) (left_half w == 2) _ _
+    (λ _. entering-call Interrupt armed quota (block_at regs core (right_half w) n block_use.Full)
+    (right-block regs core (right_half w) n block_use.Full tt))
+    (λ _. by_test (OkHolds IsCall) (left_half w == 3) (changing (block_at regs core (right_half w) n block_use.Named))
+    (Err NoFunction)
+    (λ _. changing-call (block_at regs core (right_half w) n block_use.Named)
+    (some-block regs core (right_half w) n block_use.Named))
     (λ _. tt))))
 
 deq-call : (regs core : List ℕ) (n w : ℕ) → OkHolds IsCall (deq_asks regs core n w)
 deq-call regs core n w =
-    by_test (OkHolds IsCall) (left_half w == 0) _ _ (λ _. naming-call (block_at regs core (right_half w) n block_use.Named) (some-block regs core (right_half w) n block_use.Named))
+    by_test (OkHolds IsCall) (left_half w == 0) _ _
+    (λ _. naming-call (block_at regs core (right_half w) n block_use.Named)
+    (some-block regs core (right_half w) n block_use.Named))
     (λ _. by_test (OkHolds IsCall) (left_half w == 1) _ _ (λ _. record { right = refl; range = refl })
     (λ _. by_test (OkHolds IsCall) (left_half w == 2) _ (Err NoFunction) (λ _. record { right = refl; range = refl }) (λ _. tt)))
 
@@ -92,7 +103,9 @@ deq-call regs core n w =
 abbrev Well : List Request → Type 0
 Well requests = IsTrue (are_well_formed requests)
 
-well-asked : (size : ℕ) (requests : List Request) (n : ℕ) (r : Result LockCall Refusal) → is_job n ≡ true → OkHolds IsCall r → Well requests → Well (asked size requests n r).requests
+well-asked : (size : ℕ) (requests : List Request) (n : ℕ) (r : Result LockCall Refusal) → is_job n ≡ true → OkHolds IsCall r
+    → Well requests
+    → Well (asked size requests n r).requests
 well-asked size requests n (Err refusal) job h well = well
 well-asked size requests n (Ok call) job h well = (well_formedness_is_kept size).by_calls requests n call (and_from _ _ job h.right) h.range well
 
@@ -109,8 +122,13 @@ well-row Sleep time n ac e a job well = well
 well-row Piini time n ac e a job well = well
 well-row Pisys time n ac e a job well = well
 well-row Debrk time n ac e a job well = well
-well-row Enq time n ac e a job well = well-asked a.size a.requests n (enq_asks a.job.regs.ac (core_of a.cores n) n (ac_of a.job ac) (is_some a.job.interrupts.vector) a.job.quota) job (enq-call a.job.regs.ac (core_of a.cores n) n (ac_of a.job ac) (is_some a.job.interrupts.vector) a.job.quota) well
-well-row Deq time n ac e a job well = well-asked a.size a.requests n (deq_asks a.job.regs.ac (core_of a.cores n) n (ac_of a.job ac)) job (deq-call a.job.regs.ac (core_of a.cores n) n (ac_of a.job ac)) well
+well-row Enq time n ac e a job well =
+    well-asked a.size a.requests n
+    (enq_asks a.job.regs.ac (core_of a.cores n) n (ac_of a.job ac) (is_some a.job.interrupts.vector) a.job.quota) job
+    (enq-call a.job.regs.ac (core_of a.cores n) n (ac_of a.job ac) (is_some a.job.interrupts.vector) a.job.quota) well
+well-row Deq time n ac e a job well =
+    well-asked a.size a.requests n (deq_asks a.job.regs.ac (core_of a.cores n) n (ac_of a.job ac)) job
+    (deq-call a.job.regs.ac (core_of a.cores n) n (ac_of a.job ac)) well
 well-row Enqc time n ac e a job well = well
 well-row Datrd time n ac e a job well = well
 well-row Datwr time n ac e a job well = well
@@ -182,17 +200,21 @@ well-made_if s w (Ok x) well after = after
 well-made_if s w (Err e) well after = well
 
 well-started : (s : S) (n : ℕ) → Well s.world.requests → Well (started s n).state.world.requests
-well-started s n well = well-made_if s _ (standing (job_at s.world.table.jobs n)) well ((well_formedness_is_kept s.world.size).by_withdrawals s.world.requests (is_one n) well)
+well-started s n well =
+    well-made_if s _ (standing (job_at s.world.table.jobs n)) well
+    ((well_formedness_is_kept s.world.size).by_withdrawals s.world.requests (is_one n) well)
 
 well-continued : (s : S) (n : ℕ) → Well s.world.requests → Well (continued s n).state.world.requests
 well-continued s n well = well-made_if s _ (standing (job_at s.world.table.jobs n)) well well
 
-well-admitted : (s : S) (line : ℕ) (words : List (ℕ × ℕ)) (start blocks : ℕ) (o : Option ℕ) → Well s.world.requests → Well (admitted s line words start blocks o).state.world.requests
+well-admitted : (s : S) (line : ℕ) (words : List (ℕ × ℕ)) (start blocks : ℕ) (o : Option ℕ) → Well s.world.requests
+    → Well (admitted s line words start blocks o).state.world.requests
 well-admitted s line words start blocks None well = well
 well-admitted s line words start blocks (Some n) well =
     by_test (λ (m : Made). Well m.state.world.requests) (nat_le blocks s.world.cores.free) _ _ (λ _. well) (λ _. well)
 
-well-examined : (s : S) (line : ℕ) (words : List (ℕ × ℕ)) (start : ℕ) (o : Option ℕ) → Well s.world.requests → Well (examined s line words start o).state.world.requests
+well-examined : (s : S) (line : ℕ) (words : List (ℕ × ℕ)) (start : ℕ) (o : Option ℕ) → Well s.world.requests
+    → Well (examined s line words start o).state.world.requests
 well-examined s line words start None well = well
 well-examined s line words start (Some top) well = well-admitted s line words start (blocks_for top) (free_number s.world.table.jobs) well
 
@@ -214,7 +236,9 @@ well_at_boot size blocks quantum = refl
 
 pub well_is_kept : (s : S) (e : Event) → Safe s → IsWellFormed s → IsWellFormed (happens s e).state
 well_is_kept s Step safe well = well-stepped s (next_job s.world.table s.world.lines s.world.requests) (number-next s safe) well
-well_is_kept s Tick safe well = (well_formedness_is_kept s.world.size).by_withdrawals s.world.requests (expires s.world.requests (ticked_table s.world.table).jobs) well
+well_is_kept s Tick safe well =
+    (well_formedness_is_kept s.world.size).by_withdrawals s.world.requests
+    (expires s.world.requests (ticked_table s.world.table).jobs) well
 well_is_kept s (Typed line c) safe well = well-typed s line c well
 well_is_kept s (Take line n) safe well = well-taken s line n well
 well_is_kept s (Login line image) safe well = well-logged_in s line image.now.words.items image.now.start well

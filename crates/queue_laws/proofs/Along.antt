@@ -47,7 +47,10 @@ asked-holds size n requests (Some (call job (Ok c))) h =
     subst (Holds size) (sym (same-if (is_waiting_job requests job) requests _ (call_effect size requests job (Ok c)) refl))
     (call-holds size requests job c (is_waiting_job requests job) refl h)
 asked-holds size n requests (Some (call job (Err r))) h =
-    subst (Holds size) (sym (same-if (is_waiting_job requests job) requests _ (call_effect size requests job (Err r)) refl ∙ both-same (is_waiting_job requests job) requests)) h
+    subst (Holds size)
+    (sym
+    (same-if (is_waiting_job requests job) requests _ (call_effect size requests job (Err r)) refl
+    ∙ both-same (is_waiting_job requests job) requests)) h
 asked-holds size n requests (Some (status job wants)) h = h
 asked-holds size n requests (Some (free job)) h = record {
   safe = (safety_is_kept size).by_releases requests job h.safe;
@@ -106,7 +109,9 @@ asked-keeps size n requests (Some (call caller (Ok c))) job key before gone =
     (subst (λ l. owns l job key ≡ false) (same-if (is_waiting_job requests caller) requests _ (call_effect size requests caller (Ok c)) refl) gone)
 asked-keeps size n requests (Some (call caller (Err r))) job key before gone =
     stays-owned requests job key before
-    (subst (λ l. owns l job key ≡ false) (same-if (is_waiting_job requests caller) requests _ (call_effect size requests caller (Err r)) refl ∙ both-same (is_waiting_job requests caller) requests) gone)
+    (subst (λ l. owns l job key ≡ false)
+    (same-if (is_waiting_job requests caller) requests _ (call_effect size requests caller (Err r)) refl
+    ∙ both-same (is_waiting_job requests caller) requests) gone)
 asked-keeps size n requests (Some (status asker wants)) job key before gone = stays-owned requests job key before gone
 asked-keeps size n requests (Some (free other)) job key before gone = (owners_are_kept size).by_releases requests other job key before gone
 asked-keeps size n requests (Some show) job key before gone = stays-owned requests job key before gone
@@ -138,5 +143,8 @@ follows_transcript size requests n (line ∷ later) more h =
       e.text ++ rest.0,
       goes-on e.ending rest.0 _ _ p.0 rest.1 e.text
           ∙ ap (λ k. after (e.text ++ rest.0) (transcript_of size (requests_after size e.requests (n + 1) later) k more)) count
-          ∙ ap (λ b. after (e.text ++ rest.0) (transcript_of size (cond b e.requests (requests_after size e.requests (n + 1) later)) (n + suc (length later)) more)) (sym p.0),
+          ∙ ap
+          (λ b. after (e.text ++ rest.0)
+          (transcript_of size (cond b e.requests (requests_after size e.requests (n + 1) later)) (n + suc (length later)) more))
+          (sym p.0),
     )

@@ -32,11 +32,15 @@ unlike kind s (c ∷ cs) differs h =
     let p = and_parts (kind c) (list_all kind cs) h in
     All-cons (λ b. (b == s) ≡ false) c cs (differs c p.0) (unlike kind s cs differs p.1)
 
-without : (s : ℕ) (name : List ℕ) → ((c : ℕ) → is_name_character c ≡ true → (c == s) ≡ false) → list_all is_name_character name ≡ true → All (λ b. (b == s) ≡ false) name
+without : (s : ℕ) (name : List ℕ) → ((c : ℕ) → is_name_character c ≡ true → (c == s) ≡ false)
+    → list_all is_name_character name ≡ true
+    → All (λ b. (b == s) ≡ false) name
 without s name differs h = unlike is_name_character s name differs h
 
 -- characters that are no separators stand in front of the first part
-in_front : (s : ℕ) (front text first : List ℕ) (more : List (List ℕ)) → All (λ b. (b == s) ≡ false) front → parts s text ≡ first ∷ more → parts s (front ++ text) ≡ (front ++ first) ∷ more
+in_front : (s : ℕ) (front text first : List ℕ) (more : List (List ℕ)) → All (λ b. (b == s) ≡ false) front
+    → parts s text ≡ first ∷ more
+    → parts s (front ++ text) ≡ (front ++ first) ∷ more
 unfolding parts
 in_front s [] text first more differ e = e
 in_front s (c ∷ cs) text first more differ e =
@@ -58,7 +62,8 @@ alone-slash name named = slice_split_none (λ b. b == 47) name (without 47 name 
 some-taken : (n : ℕ) (text : List ℕ) → (n ≡ 0 → ⊥) → n ≤ length text → 0 < length (take n text)
 some-taken n text some within = let e = length-take-le n text within in omega arith
 
-splits-end : (items : List ℕ) (n : ℕ) → (n ≡ 0 → ⊥) → n ≡ length items → list_all is_name_character (take n items) ≡ true → SplitsLock items (take n items) [] []
+splits-end : (items : List ℕ) (n : ℕ) → (n ≡ 0 → ⊥) → n ≡ length items → list_all is_name_character (take n items) ≡ true
+    → SplitsLock items (take n items) [] []
 splits-end items n some end named =
     let whole : take n items ≡ items = take_all n items (omega arith) in
     (take n items, ap (parts 32) (sym whole) ∙ alone-blank (take n items) named, alone-slash (take n items) named, named, some-taken n items some (omega arith))
@@ -77,9 +82,12 @@ splits-blank items n some within here named = (
 )
 
 behind-slash : (rest first : List ℕ) (more : List (List ℕ)) (c : ℕ) → c ≡ 47 → parts 32 rest ≡ first ∷ more → parts 32 (c ∷ rest) ≡ (c ∷ first) ∷ more
-behind-slash rest first more c is e = in_front 32 (c ∷ []) rest first more (All-cons (λ b. (b == 32) ≡ false) c [] (grind (arith, nat_tests)) (All-nil (λ b. (b == 32) ≡ false))) e
+behind-slash rest first more c is e =
+    in_front 32 (c ∷ []) rest first more
+    (All-cons (λ b. (b == 32) ≡ false) c [] (grind (arith, nat_tests)) (All-nil (λ b. (b == 32) ≡ false))) e
 
-splits-slash : (items options : List ℕ) (others : List (List ℕ)) (n : ℕ) → (n ≡ 0 → ⊥) → n < length items → get_or items n 0 ≡ 47 → list_all is_name_character (take n items) ≡ true
+splits-slash : (items options : List ℕ) (others : List (List ℕ)) (n : ℕ) → (n ≡ 0 → ⊥) → n < length items → get_or items n 0 ≡ 47
+    → list_all is_name_character (take n items) ≡ true
     → parts 32 (take (length items - (n + 1)) (drop (n + 1) items)) ≡ options ∷ others
     → SplitsLock items (take n items) (parts 47 options) others
 unfolding parts
@@ -87,7 +95,8 @@ splits-slash items options others n some within here named split =
     let rest : parts 32 (drop (n + 1) items) ≡ options ∷ others = ap (parts 32) (sym (take_rest items (n + 1))) ∙ split in (
       take n items ++ get_or items n 0 ∷ options,
       ap (parts 32) (at items n within)
-          ∙ in_front 32 (take n items) (get_or items n 0 ∷ drop (n + 1) items) (get_or items n 0 ∷ options) others (without 32 (take n items) name-no_blank named)
+          ∙ in_front 32 (take n items) (get_or items n 0 ∷ drop (n + 1) items) (get_or items n 0 ∷ options) others
+          (without 32 (take n items) name-no_blank named)
           (behind-slash (drop (n + 1) items) options others (get_or items n 0) here rest),
       slice_split_at (λ b. b == 47) (take n items) (get_or items n 0) options (without 47 (take n items) name-no_slash named) (eq-eqb _ _ here),
       named,
@@ -111,7 +120,8 @@ lock_named : (name : List ℕ) (options : List (List ℕ)) → list_all is_name_
 lock_named name options h some =
     ap (option_and_then (λ n. option_map (λ o. record { name = n; options = o }) (options_from no_options options))) (named name h some)
 
-lock_alone : (name : List ℕ) → list_all is_name_character name ≡ true → 0 < length name → lock_of_parts (name ∷ []) ≡ Some (record { name = Spelled name; options = no_options })
+lock_alone : (name : List ℕ) → list_all is_name_character name ≡ true → 0 < length name
+    → lock_of_parts (name ∷ []) ≡ Some (record { name = Spelled name; options = no_options })
 lock_alone name h some = lock_named name [] h some
 
 -- ---- the first lock of some items
@@ -123,17 +133,24 @@ alone-end items n some end named =
     (s.0, s.1, ap lock_of_parts s.2 ∙ lock_alone (take n items) s.3 s.4)
 
 pub alone-more : (items : List ℕ) (n : ℕ) → (n ≡ 0 → ⊥) → n < length items → get_or items n 0 ≡ 32 → list_all is_name_character (take n items) ≡ true
-    → IsFirstLock (parts 32 items) (Some (record { name = Spelled (take n items); options = no_options })) (parts 32 (take (length items - (n + 1)) (drop (n + 1) items)))
+    → IsFirstLock (parts 32 items) (Some (record { name = Spelled (take n items); options = no_options }))
+    (parts 32 (take (length items - (n + 1)) (drop (n + 1) items)))
 alone-more items n some within here named =
     let s = splits-blank items n some within here named in
     (s.0, s.1, ap lock_of_parts s.2 ∙ lock_alone (take n items) s.3 s.4)
 
-pub with_options : (items : List ℕ) (others : List (List ℕ)) (o : Options) (n : ℕ) → (n ≡ 0 → ⊥) → n < length items → get_or items n 0 ≡ 47 → list_all is_name_character (take n items) ≡ true
+pub with_options : (items : List ℕ) (others : List (List ℕ)) (o : Options) (n : ℕ) → (n ≡ 0 → ⊥) → n < length items
+    → get_or items n 0 ≡ 47
+    → list_all is_name_character (take n items) ≡ true
     → SpellsOptions no_options (take (length items - (n + 1)) (drop (n + 1) items)) o others
     → IsFirstLock (parts 32 items) (Some (record { name = Spelled (take n items); options = o })) others
 with_options items others o n some within here named spells =
-    let s = splits-slash items spells.0 others n some within here named spells.1 in
-    (s.0, s.1, ap lock_of_parts s.2 ∙ lock_named (take n items) (parts 47 spells.0) s.3 s.4 ∙ ap (option_map (λ os. record { name = Spelled (take n items); options = os })) spells.2)
+    let s = splits-slash items spells.0 others n some within here named spells.1 in (
+      s.0,
+      s.1,
+      ap lock_of_parts s.2 ∙ lock_named (take n items) (parts 47 spells.0) s.3 s.4
+          ∙ ap (option_map (λ os. record { name = Spelled (take n items); options = os })) spells.2,
+    )
 
 -- ---- the options in front of some items
 
@@ -149,7 +166,8 @@ no_blank text h = unlike is_option_character 32 text option-no_blank h
 no_slash : (text : List ℕ) → list_all is_option_character text ≡ true → All (λ b. (b == 47) ≡ false) text
 no_slash text h = unlike is_option_character 47 text option-no_slash h
 
-one_more : (before next : Options) (text : List ℕ) (more : List (List ℕ)) (option : LockOption) → option_of text ≡ Some option → with_option before option ≡ Some next
+one_more : (before next : Options) (text : List ℕ) (more : List (List ℕ)) (option : LockOption) → option_of text ≡ Some option
+    → with_option before option ≡ Some next
     → options_from before (text ∷ more) ≡ options_from next more
 one_more before next text more option read fits =
     ap (option_and_then (λ o. option_and_then (λ n. options_from n more) (with_option before o))) read ∙ ap (option_and_then (λ n. options_from n more)) fits
@@ -161,10 +179,12 @@ options-end before next text n option end apart read fits =
     let whole : take n text ≡ text = take_all n text (omega arith) in (
       take n text,
       ap (parts 32) (sym whole) ∙ slice_split_none (λ b. b == 32) (take n text) (no_blank (take n text) apart),
-      ap (options_from before) (slice_split_none (λ b. b == 47) (take n text) (no_slash (take n text) apart)) ∙ one_more before next (take n text) [] option read fits,
+      ap (options_from before) (slice_split_none (λ b. b == 47) (take n text) (no_slash (take n text) apart))
+          ∙ one_more before next (take n text) [] option read fits,
     )
 
-pub options-blank : (before next : Options) (text : List ℕ) (n : ℕ) (option : LockOption) → n < length text → get_or text n 0 ≡ 32 → list_all is_option_character (take n text) ≡ true
+pub options-blank : (before next : Options) (text : List ℕ) (n : ℕ) (option : LockOption) → n < length text → get_or text n 0 ≡ 32
+    → list_all is_option_character (take n text) ≡ true
     → option_of (take n text) ≡ Some option → with_option before option ≡ Some next
     → SpellsOptions before text next (parts 32 (take (length text - (n + 1)) (drop (n + 1) text)))
 unfolding parts
@@ -173,10 +193,13 @@ options-blank before next text n option within here apart read fits = (
   ap (slice_split (λ b. b == 32)) (at text n within)
       ∙ slice_split_at (λ b. b == 32) (take n text) (get_or text n 0) (drop (n + 1) text) (no_blank (take n text) apart) (eq-eqb _ _ here)
       ∙ ap (λ l. take n text ∷ parts 32 l) (sym (take_rest text (n + 1))),
-  ap (options_from before) (slice_split_none (λ b. b == 47) (take n text) (no_slash (take n text) apart)) ∙ one_more before next (take n text) [] option read fits,
+  ap (options_from before) (slice_split_none (λ b. b == 47) (take n text) (no_slash (take n text) apart))
+      ∙ one_more before next (take n text) [] option read fits,
 )
 
-pub options-slash : (before next last : Options) (text : List ℕ) (others : List (List ℕ)) (n : ℕ) (option : LockOption) → n < length text → get_or text n 0 ≡ 47 → list_all is_option_character (take n text) ≡ true
+pub options-slash : (before next last : Options) (text : List ℕ) (others : List (List ℕ)) (n : ℕ) (option : LockOption)
+    → n < length text → get_or text n 0 ≡ 47
+    → list_all is_option_character (take n text) ≡ true
     → option_of (take n text) ≡ Some option → with_option before option ≡ Some next
     → SpellsOptions next (take (length text - (n + 1)) (drop (n + 1) text)) last others → SpellsOptions before text last others
 unfolding parts

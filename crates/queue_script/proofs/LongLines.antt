@@ -16,11 +16,16 @@ unfolding command_of
 command_of-too_long line h = over_limit (length line) 256 _ _ h
 
 -- a line that is too long is not in the grammar
-pub too_long : (size : ℕ) (requests : List Request) (number : ℕ) (old new line : List ℕ) (more : List (List ℕ)) → 0 < number → 256 < length line → new ≡ old ++ (script_fault number).text
+pub too_long : (size : ℕ) (requests : List Request) (number : ℕ) (old new line : List ℕ) (more : List (List ℕ)) → 0 < number
+    → 256 < length line
+    → new ≡ old ++ (script_fault number).text
     → after old (transcript_of size requests (number - 1) (line ∷ more)) ≡ closed new (Script number)
 too_long size requests number old new line more some long written =
     let next : number - 1 + 1 ≡ number = omega arith in
-    ap (λ c. after old (continued (effect_of size (number - 1 + 1) requests c) (λ later. transcript_of size later (number - 1 + 1) more))) (command_of-too_long line long)
+    ap
+    (λ c. after old
+    (continued (effect_of size (number - 1 + 1) requests c) (λ later. transcript_of size later (number - 1 + 1) more)))
+    (command_of-too_long line long)
     ∙ ap (λ n. after old (after (script_fault n).text (closed [] (Script n)))) next
     ∙ ap (λ l. closed (old ++ l) (Script number)) (append-nil (script_fault number).text)
     ∙ ap (λ l. closed l (Script number)) (sym written)

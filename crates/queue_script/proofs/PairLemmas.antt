@@ -41,7 +41,8 @@ texts-start f out = ap (λ l. out ++ flat_map f l) jobs-start
 pub texts-step : (f : ℕ → List ℕ) (j : ℕ) (sofar new all : List ℕ) → j < NUMBERS → new ≡ sofar ++ f j → sofar ++ flat_map f (numbers_from j (NUMBERS - j)) ≡ all
     → new ++ flat_map f (numbers_from (j + 1) (NUMBERS - (j + 1))) ≡ all
 texts-step f j sofar new all within pushed before =
-    ap (λ l. l ++ flat_map f (numbers_from (j + 1) (NUMBERS - (j + 1)))) pushed ∙ append_assoc sofar (f j) (flat_map f (numbers_from (j + 1) (NUMBERS - (j + 1))))
+    ap (λ l. l ++ flat_map f (numbers_from (j + 1) (NUMBERS - (j + 1)))) pushed
+    ∙ append_assoc sofar (f j) (flat_map f (numbers_from (j + 1) (NUMBERS - (j + 1))))
     ∙ ap (λ l. sofar ++ flat_map f l) (sym (rest-at j within)) ∙ before
 
 pub texts-end : (f : ℕ → List ℕ) (j : ℕ) (sofar all : List ℕ) → NUMBERS ≤ j → sofar ++ flat_map f (numbers_from j (NUMBERS - j)) ≡ all → sofar ≡ all
@@ -49,13 +50,15 @@ texts-end f j sofar all end before = sym (append-nil sofar) ∙ ap (λ l. sofar 
 
 -- ---- a test of each job in turn
 
-any-now : (f : ℕ → Bool) (j : ℕ) (b : Bool) → j < NUMBERS → f j ≡ b → list_any f (numbers_from j (NUMBERS - j)) ≡ (b || list_any f (numbers_from (j + 1) (NUMBERS - (j + 1))))
+any-now : (f : ℕ → Bool) (j : ℕ) (b : Bool) → j < NUMBERS → f j ≡ b
+    → list_any f (numbers_from j (NUMBERS - j)) ≡ (b || list_any f (numbers_from (j + 1) (NUMBERS - (j + 1))))
 any-now f j b within is = ap (list_any f) (rest-at j within) ∙ ap (λ x. x || list_any f (numbers_from (j + 1) (NUMBERS - (j + 1)))) is
 
 pub any-start : (f : ℕ → Bool) → list_any f (numbers_from 1 JOBS) ≡ list_any f jobs
 any-start f = ap (list_any f) jobs-start
 
-pub any-step : (f : ℕ → Bool) (j : ℕ) (all : Bool) → j < NUMBERS → f j ≡ false → list_any f (numbers_from j (NUMBERS - j)) ≡ all → list_any f (numbers_from (j + 1) (NUMBERS - (j + 1))) ≡ all
+pub any-step : (f : ℕ → Bool) (j : ℕ) (all : Bool) → j < NUMBERS → f j ≡ false → list_any f (numbers_from j (NUMBERS - j)) ≡ all
+    → list_any f (numbers_from (j + 1) (NUMBERS - (j + 1))) ≡ all
 any-step f j all within fails before = sym (any-now f j false within fails) ∙ before
 
 pub any-found : (f : ℕ → Bool) (j : ℕ) (all : Bool) → j < NUMBERS → f j ≡ true → list_any f (numbers_from j (NUMBERS - j)) ≡ all → true ≡ all
@@ -66,7 +69,8 @@ any-end f j all end before = sym (ap (list_any f) (rest-end j end)) ∙ before
 
 -- ---- tests and texts that agree on the jobs
 
-any-same_from : (f g : ℕ → Bool) (count first : ℕ) → first + count ≤ NUMBERS → ((m : ℕ) → m < NUMBERS → f m ≡ g m) → list_any f (numbers_from first count) ≡ list_any g (numbers_from first count)
+any-same_from : (f g : ℕ → Bool) (count first : ℕ) → first + count ≤ NUMBERS → ((m : ℕ) → m < NUMBERS → f m ≡ g m)
+    → list_any f (numbers_from first count) ≡ list_any g (numbers_from first count)
 unfolding numbers_from
 any-same_from f g zero first h same = refl
 any-same_from f g (suc count) first h same =
@@ -77,7 +81,8 @@ any-same : (f g : ℕ → Bool) → ((m : ℕ) → m < NUMBERS → f m ≡ g m) 
 unfolding jobs
 any-same f g same = any-same_from f g JOBS 1 (omega arith) same
 
-texts-same_from : (f g : ℕ → List ℕ) (count first : ℕ) → first + count ≤ NUMBERS → ((m : ℕ) → m < NUMBERS → f m ≡ g m) → flat_map f (numbers_from first count) ≡ flat_map g (numbers_from first count)
+texts-same_from : (f g : ℕ → List ℕ) (count first : ℕ) → first + count ≤ NUMBERS → ((m : ℕ) → m < NUMBERS → f m ≡ g m)
+    → flat_map f (numbers_from first count) ≡ flat_map g (numbers_from first count)
 unfolding numbers_from
 texts-same_from f g zero first h same = refl
 texts-same_from f g (suc count) first h same =
@@ -88,7 +93,9 @@ texts-same : (f g : ℕ → List ℕ) → ((m : ℕ) → m < NUMBERS → f m ≡
 unfolding jobs
 texts-same f g same = texts-same_from f g JOBS 1 (omega arith) same
 
-leads-same : (v w : ℕ → ℕ → Bool) (steps j k : ℕ) → ((a b : ℕ) → a < NUMBERS → b < NUMBERS → v a b ≡ w a b) → j < NUMBERS → k < NUMBERS → leads_to v steps j k ≡ leads_to w steps j k
+leads-same : (v w : ℕ → ℕ → Bool) (steps j k : ℕ) → ((a b : ℕ) → a < NUMBERS → b < NUMBERS → v a b ≡ w a b) → j < NUMBERS
+    → k < NUMBERS
+    → leads_to v steps j k ≡ leads_to w steps j k
 unfolding leads_to
 leads-same v w zero j k same hj hk = refl
 leads-same v w (suc steps) j k same hj hk =
@@ -130,14 +137,17 @@ no_texts [] = refl
 no_texts (x ∷ xs) = no_texts xs
 
 -- a job that is not marked as one that waits
-resting : (waiting : List Bool) (w : ℕ → ℕ → Bool) (j : ℕ) → MarksWaiters waiting w → j < NUMBERS → slice_index_or waiting j false ≡ false → list_any (w j) jobs ≡ false
+resting : (waiting : List Bool) (w : ℕ → ℕ → Bool) (j : ℕ) → MarksWaiters waiting w → j < NUMBERS
+    → slice_index_or waiting j false ≡ false
+    → list_any (w j) jobs ≡ false
 resting waiting w j marks hj h = any-same (w j) (λ m. false) (λ m hm. marks j m hj hm h) ∙ never jobs
 
 pub no_lines : (waiting : List Bool) (w : ℕ → ℕ → Bool) (j : ℕ) (out : List ℕ) → MarksWaiters waiting w → j < NUMBERS → slice_index_or waiting j false ≡ false
     → out ≡ out ++ flat_map (pair_line w j) jobs
 no_lines waiting w j out marks hj h =
     sym (ap (λ l. out ++ l)
-    (texts-same (pair_line w j) no_text (λ m hm. ap (λ b. cond b (decimal j ++ codes " FOR " ++ decimal m ++ codes "\n") []) (marks j m hj hm h)) ∙ no_texts jobs)
+    (texts-same (pair_line w j) no_text
+    (λ m hm. ap (λ b. cond b (decimal j ++ codes " FOR " ++ decimal m ++ codes "\n") []) (marks j m hj hm h)) ∙ no_texts jobs)
     ∙ append-nil out)
 
 -- who waits is marked rightly
@@ -204,13 +214,16 @@ no_walk w (suc steps) j least most h =
     ap (λ b. b || list_any (λ m. w j m && leads_to w steps m j) jobs) (none-at (w j) JOBS 1 j h least (omega arith))
     ∙ any-less (w j) (λ m. leads_to w steps m j) jobs h
 
-pub no_circle : (waiting : List Bool) (w : ℕ → ℕ → Bool) (j : ℕ) (out : List ℕ) → MarksWaiters waiting w → 1 ≤ j → j < NUMBERS → slice_index_or waiting j false ≡ false
+pub no_circle : (waiting : List Bool) (w : ℕ → ℕ → Bool) (j : ℕ) (out : List ℕ) → MarksWaiters waiting w → 1 ≤ j → j < NUMBERS
+    → slice_index_or waiting j false ≡ false
     → out ≡ out ++ circle_job w j
 no_circle waiting w j out marks least most h =
     sym (ap (λ b. out ++ cond b (codes " " ++ decimal j) []) (no_walk w JOBS j least most (resting waiting w j marks most h)) ∙ append-nil out)
 
 -- no walk leads on from a job that does not wait
-pub leads_nowhere : (waiting reached : List Bool) (w : ℕ → ℕ → Bool) (j k : ℕ) → MarksWaiters waiting w → j < NUMBERS → k < NUMBERS → slice_index_or waiting j false ≡ false
+pub leads_nowhere : (waiting reached : List Bool) (w : ℕ → ℕ → Bool) (j k : ℕ) → MarksWaiters waiting w → j < NUMBERS
+    → k < NUMBERS
+    → slice_index_or waiting j false ≡ false
     → false ≡ (w j k || list_any (λ m. w j m && slice_index_or reached m false) jobs)
 leads_nowhere waiting reached w j k marks hj hk h =
     sym (ap (λ b. b || list_any (λ m. w j m && slice_index_or reached m false) jobs) (marks j k hj hk h)
@@ -220,11 +233,14 @@ pub leads-start : (w : ℕ → ℕ → Bool) (j k : ℕ) → leads_to w 0 j k �
 unfolding leads_to
 leads-start w j k = refl
 
-pub leads-step : (w : ℕ → ℕ → Bool) (reached : List Bool) (steps target : ℕ) → ((j : ℕ) → j < NUMBERS → slice_index_or reached j false ≡ leads_to w steps j target)
+pub leads-step : (w : ℕ → ℕ → Bool) (reached : List Bool) (steps target : ℕ)
+    → ((j : ℕ) → j < NUMBERS → slice_index_or reached j false ≡ leads_to w steps j target)
     → (j : ℕ) → (w j target || list_any (λ m. w j m && slice_index_or reached m false) jobs) ≡ leads_to w (steps + 1) j target
 unfolding leads_to
 leads-step w reached steps target known j =
-    ap (λ b. w j target || b) (any-same (λ m. w j m && slice_index_or reached m false) (λ m. w j m && leads_to w steps m target) (λ m hm. ap (λ b. w j m && b) (known m hm)))
+    ap (λ b. w j target || b)
+    (any-same (λ m. w j m && slice_index_or reached m false) (λ m. w j m && leads_to w steps m target)
+    (λ m hm. ap (λ b. w j m && b) (known m hm)))
     ∙ ap (λ n. leads_to w n j target) (sym (add-one steps))
 
 pub same-bools : (xs ys : List Bool) → pointwise beq xs ys ≡ true → xs ≡ ys
@@ -250,11 +266,14 @@ leads-settled w steps target settled (suc more) n e j hj =
     (λ m hm. ap (λ b. w j m && b) (leads-settled w steps target settled more (more + steps) refl m hm)))
     ∙ settled j hj
 
-pub leads-end : (w : ℕ → ℕ → Bool) (reached further : List Bool) (steps target : ℕ) → steps < JOBS → ((j : ℕ) → j < NUMBERS → slice_index_or reached j false ≡ leads_to w steps j target)
+pub leads-end : (w : ℕ → ℕ → Bool) (reached further : List Bool) (steps target : ℕ) → steps < JOBS
+    → ((j : ℕ) → j < NUMBERS → slice_index_or reached j false ≡ leads_to w steps j target)
     → ((j : ℕ) → j < NUMBERS → slice_index_or further j false ≡ (w j target || list_any (λ m. w j m && slice_index_or reached m false) jobs))
     → further ≡ reached → (j : ℕ) → j < NUMBERS → slice_index_or reached j false ≡ leads_to w JOBS j target
 leads-end w reached further steps target below known step same j hj =
-    let settled = λ (i : ℕ) (hi : i < NUMBERS). ap (λ n. leads_to w n i target) (sym (add-one steps)) ∙ sym (leads-step w reached steps target known i) ∙ sym (step i hi)
+    let settled =
+    λ (i : ℕ) (hi : i < NUMBERS). ap (λ n. leads_to w n i target) (sym (add-one steps))
+    ∙ sym (leads-step w reached steps target known i) ∙ sym (step i hi)
     ∙ ap (λ xs. slice_index_or xs i false) same ∙ known i hi in
     let all : JOBS ≡ (JOBS - steps) + steps = omega arith in
     known j hj ∙ sym (leads-settled w steps target settled (JOBS - steps) JOBS all j hj)

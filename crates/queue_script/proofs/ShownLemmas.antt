@@ -13,7 +13,8 @@ drop-at xs i x h =
     drop_more xs i x (slice_get_within xs i x h)
     ∙ ap (λ y. y ∷ drop (i + 1) xs) (sym (unwrap_or-slice_get xs i x) ∙ ap (λ o. unwrap_or o x) h)
 
-pub shown-step : (requests : List Request) (i : ℕ) (r : Request) (sofar new all : List ℕ) → slice_get requests i ≡ Some r → new ≡ sofar ++ request_line (granted requests i) r
+pub shown-step : (requests : List Request) (i : ℕ) (r : Request) (sofar new all : List ℕ) → slice_get requests i ≡ Some r
+    → new ≡ sofar ++ request_line (granted requests i) r
     → sofar ++ shown_from requests i (drop i requests) ≡ all → new ++ shown_from requests (i + 1) (drop (i + 1) requests) ≡ all
 shown-step requests i r sofar new all here pushed before =
     ap (λ l. l ++ shown_from requests (i + 1) (drop (i + 1) requests)) pushed

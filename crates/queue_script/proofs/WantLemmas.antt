@@ -44,7 +44,8 @@ onto-join (Ok w) (Err r) v = refl
 onto-join (Ok w) (Ok ws) (Ok v) = refl
 onto-join (Ok w) (Ok ws) (Err r) = refl
 
-wants_of-push : (job : ℕ) (use_ : BlockUse) (locks : List Lock) (lock : Lock) → wants_of job use_ (locks ++ lock ∷ []) ≡ join (wants_of job use_ locks) (want_of job use_ lock)
+wants_of-push : (job : ℕ) (use_ : BlockUse) (locks : List Lock) (lock : Lock)
+    → wants_of job use_ (locks ++ lock ∷ []) ≡ join (wants_of job use_ locks) (want_of job use_ lock)
 wants_of-push job use_ [] lock = join-first (want_of job use_ lock)
 wants_of-push job use_ (l ∷ ls) lock =
     ap (onto_wants (want_of job use_ l)) (wants_of-push job use_ ls lock) ∙ onto-join (want_of job use_ l) (wants_of job use_ ls) (want_of job use_ lock)
@@ -57,7 +58,8 @@ want_of_plain job Named text = refl
 
 -- ---- what has come of an item
 
-pushed : (ws ws' : List Want) (w : Result Want Refusal) → taken.Wanted ≡ taken_as w → ws' ≡ with_want ws w → (want : Want) × (w ≡ Ok want) × (ws' ≡ ws ++ want ∷ [])
+pushed : (ws ws' : List Want) (w : Result Want Refusal) → taken.Wanted ≡ taken_as w → ws' ≡ with_want ws w
+    → (want : Want) × (w ≡ Ok want) × (ws' ≡ ws ++ want ∷ [])
 pushed ws ws' (Ok want) h items = (want, refl, items)
 pushed ws ws' (Err why) h items = absurd (cc)
 
@@ -76,7 +78,9 @@ pub record IsWanted (job : ℕ) (use_ : BlockUse) (items others : List (List ℕ
   pub is : want_of job use_ lock ≡ Ok want
   pub behind : next ≡ wants ++ want ∷ []
 
-pub wanted : (job : ℕ) (use_ : BlockUse) (items others : List (List ℕ)) (wants next : List Want) → TakesFirst job use_ items others wants next taken.Wanted → IsWanted job use_ items others wants next
+pub wanted : (job : ℕ) (use_ : BlockUse) (items others : List (List ℕ)) (wants next : List Want)
+    → TakesFirst job use_ items others wants next taken.Wanted
+    → IsWanted job use_ items others wants next
 wanted job use_ items others wants next t = by t.0 t.1 t.2
   where
     by : (lock : Option Lock) → IsFirstLock items lock others → Takes job use_ lock wants next taken.Wanted → IsWanted job use_ items others wants next
@@ -91,17 +95,21 @@ pub record IsRefused (job : ℕ) (use_ : BlockUse) (items others : List (List �
   pub is : want_of job use_ lock ≡ Err why
   pub same : next ≡ wants
 
-pub wanted-not : (job : ℕ) (use_ : BlockUse) (items others : List (List ℕ)) (wants next : List Want) (why : Refusal) → TakesFirst job use_ items others wants next (taken.Refused why)
+pub wanted-not : (job : ℕ) (use_ : BlockUse) (items others : List (List ℕ)) (wants next : List Want) (why : Refusal)
+    → TakesFirst job use_ items others wants next (taken.Refused why)
     → IsRefused job use_ items others wants next why
 wanted-not job use_ items others wants next why t = by t.0 t.1 t.2
   where
-    by : (lock : Option Lock) → IsFirstLock items lock others → Takes job use_ lock wants next (taken.Refused why) → IsRefused job use_ items others wants next why
+    by : (lock : Option Lock) → IsFirstLock items lock others → Takes job use_ lock wants next (taken.Refused why)
+        → IsRefused job use_ items others wants next why
     by None first h = absurd (cc)
     by (Some lock) first h =
         let p = refused wants next (want_of job use_ lock) why h.0 h.1 in
         record { lock = lock; first = first; is = p.0; same = p.1 }
 
-pub no_lock : (job : ℕ) (use_ : BlockUse) (items others : List (List ℕ)) (wants next : List Want) → TakesFirst job use_ items others wants next taken.NoLock → IsFirstLock items None others
+pub no_lock : (job : ℕ) (use_ : BlockUse) (items others : List (List ℕ)) (wants next : List Want)
+    → TakesFirst job use_ items others wants next taken.NoLock
+    → IsFirstLock items None others
 no_lock job use_ items others wants next t = by t.0 t.1 t.2
   where
     by : (lock : Option Lock) → IsFirstLock items lock others → Takes job use_ lock wants next taken.NoLock → IsFirstLock items None others
@@ -109,30 +117,37 @@ no_lock job use_ items others wants next t = by t.0 t.1 t.2
     by (Some lock) first h = absurd (no_lock-not (want_of job use_ lock) h.0)
 
 pub takes-plain : (job : ℕ) (use_ : BlockUse) (items others : List (List ℕ)) (wants next : List Want) (result : Taken) (text : List ℕ)
-    → IsFirstLock items (Some (record { name = Spelled text; options = no_options })) others → result ≡ taken_as (plain_want text) → next ≡ with_want wants (plain_want text)
+    → IsFirstLock items (Some (record { name = Spelled text; options = no_options })) others → result ≡ taken_as (plain_want text)
+    → next ≡ with_want wants (plain_want text)
     → TakesFirst job use_ items others wants next result
 takes-plain job use_ items others wants next result text first answer behind =
     let same = want_of_plain job use_ text in
     (Some (record { name = Spelled text; options = no_options }), first, (answer ∙ ap taken_as (sym same), behind ∙ ap (with_want wants) (sym same)))
 
 -- reading one more item
-map-push : (seen : List Lock) (lock : Lock) (o : Option (List Lock)) → option_map (λ ls. seen ++ ls) (option_map (λ ls. lock ∷ ls) o) ≡ option_map (λ ls. (seen ++ lock ∷ []) ++ ls) o
+map-push : (seen : List Lock) (lock : Lock) (o : Option (List Lock))
+    → option_map (λ ls. seen ++ ls) (option_map (λ ls. lock ∷ ls) o) ≡ option_map (λ ls. (seen ++ lock ∷ []) ++ ls) o
 map-push seen lock None = refl
 map-push seen lock (Some ls) = ap Some (sym (append_assoc seen (lock ∷ []) ls))
 
-locks_of-cons : (item : List ℕ) (rest : List (List ℕ)) (lock : Lock) → lock_of item ≡ Some lock → locks_of (item ∷ rest) ≡ option_map (λ ls. lock ∷ ls) (locks_of rest)
+locks_of-cons : (item : List ℕ) (rest : List (List ℕ)) (lock : Lock) → lock_of item ≡ Some lock
+    → locks_of (item ∷ rest) ≡ option_map (λ ls. lock ∷ ls) (locks_of rest)
 locks_of-cons item rest lock is = rw is refl
 
-read-push : (all old rest : List (List ℕ)) (item : List ℕ) (seen : List Lock) (lock : Lock) → locks_of all ≡ option_map (λ ls. seen ++ ls) (locks_of old) → old ≡ item ∷ rest → lock_of item ≡ Some lock
+read-push : (all old rest : List (List ℕ)) (item : List ℕ) (seen : List Lock) (lock : Lock)
+    → locks_of all ≡ option_map (λ ls. seen ++ ls) (locks_of old) → old ≡ item ∷ rest
+    → lock_of item ≡ Some lock
     → locks_of all ≡ option_map (λ ls. (seen ++ lock ∷ []) ++ ls) (locks_of rest)
 read-push all old rest item seen lock read next is =
-    read ∙ ap (λ l. option_map (λ ls. seen ++ ls) (locks_of l)) next ∙ ap (option_map (λ ls. seen ++ ls)) (locks_of-cons item rest lock is) ∙ map-push seen lock (locks_of rest)
+    read ∙ ap (λ l. option_map (λ ls. seen ++ ls) (locks_of l)) next
+    ∙ ap (option_map (λ ls. seen ++ ls)) (locks_of-cons item rest lock is) ∙ map-push seen lock (locks_of rest)
 
 join-told : (refusal : Option Refusal) (wants : List Want) (want : Want) → join (told_by refusal wants) (Ok want) ≡ told_by refusal (wants ++ want ∷ [])
 join-told None wants want = refl
 join-told (Some r) wants want = refl
 
-pub gathers-want : (job : ℕ) (use_ : BlockUse) (all old rest : List (List ℕ)) (item : List ℕ) (lock : Lock) (count next : ℕ) (wants wants' : List Want) (want : Want) (refusal : Option Refusal)
+pub gathers-want : (job : ℕ) (use_ : BlockUse) (all old rest : List (List ℕ)) (item : List ℕ) (lock : Lock) (count next : ℕ)
+    (wants wants' : List Want) (want : Want) (refusal : Option Refusal)
     → Gathers job use_ all old count wants refusal → old ≡ item ∷ rest → lock_of item ≡ Some lock → next ≡ min 16 count + 1
     → want_of job use_ lock ≡ Ok want → wants' ≡ wants ++ want ∷ [] → Gathers job use_ all rest next wants' refusal
 gathers-want job use_ all old rest item lock count next wants wants' want refusal g taken is counted wanted pushed = record {
@@ -141,7 +156,8 @@ gathers-want job use_ all old rest item lock count next wants wants' want refusa
   counted = let c = g.counted in let n = length-append g.seen (lock ∷ []) in omega arith;
   told = λ h.
       let n = length-append g.seen (lock ∷ []) in
-      wants_of-push job use_ g.seen lock ∙ ap (λ w. join w (want_of job use_ lock)) (g.told (omega arith)) ∙ ap (join (told_by refusal wants)) wanted ∙ join-told refusal wants want ∙ ap (told_by refusal) (sym pushed);
+      wants_of-push job use_ g.seen lock ∙ ap (λ w. join w (want_of job use_ lock)) (g.told (omega arith))
+      ∙ ap (join (told_by refusal wants)) wanted ∙ join-told refusal wants want ∙ ap (told_by refusal) (sym pushed);
 }
 
 -- ---- the end
@@ -151,11 +167,16 @@ few_or_many n x y h = grind (arith, nat_tests)
 
 -- ---- a call that is refused
 
-wants_of-refused : (job : ℕ) (use_ : BlockUse) (locks more : List Lock) (why : Refusal) → wants_of job use_ locks ≡ Err why → wants_of job use_ (locks ++ more) ≡ Err why
+wants_of-refused : (job : ℕ) (use_ : BlockUse) (locks more : List Lock) (why : Refusal) → wants_of job use_ locks ≡ Err why
+    → wants_of job use_ (locks ++ more) ≡ Err why
 wants_of-refused job use_ [] more why h = absurd (cc)
-wants_of-refused job use_ (l ∷ ls) more why h = first (want_of job use_ l) (wants_of job use_ ls) (wants_of job use_ (ls ++ more)) h (λ e. wants_of-refused job use_ ls more why e)
+wants_of-refused job use_ (l ∷ ls) more why h =
+    first (want_of job use_ l) (wants_of job use_ ls) (wants_of job use_ (ls ++ more)) h
+    (λ e. wants_of-refused job use_ ls more why e)
   where
-    first : (w : Result Want Refusal) (ws all : Result (List Want) Refusal) → onto_wants w ws ≡ Err why → (ws ≡ Err why → all ≡ Err why) → onto_wants w all ≡ Err why
+    first : (w : Result Want Refusal) (ws all : Result (List Want) Refusal) → onto_wants w ws ≡ Err why
+        → (ws ≡ Err why → all ≡ Err why)
+        → onto_wants w all ≡ Err why
     first (Err r) ws all h later = h
     first (Ok w) (Err r) all h later = let e = later h in rw e refl
     first (Ok w) (Ok ws) all h later = absurd (cc)
@@ -163,11 +184,13 @@ wants_of-refused job use_ (l ∷ ls) more why h = first (want_of job use_ l) (wa
 few_refused : (n m : ℕ) (x y z : Result (ArrayVec Want) Refusal) → 1 ≤ n → m ≡ n → x ≡ y → cond (nat_le 1 n && nat_le n 16) x z ≡ cond (nat_le m 16) y z
 few_refused n m x y z one same e = grind (arith, nat_tests)
 
-filled_refused : (b : Bool) (why : Refusal) (wants : ArrayVec Want) → filled (Some (cond b (Err why) (Err BadCount))) wants ≡ Some (cond b (Err why) (Err BadCount))
+filled_refused : (b : Bool) (why : Refusal) (wants : ArrayVec Want)
+    → filled (Some (cond b (Err why) (Err BadCount))) wants ≡ Some (cond b (Err why) (Err BadCount))
 filled_refused true why wants = refl
 filled_refused false why wants = refl
 
-pub gathers-refused : (job : ℕ) (use_ : BlockUse) (all old rest : List (List ℕ)) (item : List ℕ) (lock : Lock) (count : ℕ) (wants : List Want) (after : ArrayVec Want) (why : Refusal) (r : Option (Result (Unit {0}) Refusal))
+pub gathers-refused : (job : ℕ) (use_ : BlockUse) (all old rest : List (List ℕ)) (item : List ℕ) (lock : Lock) (count : ℕ)
+    (wants : List Want) (after : ArrayVec Want) (why : Refusal) (r : Option (Result (Unit {0}) Refusal))
     → Gathers job use_ all old count wants None → count ≤ 16 → old ≡ item ∷ rest → lock_of item ≡ Some lock → want_of job use_ lock ≡ Err why
     → r ≡ option_map (refused_with (count + 1) why) (locks_of rest) → filled r after ≡ option_map (call_wants job use_) (locks_of all)
 gathers-refused job use_ all old rest item lock count wants after why r g few taken is wrong result =
@@ -182,16 +205,22 @@ gathers-refused job use_ all old rest item lock count wants after why r g few ta
         let c = g.counted in
         wants_of-push job use_ g.seen lock ∙ ap (λ w. join w (want_of job use_ lock)) (g.told (omega (arith, few))) ∙ ap (join (Ok wants)) wrong
 
-    finish : (o : Option (List Lock)) → filled (option_map (refused_with (count + 1) why) o) after ≡ option_map (call_wants job use_) (option_map (λ ls. seen ++ ls) o)
+    finish : (o : Option (List Lock))
+        → filled (option_map (refused_with (count + 1) why) o) after
+        ≡ option_map (call_wants job use_) (option_map (λ ls. seen ++ ls) o)
     finish None = refl
     finish (Some ls) =
         let c = g.counted in
         let n = length-append g.seen (lock ∷ []) in
         let m = length-append seen ls in
         filled_refused (nat_le (count + 1 + length ls) 16) why after
-        ∙ ap Some (sym (few_refused (length (seen ++ ls)) (count + 1 + length ls) _ _ _ (omega arith) (omega (arith, few)) (ap stored (wants_of-refused job use_ seen ls why refused-so))))
+        ∙ ap Some
+        (sym
+        (few_refused (length (seen ++ ls)) (count + 1 + length ls) _ _ _ (omega arith) (omega (arith, few))
+        (ap stored (wants_of-refused job use_ seen ls why refused-so))))
 
-pub gathers-full : (job : ℕ) (use_ : BlockUse) (all rest : List (List ℕ)) (count : ℕ) (wants : List Want) (after : ArrayVec Want) (r : Option (Result (Unit {0}) Refusal))
+pub gathers-full : (job : ℕ) (use_ : BlockUse) (all rest : List (List ℕ)) (count : ℕ) (wants : List Want) (after : ArrayVec Want)
+    (r : Option (Result (Unit {0}) Refusal))
     → Gathers job use_ all rest count wants None → 16 ≤ count → (rest ≡ [] → ⊥)
     → r ≡ option_map (refused_with 16 BadCount) (locks_of rest) → filled r after ≡ option_map (call_wants job use_) (locks_of all)
 gathers-full job use_ all rest count wants after r g many some result =
@@ -201,7 +230,8 @@ gathers-full job use_ all rest count wants after r g many some result =
     same true = refl
     same false = refl
 
-    first : (lock : Option Lock) (more : Option (List Lock)) → filled (option_map (refused_with 16 BadCount) (option_and_then (λ l. option_map (λ ls. l ∷ ls) more) lock)) after
+    first : (lock : Option Lock) (more : Option (List Lock))
+        → filled (option_map (refused_with 16 BadCount) (option_and_then (λ l. option_map (λ ls. l ∷ ls) more) lock)) after
         ≡ option_map (call_wants job use_) (option_map (λ ls. g.seen ++ ls) (option_and_then (λ l. option_map (λ ls. l ∷ ls) more) lock))
     first None more = refl
     first (Some l) None = refl
@@ -210,7 +240,9 @@ gathers-full job use_ all rest count wants after r g many some result =
         let n = length-append g.seen (l ∷ ls) in
         same (nat_le (16 + length (l ∷ ls)) 16) ∙ ap Some (sym (few_or_many (length (g.seen ++ l ∷ ls)) _ _ (λ one most. omega (arith, many))))
 
-    finish : (items : List (List ℕ)) → (items ≡ [] → ⊥) → filled (option_map (refused_with 16 BadCount) (locks_of items)) after ≡ option_map (call_wants job use_) (option_map (λ ls. g.seen ++ ls) (locks_of items))
+    finish : (items : List (List ℕ)) → (items ≡ [] → ⊥)
+        → filled (option_map (refused_with 16 BadCount) (locks_of items)) after
+        ≡ option_map (call_wants job use_) (option_map (λ ls. g.seen ++ ls) (locks_of items))
     finish [] some = absurd (some refl)
     finish (item ∷ more) some = first (lock_of item) (locks_of more)
 
@@ -220,4 +252,7 @@ locks_of-none item rest is = rw is refl
 pub gathers-none : (job : ℕ) (use_ : BlockUse) (all old rest : List (List ℕ)) (count : ℕ) (wants : List Want) (refusal : Option Refusal)
     → Gathers job use_ all old count wants refusal → IsFirstLock old None rest → None ≡ option_map (call_wants job use_) (locks_of all)
 gathers-none job use_ all old rest count wants refusal g first =
-    sym (ap (option_map (call_wants job use_)) (g.read ∙ ap (λ l. option_map (λ ls. g.seen ++ ls) (locks_of l)) first.1 ∙ ap (option_map (λ ls. g.seen ++ ls)) (locks_of-none first.0 rest first.2)))
+    sym
+    (ap (option_map (call_wants job use_))
+    (g.read ∙ ap (λ l. option_map (λ ls. g.seen ++ ls) (locks_of l)) first.1
+    ∙ ap (option_map (λ ls. g.seen ++ ls)) (locks_of-none first.0 rest first.2)))

@@ -18,7 +18,9 @@ unfolding parts
 words-status items = refl
 
 -- where a line begins so
-pub words_enqueue_at : (line : List ℕ) → 4 ≤ length line → slice_index_or line 0 0 ≡ 69 → slice_index_or line 1 0 ≡ 78 → slice_index_or line 2 0 ≡ 81 → slice_index_or line 3 0 ≡ 32
+pub words_enqueue_at : (line : List ℕ) → 4 ≤ length line → slice_index_or line 0 0 ≡ 69 → slice_index_or line 1 0 ≡ 78
+    → slice_index_or line 2 0 ≡ 81
+    → slice_index_or line 3 0 ≡ 32
     → enqueue_of (parts 32 (take (length line - 4) (drop 4 line))) ≡ command_of_items (parts 32 line)
 words_enqueue_at [] h a b c d = absurd (omega arith)
 words_enqueue_at (v ∷ []) h a b c d = absurd (omega arith)
@@ -27,7 +29,9 @@ words_enqueue_at (v ∷ w ∷ x ∷ []) h a b c d = absurd (omega arith)
 words_enqueue_at (v ∷ w ∷ x ∷ y ∷ items) h a b c d =
     rw (a, b, c, d) (ap (λ l. enqueue_of (parts 32 l)) (take_all (length (v ∷ w ∷ x ∷ y ∷ items) - 4) items (omega arith)) ∙ words-enqueue items)
 
-pub words_dequeue_at : (line : List ℕ) → 4 ≤ length line → slice_index_or line 0 0 ≡ 68 → slice_index_or line 1 0 ≡ 69 → slice_index_or line 2 0 ≡ 81 → slice_index_or line 3 0 ≡ 32
+pub words_dequeue_at : (line : List ℕ) → 4 ≤ length line → slice_index_or line 0 0 ≡ 68 → slice_index_or line 1 0 ≡ 69
+    → slice_index_or line 2 0 ≡ 81
+    → slice_index_or line 3 0 ≡ 32
     → dequeue_of (parts 32 (take (length line - 4) (drop 4 line))) ≡ command_of_items (parts 32 line)
 words_dequeue_at [] h a b c d = absurd (omega arith)
 words_dequeue_at (v ∷ []) h a b c d = absurd (omega arith)
@@ -36,7 +40,9 @@ words_dequeue_at (v ∷ w ∷ x ∷ []) h a b c d = absurd (omega arith)
 words_dequeue_at (v ∷ w ∷ x ∷ y ∷ items) h a b c d =
     rw (a, b, c, d) (ap (λ l. dequeue_of (parts 32 l)) (take_all (length (v ∷ w ∷ x ∷ y ∷ items) - 4) items (omega arith)) ∙ words-dequeue items)
 
-pub words_status_at : (line : List ℕ) → 5 ≤ length line → slice_index_or line 0 0 ≡ 83 → slice_index_or line 1 0 ≡ 84 → slice_index_or line 2 0 ≡ 65 → slice_index_or line 3 0 ≡ 84 → slice_index_or line 4 0 ≡ 32
+pub words_status_at : (line : List ℕ) → 5 ≤ length line → slice_index_or line 0 0 ≡ 83 → slice_index_or line 1 0 ≡ 84
+    → slice_index_or line 2 0 ≡ 65 → slice_index_or line 3 0 ≡ 84
+    → slice_index_or line 4 0 ≡ 32
     → status_of_items (parts 32 (take (length line - 5) (drop 5 line))) ≡ command_of_items (parts 32 line)
 words_status_at [] h a b c d e = absurd (omega arith)
 words_status_at (v ∷ []) h a b c d e = absurd (omega arith)

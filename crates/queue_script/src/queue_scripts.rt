@@ -170,7 +170,8 @@ pub struct QueueService<L: LockTable> {
 impl<L: LockTable> QueueService<L> {
     /// The service over this table.
     pub fn new(table: L) -> Self
-        ensures { (n : ℕ) (lines : List (List ℕ)) → ⟦<QueueService<L> as LineService>⟧.follow_lines result n lines ≡ transcript_of L.REQS (L.requests table) n lines }
+        ensures { (n : ℕ) (lines : List (List ℕ))
+            → ⟦<QueueService<L> as LineService>⟧.follow_lines result n lines ≡ transcript_of L.REQS (L.requests table) n lines }
     {
         QueueService {
             table,

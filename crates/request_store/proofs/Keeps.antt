@@ -25,7 +25,8 @@ or_false : (b : Bool) → (b || false) ≡ b
 or_false true = refl
 or_false false = refl
 
-module _ (n : ℕ) (slots : List (Option Filed)) (len : ℕ) (order : List ℕ) (own : List (List ℕ)) (counts : List ℕ) (k : IsStored n slots len order own counts) (p : ℕ) where
+module _ (n : ℕ) (slots : List (Option Filed)) (len : ℕ) (order : List ℕ) (own : List (List ℕ)) (counts : List ℕ)
+    (k : IsStored n slots len order own counts) (p : ℕ) where
   same_slot : (o : Option Filed) → p < n → slot (with_slot slots p o) p ≡ o
   same_slot o lt = get_or-set_same slots p o None (omega (arith, k.long))
 
@@ -52,7 +53,15 @@ module _ (n : ℕ) (slots : List (Option Filed)) (len : ℕ) (order : List ℕ) 
 
   pub number_small : (job : ℕ) → job ≤ JOBS → number_of counts job ≤ MOST_REQUESTS
   number_small job le =
-      omega (arith, k.blocked job le, filter_short (blocked_at slots) (list_of own job), ap length (k.each job le), filter_short (λ x. job_at slots x == job) order, k.few, k.small)
+      omega (
+        arith,
+        k.blocked job le,
+        filter_short (blocked_at slots) (list_of own job),
+        ap length (k.each job le),
+        filter_short (λ x. job_at slots x == job) order,
+        k.few,
+        k.small,
+      )
 
   -- the numbers of other jobs
   other_number : (o : Option Filed) (own_then : List (List ℕ)) (more : ℕ) (j job : ℕ) → j ≤ JOBS → j ≢ job
@@ -68,7 +77,11 @@ module _ (n : ℕ) (slots : List (Option Filed)) (len : ℕ) (order : List ℕ) 
   -- a place that stands in another job's list
   away_from : (j : ℕ) → j ≤ JOBS → j ≢ job_at slots p → (x : ℕ) → is_there x (list_of own j) ≡ true → x ≢ p
   away_from j le ne x t s =
-      ne (sym (eqb-true (job_at slots x) j (filter_passes (λ y. job_at slots y == j) x order (subst (λ l. is_there x l ≡ true) (k.each j le) t))) ∙ ap (job_at slots) s)
+      ne
+      (sym
+      (eqb-true (job_at slots x) j
+      (filter_passes (λ y. job_at slots y == j) x order (subst (λ l. is_there x l ≡ true) (k.each j le) t)))
+      ∙ ap (job_at slots) s)
 
   pub filled_within : is_filled slots p ≡ true → p < n
   filled_within h = within n slots p k.long h
@@ -101,7 +114,10 @@ module _ (n : ℕ) (slots : List (Option Filed)) (len : ℕ) (order : List ℕ) 
       few = k.few;
       lists = k.lists;
       jobs = λ q. subst (λ j. j ≤ JOBS) (sym (job_kept q)) (k.jobs q);
-      each = λ j le. k.each j le ∙ filter_same (λ x. job_at slots x == j) (λ x. job_at (with_slot slots p (Some f)) x == j) order (λ x t. ap (λ y. y == j) (sym (job_kept x)));
+      each =
+          λ j le. k.each j le
+          ∙ filter_same (λ x. job_at slots x == j) (λ x. job_at (with_slot slots p (Some f)) x == j) order
+          (λ x t. ap (λ y. y == j) (sym (job_kept x)));
     }
 
     pub change_keeps : is_blocked f ≡ blocked_at slots p → IsStored n (with_slot slots p (Some f)) len order own counts
@@ -129,7 +145,9 @@ module _ (n : ℕ) (slots : List (Option Filed)) (len : ℕ) (order : List ℕ) 
           ∙ get_or-set_same counts job (recounted (number_of counts job) (blocked_at slots p) (is_blocked f)) 0 (numbered job (k.jobs p))
           ∙ counted
           ∙ ap (λ y. length (filter new (list_of own y))) (sym s)
-      | inr ne ↦ other_number (Some f) own (recounted (number_of counts (job_at slots p)) (blocked_at slots p) (is_blocked f)) j (job_at slots p) le ne refl (away_from j le ne)
+      | inr ne ↦
+          other_number (Some f) own (recounted (number_of counts (job_at slots p)) (blocked_at slots p) (is_blocked f)) j
+          (job_at slots p) le ne refl (away_from j le ne)
     ])
 
   -- a request comes
@@ -210,7 +228,8 @@ module _ (n : ℕ) (slots : List (Option Filed)) (len : ℕ) (order : List ℕ) 
             ∙ ap (λ l. length (filter new l)) (sym (get_or-set_same own job list [] (omega (arith, k.lists, most))))
             ∙ ap (λ y. length (filter new (list_of (slice_set own job list) y))) (sym s)
         | inr ne ↦
-            other_number (Some f) (slice_set own f.request.job (list_of own f.request.job ++ p ∷ [])) (recounted (number_of counts f.request.job) false (is_blocked f)) j f.request.job le ne
+            other_number (Some f) (slice_set own f.request.job (list_of own f.request.job ++ p ∷ []))
+            (recounted (number_of counts f.request.job) false (is_blocked f)) j f.request.job le ne
             (get_or-set_other own f.request.job j (list_of own f.request.job ++ p ∷ []) [] ne)
             (λ x t. not_here x (there_filter (λ y. job_at slots y == j) x order (subst (λ l. is_there x l ≡ true) (k.each j le) t)))
       ];
@@ -273,7 +292,8 @@ module _ (n : ℕ) (slots : List (Option Filed)) (len : ℕ) (order : List ℕ) 
     each_left j le =
         let was : ℕ → Bool = λ x. job_at slots x == j in
         let same : filter was (without_place order p) ≡ filter (λ x. job_at (with_slot slots p None) x == j) (without_place order p) =
-        filter_same was (λ x. job_at (with_slot slots p None) x == j) (without_place order p) (λ x t. ap (λ y. y == j) (sym (job_other None x (gone_from x t)))) in
+        filter_same was (λ x. job_at (with_slot slots p None) x == j) (without_place order p)
+        (λ x t. ap (λ y. y == j) (sym (job_other None x (gone_from x t)))) in
         elim (cases_eq j (job_at slots p)) [
           | inl s ↦
               ap (list_of (slice_set own (job_at slots p) (without_place (list_of own (job_at slots p)) p))) s
@@ -311,7 +331,8 @@ module _ (n : ℕ) (slots : List (Option Filed)) (len : ℕ) (order : List ℕ) 
             ∙ ap (λ l. length (filter new l)) (sym (get_or-set_same own job list [] (job_listed job (k.jobs p))))
             ∙ ap (λ y. length (filter new (list_of (slice_set own job list) y))) (sym s)
         | inr ne ↦
-            other_number None (slice_set own (job_at slots p) (without_place (list_of own (job_at slots p)) p)) (recounted (number_of counts (job_at slots p)) (blocked_at slots p) false) j (job_at slots p) le ne
+            other_number None (slice_set own (job_at slots p) (without_place (list_of own (job_at slots p)) p))
+            (recounted (number_of counts (job_at slots p)) (blocked_at slots p) false) j (job_at slots p) le ne
             (get_or-set_other own (job_at slots p) j (without_place (list_of own (job_at slots p)) p) [] ne)
             (away_from j le ne)
       ];
@@ -361,7 +382,8 @@ module _ (slots : List (Option Filed)) (order : List ℕ) (s : Stored) (p : ℕ)
       λ i. record { filed = filed i; order = order_then i }
 
 -- a place that is present is within
-pub seen_within : (n : ℕ) (slots : List (Option Filed)) (len : ℕ) (order : List ℕ) (own : List (List ℕ)) (counts : List ℕ) → IsStored n slots len order own counts
+pub seen_within : (n : ℕ) (slots : List (Option Filed)) (len : ℕ) (order : List ℕ) (own : List (List ℕ)) (counts : List ℕ)
+    → IsStored n slots len order own counts
     → (s : Stored) (p : ℕ)
     → record { filed = map filed_or slots; order = order } ≡ s → is_there p s.order ≡ true
     → p < length s.filed
@@ -369,7 +391,8 @@ seen_within n slots len order own counts k s p seen h =
     let filled : is_filled slots p ≡ true = sym (k.there p) ∙ ap (λ (t : Stored). is_there p t.order) seen ∙ h in
     omega (arith, within n slots p k.long filled, k.long, length-map slots filed_or, ap (λ (t : Stored). length t.filed) seen)
 
-pub seen_small : (n : ℕ) (slots : List (Option Filed)) (len : ℕ) (order : List ℕ) (own : List (List ℕ)) (counts : List ℕ) → IsStored n slots len order own counts
+pub seen_small : (n : ℕ) (slots : List (Option Filed)) (len : ℕ) (order : List ℕ) (own : List (List ℕ)) (counts : List ℕ)
+    → IsStored n slots len order own counts
     → (s : Stored) (p : ℕ)
     → record { filed = map filed_or slots; order = order } ≡ s → is_there p s.order ≡ true
     → p < n
@@ -378,15 +401,19 @@ seen_small n slots len order own counts k s p seen h =
     omega (arith, within n slots p k.long filled)
 
 -- by how many requests a job waits
-pub seen_blocked : (n : ℕ) (slots : List (Option Filed)) (len : ℕ) (order : List ℕ) (own : List (List ℕ)) (counts : List ℕ) → IsStored n slots len order own counts
+pub seen_blocked : (n : ℕ) (slots : List (Option Filed)) (len : ℕ) (order : List ℕ) (own : List (List ℕ)) (counts : List ℕ)
+    → IsStored n slots len order own counts
     → (s : Stored) (job : ℕ)
     → record { filed = map filed_or slots; order = order } ≡ s → job ≤ JOBS
     → number_of counts job ≡ blocked_of s job
 seen_blocked n slots len order own counts k s job seen le =
     let list : list_of own job ≡ places_of s job =
     k.each job le
-    ∙ filter_same (λ x. job_at slots x == job) (λ x. (filed_at s x).request.job == job) order (λ x t. ap (λ (f : Filed). f.request.job == job) (sym (seen_filed slots order s x seen)))
+    ∙ filter_same (λ x. job_at slots x == job) (λ x. (filed_at s x).request.job == job) order
+    (λ x t. ap (λ (f : Filed). f.request.job == job) (sym (seen_filed slots order s x seen)))
     ∙ ap (λ (t : Stored). filter (λ x. (filed_at s x).request.job == job) t.order) seen in
     k.blocked job le
     ∙ ap (λ l. length (filter (blocked_at slots) l)) list
-    ∙ ap length (filter_same (blocked_at slots) (λ x. is_blocked (filed_at s x)) (places_of s job) (λ x t. ap is_blocked (sym (seen_filed slots order s x seen))))
+    ∙ ap length
+    (filter_same (blocked_at slots) (λ x. is_blocked (filed_at s x)) (places_of s job)
+    (λ x t. ap is_blocked (sym (seen_filed slots order s x seen))))

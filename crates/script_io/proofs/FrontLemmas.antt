@@ -22,12 +22,16 @@ others (text ∷ more) = more
 onto-digit : (most v c : ℕ) (texts : List (List ℕ)) → is_digit 10 c ≡ true → onto_front most v (onto_first c texts) ≡ onto_front most (10 * v + (c - 48)) texts
 onto-digit most v c [] digit = ap (λ b. cond ((b && true) && nat_le (10 * v + (c - 48)) most) (Some (10 * v + (c - 48))) None) digit
 onto-digit most v c (t ∷ ts) digit =
-    ap (λ b. cond ((b && list_all (is_digit 10) t) && nat_le (value_onto 10 (10 * v + (c - 48)) t) most) (Some (value_onto 10 (10 * v + (c - 48)) t)) None) digit
+    ap
+    (λ b. cond ((b && list_all (is_digit 10) t) && nat_le (value_onto 10 (10 * v + (c - 48)) t) most)
+    (Some (value_onto 10 (10 * v + (c - 48)) t)) None) digit
 
 onto-other : (most v c : ℕ) (texts : List (List ℕ)) → is_digit 10 c ≡ false → onto_front most v (onto_first c texts) ≡ None
 onto-other most v c [] other = ap (λ b. cond ((b && true) && nat_le (10 * v + (c - 48)) most) (Some (10 * v + (c - 48))) None) other
 onto-other most v c (t ∷ ts) other =
-    ap (λ b. cond ((b && list_all (is_digit 10) t) && nat_le (value_onto 10 (10 * v + (c - 48)) t) most) (Some (value_onto 10 (10 * v + (c - 48)) t)) None) other
+    ap
+    (λ b. cond ((b && list_all (is_digit 10) t) && nat_le (value_onto 10 (10 * v + (c - 48)) t) most)
+    (Some (value_onto 10 (10 * v + (c - 48)) t)) None) other
 
 test-small : (v most : ℕ) → v ≤ most → nat_le v most ≡ true
 test-small v most h = grind (arith, nat_tests)
@@ -67,7 +71,9 @@ pub record Follows (most separator : ℕ) (text : List ℕ) (i v : ℕ) : Type 0
 pub follows-start : (most separator : ℕ) (text : List ℕ) → Follows most separator text 0 0
 follows-start most separator text = record { number = refl; behind = refl; begins = λ h. absurd (omega arith); small = omega arith }
 
-first-known : (separator : ℕ) (text : List ℕ) (i : ℕ) → (0 < i → (get_or text 0 0 == separator) ≡ false) → (get_or text i 0 == separator) ≡ false → (get_or text 0 0 == separator) ≡ false
+first-known : (separator : ℕ) (text : List ℕ) (i : ℕ) → (0 < i → (get_or text 0 0 == separator) ≡ false)
+    → (get_or text i 0 == separator) ≡ false
+    → (get_or text 0 0 == separator) ≡ false
 first-known separator text i before here =
     elim (cases_lt 0 i) [
       | inl later ↦ before later
@@ -87,16 +93,20 @@ onto-next : (most separator : ℕ) (text : List ℕ) (i v : ℕ) → i < length 
     → onto_front most v (parts separator (drop i text)) ≡ onto_front most 0 (parts separator text)
     → onto_front most (10 * v + (get_or text i 0 - 48)) (parts separator (drop (i + 1) text)) ≡ onto_front most 0 (parts separator text)
 onto-next most separator text i v within differs digit same =
-    sym (onto-digit most v (get_or text i 0) (parts separator (drop (i + 1) text)) digit) ∙ sym (ap (onto_front most v) (at-other separator text i within differs)) ∙ same
+    sym (onto-digit most v (get_or text i 0) (parts separator (drop (i + 1) text)) digit)
+    ∙ sym (ap (onto_front most v) (at-other separator text i within differs)) ∙ same
 
-pub follows-digit : (most separator : ℕ) (text : List ℕ) (i v d : ℕ) → Follows most separator text i v → i < length text → (get_or text i 0 == separator) ≡ false
+pub follows-digit : (most separator : ℕ) (text : List ℕ) (i v d : ℕ) → Follows most separator text i v → i < length text
+    → (get_or text i 0 == separator) ≡ false
     → 48 ≤ get_or text i 0 → d ≡ get_or text i 0 - 48 → d < 10 → 10 * v + d ≤ most → Follows most separator text (i + 1) (10 * v + d)
 follows-digit most separator text i v d f within differs least is digit small =
     let tested = digit-tested (get_or text i 0) least (omega arith) in
     record {
       number = subst (λ n. onto_front most (10 * v + n) (parts separator (drop (i + 1) text)) ≡ onto_front most 0 (parts separator text)) (sym is)
           (onto-next most separator text i v within differs tested f.number);
-      behind = sym (others-first (get_or text i 0) (parts separator (drop (i + 1) text))) ∙ sym (ap others (at-other separator text i within differs)) ∙ f.behind;
+      behind =
+          sym (others-first (get_or text i 0) (parts separator (drop (i + 1) text)))
+          ∙ sym (ap others (at-other separator text i within differs)) ∙ f.behind;
       begins = λ h. first-known separator text i f.begins differs;
       small = small;
     }
@@ -112,34 +122,41 @@ unfolding number
 front-none most [] h = refl
 front-none most (t ∷ ts) h = no_number (nat_lt 0 (length t)) _ _ h
 
-pub not_front-other : (most separator : ℕ) (text : List ℕ) (i v : ℕ) → Follows most separator text i v → i < length text → (get_or text i 0 == separator) ≡ false
+pub not_front-other : (most separator : ℕ) (text : List ℕ) (i v : ℕ) → Follows most separator text i v → i < length text
+    → (get_or text i 0 == separator) ≡ false
     → is_digit 10 (get_or text i 0) ≡ false → front (number 10 most) (parts separator text) ≡ None
 not_front-other most separator text i v f within differs other =
     front-none most (parts separator text)
-    (sym f.number ∙ ap (onto_front most v) (at-other separator text i within differs) ∙ onto-other most v (get_or text i 0) (parts separator (drop (i + 1) text)) other)
+    (sym f.number ∙ ap (onto_front most v) (at-other separator text i within differs)
+    ∙ onto-other most v (get_or text i 0) (parts separator (drop (i + 1) text)) other)
 
-pub not_front-small : (most separator : ℕ) (text : List ℕ) (i v : ℕ) → Follows most separator text i v → i < length text → (get_or text i 0 == separator) ≡ false
+pub not_front-small : (most separator : ℕ) (text : List ℕ) (i v : ℕ) → Follows most separator text i v → i < length text
+    → (get_or text i 0 == separator) ≡ false
     → get_or text i 0 < 48 → front (number 10 most) (parts separator text) ≡ None
 not_front-small most separator text i v f within differs below = not_front-other most separator text i v f within differs (other-small (get_or text i 0) below)
 
-pub not_front-beyond : (most separator : ℕ) (text : List ℕ) (i v d : ℕ) → Follows most separator text i v → i < length text → (get_or text i 0 == separator) ≡ false
+pub not_front-beyond : (most separator : ℕ) (text : List ℕ) (i v d : ℕ) → Follows most separator text i v → i < length text
+    → (get_or text i 0 == separator) ≡ false
     → d ≡ get_or text i 0 - 48 → 10 ≤ d → front (number 10 most) (parts separator text) ≡ None
 not_front-beyond most separator text i v d f within differs is large =
     not_front-other most separator text i v f within differs (other-large (get_or text i 0) (omega arith))
 
-pub not_front-large : (most separator : ℕ) (text : List ℕ) (i v d : ℕ) → Follows most separator text i v → i < length text → (get_or text i 0 == separator) ≡ false
+pub not_front-large : (most separator : ℕ) (text : List ℕ) (i v d : ℕ) → Follows most separator text i v → i < length text
+    → (get_or text i 0 == separator) ≡ false
     → 48 ≤ get_or text i 0 → d ≡ get_or text i 0 - 48 → d < 10 → most < 10 * v + d → front (number 10 most) (parts separator text) ≡ None
 not_front-large most separator text i v d f within differs least is digit large =
     let tested = digit-tested (get_or text i 0) least (omega arith) in
     front-none most (parts separator text)
-    (sym (onto-next most separator text i v within differs tested f.number) ∙ onto-large most (10 * v + (get_or text i 0 - 48)) (parts separator (drop (i + 1) text)) (omega arith))
+    (sym (onto-next most separator text i v within differs tested f.number)
+    ∙ onto-large most (10 * v + (get_or text i 0 - 48)) (parts separator (drop (i + 1) text)) (omega arith))
 
 pub not_front-nothing : (most separator : ℕ) (text : List ℕ) → length text ≡ 0 → front (number 10 most) (parts separator text) ≡ None
 unfolding number parts
 not_front-nothing most separator [] h = refl
 not_front-nothing most separator (c ∷ cs) h = absurd (omega arith)
 
-pub not_front-begins : (most separator : ℕ) (text : List ℕ) (i : ℕ) → i ≡ 0 → i < length text → get_or text i 0 ≡ separator → front (number 10 most) (parts separator text) ≡ None
+pub not_front-begins : (most separator : ℕ) (text : List ℕ) (i : ℕ) → i ≡ 0 → i < length text → get_or text i 0 ≡ separator
+    → front (number 10 most) (parts separator text) ≡ None
 unfolding number
 not_front-begins most separator text i first within here =
     let at : get_or text 0 0 ≡ separator = subst (λ k. get_or text k 0 ≡ separator) first here in
@@ -153,7 +170,9 @@ with_length : (a b : Bool) (x : Option ℕ) (n : ℕ) → a ≡ true → cond b 
 with_length true b x n is h = h
 with_length false b x n is h = cc
 
-is_front-first : (most n c : ℕ) (texts behind : List (List ℕ)) → onto_front most 0 (onto_first c texts) ≡ Some n → others (onto_first c texts) ≡ behind → IsFront (number 10 most) n (onto_first c texts) behind
+is_front-first : (most n c : ℕ) (texts behind : List (List ℕ)) → onto_front most 0 (onto_first c texts) ≡ Some n
+    → others (onto_first c texts) ≡ behind
+    → IsFront (number 10 most) n (onto_first c texts) behind
 unfolding number
 is_front-first most n c [] behind h e = (c ∷ [], ap (λ l. (c ∷ []) ∷ l) e, h)
 is_front-first most n c (t ∷ ts) behind h e = (c ∷ t, ap (λ l. (c ∷ t) ∷ l) e, with_length (nat_lt 0 (length (c ∷ t))) _ _ n (some_length c t) h)
@@ -184,8 +203,10 @@ is_front-all most separator text i v f end some =
 
 -- ---- a number of one digit
 
-pub is_front-digit : (most separator n : ℕ) (text : List ℕ) (read : Option ℕ) → 2 ≤ length text → get_or text 1 0 ≡ separator → (get_or text 0 0 ≡ separator → ⊥)
-    → read ≡ number 10 most (get_or text 0 0 ∷ []) → read ≡ Some n → IsFront (number 10 most) n (parts separator text) (parts separator (take (length text - 2) (drop 2 text)))
+pub is_front-digit : (most separator n : ℕ) (text : List ℕ) (read : Option ℕ) → 2 ≤ length text → get_or text 1 0 ≡ separator
+    → (get_or text 0 0 ≡ separator → ⊥)
+    → read ≡ number 10 most (get_or text 0 0 ∷ []) → read ≡ Some n
+    → IsFront (number 10 most) n (parts separator text) (parts separator (take (length text - 2) (drop 2 text)))
 is_front-digit most separator n text read long behind differs is some =
     let first = at-other separator text 0 (omega arith) (ne_eqb _ _ differs) in
     let second = at-separator separator text 1 (omega arith) (eq-eqb _ _ behind) in (

@@ -41,7 +41,8 @@ strip_long x true h = omega (arith, length-take (length x - 1) x)
 strip_long x false h = omega arith
 
 -- a first part that is too long gives a line that is too long
-first_long : (x : List ℕ) (t : List (List ℕ)) → 257 < length x → (long : List ℕ) × (rest : List (List ℕ)) × (lines_of_parts (x ∷ t) ≡ long ∷ rest) × (256 < length long)
+first_long : (x : List ℕ) (t : List (List ℕ)) → 257 < length x
+    → (long : List ℕ) × (rest : List (List ℕ)) × (lines_of_parts (x ∷ t) ≡ long ∷ rest) × (256 < length long)
 first_long x [] h = (x, [], ap (λ b. cond b [] (x ∷ [])) (ne_eqb (length x) 0 (λ e. omega arith)), omega arith)
 first_long x (y ∷ ys) h = (strip_carriage_return x, lines_of_parts (y ∷ ys), refl, strip_long x _ h)
 

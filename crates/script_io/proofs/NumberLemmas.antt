@@ -36,7 +36,8 @@ number_too_large base most v i d text pos within same digit large =
 -- ---- parts
 
 -- no separator stands before n
-none_before : (separator : ℕ) (text : List ℕ) (n : ℕ) → n ≤ length text → ((k : ℕ) → k < n → get_or text k 0 ≡ separator → ⊥) → All (λ b. (b == separator) ≡ false) (take n text)
+none_before : (separator : ℕ) (text : List ℕ) (n : ℕ) → n ≤ length text → ((k : ℕ) → k < n → get_or text k 0 ≡ separator → ⊥)
+    → All (λ b. (b == separator) ≡ false) (take n text)
 none_before separator text n within before = All-from_get_or (λ b. (b == separator) ≡ false) (take n text) 0 (λ k h.
     let short : k < n = omega (arith, length-take-le n text within) in
     let e = get_or-take n text k 0 short in
@@ -49,13 +50,17 @@ unfolding parts
 parts-at separator text i within before here =
     let e : text ≡ take i text ++ (get_or text i 0 ∷ drop (i + 1) text) =
     sym (take-append-drop i text) ∙ ap (λ l. take i text ++ l) (drop_more text i 0 within) in
-    let s = slice_split_at (λ b. b == separator) (take i text) (get_or text i 0) (drop (i + 1) text) (none_before separator text i (omega arith) before) (eq-eqb _ _ here) in
+    let s =
+    slice_split_at (λ b. b == separator) (take i text) (get_or text i 0) (drop (i + 1) text)
+    (none_before separator text i (omega arith) before) (eq-eqb _ _ here) in
     ap (slice_split (λ b. b == separator)) e ∙ s ∙ ap (λ l. take i text ∷ slice_split (λ b. b == separator) l) (sym (take_rest text (i + 1)))
 
 pub parts-one : (separator : ℕ) (text : List ℕ) → ((k : ℕ) → k < length text → get_or text k 0 ≡ separator → ⊥) → parts separator text ≡ text ∷ []
 unfolding parts
 parts-one separator text before =
-    slice_split_none (λ b. b == separator) text (subst (All (λ b. (b == separator) ≡ false)) (take_all (length text) text (omega arith)) (none_before separator text (length text) (omega arith) before))
+    slice_split_none (λ b. b == separator) text
+    (subst (All (λ b. (b == separator) ≡ false)) (take_all (length text) text (omega arith))
+    (none_before separator text (length text) (omega arith) before))
 
 pub parts-nonempty : (separator : ℕ) (text : List ℕ) → parts separator text ≡ [] → ⊥
 unfolding parts
@@ -65,7 +70,8 @@ parts-nonempty separator text e =
     omega arith
 
 -- no part is left where nothing is left
-pub parts_after-empty : (separator : ℕ) (rest : Option (Bor (List ℕ))) (view : List (List ℕ)) (b : Bool) → option_map_or (λ r. parts separator r.now) rest [] ≡ view
+pub parts_after-empty : (separator : ℕ) (rest : Option (Bor (List ℕ))) (view : List (List ℕ)) (b : Bool)
+    → option_map_or (λ r. parts separator r.now) rest [] ≡ view
     → is_some rest ≡ not b → (IsTrue b → view ≡ []) × (view ≡ [] → IsTrue b)
 parts_after-empty separator None view true v e = (λ _. sym v, λ _. refl)
 parts_after-empty separator None view false v e = cc

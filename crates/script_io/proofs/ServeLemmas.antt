@@ -29,7 +29,9 @@ cut_in_flush o o' rest rest' old out n follows appended = record {
 pub sends_nothing : {E : Type 0} (o : Option (List ℕ)) (rest : List ℕ → Transcript E) → Sends o o rest rest
 sends_nothing o rest = record { sent = []; appended = Appends-nil o; follows = λ more. refl }
 
-pub sends_on : {E : Type 0} (o o' o'' : Option (List ℕ)) (rest rest' rest'' : List ℕ → Transcript E) → Sends o o' rest rest' → Sends o' o'' rest' rest'' → Sends o o'' rest rest''
+pub sends_on : {E : Type 0} (o o' o'' : Option (List ℕ)) (rest rest' rest'' : List ℕ → Transcript E) → Sends o o' rest rest'
+    → Sends o' o'' rest' rest''
+    → Sends o o'' rest rest''
 sends_on o o' o'' rest rest' rest'' a b = record {
   sent = a.sent ++ b.sent;
   appended = Appends-trans _ _ _ _ _ a.appended b.appended;
@@ -49,8 +51,11 @@ sends_cut o o' o'' rest rest' a b = record {
 pub sends_start : {E : Type 0} (o : Option (List ℕ)) (rest : List ℕ → Transcript E) (out : List ℕ) → out ≡ [] → Sends o o rest (λ more. after out (rest more))
 sends_start o rest out empty = record { sent = []; appended = Appends-nil o; follows = λ more. ap (λ l. after l (rest more)) (sym empty) }
 
-pub sends_front : {E : Type 0} (o o' o'' : Option (List ℕ)) (rest s s' : List ℕ → Transcript E) (old out bytes left : List ℕ) (n : ℕ) → left ≡ take (length bytes - n) (drop n bytes)
-    → Sends o o' rest (λ more. after old (s (bytes ++ more))) → Sends o' o'' (λ more. after old (s (bytes ++ more))) (λ more. after out (s' (drop n bytes ++ more)))
+pub sends_front : {E : Type 0} (o o' o'' : Option (List ℕ)) (rest s s' : List ℕ → Transcript E) (old out bytes left : List ℕ)
+    (n : ℕ)
+    → left ≡ take (length bytes - n) (drop n bytes)
+    → Sends o o' rest (λ more. after old (s (bytes ++ more)))
+    → Sends o' o'' (λ more. after old (s (bytes ++ more))) (λ more. after out (s' (drop n bytes ++ more)))
     → Sends o o'' rest (λ more. after out (s' (left ++ more)))
 sends_front o o' o'' rest s s' old out bytes left n is a b =
     subst (λ l. Sends o o'' rest (λ more. after out (s' (l ++ more)))) (sym (is ∙ take_rest bytes n))
@@ -70,13 +75,18 @@ pub end_cut : {E : Type 0} (o o' o'' : Option (List ℕ)) (rest s : List ℕ →
 end_cut o o' o'' rest s old n a b = record {
   sent = a.sent ++ take n old;
   appended = Appends-trans _ _ _ _ _ a.appended b;
-  begins = λ more.
-      (drop n old ++ (s more).text, ap (λ t. t.text) (a.follows more) ∙ ap (λ l. a.sent ++ l) (cut_at n old (s more).text) ∙ sym (append_assoc a.sent (take n old) (drop n old ++ (s more).text)));
+  begins = λ more. (
+    drop n old ++ (s more).text,
+    ap (λ t. t.text) (a.follows more) ∙ ap (λ l. a.sent ++ l) (cut_at n old (s more).text)
+        ∙ sym (append_assoc a.sent (take n old) (drop n old ++ (s more).text)),
+  );
 }
 
 -- ---- reading and writing
 
-pub cut_stops : {E : Type 0} (i i' o o' : Option (List ℕ)) (rest : List ℕ → Transcript E) (read : List ℕ) → Consumes i i' read → Cuts o o' (λ more. rest (read ++ more)) → Stops i i' o o' rest
+pub cut_stops : {E : Type 0} (i i' o o' : Option (List ℕ)) (rest : List ℕ → Transcript E) (read : List ℕ) → Consumes i i' read
+    → Cuts o o' (λ more. rest (read ++ more))
+    → Stops i i' o o' rest
 cut_stops i i' o o' rest read consumed cut = record {
   read = read;
   sent = cut.sent;
@@ -85,14 +95,18 @@ cut_stops i i' o o' rest read consumed cut = record {
   begins = ((cut.begins []).0, ap (λ l. (rest l).text) (sym (append-nil read)) ∙ (cut.begins []).1);
 }
 
-pub goes_on : {E : Type 0} (i i' i'' o o' o'' : Option (List ℕ)) (rest rest' rest'' : List ℕ → Transcript E) → Goes i i' o o' rest rest' → Goes i' i'' o' o'' rest' rest''
+pub goes_on : {E : Type 0} (i i' i'' o o' o'' : Option (List ℕ)) (rest rest' rest'' : List ℕ → Transcript E)
+    → Goes i i' o o' rest rest'
+    → Goes i' i'' o' o'' rest' rest''
     → Goes i i'' o o'' rest rest''
 goes_on i i' i'' o o' o'' rest rest' rest'' a b = record {
   read = a.read ++ b.read;
   sent = a.sent ++ b.sent;
   consumed = Consumes-trans _ _ _ _ _ a.consumed b.consumed;
   appended = Appends-trans _ _ _ _ _ a.appended b.appended;
-  follows = λ more. ap rest (append_assoc a.read b.read more) ∙ a.follows (b.read ++ more) ∙ ap (after a.sent) (b.follows more) ∙ after-after a.sent b.sent (rest'' more);
+  follows =
+      λ more. ap rest (append_assoc a.read b.read more) ∙ a.follows (b.read ++ more) ∙ ap (after a.sent) (b.follows more)
+      ∙ after-after a.sent b.sent (rest'' more);
 }
 
 pub goes_stops : {E : Type 0} (i i' i'' o o' o'' : Option (List ℕ)) (rest rest' : List ℕ → Transcript E) → Goes i i' o o' rest rest' → Stops i' i'' o' o'' rest'
@@ -116,7 +130,9 @@ goes_cut i i' o o' rest rest' a = record {
 }
 
 -- the last text is written up to n
-pub goes_cut_short : {E : Type 0} (i i' o o' o'' : Option (List ℕ)) (rest rest' : List ℕ → Transcript E) (old out : List ℕ) (e : E) (n : ℕ) → Goes i i' o o' rest rest'
+pub goes_cut_short : {E : Type 0} (i i' o o' o'' : Option (List ℕ)) (rest rest' : List ℕ → Transcript E) (old out : List ℕ)
+    (e : E) (n : ℕ)
+    → Goes i i' o o' rest rest'
     → old ≡ [] → after old (rest' []) ≡ closed out e → Appends o' o'' (take n out) → Stops i i' o o'' rest
 goes_cut_short i i' o o' o'' rest rest' old out e n a empty closes appended = record {
   read = a.read;
@@ -133,7 +149,9 @@ goes_cut_short i i' o o' o'' rest rest' old out e n a empty closes appended = re
 
 -- ---- the whole call
 
-pub serves_stopped : {E : Type 0} (i i' o o' : Option (List ℕ)) (rest : List ℕ → Transcript E) (e : ServeFailure) → Stops i i' o o' rest → Serves rest i i' o o' (Err e)
+pub serves_stopped : {E : Type 0} (i i' o o' : Option (List ℕ)) (rest : List ℕ → Transcript E) (e : ServeFailure)
+    → Stops i i' o o' rest
+    → Serves rest i i' o o' (Err e)
 serves_stopped i i' o o' rest e s = record { read = s.read; sent = s.sent; consumed = s.consumed; appended = s.appended; tells = s.begins; whole = λ q. cc }
 
 -- the transcript of the bytes read is that of the whole input
@@ -165,12 +183,15 @@ serves_ended i i' o o' o'' rest rest' old out e a end empty closes appended =
 
 -- ---- the same transcript in other words
 
-whole_as : {E : Type 0} (i : Option (List ℕ)) (f t : List ℕ → Transcript E) (read : List ℕ) → ((bytes : List ℕ) → f bytes ≡ t bytes) → IfSome i (λ all. f all ≡ f read)
+whole_as : {E : Type 0} (i : Option (List ℕ)) (f t : List ℕ → Transcript E) (read : List ℕ)
+    → ((bytes : List ℕ) → f bytes ≡ t bytes)
+    → IfSome i (λ all. f all ≡ f read)
     → IfSome i (λ all. t all ≡ t read)
 whole_as None f t read same h = h
 whole_as (Some all) f t read same h = sym (same all) ∙ h ∙ same read
 
-pub serves_as : {E : Type 0} (f t : List ℕ → Transcript E) (i i' o o' : Option (List ℕ)) (answer : Result E ServeFailure) → ((bytes : List ℕ) → f bytes ≡ t bytes)
+pub serves_as : {E : Type 0} (f t : List ℕ → Transcript E) (i i' o o' : Option (List ℕ)) (answer : Result E ServeFailure)
+    → ((bytes : List ℕ) → f bytes ≡ t bytes)
     → Serves f i i' o o' answer → Serves t i i' o o' answer
 serves_as f t i i' o o' answer same s = record {
   read = s.read;

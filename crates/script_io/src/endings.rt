@@ -79,7 +79,8 @@ pub fn serve_script<S: Session<Ending = Ending>, R: ByteIn, W: ByteOut>(
     requires writer_sound { W.has_failed writer.old ≡ false }
     requires few { R.reads_left reader.old ≤ 2 ^ 63 }
     requires fresh { S.count session.old ≡ 0 }
-    ensures serves { Serves (S.follow session.old) (R.to_come reader.old) (R.to_come reader.new) (W.written writer.old) (W.written writer.new) (served_as result) }
+    ensures serves { Serves (S.follow session.old) (R.to_come reader.old) (R.to_come reader.new) (W.written writer.old)
+        (W.written writer.new) (served_as result) }
     ensures blames { IfErr (served_as result) (λ e. Blames e (R.has_failed reader.new) (W.has_failed writer.new)) }
 {
     answer_of(serve_session(alloc, session, reader, writer))

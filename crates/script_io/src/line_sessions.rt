@@ -116,7 +116,8 @@ impl<S: LineService + Drop> LineSession<S> {
         requires no_newline { All is_no_newline line.now }
         ensures number { self.new.number ≡ self.old.number + 1 }
         ensures follows { OnOk result ((more : List ℕ) →
-            after out.old.items (⟦<LineSession<S> as Session>⟧.follow self.old (line.now ++ 10 ∷ more)) ≡ after out.new.items (⟦<LineSession<S> as Session>⟧.follow self.new more)) }
+            after out.old.items (⟦<LineSession<S> as Session>⟧.follow self.old (line.now ++ 10 ∷ more))
+            ≡ after out.new.items (⟦<LineSession<S> as Session>⟧.follow self.new more)) }
     {
         self.number += 1;
         match self
@@ -135,7 +136,8 @@ impl<S: LineService + Drop> LineSession<S> {
         requires goes_on { self.old.ending ≡ None }
         ensures number { self.new.number ≡ self.old.number + 1 }
         ensures follows { OnOk result ((more : List ℕ) →
-            after out.old.items (⟦<LineSession<S> as Session>⟧.follow self.old (10 ∷ more)) ≡ after out.new.items (⟦<LineSession<S> as Session>⟧.follow self.new more)) }
+            after out.old.items (⟦<LineSession<S> as Session>⟧.follow self.old (10 ∷ more))
+            ≡ after out.new.items (⟦<LineSession<S> as Session>⟧.follow self.new more)) }
     {
         self.number += 1;
         let buffer = &self.line;
@@ -155,7 +157,8 @@ impl<S: LineService + Drop> LineSession<S> {
         ensures number { self.new.number ≡ self.old.number + 1 }
         ensures ended { OnOk result (is_some self.new.ending ≡ true) }
         ensures follows { OnOk result ((bytes more : List ℕ) → All is_no_newline bytes → 257 < length self.old.line.bytes.items + length bytes →
-            after out.old.items (⟦<LineSession<S> as Session>⟧.follow self.old (bytes ++ more)) ≡ after out.new.items (⟦<LineSession<S> as Session>⟧.follow self.new more)) }
+            after out.old.items (⟦<LineSession<S> as Session>⟧.follow self.old (bytes ++ more))
+            ≡ after out.new.items (⟦<LineSession<S> as Session>⟧.follow self.new more)) }
     {
         self.number += 1;
         match self.service.refuse_line(self.number, out) {
@@ -173,7 +176,8 @@ impl<S: LineService + Drop> LineSession<S> {
         ensures number { self.new.number ≤ self.old.number + 1 }
         ensures same { OnOk result (is_some self.new.ending ≡ false → self.new.number ≡ self.old.number) }
         ensures follows { OnOk result ((more : List ℕ) →
-            after out.old.items (⟦<LineSession<S> as Session>⟧.follow self.old (bytes.now ++ more)) ≡ after out.new.items (⟦<LineSession<S> as Session>⟧.follow self.new more)) }
+            after out.old.items (⟦<LineSession<S> as Session>⟧.follow self.old (bytes.now ++ more))
+            ≡ after out.new.items (⟦<LineSession<S> as Session>⟧.follow self.new more)) }
     {
         if self.line.extend(bytes) {
             return Ok(());
@@ -188,7 +192,8 @@ impl<S: LineService + Drop> LineSession<S> {
         requires no_newline { All is_no_newline bytes.now }
         ensures number { self.new.number ≤ self.old.number + 1 }
         ensures follows { OnOk result ((more : List ℕ) →
-            after out.old.items (⟦<LineSession<S> as Session>⟧.follow self.old (bytes.now ++ 10 ∷ more)) ≡ after out.new.items (⟦<LineSession<S> as Session>⟧.follow self.new more)) }
+            after out.old.items (⟦<LineSession<S> as Session>⟧.follow self.old (bytes.now ++ 10 ∷ more))
+            ≡ after out.new.items (⟦<LineSession<S> as Session>⟧.follow self.new more)) }
     {
         if self.line.bytes.is_empty() {
             return self.take_whole(bytes, out);

@@ -107,11 +107,19 @@ module _ (s : Stored) (locks : List Lock) (p k : ℕ) (t : IsTable (state_of s l
   pub kept_is : (job : ℕ) → is_kept_in s (lock_at locks (own_at s p k)).queue p (want_at s p k) job
       ≡ is_kept_by job (requests_at s (before_of s.order p)) (want_at s p k)
   kept_is job =
-      ap (λ b. not b && list_any (λ v. is_in_the_way v w) (wants_at (requests_of (requests_at s (before_of (lock_at locks (own_at s p k)).queue.places p)) job) w.key)) (sym fits_there)
-      ∙ ap (λ l. not (fits (requests_at s (before_of s.order p)) w) && list_any (λ v. is_in_the_way v w) (wants_at (requests_of (requests_at s l) job) w.key)) before
-      ∙ ap (λ l. not (fits (requests_at s (before_of s.order p)) w) && list_any (λ v. is_in_the_way v w) l) (wants_at_places_of (request_at s) (before_of s.order p) w.key job)
+      ap
+      (λ b. not b
+      && list_any (λ v. is_in_the_way v w)
+      (wants_at (requests_of (requests_at s (before_of (lock_at locks (own_at s p k)).queue.places p)) job) w.key))
+      (sym fits_there)
+      ∙ ap
+      (λ l. not (fits (requests_at s (before_of s.order p)) w)
+      && list_any (λ v. is_in_the_way v w) (wants_at (requests_of (requests_at s l) job) w.key)) before
+      ∙ ap (λ l. not (fits (requests_at s (before_of s.order p)) w) && list_any (λ v. is_in_the_way v w) l)
+      (wants_at_places_of (request_at s) (before_of s.order p) w.key job)
 
   pub before_present : All (λ x. is_there x s.order ≡ true) (before_of (lock_at locks (own_at s p k)).queue.places p)
   before_present =
-      All-take (λ x. is_there x s.order ≡ true) (position_or_len (λ x. x == p) (lock_at locks (own_at s p k)).queue.places) (lock_at locks (own_at s p k)).queue.places
+      All-take (λ x. is_there x s.order ≡ true) (position_or_len (λ x. x == p) (lock_at locks (own_at s p k)).queue.places)
+      (lock_at locks (own_at s p k)).queue.places
       (subst (All (λ x. is_there x s.order ≡ true)) (sym is.places) (kept_present test s.order))

@@ -122,7 +122,8 @@ module _ (s : Stored) (locks : List Lock) (w : Want) (table : IsTable (state_of 
       let q = queue_of_want (state_of s locks).key (request_at s p).wants.items ((state_of s locks).own p) found.0 (table.kept.queues p a.0) found.1 in
       let st : Stands (state_of s locks) p q.0 = record { present = a.0; there = q.1 } in (
         (state_of s locks).size q.0,
-        subst (λ k. list_all (λ u. is_share_of ((state_of s locks).size q.0) u.pool) (wants_at (requests_in s) k) ≡ true) (q.2 ∙ found.2) (table.kept.counts p q.0 st).counts.alike.each,
+        subst (λ k. list_all (λ u. is_share_of ((state_of s locks).size q.0) u.pool) (wants_at (requests_in s) k) ≡ true)
+            (q.2 ∙ found.2) (table.kept.counts p q.0 st).counts.alike.each,
       )
 
   -- the first tells of all

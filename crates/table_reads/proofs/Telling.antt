@@ -186,7 +186,8 @@ granted_is s i m lt =
     let there : is_there x s.order ≡ true = found_there x i s.order found.1 in
     ap (λ p. (filed_at s p).granted) (get_or_from_slice_get s.order i x 0 found.1)
     ∙ m.marks x there
-    ∙ ap (λ l. granted_behind (requests_at s l) (request_at s x)) (before_is s.order (take i s.order) (drop (suc i) s.order) x m.once (split_at s.order i x found.1))
+    ∙ ap (λ l. granted_behind (requests_at s l) (request_at s x))
+    (before_is s.order (take i s.order) (drop (suc i) s.order) x m.once (split_at s.order i x found.1))
     ∙ ap (λ l. granted_behind l (request_at s x)) (sym (take-map (request_at s) i s.order))
     ∙ ap (is_granted (take i (requests_in s))) (sym (slice_get-map (request_at s) s.order i ∙ ap (option_map (request_at s)) found.1))
 
@@ -216,5 +217,7 @@ module _ (s : Stored) (key : Key) (m : MarksGrants s) where
   status_is asker =
       ap (λ l. standing key asker (level_of (requests_in s) key) l (waiters (requests_in s) key)) owners_are
       ∙ ap (λ l. standing key asker (level_of (requests_in s) key) (requests_at s (owners_among s (places_at (request_at s) s.order key))) l) waiters_are
-      ∙ ap (λ o. standing key asker o (requests_at s (owners_among s (places_at (request_at s) s.order key))) (requests_at s (waiters_among s (places_at (request_at s) s.order key))))
+      ∙ ap
+      (λ o. standing key asker o (requests_at s (owners_among s (places_at (request_at s) s.order key)))
+      (requests_at s (waiters_among s (places_at (request_at s) s.order key))))
       (ap (λ (l : List Want). unwrap_or (first_level l) 0) (sym (wants_at_places (request_at s) s.order key)))

@@ -43,14 +43,18 @@ is_terminal awaited.Line = refl
 same-cores : (w : World) (n : ℕ) (k : Job) → record (with_new_job w n k) { cores = with_core w.cores n (core_of w.cores n) } ≡ with_new_job w n k
 same-cores w n k = ap (λ (s : Cores). record (with_new_job w n k) { cores = s }) (core-same w.cores n)
 
-empty-none : (w : World) (n : ℕ) (j : Job) (unit : Awaited) (skips : Bool) → IsEmptyStep w n j (ended w n (with_input_of w n j (no_input unit skips (core_of w.cores n) j w.lines)))
+empty-none : (w : World) (n : ℕ) (j : Job) (unit : Awaited) (skips : Bool)
+    → IsEmptyStep w n j (ended w n (with_input_of w n j (no_input unit skips (core_of w.cores n) j w.lines)))
 empty-none w n j unit true = λ e. cc
 empty-none w n j unit false = λ e. (input_wait unit, is_terminal unit, same-cores w n (waiting (put_back j) (input_wait unit)))
 
-empty-called : (w : World) (n : ℕ) (j : Job) (unit : Awaited) (skips : Bool) (e : ℕ) → IsEmptyStep w n j (ended w n (with_input_of w n j (input_called unit skips e (core_of w.cores n) j w.lines)))
+empty-called : (w : World) (n : ℕ) (j : Job) (unit : Awaited) (skips : Bool) (e : ℕ)
+    → IsEmptyStep w n j (ended w n (with_input_of w n j (input_called unit skips e (core_of w.cores n) j w.lines)))
 empty-called w n j unit skips e =
     by_test (λ (o : JobInput). IsEmptyStep w n j (ended w n (with_input_of w n j o))) (is_legal (core_of w.cores n) e) _ _
-    (λ _. by_test (λ (o : JobInput). IsEmptyStep w n j (ended w n (with_input_of w n j o))) (has_input unit (input_of w.lines j.line)) (stored_input skips e (core_of w.cores n) j w.lines) (no_input unit skips (core_of w.cores n) j w.lines)
+    (λ _. by_test (λ (o : JobInput). IsEmptyStep w n j (ended w n (with_input_of w n j o)))
+    (has_input unit (input_of w.lines j.line)) (stored_input skips e (core_of w.cores n) j w.lines)
+    (no_input unit skips (core_of w.cores n) j w.lines)
     (λ _ d. cc) (λ _. empty-none w n j unit skips))
     (λ _ d. cc)
 
@@ -86,7 +90,8 @@ empty-steps w time n c j there = subst (IsEmptyStep w n j) (sym (performs w time
 abbrev pub GoesWhole : World → Job → Option (List ℕ) → Performed → Type 0
 GoesWhole w j o p =
     (p.world.lines ≡ w.lines)
-    ⊎ ((text : List ℕ) × (o ≡ Some text) × (length text ≤ room_of w.lines j.line) × (p.world.lines ≡ with_output w.lines j.line (output_of w.lines j.line ++ text)))
+    ⊎ ((text : List ℕ) × (o ≡ Some text) × (length text ≤ room_of w.lines j.line)
+    × (p.world.lines ≡ with_output w.lines j.line (output_of w.lines j.line ++ text)))
 
 whole-put : (w : World) (n : ℕ) (j : Job) (o : Option (List ℕ)) → GoesWhole w j o (ended w n (with_lines w j (put_text o j w.lines)))
 whole-put w n j None = inl refl

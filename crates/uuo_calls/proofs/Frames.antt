@@ -39,7 +39,8 @@ core-done : (ac k : ℕ) (o : Option Cores) (j : Job) (s : Cores) → ((new : Co
 core-done ac k None j s h = refl
 core-done ac k (Some new) j s h = h new refl
 
-core-enqc : (jobs : List (Option Job)) (requests : List Request) (n ac k : ℕ) (j : Job) (s : Cores) → k ≢ n → core_of (enqc jobs requests n ac j s).cores k ≡ core_of s k
+core-enqc : (jobs : List (Option Job)) (requests : List Request) (n ac k : ℕ) (j : Job) (s : Cores) → k ≢ n
+    → core_of (enqc jobs requests n ac j s).cores k ≡ core_of s k
 core-enqc jobs requests n ac k j s ne =
     let P : JobCores → Type 0 = λ o. core_of o.cores k ≡ core_of s k in
     by_test P (left_half (ac_of j ac) == 1) _ _ (λ _. refl)
@@ -47,7 +48,9 @@ core-enqc jobs requests n ac k j s ne =
 
 core-row : (s : Service) (time n ac e k : ℕ) (a : Around) → k ≢ n → core_of (row_of s time n ac e a).cores k ≡ core_of a.cores k
 core-row Reset time n ac e k a ne = refl
-core-row Core time n ac e k a ne = core-done ac k (grown a.cores n (blocks_asked (ac_of a.job ac))) a.job a.cores (λ new is. core-grown a.cores new n k (blocks_asked (ac_of a.job ac)) ne is)
+core-row Core time n ac e k a ne =
+    core-done ac k (grown a.cores n (blocks_asked (ac_of a.job ac))) a.job a.cores
+    (λ new is. core-grown a.cores new n k (blocks_asked (ac_of a.job ac)) ne is)
 core-row Exit time n ac e k a ne = refl
 core-row Monrt time n ac e k a ne = refl
 core-row Logout time n ac e k a ne = refl
@@ -80,16 +83,19 @@ beside-set line lines r = λ l ne. get_or-set_other lines line l r no_characters
 beside-put : (o : Option (List ℕ)) (j : Job) (lines : List Rings) → SameBeside j.line lines (put_text o j lines).lines
 beside-put None j lines = λ l ne. refl
 beside-put (Some text) j lines =
-    by_test (λ (p : JobLines). SameBeside j.line lines p.lines) (nat_le (length text) (room_of lines j.line)) _ _ (λ _. beside-set j.line lines _) (λ _ l ne. refl)
+    by_test (λ (p : JobLines). SameBeside j.line lines p.lines) (nat_le (length text) (room_of lines j.line)) _ _
+    (λ _. beside-set j.line lines _) (λ _ l ne. refl)
 
 beside-none : (unit : Awaited) (skips : Bool) (core : List ℕ) (j : Job) (lines : List Rings) → SameBeside j.line lines (no_input unit skips core j lines).lines
 beside-none unit true core j lines = λ l ne. refl
 beside-none unit false core j lines = λ l ne. refl
 
-beside-called : (unit : Awaited) (skips : Bool) (e : ℕ) (core : List ℕ) (j : Job) (lines : List Rings) → SameBeside j.line lines (input_called unit skips e core j lines).lines
+beside-called : (unit : Awaited) (skips : Bool) (e : ℕ) (core : List ℕ) (j : Job) (lines : List Rings)
+    → SameBeside j.line lines (input_called unit skips e core j lines).lines
 beside-called unit skips e core j lines =
     by_test (λ (o : JobInput). SameBeside j.line lines o.lines) (is_legal core e) _ _
-    (λ _. by_test (λ (o : JobInput). SameBeside j.line lines o.lines) (has_input unit (input_of lines j.line)) (stored_input skips e core j lines) (no_input unit skips core j lines)
+    (λ _. by_test (λ (o : JobInput). SameBeside j.line lines o.lines) (has_input unit (input_of lines j.line))
+    (stored_input skips e core j lines) (no_input unit skips core j lines)
     (λ _. beside-set j.line lines _) (λ _. beside-none unit skips core j lines))
     (λ _ l ne. refl)
 
@@ -154,7 +160,8 @@ stays-none unit false core j lines = λ e. cc
 stays-called : (unit : Awaited) (skips : Bool) (e : ℕ) (core : List ℕ) (j : Job) (lines : List Rings) → (input_called unit skips e core j lines).ending ≢ Gone
 stays-called unit skips e core j lines =
     by_test (λ (o : JobInput). o.ending ≢ Gone) (is_legal core e) _ _
-    (λ _. by_test (λ (o : JobInput). o.ending ≢ Gone) (has_input unit (input_of lines j.line)) (stored_input skips e core j lines) (no_input unit skips core j lines)
+    (λ _. by_test (λ (o : JobInput). o.ending ≢ Gone) (has_input unit (input_of lines j.line))
+    (stored_input skips e core j lines) (no_input unit skips core j lines)
     (λ _ e. cc) (λ _. stays-none unit skips core j lines))
     (λ _ e. cc)
 
@@ -219,7 +226,9 @@ others-spared w time n c j there =
     let s = service_in c in
     let a = row_of s time n c.ac c.e (around w j) in
     let v = with_around w n a in
-    let P : Performed → Type 0 = λ p. IsSpared w p.world n j.line × (s ≢ Logout → p.world.table.left ≡ w.table.left) × (s ≢ Datwr → p.world.shared ≡ w.shared) in
+    let P : Performed → Type 0 =
+    λ p. IsSpared w p.world n j.line × (s ≢ Logout → p.world.table.left ≡ w.table.left)
+    × (s ≢ Datwr → p.world.shared ≡ w.shared) in
     subst P (sym (performs w time n c j there)) (
       spared-left a.ending w v n j.line (spared-around s w time n c.ac c.e j),
       λ ne. quantum-left a.ending v n (stays-row s time n c.ac c.e w j ne),

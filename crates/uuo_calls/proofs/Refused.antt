@@ -51,7 +51,11 @@ Has n ac p word = (k : Job) × (job_at p.world.table.jobs n ≡ Some k) × (ac_o
 
 has-ac : (w : World) (n ac word : ℕ) (j k : Job) → n < length w.table.jobs → ac < length k.regs.ac
     → (m : Job) × (job_at (slice_set w.table.jobs n (Some (with_ac k ac word))) n ≡ Some m) × (ac_of m ac ≡ word)
-has-ac w n ac word j k low within = (with_ac k ac word, get_or-set_same w.table.jobs n (Some (with_ac k ac word)) None low, get_or-set_same k.regs.ac ac word 0 within)
+has-ac w n ac word j k low within = (
+  with_ac k ac word,
+  get_or-set_same w.table.jobs n (Some (with_ac k ac word)) None low,
+  get_or-set_same k.regs.ac ac word 0 within,
+)
 
 core-answer : (w : World) (n ac : ℕ) (j : Job) (o : Option Cores) → n < length w.table.jobs → ac < length j.regs.ac
     → (k : Job) × (job_at (slice_set w.table.jobs n (Some (core_done ac o j w.cores).job)) n ≡ Some k) × (ac_of k ac ≡ (core_done ac o j w.cores).cores.free)
@@ -107,7 +111,13 @@ comes-core w n ac j None Two low = inr (inl (w.cores.free, refl))
 comes-core w n ac j (Some new) Two low = inl (skipped w n j (with_ac (skipping j) ac new.free) low refl)
 
 comes-write : (w : World) (n ac : ℕ) (j : Job) (b : Bool) (words : List ℕ) (Two : Type 0) → n < length w.table.jobs
-    → Comes w n ac j Two (with_around w n (record (around w j) { job = (cond {A = JobData} b (record { job = skipping j; shared = words }) (record { job = with_ac j ac 1; shared = w.shared })).job; shared = (cond {A = JobData} b (record { job = skipping j; shared = words }) (record { job = with_ac j ac 1; shared = w.shared })).shared }))
+    → Comes w n ac j Two
+    (with_around w n (record (around w j) {
+      job =
+          (cond {A = JobData} b (record { job = skipping j; shared = words }) (record { job = with_ac j ac 1; shared = w.shared })).job;
+      shared =
+          (cond {A = JobData} b (record { job = skipping j; shared = words }) (record { job = with_ac j ac 1; shared = w.shared })).shared;
+    }))
 comes-write w n ac j true words Two low = inl (skipped w n j (skipping j) low refl)
 comes-write w n ac j false words Two low = inr (inl (1, refl))
 
@@ -117,26 +127,39 @@ pc-stored p a [] = refl
 pc-stored p a (x ∷ words) = pc-stored (stored_at p a x) (a + 1) words
 
 comes-told : (w : World) (n ac to : ℕ) (j : Job) (r : Result (List Want) Refusal) (Two : Type 0) → n < length w.table.jobs
-    → Comes w n ac j Two (with_around w n (record (around w j) { job = (told w.requests n ac to j (core_of w.cores n) r).job; cores = with_core w.cores n (told w.requests n ac to j (core_of w.cores n) r).core }))
+    → Comes w n ac j Two
+    (with_around w n (record (around w j) {
+      job = (told w.requests n ac to j (core_of w.cores n) r).job;
+      cores = with_core w.cores n (told w.requests n ac to j (core_of w.cores n) r).core;
+    }))
 comes-told w n ac to j (Err refusal) Two low =
     inr (inl (code_of refusal, ap (λ (s : Cores). record (with_new_job w n (with_ac j ac (code_of refusal))) { cores = s }) (core-same w.cores n)))
-comes-told w n ac to j (Ok wants) Two low = inl (skipped w n j (told w.requests n ac to j (core_of w.cores n) (Ok wants)).job low (ap (λ pc. (pc + 1) % 2 ^ 18) (pc-stored (record { regs = j.regs; core = core_of w.cores n }) to (status_words w.requests n wants))))
+comes-told w n ac to j (Ok wants) Two low =
+    inl
+    (skipped w n j (told w.requests n ac to j (core_of w.cores n) (Ok wants)).job low
+    (ap (λ pc. (pc + 1) % 2 ^ 18)
+    (pc-stored (record { regs = j.regs; core = core_of w.cores n }) to (status_words w.requests n wants))))
 
 -- what a refused lock call leaves of the requests
 abbrev pub KeepsRequests : List Request → Type 0 → Outcome → Type 0
 KeepsRequests requests Two o =
     (r : Refusal) → o.reply ≡ Refused r → (o.requests ≡ requests) ⊎ (Two × (code_of r ≡ 1) × ((request : Request) × (o.requests ≡ requests ++ request ∷ [])))
 
-keeps-unless : (requests : List Request) (refusal : Option Refusal) (o : Outcome) (Two : Type 0) → KeepsRequests requests Two o → KeepsRequests requests Two (unless_refused requests refusal o)
+keeps-unless : (requests : List Request) (refusal : Option Refusal) (o : Outcome) (Two : Type 0) → KeepsRequests requests Two o
+    → KeepsRequests requests Two (unless_refused requests refusal o)
 keeps-unless requests (Some refusal) o Two h = λ r e. inl refl
 keeps-unless requests None o Two h = h
 
-keeps-not_granted : (requests : List Request) (request : Request) (kind : EnqueueKind) (Two : Type 0) → (is_interrupt kind ≡ true → Two) → KeepsRequests requests Two (not_granted requests (requests ++ request ∷ []) kind)
+keeps-not_granted : (requests : List Request) (request : Request) (kind : EnqueueKind) (Two : Type 0)
+    → (is_interrupt kind ≡ true → Two)
+    → KeepsRequests requests Two (not_granted requests (requests ++ request ∷ []) kind)
 keeps-not_granted requests request Blocking Two two = λ r e. cc
 keeps-not_granted requests request AtOnce Two two = λ r e. inl refl
 keeps-not_granted requests request Interrupt Two two = λ r e. inr (two refl, (cc), (request, refl))
 
-keeps-arrival : (requests : List Request) (n : ℕ) (asking : Asking) (wants : ArrayVec Want) (Two : Type 0) → (is_interrupt asking.kind ≡ true → Two) → KeepsRequests requests Two (arrival requests n asking wants)
+keeps-arrival : (requests : List Request) (n : ℕ) (asking : Asking) (wants : ArrayVec Want) (Two : Type 0)
+    → (is_interrupt asking.kind ≡ true → Two)
+    → KeepsRequests requests Two (arrival requests n asking wants)
 keeps-arrival requests n asking wants Two two =
     by_test (KeepsRequests requests Two) (granted (with_arrival requests n asking false wants) (length requests)) _ _
     (λ _ r e. cc) (λ _. keeps-not_granted requests (request_of n asking false wants) asking.kind Two two)
@@ -152,9 +175,11 @@ is_interrupting (DequeueNamed wants) = false
 is_interrupting DequeueAll = false
 is_interrupting (DequeueId id) = false
 
-keeps-call : (size : ℕ) (requests : List Request) (n : ℕ) (call : LockCall) (Two : Type 0) → (is_interrupting call ≡ true → Two) → KeepsRequests requests Two (outcome_of size requests n call)
+keeps-call : (size : ℕ) (requests : List Request) (n : ℕ) (call : LockCall) (Two : Type 0) → (is_interrupting call ≡ true → Two)
+    → KeepsRequests requests Two (outcome_of size requests n call)
 keeps-call size requests n (Enqueue asking wants) Two two =
-    keeps-unless requests (enqueue_refusal size requests n asking wants.items) (arrival requests n asking wants) Two (keeps-arrival requests n asking wants Two two)
+    keeps-unless requests (enqueue_refusal size requests n asking wants.items) (arrival requests n asking wants) Two
+    (keeps-arrival requests n asking wants Two two)
 keeps-call size requests n (Modify wants) Two two = keeps-unless requests _ (outcome (with_changes requests n wants.items) DoneReply) Two (λ r e. cc)
 keeps-call size requests n (DequeueNamed wants) Two two = keeps-unless requests _ (outcome (without_named requests n wants.items) DoneReply) Two (λ r e. cc)
 keeps-call size requests n DequeueAll Two two = keeps-where requests (is_of_job n) Two
@@ -164,7 +189,9 @@ abbrev pub is_interrupting_ask : Result LockCall Refusal → Bool
 is_interrupting_ask (Ok call) = is_interrupting call
 is_interrupting_ask (Err refusal) = false
 
-keeps-asked : (size : ℕ) (requests : List Request) (n : ℕ) (asks : Result LockCall Refusal) (Two : Type 0) → (is_interrupting_ask asks ≡ true → Two) → KeepsRequests requests Two (asked size requests n asks)
+keeps-asked : (size : ℕ) (requests : List Request) (n : ℕ) (asks : Result LockCall Refusal) (Two : Type 0)
+    → (is_interrupting_ask asks ≡ true → Two)
+    → KeepsRequests requests Two (asked size requests n asks)
 keeps-asked size requests n (Ok call) Two two = keeps-call size requests n call Two two
 keeps-asked size requests n (Err refusal) Two two = λ r e. inl refl
 
@@ -175,20 +202,24 @@ comes-refused w n ac j r requests Two (inl same) = inr (inl (code_of r, ap (λ l
 comes-refused w n ac j r requests Two (inr (two, one, kept)) =
     inr (inr (two, (kept.0, rw (one, kept.1) refl)))
 
-comes-replied : (w : World) (n ac limit : ℕ) (j : Job) (reply : LockReply) (requests : List Request) (Two : Type 0) → n < length w.table.jobs → KeepsRequests w.requests Two (outcome requests reply)
+comes-replied : (w : World) (n ac limit : ℕ) (j : Job) (reply : LockReply) (requests : List Request) (Two : Type 0)
+    → n < length w.table.jobs
+    → KeepsRequests w.requests Two (outcome requests reply)
     → Comes w n ac j Two (with_around w n (replied (around w j) ac limit (outcome requests reply)))
 comes-replied w n ac limit j Granted requests Two low keeps = inl (skipped w n j (skipping j) low refl)
 comes-replied w n ac limit j Queued requests Two low keeps = inl (skipped w n j (answered j ac limit Queued) low refl)
 comes-replied w n ac limit j DoneReply requests Two low keeps = inl (skipped w n j (skipping j) low refl)
 comes-replied w n ac limit j (Refused r) requests Two low keeps = comes-refused w n ac j r requests Two (keeps r refl)
 
-comes-asked : (w : World) (n ac limit : ℕ) (j : Job) (asks : Result LockCall Refusal) (Two : Type 0) → n < length w.table.jobs → (is_interrupting_ask asks ≡ true → Two)
+comes-asked : (w : World) (n ac limit : ℕ) (j : Job) (asks : Result LockCall Refusal) (Two : Type 0) → n < length w.table.jobs
+    → (is_interrupting_ask asks ≡ true → Two)
     → Comes w n ac j Two (with_around w n (replied (around w j) ac limit (asked w.size w.requests n asks)))
 comes-asked w n ac limit j asks Two low two =
     let o = asked w.size w.requests n asks in
     comes-replied w n ac limit j o.reply o.requests Two low (keeps-asked w.size w.requests n asks Two two)
 
-no-interrupt : (kind : EnqueueKind) (armed : Bool) (quota : ℕ) (r : Result Block Refusal) → is_interrupt kind ≡ false → is_interrupting_ask (entering kind armed quota r) ≡ false
+no-interrupt : (kind : EnqueueKind) (armed : Bool) (quota : ℕ) (r : Result Block Refusal) → is_interrupt kind ≡ false
+    → is_interrupting_ask (entering kind armed quota r) ≡ false
 no-interrupt kind armed quota (Ok block) e = e
 no-interrupt kind armed quota (Err refusal) e = refl
 
@@ -204,7 +235,9 @@ never : (b : Bool) (Two : Type 0) → b ≡ false → b ≡ true → Two
 never b Two f t = absurd (cc)
 
 -- ENQ. asks for an interrupt by its function 2 alone
-asks-two : (regs core : List ℕ) (n word : ℕ) (armed : Bool) (quota : ℕ) → is_interrupting_ask (enq_asks regs core n word armed quota) ≡ true → left_half word ≡ 2
+asks-two : (regs core : List ℕ) (n word : ℕ) (armed : Bool) (quota : ℕ)
+    → is_interrupting_ask (enq_asks regs core n word armed quota) ≡ true
+    → left_half word ≡ 2
 asks-two regs core n word armed quota =
     let P : Result LockCall Refusal → Type 0 = λ asks. is_interrupting_ask asks ≡ true → left_half word ≡ 2 in
     by_test P (left_half word == 0) _ _ (λ _. never _ _ (no-interrupt Blocking armed quota _ refl))
@@ -215,7 +248,8 @@ asks-two regs core n word armed quota =
 asks-none : (regs core : List ℕ) (n word : ℕ) → is_interrupting_ask (deq_asks regs core n word) ≡ false
 asks-none regs core n word =
     let P : Result LockCall Refusal → Type 0 = λ asks. is_interrupting_ask asks ≡ false in
-    by_test P (left_half word == 0) _ _ (λ _. no-naming _) (λ _. by_test P (left_half word == 1) _ _ (λ _. refl) (λ _. by_test P (left_half word == 2) _ _ (λ _. refl) (λ _. refl)))
+    by_test P (left_half word == 0) _ _ (λ _. no-naming _)
+    (λ _. by_test P (left_half word == 1) _ _ (λ _. refl) (λ _. by_test P (left_half word == 2) _ _ (λ _. refl) (λ _. refl)))
 
 comes-quota : (w : World) (n ac k : ℕ) (j : Job) (quota : Option ℕ) (Two : Type 0) → n < length w.table.jobs
     → Comes w n ac j Two (with_job_of w n (told_quota w.requests k ac j quota))
@@ -223,7 +257,11 @@ comes-quota w n ac k j (Some quota) Two low = inl (skipped w n j (told_quota w.r
 comes-quota w n ac k j None Two low = inr (inl (code_of NoSuchQuota, refl))
 
 comes-enqc : (w : World) (n ac : ℕ) (j : Job) (Two : Type 0) → n < length w.table.jobs
-    → Comes w n ac j Two (with_around w n (record (around w j) { job = (enqc w.table.jobs w.requests n ac j w.cores).job; cores = (enqc w.table.jobs w.requests n ac j w.cores).cores }))
+    → Comes w n ac j Two
+    (with_around w n (record (around w j) {
+      job = (enqc w.table.jobs w.requests n ac j w.cores).job;
+      cores = (enqc w.table.jobs w.requests n ac j w.cores).cores;
+    }))
 comes-enqc w n ac j Two low =
     let P : JobCores → Type 0 = λ o. Comes w n ac j Two (with_around w n (record (around w j) { job = o.job; cores = o.cores })) in
     let word = ac_of j ac in
@@ -236,10 +274,13 @@ comes-enqc w n ac j Two low =
 comes-row : (s : Service) (w : World) (time n ac e : ℕ) (j : Job) → n < length w.table.jobs → skips_when_done s ≡ true
     → Comes w n ac j ((left_half (ac_of j ac) ≡ 2) × (s ≡ Enq)) (ended w n (row_of s time n ac e (around w j))).world
 comes-row Core w time n ac e j low done = comes-core w n ac j (grown w.cores n (blocks_asked (ac_of j ac))) _ low
-comes-row Piini w time n ac e j low done = comes-job w n ac j (are_legal (core_of w.cores n) (right_half (ac_of j ac)) 4) (skipping (armed_at j (right_half (ac_of j ac)))) 1 _ low refl
+comes-row Piini w time n ac e j low done =
+    comes-job w n ac j (are_legal (core_of w.cores n) (right_half (ac_of j ac)) 4)
+    (skipping (armed_at j (right_half (ac_of j ac)))) 1 _ low refl
 comes-row Pisys w time n ac e j low done = comes-switch w n ac j (nat_le 2 (ac_of j ac)) (is_none j.interrupts.vector) _ _ low refl
 comes-row Enq w time n ac e j low done =
-    comes-asked w n ac (enq_limit j.regs.ac (core_of w.cores n) n (ac_of j ac)) j (enq_asks j.regs.ac (core_of w.cores n) n (ac_of j ac) (is_some j.interrupts.vector) j.quota) _ low
+    comes-asked w n ac (enq_limit j.regs.ac (core_of w.cores n) n (ac_of j ac)) j
+    (enq_asks j.regs.ac (core_of w.cores n) n (ac_of j ac) (is_some j.interrupts.vector) j.quota) _ low
     (λ i. (asks-two j.regs.ac (core_of w.cores n) n (ac_of j ac) (is_some j.interrupts.vector) j.quota i, refl))
 comes-row Deq w time n ac e j low done =
     comes-asked w n ac 0 j (deq_asks j.regs.ac (core_of w.cores n) n (ac_of j ac)) _ low (never _ _ (asks-none j.regs.ac (core_of w.cores n) n (ac_of j ac)))

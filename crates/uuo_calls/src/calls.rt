@@ -51,8 +51,26 @@ fn carry_out<L: LockTable, C: CoreStore>(
     requires number { IsJob number }
     requires core { core_of (C.meaning cores.old) number ≢ [] }
     ensures row { (jobs : List (Option JobView)) → (service ≡ Enqc → quota_at jobs (named_job number (right_half (ac_of job.old ac))) ≡ quota)
-        → record { size = L.REQS; job = job.new; jobs = jobs; lines = lines.new; requests = L.requests locks.new; cores = C.meaning cores.new; shared = shared.new; ending = result }
-        ≡ row_of service time number ac e (record { size = L.REQS; job = job.old; jobs = jobs; lines = lines.old; requests = L.requests locks.old; cores = C.meaning cores.old; shared = shared.old; ending = Done }) }
+        → record {
+          size = L.REQS;
+          job = job.new;
+          jobs = jobs;
+          lines = lines.new;
+          requests = L.requests locks.new;
+          cores = C.meaning cores.new;
+          shared = shared.new;
+          ending = result;
+        }
+        ≡ row_of service time number ac e (record {
+          size = L.REQS;
+          job = job.old;
+          jobs = jobs;
+          lines = lines.old;
+          requests = L.requests locks.old;
+          cores = C.meaning cores.old;
+          shared = shared.old;
+          ending = Done;
+        }) }
 {
     match service {
         Service::Reset => reset(number, job, locks),
@@ -128,8 +146,25 @@ pub fn perform<L: LockTable, C: CoreStore>(
     requires number { IsJob number }
     requires there { IsSome (job_at table.old.jobs number) }
     requires core { core_of (C.meaning cores.old) number ≢ [] }
-    ensures performed { record { world = record { size = L.REQS; table = table.new; lines = lines.new; requests = L.requests locks.new; cores = C.meaning cores.new; shared = shared.new }; outcome = result }
-        ≡ performed (record { size = L.REQS; table = table.old; lines = lines.old; requests = L.requests locks.old; cores = C.meaning cores.old; shared = shared.old }) time number call }
+    ensures performed { record {
+      world = record {
+        size = L.REQS;
+        table = table.new;
+        lines = lines.new;
+        requests = L.requests locks.new;
+        cores = C.meaning cores.new;
+        shared = shared.new;
+      };
+      outcome = result;
+    }
+        ≡ performed (record {
+          size = L.REQS;
+          table = table.old;
+          lines = lines.old;
+          requests = L.requests locks.old;
+          cores = C.meaning cores.old;
+          shared = shared.old;
+        }) time number call }
 {
     let MonitorCall { kind, ac, e } = call;
     let service = service_of(kind, ac, e);

@@ -66,7 +66,8 @@ fn read<M: JobMemory>(
     e: Address,
     lines: &mut Lines,
 ) -> CallOutcome
-    ensures called { record { job = job.new; core = M.words memory.new; lines = lines.new; ending = result } ≡ input_called awaited skips e (M.words memory.old) job.old lines.old }
+    ensures called { record { job = job.new; core = M.words memory.new; lines = lines.new; ending = result }
+        ≡ input_called awaited skips e (M.words memory.old) job.old lines.old }
     ensures place { M.place memory.new ≡ M.place memory.old }
 {
     if !is_legal_kept(memory, e.number()) {
@@ -95,8 +96,11 @@ pub(crate) fn input<C: CoreStore>(
     cores: &mut C,
 ) -> CallOutcome
     requires number { IsJob number }
-    ensures called { record { job = job.new; lines = lines.new; ending = result } ≡ without_core (input_called awaited skips e (core_of (C.meaning cores.old) number) job.old lines.old) }
-    ensures cores { C.meaning cores.new ≡ with_core (C.meaning cores.old) number (input_called awaited skips e (core_of (C.meaning cores.old) number) job.old lines.old).core }
+    ensures called { record { job = job.new; lines = lines.new; ending = result }
+        ≡ without_core (input_called awaited skips e (core_of (C.meaning cores.old) number) job.old lines.old) }
+    ensures cores { C.meaning cores.new
+        ≡ with_core (C.meaning cores.old) number
+        (input_called awaited skips e (core_of (C.meaning cores.old) number) job.old lines.old).core }
 {
     let words = cores.window(number);
     let mut window = CoreWords { words };

@@ -83,9 +83,13 @@ fn call_on_block<L: LockTable, M: JobMemory>(
     locks: &mut L,
 ) -> Answer
     requires number { IsJob number }
-    ensures reply { result.reply ≡ (asked L.REQS (L.requests locks.old) number (with_block call.old (block_at regs.now.ac (M.words memory.old) place number block_use))).reply }
+    ensures reply { result.reply
+        ≡ (asked L.REQS (L.requests locks.old) number
+        (with_block call.old (block_at regs.now.ac (M.words memory.old) place number block_use))).reply }
     ensures limit { result.limit ≡ limit_with call.old (block_at regs.now.ac (M.words memory.old) place number block_use) }
-    ensures requests { L.requests locks.new ≡ (asked L.REQS (L.requests locks.old) number (with_block call.old (block_at regs.now.ac (M.words memory.old) place number block_use))).requests }
+    ensures requests { L.requests locks.new
+        ≡ (asked L.REQS (L.requests locks.old) number
+        (with_block call.old (block_at regs.now.ac (M.words memory.old) place number block_use))).requests }
     ensures same { memory.new ≡ memory.old }
 {
     match fill_call(call, block_use, regs, memory, place, number) {
@@ -112,7 +116,8 @@ fn enqueue<L: LockTable, M: JobMemory>(
     requires number { IsJob number }
     ensures reply { result.reply ≡ (asked L.REQS (L.requests locks.old) number (enq_asks regs.now.ac (M.words memory.old) number word armed quota)).reply }
     ensures limit { result.limit ≡ enq_limit regs.now.ac (M.words memory.old) number word }
-    ensures requests { L.requests locks.new ≡ (asked L.REQS (L.requests locks.old) number (enq_asks regs.now.ac (M.words memory.old) number word armed quota)).requests }
+    ensures requests { L.requests locks.new
+        ≡ (asked L.REQS (L.requests locks.old) number (enq_asks regs.now.ac (M.words memory.old) number word armed quota)).requests }
     ensures same { memory.new ≡ memory.old }
 {
     let place = Address::new(word.right());
@@ -169,8 +174,15 @@ pub(crate) fn enq<L: LockTable, C: CoreStore>(
     room: &mut CallRoom,
 )
     requires number { IsJob number }
-    ensures job { job.new ≡ answered job.old ac (enq_limit job.old.regs.ac (core_of (C.meaning cores.old) number) number (ac_of job.old ac)) (asked L.REQS (L.requests locks.old) number (enq_asks job.old.regs.ac (core_of (C.meaning cores.old) number) number (ac_of job.old ac) (is_some job.old.interrupts.vector) job.old.quota)).reply }
-    ensures requests { L.requests locks.new ≡ (asked L.REQS (L.requests locks.old) number (enq_asks job.old.regs.ac (core_of (C.meaning cores.old) number) number (ac_of job.old ac) (is_some job.old.interrupts.vector) job.old.quota)).requests }
+    ensures job { job.new
+        ≡ answered job.old ac (enq_limit job.old.regs.ac (core_of (C.meaning cores.old) number) number (ac_of job.old ac))
+        (asked L.REQS (L.requests locks.old) number
+        (enq_asks job.old.regs.ac (core_of (C.meaning cores.old) number) number (ac_of job.old ac)
+        (is_some job.old.interrupts.vector) job.old.quota)).reply }
+    ensures requests { L.requests locks.new
+        ≡ (asked L.REQS (L.requests locks.old) number
+        (enq_asks job.old.regs.ac (core_of (C.meaning cores.old) number) number (ac_of job.old ac)
+        (is_some job.old.interrupts.vector) job.old.quota)).requests }
     ensures cores { C.meaning cores.new ≡ C.meaning cores.old }
 {
     let word = job.regs.ac[ac.index()];
@@ -252,8 +264,13 @@ pub(crate) fn deq<L: LockTable, C: CoreStore>(
     room: &mut CallRoom,
 )
     requires number { IsJob number }
-    ensures job { job.new ≡ answered job.old ac 0 (asked L.REQS (L.requests locks.old) number (deq_asks job.old.regs.ac (core_of (C.meaning cores.old) number) number (ac_of job.old ac))).reply }
-    ensures requests { L.requests locks.new ≡ (asked L.REQS (L.requests locks.old) number (deq_asks job.old.regs.ac (core_of (C.meaning cores.old) number) number (ac_of job.old ac))).requests }
+    ensures job { job.new
+        ≡ answered job.old ac 0
+        (asked L.REQS (L.requests locks.old) number
+        (deq_asks job.old.regs.ac (core_of (C.meaning cores.old) number) number (ac_of job.old ac))).reply }
+    ensures requests { L.requests locks.new
+        ≡ (asked L.REQS (L.requests locks.old) number
+        (deq_asks job.old.regs.ac (core_of (C.meaning cores.old) number) number (ac_of job.old ac))).requests }
     ensures cores { C.meaning cores.new ≡ C.meaning cores.old }
 {
     let word = job.regs.ac[ac.index()];

@@ -39,8 +39,12 @@ fn add_word(text: &mut ArrayVec<Char7, OUTPUT_RING>, word: Word, count: u32) -> 
     requires whole { length text.old.items % 5 ≡ 0 }
     requires within { count ≤ 5 }
     requires room { length text.old.items + count ≤ OUTPUT_RING }
-    ensures goes_on { result ≡ true → (ac core : List ℕ) (e n : ℕ) → word_below ac core (e + length text.old.items / 5) ≡ Some word → text_from ac core e text.old.items (n + count) ≡ text_from ac core e text.new.items n }
-    ensures ended { result ≡ false → (ac core : List ℕ) (e n : ℕ) → word_below ac core (e + length text.old.items / 5) ≡ Some word → text_from ac core e text.old.items (n + count) ≡ Some text.new.items }
+    ensures goes_on { result ≡ true → (ac core : List ℕ) (e n : ℕ)
+        → word_below ac core (e + length text.old.items / 5) ≡ Some word
+        → text_from ac core e text.old.items (n + count) ≡ text_from ac core e text.new.items n }
+    ensures ended { result ≡ false → (ac core : List ℕ) (e n : ℕ)
+        → word_below ac core (e + length text.old.items / 5) ≡ Some word
+        → text_from ac core e text.old.items (n + count) ≡ Some text.new.items }
     ensures long { result ≡ true → length text.new.items ≡ length text.old.items + count }
 {
     for k in 0..count {

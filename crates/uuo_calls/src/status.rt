@@ -43,7 +43,9 @@ fn store_status<L: LockTable, M: JobMemory>(
 )
     requires to { to < 2 ^ 18 }
     requires few { length wants.now ≤ LOCKS_A_CALL }
-    ensures stored { record { regs = regs.new; core = M.words memory.new } ≡ stored (record { regs = regs.old; core = M.words memory.old }) to (status_words (L.requests locks.now) number wants.now) }
+    ensures stored { record { regs = regs.new; core = M.words memory.new }
+        ≡ stored (record { regs = regs.old; core = M.words memory.old }) to
+        (status_words (L.requests locks.now) number wants.now) }
     ensures place { M.place memory.new ≡ M.place memory.old }
 {
     let mut place = to;
@@ -93,7 +95,8 @@ fn tell<L: LockTable, M: JobMemory>(
 )
     requires to { to < 2 ^ 18 }
     requires few { OnOk asks (array_vec_len wants.now ≤ LOCKS_A_CALL) }
-    ensures told { record { job = job.new; core = M.words memory.new } ≡ told (L.requests locks.now) number ac to job.old (M.words memory.old) (wants_read_as asks wants.now) }
+    ensures told { record { job = job.new; core = M.words memory.new }
+        ≡ told (L.requests locks.now) number ac to job.old (M.words memory.old) (wants_read_as asks wants.now) }
     ensures place { M.place memory.new ≡ M.place memory.old }
 {
     match asks {
@@ -117,7 +120,9 @@ pub(crate) fn tell_status<L: LockTable, C: CoreStore>(
 )
     requires number { IsJob number }
     ensures job { job.new ≡ (status_told (L.requests locks.now) number ac job.old (core_of (C.meaning cores.old) number)).job }
-    ensures cores { C.meaning cores.new ≡ with_core (C.meaning cores.old) number (status_told (L.requests locks.now) number ac job.old (core_of (C.meaning cores.old) number)).core }
+    ensures cores { C.meaning cores.new
+        ≡ with_core (C.meaning cores.old) number
+        (status_told (L.requests locks.now) number ac job.old (core_of (C.meaning cores.old) number)).core }
 {
     let word = job.regs.ac[ac.index()];
     let to = job.regs.ac[ac.next().index()].right();

@@ -15,7 +15,8 @@ use mathlib.Core.List.{append_assoc}
 use Rattle.word36.specs.Octal.{last_digit, octal, octal_within}
 
 -- a digit written before the last `place` ones goes on with them
-pub octal_turn : (place n : ℕ) (digits : List ℕ) → 0 < place → place ≤ length digits → octal (place - 1) (n / 8) ++ drop (place - 1) (set digits (place - 1) (48 + n % 8)) ≡ octal place n ++ drop place digits
+pub octal_turn : (place n : ℕ) (digits : List ℕ) → 0 < place → place ≤ length digits
+    → octal (place - 1) (n / 8) ++ drop (place - 1) (set digits (place - 1) (48 + n % 8)) ≡ octal place n ++ drop place digits
 unfolding octal
 octal_turn zero n digits p h = absurd (omega arith)
 octal_turn (suc k) n digits p h =
@@ -64,7 +65,9 @@ unfolding octal_within
 octal_within_more k n h = rw (le-ltb n 8 h) refl
 
 -- what holds of the last digit, and of what goes before it with it, holds of the whole
-pub by_digits : (P : ℕ → List ℕ → Type 0) (k n : ℕ) → (n < 8 → P n (last_digit n ∷ [])) → (8 ≤ n → P n (octal_within k (n / 8) ++ last_digit n ∷ [])) → P n (octal_within (suc k) n)
+pub by_digits : (P : ℕ → List ℕ → Type 0) (k n : ℕ) → (n < 8 → P n (last_digit n ∷ []))
+    → (8 ≤ n → P n (octal_within k (n / 8) ++ last_digit n ∷ []))
+    → P n (octal_within (suc k) n)
 by_digits P k n one more =
     elim (cases_lt n 8) [ inl h ↦ rw (octal_within_last k n h) (one h) | inr h ↦ rw (octal_within_more k n h) (more h) ]
 
@@ -72,7 +75,8 @@ pub IsAscii_octal_within : (width n : ℕ) → IsAscii (octal_within width n)
 unfolding octal_within
 IsAscii_octal_within zero n = IsAscii-nil
 IsAscii_octal_within (suc k) n =
-    by_digits (λ _ ds. IsAscii ds) k n (λ _. IsAscii_last_digit n) (λ _. IsAscii-append (octal_within k (n / 8)) (last_digit n ∷ []) (IsAscii_octal_within k (n / 8)) (IsAscii_last_digit n))
+    by_digits (λ _ ds. IsAscii ds) k n (λ _. IsAscii_last_digit n)
+    (λ _. IsAscii-append (octal_within k (n / 8)) (last_digit n ∷ []) (IsAscii_octal_within k (n / 8)) (IsAscii_last_digit n))
 
 pub IsUtf8_octal_within : (width n : ℕ) → IsUtf8 (octal_within width n)
 IsUtf8_octal_within width n = IsUtf8-from_ascii _ (IsAscii_octal_within width n)
@@ -98,17 +102,26 @@ digits_value_octal_within (suc zero) n p h =
 digits_value_octal_within (suc (suc k)) n p h =
     by_digits (λ m ds. digits_value 8 ds ≡ m) (suc k) n (λ q. omega (arith, digits_value_push 8 [] (last_digit n), digit_value_last_digit n)) (λ q.
     let below : n / 8 < 8 ^ suc k = omega (arith, pow-suc 8 (suc k)) in
-    omega (arith, digits_value_push 8 (octal_within (suc k) (n / 8)) (last_digit n), digit_value_last_digit n, digits_value_octal_within (suc k) (n / 8) (omega arith) below))
+    omega (
+      arith,
+      digits_value_push 8 (octal_within (suc k) (n / 8)) (last_digit n),
+      digit_value_last_digit n,
+      digits_value_octal_within (suc k) (n / 8) (omega arith) below,
+    ))
 
 -- a digit written before the others: the last one, and one before which more stand
-pub within_last : (room first n : ℕ) (digits : List ℕ) → length digits ≡ room → 0 < first → first ≤ room → n / 8 ≡ 0 → take (room - (first - 1)) (drop (first - 1) (set digits (first - 1) (48 + n % 8))) ≡ octal_within first n ++ drop first digits
+pub within_last : (room first n : ℕ) (digits : List ℕ) → length digits ≡ room → 0 < first → first ≤ room → n / 8 ≡ 0
+    → take (room - (first - 1)) (drop (first - 1) (set digits (first - 1) (48 + n % 8)))
+    ≡ octal_within first n ++ drop first digits
 within_last room zero n digits r p h z = absurd (omega arith)
 within_last room (suc k) n digits r p h z =
     let e : suc k - 1 ≡ k = omega arith in
     let f : k + 1 ≡ suc k = omega arith in
     rw (e, octal_within_last k n (omega arith), drop-set digits k (48 + n % 8) (omega arith), f) (take_all _ _ (omega (arith, length-drop (suc k) digits)))
 
-pub within_more : (first n : ℕ) (digits : List ℕ) → 0 < first → first ≤ length digits → n / 8 ≢ 0 → octal_within (first - 1) (n / 8) ++ drop (first - 1) (set digits (first - 1) (48 + n % 8)) ≡ octal_within first n ++ drop first digits
+pub within_more : (first n : ℕ) (digits : List ℕ) → 0 < first → first ≤ length digits → n / 8 ≢ 0
+    → octal_within (first - 1) (n / 8) ++ drop (first - 1) (set digits (first - 1) (48 + n % 8))
+    ≡ octal_within first n ++ drop first digits
 within_more zero n digits p h z = absurd (omega arith)
 within_more (suc k) n digits p h z =
     let e : suc k - 1 ≡ k = omega arith in

@@ -18,7 +18,12 @@ in_range text i h k =
 
 pub length_six_codes : (text : List ℕ) → length text ≤ 6 → length (six_codes text) ≡ 6
 length_six_codes text h =
-    omega (arith, length-append (map (λ c. c - 0o40) text) (replicate (6 - length text) 0), length-map text (λ c. c - 0o40), length-replicate {A = ℕ} (6 - length text) 0)
+    omega (
+      arith,
+      length-append (map (λ c. c - 0o40) text) (replicate (6 - length text) 0),
+      length-map text (λ c. c - 0o40),
+      length-replicate {A = ℕ} (6 - length text) 0,
+    )
 
 pub code_within : (text : List ℕ) (i : ℕ) → i < length text → get_or (six_codes text) i 0 ≡ get_or text i 0 - 0o40
 code_within text i h =
@@ -28,7 +33,8 @@ code_within text i h =
 pub code_past : (text : List ℕ) (i : ℕ) → length text ≤ i → i < 6 → get_or (six_codes text) i 0 ≡ 0
 code_past text i h k =
     let n = length-map text (λ c. c - 0o40) in
-    get_or-append_right (map (λ c. c - 0o40) text) (replicate (6 - length text) 0) i 0 (omega arith) ∙ get_or-replicate (6 - length text) (i - length (map (λ c. c - 0o40) text)) 0 0 (omega arith)
+    get_or-append_right (map (λ c. c - 0o40) text) (replicate (6 - length text) 0) i 0 (omega arith)
+    ∙ get_or-replicate (6 - length text) (i - length (map (λ c. c - 0o40) text)) 0 0 (omega arith)
 
 -- what has been read fills no more than its places
 pub below_word : (number place : ℕ) → place ≤ 6 → number < 64 ^ place → number < 2 ^ 36

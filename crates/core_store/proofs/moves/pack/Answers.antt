@@ -22,7 +22,9 @@ loop-block-preserved c =
           let set = slice_set areas job a in
           let moved : w.move_to.new.areas ≡ set = w.move_to.ensures.areas in
           let here : area_of set job ≡ a = area-set areas job a found.0 in
-          let laid : IsLaidOut size set = IsLaidOut-next size areas job c.loop-block.block c.loop-block.packed inv.laid_out inv.packed found.0 found.1 found.2 in
+          let laid : IsLaidOut size set =
+          IsLaidOut-next size areas job c.loop-block.block c.loop-block.packed inv.laid_out inv.packed found.0 found.1 found.2
+          in
           let long : length c.match-job_at.words ≡ size = grind (arith, common_steps) in
           let more : c.match-job_at.packed ≡ c.loop-block.packed + (area_of areas job).blocks = grind (arith, common_steps, moved, here) in
           let next = blocks_from-next size areas job c.loop-block.block c.loop-block.packed inv.laid_out inv.packed found.0 found.1 found.2 in
@@ -32,7 +34,10 @@ loop-block-preserved c =
             jobs = ap length (w.areas-is ∙ moved) ∙ length-set areas job a ∙ inv.jobs;
             laid_out = rw (w.areas-is, moved, long) laid;
             cores = rw (w.words-is, w.areas-is) (w.move_to.ensures.cores ∙ inv.cores);
-            packed = rw (w.areas-is, moved, more) (ArePacked-next size areas job c.loop-block.block c.loop-block.packed inv.laid_out inv.packed found.0 found.1 found.2);
+            packed =
+                rw (w.areas-is, moved, more)
+                (ArePacked-next size areas job c.loop-block.block c.loop-block.packed inv.laid_out inv.packed found.0 found.1
+                found.2);
             rest = rw (w.areas-is, moved, more) (omega arith);
           }
       | in_default w ↦

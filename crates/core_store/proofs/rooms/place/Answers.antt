@@ -26,8 +26,10 @@ returns-clause-blocks c =
     let long : length words ≡ length c.args.words.now = omega arith in
     let there : c.args.job < length areas = omega arith in
     let none : (area_of areas c.args.job).blocks ≡ (area_of c.args.areas.now c.args.job).blocks =
-    same-blocks c.args.words.now words c.args.areas.now areas long c.room_for-base.ensures.jobs c.requires.laid_out c.room_for-base.ensures.laid_out c.room_for-base.ensures.cores c.args.job c.requires.job in
+    same-blocks c.args.words.now words c.args.areas.now areas long c.room_for-base.ensures.jobs c.requires.laid_out
+    c.room_for-base.ensures.laid_out c.room_for-base.ensures.cores c.args.job c.requires.job in
     let same : blocks_in areas ≡ blocks_in c.args.areas.now =
-    same-sum c.args.words.now words c.args.areas.now areas long c.room_for-base.ensures.jobs c.requires.laid_out c.room_for-base.ensures.laid_out c.room_for-base.ensures.cores in
+    same-sum c.args.words.now words c.args.areas.now areas long c.room_for-base.ensures.jobs c.requires.laid_out
+    c.room_for-base.ensures.laid_out c.room_for-base.ensures.cores in
     let sum = sum-set areas c.args.job (record { base = c.room_for-base.result; blocks = c.args.blocks }) there in
     omega arith

@@ -30,11 +30,15 @@ returns-clause-cores c =
           let long : length words ≡ length c.args.words.now = omega arith in
           let there : job < length areas = omega arith in
           let laid : IsLaidOut (length words) areas = rw long w.make_room.ensures.laid_out in
-          let room : IsLaidOut (length words) (slice_set areas job (record { base = (area_of areas job).base; blocks = c.args.blocks })) = rw long w.make_room.ensures.room in
+          let room : IsLaidOut (length words)
+          (slice_set areas job (record { base = (area_of areas job).base; blocks = c.args.blocks })) =
+          rw long w.make_room.ensures.room in
           let had : (area_of areas job).blocks ≡ (area_of c.args.areas.now job).blocks =
-          same-blocks c.args.words.now words c.args.areas.now areas long w.make_room.ensures.jobs c.requires.laid_out w.make_room.ensures.laid_out w.make_room.ensures.cores job c.requires.job in
+          same-blocks c.args.words.now words c.args.areas.now areas long w.make_room.ensures.jobs c.requires.laid_out
+          w.make_room.ensures.laid_out w.make_room.ensures.cores job c.requires.job in
           let core : area_words words (area_of areas job) ≡ area_words c.args.words.now (area_of c.args.areas.now job) =
-          sym (core-at words areas job there) ∙ ap (λ cs. get_or cs job []) w.make_room.ensures.cores ∙ core-at c.args.words.now c.args.areas.now job c.requires.job in
+          sym (core-at words areas job there) ∙ ap (λ cs. get_or cs job []) w.make_room.ensures.cores
+          ∙ core-at c.args.words.now c.args.areas.now job c.requires.job in
           rw (w.words-is, w.areas-is) (
           grown words w.clear.new.words areas job (area_of c.args.areas.now job).blocks c.args.blocks (sym had) there (omega arith) (omega arith) laid room
           w.clear.ensures.zeros w.clear.ensures.before w.clear.ensures.behind
@@ -55,9 +59,11 @@ returns-clause-blocks c =
           let long : length words ≡ length c.args.words.now = omega arith in
           let there : c.args.job < length areas = omega arith in
           let had : (area_of areas c.args.job).blocks ≡ (area_of c.args.areas.now c.args.job).blocks =
-          same-blocks c.args.words.now words c.args.areas.now areas long w.make_room.ensures.jobs c.requires.laid_out w.make_room.ensures.laid_out w.make_room.ensures.cores c.args.job c.requires.job in
+          same-blocks c.args.words.now words c.args.areas.now areas long w.make_room.ensures.jobs c.requires.laid_out
+          w.make_room.ensures.laid_out w.make_room.ensures.cores c.args.job c.requires.job in
           let same : blocks_in areas ≡ blocks_in c.args.areas.now =
-          same-sum c.args.words.now words c.args.areas.now areas long w.make_room.ensures.jobs c.requires.laid_out w.make_room.ensures.laid_out w.make_room.ensures.cores in
+          same-sum c.args.words.now words c.args.areas.now areas long w.make_room.ensures.jobs c.requires.laid_out
+          w.make_room.ensures.laid_out w.make_room.ensures.cores in
           let sum = sum-set areas c.args.job (record { base = (area_of areas c.args.job).base; blocks = c.args.blocks }) there in
           rw w.areas-is (omega arith)
       | else-blocks-had w ↦

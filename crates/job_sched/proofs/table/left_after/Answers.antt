@@ -10,7 +10,13 @@ returns-then-quantum-eq0 c = elim c.then-quantum-eq0.branch [
       let none : c.args.quantum ≡ 0 = omega (arith, w.if-quantum-eq0) in
       omega (arith, c.saturating_sub.ensures, c.from.ensures, ap (λ (q : ℕ). left_after q c.args.left c.args.rounds) none ∙ left-zero c.args.left c.args.rounds)
   | then-quantum-eq0-via-else-quantum-eq0+then-rounds-first w ↦
-      omega (arith, c.saturating_sub.ensures, c.from.ensures, left-first c.args.quantum c.args.left c.args.rounds (omega (arith, w.if-rounds-first, c.max.ensures, c.from-first.ensures)))
+      omega (
+        arith,
+        c.saturating_sub.ensures,
+        c.from.ensures,
+        left-first c.args.quantum c.args.left c.args.rounds
+            (omega (arith, w.if-rounds-first, c.max.ensures, c.from-first.ensures)),
+      )
 ]
 
 pub returns : goal.returns

@@ -19,10 +19,15 @@ returns-in-Some-clause-after g c =
     let here = words c.args.memory.now in
     let p : c.operation-op.result ≡ op_of c.words.word = c.operation-op.ensures.value in
     let q : c.accumulator_field-ac.result ≡ ac_field c.words.word = c.accumulator_field-ac.ensures.value in
-    let f : (family_of c.operation-op.result ≡ Xct → ⊥) = (λ x. let t : true ≡ false = c.in-Some.ensures.none.1 (ap (λ (n : Instruction). family_of n.op) c.new-instruction.ensures ∙ x) in cc) in
+    let f : (family_of c.operation-op.result ≡ Xct → ⊥) =
+    (λ x. let t : true ≡ false =
+    c.in-Some.ensures.none.1 (ap (λ (n : Instruction). family_of n.op) c.new-instruction.ensures ∙ x) in cc) in
     let h : Ok c.in-Ok.e ≡ address_in (target_of c.words.regs.ac core c.words.word) = c.in-Ok.ensures in
     c.in-Some.ensures.after
-    ∙ ap (λ (n : Instruction). if is_listed (family_of n.op) n.ac then carried_out (family_of n.op) c.words.regs core n (used_in (target_of c.words.regs.ac core c.words.word)) else stopped c.words.regs core IllegalInstruction) c.new-instruction.ensures
+    ∙ ap
+    (λ (n : Instruction). if is_listed (family_of n.op) n.ac
+    then carried_out (family_of n.op) c.words.regs core n (used_in (target_of c.words.regs.ac core c.words.word))
+    else stopped c.words.regs core IllegalInstruction) c.new-instruction.ensures
     ∙ sym (executed_by MOST_EXECUTES c.words.regs core c.words.word c.operation-op.result c.accumulator_field-ac.result c.in-Ok.e p q f h)
     ∙ ap (λ (r : Regs). word_performed r core (word_behind MOST_EXECUTES r.ac core c.words.word)) c.words.invariant.regs
     ∙ ap (λ (m : List ℕ). word_performed c.args.regs.now m (word_behind MOST_EXECUTES c.args.regs.now.ac m c.words.word)) c.words.invariant.core
@@ -34,7 +39,8 @@ returns-in-Err-find_executed-clause-after g c =
     let kept = c.in_default.ensures.kept refl in
     let at : c.new-instruction.result.op ≡ c.operation-op.result = ap (λ (n : Instruction). n.op) c.new-instruction.ensures in
     let f : family_of c.operation-op.result ≡ Xct = ap family_of (sym at) ∙ c.in_default.ensures.none.0 refl in
-    xct_refused c.words.regs c.carry_out.new.regs c.args.regs.now (words c.words.memory) (words c.carry_out.new.memory) (words c.args.memory.now) c.words.word c.args.word
+    xct_refused c.words.regs c.carry_out.new.regs c.args.regs.now (words c.words.memory) (words c.carry_out.new.memory)
+    (words c.args.memory.now) c.words.word c.args.word
     c.operation-op.result c.in-Ok.e c.in-Err-find_executed.reason kept.0 kept.1 c.words.invariant.regs c.words.invariant.core c.words.invariant.behind
     c.operation-op.ensures.value f c.in-Ok.ensures c.in-Err-find_executed.ensures.value
 
@@ -49,7 +55,8 @@ words-preserved g c =
       core = kept.1 ∙ c.words.invariant.core;
       place = c.carry_out.ensures.place ∙ c.words.invariant.place;
       behind =
-          xct_next c.words.regs c.carry_out.new.regs c.args.regs.now (words c.words.memory) (words c.carry_out.new.memory) (words c.args.memory.now) c.words.word c.args.word
+          xct_next c.words.regs c.carry_out.new.regs c.args.regs.now (words c.words.memory) (words c.carry_out.new.memory)
+          (words c.args.memory.now) c.words.word c.args.word
           c.operation-op.result c.in-Ok.e c.in-Ok-find_executed.next kept.0 kept.1 c.words.invariant.regs c.words.invariant.core c.words.invariant.behind
           c.operation-op.ensures.value f c.in-Ok.ensures c.in-Ok-find_executed.ensures.value c.in-Ok-find_executed.ensures.plain;
     }

@@ -8,7 +8,8 @@ invariant-words g l = record {
   regs : l.regs ≡ l.fn.regs;
   core : g.M.JobMemory.words l.memory ≡ g.M.JobMemory.words l.fn.memory;
   place : g.M.JobMemory.place l.memory ≡ g.M.JobMemory.place l.fn.memory;
-  behind : word_behind MOST_EXECUTES l.fn.regs.ac (g.M.JobMemory.words l.fn.memory) l.word ≡ word_behind MOST_EXECUTES l.fn.regs.ac (g.M.JobMemory.words l.fn.memory) l.fn.word;
+  behind : word_behind MOST_EXECUTES l.fn.regs.ac (g.M.JobMemory.words l.fn.memory) l.word
+      ≡ word_behind MOST_EXECUTES l.fn.regs.ac (g.M.JobMemory.words l.fn.memory) l.fn.word;
 }
 
 -- the word behind an XCT is none

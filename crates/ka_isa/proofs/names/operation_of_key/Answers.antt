@@ -10,7 +10,9 @@ pub returns-in-Ok : goal.returns-in-Ok
 returns-in-Ok c name plain e =
     let place = c.in-Ok.place in
     let here : get_or KEYS place 0 ≡ c.args.key = found_key _ _ (c.in-Ok.ensures.ok 0) in
-    ap Some c.operation_meaning.ensures ∙ means (get_or KEYS place 0) (get_or CODES place 0) name (operation_at place c.in-Ok.ensures.bound).1 plain (e ∙ sym here)
+    ap Some c.operation_meaning.ensures
+    ∙ means (get_or KEYS place 0) (get_or CODES place 0) name (operation_at place c.in-Ok.ensures.bound).1 plain
+    (e ∙ sym here)
 
 pub returns-in-Err : goal.returns-in-Err
 returns-in-Err c name plain e = means_nothing c.args.key c.in-Err.field-0 name c.in-Err.ensures.position e

@@ -14,8 +14,10 @@ enter_all-requires g c =
     let few : length c.args.wants.now.items ≤ LOCKS_A_CALL = omega (arith, c.as_slice.ensures.fits, ap length c.as_slice.ensures.value) in (
       lit< tt,
       subst (λ l. IsArriving c.insert-p.new.self c.args.locks.now c.args.keys.now.buckets.items c.insert-p.result l 0) (sym c.as_slice.ensures.value)
-          (came_last c.args.store.now c.insert-p.new.self c.args.locks.now c.args.keys.now.buckets.items c.insert-p.result c.args.job c.args.asking.now c.args.wants.now.items
-          c.requires.table c.requires.index c.requires.short c.insert-p.ensures.within c.insert-p.ensures.out c.requires.room c.requires.apart few c.requires.admits c.insert-p.ensures.value),
+          (came_last c.args.store.now c.insert-p.new.self c.args.locks.now c.args.keys.now.buckets.items c.insert-p.result
+          c.args.job c.args.asking.now c.args.wants.now.items
+          c.requires.table c.requires.index c.requires.short c.insert-p.ensures.within c.insert-p.ensures.out
+          c.requires.room c.requires.apart few c.requires.admits c.insert-p.ensures.value),
     )
 
 pub settle-requires : goal.settle-requires
@@ -29,17 +31,23 @@ settle-requires g c = (
 
 pub returns-clause-table : goal.returns-clause-table
 returns-clause-table g c =
-    arrived_by c.enter_all.new.store c.settle.new.store c.enter_all.new.locks c.enter_all.new.keys.buckets.items c.insert-p.result _ c.enter_all.ensures.arriving c.settle.ensures
+    arrived_by c.enter_all.new.store c.settle.new.store c.enter_all.new.locks c.enter_all.new.keys.buckets.items c.insert-p.result
+    _ c.enter_all.ensures.arriving c.settle.ensures
 
 pub returns-clause-request : goal.returns-clause-request
 returns-clause-request g c =
     let a = c.enter_all.ensures.arriving in
     let all : (filed_at c.enter_all.new.store c.insert-p.result).request.wants.items ≡ c.args.wants.now.items =
     a.entered ∙ take_all (length c.as_slice.result.now) c.as_slice.result.now (omega arith) ∙ c.as_slice.ensures.value in
-    let bare : with_wants (filed_at c.enter_all.new.store c.insert-p.result).request [] ≡ request_of c.args.job c.args.asking.now false (record { items = [] }) =
+    let bare : with_wants (filed_at c.enter_all.new.store c.insert-p.result).request []
+    ≡ request_of c.args.job c.args.asking.now false (record { items = [] }) =
     c.enter_all.ensures.same.mine
-    ∙ ap (λ (r : Request). with_wants r []) (came_mine c.args.store.now c.insert-p.new.self c.insert-p.result c.args.job c.args.asking.now c.insert-p.ensures.within c.insert-p.ensures.value) in
-    c.settle.ensures.at c.insert-p.result ∙ whole_again (filed_at c.enter_all.new.store c.insert-p.result).request c.args.job c.args.asking.now c.args.wants.now bare all
+    ∙ ap (λ (r : Request). with_wants r [])
+    (came_mine c.args.store.now c.insert-p.new.self c.insert-p.result c.args.job c.args.asking.now c.insert-p.ensures.within
+    c.insert-p.ensures.value) in
+    c.settle.ensures.at c.insert-p.result
+    ∙ whole_again (filed_at c.enter_all.new.store c.insert-p.result).request c.args.job c.args.asking.now c.args.wants.now
+    bare all
 
 pub returns-clause-others : goal.returns-clause-others
 returns-clause-others g c x ne =
@@ -55,13 +63,19 @@ returns-clause-granted g c =
     let a = c.enter_all.ensures.arriving in
     let all : (filed_at c.enter_all.new.store c.insert-p.result).request.wants.items ≡ c.args.wants.now.items =
     a.entered ∙ take_all (length c.as_slice.result.now) c.as_slice.result.now (omega arith) ∙ c.as_slice.ensures.value in
-    let bare : with_wants (filed_at c.enter_all.new.store c.insert-p.result).request [] ≡ request_of c.args.job c.args.asking.now false (record { items = [] }) =
+    let bare : with_wants (filed_at c.enter_all.new.store c.insert-p.result).request []
+    ≡ request_of c.args.job c.args.asking.now false (record { items = [] }) =
     c.enter_all.ensures.same.mine
-    ∙ ap (λ (r : Request). with_wants r []) (came_mine c.args.store.now c.insert-p.new.self c.insert-p.result c.args.job c.args.asking.now c.insert-p.ensures.within c.insert-p.ensures.value) in
-    granted_last c.args.store.now c.settle.new.store c.args.store.now.order c.enter_all.new.locks c.insert-p.result (request_of c.args.job c.args.asking.now false c.args.wants.now)
+    ∙ ap (λ (r : Request). with_wants r [])
+    (came_mine c.args.store.now c.insert-p.new.self c.insert-p.result c.args.job c.args.asking.now c.insert-p.ensures.within
+    c.insert-p.ensures.value) in
+    granted_last c.args.store.now c.settle.new.store c.args.store.now.order c.enter_all.new.locks c.insert-p.result
+    (request_of c.args.job c.args.asking.now false c.args.wants.now)
     (arrived_by c.enter_all.new.store c.settle.new.store c.enter_all.new.locks c.enter_all.new.keys.buckets.items c.insert-p.result _ a c.settle.ensures)
     (c.settle.ensures.order ∙ c.enter_all.ensures.same.order ∙ ap (λ (v : Stored). v.order) c.insert-p.ensures.value)
     c.insert-p.ensures.out
-    (c.settle.ensures.at c.insert-p.result ∙ whole_again (filed_at c.enter_all.new.store c.insert-p.result).request c.args.job c.args.asking.now c.args.wants.now bare all)
+    (c.settle.ensures.at c.insert-p.result
+    ∙ whole_again (filed_at c.enter_all.new.store c.insert-p.result).request c.args.job c.args.asking.now c.args.wants.now
+    bare all)
     (λ x ne. c.settle.ensures.at x ∙ c.enter_all.ensures.same.others x ne
     ∙ came_others c.args.store.now c.insert-p.new.self c.insert-p.result x c.args.job c.args.asking.now c.insert-p.ensures.within c.insert-p.ensures.value ne)

@@ -12,12 +12,14 @@ queue_for-n-requires-clause-room g c =
 pub returns-clause-arriving : goal.returns-clause-arriving
 returns-clause-arriving g c =
     let read = get_or_read c.args.wants.now c.args.k c.index-wants-k.result c.requires.more c.index-wants-k.is unused_want in
-    entered_one c.args.store.now c.push_want.new.self c.args.locks.now c.queue_for-n.new.locks c.append.new.locks c.args.keys.now.buckets.items c.queue_for-n.new.self.buckets.items
+    entered_one c.args.store.now c.push_want.new.self c.args.locks.now c.queue_for-n.new.locks c.append.new.locks
+    c.args.keys.now.buckets.items c.queue_for-n.new.self.buckets.items
     c.args.p c.queue_for-n.result c.args.k c.args.wants.now c.index-wants-k.result
     c.requires.arriving c.requires.more read c.push_want.ensures.within c.queue_for-n.ensures c.append.ensures c.push_want.ensures.value (omega arith)
 
 pub returns-clause-same : goal.returns-clause-same
 returns-clause-same g c =
-    entered_same c.args.store.now c.push_want.new.self c.args.locks.now c.queue_for-n.new.locks c.append.new.locks c.args.keys.now.buckets.items c.queue_for-n.new.self.buckets.items
+    entered_same c.args.store.now c.push_want.new.self c.args.locks.now c.queue_for-n.new.locks c.append.new.locks
+    c.args.keys.now.buckets.items c.queue_for-n.new.self.buckets.items
     c.args.p c.queue_for-n.result c.args.k c.args.wants.now c.index-wants-k.result
     c.push_want.ensures.within c.push_want.ensures.value

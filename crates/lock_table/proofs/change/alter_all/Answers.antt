@@ -24,11 +24,15 @@ loop-c-preserved g c =
     let sound : AreSound c.loop-c.store c.loop-c.locks c.args.job (c.c-item.result ∷ drop (i + 1) changes) =
     subst (λ (l : List Want). AreSound c.loop-c.store c.loop-c.locks c.args.job l) rest c.loop-c.invariant.sound in
     let altered : IsAltering c.args.store.now c.loop-c.store c.args.locks.now c.loop-c.locks c.args.job changes (c.c-item.result ∷ drop (i + 1) changes) =
-    subst (λ (l : List Want). IsAltering c.args.store.now c.loop-c.store c.args.locks.now c.loop-c.locks c.args.job changes l) rest c.loop-c.invariant.altered in
+    subst (λ (l : List Want). IsAltering c.args.store.now c.loop-c.store c.args.locks.now c.loop-c.locks c.args.job changes l)
+    rest c.loop-c.invariant.altered in
     record {
       between = c.alter.ensures.between;
-      sound = later_sound c.loop-c.store c.alter.new.store c.loop-c.locks c.alter.new.locks c.args.job c.c-item.result c.alter.ensures.altered (drop (i + 1) changes) sound;
+      sound =
+          later_sound c.loop-c.store c.alter.new.store c.loop-c.locks c.alter.new.locks c.args.job c.c-item.result
+          c.alter.ensures.altered (drop (i + 1) changes) sound;
       altered =
-          altering_more c.loop-c.store c.alter.new.store c.loop-c.locks c.alter.new.locks c.args.job c.c-item.result c.alter.ensures.altered c.args.store.now c.args.locks.now
+          altering_more c.loop-c.store c.alter.new.store c.loop-c.locks c.alter.new.locks c.args.job c.c-item.result
+          c.alter.ensures.altered c.args.store.now c.args.locks.now
           changes (drop (i + 1) changes) sound.apart altered;
     }

@@ -82,8 +82,11 @@ returns-in-Some-clause-between g c =
     let queued : is_there c.in-Some.p (lock_at locks n).queue.places ≡ true =
     find_there (λ p. (request_at s p).job == c.args.job) (lock_at locks n).queue.places c.in-Some.p found in
     let mine : (request_at s c.in-Some.p).job ≡ c.args.job =
-    eqb-true (request_at s c.in-Some.p).job c.args.job (find_passes (λ p. (request_at s p).job == c.args.job) (lock_at locks n).queue.places c.in-Some.p found) in
-    (written s locks c.args.keys.now.buckets.items n c.in-Some.p c.args.job c.args.c.now b c.requires.lock none queued mine sound.safe c.alter_want.new.store c.recount.new.locks c.counted_then-k.result c.first_then-first.result c.alter_want.ensures c.recount.ensures c.counted_then-k.ensures c.first_then-first.ensures).0
+    eqb-true (request_at s c.in-Some.p).job c.args.job
+    (find_passes (λ p. (request_at s p).job == c.args.job) (lock_at locks n).queue.places c.in-Some.p found) in
+    (written s locks c.args.keys.now.buckets.items n c.in-Some.p c.args.job c.args.c.now b c.requires.lock none queued mine
+    sound.safe c.alter_want.new.store c.recount.new.locks c.counted_then-k.result c.first_then-first.result
+    c.alter_want.ensures c.recount.ensures c.counted_then-k.ensures c.first_then-first.ensures).0
 
 pub returns-in-Some-clause-altered : goal.returns-in-Some-clause-altered
 returns-in-Some-clause-altered g c =
@@ -100,8 +103,11 @@ returns-in-Some-clause-altered g c =
     let queued : is_there c.in-Some.p (lock_at locks n).queue.places ≡ true =
     find_there (λ p. (request_at s p).job == c.args.job) (lock_at locks n).queue.places c.in-Some.p found in
     let mine : (request_at s c.in-Some.p).job ≡ c.args.job =
-    eqb-true (request_at s c.in-Some.p).job c.args.job (find_passes (λ p. (request_at s p).job == c.args.job) (lock_at locks n).queue.places c.in-Some.p found) in
-    (written s locks c.args.keys.now.buckets.items n c.in-Some.p c.args.job c.args.c.now b c.requires.lock none queued mine sound.safe c.alter_want.new.store c.recount.new.locks c.counted_then-k.result c.first_then-first.result c.alter_want.ensures c.recount.ensures c.counted_then-k.ensures c.first_then-first.ensures).1
+    eqb-true (request_at s c.in-Some.p).job c.args.job
+    (find_passes (λ p. (request_at s p).job == c.args.job) (lock_at locks n).queue.places c.in-Some.p found) in
+    (written s locks c.args.keys.now.buckets.items n c.in-Some.p c.args.job c.args.c.now b c.requires.lock none queued mine
+    sound.safe c.alter_want.new.store c.recount.new.locks c.counted_then-k.result c.first_then-first.result
+    c.alter_want.ensures c.recount.ensures c.counted_then-k.ensures c.first_then-first.ensures).1
 
 pub returns-in_default-clause-altered : goal.returns-in_default-clause-altered
 returns-in_default-clause-altered g c =
@@ -115,5 +121,7 @@ returns-in_default-clause-altered g c =
     let used = b.used n parts.0 in
     let none : (lock_at locks n).size ≡ None = no_size (lock_at locks n).size (sym c.is_pool.ensures ∙ c.if-is_pool.false) in
     let queued = queued_named s locks n sound.place c.args.c.now.key b.kept used parts.1 sound.present sound.named in
-    let missed = find_misses (λ p. (request_at s p).job == c.args.job) (lock_at locks n).queue.places sound.place (sym c.place_of.ensures ∙ c.in_default.is) queued in
+    let missed =
+    find_misses (λ p. (request_at s p).job == c.args.job) (lock_at locks n).queue.places sound.place
+    (sym c.place_of.ensures ∙ c.in_default.is) queued in
     absurd (both_ways ((request_at s sound.place).job == c.args.job) missed (eq-eqb (request_at s sound.place).job c.args.job sound.mine))

@@ -17,7 +17,8 @@ loop-c-preserved g c =
     record {
       between = c.extend_key.ensures.between;
       extended =
-          extending_more c.args.store.now c.loop-c.store c.extend_key.new.store c.args.locks.now c.loop-c.locks c.extend_key.new.locks c.c-item.result (drop (i + 1) changes)
+          extending_more c.args.store.now c.loop-c.store c.extend_key.new.store c.args.locks.now c.loop-c.locks
+          c.extend_key.new.locks c.c-item.result (drop (i + 1) changes)
           extended c.extend_key.ensures.extended;
       turns =
           turned_then c.args.store.now c.loop-c.store c.extend_key.new.store c.args.turns.now c.loop-c.turns c.extend_key.new.turns

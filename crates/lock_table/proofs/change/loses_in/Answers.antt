@@ -30,7 +30,9 @@ fitting_then-k-requires g c =
     let parts = open_parts c.args.c.now.key (lock_at locks n) c.requires.lock in
     let is : c.index-locks-n.result ≡ lock_at locks n =
     get_or_read locks n c.index-locks-n.result (open_within locks n parts.0) c.index-locks-n.is unused_lock in
-    let none : (lock_at locks n).size ≡ None = no_size (lock_at locks n).size (ap (λ (l : Lock). is_some l.size) (sym is) ∙ sym c.is_some.ensures ∙ c.if-is_some.false) in (
+    let none : (lock_at locks n).size ≡ None =
+    no_size (lock_at locks n).size (ap (λ (l : Lock). is_some l.size) (sym is) ∙ sym c.is_some.ensures ∙ c.if-is_some.false)
+    in (
       lit< tt,
       subst (λ (l : Lock). All (IsFreeAt s n) l.queue.places) (sym is) (all_free s locks n c.requires.table.kept (c.requires.table.used n parts.0) none),
     )

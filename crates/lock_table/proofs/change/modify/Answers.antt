@@ -20,8 +20,22 @@ is_some_lost-requires g c =
     let locks = c.args.locks.now in
     let changes = c.args.changes.now in
     let whole = c.requires.whole in
-    let none : first_refusal (modify_fault (requests_in s) c.args.job) [] changes ≡ None = sym c.refusal_of_modify.ensures ∙ c.in_default.is in
-    (lit< tt, (whole.table, (whole.index, (whole.right, (all_from_Has (SparesPools s c.args.job) changes (changes_spare (requests_in s) c.args.job changes none), changes_apart (requests_in s) c.args.job changes none)))))
+    let none : first_refusal (modify_fault (requests_in s) c.args.job) [] changes ≡ None = sym c.refusal_of_modify.ensures ∙ c.in_default.is in (
+      lit< tt,
+      (
+        whole.table,
+        (
+          whole.index,
+          (
+            whole.right,
+            (
+              all_from_Has (SparesPools s c.args.job) changes (changes_spare (requests_in s) c.args.job changes none),
+              changes_apart (requests_in s) c.args.job changes none,
+            ),
+          ),
+        ),
+      ),
+    )
 
 pub alter_all-requires : goal.alter_all-requires
 alter_all-requires g c =
@@ -43,8 +57,17 @@ alter_all-requires g c =
     (lit< tt, (record { kept = whole.table.kept; flags = whole.table.flags; used = whole.table.used; index = whole.index; jobs = whole.jobs }, sound))
 
 pub extend_all-requires : goal.extend_all-requires
-extend_all-requires g c =
-    (lit< tt, (lit< tt, (c.alter_all.ensures.between, full_but_changed c.args.store.now c.alter_all.new.store c.args.locks.now c.alter_all.new.locks c.args.job c.args.changes.now c.requires.whole.table c.alter_all.ensures.altered)))
+extend_all-requires g c = (
+  lit< tt,
+  (
+    lit< tt,
+    (
+      c.alter_all.ensures.between,
+      full_but_changed c.args.store.now c.alter_all.new.store c.args.locks.now c.alter_all.new.locks c.args.job
+          c.args.changes.now c.requires.whole.table c.alter_all.ensures.altered,
+    ),
+  ),
+)
 
 pub returns-clause-requests : goal.returns-clause-requests
 returns-clause-requests g c =
@@ -55,12 +78,15 @@ returns-clause-requests g c =
     let none : first_refusal (modify_fault (requests_in s) c.args.job) [] changes ≡ None = sym c.refusal_of_modify.ensures ∙ c.in_default.is in
     let safe : some_lost (requests_in s) (with_changes (requests_in s) c.args.job changes) ≡ false = sym c.is_some_lost.ensures ∙ c.if-is_some_lost.false in
     let is : IsChanged s c.extend_all.new.store c.args.job changes =
-    changed_all s c.alter_all.new.store c.extend_all.new.store locks c.alter_all.new.locks c.extend_all.new.locks c.args.job changes c.alter_all.ensures.altered c.extend_all.ensures.extended in
-    requests_changed s c.extend_all.new.store c.args.job changes is ∙ sym (ap (λ (o : Outcome). o.requests) (modified (requests_in s) c.args.job changes none safe))
+    changed_all s c.alter_all.new.store c.extend_all.new.store locks c.alter_all.new.locks c.extend_all.new.locks c.args.job
+    changes c.alter_all.ensures.altered c.extend_all.ensures.extended in
+    requests_changed s c.extend_all.new.store c.args.job changes is
+    ∙ sym (ap (λ (o : Outcome). o.requests) (modified (requests_in s) c.args.job changes none safe))
 
 pub returns-clause-changed : goal.returns-clause-changed
 returns-clause-changed g c done =
-    changed_all c.args.store.now c.alter_all.new.store c.extend_all.new.store c.args.locks.now c.alter_all.new.locks c.extend_all.new.locks c.args.job c.args.changes.now c.alter_all.ensures.altered c.extend_all.ensures.extended
+    changed_all c.args.store.now c.alter_all.new.store c.extend_all.new.store c.args.locks.now c.alter_all.new.locks
+    c.extend_all.new.locks c.args.job c.args.changes.now c.alter_all.ensures.altered c.extend_all.ensures.extended
 
 pub returns-clause-whole : goal.returns-clause-whole
 returns-clause-whole g c =
@@ -73,12 +99,18 @@ returns-clause-whole g c =
     let t = c.extend_all.new.store in
     let b = c.extend_all.ensures.between in
     let is : IsChanged s t c.args.job changes =
-    changed_all s c.alter_all.new.store t locks c.alter_all.new.locks c.extend_all.new.locks c.args.job changes c.alter_all.ensures.altered c.extend_all.ensures.extended in
-    let requests = requests_changed s t c.args.job changes is ∙ sym (ap (λ (o : Outcome). o.requests) (modified (requests_in s) c.args.job changes none safe)) in
+    changed_all s c.alter_all.new.store t locks c.alter_all.new.locks c.extend_all.new.locks c.args.job changes
+    c.alter_all.ensures.altered c.extend_all.ensures.extended in
+    let requests =
+    requests_changed s t c.args.job changes is
+    ∙ sym (ap (λ (o : Outcome). o.requests) (modified (requests_in s) c.args.job changes none safe)) in
     record {
       table = record { kept = b.kept; flags = b.flags; full = λ x m stands. c.extend_all.ensures.extended.full x m stands refl; used = b.used };
       index = b.index;
-      right = right_of t (subst (λ l. are_well_formed l ≡ true) (sym requests) (well-modify g.row.REQS (requests_in s) c.args.job (well_of s whole.right) (record { items = changes })));
+      right =
+          right_of t
+          (subst (λ l. are_well_formed l ≡ true) (sym requests)
+          (well-modify g.row.REQS (requests_in s) c.args.job (well_of s whole.right) (record { items = changes })));
       jobs = b.jobs;
       levels = levels_changed s t c.args.job changes whole.levels is;
       few = omega (arith, whole.few, ap length is.order);

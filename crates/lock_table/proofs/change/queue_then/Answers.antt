@@ -17,7 +17,9 @@ loop-p-preserved g c =
     let p = get_or places i 0 in
     let lt : i < length places = omega (arith, c.loop-p-test.true) in
     let more : map f (take (i + 1) places) ≡ map f (take i places) ++ w ∷ [] =
-    ap (map f) (take_more places i 0 lt) ∙ map-append f (take i places) (p ∷ []) ∙ ap (λ (v : Want). map f (take i places) ++ v ∷ []) (sym c.want_then.ensures) in
+    ap (map f) (take_more places i 0 lt) ∙ map-append f (take i places) (p ∷ [])
+    ∙ ap (λ (v : Want). map f (take i places) ++ v ∷ []) (sym c.want_then.ensures) in
     let share : is_share_of None w.pool ≡ true =
-    ap (λ (v : Want). is_share_of None v.pool) c.want_then.ensures ∙ ap (is_share_of None) (then_pool s c.args.n c.args.job c.args.c.now p) ∙ (c.requires.free i 0 lt).free in
+    ap (λ (v : Want). is_share_of None v.pool) c.want_then.ensures
+    ∙ ap (is_share_of None) (then_pool s c.args.n c.args.job c.args.c.now p) ∙ (c.requires.free i 0 lt).free in
     rw (more, c.append.ensures) (queue_appended None (map f (take i places)) c.loop-p.queue p w c.loop-p.invariant share)

@@ -19,7 +19,8 @@ returns-then-not-has_wants-clause-table g c =
     let present : is_there c.args.p t.order ≡ true = ap (is_there c.args.p) c.give_up_want.ensures.left.order ∙ c.requires.present in
     let none : has_wants (filed_at t c.args.p).request ≡ false = sym c.has_wants.ensures ∙ c.if-not-has_wants.true in
     subst (λ (v : Stored). IsTable (state_of v c.give_up_want.new.locks)) (sym c.remove.ensures.value)
-    (left_store t c.give_up_want.new.locks c.args.p c.give_up_want.ensures.table present (none_left t c.give_up_want.new.locks c.args.p c.give_up_want.ensures.table present none) c.remove.ensures.within)
+    (left_store t c.give_up_want.new.locks c.args.p c.give_up_want.ensures.table present
+    (none_left t c.give_up_want.new.locks c.args.p c.give_up_want.ensures.table present none) c.remove.ensures.within)
 
 pub returns-then-not-has_wants-clause-given : goal.returns-then-not-has_wants-clause-given
 returns-then-not-has_wants-clause-given g c h =
@@ -40,7 +41,8 @@ pub returns-then-not-has_wants-clause-order : goal.returns-then-not-has_wants-cl
 returns-then-not-has_wants-clause-order g c =
     let t : Stored = c.give_up_want.new.store in
     let given : (filed_at t c.args.p).request ≡ without_key c.args.key.now (filed_at c.args.store.now c.args.p).request =
-    key_given c.args.store.now t c.args.locks.now c.give_up_want.new.locks c.args.p c.want_of_key-k.result c.args.key.now c.requires.table c.requires.present c.want_of_key-k.ensures c.give_up_want.ensures.left in
+    key_given c.args.store.now t c.args.locks.now c.give_up_want.new.locks c.args.p c.want_of_key-k.result c.args.key.now
+    c.requires.table c.requires.present c.want_of_key-k.ensures c.give_up_want.ensures.left in
     let none : has_wants (without_key c.args.key.now (filed_at c.args.store.now c.args.p).request) ≡ false =
     ap (λ (r : Request). has_wants r) (sym given) ∙ sym c.has_wants.ensures ∙ c.if-not-has_wants.true in
     ap (λ (v : Stored). v.order) c.remove.ensures.value ∙ ap (λ l. without_place l c.args.p) c.give_up_want.ensures.left.order
@@ -48,13 +50,15 @@ returns-then-not-has_wants-clause-order g c =
 
 pub returns-else-not-has_wants-clause-given : goal.returns-else-not-has_wants-clause-given
 returns-else-not-has_wants-clause-given g c h =
-    key_given c.args.store.now c.give_up_want.new.store c.args.locks.now c.give_up_want.new.locks c.args.p c.want_of_key-k.result c.args.key.now c.requires.table c.requires.present c.want_of_key-k.ensures c.give_up_want.ensures.left
+    key_given c.args.store.now c.give_up_want.new.store c.args.locks.now c.give_up_want.new.locks c.args.p c.want_of_key-k.result
+    c.args.key.now c.requires.table c.requires.present c.want_of_key-k.ensures c.give_up_want.ensures.left
 
 pub returns-else-not-has_wants-clause-order : goal.returns-else-not-has_wants-clause-order
 returns-else-not-has_wants-clause-order g c =
     let t : Stored = c.give_up_want.new.store in
     let given : (filed_at t c.args.p).request ≡ without_key c.args.key.now (filed_at c.args.store.now c.args.p).request =
-    key_given c.args.store.now t c.args.locks.now c.give_up_want.new.locks c.args.p c.want_of_key-k.result c.args.key.now c.requires.table c.requires.present c.want_of_key-k.ensures c.give_up_want.ensures.left in
+    key_given c.args.store.now t c.args.locks.now c.give_up_want.new.locks c.args.p c.want_of_key-k.result c.args.key.now
+    c.requires.table c.requires.present c.want_of_key-k.ensures c.give_up_want.ensures.left in
     let some : has_wants (without_key c.args.key.now (filed_at c.args.store.now c.args.p).request) ≡ true =
     ap (λ (r : Request). has_wants r) (sym given) ∙ sym c.has_wants.ensures ∙ c.if-not-has_wants.false in
     c.give_up_want.ensures.left.order

@@ -27,7 +27,8 @@ loop-i-preserved g c =
       index = c.leave_place.ensures.index;
       left =
           subst (λ l. IsLeft c.args.store.now c.leave_place.new.store (request_at c.args.store.now) (stays_beside l)) (sym next)
-          (left_next c.args.store.now c.loop-i.store c.leave_place.new.store (take i c.args.places.now) p c.requires.table.kept.once inv.left c.leave_place.ensures.order inv.table.kept.once c.leave_place.ensures.others);
+          (left_next c.args.store.now c.loop-i.store c.leave_place.new.store (take i c.args.places.now) p
+          c.requires.table.kept.once inv.left c.leave_place.ensures.order inv.table.kept.once c.leave_place.ensures.others);
       turns =
           turned_then c.args.store.now c.loop-i.store c.leave_place.new.store c.args.turns.now c.loop-i.turns c.leave_place.new.turns
           (λ x h. (there_beside x p c.loop-i.store.order inv.table.kept.once (subst (λ l. is_there x l ≡ true) c.leave_place.ensures.order h)).1)

@@ -11,8 +11,11 @@ returns-in-Some g c =
     let at : c.index_of.result ≡ position_or_len (λ m. m == c.in-Some.n) (filed_at c.args.store.now c.args.p).queues.items =
     c.index_of.ensures ∙ ap (position_or_len (λ m. m == c.in-Some.n)) (c.as_slice.ensures.value ∙ ap (λ (f : Filed). f.queues.items) c.get.ensures.value) in
     subst (IsWantOf c.args.store.now c.args.p c.args.key.now) (sym at)
-    (key_found c.args.store.now c.args.locks.now c.args.p c.args.key.now c.in-Some.n c.requires.table c.requires.present c.requires.named c.in-Some.ensures.found)
+    (key_found c.args.store.now c.args.locks.now c.args.p c.args.key.now c.in-Some.n c.requires.table c.requires.present
+    c.requires.named c.in-Some.ensures.found)
 
 pub returns-in-None : goal.returns-in-None
 returns-in-None g c =
-    absurd (key_lost c.args.store.now c.args.locks.now c.args.p c.args.key.now c.requires.table c.requires.present c.requires.named (c.in-None.ensures.none refl))
+    absurd
+    (key_lost c.args.store.now c.args.locks.now c.args.p c.args.key.now c.requires.table c.requires.present c.requires.named
+    (c.in-None.ensures.none refl))

@@ -13,8 +13,14 @@ use Rattle.lock_table.proofs.dequeues.dequeue_all.Goals as goal
 pub returns-clause-requests : goal.returns-clause-requests
 returns-clause-requests g c =
     left_where c.args.store.now c.release.new.store (is_of_job c.args.job) c.release.ensures.left
-    ∙ sym (ap (λ b. (cond b (outcome (filter (λ r. not ((is_of_job c.args.job) r)) (requests_in c.args.store.now)) Done) (outcome (requests_in c.args.store.now) (Refused NotPresent))).requests) (sym c.has_request.ensures ∙ c.if-not-has_request.false))
+    ∙ sym
+    (ap
+    (λ b.
+    (cond b (outcome (filter (λ r. not ((is_of_job c.args.job) r)) (requests_in c.args.store.now)) Done)
+    (outcome (requests_in c.args.store.now) (Refused NotPresent))).requests)
+    (sym c.has_request.ensures ∙ c.if-not-has_request.false))
 
 pub returns-clause-left : goal.returns-clause-left
 returns-clause-left g c done =
-    leaves_by (left_of c.args.job DequeueAll) c.args.store.now c.release.new.store (request_at c.args.store.now) (λ x. not ((is_of_job c.args.job) (request_at c.args.store.now x))) c.release.ensures.left (λ x. refl)
+    leaves_by (left_of c.args.job DequeueAll) c.args.store.now c.release.new.store (request_at c.args.store.now)
+    (λ x. not ((is_of_job c.args.job) (request_at c.args.store.now x))) c.release.ensures.left (λ x. refl)

@@ -13,8 +13,14 @@ use Rattle.lock_table.proofs.dequeues.dequeue_id.Goals as goal
 pub returns-clause-requests : goal.returns-clause-requests
 returns-clause-requests g c =
     left_where c.args.store.now c.release_id.new.store (has_id c.args.job c.args.id) c.release_id.ensures.left
-    ∙ sym (ap (λ b. (cond b (outcome (filter (λ r. not ((has_id c.args.job c.args.id) r)) (requests_in c.args.store.now)) Done) (outcome (requests_in c.args.store.now) (Refused NotPresent))).requests) (sym c.has_request_id.ensures ∙ c.if-not-has_request_id.false))
+    ∙ sym
+    (ap
+    (λ b.
+    (cond b (outcome (filter (λ r. not ((has_id c.args.job c.args.id) r)) (requests_in c.args.store.now)) Done)
+    (outcome (requests_in c.args.store.now) (Refused NotPresent))).requests)
+    (sym c.has_request_id.ensures ∙ c.if-not-has_request_id.false))
 
 pub returns-clause-left : goal.returns-clause-left
 returns-clause-left g c done =
-    leaves_by (left_of c.args.job (DequeueId c.args.id)) c.args.store.now c.release_id.new.store (request_at c.args.store.now) (λ x. not ((has_id c.args.job c.args.id) (request_at c.args.store.now x))) c.release_id.ensures.left (λ x. refl)
+    leaves_by (left_of c.args.job (DequeueId c.args.id)) c.args.store.now c.release_id.new.store (request_at c.args.store.now)
+    (λ x. not ((has_id c.args.job c.args.id) (request_at c.args.store.now x))) c.release_id.ensures.left (λ x. refl)

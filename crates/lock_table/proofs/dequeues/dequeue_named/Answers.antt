@@ -45,8 +45,10 @@ returns-clause-whole g c =
     subst (λ l. are_well_formed l ≡ true) (sym after) (well-named g.row.REQS rs c.args.job (well_from_right s c.requires.right) c.args.named.now) in
     whole_by g.row.REQS s t c.args.locks.now c.leave.new.locks c.args.keys.now.buckets.items c.leave.new.keys.buckets.items c.requires
     c.leave.ensures.table c.leave.ensures.index (right_from_well t well)
-    (jobs_left s t (left_named s c.args.job named) (λ x. has_wants (left_named s c.args.job named x)) c.requires.jobs left (fewer_named s c.args.job named) (job_named s c.args.job named))
-    (levels_left s t (left_named s c.args.job named) (λ x. has_wants (left_named s c.args.job named x)) c.requires.levels left (fewer_named s c.args.job named) (level_named s c.args.job named))
+    (jobs_left s t (left_named s c.args.job named) (λ x. has_wants (left_named s c.args.job named x)) c.requires.jobs left
+    (fewer_named s c.args.job named) (job_named s c.args.job named))
+    (levels_left s t (left_named s c.args.job named) (λ x. has_wants (left_named s c.args.job named x)) c.requires.levels left
+    (fewer_named s c.args.job named) (level_named s c.args.job named))
     (omega (arith, ap length left.order, filter_short (λ x. has_wants (left_named s c.args.job named x)) s.order, c.requires.few))
 
 pub returns-clause-requests : goal.returns-clause-requests
@@ -75,6 +77,7 @@ returns-clause-left g c done =
     let named = c.args.named.now.items in
     let sole : IsSoleNamed s c.args.job named c.in-Some.p =
     subst (λ l. IsSoleNamed s c.args.job l c.in-Some.p) c.as_slice.ensures.value c.in-Some.ensures in
-    leaves_by (left_of c.args.job (DequeueNamed c.args.named.now)) s c.leave.new.store (left_named s c.args.job named) (λ x. has_wants (left_named s c.args.job named x))
+    leaves_by (left_of c.args.job (DequeueNamed c.args.named.now)) s c.leave.new.store (left_named s c.args.job named)
+    (λ x. has_wants (left_named s c.args.job named x))
     (sole_left s c.args.job named c.in-Some.p sole c.leave.new.store c.requires.right c.requires.table.kept.once c.leave.ensures.order c.leave.ensures.others)
     (λ x. refl)

@@ -17,8 +17,11 @@ pub returns-clause-requests : goal.returns-clause-requests
 returns-clause-requests g c =
     let rs = requests_in c.args.store.now in
     let named = c.args.named.now.items in
-    let left : IsLeft c.args.store.now c.give_up_named.new.store (left_named c.args.store.now c.args.job named) (λ x. has_wants (left_named c.args.store.now c.args.job named x)) =
-    subst (λ l. IsLeft c.args.store.now c.give_up_named.new.store (left_named c.args.store.now c.args.job l) (λ x. has_wants (left_named c.args.store.now c.args.job l x))) c.as_slice-2.ensures.value c.give_up_named.ensures.left in
+    let left : IsLeft c.args.store.now c.give_up_named.new.store (left_named c.args.store.now c.args.job named)
+    (λ x. has_wants (left_named c.args.store.now c.args.job named x)) =
+    subst
+    (λ l. IsLeft c.args.store.now c.give_up_named.new.store (left_named c.args.store.now c.args.job l)
+    (λ x. has_wants (left_named c.args.store.now c.args.job l x))) c.as_slice-2.ensures.value c.give_up_named.ensures.left in
     let none = ap (first_refusal (dequeue_fault rs c.args.job) []) (sym c.as_slice.ensures.value) ∙ sym c.refusal_of_dequeue.ensures ∙ c.in_default.is in
     named_requests c.args.store.now c.give_up_named.new.store c.args.job named left
     ∙ sym (ap (λ o. (unless_refused rs o (outcome (without_named rs c.args.job named) Done)).requests) none)
@@ -26,9 +29,14 @@ returns-clause-requests g c =
 pub returns-clause-left : goal.returns-clause-left
 returns-clause-left g c done =
     let named = c.args.named.now.items in
-    let left : IsLeft c.args.store.now c.give_up_named.new.store (left_named c.args.store.now c.args.job named) (λ x. has_wants (left_named c.args.store.now c.args.job named x)) =
-    subst (λ l. IsLeft c.args.store.now c.give_up_named.new.store (left_named c.args.store.now c.args.job l) (λ x. has_wants (left_named c.args.store.now c.args.job l x))) c.as_slice-2.ensures.value c.give_up_named.ensures.left in
-    leaves_by (left_of c.args.job (DequeueNamed c.args.named.now)) c.args.store.now c.give_up_named.new.store (left_named c.args.store.now c.args.job named) (λ x. has_wants (left_named c.args.store.now c.args.job named x)) left (λ x. refl)
+    let left : IsLeft c.args.store.now c.give_up_named.new.store (left_named c.args.store.now c.args.job named)
+    (λ x. has_wants (left_named c.args.store.now c.args.job named x)) =
+    subst
+    (λ l. IsLeft c.args.store.now c.give_up_named.new.store (left_named c.args.store.now c.args.job l)
+    (λ x. has_wants (left_named c.args.store.now c.args.job l x))) c.as_slice-2.ensures.value c.give_up_named.ensures.left in
+    leaves_by (left_of c.args.job (DequeueNamed c.args.named.now)) c.args.store.now c.give_up_named.new.store
+    (left_named c.args.store.now c.args.job named) (λ x. has_wants (left_named c.args.store.now c.args.job named x)) left
+    (λ x. refl)
 
 pub returns-clause-whole : goal.returns-clause-whole
 returns-clause-whole g c =
@@ -37,7 +45,8 @@ returns-clause-whole g c =
     let rs = requests_in s in
     let named = c.args.named.now.items in
     let left : IsLeft s t (left_named s c.args.job named) (λ x. has_wants (left_named s c.args.job named x)) =
-    subst (λ l. IsLeft s t (left_named s c.args.job l) (λ x. has_wants (left_named s c.args.job l x))) c.as_slice-2.ensures.value c.give_up_named.ensures.left in
+    subst (λ l. IsLeft s t (left_named s c.args.job l) (λ x. has_wants (left_named s c.args.job l x))) c.as_slice-2.ensures.value
+    c.give_up_named.ensures.left in
     let none = ap (first_refusal (dequeue_fault rs c.args.job) []) (sym c.as_slice.ensures.value) ∙ sym c.refusal_of_dequeue.ensures ∙ c.in_default.is in
     let after : requests_in t ≡ (dequeue_named rs c.args.job named).requests =
     named_requests s t c.args.job named left ∙ sym (ap (λ o. (unless_refused rs o (outcome (without_named rs c.args.job named) Done)).requests) none) in
@@ -45,6 +54,8 @@ returns-clause-whole g c =
     subst (λ l. are_well_formed l ≡ true) (sym after) (well-named g.row.REQS rs c.args.job (well_from_right s c.requires.right) c.args.named.now) in
     whole_by g.row.REQS s t c.args.locks.now c.give_up_named.new.locks c.args.keys.now.buckets.items c.give_up_named.new.keys.buckets.items c.requires
     c.give_up_named.ensures.table c.give_up_named.ensures.index (right_from_well t well)
-    (jobs_left s t (left_named s c.args.job named) (λ x. has_wants (left_named s c.args.job named x)) c.requires.jobs left (fewer_named s c.args.job named) (job_named s c.args.job named))
-    (levels_left s t (left_named s c.args.job named) (λ x. has_wants (left_named s c.args.job named x)) c.requires.levels left (fewer_named s c.args.job named) (level_named s c.args.job named))
+    (jobs_left s t (left_named s c.args.job named) (λ x. has_wants (left_named s c.args.job named x)) c.requires.jobs left
+    (fewer_named s c.args.job named) (job_named s c.args.job named))
+    (levels_left s t (left_named s c.args.job named) (λ x. has_wants (left_named s c.args.job named x)) c.requires.levels left
+    (fewer_named s c.args.job named) (level_named s c.args.job named))
     (omega (arith, ap length left.order, filter_short (λ x. has_wants (left_named s c.args.job named x)) s.order, c.requires.few))

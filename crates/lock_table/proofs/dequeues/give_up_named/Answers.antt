@@ -29,7 +29,8 @@ place_of_job-p-requires g c =
         c.loop-i.invariant.table,
         (
           c.loop-i.invariant.index,
-          jobs_left c.args.store.now c.loop-i.store (left_named c.args.store.now c.args.job named) (λ x. has_wants (left_named c.args.store.now c.args.job named x)) c.requires.whole.jobs c.loop-i.invariant.left
+          jobs_left c.args.store.now c.loop-i.store (left_named c.args.store.now c.args.job named)
+              (λ x. has_wants (left_named c.args.store.now c.args.job named x)) c.requires.whole.jobs c.loop-i.invariant.left
               (fewer_named c.args.store.now c.args.job named) (job_named c.args.store.now c.args.job named),
         ),
       ),
@@ -43,13 +44,16 @@ give_up_key-requires g c =
     let w : Want = get_or c.args.named.now i unused_want in
     let read : get_or c.args.named.now i c.index-named-i.result ≡ w =
     sym c.index-named-i.is ∙ get_or_read c.args.named.now i c.index-named-i.result c.loop-i-test.true c.index-named-i.is unused_want in
-    let next : IsNext c.args.store.now c.args.job c.args.named.now i = is_next c.args.store.now c.args.job c.args.named.now i c.requires.passed c.loop-i-test.true in
+    let next : IsNext c.args.store.now c.args.job c.args.named.now i =
+    is_next c.args.store.now c.args.job c.args.named.now i c.requires.passed c.loop-i-test.true in
     let has : HasKey t c.args.job w.key = next_present c.args.store.now t t c.args.job i c.args.named.now 0 once next c.loop-i.invariant.left in
     let named : names (request_at t has.place).wants.items (get_or c.args.named.now i c.index-named-i.result).key ≡ true =
     subst (λ (v : Want). names (request_at t has.place).wants.items v.key ≡ true) (sym read) has.named in
     let is : c.place_of_job-p.result ≡ has.place = c.place_of_job-p.ensures has.place has.present has.job_is named in
     let again : get_or c.args.named.now i c.index-named-i-in-loop-i.result ≡ w =
-    sym c.index-named-i-in-loop-i.is ∙ get_or_read c.args.named.now i c.index-named-i-in-loop-i.result c.loop-i-test.true c.index-named-i-in-loop-i.is unused_want in
+    sym c.index-named-i-in-loop-i.is
+    ∙ get_or_read c.args.named.now i c.index-named-i-in-loop-i.result c.loop-i-test.true c.index-named-i-in-loop-i.is
+    unused_want in
     let named_again : names (request_at t has.place).wants.items (get_or c.args.named.now i c.index-named-i-in-loop-i.result).key ≡ true =
     subst (λ (v : Want). names (request_at t has.place).wants.items v.key ≡ true) (sym again) has.named in (
       lit< tt,
@@ -86,7 +90,9 @@ loop-i-preserved g c =
     let is : p ≡ has.place = c.place_of_job-p.ensures has.place has.present has.job_is named in
     let present : is_there p t.order ≡ true = subst (λ y. is_there y t.order ≡ true) (sym is) has.present in
     let again : get_or c.args.named.now i c.index-named-i-in-loop-i.result ≡ w =
-    sym c.index-named-i-in-loop-i.is ∙ get_or_read c.args.named.now i c.index-named-i-in-loop-i.result c.loop-i-test.true c.index-named-i-in-loop-i.is unused_want in
+    sym c.index-named-i-in-loop-i.is
+    ∙ get_or_read c.args.named.now i c.index-named-i-in-loop-i.result c.loop-i-test.true c.index-named-i-in-loop-i.is
+    unused_want in
     let order : u.order ≡ cond (has_wants (without_key w.key (request_at t p))) t.order (without_place t.order p) =
     subst (λ (v : Want). u.order ≡ cond (has_wants (without_key v.key (request_at t p))) t.order (without_place t.order p)) again c.give_up_key.ensures.order in
     record {
@@ -96,7 +102,8 @@ loop-i-preserved g c =
           next_left s t u c.args.job i c.args.named.now p once c.requires.whole.jobs next c.loop-i-test.true c.loop-i.invariant.left present
           (subst (λ y. (request_at t y).job ≡ c.args.job) (sym is) has.job_is)
           (subst (λ y. names (request_at t y).wants.items w.key ≡ true) (sym is) has.named)
-          (λ h. subst (λ (v : Want). request_at u p ≡ without_key v.key (request_at t p)) again (c.give_up_key.ensures.given h)) c.give_up_key.ensures.others order;
+          (λ h. subst (λ (v : Want). request_at u p ≡ without_key v.key (request_at t p)) again (c.give_up_key.ensures.given h))
+          c.give_up_key.ensures.others order;
       turns =
           turned_then s t u c.args.turns.now c.loop-i.turns c.give_up_key.new.turns
           (λ x h. stays_in (has_wants (without_key w.key (request_at t p))) x p t.order u.order c.loop-i.invariant.table.kept.once order h)

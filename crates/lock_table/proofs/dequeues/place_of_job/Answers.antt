@@ -19,7 +19,10 @@ pub returns-then-get-job : goal.returns-then-get-job
 returns-then-get-job g c x present job named =
     let t : ℕ → Bool = λ y. names (request_at c.args.store.now y).wants.items c.args.key.now in
     let y : ℕ = get_or c.places_of-p-items.result.now c.loop-p.p-index 0 in
-    let both = there_kept t y c.args.store.now.order (subst (λ l. is_there y l ≡ true) c.loop-p.invariant.places (there_at c.places_of-p-items.result.now c.loop-p.p-index 0 c.loop-p-test.true)) in
+    let both =
+    there_kept t y c.args.store.now.order
+    (subst (λ l. is_there y l ≡ true) c.loop-p.invariant.places
+    (there_at c.places_of-p-items.result.now c.loop-p.p-index 0 c.loop-p-test.true)) in
     c.requires.jobs y x c.args.key.now both.0 present both.1 named
     (ap (λ (f : Filed). f.request.job) (sym c.get.ensures.value) ∙ c.if-get-job.true ∙ sym job)
 

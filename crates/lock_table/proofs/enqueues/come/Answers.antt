@@ -18,7 +18,9 @@ arrive-requires g c =
     let w = c.requires.whole in
     let few : length c.args.wants.now.items ≤ LOCKS_A_CALL = omega (arith, c.as_slice.ensures.fits, ap length c.as_slice.ensures.value) in
     let range : list_all is_in_range c.args.wants.now.items ≡ true = ap (list_all is_in_range) (sym c.as_slice.ensures.value) ∙ c.are_in_range.ensures in
-    let well = well_after c.args.store.now c.args.job c.args.asking.now c.args.wants.now w.right c.requires.job c.requires.some c.requires.unshared c.requires.passed few range in (
+    let well =
+    well_after c.args.store.now c.args.job c.args.asking.now c.args.wants.now w.right c.requires.job c.requires.some
+    c.requires.unshared c.requires.passed few range in (
       lit< tt,
       (
         w.table,
@@ -34,7 +36,8 @@ arrive-requires g c =
                   c.requires.job.1,
                   (
                     apart_after c.args.store.now c.args.job c.args.asking.now c.args.wants.now well,
-                    admits_from g.row.REQS c.args.store.now c.args.locks.now c.args.keys.now.buckets.items c.args.job c.args.wants.now.items w (right_job c.args.job c.requires.job) c.requires.passed,
+                    admits_from g.row.REQS c.args.store.now c.args.locks.now c.args.keys.now.buckets.items c.args.job
+                        c.args.wants.now.items w (right_job c.args.job c.requires.job) c.requires.passed,
                   ),
                 ),
               ),
@@ -54,7 +57,9 @@ returns-clause-whole g c =
     let w = c.requires.whole in
     let few : length c.args.wants.now.items ≤ LOCKS_A_CALL = omega (arith, c.as_slice.ensures.fits, ap length c.as_slice.ensures.value) in
     let range : list_all is_in_range c.args.wants.now.items ≡ true = ap (list_all is_in_range) (sym c.as_slice.ensures.value) ∙ c.are_in_range.ensures in
-    let well = well_after c.args.store.now c.args.job c.args.asking.now c.args.wants.now w.right c.requires.job c.requires.some c.requires.unshared c.requires.passed few range in
+    let well =
+    well_after c.args.store.now c.args.job c.args.asking.now c.args.wants.now w.right c.requires.job c.requires.some
+    c.requires.unshared c.requires.passed few range in
     let after : requests_in c.arrive.new.store ≡ requests_in c.args.store.now ++ request_of c.args.job c.args.asking.now false c.args.wants.now ∷ [] =
     requests_after c.args.store.now c.arrive.new.store c.arrive.result c.args.job (request_of c.args.job c.args.asking.now false c.args.wants.now)
     c.arrive.ensures.out c.arrive.ensures.order c.arrive.ensures.request c.arrive.ensures.others in
@@ -63,7 +68,8 @@ returns-clause-whole g c =
     (right_from_well c.arrive.new.store (subst (λ l. are_well_formed l ≡ true) (sym after) well))
     (jobs_after c.args.store.now c.arrive.new.store c.arrive.result c.args.job (request_of c.args.job c.args.asking.now false c.args.wants.now)
     w.jobs c.arrive.ensures.out c.arrive.ensures.order c.arrive.ensures.request refl c.arrive.ensures.others c.requires.passed)
-    (levels_after c.args.store.now c.arrive.new.store c.arrive.result c.args.job (request_of c.args.job c.args.asking.now false c.args.wants.now) w.table.kept.apart
+    (levels_after c.args.store.now c.arrive.new.store c.arrive.result c.args.job
+    (request_of c.args.job c.args.asking.now false c.args.wants.now) w.table.kept.apart
     w.levels c.arrive.ensures.order c.arrive.ensures.request c.arrive.ensures.others
     (apart_after c.args.store.now c.args.job c.args.asking.now c.args.wants.now well) c.requires.passed)
     (omega (arith, ap length c.arrive.ensures.order, length-append c.args.store.now.order (c.arrive.result ∷ []), c.requires.few))

@@ -20,9 +20,12 @@ returns-then-get-clause-requests g c =
     let rs = requests_in c.args.store.now in
     let yes : granted (with_arrival rs c.args.job c.args.asking.now false c.args.wants.now) (length rs) ≡ true =
     sym c.come-p.ensures.granted ∙ ap (λ (f : Filed). f.granted) (sym c.get.ensures.value) ∙ c.if-get.true in
-    requests_after c.args.store.now c.know.new.store c.come-p.result c.args.job (request_of c.args.job c.args.asking.now (is_interrupt c.args.asking.now.kind) c.args.wants.now)
+    requests_after c.args.store.now c.know.new.store c.come-p.result c.args.job
+    (request_of c.args.job c.args.asking.now (is_interrupt c.args.asking.now.kind) c.args.wants.now)
     c.come-p.ensures.out (c.know.ensures.order ∙ c.come-p.ensures.order)
-    (c.know.ensures.request ∙ knows c.args.job c.args.asking.now c.args.wants.now (filed_at c.come-p.new.store c.come-p.result).request c.come-p.ensures.request)
+    (c.know.ensures.request
+    ∙ knows c.args.job c.args.asking.now c.args.wants.now (filed_at c.come-p.new.store c.come-p.result).request
+    c.come-p.ensures.request)
     (λ x ne. c.know.ensures.others x ne ∙ c.come-p.ensures.others x ne)
     ∙ sym (ap (λ (o : Outcome). o.requests) (arrives_granted rs c.args.job c.args.asking.now c.args.wants.now yes))
 
@@ -32,10 +35,12 @@ returns-in-AtOnce-clause-requests g c =
     let wait : granted (with_arrival rs c.args.job c.args.asking.now false c.args.wants.now) (length rs) ≡ false =
     sym c.come-p.ensures.granted ∙ ap (λ (f : Filed). f.granted) (sym c.get.ensures.value) ∙ c.if-get.false in
     let order : c.go_again.new.store.order ≡ c.args.store.now.order =
-    c.go_again.ensures.order ∙ ap (λ l. without_place l c.come-p.result) c.come-p.ensures.order ∙ without_new c.args.store.now.order c.come-p.result c.come-p.ensures.out in
+    c.go_again.ensures.order ∙ ap (λ l. without_place l c.come-p.result) c.come-p.ensures.order
+    ∙ without_new c.args.store.now.order c.come-p.result c.come-p.ensures.out in
     let same : requests_in c.go_again.new.store ≡ rs =
     ap (map (request_at c.go_again.new.store)) order
-    ∙ map_same (request_at c.go_again.new.store) (request_at c.args.store.now) c.come-p.result c.args.store.now.order c.come-p.ensures.out (λ x ne. c.go_again.ensures.others x ne ∙ c.come-p.ensures.others x ne) in
+    ∙ map_same (request_at c.go_again.new.store) (request_at c.args.store.now) c.come-p.result c.args.store.now.order
+    c.come-p.ensures.out (λ x ne. c.go_again.ensures.others x ne ∙ c.come-p.ensures.others x ne) in
     same
     ∙ sym (ap (λ (o : Outcome). o.requests) (arrives_waiting rs c.args.job c.args.asking.now c.args.wants.now wait
     ∙ ap (not_granted rs (with_arrival rs c.args.job c.args.asking.now false c.args.wants.now)) c.in-AtOnce.is))

@@ -8,7 +8,8 @@ use Rattle.lock_table.proofs.leaving.blocked_among.Given as goal
 
 abbrev pub invariant-loop-p : goal.invariant-loop-p
 invariant-loop-p g l = record {
-  chosen : l.leaving.items ++ filter (is_blocking_at l.store (is_among l.jobs)) (drop l.p-index l.p-items) ≡ filter (is_blocking_at l.store (is_among l.jobs)) l.p-items;
+  chosen : l.leaving.items ++ filter (is_blocking_at l.store (is_among l.jobs)) (drop l.p-index l.p-items)
+      ≡ filter (is_blocking_at l.store (is_among l.jobs)) l.p-items;
   few : length l.leaving.items ≤ l.p-index;
   most : length l.p-items ≤ MOST_REQUESTS;
   present : All (λ x. is_there x l.store.order ≡ true) l.p-items;

@@ -12,5 +12,7 @@ loop-p-init g c = record {
   chosen = ap (λ l. l ++ filter (λ x. is_blocked (filed_at c.args.store.now x)) c.own_places-p-items.result.now) c.clear.ensures;
   few = omega (arith, ap length c.clear.ensures);
   most = omega (arith, ap length c.own_places-p-items.ensures, filter_short (is_of c.args.store.now c.args.job) c.args.store.now.order, c.requires.few);
-  present = subst (All (λ x. is_there x c.args.store.now.order ≡ true)) (sym c.own_places-p-items.ensures) (kept_present (is_of c.args.store.now c.args.job) c.args.store.now.order);
+  present =
+      subst (All (λ x. is_there x c.args.store.now.order ≡ true)) (sym c.own_places-p-items.ensures)
+      (kept_present (is_of c.args.store.now c.args.job) c.args.store.now.order);
 }

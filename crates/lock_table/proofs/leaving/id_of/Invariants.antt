@@ -7,7 +7,8 @@ use Rattle.lock_table.proofs.leaving.id_of.Given as goal
 
 abbrev pub invariant-loop-p : goal.invariant-loop-p
 invariant-loop-p g l = record {
-  chosen : l.leaving.items ++ filter (λ x. (filed_at l.store x).request.id == l.id) (drop l.p-index l.p-items) ≡ filter (λ x. (filed_at l.store x).request.id == l.id) l.p-items;
+  chosen : l.leaving.items ++ filter (λ x. (filed_at l.store x).request.id == l.id) (drop l.p-index l.p-items)
+      ≡ filter (λ x. (filed_at l.store x).request.id == l.id) l.p-items;
   few : length l.leaving.items ≤ l.p-index;
   most : length l.p-items ≤ MOST_REQUESTS;
   present : All (λ x. is_there x l.store.order ≡ true) l.p-items;

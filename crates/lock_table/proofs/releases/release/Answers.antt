@@ -5,7 +5,8 @@ use Rattle.lock_table.proofs.releases.release.Goals as goal
 
 pub returns-clause-whole : goal.returns-clause-whole
 returns-clause-whole g c =
-    whole_left g.row.REQS c.args.store.now c.leave_all.new.store c.args.locks.now c.leave_all.new.locks c.args.keys.now.buckets.items c.leave_all.new.keys.buckets.items
+    whole_left g.row.REQS c.args.store.now c.leave_all.new.store c.args.locks.now c.leave_all.new.locks
+    c.args.keys.now.buckets.items c.leave_all.new.keys.buckets.items
     (stays_beside c.as_slice.result.now) c.requires.whole c.leave_all.ensures.table c.leave_all.ensures.index c.leave_all.ensures.left
 
 pub returns-clause-left : goal.returns-clause-left

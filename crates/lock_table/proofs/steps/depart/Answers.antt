@@ -22,7 +22,9 @@ extend-requires g c =
           (
             c.give_up.ensures.flags,
             subst (IsUsed t) (sym c.queue_at-n.ensures)
-                (used_after (state_of c.args.store.now c.args.locks.now) t c.args.p c.args.k c.requires.table.kept c.give_up.ensures.kept c.requires.present c.requires.want c.give_up.ensures.gives c.give_up.ensures.counts some),
+                (used_after (state_of c.args.store.now c.args.locks.now) t c.args.p c.args.k c.requires.table.kept
+                c.give_up.ensures.kept c.requires.present c.requires.want c.give_up.ensures.gives c.give_up.ensures.counts
+                some),
           ),
         ),
       ),
@@ -37,7 +39,10 @@ returns-else-not-is_empty-clause-table g c =
       kept = c.give_up.ensures.kept;
       flags = c.give_up.ensures.flags;
       full = full_empty (state_of c.give_up.new.store c.give_up.new.locks) n c.give_up.ensures.kept (c.give_up.ensures.full c.requires.table.full) none;
-      used = open_given_up (state_of c.args.store.now c.args.locks.now) (state_of c.give_up.new.store c.give_up.new.locks) c.args.p c.args.k c.requires.table.kept c.give_up.ensures.kept c.requires.present c.requires.want c.give_up.ensures.gives c.give_up.ensures.counts c.requires.table.used;
+      used =
+          open_given_up (state_of c.args.store.now c.args.locks.now) (state_of c.give_up.new.store c.give_up.new.locks) c.args.p
+          c.args.k c.requires.table.kept c.give_up.ensures.kept c.requires.present c.requires.want c.give_up.ensures.gives
+          c.give_up.ensures.counts c.requires.table.used;
     }
 
 pub returns-then-not-is_empty-clause-table : goal.returns-then-not-is_empty-clause-table
@@ -47,7 +52,8 @@ returns-then-not-is_empty-clause-table g c =
     let t : State = state_of c.extend.new.store c.extend.new.locks in
     let some : (length (lock_at c.give_up.new.locks c.queue_at-n.result).queue.places == 0) ≡ false = sym c.is_empty.ensures ∙ c.if-not-is_empty.true in
     let stay : OpenAreUsed m =
-    open_given_up s m c.args.p c.args.k c.requires.table.kept c.give_up.ensures.kept c.requires.present c.requires.want c.give_up.ensures.gives c.give_up.ensures.counts c.requires.table.used in
+    open_given_up s m c.args.p c.args.k c.requires.table.kept c.give_up.ensures.kept c.requires.present c.requires.want
+    c.give_up.ensures.gives c.give_up.ensures.counts c.requires.table.used in
     let used : IsUsed m c.queue_at-n.result = stay c.queue_at-n.result (ap not some) in
     record {
       kept = c.extend.ensures.extended.kept;
@@ -66,8 +72,10 @@ returns-then-not-is_empty-clause-shuts g c =
     let t : State = state_of c.extend.new.store c.extend.new.locks in
     let some : (length (lock_at c.give_up.new.locks c.queue_at-n.result).queue.places == 0) ≡ false = sym c.is_empty.ensures ∙ c.if-not-is_empty.true in
     let stay : OpenAreUsed m =
-    open_given_up s m c.args.p c.args.k c.requires.table.kept c.give_up.ensures.kept c.requires.present c.requires.want c.give_up.ensures.gives c.give_up.ensures.counts c.requires.table.used in
-    shuts_extended s m t c.queue_at-n.result (shuts_given_up s m c.args.p c.args.k c.requires.table.kept c.requires.present c.requires.want c.give_up.ensures.gives)
+    open_given_up s m c.args.p c.args.k c.requires.table.kept c.give_up.ensures.kept c.requires.present c.requires.want
+    c.give_up.ensures.gives c.give_up.ensures.counts c.requires.table.used in
+    shuts_extended s m t c.queue_at-n.result
+    (shuts_given_up s m c.args.p c.args.k c.requires.table.kept c.requires.present c.requires.want c.give_up.ensures.gives)
     c.extend.ensures.extended (stay c.queue_at-n.result (ap not some)) c.give_up.ensures.kept
 
 pub returns-else-not-is_empty-clause-shuts : goal.returns-else-not-is_empty-clause-shuts
@@ -77,4 +85,5 @@ returns-else-not-is_empty-clause-shuts g c =
 
 pub returns-then-not-is_empty-clause-turns : goal.returns-then-not-is_empty-clause-turns
 returns-then-not-is_empty-clause-turns g c =
-    turned_then c.args.store.now c.give_up.new.store c.extend.new.store c.args.turns.now c.give_up.new.turns c.extend.new.turns (λ x h. subst (λ l. is_there x l ≡ true) c.extend.ensures.extended.order h) c.give_up.ensures.turns c.extend.ensures.turns
+    turned_then c.args.store.now c.give_up.new.store c.extend.new.store c.args.turns.now c.give_up.new.turns c.extend.new.turns
+    (λ x h. subst (λ l. is_there x l ≡ true) c.extend.ensures.extended.order h) c.give_up.ensures.turns c.extend.ensures.turns

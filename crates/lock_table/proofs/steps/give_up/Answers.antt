@@ -30,37 +30,65 @@ renew_less-requires g c =
     let within : c.args.p < length c.take_want.new.self.filed =
     subst (λ (v : Stored). c.args.p < length v.filed) (sym c.take_want.ensures.value)
     (subst (λ m. c.args.p < m) (sym (length-set c.args.store.now.filed c.args.p (without_want (filed_at c.args.store.now c.args.p) c.args.k))) a.filed_in) in
-    let still = still_granted c.args.store.now c.take_want.new.self c.args.locks.now c.leave_queue_of.new.locks c.args.p c.args.k c.requires.kept c.requires.flags c.requires.present c.requires.want a c.take_want.ensures.value c.leave_queue_of.ensures within in
-    (lit< tt, (lit< tt, (subst (λ (v : Stored). is_there c.args.p v.order ≡ true) (sym c.take_want.ensures.value) c.requires.present, (λ j d lt. omega (arith, all j d lt), still))))
+    let still =
+    still_granted c.args.store.now c.take_want.new.self c.args.locks.now c.leave_queue_of.new.locks c.args.p c.args.k
+    c.requires.kept c.requires.flags c.requires.present c.requires.want a c.take_want.ensures.value c.leave_queue_of.ensures
+    within in (
+      lit< tt,
+      (
+        lit< tt,
+        (
+          subst (λ (v : Stored). is_there c.args.p v.order ≡ true) (sym c.take_want.ensures.value) c.requires.present,
+          (λ j d lt. omega (arith, all j d lt), still),
+        ),
+      ),
+    )
 
 pub returns-clause-kept : goal.returns-clause-kept
 returns-clause-kept g c =
     let a = given c.args.store.now c.args.locks.now c.args.p c.args.k c.requires.kept c.requires.present c.requires.want in
-    let gives = gives_up_by c.args.store.now c.take_want.new.self c.renew_less.new.store c.args.locks.now c.leave_queue_of.new.locks c.args.p c.args.k c.requires.kept c.requires.want a c.take_want.ensures.value c.leave_queue_of.ensures c.renew_less.ensures.renews in
-    (given_up c.args.store.now c.take_want.new.self c.renew_less.new.store c.args.locks.now c.leave_queue_of.new.locks c.args.p c.args.k c.requires.kept c.requires.flags c.requires.present gives c.renew_less.ensures.renews).0
+    let gives =
+    gives_up_by c.args.store.now c.take_want.new.self c.renew_less.new.store c.args.locks.now c.leave_queue_of.new.locks
+    c.args.p c.args.k c.requires.kept c.requires.want a c.take_want.ensures.value c.leave_queue_of.ensures
+    c.renew_less.ensures.renews in
+    (given_up c.args.store.now c.take_want.new.self c.renew_less.new.store c.args.locks.now c.leave_queue_of.new.locks c.args.p
+    c.args.k c.requires.kept c.requires.flags c.requires.present gives c.renew_less.ensures.renews).0
 
 pub returns-clause-flags : goal.returns-clause-flags
 returns-clause-flags g c =
     let a = given c.args.store.now c.args.locks.now c.args.p c.args.k c.requires.kept c.requires.present c.requires.want in
-    let gives = gives_up_by c.args.store.now c.take_want.new.self c.renew_less.new.store c.args.locks.now c.leave_queue_of.new.locks c.args.p c.args.k c.requires.kept c.requires.want a c.take_want.ensures.value c.leave_queue_of.ensures c.renew_less.ensures.renews in
-    (given_up c.args.store.now c.take_want.new.self c.renew_less.new.store c.args.locks.now c.leave_queue_of.new.locks c.args.p c.args.k c.requires.kept c.requires.flags c.requires.present gives c.renew_less.ensures.renews).1
+    let gives =
+    gives_up_by c.args.store.now c.take_want.new.self c.renew_less.new.store c.args.locks.now c.leave_queue_of.new.locks
+    c.args.p c.args.k c.requires.kept c.requires.want a c.take_want.ensures.value c.leave_queue_of.ensures
+    c.renew_less.ensures.renews in
+    (given_up c.args.store.now c.take_want.new.self c.renew_less.new.store c.args.locks.now c.leave_queue_of.new.locks c.args.p
+    c.args.k c.requires.kept c.requires.flags c.requires.present gives c.renew_less.ensures.renews).1
 
 pub returns-clause-gives : goal.returns-clause-gives
 returns-clause-gives g c =
     let a = given c.args.store.now c.args.locks.now c.args.p c.args.k c.requires.kept c.requires.present c.requires.want in
-    gives_up_by c.args.store.now c.take_want.new.self c.renew_less.new.store c.args.locks.now c.leave_queue_of.new.locks c.args.p c.args.k c.requires.kept c.requires.want a c.take_want.ensures.value c.leave_queue_of.ensures c.renew_less.ensures.renews
+    gives_up_by c.args.store.now c.take_want.new.self c.renew_less.new.store c.args.locks.now c.leave_queue_of.new.locks c.args.p
+    c.args.k c.requires.kept c.requires.want a c.take_want.ensures.value c.leave_queue_of.ensures c.renew_less.ensures.renews
 
 pub returns-clause-full : goal.returns-clause-full
 returns-clause-full g c =
     let a = given c.args.store.now c.args.locks.now c.args.p c.args.k c.requires.kept c.requires.present c.requires.want in
-    let gives = gives_up_by c.args.store.now c.take_want.new.self c.renew_less.new.store c.args.locks.now c.leave_queue_of.new.locks c.args.p c.args.k c.requires.kept c.requires.want a c.take_want.ensures.value c.leave_queue_of.ensures c.renew_less.ensures.renews in
-    (given_up c.args.store.now c.take_want.new.self c.renew_less.new.store c.args.locks.now c.leave_queue_of.new.locks c.args.p c.args.k c.requires.kept c.requires.flags c.requires.present gives c.renew_less.ensures.renews).2
+    let gives =
+    gives_up_by c.args.store.now c.take_want.new.self c.renew_less.new.store c.args.locks.now c.leave_queue_of.new.locks
+    c.args.p c.args.k c.requires.kept c.requires.want a c.take_want.ensures.value c.leave_queue_of.ensures
+    c.renew_less.ensures.renews in
+    (given_up c.args.store.now c.take_want.new.self c.renew_less.new.store c.args.locks.now c.leave_queue_of.new.locks c.args.p
+    c.args.k c.requires.kept c.requires.flags c.requires.present gives c.renew_less.ensures.renews).2
 
 pub returns-clause-counts : goal.returns-clause-counts
 returns-clause-counts g c =
     let a = given c.args.store.now c.args.locks.now c.args.p c.args.k c.requires.kept c.requires.present c.requires.want in
-    let gives = gives_up_by c.args.store.now c.take_want.new.self c.renew_less.new.store c.args.locks.now c.leave_queue_of.new.locks c.args.p c.args.k c.requires.kept c.requires.want a c.take_want.ensures.value c.leave_queue_of.ensures c.renew_less.ensures.renews in
-    (given_up c.args.store.now c.take_want.new.self c.renew_less.new.store c.args.locks.now c.leave_queue_of.new.locks c.args.p c.args.k c.requires.kept c.requires.flags c.requires.present gives c.renew_less.ensures.renews).3
+    let gives =
+    gives_up_by c.args.store.now c.take_want.new.self c.renew_less.new.store c.args.locks.now c.leave_queue_of.new.locks
+    c.args.p c.args.k c.requires.kept c.requires.want a c.take_want.ensures.value c.leave_queue_of.ensures
+    c.renew_less.ensures.renews in
+    (given_up c.args.store.now c.take_want.new.self c.renew_less.new.store c.args.locks.now c.leave_queue_of.new.locks c.args.p
+    c.args.k c.requires.kept c.requires.flags c.requires.present gives c.renew_less.ensures.renews).3
 
 pub returns-clause-lock : goal.returns-clause-lock
 returns-clause-lock g c =
@@ -79,6 +107,8 @@ returns-clause-request g c =
 pub returns-clause-turns : goal.returns-clause-turns
 returns-clause-turns g c =
     let a = given c.args.store.now c.args.locks.now c.args.p c.args.k c.requires.kept c.requires.present c.requires.want in
-    turned_then c.args.store.now c.take_want.new.self c.renew_less.new.store c.args.turns.now c.args.turns.now c.renew_less.new.turns (λ x h. subst (λ l. is_there x l ≡ true) c.renew_less.ensures.renews.order h)
-    (turned_changed c.args.store.now c.take_want.new.self c.args.turns.now c.args.p (without_want (filed_at c.args.store.now c.args.p) c.args.k) a.filed_in c.take_want.ensures.value refl)
+    turned_then c.args.store.now c.take_want.new.self c.renew_less.new.store c.args.turns.now c.args.turns.now
+    c.renew_less.new.turns (λ x h. subst (λ l. is_there x l ≡ true) c.renew_less.ensures.renews.order h)
+    (turned_changed c.args.store.now c.take_want.new.self c.args.turns.now c.args.p
+    (without_want (filed_at c.args.store.now c.args.p) c.args.k) a.filed_in c.take_want.ensures.value refl)
     c.renew_less.ensures.turns

@@ -24,14 +24,18 @@ pub let_in_at-requires : goal.let_in_at-requires
 let_in_at-requires g c =
     let next = next_is (state_of c.args.store.now c.args.locks.now) c.args.n c.in-Some.p c.requires.kept c.requires.used (sym c.in-Some.ensures) in
     let lock = lock_within c.args.store.now c.args.locks.now c.requires.used.place c.args.n c.requires.kept c.requires.used.stands in
-    let more = slice_get_within (lock_at c.args.locks.now c.args.n).queue.places (lock_at c.args.locks.now c.args.n).queue.fitting c.in-Some.p (sym c.in-Some.ensures) in
+    let more =
+    slice_get_within (lock_at c.args.locks.now c.args.n).queue.places (lock_at c.args.locks.now c.args.n).queue.fitting
+    c.in-Some.p (sym c.in-Some.ensures) in
     (lit< tt, (lock, (next.stands.present, (more, next.within))))
 
 pub returns-then-not-let_in_at-clause-full : goal.returns-then-not-let_in_at-clause-full
 returns-then-not-let_in_at-clause-full g c e =
     let s : State = state_of c.args.store.now c.args.locks.now in
     let next = next_is s c.args.n c.in-Some.p c.requires.kept c.requires.used (sym c.in-Some.ensures) in
-    let full : IsFull s c.args.n = full_where_unfit s c.args.n c.in-Some.p (want_filed c.args.store.now c.in-Some.p c.args.n) c.requires.kept c.requires.used next (sym c.let_in_at.ensures.value ∙ c.if-not-let_in_at.true) in
+    let full : IsFull s c.args.n =
+    full_where_unfit s c.args.n c.in-Some.p (want_filed c.args.store.now c.in-Some.p c.args.n) c.requires.kept c.requires.used
+    next (sym c.let_in_at.ensures.value ∙ c.if-not-let_in_at.true) in
     let same : c.let_in_at.new.locks ≡ c.args.locks.now = c.let_in_at.ensures.after ∙ cond-false _ _ _ c.if-not-let_in_at.true in
     subst (λ l. IsFull (state_of c.args.store.now l) c.args.n) (sym same) full
 
@@ -56,8 +60,11 @@ renew-requires g c =
 pub returns-clause-extended : goal.returns-clause-extended
 returns-clause-extended g c =
     let next = next_is (state_of c.args.store.now c.args.locks.now) c.args.n c.in-Some.p c.requires.kept c.requires.used (sym c.in-Some.ensures) in
-    extended_by c.args.store.now c.args.locks.now c.renew.new.store c.let_in_at.new.locks c.args.n c.in-Some.p (want_filed c.args.store.now c.in-Some.p c.args.n)
-    c.requires.kept c.requires.flags c.requires.used (sym c.in-Some.ensures) next (sym c.let_in_at.ensures.value ∙ c.if-not-let_in_at.false) (c.let_in_at.ensures.after ∙ cond-true _ _ _ c.if-not-let_in_at.false) c.renew.ensures.renews
+    extended_by c.args.store.now c.args.locks.now c.renew.new.store c.let_in_at.new.locks c.args.n c.in-Some.p
+    (want_filed c.args.store.now c.in-Some.p c.args.n)
+    c.requires.kept c.requires.flags c.requires.used (sym c.in-Some.ensures) next
+    (sym c.let_in_at.ensures.value ∙ c.if-not-let_in_at.false)
+    (c.let_in_at.ensures.after ∙ cond-true _ _ _ c.if-not-let_in_at.false) c.renew.ensures.renews
 
 pub returns-then-not-let_in_at-clause-fewer : goal.returns-then-not-let_in_at-clause-fewer
 returns-then-not-let_in_at-clause-fewer g c =
@@ -68,5 +75,8 @@ returns-then-not-let_in_at-clause-fewer g c =
 pub returns-clause-fewer : goal.returns-clause-fewer
 returns-clause-fewer g c =
     let lt = lock_within c.args.store.now c.args.locks.now c.requires.used.place c.args.n c.requires.kept c.requires.used.stands in
-    let next = slice_get_within (lock_at c.args.locks.now c.args.n).queue.places (lock_at c.args.locks.now c.args.n).queue.fitting c.in-Some.p (sym c.in-Some.ensures) in
-    one_fewer c.args.locks.now c.let_in_at.new.locks c.args.n (want_filed c.args.store.now c.in-Some.p c.args.n) lt next (c.let_in_at.ensures.after ∙ cond-true _ _ _ c.if-not-let_in_at.false)
+    let next =
+    slice_get_within (lock_at c.args.locks.now c.args.n).queue.places (lock_at c.args.locks.now c.args.n).queue.fitting
+    c.in-Some.p (sym c.in-Some.ensures) in
+    one_fewer c.args.locks.now c.let_in_at.new.locks c.args.n (want_filed c.args.store.now c.in-Some.p c.args.n) lt next
+    (c.let_in_at.ensures.after ∙ cond-true _ _ _ c.if-not-let_in_at.false)

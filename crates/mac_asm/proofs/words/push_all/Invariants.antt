@@ -6,4 +6,6 @@ use Rattle.mac_asm.proofs.words.push_all.Given as goal
 
 -- the words so far and those to come are all
 abbrev pub invariant-loop-expression : goal.invariant-loop-expression
-invariant-loop-expression l = with_words l.words.items (words_of_all (word_of (names_of l.scope)) (drop l.expression-index l.expressions)) ≡ with_words l.fn.words.items (words_of_all (word_of (names_of l.scope)) l.expressions)
+invariant-loop-expression l =
+    with_words l.words.items (words_of_all (word_of (names_of l.scope)) (drop l.expression-index l.expressions))
+    ≡ with_words l.fn.words.items (words_of_all (word_of (names_of l.scope)) l.expressions)

@@ -16,7 +16,8 @@ loop-i-preserved c =
     let lays = c.in_ok-code.ensures s c.loop-i.invariant.1 in (
       with_line s c.index-lines-i.result,
       lays.1 c.in_default.is,
-      line_goes_on s c.args.lines.now c.loop-i.i c.index-lines-i.result _ _ c.loop-i-test.true c.index-lines-i.is (sym c.in_default.is ∙ lays.0) c.loop-i.invariant.2,
+      line_goes_on s c.args.lines.now c.loop-i.i c.index-lines-i.result _ _ c.loop-i-test.true c.index-lines-i.is
+          (sym c.in_default.is ∙ lays.0) c.loop-i.invariant.2,
     )
 
 pub returns : goal.returns

@@ -4,8 +4,10 @@ use Rattle.mac_layout.proofs.layout.places_of_literals.Goals as goal
 
 pub loop-size-preserved : goal.loop-size-preserved
 loop-size-preserved c =
-    places_more c.loop-size.places.items c.push.new.self.items c.loop-size.at c.advance.new.place c.args.sizes.now c.loop-size.size-index c.size-item.result _ _ c.loop-size-test.true
-    c.size-item.is (c.in_ok-push.ensures.items ∙ ap (λ p. c.loop-size.places.items ++ p ∷ []) c.in_ok-try_clone.ensures) c.in_ok-advance.ensures c.loop-size.invariant
+    places_more c.loop-size.places.items c.push.new.self.items c.loop-size.at c.advance.new.place c.args.sizes.now
+    c.loop-size.size-index c.size-item.result _ _ c.loop-size-test.true
+    c.size-item.is (c.in_ok-push.ensures.items ∙ ap (λ p. c.loop-size.places.items ++ p ∷ []) c.in_ok-try_clone.ensures)
+    c.in_ok-advance.ensures c.loop-size.invariant
 
 pub returns : goal.returns
 returns c = places_end c.loop-size.places.items c.loop-size.at c.args.sizes.now c.loop-size.size-index _ c.loop-size-test.false c.loop-size.invariant

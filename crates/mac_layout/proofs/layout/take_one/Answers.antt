@@ -9,13 +9,17 @@ returns-then-at-taken c = record {
 }
 
 pub returns-then-twice-clause-code : goal.returns-then-twice-clause-code
-returns-then-twice-clause-code c = λ past m. one_low c.args.taken.now past c.clamped-at.result c.args.place.now true c.clamped-at.ensures c.if-at-taken.false m c.if-twice.true
+returns-then-twice-clause-code c =
+    λ past m. one_low c.args.taken.now past c.clamped-at.result c.args.place.now true c.clamped-at.ensures c.if-at-taken.false m
+    c.if-twice.true
 
 pub returns-then-twice-clause-marks : goal.returns-then-twice-clause-marks
 returns-then-twice-clause-marks c = λ past m. low_marks c.args.taken.now past c.clamped-at.result c.args.place.now c.clamped-at.ensures c.if-at-taken.false m
 
 pub returns-else-twice-clause-code : goal.returns-else-twice-clause-code
-returns-else-twice-clause-code c = λ past m. one_low c.args.taken.now past c.clamped-at.result c.args.place.now false c.clamped-at.ensures c.if-at-taken.false m c.if-twice.false
+returns-else-twice-clause-code c =
+    λ past m. one_low c.args.taken.now past c.clamped-at.result c.args.place.now false c.clamped-at.ensures c.if-at-taken.false m
+    c.if-twice.false
 
 pub returns-else-twice-clause-marks : goal.returns-else-twice-clause-marks
 returns-else-twice-clause-marks c = λ past m. low_marks c.args.taken.now past c.clamped-at.result c.args.place.now c.clamped-at.ensures c.if-at-taken.false m

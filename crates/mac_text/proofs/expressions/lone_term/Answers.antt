@@ -18,5 +18,6 @@ returns-in_ok-expression-in-Plus-clause-read c =
     let s = c.args.scan.now in
     let e = c.in_ok-expression-in-Plus.expression in
     let word = c.word-word.ensures.value in
-    let is : option_map (alone c.args.sign) (term_of_word s.radix (word_of s.rest)) ≡ Some e = rw (c.in-Plus.is, ← word) (c.in_ok-expression-in-Plus.ensures s.radix) in
+    let is : option_map (alone c.args.sign) (term_of_word s.radix (word_of s.rest)) ≡ Some e =
+    rw (c.in-Plus.is, ← word) (c.in_ok-expression-in-Plus.ensures s.radix) in
     lone_at c.args.sign s e (length c.word-word.result.now) c.requires (ap length (sym word)) is ∙ ap (λ t. Some (e, t)) (sym c.advance-in-Plus.ensures)

@@ -5,4 +5,7 @@ use Rattle.mac_text.proofs.line.labels.Given as goal
 
 -- the labels so far and those to come are all
 abbrev pub invariant-loop : goal.invariant-loop
-invariant-loop l = (length l.scan.rest + l.counter ≤ l.most) × (with_front l.place (items_at next_label_at (l.most - l.counter) l.scan) ≡ items_at next_label_at (length l.fn.scan.rest) l.fn.scan)
+invariant-loop l =
+    (length l.scan.rest + l.counter ≤ l.most)
+    × (with_front l.place (items_at next_label_at (l.most - l.counter) l.scan)
+    ≡ items_at next_label_at (length l.fn.scan.rest) l.fn.scan)

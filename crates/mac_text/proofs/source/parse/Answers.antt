@@ -7,14 +7,20 @@ use Rattle.mac_text.specs.Lines.{is_ascii, is_end, lines_from, radix_after}
 use Rattle.mac_text.proofs.source.parse.Goals as goal
 
 pub loop-rest-init : goal.loop-rest-init
-loop-rest-init c = (omega arith, omega (arith, ap length c.new-lines.ensures.items), (λ h. sym c.is_ascii-is_known_ascii.ensures ∙ h), source_begins c.args.source.now c.new-lines.result.items c.new-lines.ensures.items)
+loop-rest-init c = (
+  omega arith,
+  omega (arith, ap length c.new-lines.ensures.items),
+  (λ h. sym c.is_ascii-is_known_ascii.ensures ∙ h),
+  source_begins c.args.source.now c.new-lines.result.items c.new-lines.ensures.items,
+)
 
 pub returns-in-Err-Syntax : goal.returns-in-Err-Syntax
 returns-in-Err-Syntax c =
     let front = c.loop-rest.lines.items in
     let at : c.len-at.result ≡ length c.loop-rest.lines.items = omega arith in
     let is = rw c.in-Err-Syntax.field-0-is at c.in-Err-Syntax.ensures in
-    source_fails front c.loop-rest.radix (length front + 1) (lines c.loop-rest.rest.now) (lines c.split_line.result.1.now) c.split_line.result.0.now _ c.split_line.ensures.line is c.loop-rest.invariant.3
+    source_fails front c.loop-rest.radix (length front + 1) (lines c.loop-rest.rest.now) (lines c.split_line.result.1.now)
+    c.split_line.result.0.now _ c.split_line.ensures.line is c.loop-rest.invariant.3
     ∙ ap (λ n. Err (n + 1)) (sym at)
 
 pub returns-then-is_end : goal.returns-then-is_end
@@ -26,7 +32,8 @@ returns-then-is_end c =
     let all = placed front c.add_line.new.lines.items empty.0 line c.len-at.result at empty.1 in
     let here = c.index-in-loop-rest.ensures ∙ there front c.add_line.new.lines.items empty.0 line c.len-at.result _ at empty.1 in
     let ends = ap is_end (sym here) ∙ sym c.is_end.ensures ∙ c.if-is_end.true in
-    source_ends front c.loop-rest.radix (length front + 1) (lines c.loop-rest.rest.now) (lines c.split_line.result.1.now) c.split_line.result.0.now line _ c.split_line.ensures.line c.in-Ok.ensures ends c.loop-rest.invariant.3
+    source_ends front c.loop-rest.radix (length front + 1) (lines c.loop-rest.rest.now) (lines c.split_line.result.1.now)
+    c.split_line.result.0.now line _ c.split_line.ensures.line c.in-Ok.ensures ends c.loop-rest.invariant.3
     ∙ ap Ok (sym (c.of.ensures ∙ all))
 
 pub loop-rest-preserved : goal.loop-rest-preserved
@@ -42,10 +49,19 @@ loop-rest-preserved c =
     let before = c.index.ensures ∙ there front c.add_line.new.lines.items empty.0 line c.len-at.result _ at empty.1 in
     let goes = ap is_end (sym here) ∙ sym c.is_end.ensures ∙ c.if-is_end.false in
     let radix = c.radix_after-radix.ensures.value ∙ ap (λ l. radix_after l c.loop-rest.radix) before in
-    let goes_on = source_goes_on front c.loop-rest.radix (length front + 1) c.radix_after-radix.result (length now + 1) (lines c.loop-rest.rest.now) (lines c.split_line.result.1.now) c.split_line.result.0.now line _ c.split_line.ensures.line c.in-Ok.ensures goes radix (ap (λ n. n + 1) longer) c.loop-rest.invariant.3 in
-    (c.radix_after-radix.ensures.most, omega (arith, longer), (λ h. c.split_line.ensures.back is_ascii (c.loop-rest.invariant.2 h)), ap (λ p. with_lines p (lines_from c.radix_after-radix.result (length now + 1) (lines c.split_line.result.1.now))) all ∙ goes_on)
+    let goes_on =
+    source_goes_on front c.loop-rest.radix (length front + 1) c.radix_after-radix.result (length now + 1)
+    (lines c.loop-rest.rest.now) (lines c.split_line.result.1.now) c.split_line.result.0.now line _ c.split_line.ensures.line
+    c.in-Ok.ensures goes radix (ap (λ n. n + 1) longer) c.loop-rest.invariant.3 in (
+      c.radix_after-radix.ensures.most,
+      omega (arith, longer),
+      (λ h. c.split_line.ensures.back is_ascii (c.loop-rest.invariant.2 h)),
+      ap (λ p. with_lines p (lines_from c.radix_after-radix.result (length now + 1) (lines c.split_line.result.1.now))) all
+          ∙ goes_on,
+    )
 
 pub returns : goal.returns
 returns c =
-    source_done c.loop-rest.lines.items c.loop-rest.radix (length c.loop-rest.lines.items + 1) (lines c.loop-rest.rest.now) _ (lines_of_nothing c.loop-rest.rest.now (eqb-true _ _ (sym c.loop-rest-test.ensures))) c.loop-rest.invariant.3
+    source_done c.loop-rest.lines.items c.loop-rest.radix (length c.loop-rest.lines.items + 1) (lines c.loop-rest.rest.now) _
+    (lines_of_nothing c.loop-rest.rest.now (eqb-true _ _ (sym c.loop-rest-test.ensures))) c.loop-rest.invariant.3
     ∙ ap Ok (sym c.of-2.ensures)

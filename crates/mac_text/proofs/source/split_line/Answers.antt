@@ -19,7 +19,9 @@ pub returns-in-Some-clause-front : goal.returns-in-Some-clause-front
 returns-in-Some-clause-front c = λ p h. subst (λ l. list_all p l ≡ true) (sym c.without_carriage_return.ensures) (front_passes p c.in-Some.i c.args.text.now h)
 
 pub returns-in-Some-clause-back : goal.returns-in-Some-clause-back
-returns-in-Some-clause-back c = λ p h. subst (λ l. list_all p l ≡ true) (sym (take_rest c.args.text.now (c.in-Some.i + 1))) (parts_pass p (c.in-Some.i + 1) c.args.text.now h).1
+returns-in-Some-clause-back c =
+    λ p h. subst (λ l. list_all p l ≡ true) (sym (take_rest c.args.text.now (c.in-Some.i + 1)))
+    (parts_pass p (c.in-Some.i + 1) c.args.text.now h).1
 
 pub returns-in-None-clause-line : goal.returns-in-None-clause-line
 returns-in-None-clause-line c =

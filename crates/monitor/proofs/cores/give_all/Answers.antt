@@ -6,4 +6,5 @@ use Rattle.monitor.proofs.cores.give_all.Goals as goal
 pub returns : goal.returns
 returns g c =
     let all : JOBS + 1 ≡ c.loop-n.n = omega arith in
-    cleared (g.C.CoreStore.meaning c.loop-n.cores) c.args.blocks c.loop-n.invariant.store c.loop-n.invariant.words (λ k low. c.loop-n.invariant.bare k (omega arith))
+    cleared (g.C.CoreStore.meaning c.loop-n.cores) c.args.blocks c.loop-n.invariant.store c.loop-n.invariant.words
+    (λ k low. c.loop-n.invariant.bare k (omega arith))

@@ -14,7 +14,8 @@ loop-n-init c = texts-start (λ n. job_line n (job_view c.args.machine.now.world
 pub loop-n-preserved : goal.loop-n-preserved
 loop-n-preserved c =
     let within : c.loop-n.n < NUMBERS = omega arith in
-    texts-step (λ n. job_line n (job_view c.args.machine.now.world n)) c.loop-n.n c.loop-n.out.items c.push_job_of.new.out.items _ within c.in_ok-push_job_of.ensures c.loop-n.invariant
+    texts-step (λ n. job_line n (job_view c.args.machine.now.world n)) c.loop-n.n c.loop-n.out.items c.push_job_of.new.out.items _
+    within c.in_ok-push_job_of.ensures c.loop-n.invariant
 
 pub returns : goal.returns
 returns c =

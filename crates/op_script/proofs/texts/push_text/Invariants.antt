@@ -4,4 +4,6 @@ use Rattle.op_script.specs.Texts.{printed_character}
 use Rattle.op_script.proofs.texts.push_text.Given as goal
 
 abbrev pub invariant-loop-character : goal.invariant-loop-character
-invariant-loop-character l = l.out.items ++ flat_map printed_character (drop l.character-index l.text) ≡ l.initial.out.items ++ flat_map printed_character l.text
+invariant-loop-character l =
+    l.out.items ++ flat_map printed_character (drop l.character-index l.text)
+    ≡ l.initial.out.items ++ flat_map printed_character l.text

@@ -30,5 +30,7 @@ items-preserved c =
 pub returns-in-Refused : goal.returns-in-Refused
 returns-in-Refused c =
     let w = wanted-not _ _ _ _ _ _ _ c.in-Refused.ensures in
-    let counted = ap (λ n. option_map (refused_with (n + 1) c.in-Refused.why) (locks_of c.take_first.new.items)) (c.len-count.ensures.value ∙ ap length w.same) in
+    let counted =
+    ap (λ n. option_map (refused_with (n + 1) c.in-Refused.why) (locks_of c.take_first.new.items))
+    (c.len-count.ensures.value ∙ ap length w.same) in
     gathers-refused _ _ _ _ _ _ _ _ _ _ _ _ c.items.invariant.gathers c.items.invariant.room w.first.1 w.first.2 w.is (c.refuse-in-Refused.ensures ∙ counted)

@@ -8,7 +8,9 @@ use Rattle.queue_script.proofs.circles.lead_further.Goals as goal
 
 pub loop-job-preserved : goal.loop-job-preserved
 loop-job-preserved c =
-    let want = λ (j : ℕ). pair_in c.args.pairs.now j c.args.target || list_any (λ m. pair_in c.args.pairs.now j m && slice_index_or c.args.reached.now m false) jobs in
+    let want =
+    λ (j : ℕ). pair_in c.args.pairs.now j c.args.target
+    || list_any (λ m. pair_in c.args.pairs.now j m && slice_index_or c.args.reached.now m false) jobs in
     let size = c.loop-job.invariant.size in
     let within : c.loop-job.job < length c.loop-job.further = omega arith in
     record {

@@ -18,7 +18,8 @@ pub returns-then-eq : goal.returns-then-eq
 returns-then-eq c =
     let below : c.loop-steps.steps < JOBS = omega arith in
     let same = same-bools c.lead_further-further.result c.loop-steps.reached (sym c.eq.ensures ∙ c.if-eq.true) in
-    leads-end (pair_in c.args.pairs.now) c.loop-steps.reached c.lead_further-further.result c.loop-steps.steps c.args.target below c.loop-steps.invariant c.lead_further-further.ensures same
+    leads-end (pair_in c.args.pairs.now) c.loop-steps.reached c.lead_further-further.result c.loop-steps.steps c.args.target below
+    c.loop-steps.invariant c.lead_further-further.ensures same
 
 pub returns : goal.returns
 returns c =

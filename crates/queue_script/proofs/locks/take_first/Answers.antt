@@ -7,7 +7,9 @@ use Rattle.queue_script.proofs.locks.take_first.Goals as goal
 pub returns-then-count-text : goal.returns-then-count-text
 returns-then-count-text c =
     takes-plain _ _ _ _ _ _ _ _
-    (rw c.in-Some.ensures (rw c.between_blanks.ensures (rw c.spelled.ensures (alone-end _ _ (λ e. omega arith) c.if-count-text.true c.name_length-count.ensures.named))))
+    (rw c.in-Some.ensures
+    (rw c.between_blanks.ensures
+    (rw c.spelled.ensures (alone-end _ _ (λ e. omega arith) c.if-count-text.true c.name_length-count.ensures.named))))
     c.take_plain.ensures.answer c.take_plain.ensures.items
 
 pub returns-then-text-count-eq32 : goal.returns-then-text-count-eq32

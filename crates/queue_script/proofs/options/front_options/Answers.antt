@@ -11,13 +11,15 @@ pub returns-then-rest-length-eq32 : goal.returns-then-rest-length-eq32
 returns-then-rest-length-eq32 c =
     let within = c.in_ok-option.ensures.within in
     c.loop-option.invariant.goes_on _ _
-    (options-blank _ _ _ _ _ (omega (arith, within, c.if-length-rest.false)) c.if-rest-length-eq32.true c.in_ok-option.ensures.characters c.in_ok-option.ensures.option (sym c.with.ensures ∙ c.in_ok-options.was))
+    (options-blank _ _ _ _ _ (omega (arith, within, c.if-length-rest.false)) c.if-rest-length-eq32.true
+    c.in_ok-option.ensures.characters c.in_ok-option.ensures.option (sym c.with.ensures ∙ c.in_ok-options.was))
 
 pub loop-option-preserved : goal.loop-option-preserved
 loop-option-preserved c =
     let within = c.in_ok-option.ensures.within in record {
       goes_on = λ last others spells.
           c.loop-option.invariant.goes_on _ _
-          (options-slash _ _ _ _ _ _ _ (omega (arith, within, c.if-length-rest.false)) c.if-rest-length-ne47.false c.in_ok-option.ensures.characters c.in_ok-option.ensures.option (sym c.with.ensures ∙ c.in_ok-options.was) spells);
+          (options-slash _ _ _ _ _ _ _ (omega (arith, within, c.if-length-rest.false)) c.if-rest-length-ne47.false
+          c.in_ok-option.ensures.characters c.in_ok-option.ensures.option (sym c.with.ensures ∙ c.in_ok-options.was) spells);
       within = search rules;
     }

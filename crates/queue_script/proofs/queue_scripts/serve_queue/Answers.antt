@@ -11,4 +11,6 @@ returns-in-Err-clause-serves g c = serves_nothing transcript _ _
 pub returns-clause-serves : goal.returns-clause-serves
 unfolding transcript
 returns-clause-serves g c =
-    serves_as _ transcript _ _ _ _ _ (λ bytes. c.new-session.ensures.fresh bytes ∙ c.new-service.ensures 0 (lines bytes) ∙ ap (λ requests. transcript_of MOST_REQUESTS requests 0 (lines bytes)) c.in-Ok.ensures) c.serve_script.ensures.serves
+    serves_as _ transcript _ _ _ _ _
+    (λ bytes. c.new-session.ensures.fresh bytes ∙ c.new-service.ensures 0 (lines bytes)
+    ∙ ap (λ requests. transcript_of MOST_REQUESTS requests 0 (lines bytes)) c.in-Ok.ensures) c.serve_script.ensures.serves

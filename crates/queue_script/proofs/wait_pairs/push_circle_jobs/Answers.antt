@@ -13,7 +13,8 @@ pub loop-job-preserved : goal.loop-job-preserved
 loop-job-preserved c =
     let f = circle_job (pair_in c.args.pairs.now) in
     let within : c.loop-job.job < NUMBERS = omega arith in
-    texts-step f c.loop-job.job c.loop-job.out.items c.push_circle_job.new.out.items (c.args.out.now.items ++ flat_map f jobs) within c.in_ok-push_circle_job.ensures c.loop-job.invariant
+    texts-step f c.loop-job.job c.loop-job.out.items c.push_circle_job.new.out.items (c.args.out.now.items ++ flat_map f jobs)
+    within c.in_ok-push_circle_job.ensures c.loop-job.invariant
 
 pub returns : goal.returns
 returns c =

@@ -16,7 +16,8 @@ loop-job-preserved c =
     let waits = pair_in c.args.pairs.now in
     let lines = λ (j : ℕ). flat_map (pair_line waits j) jobs in
     let within : c.loop-job.job < NUMBERS = omega arith in
-    texts-step lines c.loop-job.job c.loop-job.out.items c.push_pairs_of.new.out.items (c.args.out.now.items ++ flat_map lines jobs) within c.in_ok-push_pairs_of.ensures c.loop-job.invariant
+    texts-step lines c.loop-job.job c.loop-job.out.items c.push_pairs_of.new.out.items
+    (c.args.out.now.items ++ flat_map lines jobs) within c.in_ok-push_pairs_of.ensures c.loop-job.invariant
 
 pub returns : goal.returns
 returns c =

@@ -8,4 +8,5 @@ use Rattle.queue_script.proofs.wait_pairs.push_pairs.Given as goal
 abbrev pub invariant-loop-job : goal.invariant-loop-job
 invariant-loop-job l =
     let waits = pair_in l.pairs in
-    l.out.items ++ flat_map (λ j. flat_map (pair_line waits j) jobs) (numbers_from l.job (NUMBERS - l.job)) ≡ l.initial.out.items ++ flat_map (λ j. flat_map (pair_line waits j) jobs) jobs
+    l.out.items ++ flat_map (λ j. flat_map (pair_line waits j) jobs) (numbers_from l.job (NUMBERS - l.job))
+    ≡ l.initial.out.items ++ flat_map (λ j. flat_map (pair_line waits j) jobs) jobs

@@ -17,7 +17,8 @@ pub loop-other-preserved : goal.loop-other-preserved
 loop-other-preserved c =
     let line = pair_line (pair_in c.args.pairs.now) c.args.job in
     let within : c.loop-other.other < NUMBERS = omega arith in
-    texts-step line c.loop-other.other c.loop-other.out.items c.push_pair.new.out.items (c.args.out.now.items ++ flat_map line jobs) within c.in_ok-push_pair.ensures c.loop-other.invariant
+    texts-step line c.loop-other.other c.loop-other.out.items c.push_pair.new.out.items
+    (c.args.out.now.items ++ flat_map line jobs) within c.in_ok-push_pair.ensures c.loop-other.invariant
 
 pub returns : goal.returns
 returns c =

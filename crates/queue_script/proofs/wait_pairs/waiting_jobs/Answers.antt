@@ -10,5 +10,7 @@ loop-job-preserved g c =
     let within : c.loop-job.job < length c.loop-job.waiting = omega arith in
     record {
       size = length-set c.loop-job.waiting c.loop-job.job c.waiting.result ∙ size;
-      known = set-known c.loop-job.waiting c.loop-job.job c.waiting.result (is_waiting_job (g.L.LockTable.requests c.args.table.now)) within c.loop-job.invariant.known c.waiting.ensures;
+      known =
+          set-known c.loop-job.waiting c.loop-job.job c.waiting.result (is_waiting_job (g.L.LockTable.requests c.args.table.now))
+          within c.loop-job.invariant.known c.waiting.ensures;
     }

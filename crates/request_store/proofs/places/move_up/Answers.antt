@@ -7,7 +7,9 @@ loop-k-init c = record { done = none_moved c.args.list.now c.args.i c.requires; 
 
 pub loop-k-preserved : goal.loop-k-preserved
 loop-k-preserved c = record {
-  done = moved_on c.args.list.now c.loop-k.list c.args.i c.loop-k.k c.loop-k.auto.list c.requires c.loop-k.auto.k c.loop-k-test.true c.loop-k.invariant.done c.loop-k.invariant.rest;
+  done =
+      moved_on c.args.list.now c.loop-k.list c.args.i c.loop-k.k c.loop-k.auto.list c.requires c.loop-k.auto.k c.loop-k-test.true
+      c.loop-k.invariant.done c.loop-k.invariant.rest;
   rest = left_on c.args.list.now c.loop-k.list c.args.i c.loop-k.k c.loop-k.invariant.rest;
 }
 

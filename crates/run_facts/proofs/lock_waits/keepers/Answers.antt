@@ -16,7 +16,8 @@ pub loop-other-preserved : goal.loop-other-preserved
 loop-other-preserved c =
     let f = keeper c.args.is_held c.args.requests.now c.args.job c.args.earlier.now c.args.w.now in
     let within : c.loop-other.other < NUMBERS = omega arith in
-    texts-step f c.loop-other.other c.loop-other.found.items c.push_keeper.new.found.items (flat_map f jobs) within c.in_ok-push_keeper.ensures c.loop-other.invariant
+    texts-step f c.loop-other.other c.loop-other.found.items c.push_keeper.new.found.items (flat_map f jobs) within
+    c.in_ok-push_keeper.ensures c.loop-other.invariant
 
 pub returns : goal.returns
 returns c =

@@ -11,7 +11,8 @@ tries-preserved g c =
     let said : c.read_once-answer.result ≡ Err Interrupted = c.if-not-is_interrupted.ensures.0 refl in
     let Stays : Result ℕ HostFault → Type 0 =
     λ r. ReadConsumes (g.H.ReadOnce.to_come c.tries.host) (g.H.ReadOnce.to_come c.read_once-answer.new.self) r c.read_once-answer.new.piece in
-    let stays : Keeps (g.H.ReadOnce.to_come c.tries.host) (g.H.ReadOnce.to_come c.read_once-answer.new.self) = subst Stays said c.read_once-answer.ensures.bytes in
+    let stays : Keeps (g.H.ReadOnce.to_come c.tries.host) (g.H.ReadOnce.to_come c.read_once-answer.new.self) =
+    subst Stays said c.read_once-answer.ensures.bytes in
     let Answers : Result ℕ HostFault → Type 0 =
     λ r. g.H.ReadOnce.answers c.tries.host r c.read_once-answer.new.piece c.read_once-answer.new.self in
     record {

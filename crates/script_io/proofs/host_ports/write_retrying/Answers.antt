@@ -11,7 +11,8 @@ tries-preserved g c =
     let said : c.write_once-answer.result ≡ Err Interrupted = c.if-not-is_interrupted.ensures.0 refl in
     let Stays : Result ℕ HostFault → Type 0 =
     λ r. WriteAppends (g.H.WriteOnce.written c.tries.host) (g.H.WriteOnce.written c.write_once-answer.new.self) r c.args.piece.now in
-    let stays : Keeps (g.H.WriteOnce.written c.tries.host) (g.H.WriteOnce.written c.write_once-answer.new.self) = subst Stays said c.write_once-answer.ensures.bytes in
+    let stays : Keeps (g.H.WriteOnce.written c.tries.host) (g.H.WriteOnce.written c.write_once-answer.new.self) =
+    subst Stays said c.write_once-answer.ensures.bytes in
     let Answers : Result ℕ HostFault → Type 0 = λ r. g.H.WriteOnce.answers c.tries.host c.args.piece.now r c.write_once-answer.new.self in
     record {
       kept = Keeps-trans _ _ _ c.tries.invariant.kept stays;

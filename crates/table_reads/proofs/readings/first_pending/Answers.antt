@@ -6,5 +6,6 @@ use Rattle.table_reads.proofs.readings.first_pending.Goals as goal
 pub is_pending_at-requires : goal.is_pending_at-requires
 is_pending_at-requires g c = (
   lit< tt,
-  place_kept (λ p. (filed_at c.args.store.now p).request.job == c.args.job) c.args.store.now.order c.own_places-p-items.result.now c.loop-p.p-index c.own_places-p-items.ensures (omega arith),
+  place_kept (λ p. (filed_at c.args.store.now p).request.job == c.args.job) c.args.store.now.order c.own_places-p-items.result.now
+      c.loop-p.p-index c.own_places-p-items.ensures (omega arith),
 )

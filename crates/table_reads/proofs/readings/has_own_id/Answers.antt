@@ -6,5 +6,6 @@ use Rattle.table_reads.proofs.readings.has_own_id.Goals as goal
 pub get-requires : goal.get-requires
 get-requires g c = (
   lit< tt,
-  place_kept (λ p. (filed_at c.args.store.now p).request.job == c.args.job) c.args.store.now.order c.own_places-p-items.result.now c.loop-p.p-index c.own_places-p-items.ensures (omega arith),
+  place_kept (λ p. (filed_at c.args.store.now p).request.job == c.args.job) c.args.store.now.order c.own_places-p-items.result.now
+      c.loop-p.p-index c.own_places-p-items.ensures (omega arith),
 )

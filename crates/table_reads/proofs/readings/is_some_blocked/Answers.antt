@@ -6,5 +6,9 @@ use Rattle.table_reads.proofs.readings.is_some_blocked.Goals as goal
 pub is_blocked_from-requires : goal.is_blocked_from-requires
 is_blocked_from-requires g c = (
   lit< tt,
-  (c.requires.table, place_kept (λ p. (filed_at c.args.store.now p).request.job == c.args.job) c.args.store.now.order c.own_places-p-items.result.now c.loop-p.p-index c.own_places-p-items.ensures (omega arith)),
+  (
+    c.requires.table,
+    place_kept (λ p. (filed_at c.args.store.now p).request.job == c.args.job) c.args.store.now.order
+        c.own_places-p-items.result.now c.loop-p.p-index c.own_places-p-items.ensures (omega arith),
+  ),
 )

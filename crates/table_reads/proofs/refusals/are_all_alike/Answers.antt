@@ -12,7 +12,8 @@ are_alike_at-requires g c =
     let s = c.args.store.now in
     let key = c.args.w.now.key in (
       lit< tt,
-      subst (All (λ p. is_there p s.order ≡ true)) (sym c.first_of.ensures) (first_present (λ p. names (request_at s p).wants.items key) s.order c.args.places.now c.requires.places),
+      subst (All (λ p. is_there p s.order ≡ true)) (sym c.first_of.ensures)
+          (first_present (λ p. names (request_at s p).wants.items key) s.order c.args.places.now c.requires.places),
     )
 
 pub returns : goal.returns

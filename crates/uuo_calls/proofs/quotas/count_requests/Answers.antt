@@ -10,11 +10,17 @@ loop-i-preserved g c =
     let r = c.request.result.now in
     elim c.if-from-number.branch [
       | then-from-number w ↦ record {
-        value = rw w.count-is (counted-own requests c.loop-i.i c.args.number c.loop-i.count r (count requests c.args.number) c.request.ensures (sym c.from.ensures ∙ w.if-from-number.true) c.loop-i.invariant.value);
+        value =
+            rw w.count-is
+            (counted-own requests c.loop-i.i c.args.number c.loop-i.count r (count requests c.args.number) c.request.ensures
+            (sym c.from.ensures ∙ w.if-from-number.true) c.loop-i.invariant.value);
         few = omega (arith, w.count-is, c.loop-i.invariant.few);
       }
       | else-from-number w ↦ record {
-        value = rw w.count-is (counted-other requests c.loop-i.i c.args.number c.loop-i.count r (count requests c.args.number) c.request.ensures (λ e. w.if-from-number.false (c.from.ensures ∙ e)) c.loop-i.invariant.value);
+        value =
+            rw w.count-is
+            (counted-other requests c.loop-i.i c.args.number c.loop-i.count r (count requests c.args.number) c.request.ensures
+            (λ e. w.if-from-number.false (c.from.ensures ∙ e)) c.loop-i.invariant.value);
         few = omega (arith, w.count-is, c.loop-i.invariant.few);
       }
     ]

@@ -6,8 +6,13 @@ use Rattle.word36.proofs.octal.octal_text.Goals as goal
 pub loop-rest-preserved : goal.loop-rest-preserved
 loop-rest-preserved c =
     let l = c.loop-rest in
-    let room = below_more_digits l.first l.rest l.invariant.1 l.invariant.3 c.if-rest-eq0.false in
-    (grind (arith, common_steps), room.0, omega arith, room.1, within_more l.first l.rest l.digits l.invariant.1 (omega arith) c.if-rest-eq0.false ∙ l.invariant.4)
+    let room = below_more_digits l.first l.rest l.invariant.1 l.invariant.3 c.if-rest-eq0.false in (
+      grind (arith, common_steps),
+      room.0,
+      omega arith,
+      room.1,
+      within_more l.first l.rest l.digits l.invariant.1 (omega arith) c.if-rest-eq0.false ∙ l.invariant.4,
+    )
 
 pub text_of-requires : goal.text_of-requires
 text_of-requires c =

@@ -10,7 +10,8 @@ returns-clause-core c =
     let s = c.args.self.now in
     let jobs = s.laid_out.jobs in
     let there : c.args.job < length s.areas = omega arith in
-    let had : length (core_of (meant s) c.args.job) ≡ (area_of s.areas c.args.job).blocks * 1024 = length-core s.words.items s.areas c.args.job s.laid_out.laid_out there in
+    let had : length (core_of (meant s) c.args.job) ≡ (area_of s.areas c.args.job).blocks * 1024 =
+    length-core s.words.items s.areas c.args.job s.laid_out.laid_out there in
     let blocks : (area_of s.areas c.args.job).blocks ≡ blocks_of (meant s) c.args.job = omega arith in
     rw (given-cores s.words.items s.areas c.args.job there, blocks) refl
 

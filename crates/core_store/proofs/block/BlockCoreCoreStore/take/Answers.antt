@@ -14,5 +14,6 @@ place-requires-clause-none c =
     let s = c.args.self.now in
     let jobs = s.laid_out.jobs in
     let there : c.args.job < length s.areas = omega arith in
-    let long : (area_of s.areas c.args.job).blocks * 1024 ≡ 0 = sym (length-core s.words.items s.areas c.args.job s.laid_out.laid_out there) ∙ ap length c.requires.none_yet in
+    let long : (area_of s.areas c.args.job).blocks * 1024 ≡ 0 =
+    sym (length-core s.words.items s.areas c.args.job s.laid_out.laid_out there) ∙ ap length c.requires.none_yet in
     omega arith

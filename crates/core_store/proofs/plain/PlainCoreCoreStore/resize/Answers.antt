@@ -6,7 +6,9 @@ use Rattle.core_store.proofs.plain.PlainCoreCoreStore.resize.Goals as goal
 
 pub returns-clause-ok : goal.returns-clause-ok
 returns-clause-ok c =
-    let had : core_of c.args.self.now c.args.job ≡ c.index_mut.result.now.items = rw (← c.self.view_is) (viewed c.self.inside.cores.items c.args.job c.index_mut.result.now (omega arith) c.index_mut.ensures.value) in
+    let had : core_of c.args.self.now c.args.job ≡ c.index_mut.result.now.items =
+    rw (← c.self.view_is)
+    (viewed c.self.inside.cores.items c.args.job c.index_mut.result.now (omega arith) c.index_mut.ensures.value) in
     let grown : c.fill.new.words.items ≡ resized_words (core_of c.args.self.now c.args.job) c.args.blocks = rw had c.fill.ensures.words in
     rw (← grown, ← c.blocks-had.ensures.value) (rw (← c.self.view_is) (rw map-set refl))
 

@@ -6,9 +6,12 @@ use Rattle.core_store.proofs.plain.PlainCoreCoreStore.take.Goals as goal
 
 pub returns-clause-ok : goal.returns-clause-ok
 returns-clause-ok c =
-    let had : core_of c.args.self.now c.args.job ≡ c.index_mut.result.now.items = rw (← c.self.view_is) (viewed c.self.inside.cores.items c.args.job c.index_mut.result.now (omega arith) c.index_mut.ensures.value) in
+    let had : core_of c.args.self.now c.args.job ≡ c.index_mut.result.now.items =
+    rw (← c.self.view_is)
+    (viewed c.self.inside.cores.items c.args.job c.index_mut.result.now (omega arith) c.index_mut.ensures.value) in
     let none : c.index_mut.result.now.items ≡ [] = sym had ∙ c.requires.none_yet in
-    let grown : c.fill.new.words.items ≡ replicate (c.args.blocks * 1024) 0 = c.fill.ensures.words ∙ ap (λ words. resized_words words c.args.blocks) none ∙ resized_words-none c.args.blocks in
+    let grown : c.fill.new.words.items ≡ replicate (c.args.blocks * 1024) 0 =
+    c.fill.ensures.words ∙ ap (λ words. resized_words words c.args.blocks) none ∙ resized_words-none c.args.blocks in
     rw (← c.self.view_is) (rw (map-set, grown) refl)
 
 pub returns-then-blocks-self-clause-store : goal.returns-then-blocks-self-clause-store

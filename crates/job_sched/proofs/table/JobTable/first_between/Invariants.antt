@@ -4,4 +4,5 @@ use Rattle.job_sched.proofs.table.JobTable.first_between.Given as goal
 
 abbrev pub invariant-loop-number : goal.invariant-loop-number
 invariant-loop-number g l =
-    first_from (is_ready l.self.jobs l.lines (g.L.LockTable.requests l.locks)) (l.to - l.number) l.number ≡ first_from (is_ready l.self.jobs l.lines (g.L.LockTable.requests l.locks)) (l.to - l.from) l.from
+    first_from (is_ready l.self.jobs l.lines (g.L.LockTable.requests l.locks)) (l.to - l.number) l.number
+    ≡ first_from (is_ready l.self.jobs l.lines (g.L.LockTable.requests l.locks)) (l.to - l.from) l.from

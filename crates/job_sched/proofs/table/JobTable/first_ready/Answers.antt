@@ -9,7 +9,9 @@ use Rattle.job_sched.proofs.Circle.{circle, or_else, or-found, or-other}
 use Rattle.job_sched.proofs.table.JobTable.first_ready.Goals as goal
 
 -- nobody is ready at a number where no job is
-all-asked : (jobs : List (Option Job)) (lines : List Rings) (requests : List Request) (sleepers : Bool) (end from : ℕ) → IsTable jobs sleepers end → 1 ≤ from → from ≤ JOBS
+all-asked : (jobs : List (Option Job)) (lines : List Rings) (requests : List Request) (sleepers : Bool) (end from : ℕ)
+    → IsTable jobs sleepers end → 1 ≤ from
+    → from ≤ JOBS
     → first_from (is_ready jobs lines requests) JOBS from
     ≡ or_else (first_from (is_ready jobs lines requests) (end - from) from) (first_from (is_ready jobs lines requests) (min from end - 1) 1)
 all-asked jobs lines requests sleepers end from h some most =
@@ -17,13 +19,20 @@ all-asked jobs lines requests sleepers end from h some most =
 
 pub returns-in-Some : goal.returns-in-Some
 returns-in-Some g c =
-    let e = all-asked c.self.inside.jobs c.args.lines.now (g.L.LockTable.requests c.args.locks.now) c.self.inside.sleepers c.self.inside.vacant_from c.args.from c.self.invariant c.requires.least c.requires.most in
-    let f = or-found _ (first_from (is_ready c.self.inside.jobs c.args.lines.now (g.L.LockTable.requests c.args.locks.now)) (min c.args.from c.self.inside.vacant_from - 1) 1) c.in-Some.number (sym c.in-Some.is ∙ c.first_between.ensures) in
+    let e =
+    all-asked c.self.inside.jobs c.args.lines.now (g.L.LockTable.requests c.args.locks.now) c.self.inside.sleepers
+    c.self.inside.vacant_from c.args.from c.self.invariant c.requires.least c.requires.most in
+    let f =
+    or-found _
+    (first_from (is_ready c.self.inside.jobs c.args.lines.now (g.L.LockTable.requests c.args.locks.now))
+    (min c.args.from c.self.inside.vacant_from - 1) 1) c.in-Some.number (sym c.in-Some.is ∙ c.first_between.ensures) in
     rw (← c.self.view_is) (rw (← c.self.view_is) at f ∙ sym e)
 
 pub returns-in-None : goal.returns-in-None
 returns-in-None g c =
-    let e = all-asked c.self.inside.jobs c.args.lines.now (g.L.LockTable.requests c.args.locks.now) c.self.inside.sleepers c.self.inside.vacant_from c.args.from c.self.invariant c.requires.least c.requires.most in
+    let e =
+    all-asked c.self.inside.jobs c.args.lines.now (g.L.LockTable.requests c.args.locks.now) c.self.inside.sleepers
+    c.self.inside.vacant_from c.args.from c.self.invariant c.requires.least c.requires.most in
     let none = sym c.in-None.is ∙ c.first_between.ensures in
     let rest = c.first_between-in-None.ensures in
     rw (← c.self.view_is)

@@ -12,9 +12,12 @@ returns-then-is_ready_slot g c =
     let lines = c.args.lines.now in
     let requests = g.L.LockTable.requests c.args.locks.now in
     let n = c.first_behind-first.result in
-    let fails : (m : ℕ) → c.self.inside.vacant_from ≤ m → is_ready jobs lines requests m ≡ false = λ m high. ap (λ (o : Option Job). is_ready_job lines requests m o) (c.self.invariant.vacant m high) in
+    let fails : (m : ℕ) → c.self.inside.vacant_from ≤ m → is_ready jobs lines requests m ≡ false =
+    λ m high. ap (λ (o : Option Job). is_ready_job lines requests m o) (c.self.invariant.vacant m high) in
     let low : n < length jobs = omega (arith, c.first_behind-first.ensures.most, c.self.invariant.places) in
     let there = none-at jobs n c.index-self-first.result low in
-    let passes : is_ready jobs lines requests n ≡ true = ap (λ (o : Option Job). is_ready_job lines requests n o) (sym there) ∙ sym c.is_ready_slot.ensures ∙ c.if-is_ready_slot.true in
+    let passes : is_ready jobs lines requests n ≡ true =
+    ap (λ (o : Option Job). is_ready_job lines requests n o) (sym there) ∙ sym c.is_ready_slot.ensures
+    ∙ c.if-is_ready_slot.true in
     let found = sym (found-first (is_ready jobs lines requests) n passes) ∙ c.first_behind-first.ensures.found (is_ready jobs lines requests) fails in
     grind (arith, common_steps, found, c.self.view_is)

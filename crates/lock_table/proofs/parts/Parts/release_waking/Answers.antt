@@ -13,7 +13,8 @@ returns-clause-requests g c =
 pub returns-clause-woken : goal.returns-clause-woken
 returns-clause-woken g c =
     c.fill_woken.ensures
-    ∙ woken_released c.self.inside.store c.release.new.store c.self.inside.locks.items c.release.new.locks c.args.job c.clear.new.self c.release.new.turns c.self.invariant.whole.table
+    ∙ woken_released c.self.inside.store c.release.new.store c.self.inside.locks.items c.release.new.locks c.args.job
+    c.clear.new.self c.release.new.turns c.self.invariant.whole.table
     c.release.ensures.whole.table c.release.ensures.left c.clear.ensures c.release.ensures.turns
     ∙ ap (λ (l : List Request). woken_by_release l c.args.job) c.self.view_is
 

@@ -11,6 +11,10 @@ status_of-requires g c = (
   lit< tt,
   (
     subst (λ (l : List Lock). IsTable (state_of c.self.inside.store l)) (sym c.as_slice.ensures.value) c.self.invariant.whole.table,
-    (subst (λ (l : List Lock). IsIndex c.self.inside.keys.buckets.items l) (sym c.as_slice.ensures.value) c.self.invariant.whole.index, marks_grants c.self.inside.store c.self.inside.locks.items c.self.invariant.whole.table),
+    (
+      subst (λ (l : List Lock). IsIndex c.self.inside.keys.buckets.items l) (sym c.as_slice.ensures.value)
+          c.self.invariant.whole.index,
+      marks_grants c.self.inside.store c.self.inside.locks.items c.self.invariant.whole.table,
+    ),
   ),
 )

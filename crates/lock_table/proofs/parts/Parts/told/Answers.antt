@@ -19,7 +19,8 @@ returns-clause-requests g c =
 
 pub returns-clause-few : goal.returns-clause-few
 returns-clause-few g c =
-    few_requests c.tell.new.store g.row.REQS (c.tell.ensures.whole g.row.REQS c.self.inside.locks.items c.self.inside.keys.buckets.items c.self.invariant.whole).few
+    few_requests c.tell.new.store g.row.REQS
+    (c.tell.ensures.whole g.row.REQS c.self.inside.locks.items c.self.inside.keys.buckets.items c.self.invariant.whole).few
 
 pub returns-clause-well : goal.returns-clause-well
 returns-clause-well g c =

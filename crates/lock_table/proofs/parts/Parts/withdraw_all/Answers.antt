@@ -8,7 +8,8 @@ use Rattle.lock_table.proofs.parts.Parts.withdraw_all.Goals as goal
 
 pub returns-clause-requests : goal.returns-clause-requests
 returns-clause-requests g c =
-    withdrawn_is c.self.inside.store c.withdraw_all.new.store (is_among c.args.jobs) (marks_grants c.self.inside.store c.self.inside.locks.items c.self.invariant.whole.table) c.withdraw_all.ensures.left
+    withdrawn_is c.self.inside.store c.withdraw_all.new.store (is_among c.args.jobs)
+    (marks_grants c.self.inside.store c.self.inside.locks.items c.self.invariant.whole.table) c.withdraw_all.ensures.left
     ∙ ap (λ (l : List Request). withdrawn_all l c.args.jobs) c.self.view_is
 
 pub returns-clause-well : goal.returns-clause-well

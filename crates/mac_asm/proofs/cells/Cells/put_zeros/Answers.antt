@@ -6,7 +6,11 @@ use Rattle.mac_asm.proofs.CellLemmas.{zeros_begin, zeros_more, zeros_done}
 use Rattle.mac_asm.proofs.cells.Cells.put_zeros.Goals as goal
 
 pub loop-at-init : goal.loop-at-init
-loop-at-init c = (sym c.len-len.ensures.cells, zeros_begin c.args.self.now c.args.place.now c.clamped-first.result c.args.count.now _ c.clamped-first.ensures c.len-len.ensures.cells)
+loop-at-init c = (
+  sym c.len-len.ensures.cells,
+  zeros_begin c.args.self.now c.args.place.now c.clamped-first.result c.args.count.now _ c.clamped-first.ensures
+      c.len-len.ensures.cells,
+)
 
 pub loop-at-preserved : goal.loop-at-preserved
 loop-at-preserved c =
@@ -19,5 +23,7 @@ loop-at-preserved c =
 
 pub returns : goal.returns
 returns c =
-    sym (zeros_done c.loop-at.self c.clamped-first.result c.args.count.now c.loop-at.at c.len-len.result (omega (arith, c.clamped.ensures)) (omega (arith, c.clamped-first.ensures)) (sym c.loop-at.invariant.0))
+    sym
+    (zeros_done c.loop-at.self c.clamped-first.result c.args.count.now c.loop-at.at c.len-len.result
+    (omega (arith, c.clamped.ensures)) (omega (arith, c.clamped-first.ensures)) (sym c.loop-at.invariant.0))
     ∙ c.loop-at.invariant.1

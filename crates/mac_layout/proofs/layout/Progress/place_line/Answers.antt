@@ -7,10 +7,13 @@ use Rattle.mac_layout.proofs.layout.Progress.place_line.Goals as goal
 pub returns-then-not-branch : goal.returns-then-not-branch
 returns-then-not-branch c =
     line_twice c.args.self.now c.place_labels.new.self c.place_labels.new.self c.args.line.now
-    (subst (λ new. (s : Layout) → StandsFor c.args.self.now s → Defines new s c.args.line.now c.place_labels.new.self) c.if-not-branch.true c.in_ok-place_labels.ensures)
+    (subst (λ new. (s : Layout) → StandsFor c.args.self.now s → Defines new s c.args.line.now c.place_labels.new.self)
+    c.if-not-branch.true c.in_ok-place_labels.ensures)
 
 pub returns : goal.returns
 returns c =
-    line_lays c.args.self.now c.place_labels.new.self c.place_statement.new.self c.args.line.now c.labels_code-code.result c.in_ok-place_statement.field-0 c.least.result c.labels_code-code.ensures
-    (subst (λ new. (s : Layout) → StandsFor c.args.self.now s → Defines new s c.args.line.now c.place_labels.new.self) c.if-not-branch.false c.in_ok-place_labels.ensures)
+    line_lays c.args.self.now c.place_labels.new.self c.place_statement.new.self c.args.line.now c.labels_code-code.result
+    c.in_ok-place_statement.field-0 c.least.result c.labels_code-code.ensures
+    (subst (λ new. (s : Layout) → StandsFor c.args.self.now s → Defines new s c.args.line.now c.place_labels.new.self)
+    c.if-not-branch.false c.in_ok-place_labels.ensures)
     c.in_ok-place_statement.ensures c.least.ensures

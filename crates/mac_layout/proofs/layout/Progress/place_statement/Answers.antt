@@ -10,7 +10,8 @@ returns-in_default c = lays_nothing c.args.self.now c.args.statement.now c.in_de
 pub returns-in_ok-size-in-Data : goal.returns-in_ok-size-in-Data
 returns-in_ok-size-in-Data c =
     if_ok_more _ _
-    (λ code. lays_data c.args.self.now c.put.new.self c.args.statement.now _ c.in_ok-size-in-Data.size code (c.in-Some.is ∙ ap Some c.in-Data.is) c.in_ok-size-in-Data.ensures)
+    (λ code. lays_data c.args.self.now c.put.new.self c.args.statement.now _ c.in_ok-size-in-Data.size code
+    (c.in-Some.is ∙ ap Some c.in-Data.is) c.in_ok-size-in-Data.ensures)
     c.put.result c.put.ensures
 
 pub returns-in-Err : goal.returns-in-Err

@@ -8,24 +8,28 @@ use Rattle.monitor.proofs.parts.Parts.run_next.Goals as goal
 
 pub span-span-requires-clause-number : goal.span-span-requires-clause-number
 span-span-requires-clause-number g c =
-    let e : next_job c.args.self.now.world.table c.args.self.now.world.lines c.args.self.now.world.requests ≡ Some c.in-Some.n = rw (← c.self.view_is) (sym c.next.ensures ∙ c.in-Some.is) in
+    let e : next_job c.args.self.now.world.table c.args.self.now.world.lines c.args.self.now.world.requests ≡ Some c.in-Some.n =
+    rw (← c.self.view_is) (sym c.next.ensures ∙ c.in-Some.is) in
     (runs-next c.args.self.now c.in-Some.n c.requires.safe e).number.1
 
 pub run_job_for-made-requires-clause-number : goal.run_job_for-made-requires-clause-number
 run_job_for-made-requires-clause-number g c =
-    let e : next_job c.args.self.now.world.table c.args.self.now.world.lines c.args.self.now.world.requests ≡ Some c.in-Some.n = rw (← c.self.view_is) (sym c.next.ensures ∙ c.in-Some.is) in
+    let e : next_job c.args.self.now.world.table c.args.self.now.world.lines c.args.self.now.world.requests ≡ Some c.in-Some.n =
+    rw (← c.self.view_is) (sym c.next.ensures ∙ c.in-Some.is) in
     (runs-next c.args.self.now c.in-Some.n c.requires.safe e).number
 
 pub run_job_for-made-requires-clause-there : goal.run_job_for-made-requires-clause-there
 run_job_for-made-requires-clause-there g c =
-    let e : next_job c.args.self.now.world.table c.args.self.now.world.lines c.args.self.now.world.requests ≡ Some c.in-Some.n = rw (← c.self.view_is) (sym c.next.ensures ∙ c.in-Some.is) in
+    let e : next_job c.args.self.now.world.table c.args.self.now.world.lines c.args.self.now.world.requests ≡ Some c.in-Some.n =
+    rw (← c.self.view_is) (sym c.next.ensures ∙ c.in-Some.is) in
     let r : Runs c.args.self.now c.in-Some.n = runs-next c.args.self.now c.in-Some.n c.requires.safe e in
     let there = rw (← c.self.view_is) at r.chosen in
     rw c.choose.ensures there
 
 pub run_job_for-made-requires-clause-core : goal.run_job_for-made-requires-clause-core
 run_job_for-made-requires-clause-core g c =
-    let e : next_job c.args.self.now.world.table c.args.self.now.world.lines c.args.self.now.world.requests ≡ Some c.in-Some.n = rw (← c.self.view_is) (sym c.next.ensures ∙ c.in-Some.is) in
+    let e : next_job c.args.self.now.world.table c.args.self.now.world.lines c.args.self.now.world.requests ≡ Some c.in-Some.n =
+    rw (← c.self.view_is) (sym c.next.ensures ∙ c.in-Some.is) in
     let r : Runs c.args.self.now c.in-Some.n = runs-next c.args.self.now c.in-Some.n c.requires.safe e in
     rw (← c.self.view_is) at r.core
 
@@ -48,7 +52,9 @@ returns g c =
     let safe : Safe s = rw (← c.self.view_is) at c.requires.safe in
     let alone = rw (c.choose.ensures, c.is_alone-alone.ensures) at c.span-span.ensures.undisturbed in
     let is = rw c.choose.ensures at c.run_job_for-made.ensures in
-    let x = rounds-made s c.in-Some.n c.span-span.result c.args.ticking _ _ c.run_job_for-made.result safe (sym c.next.ensures ∙ c.in-Some.is) c.span-span.ensures.least alone is in
+    let x =
+    rounds-made s c.in-Some.n c.span-span.result c.args.ticking _ _ c.run_job_for-made.result safe
+    (sym c.next.ensures ∙ c.in-Some.is) c.span-span.ensures.least alone is in
     record {
       state = rw (← c.self.view_is) x.state;
       job = rw (← c.self.view_is) (sym c.in-Some.is ∙ c.next.ensures);

@@ -14,7 +14,8 @@ pub returns-else-ended-ne0 : goal.returns-else-ended-ne0
 returns-else-ended-ne0 g c =
     let requests : List Request = g.L.LockTable.requests c.self.inside.locks in
     let jobs = (ticked_table c.self.inside.table).jobs in
-    let none : (n : ℕ) → expires requests jobs n ≡ false = λ n. sym (c.pass_tick-ended.ensures.ended n) ∙ ap (λ (k : ℕ). is_among k n) c.if-ended-ne0.false ∙ nobody n in
+    let none : (n : ℕ) → expires requests jobs n ≡ false =
+    λ n. sym (c.pass_tick-ended.ensures.ended n) ∙ ap (λ (k : ℕ). is_among k n) c.if-ended-ne0.false ∙ nobody n in
     let same : withdrawn_where requests (expires requests jobs) ≡ requests = withdrawn-none requests (expires requests jobs) none in
     let state : Table → ℕ → List Request → S = λ t time l. record {
       world = record {

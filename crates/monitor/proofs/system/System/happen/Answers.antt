@@ -21,7 +21,9 @@ pub returns-in-Tick-clause-sound : goal.returns-in-Tick-clause-sound
 returns-in-Tick-clause-sound g c = rw (← c.self.view_is) (c.self.invariant, rw c.tick.ensures (sound_is_kept _ Tick c.self.invariant))
 
 pub returns-in-Typed-clause-sound : goal.returns-in-Typed-clause-sound
-returns-in-Typed-clause-sound g c = rw (← c.self.view_is) (c.self.invariant, rw c.typed.ensures.state (sound_is_kept _ (Typed c.in-Typed.line c.in-Typed.character) c.self.invariant))
+returns-in-Typed-clause-sound g c =
+    rw (← c.self.view_is)
+    (c.self.invariant, rw c.typed.ensures.state (sound_is_kept _ (Typed c.in-Typed.line c.in-Typed.character) c.self.invariant))
 
 pub returns-in_default-clause-sound : goal.returns-in_default-clause-sound
 returns-in_default-clause-sound g c = rw (← c.self.view_is) (c.self.invariant, rw c.event.ensures.state (sound_is_kept _ c.args.event.now c.self.invariant))

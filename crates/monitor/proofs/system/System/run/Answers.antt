@@ -44,4 +44,6 @@ pub returns-clause-levels : goal.returns-clause-levels
 returns-clause-levels g c = rw (← c.self.view_is) (is_granted_by_levels _ c.args.events.now c.self.invariant.safe c.self.invariant.time c.self.invariant.well)
 
 pub returns-clause-one_request : goal.returns-clause-one_request
-returns-clause-one_request g c = rw (← c.self.view_is) (is_granted_by_one_request _ c.args.events.now c.self.invariant.safe c.self.invariant.time c.self.invariant.well)
+returns-clause-one_request g c =
+    rw (← c.self.view_is)
+    (is_granted_by_one_request _ c.args.events.now c.self.invariant.safe c.self.invariant.time c.self.invariant.well)

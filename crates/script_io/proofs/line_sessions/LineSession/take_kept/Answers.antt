@@ -6,4 +6,6 @@ use Rattle.script_io.proofs.line_sessions.LineSession.take_kept.Goals as goal
 pub returns-clause-follows : goal.returns-clause-follows
 returns-clause-follows g c =
     let s = c.args.self.now in
-    λ more. line_ended (g.S.LineService.follow_lines s.service) (g.S.LineService.follow_lines c.take_line.new.self) _ _ _ _ _ more _ _ _ _ s.line.no_newline c.requires.goes_on refl (c.without_return-line.ensures ∙ ap strip_carriage_return c.as_slice.ensures.value) c.clear.ensures c.in-Ok.ensures
+    λ more. line_ended (g.S.LineService.follow_lines s.service) (g.S.LineService.follow_lines c.take_line.new.self) _ _ _ _ _ more
+    _ _ _ _ s.line.no_newline c.requires.goes_on refl
+    (c.without_return-line.ensures ∙ ap strip_carriage_return c.as_slice.ensures.value) c.clear.ensures c.in-Ok.ensures
