@@ -151,9 +151,6 @@ pub told-least : (a b c d : Bool) (code : AsmCode) → told a b c d ≡ Some cod
 told-least a b c d code h = least-at b c d code a h
 
 -- and the least is told
-no-so : {A : Type 0} → true ≡ false → A
-no-so h = absurd (cc)
-
 false-so : {A : Type 0} → false ≡ true → A
 false-so h = absurd (cc)
 

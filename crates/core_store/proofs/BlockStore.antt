@@ -11,7 +11,7 @@ use Rattle.core_store.specs.declared.areas.Area.{Area}
 use Rattle.core_store.specs.Cores.{IsWhole, IsStore}
 use Rattle.core_store.specs.Layout.{area_of, area_words, blocks_in, cores_in, no_area, IsBlockCore, IsLaidOut}
 use Rattle.core_store.specs.AreaWords.{core-at, cores-set, length-part}
-use Rattle.core_store.proofs.AreaLemmas.{area-other, area-set, IsLaidOut-set, sum-set}
+use Rattle.core_store.proofs.AreaLemmas.{area-other, area-set}
 use Rattle.core_store.proofs.Sums.{sum-same}
 
 length-words : (words : List ℕ) (areas : List Area) (k : ℕ) → IsLaidOut (length words) areas → k < length areas
@@ -91,39 +91,12 @@ IsBlockCore-new size blocks whole most =
       shared = zero-add blocks;
     }
 
--- a job goes
-pub IsBlockCore-given : (size : ℕ) (areas : List Area) (blocks free job : ℕ) → job < length areas → IsBlockCore size areas blocks free
-    → IsBlockCore size (slice_set areas job no_area) blocks (free + (area_of areas job).blocks)
-IsBlockCore-given size areas blocks free job there h =
-    let sum : blocks_in (slice_set areas job no_area) + (area_of areas job).blocks ≡ blocks_in areas + 0 = sum-set areas job no_area there in
-    let shared = h.shared in
-    record {
-      jobs = length-set areas job no_area ∙ h.jobs;
-      whole = h.whole;
-      most = h.most;
-      laid_out = IsLaidOut-set size areas job no_area h.laid_out there (omega arith) (λ e. refl) (λ k l ne lt. absurd (omega arith));
-      shared = omega arith;
-    }
-
 pub given-cores : (words : List ℕ) (areas : List Area) (job : ℕ) → job < length areas
     → cores_in words (slice_set areas job no_area) ≡ slice_set (cores_in words areas) job []
 given-cores words areas job there =
     cores-set words words areas (slice_set areas job no_area) job [] (length-set areas job no_area) there
     (λ k l ne. ap (area_words words) (area-other areas job k no_area ne))
     (ap (area_words words) (area-set areas job no_area there))
-
--- a job has other blocks
-pub IsBlockCore-set : (size : ℕ) (areas set : List Area) (blocks free left : ℕ) → length set ≡ length areas
-    → IsBlockCore size areas blocks free
-    → IsLaidOut size set
-    → blocks_in set + left ≡ blocks → IsBlockCore size set blocks left
-IsBlockCore-set size areas set blocks free left e h laid shared = record {
-  jobs = e ∙ h.jobs;
-  whole = h.whole;
-  most = h.most;
-  laid_out = laid;
-  shared = shared;
-}
 
 -- the proof that a layout is kept does not tell two memories apart
 pub same-store : (words : Vec ℕ Global) (areas : List Area) (blocks free : ℕ) (p q : IsBlockCore (length words.items) areas blocks free)

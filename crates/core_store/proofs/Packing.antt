@@ -22,13 +22,6 @@ pub record ArePacked (block packed : ℕ) (areas : List Area) : Type 0 where
   pub done : (k : ℕ) → k < length areas → (area_of areas k).base < block → (area_of areas k).base + (area_of areas k).blocks ≤ packed
   pub rest : (k : ℕ) → k < length areas → block ≤ (area_of areas k).base → 1 ≤ (area_of areas k).blocks → packed ≤ (area_of areas k).base
 
--- at the start nothing is packed
-pub ArePacked-start : (areas : List Area) → ArePacked 0 0 areas
-ArePacked-start areas = record {
-  done = λ k l lt. absurd (omega arith);
-  rest = λ k l le some. omega arith;
-}
-
 -- no other job begins where one does
 alone : (size : ℕ) (areas : List Area) (job k block : ℕ) → IsLaidOut size areas → job < length areas → k < length areas → k ≢ job
     → (area_of areas job).base ≡ block → 1 ≤ (area_of areas job).blocks → (area_of areas k).base ≡ block → (area_of areas k).blocks ≡ 0
@@ -120,9 +113,6 @@ steady block a none = elim (cases_lt a.base block) [
   ]
 ]
 
-pub blocks_from-start : (areas : List Area) → blocks_from 0 areas ≡ blocks_in areas
-blocks_from-start areas = sum-same (λ a. a.blocks) (blocks_if 0) areas areas refl (λ k l. counts 0 (area_of areas k) (omega arith))
-
 pub blocks_from-skip : (areas : List Area) (block : ℕ) → ((k : ℕ) → k < length areas → (area_of areas k).base ≡ block → (area_of areas k).blocks ≡ 0)
     → blocks_from (block + 1) areas ≡ blocks_from block areas
 blocks_from-skip areas block none = sum-same (blocks_if block) (blocks_if (block + 1)) areas areas refl (λ k l. steady block (area_of areas k) (none k l))
@@ -164,16 +154,3 @@ blocks_from-end size all areas h e =
       | inr q ↦ (let zero : (area_of areas k).blocks ≡ 0 = omega arith in counts all (area_of areas k) q ∙ zero)
     ])
     ∙ no-sum areas
-
--- and all jobs lie among the packed blocks
-pub EndBy-packed : (size all packed : ℕ) (areas : List Area) → IsLaidOut size areas → size ≡ all * BLOCK_WORDS → ArePacked all packed areas
-    → (k : ℕ) → k < length areas → (area_of areas k).base + (area_of areas k).blocks ≤ packed
-EndBy-packed size all packed areas h e p k l =
-    let within = h.within k l in
-    elim (cases_lt (area_of areas k).base all) [
-      | inl q ↦ p.done k l q
-      | inr q ↦
-          let zero : (area_of areas k).blocks ≡ 0 = omega arith in
-          let bottom : (area_of areas k).base ≡ 0 = h.bare k l zero in
-          omega arith
-    ]

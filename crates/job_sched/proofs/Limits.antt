@@ -13,7 +13,7 @@ use Rattle.lock_queue.specs.Queue.{chosen_behind}
 use Rattle.job_sched.specs.declared.job.Job.{Job}
 use Rattle.job_sched.specs.declared.job.Wait.{Wait}
 use Rattle.job_sched.specs.declared.job.Wait.TheVariants.{None as Nothing, Sleep, Char, Line, Room, Queue}
-use Rattle.job_sched.specs.Jobs.{is_sleep, ticked_job, ticked_wait}
+use Rattle.job_sched.specs.Jobs.{is_sleep}
 use Rattle.job_sched.specs.Limits.{at_error_return, expires, is_last_tick, is_queue, limit_of, limited_by, limited_from, limited_job, limited_table}
 use Rattle.job_sched.specs.Tables.{IsTable, Table, is_sleeper, job_at}
 use Rattle.job_sched.proofs.Sleepers.{left-none, right-none}
@@ -86,31 +86,6 @@ by-queue (Room places) j e more = absurd (cc)
 pub queue-limited : (b : Bool) (j : Job) → is_queue j.wait ≡ true → (b && limit_of j.wait == 1) ≡ false → is_queue (limited_job b j).wait ≡ true
 queue-limited true j e more = by-queue j.wait j e more
 queue-limited false j e more = e
-
--- a job that waits for no request stays as it is
-none-limit : (w : Wait) → is_queue w ≡ false → limit_of w ≡ 0
-none-limit (Queue limit ac) e = absurd (cc)
-none-limit Nothing e = refl
-none-limit (Sleep ticks) e = refl
-none-limit Char e = refl
-none-limit Line e = refl
-none-limit (Room places) e = refl
-
-pub other-limited : (b : Bool) (j : Job) → is_queue j.wait ≡ false → limited_job b j ≡ j
-other-limited b j e = limited-none b j (none-limit j.wait e)
-
--- ticks of sleeps leave limits as they are
-limit-ticked : (w : Wait) → limit_of (ticked_wait w) ≡ limit_of w
-limit-ticked (Queue limit ac) = refl
-limit-ticked Nothing = refl
-limit-ticked (Sleep ticks) = refl
-limit-ticked Char = refl
-limit-ticked Line = refl
-limit-ticked (Room places) = refl
-
-pub last-ticked : (o : Option Job) → is_last_tick (option_map ticked_job o) ≡ is_last_tick o
-last-ticked None = refl
-last-ticked (Some j) = ap (λ (n : ℕ). n == 1) (limit-ticked j.wait)
 
 -- where ticks count for nobody there is no limit
 no-limit : (w : Wait) → is_sleep w ≡ false → limit_of w ≡ 0
@@ -213,18 +188,6 @@ member jobs job n low = elim (cases_eq n job) [
       ap (λ (b : ℕ). b == 1) (bit_at_set_other w64 jobs job (omega arith) n other)
       ∙ sym (ap (λ b. is_among jobs n || b) no ∙ or-false (is_among jobs n))
 ]
-
--- withdrawals that are judged alike
-chosen-same : (f g : List Request → Request → Bool) → ((e : List Request) (r : Request) → f e r ≡ g e r) → (e rs : List Request)
-    → chosen_behind f e rs ≡ chosen_behind g e rs
-chosen-same f g same e [] = refl
-chosen-same f g same e (r ∷ rs) =
-    ap (λ b. cond b (r ∷ chosen_behind f (e ++ r ∷ []) rs) (chosen_behind f (e ++ r ∷ []) rs)) (same e r)
-    ∙ ap (λ l. cond (g e r) (r ∷ l) l) (chosen-same f g same (e ++ r ∷ []) rs)
-
-pub withdrawn-same : (requests : List Request) (f g : ℕ → Bool) → ((n : ℕ) → f n ≡ g n) → withdrawn_where requests f ≡ withdrawn_where requests g
-withdrawn-same requests f g same =
-    chosen-same (is_not_blocked_where f) (is_not_blocked_where g) (λ e r. ap (λ b. is_not_blocked_where (λ n. b) e r) (same r.job)) [] requests
 
 -- nothing is withdrawn where no job is asked for
 chosen-all : (f : List Request → Request → Bool) → ((e : List Request) (r : Request) → f e r ≡ true) → (e rs : List Request) → chosen_behind f e rs ≡ rs

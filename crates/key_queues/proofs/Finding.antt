@@ -1,5 +1,5 @@
 -- What is found by a key's hash, and what is put there.
-use Rattle.std.proofs.Common.{◌≡◌, ◌<◌, ◌≤◌, ◌^◌, ◌+◌, ◌∙◌, sym, ap, subst, ℕ, suc, Bool, true, false, ◌||◌, ◌==◌, not, cond, List, [], ◌∷◌, ◌++◌, length, get_or, set, Some, None, inl, inr, refl, arith}
+use Rattle.std.proofs.Common.{◌≡◌, ◌<◌, ◌+◌, ◌∙◌, sym, ap, subst, ℕ, suc, Bool, true, false, ◌||◌, ◌==◌, not, cond, List, [], ◌∷◌, ◌++◌, length, get_or, set, Some, None, inl, inr, refl, arith}
 use Rattle.std.specs.List.{All, find, list_any, position_or_len}
 use Rattle.std.proofs.lemmas.Bool.{both_ways, and_parts, or_left, or_right, or_cases, eq-eqb, eqb-true, ne_eqb, cases_eq, cases_lt, false≢true}
 use Rattle.std.proofs.lemmas.List.{get_or_past, get_or_read, get_or-set_same, get_or-set_other}
@@ -234,18 +234,3 @@ begun_ready buckets then locks more w n h index none lt closed below hash is put
               subst (λ (l : Lock). Holds (bucket_at then (hash_of l.key)) m) (sym (other m ne))
               (still (hash_of (lock_at locks m).key) m (index.holds m was))
         ]
-
--- where no lock is open nothing has to be found
-pub nothing_open : (buckets : List Bucket) (locks : List Lock) → length buckets ≡ HASHES → length locks ≤ 2 ^ 16
-    → ((h : ℕ) → bucket_at buckets h ≡ no_bucket)
-    → ((n : ℕ) → lock_at locks n ≡ unused_lock)
-    → IsIndex buckets locks
-nothing_open buckets locks long few none unused = record {
-  long = long;
-  few = few;
-  within = λ h. subst (λ (b : Bucket). All (λ n. n < length locks) b.numbers.items) (sym (none h)) (λ k d lt. absurd (omega (arith, lt)));
-  holds =
-      λ n some.
-      let shut : is_open unused_lock.queue ≡ true = subst (λ (l : Lock). is_open l.queue ≡ true) (unused n) some in
-      absurd (false≢true shut);
-}

@@ -110,10 +110,3 @@ shuts_extended s m t n shuts e used kept = record {
         | inr ne ↦ shuts.shut j (subst (λ (q : KeptQueue). is_open q ≡ true) (e.others j ne) some)
       ];
 }
-
-pub shuts_twice : (s m t : State) → OnlyShuts s m → OnlyShuts m t → OnlyShuts s t
-shuts_twice s m t a b = record {
-  key = λ j. b.key j ∙ a.key j;
-  size = λ j. b.size j ∙ a.size j;
-  shut = λ j some. a.shut j (b.shut j some);
-}

@@ -307,7 +307,3 @@ full_empty s n kept but none x m st =
           cc
       | inr ne ↦ but x m st ne
     ]
-
--- a request that has given up all its wants leaves the order
-pub place_there : (p : ℕ) (order : List ℕ) → is_there p order ≡ true → position_or_len (λ m. m == p) order < length order
-place_there p order present = (position_found p order present).0

@@ -1,6 +1,5 @@
 -- Which wants fit, behind more, fewer or the same earlier wants.
-use Rattle.std.proofs.Common.{◌≡◌, ◌≢◌, ◌≤◌, ◌<◌, ◌+◌, ◌∙◌, sym, ap, subst, ◌&&◌, ◌==◌, true, false, List, [], ◌∷◌, ◌++◌, filter, sum_by, Option, Some, None, inl, inr, refl, arith}
-use Rattle.std.specs.List.{list_all}
+use Rattle.std.proofs.Common.{◌≡◌, ◌≢◌, ◌≤◌, ◌<◌, ◌+◌, ◌∙◌, sym, ap, subst, ◌&&◌, ◌==◌, true, false, List, ◌∷◌, ◌++◌, filter, sum_by, Option, Some, None, inl, refl, arith}
 use Rattle.std.proofs.lemmas.Bool.{and_parts, and_from, both_ways, eqb-true, eq-eqb, leb-true, leb-false, le-leb, lt-leb, false_from_ne_true}
 use Rattle.std.proofs.lemmas.List.Elements.{filter-append}
 use Rattle.std.proofs.lemmas.Slice.Eq.{bytes_eq-Decides}
@@ -126,22 +125,3 @@ overtaken xs ys v w (Some a) (Some b) e same s h sum f =
     lt-leb _ _ (omega (arith, more, size, mine, sum))
 overtaken xs ys v w None (Some b) e same s h sum f = cc
 overtaken xs ys v w (Some a) None e same s h sum f = cc
-
--- behind the same wants the same requests are granted
-fits-same : (d e : List Request) (w : Want) → wants_at d w.key ≡ wants_at e w.key → fits d w ≡ fits e w
-fits-same d e w same = ap (λ l. fits_beside l w w.pool) same
-
-all-fit-same : (d e : List Request) (ws : List Want) → ((w : Want) → Has ws w → wants_at d w.key ≡ wants_at e w.key)
-    → list_all (fits d) ws ≡ list_all (fits e) ws
-all-fit-same d e [] same = refl
-all-fit-same d e (w ∷ ws) same =
-    ap (λ b. b && list_all (fits d) ws) (fits-same d e w (same w (inl refl)))
-    ∙ ap (λ b. fits e w && b) (all-fit-same d e ws (λ v h. same v (inr h)))
-
-pub granted-same-at : (d e : List Request) (r : Request) → ((w : Want) → Has r.wants.items w → wants_at d w.key ≡ wants_at e w.key)
-    → granted_behind d r ≡ granted_behind e r
-granted-same-at d e r same = all-fit-same d e r.wants.items same
-
-pub granted-same : (d e : List Request) (r : Request) → ((k : Key) → wants_at d k ≡ wants_at e k)
-    → granted_behind d r ≡ granted_behind e r
-granted-same d e r same = granted-same-at d e r (λ w h. same w.key)

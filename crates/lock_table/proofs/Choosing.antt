@@ -9,10 +9,7 @@ use Rattle.lock_queue.specs.declared.key.Key.{Key}
 use Rattle.lock_queue.specs.declared.request.Request.{Request}
 use Rattle.lock_queue.specs.declared.want.Want.{Want}
 use Rattle.lock_queue.specs.Dequeues.{has_wants}
-use Rattle.lock_queue.specs.Keys.{same_key}
 use Rattle.lock_queue.specs.Queue.{names}
-use Rattle.lock_queue.proofs.Fitting.{names-found, names-Has}
-use Rattle.lock_queue.proofs.Lists.{Has-filter}
 use Rattle.request_store.specs.declared.filed.Filed.{Filed}
 use Rattle.request_store.specs.Stores.{Stored, filed_at, removed, without_place}
 use Rattle.lock_table.specs.Turns.{Turned}
@@ -27,15 +24,6 @@ use Rattle.request_store.proofs.Orders.{filter_same as same_where}
 use Rattle.key_queues.proofs.Closing.{there_less}
 use Rattle.lock_table.proofs.Filing.{filed_with}
 use Rattle.request_store.specs.Filing.{unused_filed}
-
--- another key is still named
-pub names_still : (ws : List Want) (key other : Key) → same_key key other ≡ false → names ws other ≡ true
-    → names (filter (λ v. not (same_key key v.key)) ws) other ≡ true
-names_still ws key other apart named =
-    let of = names-found ws other named in
-    let passes : not (same_key key of.0.key) ≡ true =
-    ap not (subst (λ k. same_key key k ≡ false) (sym of.2) apart) in
-    names-Has (filter (λ v. not (same_key key v.key)) ws) other of.0 (Has-filter (λ v. not (same_key key v.key)) ws of.0 passes of.1) of.2
 
 pub has_where_named : (r : Request) (key : Key) → names r.wants.items key ≡ true → has_wants r ≡ true
 has_where_named r key h = go r.wants.items h
@@ -160,11 +148,6 @@ turned_removed s p m once lt =
     let both = there_beside x p s.order once h in
     let other : filed_at (removed s p) x ≡ filed_at s x = filed_with s p x unused_filed lt ∙ rw (ne_eqb x p both.0) refl in
     ap (λ (f : Filed). f.granted) other)
-
-pub others_removed : (s : Stored) (p x : ℕ) → p < length s.filed → x ≢ p → (filed_at (removed s p) x).request ≡ (filed_at s x).request
-others_removed s p x lt ne =
-    let other : filed_at (removed s p) x ≡ filed_at s x = filed_with s p x unused_filed lt ∙ rw (ne_eqb x p ne) refl in
-    ap (λ (f : Filed). f.request) other
 
 -- of the requests that stay, each is as it was
 pub left_next : (s t u : Stored) (before : List ℕ) (p : ℕ) → StandsOnce s.order → IsLeft s t (request_at s) (stays_beside before)

@@ -302,11 +302,3 @@ module _ (store later : Stored) (locks more most : List Lock) (buckets then : Li
     where
       place : (x : ℕ) → filed_at later x ≡ cond (x == p) (with_more (filed_at store p) w n) (filed_at store x)
       place x = ap (λ l. filed_at l x) owned ∙ filed_with store p x (with_more (filed_at store p) w n) placed
-
-pub same_then : (s t u : Stored) (p : ℕ) → SameRequests s t p → SameRequests t u p → SameRequests s u p
-same_then s t u p first second = record {
-  order = second.order ∙ first.order;
-  mine = second.mine ∙ first.mine;
-  others = λ x ne. second.others x ne ∙ first.others x ne;
-  flags = λ x. second.flags x ∙ first.flags x;
-}

@@ -1,5 +1,5 @@
 -- What the code of a table finds.
-use Rattle.std.proofs.Common.{◌≡◌, ◌≢◌, ◌<◌, ◌∙◌, sym, ap, subst, ℕ, suc, Bool, true, false, ◌==◌, cond, List, [], length, take, drop, get_or, slice_get, Some, inl, inr, refl, arith}
+use Rattle.std.proofs.Common.{◌≡◌, ◌≢◌, ◌<◌, ◌∙◌, sym, ap, subst, ℕ, suc, Bool, true, ◌==◌, cond, List, [], length, take, drop, get_or, slice_get, Some, inl, inr, refl, arith}
 use Rattle.std.specs.List.{All, list_all, position_or_len, remove}
 use Rattle.std.proofs.lemmas.Bool.{eq-eqb, ne_eqb, cases_eq, cases_lt, false≢true}
 use Rattle.std.proofs.lemmas.List.{get_or_past, get_or-set_same, get_or-set_other, nil_from_length}
@@ -17,9 +17,9 @@ use Rattle.request_store.specs.Stores.{Stored, filed_at, removed, with_filed}
 use Rattle.request_store.specs.Filing.{unused_filed, with_granted, without_want}
 use Rattle.table_reads.specs.Filing.{own_at, want_at, state_of}
 use Rattle.key_queues.specs.Kept.{KeptQueue, fits_next, admitted}
-use Rattle.key_queues.specs.States.{State, Stands, all_count, IsKept, FlagsAll, CountsAll, CountsBut, IsCounted, Renews, LetsIn, GivesUpAt, IsUsed, IsTable, Leaves, Extended, OpenAreUsed, is_open}
-use Rattle.key_queues.specs.Tables.{StandsOnce, is_counted, is_there}
-use Rattle.key_queues.proofs.Keeping.{letting_in_keeps, giving_up_keeps, leaving_keeps, pairs_once}
+use Rattle.key_queues.specs.States.{State, Stands, all_count, IsKept, FlagsAll, CountsAll, CountsBut, IsCounted, Renews, LetsIn, GivesUpAt, IsUsed, IsTable, Leaves, Extended, OpenAreUsed}
+use Rattle.key_queues.specs.Tables.{is_counted, is_there}
+use Rattle.key_queues.proofs.Keeping.{letting_in_keeps, giving_up_keeps, leaving_keeps}
 use Rattle.key_queues.proofs.Moves.{there_without}
 use Rattle.key_queues.proofs.Places.{split_at, length_take}
 use Rattle.key_queues.proofs.Using.{Next, as_many_queues, lock_with, named_there, position_found, stands_in_queue, there_at, there_removed}
@@ -306,23 +306,3 @@ left_store store locks p table present none lt =
       };
     } in
     record { kept = all.0; flags = all.1 (λ x here ne. table.flags x here); full = all.2 table.full; used = used }
-
--- a table of no requests
-pub no_table : (store : Stored) (locks : List Lock) → ((x : ℕ) → are_apart (filed_at store x).request.wants.items ≡ true)
-    → ((n : ℕ) → is_open (lock_at locks n).queue ≡ false)
-    → store.order ≡ []
-    → IsTable (state_of store locks)
-no_table store locks apart closed empty =
-    let none : (x : ℕ) → is_there x store.order ≡ true → ⊥ = λ x h. false≢true (subst (λ l. is_there x l ≡ true) empty h) in
-    record {
-      kept = record {
-        once = subst (λ l. StandsOnce l) (sym empty) (pairs_once [] tt);
-        apart = apart;
-        queues = λ x h. absurd (none x h);
-        one = λ x n y m st su e. absurd (none x st.present);
-        counts = λ x n st. absurd (none x st.present);
-      };
-      flags = λ x h. absurd (none x h);
-      full = λ x n st. absurd (none x st.present);
-      used = λ n some. absurd (false≢true (sym (closed n) ∙ some));
-    }

@@ -12,7 +12,6 @@ pub mod Roomy
 pub mod Readied
 pub mod Entered
 pub mod Came
-pub mod Closing
 pub mod Lost
 pub mod Choosing
 pub mod Wholes

@@ -47,9 +47,6 @@ literals_read radix (l ∷ ls) small = rw (literal_read radix l small, literals_
 
 -- ---- labels
 
-symbol_written : LabelText → ℕ
-symbol_written l = symbol_of l.name.text
-
 label_found : (s : Scan) (name x : List ℕ) → after_blanks s.rest ≡ name ++ 58 ∷ x → word_of (name ++ 58 ∷ x) ≡ name
     → after_word (name ++ 58 ∷ x) ≡ 58 ∷ x
     → is_name name ≡ true

@@ -49,9 +49,6 @@ skip_blanks b x = blanks_skipped b.text x b.blank
 pub skip_to : (b : Blanks) (x : List ℕ) → is_firm x ≡ true → after_blanks (b.text ++ x) ≡ x
 skip_to b x h = skip_blanks b x ∙ firm_stays x h
 
-abbrev pub no_blanks : Blanks
-no_blanks = record { text = []; blank = refl }
-
 blank_is_no_character : (c : ℕ) → is_blank c ≡ true → is_name_character c ≡ false
 blank_is_no_character c h = grind (arith, nat_tests)
 

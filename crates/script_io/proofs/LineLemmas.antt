@@ -93,27 +93,7 @@ line_refused rest old new line bytes more n m o e none other long unended number
     ∙ refused l.0 l.1 l.3
     ∙ ap (λ t. closed t e) (sym (append-nil new))
 
--- bytes come without LF
-pub bytes_kept : {E : Type 0} (rest : ℕ → List (List ℕ) → Transcript E) (old line line' bytes more : List ℕ) (n : ℕ) (o : Option E) → line' ≡ line ++ bytes
-    → after old (unless_ended o (rest n (lines (line ++ (bytes ++ more))))) ≡ after old (unless_ended o (rest n (lines (line' ++ more))))
-bytes_kept rest old line line' bytes more n o e =
-    ap (λ l. after old (unless_ended o (rest n (lines l)))) (sym (append_assoc line bytes more) ∙ ap (λ l. l ++ more) (sym e))
-
--- bytes that begin with a line
-pub begins_with_line : {E : Type 0} (rest : List ℕ → Transcript E) (old bytes front back more : List ℕ) → bytes ≡ front ++ 10 ∷ back
-    → after old (rest (bytes ++ more)) ≡ after old (rest (front ++ 10 ∷ (back ++ more)))
-begins_with_line rest old bytes front back more e =
-    ap (λ l. after old (rest l)) (ap (λ l. l ++ more) e ∙ append_assoc front (10 ∷ back) more)
-
 -- ---- the end of the input
-
-pub finished_ended : {E : Type 0} (old : List ℕ) (o : Option E) (e : E) (t : Transcript E) → o ≡ Some e → after old (unless_ended o t) ≡ closed old e
-finished_ended old o e t h = ap (λ x. after old (unless_ended x t)) h ∙ ap (λ l. closed l e) (append-nil old)
-
-pub finished_empty : {E : Type 0} (rest : ℕ → List (List ℕ) → Transcript E) (old new line : List ℕ) (n : ℕ) (o : Option E) (e : E) → o ≡ None → length line ≡ 0
-    → after old (rest n []) ≡ closed new e → after old (unless_ended o (rest n (lines (line ++ [])))) ≡ closed new e
-finished_empty rest old new [] n o e unended short ends = ap (λ x. after old (unless_ended x (rest n []))) unended ∙ ends
-finished_empty rest old new (b ∷ bs) n o e unended short ends = absurd (omega arith)
 
 -- the last line has no LF
 pub finished_line : {E : Type 0} (rest rest' : ℕ → List (List ℕ) → Transcript E) (old new given line : List ℕ) (n m : ℕ) (o ending : Option E)

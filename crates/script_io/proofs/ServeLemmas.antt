@@ -26,9 +26,6 @@ cut_in_flush o o' rest rest' old out n follows appended = record {
   begins = λ more. (drop n out ++ (rest' more).text, ap (λ t. t.text) (follows more) ∙ cut_at n out (rest' more).text);
 }
 
-pub sends_nothing : {E : Type 0} (o : Option (List ℕ)) (rest : List ℕ → Transcript E) → Sends o o rest rest
-sends_nothing o rest = record { sent = []; appended = Appends-nil o; follows = λ more. refl }
-
 pub sends_on : {E : Type 0} (o o' o'' : Option (List ℕ)) (rest rest' rest'' : List ℕ → Transcript E) → Sends o o' rest rest'
     → Sends o' o'' rest' rest''
     → Sends o o'' rest rest''
@@ -47,9 +44,6 @@ sends_cut o o' o'' rest rest' a b = record {
 }
 
 -- ---- the bytes of a piece
-
-pub sends_start : {E : Type 0} (o : Option (List ℕ)) (rest : List ℕ → Transcript E) (out : List ℕ) → out ≡ [] → Sends o o rest (λ more. after out (rest more))
-sends_start o rest out empty = record { sent = []; appended = Appends-nil o; follows = λ more. ap (λ l. after l (rest more)) (sym empty) }
 
 pub sends_front : {E : Type 0} (o o' o'' : Option (List ℕ)) (rest s s' : List ℕ → Transcript E) (old out bytes left : List ℕ)
     (n : ℕ)

@@ -1,5 +1,5 @@
 -- What marks of grants tell of the requests.
-use Rattle.std.proofs.Common.{◌≡◌, ◌<◌, ◌+◌, ◌∙◌, sym, ap, subst, ℕ, suc, Bool, true, false, ◌&&◌, ◌||◌, ◌==◌, not, cond, List, [], ◌∷◌, ◌++◌, length, take, drop, get_or, slice_get, map, filter, Some, option_map, unwrap_or, refl, arith, nat_le}
+use Rattle.std.proofs.Common.{◌≡◌, ◌<◌, ◌+◌, ◌∙◌, sym, ap, subst, ℕ, suc, Bool, true, false, ◌&&◌, ◌||◌, ◌==◌, not, cond, List, [], ◌∷◌, ◌++◌, length, take, drop, get_or, map, filter, Some, option_map, unwrap_or, refl, arith, nat_le}
 use Rattle.std.specs.List.{find, list_any, position_or_len}
 use Rattle.std.proofs.Math.Bool.{and_assoc}
 use Rattle.std.proofs.lemmas.Bool.{and_parts, eq-eqb, eqb-true, leb-true, or_parts}
@@ -190,12 +190,6 @@ granted_is s i m lt =
     (before_is s.order (take i s.order) (drop (suc i) s.order) x m.once (split_at s.order i x found.1))
     ∙ ap (λ l. granted_behind l (request_at s x)) (sym (take-map (request_at s) i s.order))
     ∙ ap (is_granted (take i (requests_in s))) (sym (slice_get-map (request_at s) s.order i ∙ ap (option_map (request_at s)) found.1))
-
-pub request_is : (s : Stored) (i : ℕ) → i < length s.order → slice_get (requests_in s) i ≡ Some (request_at s (get_or s.order i 0))
-request_is s i lt =
-    let found = found_within s.order i lt in
-    slice_get-map (request_at s) s.order i ∙ ap (option_map (request_at s)) found.1
-    ∙ ap (λ p. Some (request_at s p)) (sym (get_or_from_slice_get s.order i found.0 0 found.1))
 
 -- ---- a key
 
