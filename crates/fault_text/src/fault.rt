@@ -71,7 +71,7 @@ impl<'a> Fault<'a> {
         Fault { column, reason }
     }
 
-    /// The same fault, in a column of a line of so many bytes or just behind it.
+    /// The fault with its column moved, if need be, into a line of so many bytes or just behind it.
     pub fn within(self, length: usize) -> Self
         ensures { result.column ≤ length + 1 }
     {

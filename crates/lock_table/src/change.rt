@@ -47,7 +47,7 @@ fn want_filed<const REQS: usize>(store: &Store<REQS>, p: u16, n: u16) -> &Want
     want_in(f.queues.as_slice(), f.request.wants.as_slice(), n)
 }
 
-/// The same, once the job's want is changed.
+/// The want of a place that stands in a queue, as it is once the job's want is changed.
 fn want_then<const REQS: usize>(store: &Store<REQS>, p: u16, n: u16, job: u8, c: &Want) -> Want
     requires { IsFreeAt store.now n p }
     ensures { result ≡ want_then store.now n job c.now p }

@@ -97,13 +97,16 @@ pub fn who_waits_is_granted_in_time()
     ensures { (s : S) (events : List EventView) → Safe s → KeepsTime s → IsWellFormed s → IsGrantedInTime s events }
 {}
 
-/// The same where jobs ask for one lock at a time by rising levels, and owners may wait for others.
+/// A job that waits for a lock is granted it within a number of rounds that the contract states, where jobs
+/// ask for one lock at a time by rising levels and give each up within so many steps of their own; owners
+/// may wait for others.
 pub fn who_waits_by_levels_is_granted_in_time()
     ensures { (s : S) (events : List EventView) → Safe s → KeepsTime s → IsWellFormed s → IsGrantedByLevels s events }
 {}
 
-/// The same where jobs ask for all that they need by one request, so that no owner waits: the requests in
-/// front count, whatever they are for.
+/// A job that waits is granted what it asked for within a number of rounds that the contract states, where
+/// jobs ask for all that they need by one request, so that no owner waits, and give it up within so many
+/// steps of their own: the requests in front count, whatever they are for.
 pub fn who_waits_by_one_request_is_granted_in_time()
     ensures { (s : S) (events : List EventView) → Safe s → KeepsTime s → IsWellFormed s → IsGrantedByOneRequest s events }
 {}

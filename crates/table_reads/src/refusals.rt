@@ -54,7 +54,8 @@ fn is_wanted_by<const REQS: usize>(store: &Store<REQS>, places: &[u16], job: u8,
     has_want_at(store, places, job, key)
 }
 
-/// The same, by the shorter of the two lists: that of the key's places, and that of the job's.
+/// Whether a job has a want of a key, found in the shorter of two lists: that of the key's places, and that
+/// of the job's.
 fn is_wanted_already<const REQS: usize>(
     store: &Store<REQS>,
     places: &[u16],

@@ -223,7 +223,7 @@ fn generated_steps_do_the_same(rt: HostRuntime) -> Result<(), AllocError> {
     Ok(())
 }
 
-/// The same on tables that are often full.
+/// Generated steps do the same on both tables where these are often full.
 #[test]
 fn generated_steps_do_the_same_where_few_fit(rt: HostRuntime) -> Result<(), AllocError> {
     let mut plain: PlainTable<5> = PlainTable::new(rt.alloc())?;
