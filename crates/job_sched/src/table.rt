@@ -86,7 +86,7 @@ fn holds_here<L: LockTable>(number: u8, job: &Job, lines: &Lines, locks: &L) -> 
 
 /// Whether the wait of a job holds, out of line, where a job rarely waits.
 #[inline(never)]
-fn does_hold<L: LockTable>(number: u8, job: &Job, lines: &Lines, locks: &L) -> bool
+fn holds<L: LockTable>(number: u8, job: &Job, lines: &Lines, locks: &L) -> bool
     ensures { result ≡ holds lines.now (L.requests locks.now) number job.now.line job.now.wait }
 {
     holds_here(number, job, lines, locks)
@@ -106,7 +106,7 @@ fn is_ready_slot<L: LockTable>(number: u8, slot: &Option<Job>, lines: &Lines, lo
     }
     match job.wait {
         Wait::None => true,
-        _ => !does_hold(number, job, lines, locks),
+        _ => !holds(number, job, lines, locks),
     }
 }
 

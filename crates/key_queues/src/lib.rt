@@ -19,4 +19,4 @@ pub use laws::{
 pub use lock::Lock;
 pub use locks::{begin, find_in, find_open, first_closed, more_locks, no_locks};
 pub use queue::{Queue, index_of};
-pub use stands::{append, do_all_count, is_empty, leave_queue, let_in, next_place, want_in};
+pub use stands::{all_count, append, is_empty, leave_queue, let_in, next_place, want_in};

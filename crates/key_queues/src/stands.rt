@@ -11,7 +11,7 @@ use crate::queue::index_of;
 use lock_queue::Want;
 
 /// Whether all of these queues count a place.
-pub fn do_all_count(queues: &[u16], locks: &[Lock], p: u16) -> bool
+pub fn all_count(queues: &[u16], locks: &[Lock], p: u16) -> bool
     requires { All (λ n. n < length locks.now) queues.now }
     ensures { result ≡ list_all (λ n. is_counted (lock_at locks.now n).queue p) queues.now }
 {

@@ -17,7 +17,7 @@ pub fn names_key(wants: &[Want], key: &Key) -> bool
 }
 
 /// Whether two wants of one key agree: both are shared, and of one group.
-pub fn do_agree(v: &Want, w: &Want) -> bool
+pub fn agree(v: &Want, w: &Want) -> bool
     ensures { result ≡ agree v.now w.now }
 {
     v.shared && w.shared && v.group == w.group
@@ -36,7 +36,7 @@ pub fn all_agree_in(wants: &[Want], w: &Want) -> bool
         (filter (λ v. same_key v.key w.now.key) wants.now) }
 {
     for v in wants {
-        if v.key == w.key && !do_agree(v, w) {
+        if v.key == w.key && !agree(v, w) {
             return false;
         }
     }
@@ -115,7 +115,7 @@ pub fn reach_level(wants: &[Want], level: Level) -> bool
 fn is_in_the_way(v: &Want, w: &Want) -> bool
     ensures { result ≡ is_in_the_way v.now w.now }
 {
-    is_pooled(v) || !do_agree(v, w)
+    is_pooled(v) || !agree(v, w)
 }
 
 /// Whether one of these wants that is of a want's key stands in its way.

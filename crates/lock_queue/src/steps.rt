@@ -2,7 +2,7 @@
 //! requests: for any table.
 
 pub use crate::among_wants::{
-    all_agree_in, are_alike_in, do_agree, is_alike, is_pooled, is_pooled_in, level_in, names_key,
+    agree, all_agree_in, are_alike_in, is_alike, is_pooled, is_pooled_in, level_in, names_key,
     reach_level, room_beside, some_in_the_way,
 };
 pub use crate::grant::{grant_of, is_told_of};

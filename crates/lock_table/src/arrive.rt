@@ -14,7 +14,7 @@ ghost use Rattle.lock_table.specs.Arrivals.{AdmitsFrom, AreShort, IsArriving, Sa
 ghost use Rattle.table_reads.specs.Filing.{state_of};
 ghost use Rattle.table_reads.specs.Whole.{requests_in};
 
-use key_queues::{Keys, Lock, append, do_all_count};
+use key_queues::{Keys, Lock, all_count, append};
 use lock_queue::{Asking, Want, Wants};
 use request_store::Store;
 
@@ -61,7 +61,7 @@ fn settle<const REQS: usize>(store: &mut Store<REQS>, locks: &[Lock], p: u16)
     requires queues { All (λ n. n < length locks.now) (filed_at store.old p).queues.items }
     ensures { Renews (state_of store.old locks.now) (state_of store.new locks.now) p }
 {
-    let granted = do_all_count(store.get(p).queues.as_slice(), locks, p);
+    let granted = all_count(store.get(p).queues.as_slice(), locks, p);
     store.set_granted(p, granted);
 }
 

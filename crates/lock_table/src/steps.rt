@@ -11,7 +11,7 @@ ghost use Rattle.table_reads.specs.Filing.{own_at, state_of, want_at, want_filed
 ghost use Rattle.lock_table.specs.Turns.{Turned};
 
 use crate::turns::Turns;
-use key_queues::{Lock, do_all_count, is_empty, leave_queue, let_in, next_place, want_in};
+use key_queues::{Lock, all_count, is_empty, leave_queue, let_in, next_place, want_in};
 use request_store::Store;
 
 /// Sets the flag of a request right.
@@ -28,7 +28,7 @@ pub fn renew<const REQS: usize>(
 {
     let f = store.get(p);
     let was = f.granted;
-    let granted = do_all_count(f.queues.as_slice(), locks, p);
+    let granted = all_count(f.queues.as_slice(), locks, p);
     store.set_granted(p, granted);
     turns.turn_if(p, was != granted);
 }

@@ -131,7 +131,7 @@ fn is_blocked_by(earlier: &[Request], r: &Request, job: u8, other: u8) -> bool
 }
 
 /// Whether the first job waits for the second.
-pub fn does_wait_for(requests: &[Request], job: u8, other: u8) -> bool
+pub fn waits_for(requests: &[Request], job: u8, other: u8) -> bool
     ensures { result ≡ waits_for requests.now job other }
 {
     for (i, r) in requests.iter().enumerate() {

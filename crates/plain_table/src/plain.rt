@@ -4,7 +4,7 @@ ghost use Rattle.lock_queue.specs.Enqueues.{request_of};
 ghost use Rattle.word36.specs.declared.sizes.TheConstants.{MOST_REQUESTS};
 ghost use Rattle.lock_queue.specs.WellFormed.{are_well_formed, is_well_formed};
 
-use crate::jobs::{does_wait_for, is_waiting, pending_of};
+use crate::jobs::{is_waiting, pending_of, waits_for};
 use crate::rows::Rows;
 use crate::standing::status_at;
 use crate::waking::{Marks, fill_woken, mark};
@@ -126,7 +126,7 @@ impl<const REQS: usize> LockTable for PlainTable<REQS> {
     }
 
     fn waits_for(&self, job: u8, other: u8) -> bool {
-        does_wait_for(self.rows.as_slice(), job, other)
+        waits_for(self.rows.as_slice(), job, other)
     }
 
     fn clear(&mut self) {

@@ -24,7 +24,7 @@ fn keeps_want(r: &Request, job: u8, named: &[Want]) -> bool
 }
 
 /// Whether a request stays where a job's call is made.
-fn does_stay(r: &Request, job: u8, call: &LockCall) -> bool
+fn stays(r: &Request, job: u8, call: &LockCall) -> bool
     ensures { result ≡ is_some (left_of job call.now r.now) }
 {
     match call {
@@ -35,7 +35,7 @@ fn does_stay(r: &Request, job: u8, call: &LockCall) -> bool
     }
 }
 
-fn does_await_grant(earlier: &[Request], r: &Request) -> bool
+fn awaits_grant(earlier: &[Request], r: &Request) -> bool
     ensures { result ≡ awaits_grant earlier.now r.now }
 {
     is_told_of(r.kind) && !is_granted(earlier, r)
@@ -53,8 +53,8 @@ pub fn mark<const REQS: usize>(
 {
     marks.clear();
     for (i, r) in requests.iter().enumerate() {
-        if does_stay(r, job, call) {
-            marks.push(does_await_grant(&requests[..i], r));
+        if stays(r, job, call) {
+            marks.push(awaits_grant(&requests[..i], r));
         }
     }
 }

@@ -54,7 +54,7 @@ fn is_kept_by(earlier: &[Request], w: &Want, other: u8) -> bool
 
 /// Whether a want does not fit behind earlier requests, and one of another job is in its way: one that
 /// the job owns, or any.
-pub fn does_keep(earlier: &[Request], w: &Want, other: u8, is_held: bool) -> bool
+pub fn keeps(earlier: &[Request], w: &Want, other: u8, is_held: bool) -> bool
     ensures { result ≡ keeps is_held earlier.now w.now other }
 {
     if is_held {
@@ -89,7 +89,7 @@ fn is_blocked_by(earlier: &[Request], r: &Request, job: u8, other: u8) -> bool
 }
 
 /// Whether the first job waits for a lock that the second owns.
-fn does_wait_hard(requests: &[Request], job: u8, owner: u8) -> bool
+fn waits_hard_for(requests: &[Request], job: u8, owner: u8) -> bool
     ensures { result ≡ waits_hard_for requests.now job owner }
 {
     for (i, r) in requests.iter().enumerate() {
@@ -101,7 +101,7 @@ fn does_wait_hard(requests: &[Request], job: u8, owner: u8) -> bool
 }
 
 /// Whether the first job waits for the second.
-fn does_wait_at_all(requests: &[Request], job: u8, other: u8) -> bool
+fn waits_for(requests: &[Request], job: u8, other: u8) -> bool
     ensures { result ≡ waits_for requests.now job other }
 {
     for (i, r) in requests.iter().enumerate() {
@@ -113,12 +113,12 @@ fn does_wait_at_all(requests: &[Request], job: u8, other: u8) -> bool
 }
 
 /// Whether a job waits for another: for one that owns what it wants, or for any.
-pub fn does_wait(requests: &[Request], job: u8, other: u8, is_held: bool) -> bool
+pub fn waits_by(requests: &[Request], job: u8, other: u8, is_held: bool) -> bool
     ensures { result ≡ waits_by is_held requests.now job other }
 {
     if is_held {
-        does_wait_hard(requests, job, other)
+        waits_hard_for(requests, job, other)
     } else {
-        does_wait_at_all(requests, job, other)
+        waits_for(requests, job, other)
     }
 }

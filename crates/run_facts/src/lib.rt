@@ -15,7 +15,7 @@ mod typing;
 pub use answers::{CallAnswer, CallSeen, answer_of};
 pub use circles::{circle_through, is_in_circle};
 pub use grants::{is_granted_in, is_left_of, is_new_grant};
-pub use in_the_way::does_wait;
+pub use in_the_way::waits_by;
 pub use lock_waits::{LockBetween, LockWait, lock_between, lock_wait};
 pub use requests::requests_in;
 pub use standing::{Ending, Standing, has_ended_well, status_of};

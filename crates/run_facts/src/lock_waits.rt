@@ -5,7 +5,7 @@ ghost use Rattle.std.specs.List.{flat_map, list_any};
 ghost use Rattle.lock_queue.specs.Waits.{jobs, waits_hard_for};
 ghost use Rattle.run_facts.specs.LockWaits.{keeper, keepers, keeps, waits_by, waits_for_owner};
 
-use crate::in_the_way::{does_keep, does_wait};
+use crate::in_the_way::{keeps, waits_by};
 use lock_queue::steps::is_blocked;
 use lock_queue::{Request, Want};
 use queue_script::circles::NUMBERS;
@@ -25,11 +25,11 @@ pub struct LockWait<'a> {
 }
 
 /// Whether a job waits for any owner.
-fn does_wait_for_owner(requests: &[Request], job: u8) -> bool
+fn waits_for_owner(requests: &[Request], job: u8) -> bool
     ensures { result ≡ waits_for_owner requests.now job }
 {
     for other in 1..NUMBERS {
-        if does_wait(requests, job, other as u8, true) {
+        if waits_by(requests, job, other as u8, true) {
             return true;
         }
     }
@@ -48,7 +48,7 @@ fn push_keeper(
 ) -> Result<(), AllocError>
     ensures { OnOk result (found.new.items ≡ found.old.items ++ keeper is_held requests.now job earlier.now w.now other) }
 {
-    if does_wait(requests, job, other, is_held) && does_keep(earlier, w, other, is_held) {
+    if waits_by(requests, job, other, is_held) && keeps(earlier, w, other, is_held) {
         found.push(other)?;
     }
     Ok(())
@@ -85,7 +85,7 @@ fn wait_at<'a>(
     ensures place { IfOk result (λ o. IfSome o (λ w. w.place ≡ place)) }
     ensures jobs { IfOk result (λ o. IfSome o (λ w. w.jobs.items ≡ keepers w.is_held requests.now job (take place requests.now) w.want.now)) }
 {
-    let is_held = does_wait_for_owner(requests, job);
+    let is_held = waits_for_owner(requests, job);
     for want in requests[place].wants.as_slice() {
         let jobs = keepers(alloc, requests, job, &requests[..place], want, is_held)?;
         if !jobs.is_empty() {
@@ -137,13 +137,13 @@ pub fn lock_between(requests: &[Request], job: u8, other: u8) -> Option<LockBetw
     ensures held { IfSome result (λ b. b.is_held ≡ waits_hard_for requests.now job other) }
     ensures keeps { IfSome result (λ b. keeps b.is_held (take b.place requests.now) b.want.now other ≡ true) }
 {
-    let is_held = does_wait(requests, job, other, true);
+    let is_held = waits_by(requests, job, other, true);
     for (place, r) in requests.iter().enumerate() {
         if !is_blocked(&requests[..place], r, job) {
             continue;
         }
         for want in r.wants.as_slice() {
-            if does_keep(&requests[..place], want, other, is_held) {
+            if keeps(&requests[..place], want, other, is_held) {
                 return Some(LockBetween {
                     place,
                     want,

@@ -9,8 +9,8 @@ mod wanted;
 
 pub use queues::places_of;
 pub use readings::{
-    does_wait_for, first_pending, has_request, has_request_id, is_granted, is_waiting, own_places,
-    pending_of, request_of, sole_of,
+    first_pending, has_request, has_request_id, is_granted, is_waiting, own_places, pending_of,
+    request_of, sole_of, waits_for,
 };
 pub use refusals::{refusal_of_dequeue, refusal_of_enqueue, refusal_of_modify};
 pub use standing::status_of;

@@ -246,12 +246,7 @@ fn is_some_blocked<const REQS: usize>(
 }
 
 /// Whether the first job waits for the second.
-pub fn does_wait_for<const REQS: usize>(
-    store: &Store<REQS>,
-    locks: &[Lock],
-    job: u8,
-    other: u8,
-) -> bool
+pub fn waits_for<const REQS: usize>(store: &Store<REQS>, locks: &[Lock], job: u8, other: u8) -> bool
     requires right { AreRight store.now }
     requires marks { MarksGrants store.now }
     requires table { IsTable (state_of store.now locks.now) }

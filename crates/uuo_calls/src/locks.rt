@@ -11,7 +11,7 @@ ghost use Rattle.uuo_calls.specs.Around.{ac_of};
 
 use crate::blocks::block_kept;
 use crate::returns::{refuse, skip};
-use crate::room::{CallRoom, be_changing, be_entering, be_naming};
+use crate::room::{CallRoom, make_changing, make_entering, make_naming};
 use core_store::CoreStore;
 use job_sched::{Job, Wait};
 use ka_cpu::{Accumulator, CoreWords, JobMemory, Regs};
@@ -124,21 +124,21 @@ fn enqueue<L: LockTable, M: JobMemory>(
     let kind = match word.left() {
         0 => {
             let call = &mut room.entering;
-            be_entering(call, EnqueueKind::Blocking, armed, quota);
+            make_entering(call, EnqueueKind::Blocking, armed, quota);
             return call_on_block(call, BlockUse::Blocking, regs, memory, place, number, locks);
         }
         1 => EnqueueKind::AtOnce,
         2 => EnqueueKind::Interrupt,
         3 => {
             let call = &mut room.naming;
-            be_changing(call);
+            make_changing(call);
             let answer = call_on_block(call, BlockUse::Named, regs, memory, place, number, locks);
             return at_once(answer.reply);
         }
         _ => return at_once(LockReply::Refused(Refusal::NoFunction)),
     };
     let call = &mut room.entering;
-    be_entering(call, kind, armed, quota);
+    make_entering(call, kind, armed, quota);
     let answer = call_on_block(call, BlockUse::Full, regs, memory, place, number, locks);
     at_once(answer.reply)
 }
@@ -240,7 +240,7 @@ fn dequeue<L: LockTable, M: JobMemory>(
     match word.left() {
         0 => {
             let call = &mut room.naming;
-            be_naming(call);
+            make_naming(call);
             let place = Address::new(right);
             call_on_block(call, BlockUse::Named, regs, memory, place, number, locks).reply
         }

@@ -41,7 +41,7 @@ impl CallRoom {
 /// Makes a call one that enters a request, whose locks a block will say: those that it has stay where
 /// it is one already.
 #[inline(always)]
-pub(crate) fn be_entering(call: &mut LockCall, kind: EnqueueKind, armed: bool, quota: u16)
+pub(crate) fn make_entering(call: &mut LockCall, kind: EnqueueKind, armed: bool, quota: u16)
     ensures call { (block : Result Block RefusalView) → with_block call.new block ≡ entering kind armed quota block }
     ensures limit { (block : Result Block RefusalView) → limit_with call.new block ≡ limit_in block }
 {
@@ -67,7 +67,7 @@ pub(crate) fn be_entering(call: &mut LockCall, kind: EnqueueKind, armed: bool, q
 
 /// Makes a call one that changes wants, whose locks a block will say.
 #[inline(always)]
-pub(crate) fn be_changing(call: &mut LockCall)
+pub(crate) fn make_changing(call: &mut LockCall)
     ensures { (block : Result Block RefusalView) → with_block call.new block ≡ changing block }
 {
     if !matches!(call, LockCall::Modify(_)) {
@@ -77,7 +77,7 @@ pub(crate) fn be_changing(call: &mut LockCall)
 
 /// Makes a call one that gives up wants, whose locks a block will say.
 #[inline(always)]
-pub(crate) fn be_naming(call: &mut LockCall)
+pub(crate) fn make_naming(call: &mut LockCall)
     ensures { (block : Result Block RefusalView) → with_block call.new block ≡ naming block }
 {
     if !matches!(call, LockCall::DequeueNamed(_)) {

@@ -11,8 +11,8 @@ use Rattle.lock_table.proofs.steps.renew.Goals as goal
 
 pub returns-clause-renews : goal.returns-clause-renews
 returns-clause-renews g c =
-    renews_by _ _ c.args.locks.now c.args.p c.do_all_count-granted.result c.set_granted.ensures.within
-    (c.do_all_count-granted.ensures
+    renews_by _ _ c.args.locks.now c.args.p c.all_count-granted.result c.set_granted.ensures.within
+    (c.all_count-granted.ensures
     ∙ ap (list_all (λ n. is_counted (lock_at c.args.locks.now n).queue c.args.p))
     (c.as_slice.ensures.value ∙ ap (λ (f : Filed). f.queues.items) c.get-f.ensures.value))
     c.set_granted.ensures.value
@@ -20,9 +20,9 @@ returns-clause-renews g c =
 pub returns-clause-turns : goal.returns-clause-turns
 returns-clause-turns g c =
     let granted = ap (λ (f : Filed). f.granted) c.get-f.ensures.value in
-    turned_by _ _ c.args.turns.now _ c.args.p c.do_all_count-granted.result c.set_granted.ensures.within c.turn_if.ensures.within
+    turned_by _ _ c.args.turns.now _ c.args.p c.all_count-granted.result c.set_granted.ensures.within c.turn_if.ensures.within
     c.set_granted.ensures.value
     (c.turn_if.ensures.value
     ∙ ap
     (λ b. set c.args.turns.now c.args.p
-    (turned_if (not (beq b c.do_all_count-granted.result)) (mark_at c.args.turns.now c.args.p))) granted)
+    (turned_if (not (beq b c.all_count-granted.result)) (mark_at c.args.turns.now c.args.p))) granted)

@@ -2,7 +2,7 @@ use Rattle.std.proofs.Common.{◌≡◌, ◌∙◌, ◌==◌, ap, sym, is_some}
 use Rattle.lock_queue.specs.Dequeues.{has_wants, without_keys_of}
 use Rattle.lock_queue.specs.Grants.{left_of}
 use Rattle.plain_table.proofs.MarkLaws.{keeps, is_some-staying}
-use Rattle.plain_table.proofs.waking.does_stay.Goals as goal
+use Rattle.plain_table.proofs.waking.stays.Goals as goal
 
 pub returns-in-DequeueNamed : goal.returns-in-DequeueNamed
 returns-in-DequeueNamed c =

@@ -2,7 +2,7 @@ use Rattle.std.proofs.Common.{◌≡◌, ◌-◌}
 use Rattle.std.specs.List.{list_any}
 use Rattle.lock_queue.specs.Waits.{jobs, numbers_from, waits_hard_for}
 use Rattle.queue_script.specs.declared.circles.TheConstants.{NUMBERS}
-use Rattle.run_facts.proofs.lock_waits.does_wait_for_owner.Given as goal
+use Rattle.run_facts.proofs.lock_waits.waits_for_owner.Given as goal
 
 abbrev pub invariant-loop-other : goal.invariant-loop-other
 invariant-loop-other l =

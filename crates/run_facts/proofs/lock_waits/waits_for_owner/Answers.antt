@@ -3,22 +3,22 @@ use Rattle.std.specs.List.{list_any}
 use Rattle.lock_queue.specs.Waits.{jobs, waits_hard_for}
 use Rattle.queue_script.proofs.PairLemmas.{any-start, any-step, any-found, any-end}
 use Rattle.queue_script.specs.declared.circles.TheConstants.{NUMBERS}
-use Rattle.run_facts.proofs.lock_waits.does_wait_for_owner.Goals as goal
+use Rattle.run_facts.proofs.lock_waits.waits_for_owner.Goals as goal
 
 pub loop-other-init : goal.loop-other-init
 loop-other-init c = any-start (waits_hard_for c.args.requests.now c.args.job)
 
-pub returns-then-does_wait : goal.returns-then-does_wait
-returns-then-does_wait c =
+pub returns-then-waits_by : goal.returns-then-waits_by
+returns-then-waits_by c =
     let f = waits_hard_for c.args.requests.now c.args.job in
     let within : c.loop-other.other < NUMBERS = omega arith in
-    any-found f c.loop-other.other (list_any f jobs) within (sym c.does_wait.ensures ∙ c.if-does_wait.true) c.loop-other.invariant
+    any-found f c.loop-other.other (list_any f jobs) within (sym c.waits_by.ensures ∙ c.if-waits_by.true) c.loop-other.invariant
 
 pub loop-other-preserved : goal.loop-other-preserved
 loop-other-preserved c =
     let f = waits_hard_for c.args.requests.now c.args.job in
     let within : c.loop-other.other < NUMBERS = omega arith in
-    any-step f c.loop-other.other (list_any f jobs) within (sym c.does_wait.ensures ∙ c.if-does_wait.false) c.loop-other.invariant
+    any-step f c.loop-other.other (list_any f jobs) within (sym c.waits_by.ensures ∙ c.if-waits_by.false) c.loop-other.invariant
 
 pub returns : goal.returns
 returns c =

@@ -2,7 +2,7 @@ use Rattle.std.proofs.Common.{◌≡◌, drop}
 use Rattle.std.specs.List.{list_all}
 use Rattle.key_queues.specs.Locks.{lock_at}
 use Rattle.key_queues.specs.Tables.{is_counted}
-use Rattle.key_queues.proofs.stands.do_all_count.Given as goal
+use Rattle.key_queues.proofs.stands.all_count.Given as goal
 
 abbrev pub invariant-loop-n : goal.invariant-loop-n
 invariant-loop-n l =

@@ -1,7 +1,7 @@
 use Rattle.std.proofs.Common.{◌≡◌, [], take, drop}
 use Rattle.lock_queue.specs.Jobs.{is_blocked_by}
 use Rattle.lock_queue.specs.Queue.{some_behind}
-use Rattle.run_facts.proofs.in_the_way.does_wait_at_all.Given as goal
+use Rattle.run_facts.proofs.in_the_way.waits_for.Given as goal
 
 abbrev pub invariant-loop-i : goal.invariant-loop-i
 invariant-loop-i l =
