@@ -46,7 +46,7 @@ fn grow_all(bars: &mut [Bar], line: usize, told: &[Hold])
 }
 
 /// Whether a bar says this of a line, which is the last that it reaches over.
-fn does_say(bar: &Bar, line: usize, hold: &Hold) -> bool
+fn says(bar: &Bar, line: usize, hold: &Hold) -> bool
     requires { line < 2 ^ 63 }
     ensures { result ≡ says line hold.now bar.now }
 {
@@ -58,7 +58,7 @@ fn is_said(bars: &[Bar], line: usize, hold: &Hold) -> bool
     ensures { result ≡ list_any (says line hold.now) bars.now }
 {
     for bar in bars {
-        if does_say(bar, line, hold) {
+        if says(bar, line, hold) {
             return true;
         }
     }

@@ -6,7 +6,7 @@ ghost use Rattle.lock_bars.specs.Graphs.{Tells, closes_circle};
 use queue_script::circles::{JobMarks, NUMBERS, PAIRS, PairTable, leading_to};
 
 /// Whether one job waits for another from which a walk of waits leads back.
-fn does_close_circle(pairs: &PairTable, waiting: &JobMarks, job: usize, other: usize) -> bool
+fn closes_circle(pairs: &PairTable, waiting: &JobMarks, job: usize, other: usize) -> bool
     requires marked { MarksWaiters waiting.now (pair_in pairs.now) }
     requires job { job < NUMBERS }
     requires other { other < NUMBERS }
@@ -22,7 +22,7 @@ pub fn circle_table(pairs: &PairTable, waiting: &JobMarks) -> PairTable
 {
     let mut circles = [false; PAIRS];
     for i in 0..PAIRS {
-        circles[i] = does_close_circle(pairs, waiting, i / NUMBERS, i % NUMBERS);
+        circles[i] = closes_circle(pairs, waiting, i / NUMBERS, i % NUMBERS);
     }
     circles
 }

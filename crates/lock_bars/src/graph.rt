@@ -7,7 +7,7 @@ ghost use Rattle.lock_bars.specs.Graphs.{Tells, closes_circle, wait_in};
 
 use crate::circles::circle_table;
 use crate::copies::requests_in;
-use crate::hard_waits::does_wait_hard_for;
+use crate::hard_waits::waits_hard_for;
 use lock_queue::{LockTable, Request};
 use queue_script::circles::{NUMBERS, PAIRS, PairTable};
 use queue_script::{pair_table, waiting_jobs};
@@ -31,7 +31,7 @@ fn hard_table(requests: &[Request]) -> PairTable
 {
     let mut pairs = [false; PAIRS];
     for i in 0..PAIRS {
-        pairs[i] = does_wait_hard_for(requests, (i / NUMBERS) as u8, (i % NUMBERS) as u8);
+        pairs[i] = waits_hard_for(requests, (i / NUMBERS) as u8, (i % NUMBERS) as u8);
     }
     pairs
 }

@@ -44,7 +44,7 @@ fn is_withheld_from(earlier: &[Request], r: &Request, job: u8, owner: u8) -> boo
 }
 
 /// Whether the first job waits for a lock that the second owns.
-pub fn does_wait_hard_for(requests: &[Request], job: u8, owner: u8) -> bool
+pub fn waits_hard_for(requests: &[Request], job: u8, owner: u8) -> bool
     ensures { result ≡ waits_hard_for requests.now job owner }
 {
     for (i, r) in requests.iter().enumerate() {

@@ -12,6 +12,6 @@ loop-i-preserved c =
     let size = c.loop-i.invariant.size in
     let within : c.loop-i.i < length c.loop-i.circles = omega arith in
     record {
-      size = length-set c.loop-i.circles c.loop-i.i c.does_close_circle.result ∙ size;
-      known = set-known c.loop-i.circles c.loop-i.i c.does_close_circle.result want within c.loop-i.invariant.known c.does_close_circle.ensures;
+      size = length-set c.loop-i.circles c.loop-i.i c.closes_circle.result ∙ size;
+      known = set-known c.loop-i.circles c.loop-i.i c.closes_circle.result want within c.loop-i.invariant.known c.closes_circle.ensures;
     }

@@ -11,6 +11,6 @@ loop-i-preserved c =
     let size = c.loop-i.invariant.size in
     let within : c.loop-i.i < length c.loop-i.pairs = omega arith in
     record {
-      size = length-set c.loop-i.pairs c.loop-i.i c.does_wait_hard_for.result ∙ size;
-      known = set-known c.loop-i.pairs c.loop-i.i c.does_wait_hard_for.result want within c.loop-i.invariant.known c.does_wait_hard_for.ensures;
+      size = length-set c.loop-i.pairs c.loop-i.i c.waits_hard_for.result ∙ size;
+      known = set-known c.loop-i.pairs c.loop-i.i c.waits_hard_for.result want within c.loop-i.invariant.known c.waits_hard_for.ensures;
     }

@@ -1,7 +1,7 @@
 use Rattle.std.proofs.Common.{◌≡◌, [], take, drop}
 use Rattle.lock_queue.specs.Waits.{is_withheld_from}
 use Rattle.lock_queue.specs.Queue.{some_behind}
-use Rattle.lock_bars.proofs.hard_waits.does_wait_hard_for.Given as goal
+use Rattle.lock_bars.proofs.hard_waits.waits_hard_for.Given as goal
 
 abbrev pub invariant-loop-i : goal.invariant-loop-i
 invariant-loop-i l =
