@@ -76,21 +76,32 @@ pub fn go(session: &mut Session<'_>) -> Result<(), AllocError> {
     run_from_start(session)
 }
 
-/// Runs where jobs were started just now: one that stands at a breakpoint stops the run before it begins.
+/// Runs where jobs were started just now: one that stands where runs stop stops the run before it begins.
 pub fn run_from_start(session: &mut Session<'_>) -> Result<(), AllocError> {
+    match cause_at_start(session)? {
+        Some(cause) => stop_at_once(session, cause),
+        None => proceed(session, 1),
+    }
+}
+
+/// A run that ends before it begins.
+fn stop_at_once(session: &mut Session<'_>, cause: Cause) -> Result<(), AllocError> {
+    let ended = Ended::at_once(&session.timeline, Some(cause));
+    tell_end(session, &ended, MOST_STEPS)
+}
+
+/// Why no step is made where jobs were started just now: one stands at a breakpoint, or before a call on
+/// the lock at which runs stop.
+fn cause_at_start(session: &Session<'_>) -> Result<Option<Cause>, AllocError> {
     let mut numbers = Vec::new(session.alloc);
     for job in session.jobs.as_slice() {
         numbers.push(job.shown.number)?;
     }
-    let mut there = breakpoint_of(session.machine(), &session.list, numbers.as_slice());
-    if there.is_none() {
-        there = call_of(session, numbers.as_slice())?;
+    let breakpoint = breakpoint_of(session.machine(), &session.list, numbers.as_slice());
+    if breakpoint.is_some() {
+        return Ok(breakpoint);
     }
-    if there.is_some() {
-        let ended = Ended::at_once(&session.timeline, there);
-        return tell_end(session, &ended, MOST_STEPS);
-    }
-    proceed(session, 1)
+    call_of(session, numbers.as_slice())
 }
 
 /// The first of some jobs that stands before a call on the lock at which runs stop.
