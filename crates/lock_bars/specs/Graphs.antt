@@ -1,7 +1,9 @@
 -- The graph of waits as a table with a place for each two jobs (this project's profile).
 use Rattle.std.specs.Prelude.{◌≡◌, ◌<◌, ◌/◌, ◌%◌, ℕ, Bool, false, ◌&&◌, List, Option, Some, None, if◌then◌else◌, slice_index_or}
 use Rattle.word36.specs.declared.sizes.TheConstants.{JOBS}
-use Rattle.lock_queue.specs.Waits.{leads_to}
+use Rattle.lock_queue.specs.Jobs.{waits_for}
+use Rattle.lock_queue.specs.Waits.{leads_to, waits_hard_for}
+use Rattle.lock_queue.specs.declared.request.Request.{Request}
 use Rattle.queue_script.specs.WaitPairs.{pair_in}
 use Rattle.queue_script.specs.declared.circles.TheConstants.{NUMBERS, PAIRS}
 use Rattle.lock_bars.specs.declared.graph.Graph.{Graph}
@@ -21,3 +23,10 @@ wait_in graph j k =
     if pair_in graph.waits j k
     then Some (record { job = j; other = k; is_hard = pair_in graph.hard j k; is_in_circle = pair_in graph.circles j k })
     else None
+
+-- a graph tells who waits for whom behind these requests, who for an owner, and which waits are in a circle
+abbrev pub Shows : List Request → Graph → Type 0
+Shows requests graph =
+    Tells graph.waits (waits_for requests)
+    × Tells graph.hard (waits_hard_for requests)
+    × Tells graph.circles (closes_circle (pair_in graph.waits))

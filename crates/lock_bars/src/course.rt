@@ -1,6 +1,7 @@
 //! What is seen along a script.
-ghost use Rattle.std.specs.Prelude.{◌≡◌, ◌+◌, ◌++◌, ◌∷◌, [], length, OnOk};
+ghost use Rattle.std.specs.Prelude.{◌≡◌, ◌≢◌, ◌+◌, ◌++◌, ◌∷◌, [], Some, None, length, IsSome, IfSome, OnOk};
 ghost use Rattle.lock_bars.specs.Bars.{bars_after};
+ghost use Rattle.lock_bars.specs.Graphs.{Shows};
 
 use crate::bars::{Bar, record_line};
 use crate::columns::Column;
@@ -27,6 +28,7 @@ impl Course {
         ensures lines { result.lines ≡ 0 }
         ensures columns { result.columns.items ≡ [] }
         ensures bars { result.bars.items ≡ [] }
+        ensures waits { result.waits ≡ None }
     {
         Course {
             lines: 0,
@@ -47,6 +49,7 @@ impl Course {
         ensures columns { OnOk result (self.new.columns.items ≡ self.old.columns.items ++ column ∷ []) }
         ensures bars { OnOk result (self.new.bars.items
             ≡ bars_after (length self.old.columns.items + 1) self.old.bars.items (L.requests table.now)) }
+        ensures waits { self.new.waits ≡ self.old.waits }
     {
         self.columns.push(column)?;
         let columns = self.columns.as_slice().len();
@@ -64,6 +67,10 @@ impl Course {
         ensures lines { self.new.lines ≡ number }
         ensures columns { self.new.columns ≡ self.old.columns }
         ensures bars { self.new.bars ≡ self.old.bars }
+        ensures kept { at ≢ Some number → self.new.waits ≡ self.old.waits }
+        ensures found { OnOk result (at ≡ Some number → IsSome self.new.waits) }
+        ensures waits { OnOk result (at ≡ Some number → IfSome self.new.waits (λ w.
+            Shows (L.requests table.now) w.0 × (w.1 ≡ length self.old.columns.items))) }
     {
         self.lines = number;
         if at == Some(number) {

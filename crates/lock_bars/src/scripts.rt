@@ -1,7 +1,8 @@
 //! The pictures of scripts.
-ghost use Rattle.std.specs.Prelude.{◌≡◌, IfOk, IfErr, length, true, false};
+ghost use Rattle.std.specs.Prelude.{◌≡◌, ◌⊎◌, None, IfOk, IfErr, IfSome, length, unwrap_or, true, false};
 ghost use Rattle.queue_script.specs.QueueScripts.{transcript};
 ghost use Rattle.script_io.specs.declared.endings.Ending.TheVariants as ending;
+ghost use Rattle.lock_bars.specs.Graphs.{Shows};
 ghost use Rattle.lock_bars.specs.Courses.{course, IsFaultOf, tells_no_line};
 
 use crate::course::Course;
@@ -24,7 +25,11 @@ pub fn drawing_of<L: LockTable>(
 ) -> Result<Drawing, ScriptError>
     ensures columns { IfOk result (λ drawing. drawing.columns ≡ seen.columns) }
     ensures bars { IfOk result (λ drawing. drawing.bars ≡ seen.bars) }
+    ensures asked { IfOk result (λ drawing. IfSome seen.waits (λ w. (drawing.graph ≡ w.0) × (drawing.at_column ≡ w.1))) }
+    ensures end { IfOk result (λ drawing. seen.waits ≡ None → Shows (L.requests table.now) drawing.graph × (drawing.at_column ≡ length seen.columns.items)) }
+    ensures at { IfOk result (λ drawing. drawing.at ≡ unwrap_or at seen.lines) }
     ensures no_line { IfErr result (λ e. tells_no_line e ≡ true) }
+    ensures short { IfErr result (λ e. (e ≡ ScriptError.Memory) ⊎ (e ≡ ScriptError.Short seen.lines)) }
 {
     let Course {
         lines,

@@ -1,5 +1,5 @@
 //! Circles of waits.
-ghost use Rattle.std.specs.Prelude.{◌≡◌, ◌<◌, true, IfOk, IfSome};
+ghost use Rattle.std.specs.Prelude.{◌≡◌, ◌<◌, ◌↔◌, true, Some, IsTrue, IfOk, IfSome, slice_get};
 ghost use Rattle.lock_queue.specs.Waits.{is_circle, is_in_circle, is_walk};
 ghost use Rattle.queue_script.specs.WaitPairs.{MarksWaiters, pair_in};
 
@@ -51,6 +51,16 @@ fn is_circle(pairs: &PairTable, circle: &[u8]) -> bool
     }
 }
 
+/// Whether some jobs begin with this one.
+fn is_first(circle: &[u8], job: u8) -> bool
+    ensures { IsTrue result ↔ (slice_get circle.now 0 ≡ Some job) }
+{
+    match circle {
+        [] => false,
+        [first, ..] => *first == job,
+    }
+}
+
 /// How many steps of waits lead from each job to the target at least; 0 where none lead there.
 fn steps_to(pairs: &PairTable, target: u8) -> [u8; NUMBERS] {
     let mut steps = [0u8; NUMBERS];
@@ -79,7 +89,8 @@ pub fn circle_through(
     pairs: &PairTable,
     job: u8,
 ) -> Result<Option<Vec<u8>>, AllocError>
-    ensures { IfOk result (λ o. IfSome o (λ circle. is_circle (pair_in pairs.now) circle.items ≡ true)) }
+    ensures circle { IfOk result (λ o. IfSome o (λ circle. is_circle (pair_in pairs.now) circle.items ≡ true)) }
+    ensures through { IfOk result (λ o. IfSome o (λ circle. slice_get circle.items 0 ≡ Some job)) }
 {
     let steps = steps_to(pairs, job);
     let mut circle = Vec::new(alloc);
@@ -98,7 +109,7 @@ pub fn circle_through(
             None => break,
         }
     }
-    if is_circle(pairs, circle.as_slice()) {
+    if is_first(circle.as_slice(), job) && is_circle(pairs, circle.as_slice()) {
         Ok(Some(circle))
     } else {
         Ok(None)
