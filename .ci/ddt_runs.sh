@@ -1,9 +1,9 @@
 #!/usr/bin/env bash
 # Runs `ddt` over the sessions of examples/ and tests/ddt: NAME.ddt, whose first line names the words of the command,
-# has NAME.out, the session with an answer behind each line. The session is obeyed twice, from a file by .DO, and over a pipe, where
-# the answers alone are written. Then the lines of a session are saved and obeyed once more, and 10,000 lines of
-# chance end in nothing but answers. The argument is the program; without it the one that `rt ci` built. `--write`
-# behind it writes each NAME.out anew.
+# has NAME.out, the session with an answer behind each line. The session is obeyed twice, from a file by .DO, and over
+# a pipe, where the answers alone are written. Then the lines of a session are saved and obeyed once more, lines are
+# too long, an answer comes before the next line, and 10,000 lines of chance end in nothing but answers. The argument
+# is the program; without it the one that `rt ci` built. `--write` behind it writes each NAME.out anew.
 set -u
 export LC_ALL=C
 cd "$(dirname "$(readlink -f "$0")")/.."
@@ -35,6 +35,18 @@ done
 # what a session writes by .SAVE is the session
 { cat "$top/tests/ddt/back.ddt"; echo .SAVE saved; } | "$program" counter.mac >first
 echo .DO saved | "$program" counter.mac | grep -v '^\* ' | cmp -s - first || say "a saved session gives other answers"
+
+# a line of 256 characters is read, one of 257 is passed over
+{ printf '%256s\n' '.='; printf '%257s\n' '.='; echo .=; } | "$program" counter.mac >given
+printf '%s\n' '000000,,000140' '? a line has at most 256 characters' '000000,,000140' | cmp -s - given || say "a line that is too long: $(cat given)"
+
+# an answer is written before the next line is read
+coproc "$program" counter.mac
+echo .= >&"${COPROC[1]}"
+read -r -t 20 answer <&"${COPROC[0]}" || say "no answer before the next line"
+[ "${answer-}" = 000000,,000140 ] || say "the answer before the next line: ${answer-}"
+echo .QUIT >&"${COPROC[1]}"
+wait
 
 # lines of chance: tokens of the grammar, in any order, and bytes
 awk 'BEGIN {
