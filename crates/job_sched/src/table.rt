@@ -69,9 +69,9 @@ fn first_behind(number: u8, vacant_from: u8) -> u8
     }
 }
 
-/// Whether the wait of a job holds, told in place.
-#[inline(always)]
-fn holds_here<L: LockTable>(number: u8, job: &Job, lines: &Lines, locks: &L) -> bool
+/// Whether the wait of a job holds, out of line, where a job rarely waits.
+#[inline(never)]
+fn holds<L: LockTable>(number: u8, job: &Job, lines: &Lines, locks: &L) -> bool
     ensures { result ≡ holds lines.now (L.requests locks.now) number job.now.line job.now.wait }
 {
     match job.wait {
@@ -82,14 +82,6 @@ fn holds_here<L: LockTable>(number: u8, job: &Job, lines: &Lines, locks: &L) -> 
         Wait::Room(places) => lines.room(job.line) < places as usize,
         Wait::Queue(..) => locks.waiting(number),
     }
-}
-
-/// Whether the wait of a job holds, out of line, where a job rarely waits.
-#[inline(never)]
-fn holds<L: LockTable>(number: u8, job: &Job, lines: &Lines, locks: &L) -> bool
-    ensures { result ≡ holds lines.now (L.requests locks.now) number job.now.line job.now.wait }
-{
-    holds_here(number, job, lines, locks)
 }
 
 /// Whether a job is at a place, is not stopped, and waits for nothing any more. Most jobs wait for
@@ -285,17 +277,20 @@ impl JobTable {
         }
     }
 
-    /// Whether the job of a number that has a place is ready. It is asked of one job after another, of
-    /// which most wait: so their waits are told in place.
+    /// Whether the job of a number that has a place is ready. It is asked of one job after another. Where
+    /// many of them wait it is mostly for a lock: so that wait is looked at first.
     #[inline(always)]
     fn is_ready_at<L: LockTable>(&self, number: u8, lines: &Lines, locks: &L) -> bool
         requires { number ≤ JOBS }
         ensures { result ≡ is_ready self.now.jobs lines.now (L.requests locks.now) number }
     {
-        let Some(job) = &self.jobs[number as usize] else {
-            return false;
-        };
-        job.stop.is_none() && !holds_here(number, job, lines, locks)
+        let slot = &self.jobs[number as usize];
+        if let Some(job) = slot {
+            if let Wait::Queue(..) = job.wait {
+                return !locks.waiting(number) && job.stop.is_none();
+            }
+        }
+        is_ready_slot(number, slot, lines, locks)
     }
 
     /// The first ready number from one on and below another.
@@ -319,9 +314,11 @@ impl JobTable {
         requires most { from ≤ JOBS }
         ensures { result ≡ first_from (is_ready self.now.jobs lines.now (L.requests locks.now)) JOBS from }
     {
-        match self.first_between(from, self.vacant_from, lines, locks) {
+        // It is no more, but so the compiler knows that each number has a place.
+        let end = self.vacant_from.min(JOBS + 1);
+        match self.first_between(from, end, lines, locks) {
             Some(number) => Some(number),
-            None => self.first_between(1, from.min(self.vacant_from), lines, locks),
+            None => self.first_between(1, from.min(end), lines, locks),
         }
     }
 
