@@ -380,6 +380,7 @@ impl<L: LockTable, C: CoreStore> Parts<L, C> {
     }
 
     /// The wait of a job that holds.
+    #[inline(always)]
     fn held_wait(&self, n: u8, job: &Job) -> Wait
         ensures { result ≡ held_wait self.now.world.lines self.now.world.requests n job.now }
     {
@@ -395,6 +396,7 @@ impl<L: LockTable, C: CoreStore> Parts<L, C> {
     }
 
     /// What there is to see of a job.
+    #[inline(always)]
     pub fn job(&self, n: u8) -> Option<JobView>
         requires { Safe self.now }
         ensures { result ≡ job_view self.now.world n }

@@ -135,7 +135,9 @@ impl<L: LockTable, C: CoreStore> System<L, C> {
         }
     }
 
-    /// What there is to see of a job, if it is there.
+    /// What there is to see of a job, if it is there. It is inlined: a caller that asks for where the job
+    /// stands alone takes nothing more for it.
+    #[inline(always)]
     pub fn job(&self, n: u8) -> Option<JobView>
         ensures { result ≡ job_view self.now.world n }
     {
