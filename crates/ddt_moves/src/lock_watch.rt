@@ -2,11 +2,13 @@
 
 use crate::causes::Cause;
 use crate::stop_lists::StopList;
+use crate::turns::{NUMBERS, places_of};
 use ddt_session::{Machine, Watch};
 use lock_queue::{Name, Request};
 use run_facts::{is_new_grant, requests_in};
 use run_notes::{CallLook, snapshot_of};
 use std::alloc::{AllocError, Global};
+use word36::{Address, JOBS};
 
 /// What a run is looked at for behind each of its rounds.
 #[derive(Drop)]
@@ -15,6 +17,8 @@ pub struct LockWatch<'a> {
     list: &'a StopList,
     /// The requests before the round, where grants are looked at.
     pub requests: Vec<Request>,
+    /// Where each job stood before the round, where calls are looked at.
+    places: [Option<Address>; NUMBERS],
     /// Why the run ended, if this ended it.
     pub cause: Option<Cause>,
     /// Whether there was no memory.
@@ -48,6 +52,7 @@ impl<'a> LockWatch<'a> {
             alloc,
             list,
             requests: requests_in(alloc, machine.locks())?,
+            places: places_of(machine),
             cause: None,
             has_failed: false,
         })
@@ -66,17 +71,30 @@ impl<'a> LockWatch<'a> {
         Ok(false)
     }
 
+    /// The first job that came to a call on the lock in a round in which a job ran: it had its turn, or a
+    /// tick put its PC elsewhere.
+    fn caller(&mut self, machine: &Machine, ran: Option<u8>) -> Result<Option<u8>, AllocError> {
+        let Some(name) = &self.list.lock else {
+            return Ok(None);
+        };
+        let before = self.places;
+        self.places = places_of(machine);
+        for number in 1..JOBS + 1 {
+            let at = usize::from(number);
+            let has_come = ran == Some(number) || self.places[at] != before[at];
+            if has_come && stands_at_call(self.alloc, machine, number, name)? {
+                return Ok(Some(number));
+            }
+        }
+        Ok(None)
+    }
+
     /// Why the run ends behind a round in which a job ran, if it does.
     fn look(&mut self, machine: &Machine, ran: Option<u8>) -> Result<Option<Cause>, AllocError> {
         if self.sees_grant(machine)? {
             return Ok(Some(Cause::Grant));
         }
-        if let (Some(number), Some(name)) = (ran, &self.list.lock) {
-            if stands_at_call(self.alloc, machine, number, name)? {
-                return Ok(Some(Cause::Call(number)));
-            }
-        }
-        Ok(None)
+        Ok(self.caller(machine, ran)?.map(|number| Cause::Call(number)))
     }
 }
 

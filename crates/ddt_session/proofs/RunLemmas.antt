@@ -1,13 +1,13 @@
 -- Steps, one after the other.
 use Rattle.std.specs.Prelude.{position, OnSome, is_some}
-use Rattle.std.proofs.Common.{◌≡◌, ◌<◌, ◌∙◌, false, sym, ap, ℕ, zero, suc, ◌+◌, ◌++◌, true, List, [], ◌∷◌, Option, Some, None, take, refl, arith, length, get_or, add-one}
+use Rattle.std.proofs.Common.{◌≡◌, ◌<◌, ◌∙◌, false, sym, ap, ℕ, zero, suc, ◌+◌, ◌++◌, true, List, [], ◌∷◌, Option, Some, None, take, refl, arith, length, get_or, map, add-one}
 use Rattle.machine.specs.Machine.{S, after, stepped}
 use Rattle.machine.specs.Rounds.{rounds}
-use Rattle.ddt_session.specs.Stops.{ran_of, round, next_of, is_met, met_after}
+use Rattle.ddt_session.specs.Stops.{ran_of, round, next_of, is_met_at, looked, met_after}
 use Rattle.ddt_session.specs.Timelines.{made, played, reached, steps_in, steps_of}
 use Rattle.ddt_session.specs.declared.entries.Entry.{Entry}
 use Rattle.ddt_session.specs.declared.entries.Entry.TheVariants.{Rounds}
-use Rattle.ddt_session.specs.declared.stops.Stop.{Stop}
+use Rattle.ddt_session.specs.declared.stops.LookedAt.{LookedAt}
 
 -- a step's answer names the job that ran
 pub ran_stepped : (s : S) (o : Option ℕ) → ran_of (stepped s o).answer ≡ o
@@ -45,13 +45,24 @@ reached_more es e whole s all =
     ∙ ap (λ (ys : List Entry). made (played ys s) e) (sym (take-whole es))
     ∙ ap (λ (n : ℕ). made (played (take n es) s) e) (sym all)
 
+-- stops that were looked at before are looked at anew
+pub looked_again : (stops : List LookedAt) (s t : S) → map (looked t) (map (looked s) stops) ≡ map (looked t) stops
+looked_again [] s t = refl
+looked_again (p ∷ ps) s t = ap (λ (qs : List LookedAt). looked t p ∷ qs) (looked_again ps s t)
+
 -- what holds first after a round from a state, by the machine's own looking
-pub met_by : (stops : List Stop) (s m m' : S) (ran stop : Option ℕ) → m ≡ s → m' ≡ round m → ran ≡ next_of m → stop ≡ position (is_met m' ran) stops → stop ≡ met_after stops s
-met_by stops s m m' ran stop there made_so ran_so met =
+pub met_by : (stops seen : List LookedAt) (s m m' : S) (ran stop : Option ℕ) → m ≡ s → seen ≡ map (looked m) stops → m' ≡ round m → ran ≡ next_of m
+    → stop ≡ position (is_met_at m' ran) seen → stop ≡ met_after stops s
+met_by stops seen s m m' ran stop there seen_so made_so ran_so met =
     met
-    ∙ ap (λ (x : S). position (is_met x ran) stops) made_so
-    ∙ ap (λ (r : Option ℕ). position (is_met (round m) r) stops) ran_so
+    ∙ ap (λ (l : List LookedAt). position (is_met_at m' ran) l) seen_so
+    ∙ ap (λ (x : S). position (is_met_at x ran) (map (looked m) stops)) made_so
+    ∙ ap (λ (r : Option ℕ). position (is_met_at (round m) r) (map (looked m) stops)) ran_so
     ∙ ap (λ (x : S). met_after stops x) there
+
+-- the stops, looked at anew behind a round
+pub looked_on : (stops seen seen' : List LookedAt) (m m' : S) → seen ≡ map (looked m) stops → seen' ≡ map (looked m') seen → seen' ≡ map (looked m') stops
+looked_on stops seen seen' m m' before now = now ∙ ap (λ (l : List LookedAt). map (looked m') l) before ∙ looked_again stops m m'
 
 -- one step more, by the machine's own step
 pub one_more_by : (k : ℕ) (s m m' : S) → m ≡ after (rounds k true) s → m' ≡ round m → m' ≡ after (rounds (k + 1) true) s

@@ -1,5 +1,5 @@
 -- Where a run of steps stops (this project's profile).
-use Rattle.std.specs.Prelude.{ℕ, ◌==◌, ◌&&◌, nat_le, Bool, true, false, not, List, Option, Some, None, position}
+use Rattle.std.specs.Prelude.{ℕ, ◌==◌, ◌&&◌, ◌||◌, nat_le, Bool, true, false, not, List, Option, Some, None, map, position}
 use Rattle.word36.specs.declared.sizes.TheConstants.{JOBS}
 use Rattle.lock_queue.specs.Jobs.{waits_for}
 use Rattle.lock_queue.specs.Waits.{is_in_circle}
@@ -12,6 +12,7 @@ use Rattle.machine.specs.Views.{job_view, word_in}
 use Rattle.machine.specs.declared.event.Answer.{Answer}
 use Rattle.machine.specs.declared.event.Answer.TheVariants.{Ran, Idle, Done, Text, JobNumber, Refused}
 use Rattle.machine.specs.declared.view.JobView.{JobView}
+use Rattle.ddt_session.specs.declared.stops.LookedAt.{LookedAt}
 use Rattle.ddt_session.specs.declared.stops.Stop.{Stop}
 use Rattle.ddt_session.specs.declared.stops.Stop.TheVariants.{Place, Turn, Word, Circle, Input}
 
@@ -70,15 +71,34 @@ abbrev pub does_some_wait_for_input : S → Option ℕ → Bool
 does_some_wait_for_input s (Some job) = waits_for_input (job_view s.world job)
 does_some_wait_for_input s None = false
 
--- whether a stop holds after a round in which a job ran: that job stands at a place, or had its turn, or waits in a circle
--- or for characters, or a word is another
-abbrev pub is_met : S → Option ℕ → Stop → Bool
-is_met s ran (Place job place) = is_job ran job && stands_at (job_view s.world job) place
-is_met s ran (Turn job) = is_job ran job
-is_met s ran (Word job place word) = not (is_word (word_in s.world job place) word)
-is_met s ran Circle = is_some_in_circle s ran
-is_met s ran Input = does_some_wait_for_input s ran
+-- whether a stop is at a place and its job stands there
+abbrev pub is_at : S → Stop → Bool
+is_at s (Place job place) = stands_at (job_view s.world job) place
+is_at s (Turn job) = false
+is_at s (Word job place word) = false
+is_at s Circle = false
+is_at s Input = false
+
+-- whether a job came to a place in a round: it stands there, and it had its turn or stood elsewhere before
+abbrev pub has_come : Bool → Option ℕ → ℕ → Bool → Bool
+has_come stood ran job stands = stands && (is_job ran job || not stood)
+
+-- whether a stop holds after a round in which a job ran: a job came to a place, where stood says whether it stood there
+-- before; or a job had its turn; or a word is another; or the job that ran waits in a circle, or for characters
+abbrev pub is_met : Bool → S → Option ℕ → Stop → Bool
+is_met stood s ran (Place job place) = has_come stood ran job (stands_at (job_view s.world job) place)
+is_met stood s ran (Turn job) = is_job ran job
+is_met stood s ran (Word job place word) = not (is_word (word_in s.world job place) word)
+is_met stood s ran Circle = is_some_in_circle s ran
+is_met stood s ran Input = does_some_wait_for_input s ran
+
+-- a stop as it is looked at before a round, with whether its job stands there
+abbrev pub looked : S → LookedAt → LookedAt
+looked s p = record p { stood = is_at s p.stop }
+
+abbrev pub is_met_at : S → Option ℕ → LookedAt → Bool
+is_met_at s ran p = is_met p.stood s ran p.stop
 
 -- the first of some stops that holds after the round that begins in a state
-abbrev pub met_after : List Stop → S → Option ℕ
-met_after stops s = position (is_met (round s) (next_of s)) stops
+abbrev pub met_after : List LookedAt → S → Option ℕ
+met_after stops s = position (is_met_at (round s) (next_of s)) (map (looked s) stops)

@@ -11,6 +11,6 @@ mod traces;
 pub use entries::{Entry, perform, play};
 pub use instance::Machine;
 pub use replays::Replay;
-pub use stops::{NoWatch, Ran, Stop, Watch, run_until, some_go_on};
+pub use stops::{LookedAt, NoWatch, Ran, Stop, Watch, run_until, some_go_on};
 pub use timeline::Timeline;
 pub use traces::{Turns, last_at, last_turns, last_write};

@@ -1,8 +1,9 @@
 //! Runs of steps, up to the first after which a stop holds.
-ghost use Rattle.std.specs.Prelude.{◌≡◌, ◌+◌, ◌-◌, ◌<◌, ◌≤◌, ℕ, None, OnSome, position, true};
+ghost use Rattle.std.specs.Prelude.{◌≡◌, ◌+◌, ◌-◌, ◌<◌, ◌≤◌, ℕ, None, OnSome, map, position, true};
 ghost use Rattle.machine.specs.Machine.{after};
 ghost use Rattle.machine.specs.Rounds.{rounds};
-ghost use Rattle.ddt_session.specs.Stops.{ran_of, next_of, round, is_input, is_met, is_word, met_after, waits_in_circle};
+ghost use Rattle.ddt_session.specs.Stops.{ran_of, next_of, round, is_at, is_input, is_met, is_met_at, is_word, looked, met_after, stands_at, waits_in_circle};
+ghost use Rattle.machine.specs.Views.{job_view};
 
 use crate::instance::Machine;
 use job_sched::Wait;
@@ -14,7 +15,8 @@ use word36::{Address, Image, JOBS, Word};
 /// Where a run stops.
 #[derive(Clone, Copy, Debug)]
 pub enum Stop {
-    /// A job stands at a place, behind its turn.
+    /// A job came to a place: it stands there, and had its turn or stood elsewhere before, as where a time
+    /// limit ends and a tick puts its PC to the error return.
     Place(u8, Address),
     /// A job had its turn.
     Turn(u8),
@@ -24,6 +26,15 @@ pub enum Stop {
     Circle,
     /// A job had its turn and waits for characters.
     Input,
+}
+
+/// A stop that a run is looked at for.
+#[derive(Clone, Copy, Debug)]
+pub struct LookedAt {
+    /// The stop.
+    pub stop: Stop,
+    /// Whether it is at a place and its job stood there before the round.
+    pub stood: bool,
 }
 
 /// What else a run is looked at for behind each of its rounds.
@@ -107,14 +118,44 @@ fn is_input(wait: Wait) -> bool
     matches!(wait, Wait::Char | Wait::Line)
 }
 
-/// Whether a stop holds after a round in which a job ran.
+/// Whether a job stands at a place.
 #[inline(always)]
-fn is_met(machine: &Machine, ran: Option<u8>, stop: &Stop) -> bool
-    ensures { result ≡ is_met machine.now ran stop.now }
+fn stands_at(machine: &Machine, job: u8, place: Address) -> bool
+    ensures { result ≡ stands_at (job_view machine.now.world job) place }
+{
+    machine.job(job).is_some_and(|view| view.pc == place)
+}
+
+/// Whether a stop is at a place and its job stands there.
+#[inline(always)]
+fn is_at(machine: &Machine, stop: &Stop) -> bool
+    ensures { result ≡ is_at machine.now stop.now }
+{
+    match *stop {
+        Stop::Place(job, place) => stands_at(machine, job, place),
+        _ => false,
+    }
+}
+
+/// Notes at which of the stops jobs stand now.
+#[inline(always)]
+fn look(machine: &Machine, stops: &mut [LookedAt])
+    ensures { stops.new ≡ map (looked machine.now) stops.old }
+{
+    for one in stops.iter_mut() {
+        one.stood = is_at(machine, &one.stop);
+    }
+}
+
+/// Whether a stop holds after a round in which a job ran, where `stood` says whether its job stood at its
+/// place before.
+#[inline(always)]
+fn is_met(machine: &Machine, ran: Option<u8>, stop: &Stop, stood: bool) -> bool
+    ensures { result ≡ is_met stood machine.now ran stop.now }
 {
     match *stop {
         Stop::Place(job, place) => {
-            ran == Some(job) && machine.job(job).is_some_and(|view| view.pc == place)
+            stands_at(machine, job, place) && (ran == Some(job) || !stood)
         }
         Stop::Turn(job) => ran == Some(job),
         Stop::Word(job, place, word) => !is_word(machine.peek(job, place), word),
@@ -127,10 +168,12 @@ fn is_met(machine: &Machine, ran: Option<u8>, stop: &Stop) -> bool
 
 /// The first of some stops that holds after a round in which a job ran.
 #[inline(always)]
-fn first_met(machine: &Machine, ran: Option<u8>, stops: &[Stop]) -> Option<usize>
-    ensures { result ≡ position (is_met machine.now ran) stops.now }
+fn first_met(machine: &Machine, ran: Option<u8>, stops: &[LookedAt]) -> Option<usize>
+    ensures { result ≡ position (is_met_at machine.now ran) stops.now }
 {
-    stops.iter().position(|stop| is_met(machine, ran, stop))
+    stops
+        .iter()
+        .position(|one| is_met(machine, ran, &one.stop, one.stood))
 }
 
 /// Whether a job can go on now, or will by ticks alone.
@@ -165,13 +208,19 @@ fn runs_on(machine: &Machine, ran: Option<u8>) -> bool {
 
 /// Makes steps, each with a tick behind it, until a stop holds, so many are made, no job can go on, or
 /// what else is looked at ends the run.
-pub fn run_until<W: Watch>(machine: &mut Machine, stops: &[Stop], most: u32, watch: &mut W) -> Ran
+pub fn run_until<W: Watch>(
+    machine: &mut Machine,
+    stops: &mut [LookedAt],
+    most: u32,
+    watch: &mut W,
+) -> Ran
     ensures state { machine.new ≡ after (rounds result.made true) machine.old }
     ensures most { result.made ≤ most }
-    ensures none_over { (k : ℕ) → k + 1 < result.made → met_after stops.now (after (rounds k true) machine.old) ≡ None }
-    ensures last { OnSome result.stop (result.stop ≡ met_after stops.now (after (rounds (result.made - 1) true) machine.old)) }
+    ensures none_over { (k : ℕ) → k + 1 < result.made → met_after stops.old (after (rounds k true) machine.old) ≡ None }
+    ensures last { OnSome result.stop (result.stop ≡ met_after stops.old (after (rounds (result.made - 1) true) machine.old)) }
 {
     let mut is_sure = false;
+    look(machine, stops);
     for made in 0..most {
         if !is_sure && !some_go_on(machine) {
             return Ran {
@@ -197,6 +246,7 @@ pub fn run_until<W: Watch>(machine: &mut Machine, stops: &[Stop], most: u32, wat
             };
         }
         is_sure = runs_on(machine, ran);
+        look(machine, stops);
     }
     Ran {
         made: most,

@@ -3,13 +3,12 @@ ghost use Rattle.std.specs.Prelude.{◌≡◌, ◌+◌, ◌-◌, ◌≤◌, ◌<
 ghost use Rattle.word36.specs.declared.sizes.TheConstants.{MOST_REQUESTS};
 ghost use Rattle.machine.specs.Machine.{after, at_boot};
 ghost use Rattle.machine.specs.Rounds.{rounds};
-ghost use Rattle.ddt_session.specs.Stops.{met_after};
 ghost use Rattle.ddt_session.specs.Timelines.{made, reached, steps_in, steps_of};
 
 use crate::entries::{Entry, perform, play};
 use crate::instance::{Machine, boot};
 use crate::replays::Replay;
-use crate::stops::{Ran, Stop, Watch, run_until};
+use crate::stops::{LookedAt, Ran, Stop, Watch, run_until};
 use monitor::{Answer, Config};
 use std::alloc::{AllocError, Global};
 
@@ -80,6 +79,18 @@ fn beginning(entries: &Vec<Entry>, count: usize) -> &[Entry]
     ensures { result.now ≡ take count entries.now.items }
 {
     &entries.as_slice()[..count]
+}
+
+/// Some stops, to be looked at.
+fn looked_at(alloc: Global, stops: &[Stop]) -> Result<Vec<LookedAt>, AllocError> {
+    let mut looked = Vec::new(alloc);
+    for stop in stops {
+        looked.push(LookedAt {
+            stop: *stop,
+            stood: false,
+        })?;
+    }
+    Ok(looked)
 }
 
 impl Timeline {
@@ -180,8 +191,9 @@ impl Timeline {
         most: u32,
         watch: &mut W,
     ) -> Result<Ran, AllocError> {
+        let mut looked = looked_at(self.alloc, stops)?;
         self.cut()?;
-        let ran = run_until(&mut self.machine, stops, most, watch);
+        let ran = run_until(&mut self.machine, looked.as_mut_slice(), most, watch);
         self.part = ran.made;
         Ok(ran)
     }
