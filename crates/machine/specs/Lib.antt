@@ -13,3 +13,4 @@ pub mod Owners
 pub mod Alone
 pub mod Limits
 pub mod Stretches
+pub mod Between

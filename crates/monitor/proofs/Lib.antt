@@ -1,3 +1,4 @@
 pub mod Clearing
 pub mod SoundDeposits
 pub mod DepositedWords
+pub mod Running

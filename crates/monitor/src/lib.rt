@@ -5,9 +5,12 @@ mod cores;
 mod deposits;
 mod login;
 mod parts;
+mod rounds;
+mod runner;
 mod step;
 mod system;
 mod turn;
 
 pub use machine::{Answer, Config, Event, JobView, MOST_QUANTUM, RefusedEvent};
+pub use rounds::Rounds;
 pub use system::System;

@@ -1,9 +1,10 @@
 //! The parts of the machine, seen as one state, and what each event does to them.
-ghost use Rattle.std.specs.Prelude.{◌≡◌, ◌<◌, ◌≤◌, ◌^◌, ◌+◌, if◌then◌else◌, is_some, [], Some, IfOk, slice_get};
+ghost use Rattle.std.specs.Prelude.{◌≡◌, ◌<◌, ◌≤◌, ◌^◌, ◌+◌, if◌then◌else◌, is_some, [], ℕ, true, Some, IfOk, slice_get};
 ghost use Rattle.word36.specs.declared.sizes.TheConstants.{MOST_BLOCKS, MOST_REQUESTS};
 ghost use Rattle.core_store.specs.Cores.{IsJob, core_of};
 ghost use Rattle.job_sched.specs.Ready.{next_job};
 ghost use Rattle.job_sched.specs.Tables.{job_at};
+ghost use Rattle.machine.specs.Between.{Between, is_among, next_in};
 ghost use Rattle.machine.specs.Deposits.{deposited, started_at};
 ghost use Rattle.machine.specs.Images.{blocks_for};
 ghost use Rattle.machine.specs.Machine.{S, after, answers, refusal_of, stepped, ticked, killed, happens, at_boot, started, continued, restarted, typed, taken, admitted, first_quota, logged_in};
@@ -15,6 +16,8 @@ ghost use Rattle.machine.specs.Views.{job_view, held_wait, word_in};
 use crate::cores::give_all;
 use crate::deposits::{is_done, put_pc, put_word};
 use crate::login::{image_top, settle};
+use crate::rounds::Rounds;
+use crate::runner::{Runner, Several, UpTo};
 use crate::step::run_job_for;
 use core_store::CoreStore;
 use job_sched::{Job, JobError, JobTable, TimeOfDay, Wait};
@@ -69,29 +72,6 @@ impl<L: LockTable, C: CoreStore> Model for Parts<L, C> {
     } };
 }
 
-/// Rounds that were made.
-#[derive(Clone, Copy, Debug, PartialEq, Eq)]
-struct Rounds {
-    /// The job that ran in all of them, if one was ready.
-    job: Option<u8>,
-    /// How many were made.
-    made: u32,
-}
-
-impl Rounds {
-    /// In how many rounds no job ran, in some before them and in these: in all of these or in none.
-    #[inline(always)]
-    fn idle_after(self, before: u32) -> u32
-        requires { before + self.made < 2 ^ 32 }
-        ensures { result ≡ before + (if is_some self.job then 0 else self.made) }
-    {
-        match self.job {
-            Some(_) => before,
-            None => before + self.made,
-        }
-    }
-}
-
 /// How many requests a job may have when it begins, where the lock table holds so many.
 fn first_quota(size: usize) -> u16
     ensures { result ≡ first_quota size }
@@ -140,14 +120,19 @@ impl<L: LockTable, C: CoreStore> Parts<L, C> {
         ensures state { self.new ≡ (stepped self.old (next_job self.old.world.table self.old.world.lines self.old.world.requests)).state }
         ensures job { result ≡ next_job self.old.world.table self.old.world.lines self.old.world.requests }
     {
-        self.run_next::<false>(1, false).job
+        self.run_next::<Several, false>(1, false, &Several).job
     }
 
     /// The job that is next runs for some rounds, each a step with a tick behind it where `ticking`,
     /// but for the last one's tick; where no job is ready an idle round goes by. `IN_PLACE` is that of
-    /// `run_job`.
+    /// `run_job_for`.
     #[inline(always)]
-    fn run_next<const IN_PLACE: bool>(&mut self, most: u32, ticking: bool) -> Rounds
+    fn run_next<R: Runner, const IN_PLACE: bool>(
+        &mut self,
+        most: u32,
+        ticking: bool,
+        runner: &R,
+    ) -> Rounds
         requires safe { Safe self.old }
         requires some { 1 ≤ most }
         ensures state { ticked_if ticking self.new ≡ after (rounds result.made ticking) self.old }
@@ -155,6 +140,7 @@ impl<L: LockTable, C: CoreStore> Parts<L, C> {
         ensures count { runs_in (answers (rounds result.made ticking) self.old) + (if is_some result.job then 0 else result.made) ≡ result.made }
         ensures least { 1 ≤ result.made }
         ensures most { result.made ≤ most }
+        ensures between { (k : ℕ) → 1 ≤ k → k < result.made → Between self.old (after (rounds k ticking) self.old) result.job (R.ends runner.now) }
     {
         let Some(n) = self.table.next(&self.lines, &self.locks) else {
             return Rounds { job: None, made: 1 };
@@ -162,7 +148,7 @@ impl<L: LockTable, C: CoreStore> Parts<L, C> {
         let alone = self.table.is_alone(n);
         self.table.choose(n, self.quantum);
         let span = self.table.span(n, most, ticking, alone);
-        let made = run_job_for::<L, C, IN_PLACE>(
+        let made = run_job_for::<L, C, R, IN_PLACE>(
             n,
             span,
             ticking,
@@ -174,6 +160,7 @@ impl<L: LockTable, C: CoreStore> Parts<L, C> {
             &mut self.shared,
             &mut self.room,
             &mut self.time,
+            runner,
         );
         Rounds { job: Some(n), made }
     }
@@ -190,12 +177,30 @@ impl<L: LockTable, C: CoreStore> Parts<L, C> {
         let mut idle = 0;
         let mut left = most;
         while left > 0 {
-            let some = self.run_next::<IN_PLACE>(left, ticking);
+            let some = self.run_next::<Several, IN_PLACE>(left, ticking, &Several);
             idle = some.idle_after(idle);
             left -= some.made;
             self.tick_if(ticking);
         }
         most - idle
+    }
+
+    /// Rounds that are made at once, each a step with a tick behind it: those of the job that is next, as
+    /// long as nothing comes between them and up to the first that leaves it at one of some places.
+    #[inline(never)]
+    pub fn rounds_to(&mut self, most: u32, places: &[Address]) -> Rounds
+        requires safe { Safe self.old }
+        requires some { 1 ≤ most }
+        ensures state { self.new ≡ after (rounds result.made true) self.old }
+        ensures next { next_in self.old ≡ result.job }
+        ensures least { 1 ≤ result.made }
+        ensures most { result.made ≤ most }
+        ensures between { (k : ℕ) → 1 ≤ k → k < result.made → Between self.old (after (rounds k true) self.old) result.job (is_among places.now) }
+    {
+        let runner = UpTo { places };
+        let made = self.run_next::<UpTo<'_>, false>(most, true, &runner);
+        self.tick();
+        made
     }
 
     /// A tick, where `ticking`.

@@ -1,9 +1,10 @@
 //! The machine, which is safe at all times.
-ghost use Rattle.std.specs.Prelude.{ℕ, ◌≡◌, ◌≢◌, ◌≤◌, ◌⊎◌, true, false, is_some, Some, length, IfOk, slice_get};
+ghost use Rattle.std.specs.Prelude.{ℕ, ◌≡◌, ◌≢◌, ◌≤◌, ◌<◌, ◌⊎◌, true, false, is_some, Some, length, IfOk, slice_get};
 ghost use Rattle.word36.specs.declared.sizes.TheConstants.{MOST_REQUESTS};
 ghost use Rattle.lock_laws.specs.Circles.{NoPlainCircle};
 ghost use Rattle.machine.specs.Alone.{RunsAlone};
 ghost use Rattle.machine.specs.Along.{Along, Always};
+ghost use Rattle.machine.specs.Between.{Between, is_among, next_in};
 ghost use Rattle.machine.specs.Deposits.{deposited, started_at};
 ghost use Rattle.machine.specs.Machine.{happens, after, answers, at_boot};
 ghost use Rattle.machine.specs.Owners.{KeepsOwners};
@@ -20,6 +21,7 @@ ghost use Rattle.progress_laws.specs.Together.{IsGrantedInTime};
 ghost use Rattle.progress_laws.specs.Wakes.{FirstIsGranted, NobodyWaitsPastALimit, WaitersWaitForOthers, WhoHasRoomIsGranted};
 
 use crate::parts::Parts;
+use crate::rounds::Rounds;
 use core_store::CoreStore;
 use lock_queue::LockTable;
 use machine::{Answer, Config, Event, JobView};
@@ -133,6 +135,21 @@ impl<L: LockTable, C: CoreStore> System<L, C> {
         } else {
             self.parts.run_rounds::<false>(most, false)
         }
+    }
+
+    /// Makes rounds at once, each a step with a tick behind it, at most so many and one at least: those of
+    /// the job that is next, as long as it computes and its quantum lasts or no other job is ready, up to
+    /// the first behind which it stands at one of some places. Where no job is ready one round goes by.
+    /// A debugger runs to a place so.
+    pub fn rounds_to(&mut self, most: u32, places: &[Address]) -> Rounds
+        requires { 1 ≤ most }
+        ensures state { self.new ≡ after (rounds result.made true) self.old }
+        ensures next { next_in self.old ≡ result.job }
+        ensures least { 1 ≤ result.made }
+        ensures most { result.made ≤ most }
+        ensures between { (k : ℕ) → 1 ≤ k → k < result.made → Between self.old (after (rounds k true) self.old) result.job (is_among places.now) }
+    {
+        self.parts.rounds_to(most, places)
     }
 
     /// What there is to see of a job, if it is there. It is inlined: a caller that asks for where the job

@@ -1,41 +1,48 @@
 //! A job's turn.
-ghost use Rattle.std.specs.Prelude.{◌≡◌, ◌≢◌, ◌<◌, ◌≤◌, ◌+◌, ◌^◌, [], IfSome, None, true, false};
+ghost use Rattle.std.specs.Prelude.{◌≡◌, ◌≢◌, ◌<◌, ◌≤◌, ◌^◌, [], None, true, false};
 ghost use Rattle.core_store.specs.Cores.{IsJob, core_of};
 ghost use Rattle.ka_cpu.specs.Places.{are_legal};
 ghost use Rattle.ka_cpu.specs.Runs.{ran};
 ghost use Rattle.ka_cpu.specs.declared.outcome.StopReason.TheVariants.{IllegalAddress};
 ghost use Rattle.uuo_calls.specs.Around.{stopped};
+ghost use Rattle.machine.specs.Between.{NoneOver};
 ghost use Rattle.machine.specs.Stretches.{Stretch, stretch_by, stretch_of};
 ghost use Rattle.machine.specs.Turns.{Turn, delivered, interrupted_at};
 
+use crate::runner::Runner;
 use core_store::CoreStore;
 use job_sched::{Job, NO_FLAGS, Stop};
 use ka_cpu::{
-    Accumulator, CoreWords, JobMemory, Outcome, Regs, StopReason, are_legal_kept, pc_word,
-    run_steps_from, store, word_kept,
+    Accumulator, CoreWords, JobMemory, Outcome, Regs, StopReason, are_legal_kept, pc_word, store,
+    word_kept,
 };
 use lock_queue::{LockTable, RequestId};
 use machine::VECTOR_WORDS;
 use uuo_calls::MonitorCall;
 use word36::{Address, Word};
 
-/// Executes at most so many instructions of a job in its core, until one stops the job or calls the
-/// monitor, and counts them. `IN_PLACE` is that of `run_steps_from`.
+/// Executes at most so many instructions of a job in its core by a runner, until it ends them or one
+/// stops the job or calls the monitor, and counts them.
 #[inline(always)]
-fn execute<C: CoreStore, const IN_PLACE: bool>(
+fn execute<C: CoreStore, R: Runner>(
     number: u8,
     job: &mut Job,
     cores: &mut C,
     most: u32,
+    runner: &R,
 ) -> (u32, Option<MonitorCall>)
-    requires { IsJob number }
+    requires number { IsJob number }
+    requires some { 1 ≤ most }
     ensures turn { record {
       turn = record { job = job.new; cores = C.meaning cores.new; requests = []; call = result.1 };
       rounds = result.0;
-    } ≡ stretch_by number job.old (C.meaning cores.old) [] (ran most job.old.regs (core_of (C.meaning cores.old) number)) }
+    } ≡ stretch_by number job.old (C.meaning cores.old) [] (ran result.0 job.old.regs (core_of (C.meaning cores.old) number)) }
+    ensures least { 1 ≤ result.0 }
+    ensures most { result.0 ≤ most }
+    ensures none_over { NoneOver (R.ends runner.now) job.old.regs (core_of (C.meaning cores.old) number) result.0 }
 {
     let words = cores.window(number);
-    let (steps, outcome) = run_steps_from::<IN_PLACE>(&mut job.regs, words, u64::from(most));
+    let (steps, outcome) = runner.run(&mut job.regs, words, u64::from(most));
     let rounds = steps as u32;
     match outcome {
         Outcome::Done => (rounds, None),
@@ -97,20 +104,25 @@ fn deliver<L: LockTable, C: CoreStore>(
 
 /// A job's turn, whose wait is over, over at most so many rounds, and in how many.
 #[inline(always)]
-fn take_turn<L: LockTable, C: CoreStore, const IN_PLACE: bool>(
+fn take_turn<L: LockTable, C: CoreStore, R: Runner>(
     number: u8,
     job: &mut Job,
     locks: &mut L,
     cores: &mut C,
     most: u32,
+    runner: &R,
 ) -> (u32, Option<MonitorCall>)
     requires number { IsJob number }
-    ensures cores { C.meaning cores.new ≡ (stretch_of number most job.old (C.meaning cores.old) (L.requests locks.old)).turn.cores }
-    ensures job { job.new ≡ (stretch_of number most job.old (C.meaning cores.old) (L.requests locks.old)).turn.job }
+    requires some { 1 ≤ most }
+    ensures cores { C.meaning cores.new ≡ (stretch_of number result.0 job.old (C.meaning cores.old) (L.requests locks.old)).turn.cores }
+    ensures job { job.new ≡ (stretch_of number result.0 job.old (C.meaning cores.old) (L.requests locks.old)).turn.job }
     ensures turn { record {
       turn = record { job = job.new; cores = C.meaning cores.new; requests = L.requests locks.new; call = result.1 };
       rounds = result.0;
-    } ≡ stretch_of number most job.old (C.meaning cores.old) (L.requests locks.old) }
+    } ≡ stretch_of number result.0 job.old (C.meaning cores.old) (L.requests locks.old) }
+    ensures least { 1 ≤ result.0 }
+    ensures most { result.0 ≤ most }
+    ensures none_over { NoneOver (R.ends runner.now) job.old.regs (core_of (C.meaning cores.old) number) result.0 }
 {
     if job.interrupts.on && !job.interrupts.in_progress {
         if let Some(vector) = job.interrupts.vector {
@@ -120,27 +132,31 @@ fn take_turn<L: LockTable, C: CoreStore, const IN_PLACE: bool>(
             }
         }
     }
-    execute::<C, IN_PLACE>(number, job, cores, most)
+    execute::<C, R>(number, job, cores, most, runner)
 }
 
 /// The turn of a job that has core, and keeps some.
 #[inline(always)]
-pub(crate) fn run_turn<L: LockTable, C: CoreStore, const IN_PLACE: bool>(
+pub(crate) fn run_turn<L: LockTable, C: CoreStore, R: Runner>(
     number: u8,
     job: &mut Job,
     locks: &mut L,
     cores: &mut C,
     most: u32,
+    runner: &R,
 ) -> (u32, Option<MonitorCall>)
     requires number { IsJob number }
     requires core { core_of (C.meaning cores.old) number ≢ [] }
+    requires some { 1 ≤ most }
     ensures turn { record {
       turn = record { job = job.new; cores = C.meaning cores.new; requests = L.requests locks.new; call = result.1 };
       rounds = result.0;
-    } ≡ stretch_of number most job.old (C.meaning cores.old) (L.requests locks.old) }
-    ensures least { 1 ≤ most → 1 ≤ result.0 }
+    } ≡ stretch_of number result.0 job.old (C.meaning cores.old) (L.requests locks.old) }
+    ensures least { 1 ≤ result.0 }
+    ensures most { result.0 ≤ most }
+    ensures none_over { NoneOver (R.ends runner.now) job.old.regs (core_of (C.meaning cores.old) number) result.0 }
     ensures core { core_of (C.meaning cores.new) number ≢ [] }
     ensures wait { job.new.wait ≡ job.old.wait }
 {
-    take_turn::<L, C, IN_PLACE>(number, job, locks, cores, most)
+    take_turn::<L, C, R>(number, job, locks, cores, most, runner)
 }

@@ -18,3 +18,4 @@ pub mod Solitude
 pub mod Rounding
 pub mod Stretching
 pub mod Limiting
+pub mod Between

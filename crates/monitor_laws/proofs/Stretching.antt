@@ -47,7 +47,7 @@ done-is outcome.Done d = refl
 done-is (outcome.Stop r) d = absurd (cc)
 done-is (outcome.Call kind ac e) d = absurd (cc)
 
-done-after : (a : After) → is_done a.outcome ≡ true → record { regs = a.regs; core = a.core; outcome = outcome.Done } ≡ a
+pub done-after : (a : After) → is_done a.outcome ≡ true → record { regs = a.regs; core = a.core; outcome = outcome.Done } ≡ a
 done-after a d = ap (λ o. record { regs = a.regs; core = a.core; outcome = o }) (done-is a.outcome d)
 
 ran-last : (a : After) → is_done a.outcome ≡ true → ran_on 1 (ran 0 a.regs a.core) ≡ record { steps = 1; after = a }
@@ -60,7 +60,7 @@ ran-one g core =
     by_test (λ (r : Ran). r ≡ record { steps = 1; after = exec g core }) (is_done (exec g core).outcome) _ _
     (λ d. ran-last (exec g core) d) (λ _. refl)
 
-ran-some : (k : ℕ) (g : Regs) (core : List ℕ) → 1 ≤ (ran (suc k) g core).steps
+pub ran-some : (k : ℕ) (g : Regs) (core : List ℕ) → 1 ≤ (ran (suc k) g core).steps
 unfolding ran
 ran-some k g core = by_test (λ (r : Ran). 1 ≤ r.steps) (is_done (exec g core).outcome) _ _ (λ _. omega arith) (λ _. omega arith)
 
@@ -70,6 +70,10 @@ ran-most zero g core = omega arith
 ran-most (suc k) g core =
     by_test (λ (r : Ran). r.steps ≤ suc k) (is_done (exec g core).outcome) _ _
     (λ _. let h = ran-most k (exec g core).regs (exec g core).core in omega arith) (λ _. omega arith)
+
+pub ran-least : (k : ℕ) (g : Regs) (core : List ℕ) → 1 ≤ k → 1 ≤ (ran k g core).steps
+ran-least zero g core some = absurd (omega (arith, some))
+ran-least (suc k) g core some = ran-some k g core
 
 pub ran-length : (k : ℕ) (g : Regs) (core : List ℕ) → length (ran k g core).after.core ≡ length core
 unfolding ran
@@ -173,17 +177,17 @@ round-is s true = refl
 round-is s false = refl
 
 -- the state before the last tick of i + 1 rounds, whose last instruction left this
-abbrev ended_by : S → ℕ → Job → Bool → ℕ → After → S
+abbrev pub ended_by : S → ℕ → Job → Bool → ℕ → After → S
 ended_by s n j ticking i a =
     record s { world = ended s.world s.time s.quantum n ticking i (executed n (awake j) s.world.cores s.world.requests a); time = time_after s.time ticking i }
 
 -- the table between two rounds, of which i + 1 went by, where ticks go by
-abbrev between : Table → ℕ → Bool → ℕ → Table
+abbrev pub between : Table → ℕ → Bool → ℕ → Table
 between t quantum true i = record t { left = left_after quantum t.left i - 1 }
 between t quantum false i = t
 
 -- the state between two rounds, of which i + 1 went by
-abbrev going : S → ℕ → Job → Bool → ℕ → Regs → List ℕ → S
+abbrev pub going : S → ℕ → Job → Bool → ℕ → Regs → List ℕ → S
 going s n j ticking i g core =
     record s {
       world = record s.world {
@@ -195,23 +199,23 @@ going s n j ticking i g core =
     }
 
 -- a state where the job just became the one that runs, and goes on for so many rounds
-record Computes (s : S) (n : ℕ) (j : Job) (ticking alone : Bool) (most : ℕ) : Type 0 where
-  current : s.world.table.current ≡ n
-  quantum : 0 < s.world.table.left
-  lasts : ticking ≡ true → alone ≡ false → most ≤ s.world.table.left
-  only : alone ≡ true → first_from (is_ready s.world.table.jobs s.world.lines s.world.requests) JOBS (after_number n) ≡ Some n
-  quiet : ticking ≡ true → list_any is_sleeper s.world.table.jobs ≡ false
-  ready : is_ready s.world.table.jobs s.world.lines s.world.requests n ≡ true
-  closed : takes_interrupts j.interrupts ≡ false
-  stop : is_none j.stop ≡ true
-  place : n < length s.world.table.jobs
-  core : n < length s.world.cores.cores
+pub record Computes (s : S) (n : ℕ) (j : Job) (ticking alone : Bool) (most : ℕ) : Type 0 where
+  pub current : s.world.table.current ≡ n
+  pub quantum : 0 < s.world.table.left
+  pub lasts : ticking ≡ true → alone ≡ false → most ≤ s.world.table.left
+  pub only : alone ≡ true → first_from (is_ready s.world.table.jobs s.world.lines s.world.requests) JOBS (after_number n) ≡ Some n
+  pub quiet : ticking ≡ true → list_any is_sleeper s.world.table.jobs ≡ false
+  pub ready : is_ready s.world.table.jobs s.world.lines s.world.requests n ≡ true
+  pub closed : takes_interrupts j.interrupts ≡ false
+  pub stop : is_none j.stop ≡ true
+  pub place : n < length s.world.table.jobs
+  pub core : n < length s.world.cores.cores
 
 -- a state whose next step is the job's, from these registers and core
-record Poised (s : S) (n : ℕ) (j : Job) (ticking : Bool) (i : ℕ) (g : Regs) (core : List ℕ) (t : S) : Type 0 where
-  step : happens t Step ≡ record { state = ended_by s n j ticking i (exec g core); answer = RanAnswer n }
+pub record Poised (s : S) (n : ℕ) (j : Job) (ticking : Bool) (i : ℕ) (g : Regs) (core : List ℕ) (t : S) : Type 0 where
+  pub step : happens t Step ≡ record { state = ended_by s n j ticking i (exec g core); answer = RanAnswer n }
 
-none-due : (i : Interrupts) (id : Option ℕ) → takes_interrupts i ≡ false → due i id ≡ None
+pub none-due : (i : Interrupts) (id : Option ℕ) → takes_interrupts i ≡ false → due i id ≡ None
 none-due i id closed = by_parts i.on i.in_progress i.vector id closed
   where
     by_parts : (on in_progress : Bool) (vector : Option ℕ) (id : Option ℕ) → (on && not in_progress && is_some vector) ≡ false
@@ -222,7 +226,7 @@ none-due i id closed = by_parts i.on i.in_progress i.vector id closed
     by_parts true false (Some v) id e = absurd (cc)
 
 -- the job that runs, with these registers
-abbrev with_regs : Job → Regs → Job
+abbrev pub with_regs : Job → Regs → Job
 with_regs j g = record (awake j) { regs = g }
 
 -- a state with these parts
@@ -244,7 +248,7 @@ quiet-limited w none =
     (withdrawn-none w.requests (expires w.requests w.table.jobs) (expires-awake w.requests w.table.jobs none))
 
 -- a tick after a step that is done
-tick-done : (s : S) (n : ℕ) (j : Job) (ticking : Bool) (i : ℕ) (g : Regs) (core : List ℕ) → (ticking ≡ true → list_any is_sleeper s.world.table.jobs ≡ false)
+pub tick-done : (s : S) (n : ℕ) (j : Job) (ticking : Bool) (i : ℕ) (g : Regs) (core : List ℕ) → (ticking ≡ true → list_any is_sleeper s.world.table.jobs ≡ false)
     → ticked_if ticking (ended_by s n j ticking i (record { regs = g; core = core; outcome = outcome.Done })) ≡ going s n j ticking i g core
 tick-done s n j false i g core awake = refl
 tick-done s n j true i g core awake =
@@ -280,7 +284,7 @@ step-known t n j next there closed =
     (none-due j.interrupts (pending t.world.requests n) closed)
 
 -- the first step of the job
-poised-first : (s : S) (n : ℕ) (j : Job) (ticking : Bool) → next_job s.world.table s.world.lines s.world.requests ≡ Some n
+pub poised-first : (s : S) (n : ℕ) (j : Job) (ticking : Bool) → next_job s.world.table s.world.lines s.world.requests ≡ Some n
     → job_at s.world.table.jobs n ≡ Some j
     → takes_interrupts j.interrupts ≡ false
     → Poised (record s { world = record s.world { table = chosen s.world.table n s.quantum } }) n j ticking 0 j.regs (core_of s.world.cores n) s
@@ -386,7 +390,7 @@ ended-again s n j ticking i o core r =
     ∙ ended-turn s n ticking i o core (executed n (awake j) s.world.cores s.world.requests r)
 
 -- the job is next again, as its quantum lasts or no other is ready
-next-going : (s : S) (n : ℕ) (j : Job) (ticking alone : Bool) (most i : ℕ) (g : Regs) → Computes s n j ticking alone most → suc i < most
+pub next-going : (s : S) (n : ℕ) (j : Job) (ticking alone : Bool) (most i : ℕ) (g : Regs) → Computes s n j ticking alone most → suc i < most
     → next_job (between (with_job s.world.table n (Some (with_regs j g))) s.quantum ticking i) s.world.lines s.world.requests ≡ Some n
 next-going s n j false alone most i g h more =
     next-current (with_job s.world.table n (Some (with_regs j g))) s.world n (with_regs j g) h.current h.quantum
@@ -446,9 +450,9 @@ poised-going s n j ticking alone most i g core h more =
     jobs-between t false i = refl
 
 -- so many rounds, of which each ran, lead to the last one's end
-record Reached (s : S) (n : ℕ) (j : Job) (ticking : Bool) (i : ℕ) (t : S) (r : Ran) : Type 0 where
-  state : after (rounds r.steps ticking) t ≡ ticked_if ticking (ended_by s n j ticking (i + (r.steps - 1)) r.after)
-  count : runs_in (answers (rounds r.steps ticking) t) ≡ r.steps
+pub record Reached (s : S) (n : ℕ) (j : Job) (ticking : Bool) (i : ℕ) (t : S) (r : Ran) : Type 0 where
+  pub state : after (rounds r.steps ticking) t ≡ ticked_if ticking (ended_by s n j ticking (i + (r.steps - 1)) r.after)
+  pub count : runs_in (answers (rounds r.steps ticking) t) ≡ r.steps
 
 reached-one : (s : S) (n : ℕ) (j : Job) (ticking : Bool) (i : ℕ) (g : Regs) (core : List ℕ) (t : S) → Poised s n j ticking i g core t
     → Reached s n j ticking i t (record { steps = 1; after = exec g core })
@@ -476,7 +480,7 @@ reached-more s n j ticking i t u r some first goes h =
           ∙ ap (λ (k : ℕ). 1 + k) h.count;
     }
 
-reached : (k : ℕ) (s : S) (n : ℕ) (j : Job) (ticking alone : Bool) (most i : ℕ) (g : Regs) (core : List ℕ) (t : S)
+pub reached : (k : ℕ) (s : S) (n : ℕ) (j : Job) (ticking alone : Bool) (most i : ℕ) (g : Regs) (core : List ℕ) (t : S)
     → i + suc k ≤ most → Computes s n j ticking alone most
     → Poised s n j ticking i g core t
     → Reached s n j ticking i t (ran (suc k) g core)
@@ -505,7 +509,7 @@ pub record GoesOn (s : S) (ticking : Bool) (k : ℕ) (x : Stretched) : Type 0 wh
   pub most : x.rounds ≤ k
 
 -- the world in which a job becomes the one that runs
-abbrev chosen_world : S → ℕ → World
+abbrev pub chosen_world : S → ℕ → World
 chosen_world s n = record s.world { table = chosen s.world.table n s.quantum }
 
 goes-one : (s : S) (n : ℕ) (ticking : Bool) → next_job s.world.table s.world.lines s.world.requests ≡ Some n
@@ -517,26 +521,28 @@ goes-one s n ticking next = record {
   most = omega arith;
 }
 
-jobs-of_chosen : (t : Table) (n quantum : ℕ) → (chosen t n quantum).jobs ≡ t.jobs
+pub jobs-of_chosen : (t : Table) (n quantum : ℕ) → (chosen t n quantum).jobs ≡ t.jobs
 jobs-of_chosen t n quantum = by_test (λ (u : Table). u.jobs ≡ t.jobs) ((t.current == n) && nat_lt 0 t.left) _ _ (λ _. refl) (λ _. refl)
 
-goes-some : (s : S) (n k : ℕ) (ticking : Bool) (o : Option Job) → Safe s → next_job s.world.table s.world.lines s.world.requests ≡ Some n
-    → Undisturbed (chosen s.world.table n s.quantum) n ticking (is_alone s.world.table n) (suc k) → job_at s.world.table.jobs n ≡ o
-    → GoesOn s ticking (suc k) (runs_on (chosen_world s n) s.time s.quantum n (suc k) ticking o)
-goes-some s n k ticking None safe next u there = absurd (false≢true (subst (λ (o : Option Job). IsSome o) there (runs-next s n safe next).there))
-goes-some s n k ticking (Some j) safe next u there =
+-- a job that is next, and that nothing disturbs for so many rounds
+pub closed-undisturbed : (s : S) (n most : ℕ) (j : Job) (ticking : Bool)
+    → Undisturbed (chosen s.world.table n s.quantum) n ticking (is_alone s.world.table n) most → job_at s.world.table.jobs n ≡ Some j
+    → takes_interrupts j.interrupts ≡ false
+closed-undisturbed s n most j ticking u there =
+    sym (ap (λ (l : List (Option Job)). is_open (job_at l n)) (jobs-of_chosen s.world.table n s.quantum) ∙ ap is_open there) ∙ u.closed
+
+pub computes-undisturbed : (s : S) (n most : ℕ) (j : Job) (ticking : Bool) → Safe s → next_job s.world.table s.world.lines s.world.requests ≡ Some n
+    → Undisturbed (chosen s.world.table n s.quantum) n ticking (is_alone s.world.table n) most → job_at s.world.table.jobs n ≡ Some j
+    → Computes (record s { world = chosen_world s n }) n j ticking (is_alone s.world.table n) most
+computes-undisturbed s n most j ticking safe next u there =
     let runs : Runs s n = runs-next s n safe next in
     let jobs = jobs-of_chosen s.world.table n s.quantum in
-    let core = core_of s.world.cores n in
-    let alone : Bool = is_alone s.world.table n in
     let is_next : is_ready s.world.table.jobs s.world.lines s.world.requests n ≡ true = next-ready s.world.table s.world.lines s.world.requests n next in
-    let closed : takes_interrupts j.interrupts ≡ false = sym (ap (λ (l : List (Option Job)). is_open (job_at l n)) jobs ∙ ap is_open there) ∙ u.closed in
     let ready : is_ready_job s.world.lines s.world.requests n (Some j) ≡ true =
     sym (ap (λ (o : Option Job). is_ready_job s.world.lines s.world.requests n o) there) ∙ is_next in
     let places : length (chosen s.world.table n s.quantum).jobs ≡ JOBS + 1 = ap (λ (l : List (Option Job)). length l) jobs ∙ safe.housed.places in
     let low : n ≤ JOBS = runs.number.1 in
-    let base : S = record s { world = chosen_world s n } in
-    let h : Computes base n j ticking alone (suc k) = record {
+    record {
       current = u.current;
       quantum = u.quantum;
       lasts = u.lasts;
@@ -545,14 +551,24 @@ goes-some s n k ticking (Some j) safe next u there =
           ∙ after-itself s.world.table s.world.lines s.world.requests n next e;
       quiet = u.awake;
       ready = ap (λ (l : List (Option Job)). is_ready l s.world.lines s.world.requests n) jobs ∙ is_next;
-      closed = closed;
+      closed = closed-undisturbed s n most j ticking u there;
       stop = (and_parts (is_none j.stop) _ ready).0;
       place = omega (arith, places, low);
       core = omega (arith, safe.housed.store.jobs, low);
-    } in
+    }
+
+goes-some : (s : S) (n k : ℕ) (ticking : Bool) (o : Option Job) → Safe s → next_job s.world.table s.world.lines s.world.requests ≡ Some n
+    → Undisturbed (chosen s.world.table n s.quantum) n ticking (is_alone s.world.table n) (suc k) → job_at s.world.table.jobs n ≡ o
+    → GoesOn s ticking (suc k) (runs_on (chosen_world s n) s.time s.quantum n (suc k) ticking o)
+goes-some s n k ticking None safe next u there = absurd (false≢true (subst (λ (o : Option Job). IsSome o) there (runs-next s n safe next).there))
+goes-some s n k ticking (Some j) safe next u there =
+    let core = core_of s.world.cores n in
+    let base : S = record s { world = chosen_world s n } in
+    let closed = closed-undisturbed s n (suc k) j ticking u there in
+    let h = computes-undisturbed s n (suc k) j ticking safe next u there in
     let r : Ran = ran (suc k) j.regs core in
     let all : Reached base n j ticking 0 s r =
-    reached k base n j ticking alone (suc k) 0 j.regs core s (omega arith) h (poised-first s n j ticking next there closed) in
+    reached k base n j ticking (is_alone s.world.table n) (suc k) 0 j.regs core s (omega arith) h (poised-first s n j ticking next there closed) in
     let turn : stretch_of n (suc k) (awake j) s.world.cores s.world.requests
     ≡ record { turn = executed n (awake j) s.world.cores s.world.requests r.after; rounds = r.steps } =
     ap (λ (d : Option (ℕ × ℕ)). stretched n (suc k) (awake j) s.world.cores s.world.requests d) (none-due j.interrupts (pending s.world.requests n) closed) in

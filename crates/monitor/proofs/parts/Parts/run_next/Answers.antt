@@ -3,6 +3,7 @@ use Rattle.job_sched.specs.Ready.{next_job}
 use Rattle.machine.specs.Machine.{S}
 use Rattle.machine.specs.Safe.{Safe}
 use Rattle.monitor_laws.proofs.Safety.{Runs, runs-next}
+use Rattle.monitor_laws.proofs.Between.{between-made, undisturbed-made}
 use Rattle.monitor_laws.proofs.Stretching.{rounds-made}
 use Rattle.monitor.proofs.parts.Parts.run_next.Goals as goal
 
@@ -50,15 +51,21 @@ returns g c =
       blocks = c.self.inside.blocks;
     } in
     let safe : Safe s = rw (← c.self.view_is) at c.requires.safe in
+    let next = sym c.next.ensures ∙ c.in-Some.is in
     let alone = rw (c.choose.ensures, c.is_alone-alone.ensures) at c.span-span.ensures.undisturbed in
-    let is = rw c.choose.ensures at c.run_job_for-made.ensures in
+    let fewer = undisturbed-made s c.in-Some.n c.span-span.result c.run_job_for-made.result c.args.ticking c.run_job_for-made.ensures.most alone in
+    let is = rw c.choose.ensures at c.run_job_for-made.ensures.runs in
+    let none = rw c.choose.ensures at c.run_job_for-made.ensures.none_over in
     let x =
-    rounds-made s c.in-Some.n c.span-span.result c.args.ticking _ _ c.run_job_for-made.result safe
-    (sym c.next.ensures ∙ c.in-Some.is) c.span-span.ensures.least alone is in
+    rounds-made s c.in-Some.n c.run_job_for-made.result c.args.ticking _ _ c.run_job_for-made.result safe next
+    c.run_job_for-made.ensures.least fewer is in
     record {
       state = rw (← c.self.view_is) x.state;
       job = rw (← c.self.view_is) (sym c.in-Some.is ∙ c.next.ensures);
       count = rw (← c.self.view_is) (omega (arith, x.count));
       least = x.least;
-      most = omega (arith, x.most, c.span-span.ensures.most);
+      most = omega (arith, c.run_job_for-made.ensures.most, c.span-span.ensures.most);
+      between =
+          λ k some less. rw (← c.self.view_is)
+          (between-made s c.in-Some.n c.run_job_for-made.result k c.args.ticking _ _ _ safe next fewer is none some less);
     }
