@@ -99,6 +99,10 @@ impl<'a> LockWatch<'a> {
 }
 
 impl Watch for LockWatch<'_> {
+    fn is_asked(&self) -> bool {
+        true
+    }
+
     fn is_met(&mut self, machine: &Machine, ran: Option<u8>) -> bool {
         match self.look(machine, ran) {
             Ok(cause) => self.cause = cause,

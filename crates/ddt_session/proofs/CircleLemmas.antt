@@ -1,7 +1,7 @@
 -- Circles of waits, by the table of pairs.
 use Rattle.std.specs.List.{list_any}
 use Rattle.std.specs.Prelude.{slice_index_or}
-use Rattle.std.proofs.Common.{◌≡◌, ◌<◌, ◌≤◌, ◌∙◌, ◌&&◌, ◌||◌, ap, ℕ, zero, suc, ◌+◌, ◌*◌, ◌/◌, ◌%◌, Bool, true, false, List, [], ◌∷◌, refl, arith}
+use Rattle.std.proofs.Common.{◌≡◌, ◌<◌, ◌≤◌, ◌∙◌, ◌&&◌, ◌||◌, ap, ℕ, zero, suc, ◌+◌, ◌*◌, ◌/◌, ◌%◌, Bool, false, List, refl, arith}
 use Rattle.word36.specs.declared.sizes.TheConstants.{JOBS}
 use Rattle.lock_queue.specs.Jobs.{waits_for}
 use Rattle.lock_queue.specs.Waits.{numbers_from, jobs, leads_to, is_in_circle}

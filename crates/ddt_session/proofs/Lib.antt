@@ -1,2 +1,3 @@
 pub mod CircleLemmas
 pub mod RunLemmas
+pub mod AtOnce

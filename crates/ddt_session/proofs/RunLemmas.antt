@@ -1,9 +1,9 @@
 -- Steps, one after the other.
-use Rattle.std.specs.Prelude.{position, OnSome, is_some}
+use Rattle.std.specs.Prelude.{OnSome, is_some}
 use Rattle.std.proofs.Common.{◌≡◌, ◌<◌, ◌∙◌, false, sym, ap, ℕ, zero, suc, ◌+◌, ◌++◌, true, List, [], ◌∷◌, Option, Some, None, take, refl, arith, length, get_or, map, add-one}
 use Rattle.machine.specs.Machine.{S, after, stepped}
 use Rattle.machine.specs.Rounds.{rounds}
-use Rattle.ddt_session.specs.Stops.{ran_of, round, next_of, is_met_at, looked, met_after}
+use Rattle.ddt_session.specs.Stops.{ran_of, round, looked}
 use Rattle.ddt_session.specs.Timelines.{made, played, reached, steps_in, steps_of}
 use Rattle.ddt_session.specs.declared.entries.Entry.{Entry}
 use Rattle.ddt_session.specs.declared.entries.Entry.TheVariants.{Rounds}
@@ -50,23 +50,9 @@ pub looked_again : (stops : List LookedAt) (s t : S) → map (looked t) (map (lo
 looked_again [] s t = refl
 looked_again (p ∷ ps) s t = ap (λ (qs : List LookedAt). looked t p ∷ qs) (looked_again ps s t)
 
--- what holds first after a round from a state, by the machine's own looking
-pub met_by : (stops seen : List LookedAt) (s m m' : S) (ran stop : Option ℕ) → m ≡ s → seen ≡ map (looked m) stops → m' ≡ round m → ran ≡ next_of m
-    → stop ≡ position (is_met_at m' ran) seen → stop ≡ met_after stops s
-met_by stops seen s m m' ran stop there seen_so made_so ran_so met =
-    met
-    ∙ ap (λ (l : List LookedAt). position (is_met_at m' ran) l) seen_so
-    ∙ ap (λ (x : S). position (is_met_at x ran) (map (looked m) stops)) made_so
-    ∙ ap (λ (r : Option ℕ). position (is_met_at (round m) r) (map (looked m) stops)) ran_so
-    ∙ ap (λ (x : S). met_after stops x) there
-
 -- the stops, looked at anew behind a round
 pub looked_on : (stops seen seen' : List LookedAt) (m m' : S) → seen ≡ map (looked m) stops → seen' ≡ map (looked m') seen → seen' ≡ map (looked m') stops
 looked_on stops seen seen' m m' before now = now ∙ ap (λ (l : List LookedAt). map (looked m') l) before ∙ looked_again stops m m'
-
--- one step more, by the machine's own step
-pub one_more_by : (k : ℕ) (s m m' : S) → m ≡ after (rounds k true) s → m' ≡ round m → m' ≡ after (rounds (k + 1) true) s
-one_more_by k s m m' there made_so = made_so ∙ ap (λ (x : S). round x) there ∙ sym (rounds-one_more k s)
 
 steps-next : (es : List Entry) (i : ℕ) (e : Entry) → i < length es → e ≡ get_or es i e → steps_in (take (suc i) es) ≡ steps_in (take i es) + steps_of e
 steps-next [] i e within is = absurd (omega (arith, within))

@@ -3,9 +3,9 @@ use Rattle.std.specs.Prelude.{ℕ, ◌==◌, ◌&&◌, ◌||◌, nat_le, Bool, t
 use Rattle.word36.specs.declared.sizes.TheConstants.{JOBS}
 use Rattle.lock_queue.specs.Jobs.{waits_for}
 use Rattle.lock_queue.specs.Waits.{is_in_circle}
-use Rattle.job_sched.specs.Ready.{next_job}
 use Rattle.job_sched.specs.declared.job.Wait.{Wait}
 use Rattle.job_sched.specs.declared.job.Wait.TheVariants.{None as Nothing, Sleep, Char, Line, Room, Queue}
+use Rattle.machine.specs.Between.{is_among, next_in}
 use Rattle.machine.specs.Machine.{S, after}
 use Rattle.machine.specs.Rounds.{rounds}
 use Rattle.machine.specs.Views.{job_view, word_in}
@@ -24,10 +24,6 @@ ran_of Done = None
 ran_of (Text text) = None
 ran_of (JobNumber n) = None
 ran_of (Refused r) = None
-
--- the job whose turn is next, if one is ready
-abbrev pub next_of : S → Option ℕ
-next_of s = next_job s.world.table s.world.lines s.world.requests
 
 -- a step with a tick behind it
 abbrev pub round : S → S
@@ -101,4 +97,15 @@ is_met_at s ran p = is_met p.stood s ran p.stop
 
 -- the first of some stops that holds after the round that begins in a state
 abbrev pub met_after : List LookedAt → S → Option ℕ
-met_after stops s = position (is_met_at (round s) (next_of s)) (map (looked s) stops)
+met_after stops s = position (is_met_at (round s) (next_in s)) (map (looked s) stops)
+
+-- whether a stop is at one of some places
+abbrev pub is_at_one_of : List ℕ → Stop → Bool
+is_at_one_of places (Place job place) = is_among places place
+is_at_one_of places (Turn job) = false
+is_at_one_of places (Word job place word) = false
+is_at_one_of places Circle = false
+is_at_one_of places Input = false
+
+abbrev pub is_within : List ℕ → LookedAt → Bool
+is_within places p = is_at_one_of places p.stop

@@ -1,8 +1,10 @@
 //! Runs of steps, up to the first after which a stop holds.
+ghost use Rattle.std.specs.List.{list_all};
 ghost use Rattle.std.specs.Prelude.{◌≡◌, ◌+◌, ◌-◌, ◌<◌, ◌≤◌, ℕ, None, OnSome, map, position, true};
 ghost use Rattle.machine.specs.Machine.{after};
 ghost use Rattle.machine.specs.Rounds.{rounds};
-ghost use Rattle.ddt_session.specs.Stops.{ran_of, next_of, round, is_at, is_input, is_met, is_met_at, is_word, looked, met_after, stands_at, waits_in_circle};
+ghost use Rattle.machine.specs.Between.{is_among, next_in};
+ghost use Rattle.ddt_session.specs.Stops.{ran_of, round, is_at, is_at_one_of, is_input, is_met, is_met_at, is_within, is_word, looked, met_after, stands_at, waits_in_circle};
 ghost use Rattle.machine.specs.Views.{job_view};
 
 use crate::instance::Machine;
@@ -39,6 +41,9 @@ pub struct LookedAt {
 
 /// What else a run is looked at for behind each of its rounds.
 pub trait Watch {
+    /// Whether it is to be asked behind each round; where not it need not be asked.
+    fn is_asked(&self) -> bool;
+
     /// Whether the run ends behind a round in which this job ran, if one did.
     fn is_met(&mut self, machine: &Machine, ran: Option<u8>) -> bool;
 }
@@ -48,6 +53,11 @@ pub trait Watch {
 pub struct NoWatch;
 
 impl Watch for NoWatch {
+    #[inline(always)]
+    fn is_asked(&self) -> bool {
+        false
+    }
+
     #[inline(always)]
     fn is_met(&mut self, _machine: &Machine, _ran: Option<u8>) -> bool {
         false
@@ -80,7 +90,7 @@ fn ran_of(answer: &Answer) -> Option<u8>
 #[tactic(auto, using(crate::proofs::RunLemmas::ran_stepped))]
 pub fn round(machine: &mut Machine) -> Option<u8>
     ensures state { machine.new ≡ round machine.old }
-    ensures ran { result ≡ next_of machine.old }
+    ensures ran { result ≡ next_in machine.old }
 {
     // An event may hold an image, of which these have none: the prover wants its type to be named.
     let _image: Option<&Image> = None;
@@ -206,11 +216,50 @@ fn runs_on(machine: &Machine, ran: Option<u8>) -> bool {
     }
 }
 
+/// Whether a place is one of some.
+fn is_among(places: &[Address], place: Address) -> bool
+    ensures { result ≡ is_among places.now place }
+{
+    places.iter().any(|one| *one == place)
+}
+
+/// Whether a stop is at one of some places.
+fn is_at_one_of(places: &[Address], stop: &Stop) -> bool
+    ensures { result ≡ is_at_one_of places.now stop.now }
+{
+    match *stop {
+        Stop::Place(_, place) => is_among(places, place),
+        _ => false,
+    }
+}
+
+/// Whether all stops are at some of these places.
+fn are_within(places: &[Address], stops: &[LookedAt]) -> bool
+    ensures { result ≡ list_all (is_within places.now) stops.now }
+{
+    stops.iter().all(|one| is_at_one_of(places, &one.stop))
+}
+
+/// How many rounds may be made at once: as many as there can be where all stops are at some of these
+/// places and nothing else is looked at behind each round, and otherwise one.
+fn most_at_once(places: &[Address], stops: &[LookedAt], is_watched: bool) -> u32
+    ensures least { 1 ≤ result }
+    ensures many { 2 ≤ result → list_all (is_within places.now) stops.now ≡ true }
+{
+    if !is_watched && are_within(places, stops) {
+        u32::MAX
+    } else {
+        1
+    }
+}
+
 /// Makes steps, each with a tick behind it, until a stop holds, so many are made, no job can go on, or
-/// what else is looked at ends the run.
+/// what else is looked at ends the run. Where all stops are at these places and nothing else is looked
+/// at, the rounds of a job are made at once up to the first that leaves it at one of them.
 pub fn run_until<W: Watch>(
     machine: &mut Machine,
     stops: &mut [LookedAt],
+    places: &[Address],
     most: u32,
     watch: &mut W,
 ) -> Ran
@@ -219,37 +268,36 @@ pub fn run_until<W: Watch>(
     ensures none_over { (k : ℕ) → k + 1 < result.made → met_after stops.old (after (rounds k true) machine.old) ≡ None }
     ensures last { OnSome result.stop (result.stop ≡ met_after stops.old (after (rounds (result.made - 1) true) machine.old)) }
 {
+    let at_once = most_at_once(places, stops, watch.is_asked());
+    let mut made = 0;
     let mut is_sure = false;
     look(machine, stops);
-    for made in 0..most {
+    while made < most {
         if !is_sure && !some_go_on(machine) {
-            return Ran {
-                made,
-                stop: None,
-                is_watched: false,
-            };
+            break;
         }
-        let ran = round(machine);
-        let stop = first_met(machine, ran, stops);
+        let rounds = machine.rounds_to(at_once.min(most - made), places);
+        made += rounds.made;
+        let stop = first_met(machine, rounds.job, stops);
         if stop.is_some() {
             return Ran {
-                made: made + 1,
+                made,
                 stop,
                 is_watched: false,
             };
         }
-        if watch.is_met(machine, ran) {
+        if watch.is_met(machine, rounds.job) {
             return Ran {
-                made: made + 1,
+                made,
                 stop: None,
                 is_watched: true,
             };
         }
-        is_sure = runs_on(machine, ran);
+        is_sure = runs_on(machine, rounds.job);
         look(machine, stops);
     }
     Ran {
-        made: most,
+        made,
         stop: None,
         is_watched: false,
     }

@@ -11,6 +11,7 @@ use crate::replays::Replay;
 use crate::stops::{LookedAt, Ran, Stop, Watch, run_until};
 use monitor::{Answer, Config};
 use std::alloc::{AllocError, Global};
+use word36::{Address, Word};
 
 /// A machine with all that has happened to it.
 ///
@@ -91,6 +92,19 @@ fn looked_at(alloc: Global, stops: &[Stop]) -> Result<Vec<LookedAt>, AllocError>
         })?;
     }
     Ok(looked)
+}
+
+/// The places of some stops.
+fn places_of(alloc: Global, stops: &[Stop]) -> Result<Vec<Address>, AllocError> {
+    // A stop may hold a word, of which these have none: the prover wants its type to be named.
+    let _word: Option<Word> = None;
+    let mut places = Vec::new(alloc);
+    for stop in stops {
+        if let Stop::Place(_, place) = *stop {
+            places.push(place)?;
+        }
+    }
+    Ok(places)
 }
 
 impl Timeline {
@@ -192,8 +206,15 @@ impl Timeline {
         watch: &mut W,
     ) -> Result<Ran, AllocError> {
         let mut looked = looked_at(self.alloc, stops)?;
+        let places = places_of(self.alloc, stops)?;
         self.cut()?;
-        let ran = run_until(&mut self.machine, looked.as_mut_slice(), most, watch);
+        let ran = run_until(
+            &mut self.machine,
+            looked.as_mut_slice(),
+            places.as_slice(),
+            most,
+            watch,
+        );
         self.part = ran.made;
         Ok(ran)
     }
