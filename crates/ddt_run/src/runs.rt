@@ -9,7 +9,7 @@ use ddt_moves::{
 };
 use ddt_session::{Stop, some_go_on};
 use std::alloc::AllocError;
-use word36::Word;
+use word36::{JOBS, Word};
 
 /// The most steps that a run makes of itself.
 const MOST_STEPS: u32 = 1_000_000_000;
@@ -26,7 +26,7 @@ fn stops_for(session: &Session<'_>, own: &[Stop]) -> Result<Stops, AllocError> {
 
 /// Types the next line of the input; false where none is left.
 fn type_next(session: &mut Session<'_>) -> Result<bool, AllocError> {
-    let lines = session.jobs.len().min(63) as u8;
+    let lines = session.jobs.len().min(usize::from(JOBS)) as u8;
     session.input.type_next(&mut session.timeline, lines)
 }
 
@@ -55,7 +55,7 @@ fn run(session: &mut Session<'_>, own: &[Stop], most: u32) -> Result<Ended, Allo
 fn start_jobs(session: &mut Session<'_>) -> Result<bool, AllocError> {
     let mut any = false;
     for number in 1..session.jobs.len().saturating_add(1) {
-        let number = number.min(63) as u8;
+        let number = number.min(usize::from(JOBS)) as u8;
         if is_loaded(session.machine(), number) {
             start(&mut session.timeline, number)?;
             any = true;

@@ -5,10 +5,7 @@ use ddt_lines::{Search, SearchKind};
 use ddt_session::Machine;
 use run_notes::effective_address;
 use std::alloc::AllocError;
-use word36::Word;
-
-/// The words of a block of core.
-const BLOCK: u32 = 1024;
+use word36::{BLOCK_WORDS, Word};
 
 /// Whether a word of a job is one that is searched for.
 fn is_found(machine: &Machine, number: u8, search: &Search, word: Word) -> bool {
@@ -30,7 +27,7 @@ pub fn search(session: &mut Session<'_>, search: &Search) -> Result<(), AllocErr
     let Some(view) = session.machine().job(number) else {
         return session.tell_job(number);
     };
-    for place in 0..view.blocks.saturating_mul(BLOCK) {
+    for place in 0..view.blocks.saturating_mul(BLOCK_WORDS as u32) {
         let Some(word) = session.machine().peek(number, place) else {
             break;
         };

@@ -5,7 +5,7 @@ use crate::obey::{Wish, obey_line};
 use crate::session::Session;
 use crate::texts;
 use line_ports::{Answers, Came, Failure, LineReader};
-use script_io::{ByteIn, ByteOut};
+use script_io::{ByteIn, ByteOut, LINE_LENGTH};
 use std::fs;
 use std::rt::Files;
 
@@ -38,7 +38,7 @@ impl<R: ByteIn + Drop, W: ByteOut + Drop, E: ByteOut + Drop> Served<'_, '_, R, W
             self.tell_person(texts::PROMPT)?;
             match self.input.next_line(&mut line)? {
                 Came::End => return Ok(()),
-                Came::TooLong => self.output.write(b"? a line has at most 256 characters\n")?,
+                Came::TooLong => self.refuse_length()?,
                 Came::Line => {
                     if !self.obey(rt, line.as_slice())? {
                         return Ok(());
@@ -54,6 +54,14 @@ impl<R: ByteIn + Drop, W: ByteOut + Drop, E: ByteOut + Drop> Served<'_, '_, R, W
         if self.is_person {
             self.errors.write(text.as_bytes())?;
         }
+        Ok(())
+    }
+
+    /// Says that a line is too long.
+    fn refuse_length(&mut self) -> Result<(), Failure> {
+        let alloc = self.session.alloc;
+        let text = format!(in alloc; "? a line has at most {LINE_LENGTH} characters\n")?;
+        self.output.write(text.as_str().as_bytes())?;
         Ok(())
     }
 

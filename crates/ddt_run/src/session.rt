@@ -7,7 +7,7 @@ use ddt_session::{Machine, Timeline};
 use ddt_show::{ShownJob, job_line, place_line, place_text};
 use job_sched::Wait;
 use std::alloc::{AllocError, Global};
-use word36::{Address, Word};
+use word36::{Address, JOBS, Word};
 
 /// A job of a session.
 #[derive(Drop)]
@@ -156,7 +156,7 @@ impl Session<'_> {
     /// Adds the lines on how all jobs stand.
     pub fn tell_jobs(&mut self) -> Result<(), AllocError> {
         for number in 1..self.jobs.len().saturating_add(1) {
-            self.tell_job(number.min(255) as u8)?;
+            self.tell_job(number.min(usize::from(JOBS)) as u8)?;
         }
         Ok(())
     }
