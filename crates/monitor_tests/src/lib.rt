@@ -17,6 +17,8 @@ mod limits;
 #[cfg(test)]
 mod locks;
 #[cfg(test)]
+mod places;
+#[cfg(test)]
 mod quotas;
 #[cfg(test)]
 mod rows;
