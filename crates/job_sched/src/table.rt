@@ -1,10 +1,12 @@
 //! The jobs by number, and which of them runs next.
 
-ghost use Rattle.std.specs.Prelude.{ℕ, Bool, false, ◌≡◌, ◌≢◌, ◌<◌, ◌≤◌, ◌-◌, ◌+◌, ◌==◌, ◌&&◌, ◌||◌, Some, None, length, map, OnOk, OnErr, IfSome};
+ghost use Rattle.std.specs.Prelude.{ℕ, Bool, List, true, false, ◌≡◌, ◌≢◌, ◌<◌, ◌≤◌, ◌-◌, ◌+◌, ◌==◌, ◌&&◌, ◌||◌, Some, None, length, map, OnOk, OnErr, IfSome};
 ghost use Rattle.std.specs.List.{list_any};
 ghost use Rattle.std.specs.Option.{option_copied, option_map};
 ghost use Rattle.word36.specs.declared.sizes.TheConstants.{JOBS};
 ghost use Rattle.lock_queue.specs.Jobs.{is_among, is_waiting_job};
+ghost use Rattle.lock_queue.specs.declared.request.Request.{Request};
+ghost use Rattle.tty_lines.specs.Rings.{Rings};
 ghost use Rattle.job_sched.specs.Jobs.{broken_job, going_on, resumed_job, started_job, ticked_job};
 ghost use Rattle.job_sched.specs.Limits.{expires, is_last_tick, limited_from, limited_job, limited_table};
 ghost use Rattle.job_sched.specs.Tables.{is_sleeper, job_at, no_jobs};
@@ -99,6 +101,17 @@ fn is_ready_slot<L: LockTable>(number: u8, slot: &Option<Job>, lines: &Lines, lo
     match job.wait {
         Wait::None => true,
         _ => !holds(number, job, lines, locks),
+    }
+}
+
+/// Whether a job is at a place, is not stopped, and waits for nothing at all: so it is ready.
+#[inline(always)]
+fn computes(slot: &Option<Job>) -> bool
+    ensures { (lines : List Rings) (requests : List Request) (n : ℕ) → result ≡ true → is_ready_job lines requests n slot.now ≡ true }
+{
+    match slot {
+        Some(job) => job.stop.is_none() && matches!(job.wait, Wait::None),
+        None => false,
     }
 }
 
@@ -333,12 +346,11 @@ impl JobTable {
             return Some(self.current);
         }
         let first = first_behind(self.current, self.vacant_from);
-        let number = if is_ready_slot(first, &self.jobs[first as usize], lines, locks) {
-            first
+        if computes(&self.jobs[first as usize]) {
+            Some(first)
         } else {
-            self.first_ready(first, lines, locks)?
-        };
-        Some(number)
+            self.first_ready(first, lines, locks)
+        }
     }
 
     /// A job is to run: it keeps what is left of its quantum where it is current, and gets a whole

@@ -6,8 +6,8 @@ use Rattle.job_sched.proofs.Circle.{found-first}
 use Rattle.job_sched.proofs.Sleepers.{none-at}
 use Rattle.job_sched.proofs.table.JobTable.next.Goals as goal
 
-pub returns-then-is_ready_slot : goal.returns-then-is_ready_slot
-returns-then-is_ready_slot g c =
+pub returns-then-computes : goal.returns-then-computes
+returns-then-computes g c =
     let jobs = c.self.inside.jobs in
     let lines = c.args.lines.now in
     let requests = g.L.LockTable.requests c.args.locks.now in
@@ -17,7 +17,6 @@ returns-then-is_ready_slot g c =
     let low : n < length jobs = omega (arith, c.first_behind-first.ensures.most, c.self.invariant.places) in
     let there = none-at jobs n c.index-self-first.result low in
     let passes : is_ready jobs lines requests n ≡ true =
-    ap (λ (o : Option Job). is_ready_job lines requests n o) (sym there) ∙ sym c.is_ready_slot.ensures
-    ∙ c.if-is_ready_slot.true in
+    ap (λ (o : Option Job). is_ready_job lines requests n o) (sym there) ∙ c.computes.ensures lines requests n c.if-computes.true in
     let found = sym (found-first (is_ready jobs lines requests) n passes) ∙ c.first_behind-first.ensures.found (is_ready jobs lines requests) fails in
     grind (arith, common_steps, found, c.self.view_is)
