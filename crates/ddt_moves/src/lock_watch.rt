@@ -40,6 +40,26 @@ pub fn stands_at_call(
     Ok(look.is_some_and(|call| call.is_on(machine, number, name)))
 }
 
+/// The first job that came to a call on a lock of this name in a round in which a job ran, where the jobs
+/// stood and stand at these places: it had its turn, or a tick put its PC elsewhere.
+fn first_caller(
+    alloc: Global,
+    machine: &Machine,
+    name: &Name,
+    before: &[Option<Address>; NUMBERS],
+    places: &[Option<Address>; NUMBERS],
+    ran: Option<u8>,
+) -> Result<Option<u8>, AllocError> {
+    for number in 1..JOBS + 1 {
+        let at = usize::from(number);
+        let has_come = ran == Some(number) || places[at] != before[at];
+        if has_come && stands_at_call(alloc, machine, number, name)? {
+            return Ok(Some(number));
+        }
+    }
+    Ok(None)
+}
+
 /// Whether one of some requests is granted and was not granted before, when these others were present.
 fn has_new_grant(before: &[Request], requests: &[Request]) -> bool {
     (0..requests.len()).any(|place| is_new_grant(before, requests, place))
@@ -71,22 +91,18 @@ impl<'a> LockWatch<'a> {
         Ok(false)
     }
 
-    /// The first job that came to a call on the lock in a round in which a job ran: it had its turn, or a
-    /// tick put its PC elsewhere.
-    fn caller(&mut self, machine: &Machine, ran: Option<u8>) -> Result<Option<u8>, AllocError> {
-        let Some(name) = &self.list.lock else {
-            return Ok(None);
-        };
-        let before = self.places;
-        self.places = places_of(machine);
-        for number in 1..JOBS + 1 {
-            let at = usize::from(number);
-            let has_come = ran == Some(number) || self.places[at] != before[at];
-            if has_come && stands_at_call(self.alloc, machine, number, name)? {
-                return Ok(Some(number));
-            }
+    /// The first job that came to a call on the lock, if there is one, in a round in which a job ran and
+    /// behind which the jobs stand at these places.
+    fn caller(
+        &self,
+        machine: &Machine,
+        places: &[Option<Address>; NUMBERS],
+        ran: Option<u8>,
+    ) -> Result<Option<u8>, AllocError> {
+        match &self.list.lock {
+            Some(name) => first_caller(self.alloc, machine, name, &self.places, places, ran),
+            None => Ok(None),
         }
-        Ok(None)
     }
 
     /// Why the run ends behind a round in which a job ran, if it does.
@@ -94,7 +110,10 @@ impl<'a> LockWatch<'a> {
         if self.sees_grant(machine)? {
             return Ok(Some(Cause::Grant));
         }
-        Ok(self.caller(machine, ran)?.map(|number| Cause::Call(number)))
+        let places = places_of(machine);
+        let caller = self.caller(machine, &places, ran)?;
+        self.places = places;
+        Ok(caller.map(|number| Cause::Call(number)))
     }
 }
 
