@@ -2,6 +2,7 @@
 
 use command_line::{KeptIn, language_of, program_told};
 use script_io::{TestIn, TestOut};
+use std::test::Fail;
 
 /// A command, its input, and what is told.
 const ROWS: [(&str, &str, &str); 7] = [
@@ -92,4 +93,87 @@ fn far_behind(rt: HostRuntime) {
     assert_eq!(rt; status, 1);
     let told = "lockmon: line 20001: column 9: a space at the end of the line\n";
     assert_eq!(rt; telling.as_slice(), told.as_bytes());
+}
+
+/// A comment of 80 bytes.
+const COMMENT: &str =
+    ";23456789 123456789 123456789 123456789 123456789 123456789 123456789 123456789\n";
+
+/// A long source: how many comments stand before its line that is refused and how many behind it, and
+/// what is told of it, alone and as the second source of a long script.
+const LONG_SOURCES: [(usize, usize, &str, &str); 3] = [
+    (
+        0,
+        1000,
+        "lockmon: line 1: \"NOWHR\" is not defined\n",
+        "lockmon: line 2006, line 1 of its source: \"NOWHR\" is not defined\n",
+    ),
+    (
+        1000,
+        1000,
+        "lockmon: line 1001: \"NOWHR\" is not defined\n",
+        "lockmon: line 3006, line 1001 of its source: \"NOWHR\" is not defined\n",
+    ),
+    (
+        1000,
+        0,
+        "lockmon: line 1001: \"NOWHR\" is not defined\n",
+        "lockmon: line 3006, line 1001 of its source: \"NOWHR\" is not defined\n",
+    ),
+];
+
+/// Adds so many comments.
+fn push_comments(text: &mut String, count: usize) -> Result<(), Fail> {
+    for _ in 0..count {
+        text.push_str(COMMENT)?;
+    }
+    Ok(())
+}
+
+/// Sources of more bytes than are kept of a script, of which no line may be dropped before their end.
+#[test]
+fn long_source(rt: HostRuntime) -> Result<(), Fail> {
+    let alloc = rt.alloc();
+    for (before, behind, told, told_in_script) in LONG_SOURCES {
+        let mut source = String::new(alloc);
+        push_comments(&mut source, before)?;
+        source.push_str(" JRST NOWHR\n")?;
+        push_comments(&mut source, behind)?;
+        source.push_str(" END\n")?;
+        let mut script = String::new(alloc);
+        push_comments(&mut script, 1000)?;
+        script.push_str("ASSEMBLE A\n EXIT\n END\nENDASM\n")?;
+        push_comments(&mut script, 1000)?;
+        script.push_str("ASSEMBLE B\n")?;
+        script.push_str(source.as_str())?;
+        script.push_str("ENDASM\n")?;
+        for (command, input, wanted) in [
+            ("asm", source.as_str(), told),
+            ("run", script.as_str(), told_in_script),
+        ] {
+            let mut room = [0u8; 256];
+            let mut error_room = [0u8; 64];
+            let mut told_room = [0u8; 256];
+            let words = ["lockmon", command];
+            let mut reader = KeptIn::new(
+                alloc,
+                language_of(&words),
+                TestIn::new(input.as_bytes(), 5000, 1000),
+            );
+            let mut writer = TestOut::new(&mut room, 100, 1000);
+            let mut errors = TestOut::new(&mut error_room, 100, 1000);
+            let mut telling = TestOut::new(&mut told_room, 256, 1000);
+            let status = program_told(
+                alloc,
+                &words,
+                &mut reader,
+                &mut writer,
+                &mut errors,
+                &mut telling,
+            );
+            assert_eq!(rt; status, 1);
+            assert_eq!(rt; telling.as_slice(), wanted.as_bytes());
+        }
+    }
+    Ok(())
 }
