@@ -1,5 +1,6 @@
 -- A code of laying out is told only where what it names is so.
-use Rattle.std.proofs.Common.{◌≡◌, ◌∙◌, sym, ap, ℕ, zero, suc, ◌+◌, ◌-◌, ◌≤◌, Bool, true, false, ◌&&◌, nat_eq, List, [], ◌∷◌, ◌++◌, map, unwrap_or, is_some, Option, Some, None, Result, Ok, Err, inl, inr, refl, arith, append_assoc}
+use Rattle.std.proofs.Common.{◌≡◌, ◌∙◌, sym, ap, ℕ, zero, suc, ◌+◌, ◌-◌, ◌≤◌, Bool, true, false, ◌&&◌, nat_eq, List, [], ◌∷◌, ◌++◌, map}
+use Rattle.std.proofs.Common.{unwrap_or, is_some, Option, Some, None, Result, Ok, Err, inl, inr, refl, arith, append_assoc}
 use Rattle.std.specs.Prelude.{◌^◌, ◌==◌, not, nat_le, nat_lt, if◌then◌else◌}
 use Rattle.std.specs.List.{range_with_len, list_any, list_all}
 use Rattle.std.specs.Map.{keys_of, values_of}
@@ -20,7 +21,8 @@ use Rattle.mac_layout.specs.Values.{◌>>=◌, value_of, natural_of}
 use Rattle.mac_layout.specs.Places.{Labels, names_at, count_of, size_of, are_among, is_count_settled, is_settled, are_apart}
 use Rattle.mac_asm.specs.Assembly.{have_words, are_below}
 use Rattle.mac_layout.specs.Faults.{code_if, code_of}
-use Rattle.mac_layout.specs.LaidOut.{count_if, count_from, checked_count, checked_size, at_least_one, literal_size, count_or, is_taken, places_in, taking, taking_size, taking_all, labels_code, with_labels, statement_code, line_code}
+use Rattle.mac_layout.specs.LaidOut.{count_if, count_from, checked_count, checked_size, at_least_one, literal_size, count_or, is_taken, places_in}
+use Rattle.mac_layout.specs.LaidOut.{taking, taking_size, taking_all, labels_code, with_labels, statement_code, line_code}
 use Rattle.asm_laws.specs.Laws.{ranges_from}
 use Rattle.asm_laws.proofs.Maps.{value-known}
 use Rattle.asm_laws.proofs.Unique.{own, keys-grow}

@@ -1,5 +1,6 @@
 -- The code of a fault in lines that were read names what is not so of them.
-use Rattle.std.proofs.Common.{◌≡◌, ◌∙◌, sym, ap, subst, map, ℕ, ◌+◌, Bool, true, false, ◌&&◌, List, [], ◌∷◌, length, is_some, unwrap_or, Option, Some, None, Result, Ok, Err, refl}
+use Rattle.std.proofs.Common.{◌≡◌, ◌∙◌, sym, ap, subst, map, ℕ, ◌+◌, Bool, true, false, ◌&&◌, List, [], ◌∷◌, length}
+use Rattle.std.proofs.Common.{is_some, unwrap_or, Option, Some, None, Result, Ok, Err, refl}
 use Rattle.std.specs.Prelude.{if◌then◌else◌}
 use Rattle.std.specs.List.{list_all}
 use Rattle.std.specs.Map.{keys_of, values_of}
@@ -10,11 +11,13 @@ use Rattle.mac_layout.specs.declared.error.AsmCode.{AsmCode}
 use Rattle.mac_layout.specs.declared.error.AsmCode.TheVariants.{UnknownName, DefinedTwice, DoesNotFit, NotYetDefined, PlaceTooHigh, NoEnd}
 use Rattle.mac_layout.specs.Values.{◌>>=◌}
 use Rattle.mac_layout.specs.Places.{Placed, literal_sizes, are_settled, first_place, are_apart}
-use Rattle.mac_asm.specs.Assembly.{lines_at, literal_places, lines_placed, all_statement_words, all_literal_words, words_at, have_words, are_allowed, start_at, are_below}
+use Rattle.mac_asm.specs.Assembly.{lines_at, literal_places, lines_placed, all_statement_words, all_literal_words}
+use Rattle.mac_asm.specs.Assembly.{words_at, have_words, are_allowed, start_at, are_below}
 use Rattle.asm_laws.specs.Found.{map_of}
 use Rattle.mac_layout.specs.Faults.{Fault, unless_fault}
 use Rattle.mac_layout.specs.LaidOut.{Layout, empty_layout, laid_out, places_of_literals}
-use Rattle.mac_asm.specs.Outcome.{lines_with, line_words, has_start, is_line_known, value_code, and_words, words_given, image_with, outcome_placed, outcome_from, has_end, outcome_read, outcome_of}
+use Rattle.mac_asm.specs.Outcome.{lines_with, line_words, has_start, is_line_known, value_code, and_words, words_given}
+use Rattle.mac_asm.specs.Outcome.{image_with, outcome_placed, outcome_from, has_end, outcome_read, outcome_of}
 use Rattle.asm_laws.specs.Faults.{all_fit, TellsCode}
 use Rattle.asm_laws.specs.Laws.{places_taken}
 use Rattle.asm_laws.proofs.Options.{bind_some}

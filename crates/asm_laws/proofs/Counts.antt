@@ -1,5 +1,6 @@
 -- What LOC, BLOCK and literals count, with a code where it cannot be counted.
-use Rattle.std.proofs.Common.{◌≡◌, ◌∙◌, sym, ap, ℕ, zero, suc, ◌+◌, Bool, true, false, ◌&&◌, List, [], ◌∷◌, ◌++◌, map, unwrap_or, is_some, Option, Some, None, Result, Ok, Err, refl, arith, append_assoc}
+use Rattle.std.proofs.Common.{◌≡◌, ◌∙◌, sym, ap, ℕ, zero, suc, ◌+◌, Bool, true, false, ◌&&◌, List, [], ◌∷◌, ◌++◌, map, unwrap_or}
+use Rattle.std.proofs.Common.{is_some, Option, Some, None, Result, Ok, Err, refl, arith, append_assoc}
 use Rattle.std.specs.Prelude.{◌==◌, nat_lt, nat_le, if◌then◌else◌}
 use Rattle.std.specs.List.{range_with_len, list_all}
 use Rattle.std.specs.Map.{keys_of}
@@ -18,7 +19,8 @@ use Rattle.std.specs.Prelude.{ℤ}
 use Rattle.mac_layout.specs.Values.{◌>>=◌, value_of, natural_of}
 use Rattle.mac_layout.specs.Places.{Labels, names_at, count_of, size_of, are_among, is_count_settled, are_apart}
 use Rattle.mac_asm.specs.Assembly.{have_words, are_below}
-use Rattle.mac_layout.specs.LaidOut.{count_if, count_from, checked_count, checked_size, at_least_one, literal_size, count_or, taking, taking_size, taking_all, places_in}
+use Rattle.mac_layout.specs.LaidOut.{count_if, count_from, checked_count, checked_size, at_least_one, literal_size}
+use Rattle.mac_layout.specs.LaidOut.{count_or, taking, taking_size, taking_all, places_in}
 use Rattle.asm_laws.specs.Laws.{ranges_from}
 use Rattle.asm_laws.proofs.Maps.{value-known}
 use Rattle.asm_laws.proofs.Apart.{apart-parts, least-none, none-least, whole-range, taking-none, none-taking}

@@ -1,5 +1,6 @@
 -- The first line at fault is told.
-use Rattle.std.proofs.Common.{◌≡◌, ◌∙◌, sym, ap, subst, ℕ, ◌+◌, Bool, true, false, List, [], ◌∷◌, ◌++◌, length, Option, Some, None, Result, Ok, Err, inl, inr, refl, arith}
+use Rattle.std.proofs.Common.{◌≡◌, ◌∙◌, sym, ap, subst, ℕ, ◌+◌, Bool, true, false, List, [], ◌∷◌, ◌++◌, length}
+use Rattle.std.proofs.Common.{Option, Some, None, Result, Ok, Err, inl, inr, refl, arith}
 use Rattle.std.specs.Prelude.{is_ok, if◌then◌else◌, unwrap_or}
 use Rattle.mac_text.specs.Lines.{program_of}
 use Rattle.mac_text.specs.declared.syntax.Line.{Line}

@@ -1,5 +1,6 @@
 -- The first line with which something is wrong is told, with the least code of what is.
-use Rattle.std.proofs.Common.{◌≡◌, ◌∙◌, sym, ap, subst, ℕ, ◌+◌, Bool, true, false, List, [], ◌∷◌, ◌++◌, length, unwrap_or, Option, Some, None, Result, Ok, Err, inl, inr, refl, arith}
+use Rattle.std.proofs.Common.{◌≡◌, ◌∙◌, sym, ap, subst, ℕ, ◌+◌, Bool, true, false, List, [], ◌∷◌, ◌++◌, length}
+use Rattle.std.proofs.Common.{unwrap_or, Option, Some, None, Result, Ok, Err, inl, inr, refl, arith}
 use Rattle.std.specs.Prelude.{◌↔◌, not, if◌then◌else◌}
 use Rattle.std.specs.List.{list_all}
 use Rattle.std.proofs.lemmas.Bool.{and_parts, and_from, cases_Bool, false_from_ne_true, not_from_false}
@@ -12,7 +13,8 @@ use Rattle.mac_asm.specs.Assembly.{lines_placed, start_at}
 use Rattle.asm_laws.specs.Found.{map_of}
 use Rattle.mac_layout.specs.Faults.{Fault, unless_fault}
 use Rattle.mac_layout.specs.LaidOut.{Layout, empty_layout, line_code, with_line, laid_out, places_of_literals}
-use Rattle.mac_asm.specs.Outcome.{lines_with, line_words, is_line_known, value_code, and_words, words_given, image_with, outcome_placed, outcome_from, has_end, outcome_read, outcome_of}
+use Rattle.mac_asm.specs.Outcome.{lines_with, line_words, is_line_known, value_code, and_words, words_given, image_with}
+use Rattle.mac_asm.specs.Outcome.{outcome_placed, outcome_from, has_end, outcome_read, outcome_of}
 use Rattle.asm_laws.specs.Faults.{FirstLaid, FirstGiven}
 use Rattle.asm_laws.specs.Codes.{LaidFault, is_given, is_value_wrong, ValueFault, IsTold}
 use Rattle.asm_laws.proofs.Layouts.{AllRight, final, laid-right, right-laid}

@@ -1,5 +1,6 @@
 -- Where a line can be laid out, and what it adds to the layout.
-use Rattle.std.proofs.Common.{◌≡◌, ◌∙◌, sym, ap, ℕ, suc, ◌+◌, Bool, true, false, ◌&&◌, List, [], ◌∷◌, ◌++◌, map, length, Option, Some, None, Result, Ok, Err, refl, arith}
+use Rattle.std.proofs.Common.{◌≡◌, ◌∙◌, sym, ap, ℕ, suc, ◌+◌, Bool, true, false, ◌&&◌, List, [], ◌∷◌, ◌++◌, map}
+use Rattle.std.proofs.Common.{length, Option, Some, None, Result, Ok, Err, refl, arith}
 use Rattle.std.specs.Prelude.{◌^◌, ◌==◌, not, nat_lt, nat_le, if◌then◌else◌}
 use Rattle.std.specs.List.{range_with_len, list_all}
 use Rattle.std.specs.Map.{keys_of, values_of}
@@ -17,7 +18,8 @@ use Rattle.mac_layout.specs.declared.error.AsmCode.TheVariants.{DefinedTwice, Do
 use Rattle.mac_layout.specs.Places.{Labels, size_of, place_behind, is_count_settled, is_settled, are_apart}
 use Rattle.mac_asm.specs.Assembly.{have_words, are_below}
 use Rattle.mac_layout.specs.Faults.{code_if, code_of}
-use Rattle.mac_layout.specs.LaidOut.{checked_count, checked_size, literal_size, Layout, taking_size, labels_code, with_labels, statement_code, taken_by, place_by, with_statement, line_code, with_line, places_in, count_or}
+use Rattle.mac_layout.specs.LaidOut.{checked_count, checked_size, literal_size, Layout, taking_size, labels_code, with_labels, statement_code}
+use Rattle.mac_layout.specs.LaidOut.{taken_by, place_by, with_statement, line_code, with_line, places_in, count_or}
 use Rattle.asm_laws.specs.Laws.{statement_size}
 use Rattle.asm_laws.proofs.Unique.{own, keys-grow}
 use Rattle.asm_laws.proofs.Apart.{code_if-none, least-none, none-least, whole-range, taking-none, none-taking}

@@ -1,5 +1,6 @@
 -- Where a line gives its words, all its names are known.
-use Rattle.std.proofs.Common.{◌≡◌, ◌∙◌, ap, subst, ℕ, suc, ◌+◌, ◌-◌, ◌≤◌, Bool, true, false, ◌&&◌, List, [], ◌∷◌, ◌++◌, length, drop, zip, is_some, Option, Some, None, option_map, refl, arith}
+use Rattle.std.proofs.Common.{◌≡◌, ◌∙◌, ap, subst, ℕ, suc, ◌+◌, ◌-◌, ◌≤◌, Bool, true, false, ◌&&◌, List, [], ◌∷◌, ◌++◌}
+use Rattle.std.proofs.Common.{length, drop, zip, is_some, Option, Some, None, option_map, refl, arith}
 use Rattle.std.specs.Prelude.{ℤ, pos, not, is_none, if◌then◌else◌}
 use Rattle.std.specs.List.{list_all}
 use Rattle.std.proofs.lemmas.List.{length-take-le, length-drop, length-map, length-append}
@@ -15,7 +16,8 @@ use Rattle.mac_text.specs.declared.syntax.Statement.{Statement}
 use Rattle.mac_text.specs.declared.syntax.Statement.TheVariants as statements
 use Rattle.mac_text.specs.declared.syntax.Line.{Line}
 use Rattle.mac_layout.specs.Values.{◌>>=◌, Names, term_value, signed, value_onto, value_of, is_known}
-use Rattle.mac_asm.specs.Words.{fitted, word_of, half_of, register_of, or_zero, operand_of, is_missing, with_accumulator, with_operand, instruction_of, at_most, position_of, pointer_of, halves_of, iowd_of, words_of_all, words_of, is_known_if, is_operand_known, are_known}
+use Rattle.mac_asm.specs.Words.{fitted, word_of, half_of, register_of, or_zero, operand_of, is_missing, with_accumulator, with_operand, instruction_of}
+use Rattle.mac_asm.specs.Words.{at_most, position_of, pointer_of, halves_of, iowd_of, words_of_all, words_of, is_known_if, is_operand_known, are_known}
 use Rattle.mac_layout.specs.Places.{Labels, size_of, place_after, Located, sizes_at, literal_sizes, places_from, Placed, placed, first_place}
 use Rattle.mac_asm.specs.Assembly.{lines_at, literal_places, lines_placed, all_words_of, words_from, statement_words, literal_words, start_by}
 use Rattle.mac_asm.specs.Outcome.{line_words, has_start, is_statement_known, is_line_known}

@@ -1,5 +1,6 @@
 -- Lines are laid out without a code where nothing that it names is so.
-use Rattle.std.proofs.Common.{◌≡◌, ◌∙◌, sym, ap, subst, ℕ, ◌+◌, Bool, true, false, List, [], ◌∷◌, ◌++◌, length, map, take, drop, flat_map, Option, Some, None, Result, Err, refl, append_assoc}
+use Rattle.std.proofs.Common.{◌≡◌, ◌∙◌, sym, ap, subst, ℕ, ◌+◌, Bool, true, false, List, [], ◌∷◌, ◌++◌, length, map, take}
+use Rattle.std.proofs.Common.{drop, flat_map, Option, Some, None, Result, Err, refl, append_assoc}
 use Rattle.std.specs.Prelude.{not}
 use Rattle.std.specs.List.{range_with_len, list_all}
 use Rattle.std.specs.Map.{keys_of, values_of}
@@ -12,7 +13,8 @@ use Rattle.mac_text.specs.declared.syntax.Statement.TheVariants as statements
 use Rattle.mac_text.specs.declared.syntax.Line.{Line}
 use Rattle.mac_layout.specs.declared.error.AsmCode.{AsmCode}
 use Rattle.mac_layout.specs.declared.error.AsmCode.TheVariants.{DefinedTwice, DoesNotFit, PlaceTooHigh}
-use Rattle.mac_layout.specs.Places.{Labels, names_at, size_of, place_behind, Located, located, place_after, literal_sizes, placed, is_count_settled, is_settled, are_settled, are_apart}
+use Rattle.mac_layout.specs.Places.{Labels, names_at, size_of, place_behind, Located, located, place_after, literal_sizes}
+use Rattle.mac_layout.specs.Places.{placed, is_count_settled, is_settled, are_settled, are_apart}
 use Rattle.mac_asm.specs.Assembly.{statement_words, all_statement_words, allows, are_allowed, have_words, are_below}
 use Rattle.asm_laws.specs.Found.{labels_met}
 use Rattle.mac_layout.specs.Faults.{Fault, unless_fault}

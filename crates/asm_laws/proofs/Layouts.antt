@@ -1,5 +1,6 @@
 -- Lines are laid out without a fault exactly where all of them can stand.
-use Rattle.std.proofs.Common.{◌≡◌, ◌∙◌, sym, ap, subst, ℕ, ◌+◌, true, ◌&&◌, List, [], ◌∷◌, ◌++◌, map, flat_map, Option, Some, None, Result, Ok, refl, append_assoc}
+use Rattle.std.proofs.Common.{◌≡◌, ◌∙◌, sym, ap, subst, ℕ, ◌+◌, true, ◌&&◌, List, [], ◌∷◌, ◌++◌, map, flat_map}
+use Rattle.std.proofs.Common.{Option, Some, None, Result, Ok, refl, append_assoc}
 use Rattle.std.specs.Prelude.{not}
 use Rattle.std.specs.List.{range_with_len, list_all}
 use Rattle.std.specs.Map.{keys_of, values_of}
@@ -12,7 +13,8 @@ use Rattle.mac_text.specs.declared.syntax.Statement.{Statement}
 use Rattle.mac_text.specs.declared.syntax.Statement.TheVariants as statements
 use Rattle.mac_text.specs.declared.syntax.Line.{Line}
 use Rattle.mac_layout.specs.declared.error.AsmCode.{AsmCode}
-use Rattle.mac_layout.specs.Places.{Labels, size_of, place_behind, Located, located, place_after, literal_sizes, is_count_settled, is_settled, are_settled, are_apart}
+use Rattle.mac_layout.specs.Places.{Labels, size_of, place_behind, Located, located, place_after, literal_sizes}
+use Rattle.mac_layout.specs.Places.{is_count_settled, is_settled, are_settled, are_apart}
 use Rattle.mac_asm.specs.Assembly.{are_below}
 use Rattle.asm_laws.specs.Found.{labels_met}
 use Rattle.mac_layout.specs.Faults.{Fault, unless_fault}

@@ -1,5 +1,6 @@
 -- Which codes are told of reading, of laying out and of values.
-use Rattle.std.proofs.Common.{◌≡◌, ◌∙◌, sym, ap, ℕ, ◌+◌, Bool, true, false, List, [], ◌∷◌, ◌++◌, length, map, Option, Some, None, Result, Ok, Err, unwrap_or, refl}
+use Rattle.std.proofs.Common.{◌≡◌, ◌∙◌, sym, ap, ℕ, ◌+◌, Bool, true, false, List, [], ◌∷◌, ◌++◌, length, map}
+use Rattle.std.proofs.Common.{Option, Some, None, Result, Ok, Err, unwrap_or, refl}
 use Rattle.std.specs.Prelude.{◌↔◌, ◌&&◌, ◌==◌, nat_le, is_some, if◌then◌else◌}
 use Rattle.std.specs.List.{list_all}
 use Rattle.std.specs.Map.{keys_of}
@@ -19,8 +20,11 @@ use Rattle.mac_layout.specs.Values.{value_of, natural_of}
 use Rattle.mac_layout.specs.Places.{Labels, names_at, Placed, first_place, are_apart}
 use Rattle.mac_asm.specs.Assembly.{Assembled, start_at}
 use Rattle.mac_layout.specs.Faults.{Fault, number_of, least, code_if, code_of, unless_fault}
-use Rattle.mac_layout.specs.LaidOut.{count_if, count_from, count_or, checked_count, checked_size, at_least_one, literal_size, Layout, empty_layout, places_in, taking, taking_size, taking_all, labels_code, with_labels, with_statement, statement_code, line_code, laid_out, places_of_literals, with_line as layout_behind}
-use Rattle.mac_asm.specs.Outcome.{lines_with, line_words, has_start, is_line_known, value_code, and_words, words_given, image_with, outcome_placed, outcome_from, has_end, outcome_read, outcome_of}
+use Rattle.mac_layout.specs.LaidOut.{count_if, count_from, count_or, checked_count, checked_size, at_least_one, literal_size, Layout}
+use Rattle.mac_layout.specs.LaidOut.{empty_layout, places_in, taking, taking_size, taking_all, labels_code, with_labels, with_statement}
+use Rattle.mac_layout.specs.LaidOut.{statement_code, line_code, laid_out, places_of_literals, with_line as layout_behind}
+use Rattle.mac_asm.specs.Outcome.{lines_with, line_words, has_start, is_line_known, value_code, and_words, words_given}
+use Rattle.mac_asm.specs.Outcome.{image_with, outcome_placed, outcome_from, has_end, outcome_read, outcome_of}
 use Rattle.asm_laws.proofs.Unique.{own}
 
 -- the codes of laying out, and those of values

@@ -1,5 +1,6 @@
 -- The words of an image rise by place, and are the words that were given.
-use Rattle.std.proofs.Common.{◌≡◌, ◌∙◌, sym, ap, subst, ℕ, zero, suc, ◌+◌, ◌<◌, ◌≤◌, true, false, cond, nat_eq, List, filter_map, Option, Some, None, option_map, ◌⊎◌, inl, inr, refl, arith}
+use Rattle.std.proofs.Common.{◌≡◌, ◌∙◌, sym, ap, subst, ℕ, zero, suc, ◌+◌, ◌<◌, ◌≤◌, true, false, cond, nat_eq, List}
+use Rattle.std.proofs.Common.{filter_map, Option, Some, None, option_map, ◌⊎◌, inl, inr, refl, arith}
 use Rattle.std.specs.Prelude.{◌^◌}
 use Rattle.std.specs.List.{range_with_len, cons_option, AllByRecursion}
 use Rattle.std.specs.List.Sorted.{IsStrictlySortedBy, IsStrictlyIncreasing}

@@ -1,5 +1,6 @@
 -- A statement gives as many words as its size says.
-use Rattle.std.proofs.Common.{◌≡◌, ◌∙◌, ap, subst, ℕ, zero, suc, ◌+◌, true, List, [], ◌∷◌, length, replicate, unwrap_or, Option, Some, None, option_map, refl, arith}
+use Rattle.std.proofs.Common.{◌≡◌, ◌∙◌, ap, subst, ℕ, zero, suc, ◌+◌, true, List, [], ◌∷◌, length, replicate}
+use Rattle.std.proofs.Common.{unwrap_or, Option, Some, None, option_map, refl, arith}
 use Rattle.std.proofs.lemmas.Bool.{and_parts}
 use Rattle.std.proofs.lemmas.List.{length-replicate}
 use Rattle.mac_text.specs.declared.syntax.Term.{Term}

@@ -1,5 +1,6 @@
 -- The words stand where the sizes of the statements put them.
-use Rattle.std.proofs.Common.{◌≡◌, ◌∙◌, sym, ap, subst, ℕ, ◌+◌, true, ◌&&◌, List, [], ◌∷◌, ◌++◌, length, map, take, drop, zip, flat_map, Option, Some, None, option_map, refl, append_assoc}
+use Rattle.std.proofs.Common.{◌≡◌, ◌∙◌, sym, ap, subst, ℕ, ◌+◌, true, ◌&&◌, List, [], ◌∷◌, ◌++◌, length, map, take, drop}
+use Rattle.std.proofs.Common.{zip, flat_map, Option, Some, None, option_map, refl, append_assoc}
 use Rattle.std.specs.List.{list_all, range_with_len}
 use Rattle.std.specs.Map.{keys_of}
 use Rattle.std.proofs.lemmas.List.{map-append}
@@ -8,7 +9,8 @@ use Rattle.mac_text.specs.declared.syntax.Data.{Data}
 use Rattle.mac_text.specs.declared.syntax.Statement.{Statement}
 use Rattle.mac_text.specs.declared.syntax.Statement.TheVariants as statements
 use Rattle.mac_text.specs.declared.syntax.Line.{Line}
-use Rattle.mac_layout.specs.Places.{Labels, names_at, size_of, place_behind, place_after, located, literal_sizes, places_from, placed, is_count_settled, is_settled, are_settled, first_place}
+use Rattle.mac_layout.specs.Places.{Labels, names_at, size_of, place_behind, place_after, located, literal_sizes, places_from}
+use Rattle.mac_layout.specs.Places.{placed, is_count_settled, is_settled, are_settled, first_place}
 use Rattle.mac_asm.specs.Assembly.{all_words_of, words_from, statement_words, literal_words, all_statement_words, all_literal_words, words_at, lines_placed}
 use Rattle.asm_laws.specs.Laws.{statement_size, places_of, ranges_from, TakesItsPlaces}
 use Rattle.asm_laws.proofs.Options.{some_parts, bind_some}

@@ -1,5 +1,6 @@
 -- Which code is told of places that are taken.
-use Rattle.std.proofs.Common.{◌≡◌, ◌∙◌, sym, ap, ℕ, zero, suc, ◌+◌, ◌-◌, ◌<◌, ◌≤◌, Bool, true, false, ◌&&◌, nat_eq, List, [], ◌∷◌, ◌++◌, map, Result, refl, arith, inl, inr}
+use Rattle.std.proofs.Common.{◌≡◌, ◌∙◌, sym, ap, ℕ, zero, suc, ◌+◌, ◌-◌, ◌<◌, ◌≤◌, Bool, true, false, ◌&&◌, nat_eq}
+use Rattle.std.proofs.Common.{List, [], ◌∷◌, ◌++◌, map, Result, refl, arith, inl, inr}
 use Rattle.std.specs.Prelude.{◌^◌, ◌||◌, ◌==◌, not, nat_le, nat_lt, if◌then◌else◌}
 use Rattle.std.specs.List.{range_with_len, list_any}
 use Rattle.std.proofs.lemmas.Bool.{and_parts, and_from, or_from, cases_Bool, true_from_ne_false, not_from_true, not_from_false}

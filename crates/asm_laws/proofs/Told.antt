@@ -1,5 +1,6 @@
 -- What a source comes to is its image where it has one.
-use Rattle.std.proofs.Common.{◌≡◌, ◌∙◌, sym, ap, subst, ℕ, Bool, true, false, ◌&&◌, List, [], ◌∷◌, ◌++◌, map, length, take, drop, flat_map, is_some, Option, Some, None, Result, Ok, Err, unwrap_or, refl}
+use Rattle.std.proofs.Common.{◌≡◌, ◌∙◌, sym, ap, subst, ℕ, Bool, true, false, ◌&&◌, List, [], ◌∷◌, ◌++◌, map, length, take, drop}
+use Rattle.std.proofs.Common.{flat_map, is_some, Option, Some, None, Result, Ok, Err, unwrap_or, refl}
 use Rattle.std.specs.Prelude.{nat_lt, not, reverse, if◌then◌else◌}
 use Rattle.std.specs.List.{list_all}
 use Rattle.std.specs.List.Sorted.{IsPermutation}
@@ -14,7 +15,8 @@ use Rattle.mac_text.specs.declared.syntax.Line.{Line}
 use Rattle.mac_layout.specs.declared.error.AsmCode.TheVariants.{NoEnd}
 use Rattle.mac_layout.specs.Values.{Names}
 use Rattle.mac_layout.specs.Places.{Labels, names_at, located, place_behind, place_after, literal_sizes, places_from, Placed, placed, first_place, are_apart}
-use Rattle.mac_asm.specs.Assembly.{Assembled, IsAssembly, lines_at, literal_places, lines_placed, all_statement_words, all_literal_words, words_at, have_words, are_allowed, start_by, start_at, by_place, are_below}
+use Rattle.mac_asm.specs.Assembly.{Assembled, IsAssembly, lines_at, literal_places, lines_placed, all_statement_words, all_literal_words}
+use Rattle.mac_asm.specs.Assembly.{words_at, have_words, are_allowed, start_by, start_at, by_place, are_below}
 use Rattle.asm_laws.specs.Found.{map_of}
 use Rattle.mac_layout.specs.Faults.{Fault}
 use Rattle.mac_layout.specs.LaidOut.{count_or, Layout, empty_layout, taking_all, laid_out, places_of_literals}

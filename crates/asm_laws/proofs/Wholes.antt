@@ -1,5 +1,6 @@
 -- Lines can stand one behind the other exactly where all that is asked of an image's places holds of them at once.
-use Rattle.std.proofs.Common.{◌≡◌, ◌∙◌, sym, ap, subst, ℕ, true, ◌&&◌, List, [], ◌∷◌, ◌++◌, map, length, take, drop, flat_map, is_some, Option, Some, None, option_map, refl, append_assoc}
+use Rattle.std.proofs.Common.{◌≡◌, ◌∙◌, sym, ap, subst, ℕ, true, ◌&&◌, List, [], ◌∷◌, ◌++◌, map, length, take, drop}
+use Rattle.std.proofs.Common.{flat_map, is_some, Option, Some, None, option_map, refl, append_assoc}
 use Rattle.std.specs.Prelude.{nat_lt, replicate}
 use Rattle.std.specs.List.{range_with_len}
 use Rattle.std.specs.Map.{keys_of, values_of}
@@ -12,7 +13,8 @@ use Rattle.mac_text.specs.declared.syntax.Data.TheVariants as data_of
 use Rattle.mac_text.specs.declared.syntax.Statement.{Statement}
 use Rattle.mac_text.specs.declared.syntax.Statement.TheVariants as statements
 use Rattle.mac_text.specs.declared.syntax.Line.{Line}
-use Rattle.mac_layout.specs.Places.{Labels, names_at, count_of, size_of, place_behind, Located, located, literal_sizes, placed, are_among, is_count_settled, is_settled, are_settled, are_apart}
+use Rattle.mac_layout.specs.Places.{Labels, names_at, count_of, size_of, place_behind, Located, located, literal_sizes, placed}
+use Rattle.mac_layout.specs.Places.{are_among, is_count_settled, is_settled, are_settled, are_apart}
 use Rattle.mac_asm.specs.Assembly.{all_words_of, words_from, statement_words, all_statement_words, allows, are_allowed, have_words, are_below}
 use Rattle.asm_laws.specs.Found.{labels_met}
 use Rattle.asm_laws.specs.Laws.{places_of}

@@ -1,5 +1,6 @@
 -- What is wrong with a line is what is told of it, behind lines with which nothing is wrong.
-use Rattle.std.proofs.Common.{◌≡◌, ◌∙◌, sym, ap, subst, ℕ, Bool, true, false, ◌&&◌, List, [], ◌∷◌, ◌++◌, map, flat_map, Option, Some, None, refl, append_assoc, inl, inr}
+use Rattle.std.proofs.Common.{◌≡◌, ◌∙◌, sym, ap, subst, ℕ, Bool, true, false, ◌&&◌, List, [], ◌∷◌, ◌++◌, map}
+use Rattle.std.proofs.Common.{flat_map, Option, Some, None, refl, append_assoc, inl, inr}
 use Rattle.std.specs.Prelude.{◌||◌, not, if◌then◌else◌}
 use Rattle.std.specs.List.{list_any}
 use Rattle.std.specs.Map.{keys_of, values_of}
@@ -18,7 +19,8 @@ use Rattle.mac_asm.specs.Assembly.{are_below}
 use Rattle.asm_laws.specs.Found.{map_of}
 use Rattle.mac_layout.specs.LaidOut.{literal_size, is_taken, Layout, empty_layout, taking_all, with_labels, statement_code, line_code, with_line}
 use Rattle.asm_laws.specs.Laws.{ranges_from}
-use Rattle.asm_laws.specs.Codes.{Met, met_at, lines_met, place_met, statement_places, sizes_of_literals, literal_places_at, is_statement_unfit, is_literal_unfit, has_unfit_literal, has_early_literal, at_end, is_wrong_at, is_wrong, AreRight, IsLeast}
+use Rattle.asm_laws.specs.Codes.{Met, met_at, lines_met, place_met, statement_places, sizes_of_literals, literal_places_at, is_statement_unfit}
+use Rattle.asm_laws.specs.Codes.{is_literal_unfit, has_unfit_literal, has_early_literal, at_end, is_wrong_at, is_wrong, AreRight, IsLeast}
 use Rattle.asm_laws.proofs.Unique.{own}
 use Rattle.asm_laws.proofs.Apart.{range-apart}
 use Rattle.asm_laws.proofs.Fits.{state, range_of}

@@ -1,5 +1,6 @@
 -- What each code says of a line and of those above it, whatever stands below (this project's profile).
-use Rattle.std.specs.Prelude.{◌≡◌, ◌⊎◌, ℕ, ℤ, ◌+◌, ◌<◌, Bool, true, false, not, nat_le, is_none, is_some, ◌&&◌, ◌||◌, ◌==◌, List, [], ◌∷◌, ◌++◌, length, map, flat_map, Option, Some, None, if◌then◌else◌}
+use Rattle.std.specs.Prelude.{◌≡◌, ◌⊎◌, ℕ, ℤ, ◌+◌, ◌<◌, Bool, true, false, not, nat_le, is_none, is_some, ◌&&◌, ◌||◌, ◌==◌, List}
+use Rattle.std.specs.Prelude.{[], ◌∷◌, ◌++◌, length, map, flat_map, Option, Some, None, if◌then◌else◌}
 use Rattle.std.specs.List.{list_all, list_any}
 use Rattle.std.specs.Map.{keys_of, values_of}
 use Rattle.mac_text.specs.Lines.{is_end}
@@ -11,7 +12,8 @@ use Rattle.mac_text.specs.declared.syntax.Line.{Line}
 use Rattle.mac_layout.specs.declared.error.AsmCode.{AsmCode}
 use Rattle.mac_layout.specs.declared.error.AsmCode.TheVariants.{DefinedTwice, DoesNotFit, NotYetDefined, PlaceTooHigh, UnknownName}
 use Rattle.mac_layout.specs.Values.{value_of, natural_of}
-use Rattle.mac_layout.specs.Places.{Labels, names_at, size_of, place_behind, place_after, literal_sizes, Located, Placed, is_count_settled, is_settled, are_settled, first_place, are_apart}
+use Rattle.mac_layout.specs.Places.{Labels, names_at, size_of, place_behind, place_after, literal_sizes, Located, Placed}
+use Rattle.mac_layout.specs.Places.{is_count_settled, is_settled, are_settled, first_place, are_apart}
 use Rattle.mac_asm.specs.Assembly.{lines_at, lines_placed, are_below}
 use Rattle.asm_laws.specs.Found.{own_labels, map_of}
 use Rattle.mac_layout.specs.Faults.{Fault, number_of}

@@ -1,5 +1,6 @@
 -- A text that stands as ASCIZ is read character by character.
-use Rattle.std.proofs.Common.{◌≡◌, ◌≢◌, ℕ, suc, zero, ◌+◌, ◌-◌, ◌*◌, ◌/◌, ◌%◌, ◌^◌, ◌<◌, ◌≤◌, List, [], ◌∷◌, length, map, drop, get_or, true, false, cond, arith, refl, sym, ap, ◌∙◌, Option, Some}
+use Rattle.std.proofs.Common.{◌≡◌, ◌≢◌, ℕ, suc, zero, ◌+◌, ◌-◌, ◌*◌, ◌/◌, ◌%◌, ◌^◌, ◌<◌, ◌≤◌, List, [], ◌∷◌, length, map, drop}
+use Rattle.std.proofs.Common.{get_or, true, false, cond, arith, refl, sym, ap, ◌∙◌, Option, Some}
 use Rattle.std.specs.Prelude.{nat_le, if◌then◌else◌, ◌==◌, Result, Ok, Err, All, not}
 use Rattle.std.specs.Option.{option_map}
 use Rattle.ka_cpu.specs.Places.{word_at}
@@ -52,7 +53,8 @@ next_word place j =
     let same : ((place + j) % 2 ^ 18 + 1) % 2 ^ 18 ≡ (place + (j + 1)) % 2 ^ 18 = omega arith in
     in_next_word 1 ((place + j) % 2 ^ 18) (omega arith) (omega arith) ∙ ap (pointer_word 29) same
 
-character_of_word : (ac core : List ℕ) (position place w : ℕ) → place < 2 ^ 18 → word_at ac core place ≡ Some w → character_at ac core (pointer_word position place) ≡ Some (w / 2 ^ position % 2 ^ 7)
+character_of_word : (ac core : List ℕ) (position place w : ℕ) → place < 2 ^ 18 → word_at ac core place ≡ Some w →
+    character_at ac core (pointer_word position place) ≡ Some (w / 2 ^ position % 2 ^ 7)
 character_of_word ac core position place w fits at =
     let p = pointer_word position place in
     let size : size_of p ≡ 7 = omega arith in
@@ -79,7 +81,8 @@ five_4 : (a b c d e : ℕ) → a < 128 → b < 128 → c < 128 → d < 128 → e
 five_4 a b c d e ha hb hc hd he = omega arith
 
 -- the pointer to the character behind character i of word j
-after : (place j i : ℕ) → i < 5 → (word : ℕ) × (character : ℕ) × (character < 5) × (5 * word + character ≡ 5 * j + i + 1) × (incremented (pointer_at place j i) ≡ pointer_at place word character)
+after : (place j i : ℕ) → i < 5 → (word : ℕ) × (character : ℕ) × (character < 5) ×
+    (5 * word + character ≡ 5 * j + i + 1) × (incremented (pointer_at place j i) ≡ pointer_at place word character)
 after place j zero h = (j, 1, omega arith, omega arith, in_same_word 29 _ (omega arith) (omega arith))
 after place j (suc zero) h = (j, 2, omega arith, omega arith, in_same_word 22 _ (omega arith) (omega arith))
 after place j (suc (suc zero)) h = (j, 3, omega arith, omega arith, in_same_word 15 _ (omega arith) (omega arith))
@@ -121,7 +124,8 @@ character ac core text place j (suc (suc (suc (suc zero)))) k below h e at =
 character ac core text place j (suc (suc (suc (suc (suc i))))) k below h e at = absurd (omega arith)
 
 -- what is read from a pointer whose increment points to character k, that is i of word j
-read_on : (ac core text : List ℕ) (place : ℕ) → ((n : ℕ) → get_or text n 0 < 128) → ((n : ℕ) → n < length text → get_or text n 0 ≢ 0) → IsAscizAt ac core place text
+read_on : (ac core text : List ℕ) (place : ℕ) → ((n : ℕ) → get_or text n 0 < 128) →
+    ((n : ℕ) → n < length text → get_or text n 0 ≢ 0) → IsAscizAt ac core place text
     → (left n k j i : ℕ) (q : ℕ) → i < 5 → k ≡ 5 * j + i → incremented q ≡ pointer_at place j i → k + left ≡ length text → left < n
     → characters ac core q n ≡ map Some (drop k text)
 read_on ac core text place below some stands left zero k j i q h e next here room = absurd (omega arith)
@@ -136,7 +140,8 @@ read_on ac core text place below some stands (suc left) (suc n) k j i q h e next
     let inside : k < length text = omega arith in
     let at = ap (character_at ac core) next ∙ character ac core text place j i k below h e (stands j (omega arith)) in
     let behind = after place j i h in
-    let rest = read_on ac core text place below some stands left n (suc k) behind.0 behind.1 (incremented q) behind.2 (omega (arith, behind.3)) (ap incremented next ∙ behind.4) (omega arith) (omega arith) in
+    let rest = read_on ac core text place below some stands left n (suc k) behind.0 behind.1 (incremented q) behind.2
+    (omega (arith, behind.3)) (ap incremented next ∙ behind.4) (omega arith) (omega arith) in
     characters-suc ac core q n
     ∙ ap (λ (x : Option ℕ). cond (not (is_zero x)) (x ∷ characters ac core (incremented q) n) []) at
     ∙ ap (λ b. cond b (Some (get_or text k 0) ∷ characters ac core (incremented q) n) []) (not_zero (get_or text k 0) (some k inside))
@@ -152,7 +157,8 @@ text_is_read : (ac core : List ℕ) (place : ℕ) (text : List ℕ) → place < 
 text_is_read ac core place text fits least most all stands =
     let same : place ≡ (place + 0) % 2 ^ 18 = omega arith in
     let next : incremented (pointer_word 36 place) ≡ pointer_at place 0 0 = in_same_word 36 place (omega arith) fits ∙ ap (pointer_word 29) same in
-    let read = read_on ac core text place (small text all) (positive text all) stands (length text) 31 0 0 0 _ (omega arith) refl next (omega arith) (omega arith) in
+    let read = read_on ac core text place (small text all) (positive text all) stands
+    (length text) 31 0 0 0 _ (omega arith) refl next (omega arith) (omega arith) in
     text_of-legal text _ read ∙ allowed text least most
 
 pointer : (place : ℕ) → place < 2 ^ 18 → is_name_pointer (joined 0o440700 place) ≡ true

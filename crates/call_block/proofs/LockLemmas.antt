@@ -30,13 +30,15 @@ passed-cons nth want n first rest (suc k) below =
     ap (λ (i : ℕ). is_ok (nth i)) next ∙ rest k (omega arith)
 
 -- one lock before those that are read already
-in_order-cons : (nth : ℕ → Result Want Refusal) (n : ℕ) (first : Result Want Refusal) (rest : Result (List Want) Refusal) → nth 0 ≡ first → IsInOrder (λ i. nth (i + 1)) n rest
+in_order-cons : (nth : ℕ → Result Want Refusal) (n : ℕ) (first : Result Want Refusal) (rest : Result (List Want) Refusal) →
+    nth 0 ≡ first → IsInOrder (λ i. nth (i + 1)) n rest
     → IsInOrder nth (suc n) (first >>= (λ want. rest >>= (λ wants. Ok (want ∷ wants))))
 in_order-cons nth n (Err refusal) rest e h = (0, omega arith, e, λ k below. absurd (omega arith))
 in_order-cons nth n (Ok want) (Ok wants) e h = (omega (arith, h.0), wants-cons nth want wants e h.1)
 in_order-cons nth n (Ok want) (Err refusal) e h = (h.0 + 1, omega (arith, h.1), h.2, passed-cons nth want h.0 e h.3)
 
-pub in_order : (ac core : List ℕ) (job : ℕ) (block_use : BlockUse) (a n : ℕ) (nth : ℕ → Result Want Refusal) → ((i : ℕ) → nth i ≡ nth_want ac core job block_use a i)
+pub in_order : (ac core : List ℕ) (job : ℕ) (block_use : BlockUse) (a n : ℕ) (nth : ℕ → Result Want Refusal) →
+    ((i : ℕ) → nth i ≡ nth_want ac core job block_use a i)
     → IsInOrder nth n (wants_at ac core job block_use a n)
 in_order ac core job block_use a zero nth is =
     let P : Result (List Want) Refusal → Type 0 = IsInOrder nth 0 in

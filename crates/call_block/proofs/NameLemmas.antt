@@ -1,5 +1,6 @@
 -- A name, character by character.
-use Rattle.std.proofs.Common.{◌≡◌, ◌≢◌, ℕ, suc, ◌+◌, ◌-◌, ◌<◌, ◌≤◌, List, [], ◌∷◌, ◌++◌, length, map, true, false, cond, arith, refl, sym, ap, ◌∙◌, Option, Some, None, append_assoc}
+use Rattle.std.proofs.Common.{◌≡◌, ◌≢◌, ℕ, suc, ◌+◌, ◌-◌, ◌<◌, ◌≤◌, List, [], ◌∷◌, ◌++◌, length, map, true, false, cond}
+use Rattle.std.proofs.Common.{arith, refl, sym, ap, ◌∙◌, Option, Some, None, append_assoc}
 use Rattle.std.proofs.lemmas.List.{map-append, append-nil}
 use Rattle.std.specs.Prelude.{Err, filter_map, is_none, not, IsSome, IfSome, ◌↔◌}
 use Rattle.std.specs.Option.{ok_or, option_map}
@@ -15,9 +16,11 @@ use Rattle.call_block.specs.Names.{pointers_from, character_at, characters, is_z
 
 -- one more character
 pub characters-suc : (ac core : List ℕ) (p : ℕ) (n : ℕ) →
-    characters ac core p (suc n) ≡ cond (not (is_zero (character_at ac core (incremented p)))) (character_at ac core (incremented p) ∷ characters ac core (incremented p) n) []
+    characters ac core p (suc n) ≡ cond (not (is_zero (character_at ac core (incremented p))))
+    (character_at ac core (incremented p) ∷ characters ac core (incremented p) n) []
 unfolding characters pointers_from
-characters-suc ac core p n = take_while-cons (λ c. not (is_zero c)) (character_at ac core (incremented p)) (map (character_at ac core) (pointers_from n (incremented p)))
+characters-suc ac core p n = take_while-cons (λ c. not (is_zero c))
+    (character_at ac core (incremented p)) (map (character_at ac core) (pointers_from n (incremented p)))
 
 -- where so many are read: a step by what the next pointer points to
 characters-next : (ac core : List ℕ) (p q : ℕ) (n k : ℕ) (x : Option ℕ) → k < n → q ≡ incremented p → character_at ac core q ≡ x →
@@ -31,7 +34,8 @@ characters-next ac core p q n k x h next at =
     ∙ ap (λ (y : Option ℕ). cond (not (is_zero y)) (y ∷ rest) []) at
 
 -- the character of the next pointer, where its word is known
-pub character_in : (ac core : List ℕ) (p q : ℕ) (word known : Option ℕ) → word ≡ word_at ac core (right_half (incremented p)) → q ≡ incremented p → word ≡ known →
+pub character_in : (ac core : List ℕ) (p q : ℕ) (word known : Option ℕ) →
+    word ≡ word_at ac core (right_half (incremented p)) → q ≡ incremented p → word ≡ known →
     character_at ac core q ≡ option_map (byte_of q) known
 character_in ac core p q word known is next was =
     ap (λ (r : ℕ). option_map (byte_of q) (word_at ac core (right_half r))) next ∙ ap (option_map (byte_of q)) (sym is ∙ was)

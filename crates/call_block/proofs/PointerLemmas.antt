@@ -13,7 +13,8 @@ byte_of_seven p w h = ap (λ (n : ℕ). w / 2 ^ position_of p % 2 ^ n) h
 pub incremented_seven : (p : ℕ) → size_of p ≡ 7
     → incremented p ≡ (if nat_le 7 (p / 2 ^ 30) then p - 7 * 2 ^ 30 else 29 * 2 ^ 30 + p / 2 ^ 18 % 2 ^ 12 * 2 ^ 18 + (p + 1) % 2 ^ 18)
 unfolding incremented
-incremented_seven p h = ap (λ (n : ℕ). if nat_le n (position_of p) then p - n * 2 ^ 30 else (36 - n) * 2 ^ 30 + p / 2 ^ 18 % 2 ^ 12 * 2 ^ 18 + (p + 1) % 2 ^ 18) h
+incremented_seven p h = ap (λ (n : ℕ). if nat_le n (position_of p) then p - n * 2 ^ 30 else
+    (36 - n) * 2 ^ 30 + p / 2 ^ 18 % 2 ^ 12 * 2 ^ 18 + (p + 1) % 2 ^ 18) h
 
 -- the next character of the same word
 pub incremented_here : (p : ℕ) → size_of p ≡ 7 → nat_le 7 (position_of p) ≡ true → incremented p ≡ p - 7 * 2 ^ 30

@@ -19,7 +19,8 @@ abbrev pub behind : List Want → Result (List Want) Refusal → Result (List Wa
 behind wants r = r >>= (λ rest. Ok (wants ++ rest))
 
 pub wants_at-suc : (ac core : List ℕ) (job : ℕ) (block_use : BlockUse) (a n : ℕ) →
-    wants_at ac core job block_use a (suc n) ≡ (want_of ac core job block_use (lock_at ac core a) >>= (λ want. wants_at ac core job block_use (a + 3) n >>= (λ wants. Ok (want ∷ wants))))
+    wants_at ac core job block_use a (suc n) ≡ (want_of ac core job block_use (lock_at ac core a) >>=
+    (λ want. wants_at ac core job block_use (a + 3) n >>= (λ wants. Ok (want ∷ wants))))
 unfolding wants_at
 wants_at-suc ac core job block_use a n = refl
 
@@ -30,7 +31,8 @@ none_left ac core job block_use a = refl
 -- where so many locks are read: a step by what the next lock gives
 wants_at-next : (ac core : List ℕ) (job : ℕ) (block_use : BlockUse) (a n k : ℕ) (lock : Lock) (x : Result Want Refusal) → k < n →
     lock ≡ lock_at ac core (a + 3 * k) → x ≡ want_of ac core job block_use lock →
-    wants_at ac core job block_use (a + 3 * k) (n - k) ≡ (x >>= (λ want. wants_at ac core job block_use (a + 3 * (k + 1)) (n - (k + 1)) >>= (λ wants. Ok (want ∷ wants))))
+    wants_at ac core job block_use (a + 3 * k) (n - k) ≡ (x >>=
+    (λ want. wants_at ac core job block_use (a + 3 * (k + 1)) (n - (k + 1)) >>= (λ wants. Ok (want ∷ wants))))
 wants_at-next ac core job block_use a n k lock x h is gives =
     let left = n - (k + 1) in
     let e : n - k ≡ suc left = omega arith in
@@ -42,11 +44,13 @@ wants_at-next ac core job block_use a n k lock x h is gives =
     ∙ ap (λ (b : ℕ). from (want_of ac core job block_use (lock_at ac core (a + 3 * k))) b) place
     ∙ ap (λ (r : Result Want Refusal). from r (a + 3 * (k + 1))) first
 
-behind-cons : (wants : List Want) (want : Want) (r : Result (List Want) Refusal) → behind wants (r >>= (λ rest. Ok (want ∷ rest))) ≡ behind (wants ++ want ∷ []) r
+behind-cons : (wants : List Want) (want : Want) (r : Result (List Want) Refusal) →
+    behind wants (r >>= (λ rest. Ok (want ∷ rest))) ≡ behind (wants ++ want ∷ []) r
 behind-cons wants want (Ok rest) = simp append_assoc
 behind-cons wants want (Err refusal) = refl
 
-pub more : (ac core : List ℕ) (job : ℕ) (block_use : BlockUse) (a n k : ℕ) (lock : Lock) (want : Want) (wants : List Want) (all : Result (List Want) Refusal) → k < n →
+pub more : (ac core : List ℕ) (job : ℕ) (block_use : BlockUse) (a n k : ℕ) (lock : Lock)
+    (want : Want) (wants : List Want) (all : Result (List Want) Refusal) → k < n →
     all ≡ behind wants (wants_at ac core job block_use (a + 3 * k) (n - k)) →
     lock ≡ lock_at ac core (a + 3 * k) → Ok want ≡ want_of ac core job block_use lock →
     all ≡ behind (wants ++ want ∷ []) (wants_at ac core job block_use (a + 3 * (k + 1)) (n - (k + 1)))
@@ -55,7 +59,8 @@ more ac core job block_use a n k lock want wants all h e is gives =
     ∙ ap (behind wants) (wants_at-next ac core job block_use a n k lock (Ok want) h is gives)
     ∙ behind-cons wants want (wants_at ac core job block_use (a + 3 * (k + 1)) (n - (k + 1)))
 
-pub refused : (ac core : List ℕ) (job : ℕ) (block_use : BlockUse) (a n k : ℕ) (lock : Lock) (refusal : Refusal) (wants : List Want) (all : Result (List Want) Refusal) → k < n →
+pub refused : (ac core : List ℕ) (job : ℕ) (block_use : BlockUse) (a n k : ℕ) (lock : Lock)
+    (refusal : Refusal) (wants : List Want) (all : Result (List Want) Refusal) → k < n →
     all ≡ behind wants (wants_at ac core job block_use (a + 3 * k) (n - k)) →
     lock ≡ lock_at ac core (a + 3 * k) → Err refusal ≡ want_of ac core job block_use lock →
     all ≡ Err refusal

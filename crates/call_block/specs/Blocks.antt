@@ -1,5 +1,6 @@
 -- The block of a lock call (ENQ/DEQ of the TOPS-10 Monitor Calls Manual, in this project's profile).
-use Rattle.std.specs.Prelude.{ℕ, suc, zero, ◌+◌, ◌*◌, ◌==◌, ◌&&◌, ◌||◌, nat_lt, Bool, true, false, not, if◌then◌else◌, unwrap_or, Result, Ok, Err, List, [], ◌∷◌}
+use Rattle.std.specs.Prelude.{ℕ, suc, zero, ◌+◌, ◌*◌, ◌==◌, ◌&&◌, ◌||◌, nat_lt, Bool, true, false, not}
+use Rattle.std.specs.Prelude.{if◌then◌else◌, unwrap_or, Result, Ok, Err, List, [], ◌∷◌}
 use Rattle.arrayvec.specs.ArrayVec.{ArrayVec}
 use Rattle.word36.specs.declared.sizes.TheConstants.{LOCKS_A_CALL}
 use Rattle.word36.specs.Words.{left_half, right_half}

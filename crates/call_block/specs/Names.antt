@@ -1,9 +1,9 @@
 -- The name of a lock, as a call's block names it (this project's profile; byte pointers are those of
 -- the DECsystem-10 Processor Reference Manual).
-use Rattle.std.specs.Prelude.{◌≡◌, ℕ, suc, zero, ◌+◌, ◌==◌, ◌&&◌, nat_le, Bool, true, false, if◌then◌else◌, Option, Some, None, Result, Ok, Err, List, [], ◌∷◌, length, map, filter_map, is_none}
+use Rattle.std.specs.Prelude.{◌≡◌, ℕ, suc, zero, ◌+◌, ◌==◌, ◌&&◌, nat_le, Bool, true, false, if◌then◌else◌, Option, Some}
+use Rattle.std.specs.Prelude.{None, Result, Ok, Err, List, [], ◌∷◌, length, map, filter_map, is_none}
 use Rattle.std.specs.Option.{option_map}
 use Rattle.std.specs.List.{before_first, list_any}
-use Rattle.arrayvec.specs.ArrayString.{ArrayString}
 use Rattle.word36.specs.declared.sizes.TheConstants.{NAME_LENGTH}
 use Rattle.word36.specs.Words.{right_half}
 use Rattle.ka_word.specs.Bytes.{byte_of, incremented, position_of, size_of}
@@ -37,8 +37,8 @@ unfoldable pub characters : List ℕ → List ℕ → ℕ → ℕ → List (Opti
 characters ac core pointer most = before_first is_zero (map (character_at ac core) (pointers_from most pointer))
 
 -- that a text has the characters that were read, if each of them is legal
-abbrev pub AreLegalCharacters : Option ArrayString → List (Option ℕ) → Type 0
-AreLegalCharacters (Some text) read = read ≡ map Some text.bytes
+abbrev pub AreLegalCharacters : Option (List ℕ) → List (Option ℕ) → Type 0
+AreLegalCharacters (Some text) read = read ≡ map Some text
 AreLegalCharacters None read = list_any is_none read ≡ true
 
 -- a name has 1 to 30 characters

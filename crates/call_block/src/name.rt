@@ -6,9 +6,8 @@ ghost use Rattle.ka_cpu.specs.Places.{word_at};
 ghost use Rattle.call_block.specs.Names.{characters, AreLegalCharacters, text_at, name_at};
 
 use crate::bits::bits;
-use arrayvec::ArrayString;
 use ka_cpu::{JobMemory, Regs, fetch};
-use lock_queue::{Name, NameText, Refusal, UserCode};
+use lock_queue::{Name, NameCharacters, NameText, Refusal, UserCode};
 use word36::{NAME_LENGTH, Word};
 
 /// The most characters that are read of a name: one more than it may have, so that a longer one shows.
@@ -72,17 +71,13 @@ fn character_of(pointer: Word, word: Word) -> u8
 /// What the increments of a pointer point to, up to the first zero or to one character more than a
 /// name may have, if the words of all of them are legal.
 #[inline(always)]
-fn read_characters<M: JobMemory>(
-    regs: &Regs,
-    memory: &M,
-    pointer: Word,
-) -> Option<ArrayString<NAME_ROOM>>
+fn read_characters<M: JobMemory>(regs: &Regs, memory: &M, pointer: Word) -> Option<NameCharacters>
     requires { size_of pointer ≡ 7 }
     ensures { AreLegalCharacters result (characters regs.now.ac (M.words memory.now) pointer NAME_ROOM) }
 {
     let mut pointer = pointer;
     let mut word = fetch(regs, memory, pointer.right());
-    let mut text = ArrayString::new();
+    let mut text = NameCharacters::new();
     for _count in 0..NAME_ROOM {
         word = next_word(regs, memory, pointer, word);
         pointer = increment(pointer);
@@ -90,7 +85,7 @@ fn read_characters<M: JobMemory>(
         if character == 0 {
             return Some(text);
         }
-        text.push(char::from(character));
+        text.push(character);
     }
     Some(text)
 }
@@ -104,7 +99,7 @@ fn read_text<M: JobMemory>(regs: &Regs, memory: &M, pointer: Word) -> Result<Nam
     let Some(text) = read_characters(regs, memory, pointer) else {
         return Err(Refusal::BadPointer);
     };
-    NameText::new(text.as_str()).ok_or(Refusal::BadName)
+    text.name().ok_or(Refusal::BadName)
 }
 
 /// The name that a word of a block stands for.

@@ -1,5 +1,6 @@
 -- Which calls leave a job that waits for its terminal.
-use Rattle.std.proofs.Common.{◌≡◌, ◌<◌, ◌∙◌, sym, ap, subst, ℕ, ◌+◌, ◌==◌, Bool, true, false, List, [], length, Option, Some, None, is_none, is_some, nat_le, nat_lt, slice_set, refl, arith}
+use Rattle.std.proofs.Common.{◌≡◌, ◌<◌, ◌∙◌, sym, ap, subst, ℕ, ◌+◌, ◌==◌, Bool, true, false, List, [], length, Option}
+use Rattle.std.proofs.Common.{Some, None, is_none, is_some, nat_le, nat_lt, slice_set, refl, arith}
 use Rattle.std.specs.Prelude.{Result, Ok, Err}
 use Rattle.std.proofs.lemmas.Bool.{both_ways}
 use Rattle.std.proofs.lemmas.List.{get_or-set_same}
@@ -29,7 +30,8 @@ use Rattle.uuo_calls.specs.TerminalRows.{JobInput, JobLines, has_input, input_ca
 use Rattle.uuo_calls.specs.declared.call.CallOutcome.TheVariants.{Done, Empty}
 use Rattle.uuo_calls.specs.declared.service.Awaited.{Awaited}
 use Rattle.uuo_calls.specs.declared.service.Service.{Service}
-use Rattle.uuo_calls.specs.declared.service.Service.TheVariants.{Reset, Core, Exit, Monrt, Logout, Mstime, Pjob, Sleep, Piini, Pisys, Debrk, Enq, Deq, Enqc, Datrd, Datwr, Input, Outchr, Outstr, Clrbfi, Clrbfo, Skpin, Unlisted}
+use Rattle.uuo_calls.specs.declared.service.Service.TheVariants.{Reset, Core, Exit, Monrt, Logout, Mstime, Pjob, Sleep, Piini, Pisys, Debrk, Enq, Deq, Enqc}
+use Rattle.uuo_calls.specs.declared.service.Service.TheVariants.{Datrd, Datwr, Input, Outchr, Outstr, Clrbfi, Clrbfo, Skpin, Unlisted}
 use Rattle.uuo_calls.proofs.Rows.{performs}
 use Rattle.uuo_calls.proofs.Tests.{by_test}
 use Rattle.call_laws.specs.TerminalWaits.{WhoWaitsForItsTerminalMadeAnEmptyStep}

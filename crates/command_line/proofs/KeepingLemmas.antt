@@ -11,7 +11,11 @@ end_nothing whole text none = (length whole, none ∙ sym (drop_all (length whol
 -- an end stays one where more comes
 pub end_longer : (old mid more new : List ℕ) → IsEndOf old mid → new ≡ mid ++ more → IsEndOf (old ++ more) new
 end_longer old mid more new end is = elim (cases_lt (length old) end.0) [
-  | inl h ↦ (length old, is ∙ ap (λ l. l ++ more) (end.1 ∙ drop_all end.0 old (omega (arith, h)) ∙ sym (drop_all (length old) old (omega arith))) ∙ sym (drop-append-le (length old) old more (omega arith)))
+  | inl h ↦ (
+    length old,
+    is ∙ ap (λ l. l ++ more) (end.1 ∙ drop_all end.0 old (omega (arith, h)) ∙ sym (drop_all (length old) old (omega arith)))
+        ∙ sym (drop-append-le (length old) old more (omega arith)),
+  )
   | inr h ↦ (end.0, is ∙ ap (λ l. l ++ more) end.1 ∙ sym (drop-append-le end.0 old more h))
 ]
 

@@ -108,16 +108,19 @@ pub record Refuses (words : List Text) (i i' o o' e e' : Option (List ℕ)) (err
   pub why : IsToldWords words e e' errors_failed status
 
 -- the program served what the words ask for, or refused them
-abbrev pub Runs : List Text → Option (List ℕ) → Option (List ℕ) → Option (List ℕ) → Option (List ℕ) → Option (List ℕ) → Option (List ℕ) → Bool → Bool → Bool → ℕ → Type 0
+abbrev pub Runs : List Text → Option (List ℕ) → Option (List ℕ) → Option (List ℕ) →
+    Option (List ℕ) → Option (List ℕ) → Option (List ℕ) → Bool → Bool → Bool → ℕ → Type 0
 Runs words i i' o o' e e' read_failed write_failed errors_failed status =
     ServesAsked words i i' o o' e e' read_failed write_failed errors_failed status ⊎ Refuses words i i' o o' e e' errors_failed status
 
 -- the same, where a line was told of what was refused
-pub record ServesTold (words : List Text) (i i' o o' e e' t t' : Option (List ℕ)) (read_failed write_failed errors_failed telling_failed : Bool) (status : ℕ) : Type 0 where
+pub record ServesTold (words : List Text) (i i' o o' e e' t t' : Option (List ℕ))
+    (read_failed write_failed errors_failed telling_failed : Bool) (status : ℕ) : Type 0 where
   pub served : ServesAsked words i i' o o' e e' read_failed write_failed errors_failed status
   pub fault : TellsFault served.answer t t' telling_failed
 
-abbrev pub RunsTold : List Text → Option (List ℕ) → Option (List ℕ) → Option (List ℕ) → Option (List ℕ) → Option (List ℕ) → Option (List ℕ) → Option (List ℕ) → Option (List ℕ) → Bool → Bool → Bool → Bool → ℕ → Type 0
+abbrev pub RunsTold : List Text → Option (List ℕ) → Option (List ℕ) → Option (List ℕ) → Option (List ℕ) →
+    Option (List ℕ) → Option (List ℕ) → Option (List ℕ) → Option (List ℕ) → Bool → Bool → Bool → Bool → ℕ → Type 0
 RunsTold words i i' o o' e e' t t' read_failed write_failed errors_failed telling_failed status =
     ServesTold words i i' o o' e e' t t' read_failed write_failed errors_failed telling_failed status
     ⊎ (Refuses words i i' o o' e e' errors_failed status × (t' ≡ t))

@@ -29,7 +29,8 @@ abbrev pub versioned : App → App
 versioned a = record a { top = record a.top { has_version = true } }
 
 abbrev pub app : App
-app = with_subcommand (with_subcommand (with_subcommand (required (versioned (new_app (codes "lockmon")))) run_app.top) (new_app (codes "queue")).top) (new_app (codes "asm")).top
+app = with_subcommand (with_subcommand (with_subcommand (required (versioned (new_app (codes "lockmon")))) run_app.top)
+    (new_app (codes "queue")).top) (new_app (codes "asm")).top
 
 -- ---- what it is asked for
 

@@ -51,7 +51,7 @@ pub struct Search {
 }
 
 /// What a line asks for.
-#[derive(Clone, Copy, Debug)]
+#[derive(Clone, Copy)]
 pub enum Command<'a> {
     /// `;` and more behind it: a remark, by which nothing happens.
     Remark,

@@ -1,7 +1,8 @@
 //! Why a run stopped.
 
 use crate::stop_lists::StopList;
-use ddt_session::{Machine, Stop};
+use ddt_session::Stop;
+use run_machine::Machine;
 use std::alloc::{AllocError, Global};
 use word36::Word;
 

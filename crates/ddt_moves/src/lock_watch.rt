@@ -3,9 +3,10 @@
 use crate::causes::Cause;
 use crate::stop_lists::StopList;
 use crate::turns::{NUMBERS, places_of};
-use ddt_session::{Machine, Watch};
+use ddt_session::Watch;
 use lock_queue::{Name, Request};
-use run_facts::{is_new_grant, requests_in};
+use run_facts::is_new_grant;
+use run_machine::Machine;
 use run_notes::{CallLook, snapshot_of};
 use std::alloc::{AllocError, Global};
 use word36::{Address, JOBS};
@@ -71,7 +72,7 @@ impl<'a> LockWatch<'a> {
         Ok(LockWatch {
             alloc,
             list,
-            requests: requests_in(alloc, machine.locks())?,
+            requests: machine.requests(alloc)?,
             places: places_of(machine),
             cause: None,
             has_failed: false,
@@ -83,7 +84,7 @@ impl<'a> LockWatch<'a> {
         if !self.list.grants {
             return Ok(false);
         }
-        let requests = requests_in(self.alloc, machine.locks())?;
+        let requests = machine.requests(self.alloc)?;
         if has_new_grant(self.requests.as_slice(), requests.as_slice()) {
             return Ok(true);
         }

@@ -4,7 +4,6 @@ use crate::causes::{Cause, Stops};
 use crate::lock_watch::LockWatch;
 use crate::stop_lists::StopList;
 use ddt_session::{NoWatch, Ran, Timeline};
-use run_facts::requests_in;
 use run_notes::grant_lines;
 use std::alloc::AllocError;
 
@@ -69,7 +68,7 @@ fn run_watched(
     let mut ended = Ended::of(timeline, stops, ran, most);
     if ran.is_watched {
         ended.cause = watch.cause;
-        let requests = requests_in(alloc, timeline.machine().locks())?;
+        let requests = timeline.machine().requests(alloc)?;
         let (before, ticks) = (watch.requests.as_slice(), timeline.ticks());
         ended.grants = grant_lines(alloc, ticks, before, requests.as_slice())?;
     }

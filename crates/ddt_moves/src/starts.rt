@@ -2,8 +2,9 @@
 
 use crate::causes::Cause;
 use crate::stop_lists::StopList;
-use ddt_session::{Entry, Machine, Timeline};
+use ddt_session::{Entry, Timeline};
 use job_sched::Stop;
+use run_machine::Machine;
 use std::alloc::AllocError;
 
 /// Whether a job was not started.

@@ -1,6 +1,7 @@
 //! Whose turn a step was.
 
-use ddt_session::{Machine, Timeline};
+use ddt_session::{Replay, Timeline};
+use run_machine::Machine;
 use std::alloc::AllocError;
 use word36::{Address, JOBS};
 
@@ -21,19 +22,22 @@ pub(crate) fn places_of(machine: &Machine) -> [Option<Address>; NUMBERS] {
     places
 }
 
+/// Whose turn the next step is, which is made, and where that job stands before it.
+fn next_turn(replay: &mut Replay<'_>) -> Option<(u8, u32)> {
+    if !replay.go_before_step() {
+        return None;
+    }
+    let places = places_of(replay.machine());
+    let job = replay.step()?;
+    match places.get(usize::from(job)) {
+        Some(Some(place)) => Some((job, place.number())),
+        _ => None,
+    }
+}
+
 /// Whose turn the step behind so many was, and where that job stood before it.
 pub fn turn_at(timeline: &Timeline, steps: u64) -> Result<Option<(u8, u32)>, AllocError> {
     let mut replay = timeline.replay()?;
     replay.skip_to(steps);
-    if !replay.go_before_step() {
-        return Ok(None);
-    }
-    let places = places_of(replay.machine());
-    let Some(job) = replay.step() else {
-        return Ok(None);
-    };
-    match places.get(usize::from(job)) {
-        Some(Some(place)) => Ok(Some((job, place.number()))),
-        _ => Ok(None),
-    }
+    Ok(next_turn(&mut replay))
 }

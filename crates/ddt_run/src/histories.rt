@@ -3,8 +3,9 @@
 use crate::session::Session;
 use ddt_help::Refusal;
 use ddt_lines::Look;
-use ddt_session::{Machine, Replay, last_turns};
+use ddt_session::{Replay, last_turns};
 use ddt_show::{ShownJob, place_line};
+use run_machine::Machine;
 use std::alloc::{AllocError, Global};
 use word36::Word;
 
@@ -41,17 +42,33 @@ fn add_turns(
     Ok(())
 }
 
+/// The lines of the turns of the open job that were made behind so many steps.
+fn lines_from(session: &Session<'_>, steps: u64) -> Result<String, AllocError> {
+    let mut lines = String::new(session.alloc);
+    if let Some(job) = session.open_job() {
+        add_turns_from(session, &job.shown, steps, &mut lines)?;
+    }
+    Ok(lines)
+}
+
+/// Adds the lines of the turns of a job that were made behind so many steps.
+fn add_turns_from(
+    session: &Session<'_>,
+    job: &ShownJob,
+    steps: u64,
+    lines: &mut String,
+) -> Result<(), AllocError> {
+    let mut replay = session.timeline.replay()?;
+    replay.skip_to(steps);
+    add_turns(session.alloc, &mut replay, job, lines)
+}
+
 /// `.HISTORY n`: tells the last turns of the open job, so many at most.
 pub fn tell_history(session: &mut Session<'_>, most: u32) -> Result<(), AllocError> {
     let turns = last_turns(&session.timeline, session.open, most as usize)?;
     let Some(first) = turns.first() else {
         return session.refuse(Refusal::NoTurns);
     };
-    let mut lines = String::new(session.alloc);
-    if let Some(job) = session.open_job() {
-        let mut replay = session.timeline.replay()?;
-        replay.skip_to(first);
-        add_turns(session.alloc, &mut replay, &job.shown, &mut lines)?;
-    }
+    let lines = lines_from(session, first)?;
     session.say(lines.as_str())
 }

@@ -19,8 +19,9 @@ mod texts;
 mod told;
 mod words;
 
-pub use asked::{Asked, Refusal};
+pub use asked::Asked;
 pub use obey::{Wish, obey_line};
 pub use program::{Ports, ddt, unread_words};
+pub use run_words::Refusal;
 pub use session::{Session, SessionJob};
 pub use words::read_words;

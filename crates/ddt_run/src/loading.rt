@@ -10,7 +10,7 @@ use ddt_show::ShownJob;
 use monitor::{Answer, Config, RefusedEvent};
 use source_labels::{Assembled, Places, Program, Source, assemble_source, warnings_of};
 use std::alloc::{AllocError, Global};
-use word36::Word;
+use word36::{JOBS, Word};
 
 /// Programs that were assembled, and what is told of their sources.
 #[derive(Drop)]
@@ -69,30 +69,55 @@ fn refusal_text(refusal: RefusedEvent) -> &'static str {
     }
 }
 
-/// Logs a program in at a line: its job, or why it is refused.
+/// Logs a program in at the next line, and adds its job; or gives why it is refused.
 fn log_in<'a>(
-    timeline: &mut Timeline,
-    line: u8,
+    session: &mut Session<'a>,
     program: Program<'a>,
-) -> Result<Result<SessionJob<'a>, RefusedEvent>, AllocError> {
-    let alloc = timeline.alloc();
+) -> Result<Option<RefusedEvent>, AllocError> {
+    let line = session.jobs.len().min(usize::from(JOBS)) as u8;
     let Program {
         file,
         image,
         places,
     } = program;
-    let symbols = symbols_of(alloc, &places)?;
-    let number = match timeline.make(Entry::Login(line, image))? {
+    let symbols = symbols_of(session.alloc, &places)?;
+    let number = match session.timeline.make(Entry::Login(line, image))? {
         Answer::JobNumber(number) => number,
-        Answer::Refused(refusal) => return Ok(Err(refusal)),
-        _ => return Ok(Err(RefusedEvent::NoJobNumber)),
+        Answer::Refused(refusal) => return Ok(Some(refusal)),
+        _ => return Ok(Some(RefusedEvent::NoJobNumber)),
     };
-    Ok(Ok(SessionJob {
+    session.jobs.push(SessionJob {
         shown: ShownJob { number, places },
         file,
         line,
         symbols,
-    }))
+    })?;
+    Ok(None)
+}
+
+/// Logs programs in at lines from 0 on, none of which is started; gives what is told where one is
+/// refused.
+pub fn log_in_all<'a>(
+    session: &mut Session<'a>,
+    programs: Vec<Program<'a>>,
+) -> Result<Option<String>, AllocError> {
+    for program in programs {
+        let file = program.file;
+        if let Some(refusal) = log_in(session, program)? {
+            let reason = refusal_text(refusal);
+            return Ok(Some(format!(in session.alloc; "{file}: {reason}\n")?));
+        }
+    }
+    session.here = place_of_first(session);
+    Ok(None)
+}
+
+/// Where the first job stands.
+fn place_of_first(session: &Session<'_>) -> u32 {
+    match session.machine().job(1) {
+        Some(view) => view.pc.number(),
+        None => 0,
+    }
 }
 
 /// The size of a machine.
@@ -102,54 +127,25 @@ fn config_of(blocks: u32, quantum: u8) -> Config
     Config::new(blocks, quantum).unwrap()
 }
 
-/// A session whose jobs are logged in at lines from 0 on and not started, or what is told where one is
-/// refused.
-pub fn begin<'a>(
+/// A session without jobs, whose first will be open, and where nothing was looked at.
+pub fn new_session<'a>(
     alloc: Global,
     asked: &Asked<'a>,
-    programs: Vec<Program<'a>>,
     input: InputLines,
-) -> Result<Result<Session<'a>, String>, AllocError> {
-    let mut timeline = Timeline::new(alloc, config_of(asked.blocks, asked.quantum))?;
-    let mut jobs = Vec::new(alloc);
-    let mut line = 0u8;
-    for program in programs {
-        let file = program.file;
-        match log_in(&mut timeline, line, program)? {
-            Ok(job) => jobs.push(job)?,
-            Err(refusal) => {
-                let reason = refusal_text(refusal);
-                return Ok(Err(format!(in alloc; "{file}: {reason}\n")?));
-            }
-        }
-        line = line.saturating_add(1);
-    }
-    Ok(Ok(session_of(alloc, timeline, jobs, input)))
-}
-
-/// A session whose first job is open, and where nothing was looked at.
-fn session_of<'a>(
-    alloc: Global,
-    timeline: Timeline,
-    jobs: Vec<SessionJob<'a>>,
-    input: InputLines,
-) -> Session<'a> {
-    let here = match timeline.machine().job(1) {
-        Some(view) => view.pc.number(),
-        None => 0,
-    };
-    Session {
+) -> Result<Session<'a>, AllocError> {
+    let timeline = Timeline::new(alloc, config_of(asked.blocks, asked.quantum))?;
+    Ok(Session {
         alloc,
         timeline,
-        jobs,
+        jobs: Vec::new(alloc),
         open: 1,
         look: Look::Symbolic,
-        here,
+        here: 0,
         is_open: false,
         last: Word::new(0),
         list: StopList::new(),
         input,
         edited: None,
         text: Vec::new(alloc),
-    }
+    })
 }

@@ -1,16 +1,16 @@
 //! The whole program.
 ghost use Rattle.std.specs.Prelude.{◌≡◌, ◌≢◌, false};
 
-use crate::asked::{Asked, Refusal};
-use crate::loading::{assemble_all, begin};
+use crate::asked::Asked;
+use crate::loading::{assemble_all, new_session};
 use crate::served::Served;
-use crate::session::Session;
 use crate::words::read_words;
 use ddt_moves::InputLines;
 use line_ports::{Answers, Failure, LineReader};
 use run_facts::{DONE, FAILED, REFUSED, USAGE};
+use run_words::Refusal;
 use script_io::{ByteIn, ByteOut};
-use source_labels::Source;
+use source_labels::{Program, Source};
 use std::alloc::Global;
 use std::convert::AsStr;
 use std::fs;
@@ -106,12 +106,21 @@ fn tell_failure<E: ByteOut + Drop>(alloc: Global, failure: Failure, errors: &mut
     FAILED
 }
 
-/// The session that is asked for, or the exit status where there is none.
-fn begin_session<'a, F: Files + AllocGlobal, E: ByteOut + Drop>(
+/// What a session begins with.
+#[derive(Drop)]
+struct Loaded<'a> {
+    /// The programs.
+    programs: Vec<Program<'a>>,
+    /// What is typed where a job waits for characters.
+    input: InputLines,
+}
+
+/// Reads and assembles what is asked for; gives the exit status where that fails, which is told.
+fn load<'a, F: Files + AllocGlobal, E: ByteOut + Drop>(
     rt: &F,
     asked: &Asked<'a>,
     errors: &mut Answers<E>,
-) -> Result<Result<Session<'a>, u8>, Failure> {
+) -> Result<Result<Loaded<'a>, u8>, Failure> {
     let Some(sources) = read_sources(rt, asked.files.as_slice(), errors)? else {
         return Ok(Err(FAILED));
     };
@@ -123,13 +132,41 @@ fn begin_session<'a, F: Files + AllocGlobal, E: ByteOut + Drop>(
     if !assembled.are_right {
         return Ok(Err(REFUSED));
     }
-    match begin(rt.alloc(), asked, assembled.programs, input)? {
-        Ok(session) => Ok(Ok(session)),
-        Err(told) => {
-            errors.write(told.as_str().as_bytes())?;
-            Ok(Err(REFUSED))
-        }
-    }
+    Ok(Ok(Loaded {
+        programs: assembled.programs,
+        input,
+    }))
+}
+
+/// Serves the lines of a session on what was loaded, and gives the exit status.
+fn serve_session<
+    'a,
+    F: Files + AllocGlobal,
+    R: ByteIn + Drop,
+    W: ByteOut + Drop,
+    E: ByteOut + Drop,
+>(
+    rt: &F,
+    asked: &Asked<'a>,
+    loaded: Loaded<'a>,
+    input: LineReader<R>,
+    output: Answers<W>,
+    errors: &mut Answers<E>,
+    is_person: bool,
+) -> Result<u8, Failure> {
+    let Loaded {
+        programs,
+        input: lines,
+    } = loaded;
+    let mut served = Served {
+        session: new_session(rt.alloc(), asked, lines)?,
+        input,
+        output,
+        errors,
+        is_person,
+        kept: Vec::new(rt.alloc()),
+    };
+    served.serve(rt, programs)
 }
 
 /// The program, but for what is said of a failure.
@@ -145,20 +182,10 @@ fn serve<F: Files + AllocGlobal, S: AsStr, R: ByteIn + Drop, W: ByteOut + Drop, 
         Ok(asked) => asked,
         Err(refusal) => return tell_refusal(rt.alloc(), refusal, &mut output, errors),
     };
-    let session = match begin_session(rt, &asked, errors)? {
-        Ok(session) => session,
-        Err(status) => return Ok(status),
-    };
-    let mut served = Served {
-        session,
-        input,
-        output,
-        errors,
-        is_person,
-        kept: Vec::new(rt.alloc()),
-    };
-    served.serve(rt)?;
-    Ok(DONE)
+    match load(rt, &asked, errors)? {
+        Ok(loaded) => serve_session(rt, &asked, loaded, input, output, errors, is_person),
+        Err(status) => Ok(status),
+    }
 }
 
 /// Does what the words, which begin with the program's name, ask for, and gives the exit status: reads

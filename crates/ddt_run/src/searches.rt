@@ -2,7 +2,7 @@
 
 use crate::session::Session;
 use ddt_lines::{Search, SearchKind};
-use ddt_session::Machine;
+use run_machine::Machine;
 use run_notes::effective_address;
 use std::alloc::AllocError;
 use word36::{BLOCK_WORDS, Word};

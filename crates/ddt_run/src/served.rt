@@ -1,11 +1,14 @@
 //! The lines of a session, as they come.
 ghost use Rattle.std.specs.Prelude.{◌≡◌, false};
 
+use crate::loading::log_in_all;
 use crate::obey::{Wish, obey_line};
 use crate::session::Session;
 use crate::texts;
 use line_ports::{Answers, Came, Failure, LineReader};
+use run_facts::{DONE, REFUSED};
 use script_io::{ByteIn, ByteOut, LINE_LENGTH};
+use source_labels::Program;
 use std::fs;
 use std::rt::Files;
 
@@ -29,9 +32,23 @@ pub struct Served<'a, 'e, R: ByteIn + Drop, W: ByteOut + Drop, E: ByteOut + Drop
     pub kept: Vec<u8>,
 }
 
-impl<R: ByteIn + Drop, W: ByteOut + Drop, E: ByteOut + Drop> Served<'_, '_, R, W, E> {
+impl<'a, R: ByteIn + Drop, W: ByteOut + Drop, E: ByteOut + Drop> Served<'a, '_, R, W, E> {
+    /// Logs programs in and serves lines until the session ends; gives the exit status.
+    pub fn serve<F: Files + AllocGlobal>(
+        &mut self,
+        rt: &F,
+        programs: Vec<Program<'a>>,
+    ) -> Result<u8, Failure> {
+        if let Some(told) = log_in_all(&mut self.session, programs)? {
+            self.errors.write(told.as_str().as_bytes())?;
+            return Ok(REFUSED);
+        }
+        self.serve_lines(rt)?;
+        Ok(DONE)
+    }
+
     /// Serves lines until the session ends.
-    pub fn serve<F: Files + AllocGlobal>(&mut self, rt: &F) -> Result<(), Failure> {
+    fn serve_lines<F: Files + AllocGlobal>(&mut self, rt: &F) -> Result<(), Failure> {
         let mut line = Vec::new(self.session.alloc);
         self.tell_person(texts::BANNER)?;
         for _ in 0..u64::MAX {
@@ -129,29 +146,45 @@ impl<R: ByteIn + Drop, W: ByteOut + Drop, E: ByteOut + Drop> Served<'_, '_, R, W
         self.obey_lines(rt, file, text.as_slice())
     }
 
-    /// Obeys lines of a file, of which none may name another file of lines.
+    /// Obeys lines of a file; false where one ends the session.
     fn obey_lines<F: Files + AllocGlobal>(
         &mut self,
         rt: &F,
         file: &str,
         text: &[u8],
     ) -> Result<bool, Failure> {
-        for line in text
-            .strip_suffix(b"\n".as_slice())
-            .unwrap_or(text)
-            .split(|byte| *byte == b'\n')
-        {
-            self.output.write(ECHO)?;
-            self.output.write(line)?;
-            self.output.write(b"\n")?;
-            let wish = obey_line(&mut self.session, line)?;
-            self.output.write(self.session.text.as_slice())?;
-            match wish {
-                Wish::Nothing => self.keep(line)?,
-                Wish::Quit => return Ok(false),
-                Wish::Save(name) => self.save(rt, name)?,
-                Wish::Do(_) => self.refuse_file(file, "a file of lines obeys no other file")?,
+        let lines = text.strip_suffix(b"\n".as_slice()).unwrap_or(text);
+        for line in lines.split(|byte| *byte == b'\n') {
+            if !self.obey_line_of(rt, file, line)? {
+                return Ok(false);
             }
+        }
+        Ok(true)
+    }
+
+    /// Writes a line of a file before its answer.
+    fn echo(&mut self, line: &[u8]) -> Result<(), Failure> {
+        self.output.write(ECHO)?;
+        self.output.write(line)?;
+        self.output.write(b"\n")?;
+        Ok(())
+    }
+
+    /// Obeys a line of a file, which may name no other file of lines; false where it ends the session.
+    fn obey_line_of<F: Files + AllocGlobal>(
+        &mut self,
+        rt: &F,
+        file: &str,
+        line: &[u8],
+    ) -> Result<bool, Failure> {
+        self.echo(line)?;
+        let wish = obey_line(&mut self.session, line)?;
+        self.output.write(self.session.text.as_slice())?;
+        match wish {
+            Wish::Nothing => self.keep(line)?,
+            Wish::Quit => return Ok(false),
+            Wish::Save(name) => self.save(rt, name)?,
+            Wish::Do(_) => self.refuse_file(file, "a file of lines obeys no other file")?,
         }
         Ok(true)
     }

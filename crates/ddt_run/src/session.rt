@@ -3,9 +3,10 @@
 use ddt_help::{Refusal, refuse};
 use ddt_lines::{Look, Scope, Symbol};
 use ddt_moves::{InputLines, StopList};
-use ddt_session::{Machine, Timeline};
+use ddt_session::Timeline;
 use ddt_show::{ShownJob, job_line, place_line, place_text};
 use job_sched::Wait;
+use run_machine::Machine;
 use std::alloc::{AllocError, Global};
 use word36::{Address, JOBS, Word};
 

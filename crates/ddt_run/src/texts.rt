@@ -1,8 +1,5 @@
 //! What `--help` and `--version` say, and what a person is told first.
 
-/// The version of the program.
-pub const VERSION: &str = "0.1.0";
-
 /// The program.
 pub const PROGRAM: &str =
     "A debugger in the manner of DDT for programs in a subset of MACRO-10 on a \
@@ -16,19 +13,9 @@ pub const PROGRAM_END: &str = "As in:  ddt examples/counter.mac\n\
     Status: 0 the session ended by .QUIT or the end of the input; 1 a source was refused; 2 wrong words;\n\
     3 reading, writing or memory failed.";
 
-/// `--blocks`.
-pub const BLOCKS: &str = "blocks of core of 1024 words that the jobs share, 1 to 256 [default: 64]";
-
-/// `--quantum`.
-pub const QUANTUM: &str =
-    "ticks for which a job runs before the next has its turn, 1 to 60 [default: 1]";
-
 /// `--input`.
 pub const INPUT: &str =
     "lines that are typed where a job waits for characters, at line 0, or at line n those behind n:";
-
-/// `FILE`.
-pub const FILES: &str = "sources, 1 to 63: job n runs the n-th of them, at terminal line n - 1";
 
 /// What stands before a line that a person is to type.
 pub const PROMPT: &str = "ddt> ";

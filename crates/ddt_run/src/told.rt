@@ -66,42 +66,60 @@ fn tell_change(
     session.show_next()
 }
 
+/// Jobs wait in a circle.
+fn tell_circle(session: &mut Session<'_>) -> Result<(), AllocError> {
+    session.say("jobs wait in a circle\n")?;
+    tell_waits(session)
+}
+
+/// A job is before a call on the lock that is looked at, and is open from here on.
+fn tell_call(session: &mut Session<'_>, job: u8) -> Result<(), AllocError> {
+    session.open = job;
+    let line = format!(in session.alloc; "job {job} is before a call on the lock\n")?;
+    session.say(line.as_str())?;
+    session.show_next()
+}
+
+/// Requests were granted.
+fn tell_grants(session: &mut Session<'_>, grants: &str) -> Result<(), AllocError> {
+    session.say(grants)?;
+    session.show_next()
+}
+
+/// As many steps were made as a run may have.
+fn tell_cut(session: &mut Session<'_>, most: u32) -> Result<(), AllocError> {
+    let line = format!(in session.alloc; "{most} steps were made: $P goes on\n")?;
+    session.say(line.as_str())?;
+    session.show_next()
+}
+
+/// No job goes on.
+fn tell_rest(session: &mut Session<'_>) -> Result<(), AllocError> {
+    session.say("no job goes on\n")?;
+    session.tell_jobs()
+}
+
 /// Says why a run ended, which could make so many steps.
-pub fn tell_end(session: &mut Session<'_>, ended: &Ended, most: u32) -> Result<(), AllocError> {
-    session.is_open = false;
+fn tell_cause(session: &mut Session<'_>, ended: &Ended, most: u32) -> Result<(), AllocError> {
     // A cause may hold a word: the prover wants its type to be named.
     let _word: Option<Word> = None;
     let cause = ended.cause;
     match cause {
-        Some(Cause::Breakpoint(number, job, place)) => {
-            tell_breakpoint(session, number, job, place)?;
-        }
-        Some(Cause::Word(job, place, was)) => tell_change(session, job, place, was)?,
-        Some(Cause::Circle) => {
-            session.say("jobs wait in a circle\n")?;
-            tell_waits(session)?;
-        }
-        Some(Cause::Call(job)) => {
-            session.open = job;
-            let line = format!(in session.alloc; "job {job} is before a call on the lock\n")?;
-            session.say(line.as_str())?;
-            session.show_next()?;
-        }
-        Some(Cause::Grant) => {
-            session.say(ended.grants.as_str())?;
-            session.show_next()?;
-        }
-        Some(Cause::Own | Cause::Input) => session.show_next()?,
-        None if ended.is_cut => {
-            let line = format!(in session.alloc; "{most} steps were made: $P goes on\n")?;
-            session.say(line.as_str())?;
-            session.show_next()?;
-        }
-        None => {
-            session.say("no job goes on\n")?;
-            session.tell_jobs()?;
-        }
+        Some(Cause::Breakpoint(number, job, place)) => tell_breakpoint(session, number, job, place),
+        Some(Cause::Word(job, place, was)) => tell_change(session, job, place, was),
+        Some(Cause::Circle) => tell_circle(session),
+        Some(Cause::Call(job)) => tell_call(session, job),
+        Some(Cause::Grant) => tell_grants(session, ended.grants.as_str()),
+        Some(Cause::Own | Cause::Input) => session.show_next(),
+        None if ended.is_cut => tell_cut(session, most),
+        None => tell_rest(session),
     }
+}
+
+/// Says why a run ended, which could make so many steps, and whether the session was edited.
+pub fn tell_end(session: &mut Session<'_>, ended: &Ended, most: u32) -> Result<(), AllocError> {
+    session.is_open = false;
+    tell_cause(session, ended, most)?;
     tell_edited(session)
 }
 

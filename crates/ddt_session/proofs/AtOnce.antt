@@ -1,7 +1,8 @@
 -- Rounds of one job that are made at once: where all stops are at the places where they end, none holds between them.
 use Rattle.std.specs.List.{list_all, prefix_len}
 use Rattle.std.specs.Prelude.{position}
-use Rattle.std.proofs.Common.{◌≡◌, ◌≢◌, ◌<◌, ◌≤◌, ◌∙◌, sym, ap, ℕ, zero, suc, ◌+◌, ◌-◌, ◌==◌, ◌&&◌, ◌||◌, ◌⊎◌, not, nat_lt, Bool, true, false, cond, List, [], ◌∷◌, Option, Some, None, inl, inr, map, length, refl, arith}
+use Rattle.std.proofs.Common.{◌≡◌, ◌≢◌, ◌<◌, ◌≤◌, ◌∙◌, sym, ap, ℕ, zero, suc, ◌+◌, ◌-◌, ◌==◌, ◌&&◌, ◌||◌, ◌⊎◌, not, nat_lt, Bool, true}
+use Rattle.std.proofs.Common.{false, cond, List, [], ◌∷◌, Option, Some, None, inl, inr, map, length, refl, arith}
 use Rattle.std.proofs.lemmas.Bool.{and_parts, cases_lt, eq-eqb, eqb-true, false_from_ne_true, false≢true, ltb-true}
 use Rattle.job_sched.specs.Tables.{job_at}
 use Rattle.job_sched.specs.declared.job.Job.{Job}
@@ -85,7 +86,10 @@ stop-none : (places : List ℕ) (job : Option ℕ) (u t : S) (stop : Stop) → i
     → is_met (is_at u stop) t job stop ≡ false
 stop-none places job u t (Place n a) within near none =
     come-none (is_job job n) (stands_at (job_view t.world n) a) (stands_at (job_view u.world n) a)
-    (λ same. stands-in t n a ∙ not-there places a (pc_in t n) within (ap (λ (o : Option ℕ). does_end (is_among places) (pc_on t o)) (sym (same-job job n same)) ∙ none))
+    (λ same.
+    stands-in t n a
+    ∙ not-there places a (pc_in t n) within
+    (ap (λ (o : Option ℕ). does_end (is_among places) (pc_on t o)) (sym (same-job job n same)) ∙ none))
     (λ differs. stands-near u t job n a near (other-job job n differs))
 stop-none places job u t (Turn n) within near none = absurd (false≢true within)
 stop-none places job u t (Word n a w) within near none = absurd (false≢true within)

@@ -1,6 +1,7 @@
 -- Steps, one after the other.
 use Rattle.std.specs.Prelude.{OnSome, is_some}
-use Rattle.std.proofs.Common.{◌≡◌, ◌<◌, ◌∙◌, false, sym, ap, ℕ, zero, suc, ◌+◌, ◌++◌, true, List, [], ◌∷◌, Option, Some, None, take, refl, arith, length, get_or, map, add-one}
+use Rattle.std.proofs.Common.{◌≡◌, ◌<◌, ◌∙◌, false, sym, ap, ℕ, zero, suc, ◌+◌, ◌++◌, true, List, [], ◌∷◌, Option}
+use Rattle.std.proofs.Common.{Some, None, take, refl, arith, length, get_or, map, add-one}
 use Rattle.machine.specs.Machine.{S, after, stepped}
 use Rattle.machine.specs.Rounds.{rounds}
 use Rattle.ddt_session.specs.Stops.{ran_of, round, looked}
@@ -36,7 +37,8 @@ take-one_more [] e = refl
 take-one_more (x ∷ xs) e = ap (λ (ys : List Entry). x ∷ ys) (take-one_more xs e)
 
 -- one entry more, behind all others
-pub reached_more : (es : List Entry) (e : Entry) (whole : ℕ) (s : S) → whole ≡ length es → reached (es ++ e ∷ []) (whole + 1) 0 s ≡ made (played (take whole es) s) e
+pub reached_more : (es : List Entry) (e : Entry) (whole : ℕ) (s : S) → whole ≡ length es
+    → reached (es ++ e ∷ []) (whole + 1) 0 s ≡ made (played (take whole es) s) e
 reached_more es e whole s all =
     let one : whole + 1 ≡ suc (length es) = omega (arith, all) in
     ap (λ (n : ℕ). played (take n (es ++ e ∷ [])) s) one
@@ -76,7 +78,8 @@ no_stop (Some x) h = cc
 no_stop None h = refl
 
 -- the steps behind all entries, made an entry
-pub settled : (es es' : List Entry) (whole part : ℕ) (m s : S) → whole ≡ length es → es' ≡ es ++ Rounds part ∷ [] → m ≡ reached es whole part s → m ≡ reached es' (whole + 1) 0 s
+pub settled : (es es' : List Entry) (whole part : ℕ) (m s : S) → whole ≡ length es → es' ≡ es ++ Rounds part ∷ []
+    → m ≡ reached es whole part s → m ≡ reached es' (whole + 1) 0 s
 settled es es' whole part m s all items there =
     there ∙ sym (reached_more es (Rounds part) whole s all) ∙ ap (λ (ys : List Entry). reached ys (whole + 1) 0 s) (sym items)
 
@@ -97,7 +100,8 @@ made_more es es' e r whole part m m' s all none items is there made_so =
     ∙ ap (λ (n : ℕ). reached es' (whole + 1) n s) (sym none)
 
 -- a machine just made, some entries played, and steps more
-pub replayed : (es front : List Entry) (whole part : ℕ) (m m' m'' s : S) → m ≡ s → front ≡ take whole es → m' ≡ played front m → m'' ≡ after (rounds part true) m' → m'' ≡ reached es whole part s
+pub replayed : (es front : List Entry) (whole part : ℕ) (m m' m'' s : S) → m ≡ s → front ≡ take whole es → m' ≡ played front m
+    → m'' ≡ after (rounds part true) m' → m'' ≡ reached es whole part s
 replayed es front whole part m m' m'' s fresh front_so played_so steps_so =
     steps_so
     ∙ ap (λ (x : S). after (rounds part true) x)

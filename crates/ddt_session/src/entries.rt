@@ -2,8 +2,8 @@
 ghost use Rattle.std.specs.Prelude.{◌≡◌};
 ghost use Rattle.ddt_session.specs.Timelines.{made, played, ticked_so_often};
 
-use crate::instance::Machine;
 use monitor::{Answer, Event};
+use run_machine::Machine;
 use tty_lines::Char7;
 use word36::{Address, Image, TAKEN_AT_ONCE, Word};
 

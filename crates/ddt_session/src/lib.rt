@@ -2,14 +2,12 @@
 #![tactic(auto)]
 
 mod entries;
-mod instance;
 mod replays;
 mod stops;
 mod timeline;
 mod traces;
 
 pub use entries::{Entry, perform, play};
-pub use instance::Machine;
 pub use replays::Replay;
 pub use stops::{LookedAt, NoWatch, Ran, Stop, Watch, run_until, some_go_on};
 pub use timeline::Timeline;

@@ -1,9 +1,9 @@
 //! What has happened to a machine, once more and step by step.
 
 use crate::entries::{Entry, perform};
-use crate::instance::Machine;
 use crate::stops::round;
 use crate::timeline::ticks_of;
+use run_machine::Machine;
 
 /// A second machine, to which what has happened to another happens once more.
 #[derive(Drop)]

@@ -4,14 +4,14 @@ ghost use Rattle.std.specs.Prelude.{◌≡◌, ◌+◌, ◌-◌, ◌<◌, ◌≤
 ghost use Rattle.machine.specs.Machine.{after};
 ghost use Rattle.machine.specs.Rounds.{rounds};
 ghost use Rattle.machine.specs.Between.{is_among, next_in};
-ghost use Rattle.ddt_session.specs.Stops.{ran_of, round, is_at, is_at_one_of, is_input, is_met, is_met_at, is_within, is_word, looked, met_after, stands_at, waits_in_circle};
+ghost use Rattle.ddt_session.specs.Stops.{ran_of, round, is_at, is_at_one_of, is_input, is_met, is_met_at, is_within};
+ghost use Rattle.ddt_session.specs.Stops.{is_word, looked, met_after, stands_at, waits_for_input, waits_in_circle};
 ghost use Rattle.machine.specs.Views.{job_view};
 
-use crate::instance::Machine;
 use job_sched::Wait;
 use monitor::{Answer, Event};
-use queue_script::{pair_table, waiting_jobs};
 use run_facts::is_in_circle;
+use run_machine::Machine;
 use word36::{Address, Image, JOBS, Word};
 
 /// Where a run stops.
@@ -41,7 +41,7 @@ pub struct LookedAt {
 
 /// What else a run is looked at for behind each of its rounds.
 pub trait Watch {
-    /// Whether it is to be asked behind each round; where not it need not be asked.
+    /// Whether it looks at each round; where it does not, many rounds may be made at once.
     fn is_asked(&self) -> bool;
 
     /// Whether the run ends behind a round in which this job ran, if one did.
@@ -116,8 +116,8 @@ fn is_word(word: Option<Word>, other: Option<Word>) -> bool
 fn waits_in_circle(machine: &Machine, job: u8) -> bool
     ensures { result ≡ waits_in_circle machine.now job }
 {
-    let waiting = waiting_jobs(machine.locks());
-    let pairs = pair_table(machine.locks(), &waiting);
+    let waiting = machine.waiting_jobs();
+    let pairs = machine.pair_table(&waiting);
     job <= JOBS && is_in_circle(&pairs, &waiting, usize::from(job))
 }
 
@@ -128,12 +128,26 @@ fn is_input(wait: Wait) -> bool
     matches!(wait, Wait::Char | Wait::Line)
 }
 
+/// Whether a job waits for characters.
+#[inline(always)]
+fn waits_for_input(machine: &Machine, job: u8) -> bool
+    ensures { result ≡ waits_for_input (job_view machine.now.world job) }
+{
+    match machine.job(job) {
+        Some(view) => is_input(view.wait),
+        None => false,
+    }
+}
+
 /// Whether a job stands at a place.
 #[inline(always)]
 fn stands_at(machine: &Machine, job: u8, place: Address) -> bool
     ensures { result ≡ stands_at (job_view machine.now.world job) place }
 {
-    machine.job(job).is_some_and(|view| view.pc == place)
+    match machine.job(job) {
+        Some(view) => view.pc == place,
+        None => false,
+    }
 }
 
 /// Whether a stop is at a place and its job stands there.
@@ -170,9 +184,7 @@ fn is_met(machine: &Machine, ran: Option<u8>, stop: &Stop, stood: bool) -> bool
         Stop::Turn(job) => ran == Some(job),
         Stop::Word(job, place, word) => !is_word(machine.peek(job, place), word),
         Stop::Circle => ran.is_some_and(|job| waits_in_circle(machine, job)),
-        Stop::Input => ran
-            .and_then(|job| machine.job(job))
-            .is_some_and(|view| is_input(view.wait)),
+        Stop::Input => ran.is_some_and(|job| waits_for_input(machine, job)),
     }
 }
 
@@ -210,8 +222,17 @@ pub fn some_go_on(machine: &Machine) -> bool {
 /// Whether the job that ran can go on at once.
 #[inline(always)]
 fn runs_on(machine: &Machine, ran: Option<u8>) -> bool {
-    match ran.and_then(|number| machine.job(number)) {
-        Some(view) => view.stop.is_none() && view.wait == Wait::None,
+    match ran {
+        Some(number) => computes(machine, number),
+        None => false,
+    }
+}
+
+/// Whether a job can go on at once.
+#[inline(always)]
+fn computes(machine: &Machine, number: u8) -> bool {
+    match machine.job(number) {
+        Some(view) => view.stop.is_none() && matches!(view.wait, Wait::None),
         None => false,
     }
 }
@@ -253,6 +274,26 @@ fn most_at_once(places: &[Address], stops: &[LookedAt], is_watched: bool) -> u32
     }
 }
 
+/// Whether a run that came so far may go on: nothing has ended it, and more steps may be made.
+#[inline(always)]
+fn may_go_on(ran: &Ran, most: u32) -> bool
+    ensures stop { result ≡ true → ran.now.stop ≡ None }
+    ensures few { result ≡ true → ran.now.made < most }
+{
+    ran.stop.is_none() && !ran.is_watched && ran.made < most
+}
+
+/// Whether what else a run is looked at for ends it behind a round in which a job ran, where no stop did.
+#[inline(always)]
+fn ends_run<W: Watch>(
+    watch: &mut W,
+    machine: &Machine,
+    job: Option<u8>,
+    stop: Option<usize>,
+) -> bool {
+    stop.is_none() && watch.is_met(machine, job)
+}
+
 /// Makes steps, each with a tick behind it, until a stop holds, so many are made, no job can go on, or
 /// what else is looked at ends the run. Where all stops are at these places and nothing else is looked
 /// at, the rounds of a job are made at once up to the first that leaves it at one of them.
@@ -269,36 +310,23 @@ pub fn run_until<W: Watch>(
     ensures last { OnSome result.stop (result.stop ≡ met_after stops.old (after (rounds (result.made - 1) true) machine.old)) }
 {
     let at_once = most_at_once(places, stops, watch.is_asked());
-    let mut made = 0;
+    let mut ran = Ran {
+        made: 0,
+        stop: None,
+        is_watched: false,
+    };
     let mut is_sure = false;
     look(machine, stops);
-    while made < most {
+    while may_go_on(&ran, most) {
         if !is_sure && !some_go_on(machine) {
             break;
         }
-        let rounds = machine.rounds_to(at_once.min(most - made), places);
-        made += rounds.made;
-        let stop = first_met(machine, rounds.job, stops);
-        if stop.is_some() {
-            return Ran {
-                made,
-                stop,
-                is_watched: false,
-            };
-        }
-        if watch.is_met(machine, rounds.job) {
-            return Ran {
-                made,
-                stop: None,
-                is_watched: true,
-            };
-        }
+        let rounds = machine.rounds_to(at_once.min(most - ran.made), places);
+        ran.made += rounds.made;
+        ran.stop = first_met(machine, rounds.job, stops);
+        ran.is_watched = ends_run(watch, machine, rounds.job, ran.stop);
         is_sure = runs_on(machine, rounds.job);
         look(machine, stops);
     }
-    Ran {
-        made,
-        stop: None,
-        is_watched: false,
-    }
+    ran
 }

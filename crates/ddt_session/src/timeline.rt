@@ -6,10 +6,10 @@ ghost use Rattle.machine.specs.Rounds.{rounds};
 ghost use Rattle.ddt_session.specs.Timelines.{made, reached, steps_in, steps_of};
 
 use crate::entries::{Entry, perform, play};
-use crate::instance::{Machine, boot};
 use crate::replays::Replay;
 use crate::stops::{LookedAt, Ran, Stop, Watch, run_until};
 use monitor::{Answer, Config};
+use run_machine::Machine;
 use std::alloc::{AllocError, Global};
 use word36::{Address, Word};
 
@@ -110,7 +110,7 @@ fn places_of(alloc: Global, stops: &[Stop]) -> Result<Vec<Address>, AllocError> 
 impl Timeline {
     /// A machine to which nothing has happened.
     pub fn new(alloc: Global, config: Config) -> Result<Self, AllocError> {
-        let machine = boot(alloc, config)?;
+        let machine = Machine::boot(alloc, config)?;
         Ok(Timeline {
             alloc,
             config,
@@ -158,7 +158,7 @@ impl Timeline {
 
     /// A second machine, to which what has happened happens once more.
     pub fn replay(&self) -> Result<Replay<'_>, AllocError> {
-        let machine = boot(self.alloc, self.config)?;
+        let machine = Machine::boot(self.alloc, self.config)?;
         let entries = beginning(&self.entries, self.whole);
         Ok(Replay::new(machine, entries, self.part))
     }
@@ -225,7 +225,7 @@ impl Timeline {
         ensures entries { self.new.entries.items ≡ self.old.entries.items }
         ensures there { OnOk result ((self.new.whole ≡ whole) × (self.new.part ≡ part)) }
     {
-        let mut machine = boot(self.alloc, self.config)?;
+        let mut machine = Machine::boot(self.alloc, self.config)?;
         let entries = beginning(&self.entries, whole);
         play(&mut machine, entries);
         machine.steps(part, true);

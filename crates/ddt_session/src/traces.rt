@@ -2,33 +2,48 @@
 
 use crate::replays::Replay;
 use crate::timeline::Timeline;
+use run_machine::Machine;
 use std::alloc::AllocError;
 
 /// How many steps were made before the last one, of those made so far, before which a job stood at a
 /// place; `None` where there is none.
 pub fn last_at(timeline: &Timeline, job: u8, place: u32) -> Result<Option<u64>, AllocError> {
     let mut replay = timeline.replay()?;
+    Ok(last_step_at(&mut replay, job, place))
+}
+
+/// The last step of those still to be made once more before which a job stands at a place.
+fn last_step_at(replay: &mut Replay<'_>, job: u8, place: u32) -> Option<u64> {
     let mut last = None;
     for _ in 0..u64::MAX {
         if !replay.go_before_step() {
             break;
         }
-        if replay
-            .machine()
-            .job(job)
-            .is_some_and(|view| view.pc.number() == place)
-        {
+        if stands_at(replay.machine(), job, place) {
             last = Some(replay.steps());
         }
         replay.step();
     }
-    Ok(last)
+    last
+}
+
+/// Whether a job stands at a place.
+fn stands_at(machine: &Machine, job: u8, place: u32) -> bool {
+    match machine.job(job) {
+        Some(view) => view.pc.number() == place,
+        None => false,
+    }
 }
 
 /// How many steps were made before the last one, of those made so far, that changed a word of a job;
 /// `None` where none did.
 pub fn last_write(timeline: &Timeline, job: u8, place: u32) -> Result<Option<u64>, AllocError> {
     let mut replay = timeline.replay()?;
+    Ok(last_step_writing(&mut replay, job, place))
+}
+
+/// The last step of those still to be made once more that changes a word of a job.
+fn last_step_writing(replay: &mut Replay<'_>, job: u8, place: u32) -> Option<u64> {
     let mut last = None;
     for _ in 0..u64::MAX {
         if !replay.go_before_step() {
@@ -40,7 +55,7 @@ pub fn last_write(timeline: &Timeline, job: u8, place: u32) -> Result<Option<u64
             last = Some(steps);
         }
     }
-    Ok(last)
+    last
 }
 
 /// The last turns of a job, so many at most: how many steps were made before each.
@@ -81,6 +96,17 @@ pub fn last_turns(timeline: &Timeline, job: u8, most: usize) -> Result<Turns, Al
         oldest: 0,
     };
     let mut replay = timeline.replay()?;
+    keep_turns(&mut replay, job, most, &mut turns)?;
+    Ok(turns)
+}
+
+/// Keeps the last turns of a job, so many at most, of the steps still to be made once more.
+fn keep_turns(
+    replay: &mut Replay<'_>,
+    job: u8,
+    most: usize,
+    turns: &mut Turns,
+) -> Result<(), AllocError> {
     for _ in 0..u64::MAX {
         if !replay.go_before_step() {
             break;
@@ -90,5 +116,5 @@ pub fn last_turns(timeline: &Timeline, job: u8, most: usize) -> Result<Turns, Al
             turns.keep(most, steps)?;
         }
     }
-    Ok(turns)
+    Ok(())
 }

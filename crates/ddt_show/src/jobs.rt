@@ -1,10 +1,10 @@
 //! Jobs in words.
 
 use crate::places::ShownJob;
-use ddt_session::Machine;
 use job_sched::{Stop, Wait};
 use ka_cpu::StopReason;
 use monitor::JobView;
+use run_machine::Machine;
 use run_notes::Reference;
 use std::alloc::{AllocError, Global};
 

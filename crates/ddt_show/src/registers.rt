@@ -1,7 +1,7 @@
 //! The registers of a job.
 
 use crate::places::ShownJob;
-use ddt_session::Machine;
+use run_machine::Machine;
 use run_notes::Reference;
 use std::alloc::{AllocError, Global};
 use word36::Word;

@@ -3,8 +3,7 @@ ghost use Rattle.std.specs.Prelude.{◌≡◌, IfOk};
 ghost use Rattle.queue_script.specs.QueueScripts.{show_text};
 ghost use Rattle.queue_script.specs.WaitPairs.{waits_text};
 
-use ddt_session::Machine;
-use queue_script::{push_requests, push_waits};
+use run_machine::Machine;
 use std::alloc::{AllocError, Global};
 
 /// The lines on all requests, in order of arrival: what SHOW of `lockmon queue` writes.
@@ -12,7 +11,7 @@ pub fn lock_lines(alloc: Global, machine: &Machine) -> Result<Vec<u8>, AllocErro
     ensures { IfOk result (λ lines. lines.items ≡ show_text machine.now.world.requests) }
 {
     let mut lines = Vec::new(alloc);
-    push_requests(&mut lines, machine.locks())?;
+    machine.push_requests(&mut lines)?;
     Ok(lines)
 }
 
@@ -21,6 +20,6 @@ pub fn wait_lines(alloc: Global, machine: &Machine) -> Result<Vec<u8>, AllocErro
     ensures { IfOk result (λ lines. lines.items ≡ waits_text machine.now.world.requests) }
 {
     let mut lines = Vec::new(alloc);
-    push_waits(&mut lines, machine.locks())?;
+    machine.push_waits(&mut lines)?;
     Ok(lines)
 }

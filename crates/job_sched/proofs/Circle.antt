@@ -1,5 +1,6 @@
 -- Steps round the circle of numbers.
-use Rattle.std.proofs.Common.{◌≡◌, ◌∙◌, sym, ap, ℕ, zero, suc, ◌<◌, ◌≤◌, ◌+◌, ◌-◌, ◌%◌, min, nat_lt, Bool, true, false, Option, Some, None, if◌then◌else◌, cond, refl, arith, zero-add}
+use Rattle.std.proofs.Common.{◌≡◌, ◌∙◌, sym, ap, ℕ, zero, suc, ◌<◌, ◌≤◌, ◌+◌, ◌-◌, ◌%◌, min, nat_lt, Bool, true, false}
+use Rattle.std.proofs.Common.{Option, Some, None, if◌then◌else◌, cond, refl, arith, zero-add}
 use Rattle.std.proofs.lemmas.Bool.{ltb-true, ltb-false}
 use Rattle.word36.specs.declared.sizes.TheConstants.{JOBS}
 use Rattle.job_sched.specs.Ready.{first_from, after}

@@ -1,5 +1,6 @@
 -- What a tick of the limits does to the jobs, one by one and in the table.
-use Rattle.std.proofs.Common.{◌≡◌, ◌<◌, ◌≤◌, ◌+◌, ◌-◌, ◌*◌, ◌%◌, ◌^◌, ◌==◌, ◌&&◌, ◌||◌, ◌++◌, ◌∙◌, sym, ap, ℕ, zero, suc, Bool, true, false, is_some, cond, bit_or, w64, List, [], ◌∷◌, length, Option, Some, None, inl, inr, refl, arith}
+use Rattle.std.proofs.Common.{◌≡◌, ◌<◌, ◌≤◌, ◌+◌, ◌-◌, ◌*◌, ◌%◌, ◌^◌, ◌==◌, ◌&&◌, ◌||◌, ◌++◌, ◌∙◌, sym, ap, ℕ, zero, suc, Bool, true, false}
+use Rattle.std.proofs.Common.{is_some, cond, bit_or, w64, List, [], ◌∷◌, length, Option, Some, None, inl, inr, refl, arith}
 use Rattle.std.proofs.lemmas.Bool.{cases_eq, ltb-false}
 use Rattle.std.proofs.lemmas.List.{length-set}
 use Rattle.std.proofs.lemmas.Bool.Decides.{nat_tests}

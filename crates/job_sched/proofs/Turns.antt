@@ -1,5 +1,6 @@
 -- Who is found in the circle of numbers, and that nobody is left out.
-use Rattle.std.proofs.Common.{◌≡◌, ◌≢◌, ◌<◌, ◌≤◌, ◌∙◌, sym, ap, subst, ℕ, zero, suc, ◌+◌, ◌-◌, ◌%◌, ◌==◌, ◌&&◌, Bool, true, false, List, Option, Some, None, cond, nat_lt, refl, arith}
+use Rattle.std.proofs.Common.{◌≡◌, ◌≢◌, ◌<◌, ◌≤◌, ◌∙◌, sym, ap, subst, ℕ, zero, suc, ◌+◌, ◌-◌, ◌%◌, ◌==◌, ◌&&◌, Bool}
+use Rattle.std.proofs.Common.{true, false, List, Option, Some, None, cond, nat_lt, refl, arith}
 use Rattle.word36.specs.declared.sizes.TheConstants.{JOBS}
 use Rattle.std.proofs.lemmas.Bool.{and_parts, eqb-true}
 use Rattle.lock_queue.specs.declared.request.Request.{Request}

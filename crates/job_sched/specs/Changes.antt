@@ -1,5 +1,6 @@
 -- What becomes of the table of jobs (this project's profile).
-use Rattle.std.specs.Prelude.{ℕ, zero, suc, ◌+◌, ◌-◌, ◌==◌, ◌&&◌, nat_lt, Bool, false, is_none, if◌then◌else◌, List, [], ◌∷◌, drop, map, slice_set, Option, Some, None, Result, Ok, Err}
+use Rattle.std.specs.Prelude.{ℕ, zero, suc, ◌+◌, ◌-◌, ◌==◌, ◌&&◌, nat_lt, Bool, false, is_none, if◌then◌else◌, List, []}
+use Rattle.std.specs.Prelude.{◌∷◌, drop, map, slice_set, Option, Some, None, Result, Ok, Err}
 use Rattle.std.specs.Option.{option_map}
 use Rattle.job_sched.specs.declared.job.Job.{Job}
 use Rattle.job_sched.specs.declared.job_error.JobError.{JobError}

@@ -10,7 +10,8 @@ ghost use Rattle.tty_lines.specs.Rings.{Rings};
 ghost use Rattle.job_sched.specs.Jobs.{broken_job, going_on, resumed_job, started_job, ticked_job};
 ghost use Rattle.job_sched.specs.Limits.{expires, is_last_tick, limited_from, limited_job, limited_table};
 ghost use Rattle.job_sched.specs.Tables.{is_sleeper, job_at, no_jobs};
-ghost use Rattle.job_sched.specs.Changes.{broken_table, chosen, free_number, is_at, left_after, spent, standing, table_without, ticked_table, with_change, with_job};
+ghost use Rattle.job_sched.specs.Changes.{broken_table, chosen, free_number, is_at, left_after, spent, standing};
+ghost use Rattle.job_sched.specs.Changes.{table_without, ticked_table, with_change, with_job};
 ghost use Rattle.job_sched.specs.Spans.{Undisturbed, is_alone, is_open};
 ghost use Rattle.job_sched.specs.Ready.{after, first_from, holds, is_ready, is_ready_job, next_job};
 
@@ -431,10 +432,10 @@ impl JobTable {
         if lasting && self.left < 2 {
             return 1;
         }
-        if most < 2 || self.current != number || self.left == 0 {
+        if self.left == 0 || self.current != number {
             return 1;
         }
-        if ticking && self.sleepers || is_open(&self.jobs[number as usize]) {
+        if is_open(&self.jobs[number as usize]) || ticking && self.sleepers {
             return 1;
         }
         if lasting {

@@ -1,7 +1,9 @@
 -- Where an address is refused, and where an XCT is.
-use Rattle.std.proofs.Common.{◌≡◌, ◌<◌, ◌≤◌, ◌↔◌, ◌⊎◌, ◌∙◌, ℕ, zero, suc, Bool, true, false, cond, List, [], ◌∷◌, length, Option, Some, None, Result, Ok, Err, refl, subst, sym, ap, inl, inr, arith}
+use Rattle.std.proofs.Common.{◌≡◌, ◌<◌, ◌≤◌, ◌↔◌, ◌⊎◌, ◌∙◌, ℕ, zero, suc, Bool, true, false, cond, List, [], ◌∷◌, length}
+use Rattle.std.proofs.Common.{Option, Some, None, Result, Ok, Err, refl, subst, sym, ap, inl, inr, arith}
 use Rattle.ka_cpu.specs.declared.limits.TheConstants.{MOST_EXECUTES, MOST_LINKS}
-use Rattle.ka_cpu.specs.Addresses.{Target, Path, Links, LeadsOutside, LeadsTooFar, target_of, target_from, target_here, is_indirect, direct_address, reading, at_target}
+use Rattle.ka_cpu.specs.Addresses.{Target, Path, Links, LeadsOutside, LeadsTooFar, target_of, target_from}
+use Rattle.ka_cpu.specs.Addresses.{target_here, is_indirect, direct_address, reading, at_target}
 use Rattle.ka_cpu.specs.Exec.{Executes, ComesTo, RefusedOnTheWay, ExecutesTooFar, executed_word, is_xct, word_behind}
 use Rattle.ka_cpu.specs.Places.{word_at}
 use Rattle.ka_cpu.specs.declared.outcome.StopReason.{StopReason}

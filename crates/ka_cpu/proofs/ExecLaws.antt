@@ -1,13 +1,16 @@
 -- What an instruction always keeps: the number of registers and of words of core, a PC below 2 ^ 18, and how each
 -- outcome leaves the state.
-use Rattle.std.proofs.Common.{◌≡◌, ◌∙◌, ℕ, zero, suc, ◌+◌, ◌%◌, ◌^◌, ◌<◌, Bool, true, false, cond, if◌then◌else◌, ◌||◌, List, length, Option, Some, None, Result, Ok, Err, refl, subst, arith, sym, nat_lt, slice_get, nat_eq}
+use Rattle.std.proofs.Common.{◌≡◌, ◌∙◌, ℕ, zero, suc, ◌+◌, ◌%◌, ◌^◌, ◌<◌, Bool, true, false, cond, if◌then◌else◌, ◌||◌, List, length}
+use Rattle.std.proofs.Common.{Option, Some, None, Result, Ok, Err, refl, subst, arith, sym, nat_lt, slice_get, nat_eq}
 use Rattle.std.specs.Prelude.{slice_index}
 use Rattle.std.specs.Int.Count.{count_leading_zeros}
 use Rattle.std.proofs.Math.ListN.{length-set}
 use Rattle.ka_isa.specs.Families.{family_of}
 use Rattle.ka_isa.specs.declared.Change.{Change}
 use Rattle.ka_isa.specs.declared.Family.{Family}
-use Rattle.ka_isa.specs.declared.Family.TheVariants.{Byte, Move, Movs, Movn, Movm, Imul, Mul, Idiv, Shift, Jffo, Exch, Blt, Aobj, Jrst, Jfcl, Xct, Pushj, Push, Pop, Popj, Jsr, Jsp, Jsa, Jra, Add, Sub, Compare, JumpOn, SkipOn, Boolean, Half, Test, Calli, Ttcall, Other}
+use Rattle.ka_isa.specs.declared.Family.TheVariants.{Byte, Move, Movs, Movn, Movm, Imul, Mul, Idiv, Shift, Jffo, Exch, Blt, Aobj, Jrst, Jfcl, Xct, Pushj}
+use Rattle.ka_isa.specs.declared.Family.TheVariants.{Push, Pop, Popj, Jsr, Jsp, Jsa, Jra, Add, Sub, Compare, JumpOn, SkipOn, Boolean, Half, Test, Calli}
+use Rattle.ka_isa.specs.declared.Family.TheVariants.{Ttcall, Other}
 use Rattle.word36.specs.Words.{right_half, is_negative}
 use Rattle.ka_cpu.specs.declared.limits.TheConstants.{MOST_LINKS}
 use Rattle.ka_cpu.specs.Addresses.{Target, target_of, target_from, is_indirect, direct_address, index_of, reading, at_target}
@@ -16,7 +19,8 @@ use Rattle.ka_word.specs.Bytes.{byte_of, deposited, incremented}
 use Rattle.ka_word.specs.Quotients.{no_quotient, quotient_of, remainder_of}
 use Rattle.ka_word.specs.Shifts.{ash_of, ash_overflows, lsh_of, lshc_of, rot_of, rotc_of}
 use Rattle.ka_cpu.specs.Bytes.{byte_after, with_pointer, behind_pointer, byte_done, byte_place, byte_effect, increments, loads}
-use Rattle.ka_cpu.specs.Effects.{After, Effect, Ending, Goes_on, Calls, Halts, Overruns, EndsAs, told, stopped, finished, applied, core_memory, ac_memory, ac_put, memory_legal, next_pc, next_ac, a_of, goes_on, goes_to, moved_to, moved_operand, computed_to}
+use Rattle.ka_cpu.specs.Effects.{After, Effect, Ending, Goes_on, Calls, Halts, Overruns, EndsAs, told, stopped, finished, applied, core_memory, ac_memory}
+use Rattle.ka_cpu.specs.Effects.{ac_put, memory_legal, next_pc, next_ac, a_of, goes_on, goes_to, moved_to, moved_operand, computed_to}
 use Rattle.ka_cpu.specs.Exec.{op_of, ac_field, is_listed, row_of, carried_out, at_address, performed, word_performed, exec}
 use Rattle.ka_cpu.specs.Moves.{move_row, transferred, exch_row, negates}
 use Rattle.ka_cpu.specs.declared.moves.Transfer.{Transfer}

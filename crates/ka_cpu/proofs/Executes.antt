@@ -1,4 +1,5 @@
-use Rattle.std.proofs.Common.{◌≡◌, ℕ, ◌+◌, ◌-◌, ◌<◌, ◌≤◌, suc, zero, Some, None, Ok, Err, Result, List, Bool, true, false, refl, arith, ap, subst, sym, ◌∙◌, if◌then◌else◌}
+use Rattle.std.proofs.Common.{◌≡◌, ℕ, ◌+◌, ◌-◌, ◌<◌, ◌≤◌, suc, zero, Some, None, Ok, Err, Result, List, Bool, true}
+use Rattle.std.proofs.Common.{false, refl, arith, ap, subst, sym, ◌∙◌, if◌then◌else◌}
 use Rattle.ka_isa.specs.Families.{family_of}
 use Rattle.ka_isa.specs.declared.Family.{Family}
 use Rattle.ka_cpu.specs.declared.limits.TheConstants.{MOST_EXECUTES}

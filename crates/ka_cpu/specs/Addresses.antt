@@ -1,6 +1,7 @@
 -- The effective address E of an instruction, and the address of a byte pointer
 -- (DECsystem-10 Processor Reference Manual, "Effective address calculation").
-use Rattle.std.specs.Prelude.{◌≡◌, ◌<◌, true, false, [], ◌∷◌, ℕ, length, zero, suc, ◌+◌, ◌/◌, ◌%◌, ◌^◌, nat_eq, Bool, if◌then◌else◌, Option, Some, None, List, slice_index, Result, Ok, Err}
+use Rattle.std.specs.Prelude.{◌≡◌, ◌<◌, true, false, [], ◌∷◌, ℕ, length, zero, suc, ◌+◌, ◌/◌, ◌%◌, ◌^◌, nat_eq, Bool}
+use Rattle.std.specs.Prelude.{if◌then◌else◌, Option, Some, None, List, slice_index, Result, Ok, Err}
 use Rattle.word36.specs.Words.{right_half}
 use Rattle.ka_cpu.specs.declared.limits.TheConstants.{MOST_LINKS}
 use Rattle.ka_cpu.specs.Places.{word_at}

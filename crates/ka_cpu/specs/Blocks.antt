@@ -1,5 +1,6 @@
 -- BLT (Processor Reference Manual, "Block transfer").
-use Rattle.std.specs.Prelude.{◌≡◌, ◌<◌, ◌≤◌, ◌⊎◌, ℕ, zero, suc, ◌+◌, ◌-◌, ◌%◌, ◌^◌, Bool, true, ◌&&◌, if◌then◌else◌, Option, Some, None, List, slice_index, slice_set}
+use Rattle.std.specs.Prelude.{◌≡◌, ◌<◌, ◌≤◌, ◌⊎◌, ℕ, zero, suc, ◌+◌, ◌-◌, ◌%◌, ◌^◌, Bool, true, ◌&&◌}
+use Rattle.std.specs.Prelude.{if◌then◌else◌, Option, Some, None, List, slice_index, slice_set}
 use Rattle.word36.specs.Words.{left_half, right_half}
 use Rattle.ka_cpu.specs.Places.{word_at, is_legal, ac_with, core_with}
 use Rattle.ka_cpu.specs.Effects.{After, a_of, next_pc, stopped}

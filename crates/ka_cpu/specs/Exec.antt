@@ -2,7 +2,9 @@
 use Rattle.std.specs.Prelude.{◌≡◌, ◌<◌, ◌≤◌, ℕ, zero, suc, length, ◌/◌, ◌%◌, ◌^◌, nat_eq, Bool, true, false, ◌||◌, if◌then◌else◌, Option, List, Result, Ok, Err}
 use Rattle.ka_isa.specs.Families.{family_of}
 use Rattle.ka_isa.specs.declared.Family.{Family}
-use Rattle.ka_isa.specs.declared.Family.TheVariants.{Byte, Move, Movs, Movn, Movm, Imul, Mul, Idiv, Shift, Jffo, Exch, Blt, Aobj, Jrst, Jfcl, Xct, Pushj, Push, Pop, Popj, Jsr, Jsp, Jsa, Jra, Add, Sub, Compare, JumpOn, SkipOn, Boolean, Half, Test, Calli, Ttcall, Other}
+use Rattle.ka_isa.specs.declared.Family.TheVariants.{Byte, Move, Movs, Movn, Movm, Imul, Mul, Idiv, Shift, Jffo, Exch, Blt, Aobj, Jrst, Jfcl, Xct, Pushj}
+use Rattle.ka_isa.specs.declared.Family.TheVariants.{Push, Pop, Popj, Jsr, Jsp, Jsa, Jra, Add, Sub, Compare, JumpOn, SkipOn, Boolean, Half, Test, Calli}
+use Rattle.ka_isa.specs.declared.Family.TheVariants.{Ttcall, Other}
 use Rattle.ka_cpu.specs.Places.{word_at}
 use Rattle.ka_cpu.specs.Addresses.{Target, Path, reading, target_of, at_target}
 use Rattle.ka_cpu.specs.Effects.{After, Effect, stopped, finished}

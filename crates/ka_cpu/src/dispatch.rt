@@ -33,6 +33,9 @@ pub const RUN: u8 = 1;
 /// The caller executes an instruction in its own place.
 pub const HERE: u8 = 2;
 
+/// The caller's loop looks at the registers behind each instruction.
+pub const LOOP: u8 = 3;
+
 /// Calls the body of a common family in the mode of the instruction, each mode with a copy of its
 /// own, in which the mode is not looked at again.
 macro_rules! in_mode {
@@ -247,7 +250,7 @@ fn carry_out_rest<M: JobMemory, const CALLER: u8>(
 
 /// Carries out an instruction whose address is known, or, where it is an XCT, does nothing.
 ///
-/// Nothing looks at `CALLER`, which is `STEP`, `RUN` or `HERE`: it gives each of these callers a copy of
+/// Nothing looks at `CALLER`, which is `STEP`, `RUN`, `HERE` or `LOOP`: it gives each of these callers a copy of
 /// this body, also where they have the same memory, since a body of this size is inlined only where it has
 /// one caller.
 #[inline(always)]

@@ -2,7 +2,8 @@
 
 ghost use Rattle.std.specs.Prelude.{◌≡◌, true, ℕ, ◌<◌, ◌^◌, ◌%◌, IfSome};
 ghost use Rattle.ka_cpu.specs.Places.{is_legal};
-ghost use Rattle.ka_cpu.specs.Effects.{moved_operand, computed_operand, to_memory, moved_to_ac, computed_to_ac, memory_legal, ac_memory, core_memory, ac_put, carried_flags};
+ghost use Rattle.ka_cpu.specs.Effects.{moved_operand, computed_operand, to_memory, moved_to_ac, computed_to_ac};
+ghost use Rattle.ka_cpu.specs.Effects.{memory_legal, ac_memory, core_memory, ac_put, carried_flags};
 
 use crate::memory::store;
 use crate::{JobMemory, Outcome, Regs, StopReason, fetch};

@@ -31,5 +31,5 @@ pub use limits::{MOST_EXECUTES, MOST_LINKS};
 pub use memory::{JobMemory, fetch, store, try_store};
 pub use outcome::{CallKind, Outcome, StopReason};
 pub use places::{are_legal, are_legal_kept, fetch_kept, is_legal_kept, word_kept};
-pub use processor::{run_steps, run_steps_from, step};
+pub use processor::{run_steps, run_steps_from, step, step_in_loop};
 pub use registers::{Flags, Regs, flags_of, pc_word};

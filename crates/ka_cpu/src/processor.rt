@@ -9,7 +9,7 @@ ghost use Rattle.ka_cpu.specs.Places.{word_at};
 ghost use Rattle.ka_cpu.specs.Runs.{ran};
 
 use crate::address::find_address;
-use crate::dispatch::{HERE, RUN, STEP, carry_out, refusal};
+use crate::dispatch::{HERE, LOOP, RUN, STEP, carry_out, refusal};
 use crate::instruction::{ILLEGAL, Instruction};
 use crate::{CoreWords, JobMemory, MOST_EXECUTES, Outcome, Regs, StopReason, fetch};
 use word36::{Address, Word};
@@ -134,6 +134,16 @@ pub fn step<M: JobMemory>(regs: &mut Regs, memory: &mut M) -> Outcome
     ensures ends { EndsAs result regs.old (M.words memory.old) regs.new (M.words memory.new) }
 {
     execute_next::<M, STEP>(regs, memory)
+}
+
+/// As `step`, where the caller is: for a loop that looks at the registers behind each instruction. A program
+/// has one such caller.
+#[inline(always)]
+pub fn step_in_loop<M: JobMemory>(regs: &mut Regs, memory: &mut M) -> Outcome
+    ensures exec { record { regs = regs.new; core = M.words memory.new; outcome = result } ≡ exec regs.old (M.words memory.old) }
+    ensures place { M.place memory.new ≡ M.place memory.old }
+{
+    execute_next::<M, LOOP>(regs, memory)
 }
 
 /// Executes at most so many instructions, one after another, until one calls the monitor or stops, and

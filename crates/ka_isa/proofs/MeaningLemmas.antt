@@ -7,7 +7,8 @@ use Rattle.std.specs.Option.{option_map}
 use Rattle.std.specs.Prelude.{if◌then◌else◌, nat_le}
 use Rattle.ka_isa.specs.declared.calls.Named.{Named}
 use Rattle.ka_isa.specs.declared.calls.Call.{Call}
-use Rattle.ka_isa.specs.Operations.{Name, Operation, NamedCall, Meaning, operations, calls, code_in, call_in, operation_meaning, call_meaning, meanings, meaning_in, named_of}
+use Rattle.ka_isa.specs.Operations.{Name, Operation, NamedCall, Meaning, operations, calls, code_in, call_in}
+use Rattle.ka_isa.specs.Operations.{operation_meaning, call_meaning, meanings, meaning_in, named_of}
 
 found_first : (b : Bool) (first code : ℕ) (rest : Option ℕ) (m : Option Named) → Some code ≡ (if b then Some first else rest)
     → (Some code ≡ rest → m ≡ Some (operation_meaning code))

@@ -1,5 +1,6 @@
 -- A search by key in the table of names finds each operation by its name, and nothing by another text.
-use Rattle.std.proofs.Common.{◌≡◌, ◌≢◌, ◌==◌, ℕ, zero, suc, ◌<◌, ◌≤◌, MatchResult, List, [], ◌∷◌, length, map, get_or, Bor, true, false, Option, Some, None, Err, refl, sym, ap, ◌∙◌, inl, inr, nat_cmp, arith}
+use Rattle.std.proofs.Common.{◌≡◌, ◌≢◌, ◌==◌, ℕ, zero, suc, ◌<◌, ◌≤◌, MatchResult, List, [], ◌∷◌, length, map, get_or, Bor, true}
+use Rattle.std.proofs.Common.{false, Option, Some, None, Err, refl, sym, ap, ◌∙◌, inl, inr, nat_cmp, arith}
 use Rattle.std.specs.Str.{bytes_eq}
 use Rattle.std.specs.List.{list_any}
 use Rattle.std.specs.List.Sorted.{IsBinarySearchResult}

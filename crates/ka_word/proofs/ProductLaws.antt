@@ -1,6 +1,8 @@
 -- The words of a product.
-use Rattle.std.proofs.Common.{◌≡◌, ◌↔◌, ◌∙◌, ℕ, zero, suc, ◌+◌, ◌-◌, ◌*◌, ◌/◌, ◌%◌, ◌^◌, ◌<◌, ◌≤◌, inl, inr, Bool, true, false, not, cond, ◌&&◌, nat_eq, nat_lt, nat_le, unsigned_abs, subst, ℤ, pos, negsuc, ◌*ℤ◌, int_lt, refl, sym, ap, arith}
-use Rattle.std.proofs.lemmas.Bool.{lt-leb, le-leb, le-ltb, lt-ltb, ltb-true, ltb-false, leb-true, leb-false, eqb-false, eq-eqb, and_parts, and_from, cases_eq, not-true, not-false, not_from_true, both_ways}
+use Rattle.std.proofs.Common.{◌≡◌, ◌↔◌, ◌∙◌, ℕ, zero, suc, ◌+◌, ◌-◌, ◌*◌, ◌/◌, ◌%◌, ◌^◌, ◌<◌, ◌≤◌, inl, inr, Bool, true, false, not, cond, ◌&&◌}
+use Rattle.std.proofs.Common.{nat_eq, nat_lt, nat_le, unsigned_abs, subst, ℤ, pos, negsuc, ◌*ℤ◌, int_lt, refl, sym, ap, arith}
+use Rattle.std.proofs.lemmas.Bool.{lt-leb, le-leb, le-ltb, lt-ltb, ltb-true, ltb-false, leb-true, leb-false, eqb-false, eq-eqb}
+use Rattle.std.proofs.lemmas.Bool.{and_parts, and_from, cases_eq, not-true, not-false, not_from_true, both_ways}
 use Rattle.std.proofs.lemmas.Nat.{mul-le}
 use Rattle.std.proofs.lemmas.Int.{ints}
 use Rattle.word36.specs.Words.{is_negative, signed_value}
@@ -9,7 +11,8 @@ use Rattle.ka_word.specs.Magnitudes.{is_past, low_of, magnitude, product_is_nega
 use Rattle.ka_word.specs.Numbers.{fits, word_of}
 use Rattle.ka_word.specs.Products.{both_least, high_word, low_word, overflows, signed_product}
 use Rattle.ka_word.specs.Laws.{FitsWord, double_value}
-use Rattle.ka_word.proofs.Signed.{of_sign, of_sign-product, of_sign-zero, of_sign-below_zero, signed_parts, signed_high, signed_low, magnitude_le, magnitude_less}
+use Rattle.ka_word.proofs.Signed.{of_sign, of_sign-product, of_sign-zero, of_sign-below_zero, signed_parts}
+use Rattle.ka_word.proofs.Signed.{signed_high, signed_low, magnitude_le, magnitude_less}
 
 -- the product by its sign and size
 pub product_value : (a b : ℕ) → a < 2 ^ 36 → b < 2 ^ 36 → signed_value a *ℤ signed_value b ≡ of_sign (product_is_negative a b) (size_of_product a b)

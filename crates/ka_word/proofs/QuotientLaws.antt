@@ -1,6 +1,8 @@
 -- Quotients and remainders of signed numbers.
-use Rattle.std.proofs.Common.{◌≡◌, ◌↔◌, ◌∙◌, ℕ, zero, suc, ◌-◌, ◌*◌, ◌/◌, ◌%◌, ◌^◌, ◌<◌, ◌≤◌, ◌⊎◌, inl, inr, Bool, true, false, not, cond, ◌&&◌, nat_eq, ℤ, pos, negsuc, ◌+ℤ◌, ◌*ℤ◌, int_div, int_rem, unsigned_abs, refl, sym, subst, ap, arith}
-use Rattle.std.proofs.lemmas.Bool.{lt-leb, le-leb, eqb-true, eqb-false, eq-eqb, or_parts, or_cases, and_parts, and_from, cases_eq, cases_lt, both_ways, true_from_ne_false}
+use Rattle.std.proofs.Common.{◌≡◌, ◌↔◌, ◌∙◌, ℕ, zero, suc, ◌-◌, ◌*◌, ◌/◌, ◌%◌, ◌^◌, ◌<◌, ◌≤◌, ◌⊎◌, inl, inr, Bool, true, false, not, cond, ◌&&◌}
+use Rattle.std.proofs.Common.{nat_eq, ℤ, pos, negsuc, ◌+ℤ◌, ◌*ℤ◌, int_div, int_rem, unsigned_abs, refl, sym, subst, ap, arith}
+use Rattle.std.proofs.lemmas.Bool.{lt-leb, le-leb, eqb-true, eqb-false, eq-eqb, or_parts, or_cases, and_parts}
+use Rattle.std.proofs.lemmas.Bool.{and_from, cases_eq, cases_lt, both_ways, true_from_ne_false}
 use Rattle.std.proofs.lemmas.Nat.{mul-le, div-add-mod'}
 use Rattle.std.proofs.lemmas.Int.{ints, quot-rem, rem_below}
 use Rattle.std.proofs.Math.Nat.{div-le_self, mod-le}
@@ -8,7 +10,8 @@ use Rattle.word36.specs.Words.{is_negative, signed_value}
 use Rattle.ka_word.specs.Magnitudes.{magnitude, signs_differ, with_sign}
 use Rattle.ka_word.specs.Numbers.{word_of}
 use Rattle.ka_word.specs.Quotients.{no_quotient, quotient_of, remainder_of}
-use Rattle.ka_word.proofs.Signed.{Reads, reads, of_sign, abs_of_sign, signed_parts, signed_high, signed_low, magnitude_le, magnitude_less, magnitude_low, magnitude_high}
+use Rattle.ka_word.proofs.Signed.{Reads, reads, of_sign, abs_of_sign, signed_parts, signed_high, signed_low}
+use Rattle.ka_word.proofs.Signed.{magnitude_le, magnitude_less, magnitude_low, magnitude_high}
 
 zero_over : (y : ℕ) → 0 / suc y ≡ 0
 zero_over y = omega (arith, div-le_self 0 (suc y))

@@ -1,6 +1,7 @@
 use Rattle.std.proofs.Common.{◌≡◌, ℕ, ◌+◌, ◌-◌, ◌*◌, ◌/◌, ◌%◌, ◌^◌, ◌<◌, ◌≤◌, false, refl, arith, sym, ap, ◌∙◌, nat_eq, suc, zero}
 use Rattle.std.specs.Prelude.{bit_and}
-use Rattle.std.proofs.lemmas.Nat.{mul-add-lt, pow-add, pow_pos, mod_below, shr_below, shl_whole, shl_below, one_shl, and_mask, mod-pow-add, mod_low, shl-shr, mul-le}
+use Rattle.std.proofs.lemmas.Nat.{mul-add-lt, pow-add, pow_pos, mod_below, shr_below, shl_whole, shl_below}
+use Rattle.std.proofs.lemmas.Nat.{one_shl, and_mask, mod-pow-add, mod_low, shl-shr, mul-le}
 use Rattle.std.proofs.lemmas.Bool.{ne_eqb}
 use Rattle.std.proofs.Math.Pow.{pow_mono}
 use Rattle.std.proofs.Math.Nat.{div-eq_of_lt, mul_assoc, add-zero, mul-div-mul_right}

@@ -1,7 +1,8 @@
 //! Laws of the functions on words in the terms of signed numbers and of bits, as contracts of functions
 //! that do nothing.
 
-ghost use Rattle.std.specs.Prelude.{◌≡◌, ◌≢◌, ◌↔◌, ◌⊎◌, ◌<◌, ◌≤◌, ◌+◌, ◌-◌, ◌*◌, ◌/◌, ◌%◌, ◌^◌, false, true, min, nat_eq, ℕ, pos, ◌+ℤ◌, ◌-ℤ◌, ◌*ℤ◌, ◌≤ℤ◌, ◌<ℤ◌, int_div, int_lt, int_rem, neg_ℤ, unsigned_abs};
+ghost use Rattle.std.specs.Prelude.{◌≡◌, ◌≢◌, ◌↔◌, ◌⊎◌, ◌<◌, ◌≤◌, ◌+◌, ◌-◌, ◌*◌, ◌/◌, ◌%◌, ◌^◌, false, true, min, nat_eq, ℕ, pos, ◌+ℤ◌};
+ghost use Rattle.std.specs.Prelude.{◌-ℤ◌, ◌*ℤ◌, ◌≤ℤ◌, ◌<ℤ◌, int_div, int_lt, int_rem, neg_ℤ, unsigned_abs};
 ghost use Rattle.word36.specs.Words.{complement, is_negative, right_half, signed_value, sum_of};
 ghost use Rattle.ka_word.specs.Bytes.{byte_of, deposited, incremented, position_of, size_of};
 ghost use Rattle.ka_word.specs.Laws.{FitsWord, double_value, opposite, times};

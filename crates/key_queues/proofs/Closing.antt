@@ -1,5 +1,6 @@
 -- A lock that is no longer open is closed.
-use Rattle.std.proofs.Common.{◌≡◌, ◌≢◌, ◌<◌, ◌+◌, ◌∙◌, sym, ap, subst, ℕ, zero, suc, Bool, true, false, ◌||◌, ◌==◌, not, cond, List, [], ◌∷◌, length, get_or, set, inl, inr, refl, arith}
+use Rattle.std.proofs.Common.{◌≡◌, ◌≢◌, ◌<◌, ◌+◌, ◌∙◌, sym, ap, subst, ℕ, zero, suc, Bool, true, false, ◌||◌, ◌==◌, not}
+use Rattle.std.proofs.Common.{cond, List, [], ◌∷◌, length, get_or, set, inl, inr, refl, arith}
 use Rattle.std.specs.List.{All, position_or_len, remove}
 use Rattle.std.proofs.lemmas.Bool.{both_ways, eq-eqb, eqb-true, ne_eqb, cases_eq}
 use Rattle.std.proofs.lemmas.List.{length-set}

@@ -1,5 +1,5 @@
 -- What is seen along the lines of a script on the lock queue (this project's profile).
-use Rattle.std.specs.Prelude.{◌≡◌, ℕ, Bool, true, false, ◌+◌, List, [], ◌∷◌, Option, Some, None}
+use Rattle.std.specs.Prelude.{◌≡◌, ◌<◌, ◌≤◌, ◌&&◌, ℕ, zero, suc, Bool, true, false, ◌+◌, List, [], ◌∷◌, Option, Some, None, IsSome, nat_le}
 use Rattle.std.specs.Str.Lines.{lines}
 use Rattle.word36.specs.declared.sizes.TheConstants.{MOST_REQUESTS}
 use Rattle.lock_queue.specs.declared.request.Request.{Request}
@@ -10,6 +10,7 @@ use Rattle.script_io.specs.declared.endings.Ending.TheVariants as ending
 use Rattle.lock_bars.specs.Bars.{bars_after}
 use Rattle.lock_bars.specs.declared.bars.Bar.{Bar}
 use Rattle.lock_bars.specs.declared.errors.ScriptError.{ScriptError}
+use Rattle.lock_bars.specs.declared.errors.TheConstants.{MOST_LINES}
 use Rattle.lock_bars.specs.declared.errors.ScriptError.TheVariants.{Memory, Line, TooLong, Short, NoEnd, Source}
 
 -- what is seen of a script: the bars along its lines, how many lines they are, and how it ends
@@ -36,16 +37,30 @@ course_of size requests n (line ∷ more) bars =
 abbrev pub course : List ℕ → Course
 course script = course_of MOST_REQUESTS [] 0 (lines script) []
 
--- a line that is told as the fault of a script is the one behind those that were seen, and the script ends there
-abbrev pub IsFaultOf : Course → ScriptError → Type 0
-IsFaultOf seen Memory = Unit {0}
-IsFaultOf seen (Line n) = (seen.ending ≡ ending.Script n) × (n ≡ seen.lines + 1)
-IsFaultOf seen TooLong = Unit {0}
-IsFaultOf seen (Short n) = Unit {0}
-IsFaultOf seen (NoEnd n) = Unit {0}
-IsFaultOf seen (Source fault) = Unit {0}
+-- the requests behind so many of the lines, where n lines have left these ones
+abbrev pub requests_after : ℕ → ℕ → List Request → ℕ → List (List ℕ) → List Request
+requests_after size zero requests n lines = requests
+requests_after size (suc k) requests n [] = requests
+requests_after size (suc k) requests n (line ∷ more) =
+    requests_after size k (effect_of size (n + 1) requests (command_of line)).requests (n + 1) more
 
--- why a script is not drawn, where that is no line of a script on the lock queue
-abbrev pub tells_no_line : ScriptError → Bool
-tells_no_line (Line n) = false
-tells_no_line _ = true
+-- behind so many lines of a script, on a queue of the largest size, which is empty at first
+abbrev pub requests_behind : ℕ → List ℕ → List Request
+requests_behind k script = requests_after MOST_REQUESTS k [] 0 (lines script)
+
+-- whether a script that goes on for so many lines has the line that is asked for
+abbrev pub has_line : ℕ → Option ℕ → Bool
+has_line lines None = false
+has_line lines (Some n) = nat_le 1 n && nat_le n lines
+
+-- why a script of so many lines, of which this is seen, is not drawn with the waits behind the line that is asked for: it ends
+-- at the line behind those that were seen, which is at fault; it goes on behind as many lines as are drawn; or it ends well,
+-- and before the line that was asked for
+abbrev pub IsFaultOf : Option ℕ → ℕ → Course → ScriptError → Type 0
+IsFaultOf at count seen Memory = Unit {0}
+IsFaultOf at count seen (Line n) = (seen.ending ≡ ending.Script n) × (n ≡ seen.lines + 1)
+IsFaultOf at count seen TooLong = (MOST_LINES ≤ seen.lines) × (MOST_LINES < count)
+IsFaultOf at count seen (Short n) =
+    (seen.ending ≡ ending.Done) × (n ≡ seen.lines) × IsSome at × (has_line seen.lines at ≡ false)
+IsFaultOf at count seen (NoEnd n) = false ≡ true
+IsFaultOf at count seen (Source fault) = false ≡ true

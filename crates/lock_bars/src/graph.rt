@@ -1,9 +1,10 @@
 //! Who waits for whom.
-ghost use Rattle.std.specs.Prelude.{◌≡◌, ◌<◌, IfOk};
+ghost use Rattle.std.specs.Prelude.{◌≡◌, ◌<◌, ◌&&◌, IfOk, not};
+ghost use Rattle.std.specs.List.{list_any};
 ghost use Rattle.lock_queue.specs.Jobs.{waits_for};
-ghost use Rattle.lock_queue.specs.Waits.{waits_hard_for};
+ghost use Rattle.lock_queue.specs.Waits.{jobs, waits_hard_for};
 ghost use Rattle.queue_script.specs.WaitPairs.{pair_in};
-ghost use Rattle.lock_bars.specs.Graphs.{Tells, closes_circle, wait_in};
+ghost use Rattle.lock_bars.specs.Graphs.{Tells, closes_circle, has_wait, is_between, is_on_circle, wait_in};
 
 use crate::circles::circle_table;
 use crate::copies::requests_in;
@@ -86,12 +87,22 @@ impl Graph {
         })
     }
 
+    /// Whether one of two jobs waits for the other.
+    fn is_between(&self, job: usize, other: usize) -> bool
+        requires job { job < NUMBERS }
+        requires other { other < NUMBERS }
+        ensures { result ≡ is_between self.now job other }
+    {
+        self.waits[NUMBERS * job + other] || self.waits[NUMBERS * other + job]
+    }
+
     /// Whether a job waits, or is waited for.
     pub fn has(&self, job: usize) -> bool
         requires { job < NUMBERS }
+        ensures { result ≡ has_wait self.now job }
     {
         for other in 1..NUMBERS {
-            if self.wait(job, other).is_some() || self.wait(other, job).is_some() {
+            if self.is_between(job, other) {
                 return true;
             }
         }
@@ -99,7 +110,9 @@ impl Graph {
     }
 
     /// Whether nobody waits.
-    pub fn is_empty(&self) -> bool {
+    pub fn is_empty(&self) -> bool
+        ensures { result ≡ not (list_any (has_wait self.now) jobs) }
+    {
         for job in 1..NUMBERS {
             if self.has(job) {
                 return false;
@@ -108,14 +121,23 @@ impl Graph {
         true
     }
 
+    /// Whether one job waits for the other, and this is part of a circle.
+    fn is_circle_wait(&self, job: usize, other: usize) -> bool
+        requires job { job < NUMBERS }
+        requires other { other < NUMBERS }
+        ensures { result ≡ (pair_in self.now.waits job other && pair_in self.now.circles job other) }
+    {
+        let i = NUMBERS * job + other;
+        self.waits[i] && self.circles[i]
+    }
+
     /// Whether a job is in a circle.
     pub fn is_in_circle(&self, job: usize) -> bool
         requires { job < NUMBERS }
+        ensures { result ≡ is_on_circle self.now job }
     {
         for other in 1..NUMBERS {
-            if let Some(wait) = self.wait(job, other)
-                && wait.is_in_circle
-            {
+            if self.is_circle_wait(job, other) {
                 return true;
             }
         }

@@ -1,4 +1,6 @@
 //! The lanes of a picture: one for each job and each lock that it asked for.
+ghost use Rattle.std.specs.Prelude.{◌≡◌, ◌==◌, ◌&&◌};
+ghost use Rattle.lock_queue.specs.Keys.{same_key};
 
 use crate::bars::Bar;
 use crate::names::LockLabel;
@@ -19,7 +21,9 @@ pub struct Lane {
 
 impl Lane {
     /// Whether a bar stands in it.
-    pub fn has(&self, bar: &Bar) -> bool {
+    pub fn has(&self, bar: &Bar) -> bool
+        ensures { result ≡ (bar.now.hold.job == self.now.job && same_key bar.now.hold.key self.now.key) }
+    {
         bar.hold.job == self.job && bar.hold.key == self.key
     }
 }

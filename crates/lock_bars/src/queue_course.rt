@@ -1,5 +1,5 @@
 //! What is seen along a script of `lockmon queue`.
-ghost use Rattle.std.specs.Prelude.{◌≡◌, ℕ, [], Some, IsTrue, IfOk, IfErr, length, true, false};
+ghost use Rattle.std.specs.Prelude.{◌≡◌, ◌≤◌, ℕ, [], Some, IsTrue, IfOk, IfErr, IfSome, length, is_some, true, false};
 ghost use Rattle.std.specs.Str.Lines.{lines};
 ghost use Rattle.queue_script.specs.Asks.{asks_right};
 ghost use Rattle.queue_script.specs.Borrowed.{asked_by_line, lent};
@@ -7,7 +7,9 @@ ghost use Rattle.queue_script.specs.QueueScripts.{effect_of, call_effect, unless
 ghost use Rattle.script_io.specs.declared.endings.Ending.TheVariants as ending;
 ghost use Rattle.script_io.specs.declared.endings.SourceFault.{SourceFault};
 ghost use Rattle.lock_queue.specs.WellFormed.{is_call};
-ghost use Rattle.lock_bars.specs.Courses.{course_of, IsFaultOf};
+ghost use Rattle.lock_bars.specs.Courses.{course_of, has_line, requests_after, IsFaultOf};
+ghost use Rattle.lock_bars.specs.Graphs.{Shows};
+ghost use Rattle.lock_bars.specs.declared.errors.TheConstants.{MOST_LINES};
 
 use crate::columns::Column;
 use crate::course::Course;
@@ -45,6 +47,7 @@ fn follow<L: LockTable>(
     ensures requests { (n : ℕ) → L.requests table.new
         ≡ (effect_of L.REQS n (L.requests table.old) (asked_by_line command.entry)).requests }
     ensures ending { result ≡ (effect_of L.REQS number (L.requests table.old) (asked_by_line command.entry)).ending }
+    ensures ended { IfSome result (λ _. L.requests table.new ≡ L.requests table.old) }
     ensures no_source { (fault : SourceFault) → result ≡ Some (ending.Source fault) → false ≡ true }
 {
     match command {
@@ -57,7 +60,8 @@ fn follow<L: LockTable>(
     None
 }
 
-/// Looks along the lines of a script, each of which works on the table.
+/// Looks along the lines of a script, each of which works on the table, and at the waits behind the
+/// line `at`, where that is asked for.
 pub fn watch_queue<L: LockTable>(
     alloc: Global,
     table: &mut L,
@@ -69,7 +73,13 @@ pub fn watch_queue<L: LockTable>(
     ensures lines { IfOk result (λ seen. seen.lines ≡ (course_of L.REQS [] 0 (lines script.now) []).lines) }
     ensures columns { IfOk result (λ seen. length seen.columns.items ≡ seen.lines) }
     ensures done { IfOk result (λ seen. (course_of L.REQS [] 0 (lines script.now) []).ending ≡ ending.Done) }
-    ensures fault { IfErr result (λ e. IsFaultOf (course_of L.REQS [] 0 (lines script.now) []) e) }
+    ensures few { IfOk result (λ seen. seen.lines ≤ MOST_LINES) }
+    ensures waits { IfOk result (λ seen. IfSome seen.waits (λ w. (at ≡ Some w.1)
+        × Shows (requests_after L.REQS w.1 [] 0 (lines script.now)) w.0)) }
+    ensures passed { IfOk result (λ seen. is_some seen.waits ≡ has_line seen.lines at) }
+    ensures end { IfOk result (λ seen. L.requests table.new ≡ requests_after L.REQS seen.lines [] 0 (lines script.now)) }
+    ensures fault { IfErr result (λ e.
+        IsFaultOf at (length (lines script.now)) (course_of L.REQS [] 0 (lines script.now) []) e) }
 {
     let mut room = CallRoom::new();
     let mut seen = Course::new(alloc);

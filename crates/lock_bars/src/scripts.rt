@@ -1,9 +1,10 @@
 //! The pictures of scripts.
-ghost use Rattle.std.specs.Prelude.{◌≡◌, ◌⊎◌, None, IfOk, IfErr, IfSome, length, unwrap_or, true, false};
+ghost use Rattle.std.specs.Prelude.{◌≡◌, ◌⊎◌, None, IfOk, IfErr, IfSome, IsSome, length, unwrap_or, true};
+ghost use Rattle.std.specs.Str.Lines.{lines};
 ghost use Rattle.queue_script.specs.QueueScripts.{transcript};
 ghost use Rattle.script_io.specs.declared.endings.Ending.TheVariants as ending;
 ghost use Rattle.lock_bars.specs.Graphs.{Shows};
-ghost use Rattle.lock_bars.specs.Courses.{course, IsFaultOf, tells_no_line};
+ghost use Rattle.lock_bars.specs.Courses.{course, has_line, requests_behind, IsFaultOf};
 
 use crate::course::Course;
 use crate::drawing::Drawing;
@@ -28,8 +29,9 @@ pub fn drawing_of<L: LockTable>(
     ensures asked { IfOk result (λ drawing. IfSome seen.waits (λ w. (drawing.graph ≡ w.0) × (drawing.at_column ≡ w.1))) }
     ensures end { IfOk result (λ drawing. seen.waits ≡ None → Shows (L.requests table.now) drawing.graph × (drawing.at_column ≡ length seen.columns.items)) }
     ensures at { IfOk result (λ drawing. drawing.at ≡ unwrap_or at seen.lines) }
-    ensures no_line { IfErr result (λ e. tells_no_line e ≡ true) }
-    ensures short { IfErr result (λ e. (e ≡ ScriptError.Memory) ⊎ (e ≡ ScriptError.Short seen.lines)) }
+    ensures found { IfOk result (λ drawing. IsSome at → IsSome seen.waits) }
+    ensures short { IfErr result (λ e. (e ≡ ScriptError.Memory)
+        ⊎ ((e ≡ ScriptError.Short seen.lines) × IsSome at × (seen.waits ≡ None))) }
 {
     let Course {
         lines,
@@ -59,7 +61,11 @@ pub fn draw_script(alloc: Global, script: &[u8], at: Option<usize>) -> Result<Dr
     ensures bars { IfOk result (λ drawing. drawing.bars.items ≡ (course script.now).bars) }
     ensures columns { IfOk result (λ drawing. length drawing.columns.items ≡ (course script.now).lines) }
     ensures done { IfOk result (λ drawing. (course script.now).ending ≡ ending.Done) }
-    ensures fault { IfErr result (λ e. IsFaultOf (course script.now) e) }
+    ensures waits { IfOk result (λ drawing. Shows (requests_behind drawing.at script.now) drawing.graph) }
+    ensures at { IfOk result (λ drawing. drawing.at ≡ unwrap_or at (course script.now).lines) }
+    ensures at_column { IfOk result (λ drawing. drawing.at_column ≡ drawing.at) }
+    ensures found { IfOk result (λ drawing. IsSome at → has_line (course script.now).lines at ≡ true) }
+    ensures fault { IfErr result (λ e. IsFaultOf at (length (lines script.now)) (course script.now) e) }
     ensures ends { (course script.now).ending ≡ (transcript script.now).ending }
 {
     let mut table = ScriptTable::new(alloc)?;

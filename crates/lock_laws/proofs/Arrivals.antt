@@ -1,5 +1,6 @@
 -- What a request that arrives has passed.
-use Rattle.std.proofs.Common.{◌≡◌, ◌<◌, ◌∙◌, sym, ap, subst, ℕ, Bool, true, false, not, cond, List, [], ◌∷◌, ◌++◌, length, map, Option, Some, None, inl, inr, refl, nat_le, ◌==◌}
+use Rattle.std.proofs.Common.{◌≡◌, ◌<◌, ◌∙◌, sym, ap, subst, ℕ, Bool, true, false, not, cond, List, [], ◌∷◌, ◌++◌}
+use Rattle.std.proofs.Common.{length, map, Option, Some, None, inl, inr, refl, nat_le, ◌==◌}
 use Rattle.std.specs.List.{list_all, list_any}
 use Rattle.std.proofs.lemmas.Bool.{or_parts, and_cases, leb-false, not-false, eq-eqb}
 use Rattle.arrayvec.specs.ArrayVec.{ArrayVec}
@@ -12,7 +13,8 @@ use Rattle.lock_queue.specs.declared.request.Request.{Request}
 use Rattle.lock_queue.specs.declared.want.Want.{Want}
 use Rattle.lock_queue.specs.Jobs.{is_interrupt}
 use Rattle.lock_queue.specs.Keys.{same_key}
-use Rattle.lock_queue.specs.Enqueues.{are_alike, enqueue_fault, is_too_low, some_too_low, enqueue_refusal, request_of, with_arrival, not_granted, arrival, enqueue}
+use Rattle.lock_queue.specs.Enqueues.{are_alike, enqueue_fault, is_too_low, some_too_low, enqueue_refusal}
+use Rattle.lock_queue.specs.Enqueues.{request_of, with_arrival, not_granted, arrival, enqueue}
 use Rattle.lock_queue.specs.Outcomes.{outcome, unless_refused, first_refusal}
 use Rattle.lock_queue.specs.Queue.{names, wants_at, wants_of, requests_of, all_wants, granted}
 use Rattle.lock_laws.specs.Claims.{Claim, claim_of, claims_of, claims}

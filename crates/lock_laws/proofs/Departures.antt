@@ -1,5 +1,6 @@
 -- What a dequeue leaves.
-use Rattle.std.proofs.Common.{◌≡◌, ◌∙◌, sym, ap, ℕ, Bool, true, false, not, ◌&&◌, ◌==◌, cond, List, [], ◌∷◌, ◌++◌, length, filter, Option, Some, None, ◌⊎◌, inl, inr, refl, arith}
+use Rattle.std.proofs.Common.{◌≡◌, ◌∙◌, sym, ap, ℕ, Bool, true, false, not, ◌&&◌, ◌==◌, cond, List, [], ◌∷◌, ◌++◌}
+use Rattle.std.proofs.Common.{length, filter, Option, Some, None, ◌⊎◌, inl, inr, refl, arith}
 use Rattle.std.specs.List.{list_any}
 use Rattle.std.proofs.lemmas.Bool.{and_parts, eqb-true, not-false}
 use Rattle.lock_queue.specs.declared.call.LockReply.TheVariants.{Done, Refused}
@@ -7,7 +8,8 @@ use Rattle.lock_queue.specs.declared.refusal.Refusal.{Refusal}
 use Rattle.lock_queue.specs.declared.refusal.Refusal.TheVariants.{NotPresent}
 use Rattle.lock_queue.specs.declared.request.Request.{Request}
 use Rattle.lock_queue.specs.declared.want.Want.{Want}
-use Rattle.lock_queue.specs.Dequeues.{dequeue_fault, has_wants, without_keys, without_named, dequeue_named, dequeue_where, is_of_job, has_id, dequeue_all, dequeue_id}
+use Rattle.lock_queue.specs.Dequeues.{dequeue_fault, has_wants, without_keys, without_named, dequeue_named}
+use Rattle.lock_queue.specs.Dequeues.{dequeue_where, is_of_job, has_id, dequeue_all, dequeue_id}
 use Rattle.lock_queue.specs.Jobs.{is_blocking, is_blocked_where, is_not_blocked_where, released, withdrawn_where}
 use Rattle.lock_queue.specs.Outcomes.{outcome, unless_refused, first_refusal}
 use Rattle.lock_queue.specs.Queue.{names, granted_behind, chosen_behind}

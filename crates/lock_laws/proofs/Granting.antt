@@ -1,5 +1,6 @@
 -- What holds of grants in a list whose claims are in order.
-use Rattle.std.proofs.Common.{◌≡◌, ◌≤◌, ◌+◌, ◌∙◌, sym, ap, subst, ℕ, true, false, not, ◌==◌, ◌&&◌, List, [], ◌∷◌, ◌++◌, take, sum_by, Option, Some, None, is_some, inl, inr, refl, arith}
+use Rattle.std.proofs.Common.{◌≡◌, ◌≤◌, ◌+◌, ◌∙◌, sym, ap, subst, ℕ, true, false, not, ◌==◌, ◌&&◌, List, [], ◌∷◌, ◌++◌}
+use Rattle.std.proofs.Common.{take, sum_by, Option, Some, None, is_some, inl, inr, refl, arith}
 use Rattle.std.specs.List.{list_all}
 use Rattle.std.proofs.lemmas.Bool.{and_parts, and_from, both_ways, eqb-true, eq-eqb, not-true, false_from_ne_true}
 use Rattle.lock_queue.specs.declared.key.Key.{Key}
@@ -12,8 +13,10 @@ use Rattle.lock_queue.specs.Queue.{wants_at, agree, amount_of, is_pooled, fits_b
 use Rattle.lock_laws.specs.Claims.{Claim, claim_of, claims_of, claims}
 use Rattle.lock_laws.specs.Safe.{ExclusiveAlone, OwnersAgree, AllOrNone, FitsInFront, NoOvertaking}
 use Rattle.lock_queue.proofs.Fitting.{eq-same_key, names-found, wants_at-append, Has-wants_at, overtaken}
-use Rattle.lock_queue.proofs.Lists.{Has, Has-right, Has-map, Has-flat_map, Pairs, Pairs-both, Pairs-weaker, Sub, Sub-refl, Sub-none, Sub-append, list_all-Has, sum-append, sum-cons, list_any-Has}
-use Rattle.lock_laws.proofs.Places.{Split, chosen-Has, Has-chosen, chosen_none, chosen_behind-append, slice_get-Has, between, push-append, nil-append, Has-middle}
+use Rattle.lock_queue.proofs.Lists.{Has, Has-right, Has-map, Has-flat_map, Pairs, Pairs-both, Pairs-weaker, Sub, Sub-refl}
+use Rattle.lock_queue.proofs.Lists.{Sub-none, Sub-append, list_all-Has, sum-append, sum-cons, list_any-Has}
+use Rattle.lock_laws.proofs.Places.{Split, chosen-Has, Has-chosen, chosen_none, chosen_behind-append}
+use Rattle.lock_laws.proofs.Places.{slice_get-Has, between, push-append, nil-append, Has-middle}
 use Rattle.lock_laws.proofs.Steps.{Ordered}
 use Rattle.lock_laws.proofs.Words.{Contains-Has, Has-Contains}
 

@@ -1,5 +1,6 @@
 -- What a call leaves.
-use Rattle.std.proofs.Common.{◌≡◌, ◌<◌, ◌∙◌, ap, ℕ, zero, suc, Bool, true, false, List, [], ◌∷◌, ◌++◌, length, take, Option, Some, None, slice_get, if◌then◌else◌, arith, refl}
+use Rattle.std.proofs.Common.{◌≡◌, ◌<◌, ◌∙◌, ap, ℕ, zero, suc, Bool, true, false, List, [], ◌∷◌, ◌++◌, length, take}
+use Rattle.std.proofs.Common.{Option, Some, None, slice_get, if◌then◌else◌, arith, refl}
 use Rattle.lock_queue.specs.Enqueues.{not_granted, arrival, enqueue_refusal}
 use Rattle.lock_queue.specs.Outcomes.{Outcome, unless_refused}
 use Rattle.lock_queue.specs.Queue.{granted, is_granted}

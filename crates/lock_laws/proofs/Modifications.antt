@@ -1,5 +1,6 @@
 -- What a change of wants leaves.
-use Rattle.std.proofs.Common.{◌≡◌, ◌∙◌, sym, ap, subst, ℕ, Bool, true, false, not, ◌&&◌, ◌==◌, cond, List, [], ◌∷◌, ◌++◌, map, Option, Some, None, inl, inr, refl}
+use Rattle.std.proofs.Common.{◌≡◌, ◌∙◌, sym, ap, subst, ℕ, Bool, true, false, not, ◌&&◌, ◌==◌, cond, List, []}
+use Rattle.std.proofs.Common.{◌∷◌, ◌++◌, map, Option, Some, None, inl, inr, refl}
 use Rattle.std.proofs.lemmas.Bool.{and_cases, or_parts, not-false, both_ways}
 use Rattle.std.proofs.lemmas.List.{map-append}
 use Rattle.lock_queue.specs.declared.call.LockReply.TheVariants.{Done}

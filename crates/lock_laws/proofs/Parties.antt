@@ -1,5 +1,6 @@
 -- The owners of a key without a pool.
-use Rattle.std.proofs.Common.{◌≡◌, ◌∙◌, sym, ap, subst, Bool, true, false, not, ◌==◌, ◌&&◌, List, [], ◌∷◌, length, take, Some, None, is_some, slice_get, Contains, ◌⊎◌, inl, inr, refl}
+use Rattle.std.proofs.Common.{◌≡◌, ◌∙◌, sym, ap, subst, Bool, true, false, not, ◌==◌, ◌&&◌, List, [], ◌∷◌, length, take}
+use Rattle.std.proofs.Common.{Some, None, is_some, slice_get, Contains, ◌⊎◌, inl, inr, refl}
 use Rattle.std.proofs.lemmas.Bool.{and_parts, and_from, cases_order, eqb-true}
 use Rattle.lock_queue.specs.declared.request.Request.{Request}
 use Rattle.lock_queue.specs.declared.want.Want.{Want}

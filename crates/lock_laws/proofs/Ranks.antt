@@ -1,5 +1,6 @@
 -- Along a circle of plain jobs that wait, levels rise, or stay the same while the place in the list falls.
-use Rattle.std.proofs.Common.{◌≡◌, ◌≢◌, ◌<◌, ◌∙◌, sym, ap, subst, ℕ, true, false, not, ◌&&◌, ◌==◌, List, [], ◌∷◌, ◌++◌, length, ◌⊎◌, inl, inr, refl, arith, append_assoc, length-append}
+use Rattle.std.proofs.Common.{◌≡◌, ◌≢◌, ◌<◌, ◌∙◌, sym, ap, subst, ℕ, true, false, not, ◌&&◌, ◌==◌, List, [], ◌∷◌, ◌++◌}
+use Rattle.std.proofs.Common.{length, ◌⊎◌, inl, inr, refl, arith, append_assoc, length-append}
 use Rattle.std.specs.List.{list_all, list_any}
 use Rattle.std.proofs.lemmas.Bool.{and_parts, eqb-true, not-true, false_from_ne_true}
 use Rattle.lock_queue.specs.declared.request.Request.{Request}

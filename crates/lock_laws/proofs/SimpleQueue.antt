@@ -1,5 +1,6 @@
 -- The queue without groups and quotas.
-use Rattle.std.proofs.Common.{◌≡◌, ◌≤◌, ◌<◌, ◌∙◌, sym, ap, subst, ℕ, zero, suc, Bool, true, false, not, cond, ◌==◌, ◌&&◌, ◌||◌, List, [], ◌∷◌, ◌++◌, length, map, take, filter, nat_le, nat_lt, Option, Some, None, slice_get, inl, inr, refl, arith, length-append}
+use Rattle.std.proofs.Common.{◌≡◌, ◌≤◌, ◌<◌, ◌∙◌, sym, ap, subst, ℕ, zero, suc, Bool, true, false, not, cond, ◌==◌, ◌&&◌, ◌||◌, List, [], ◌∷◌, ◌++◌, length}
+use Rattle.std.proofs.Common.{map, take, filter, nat_le, nat_lt, Option, Some, None, slice_get, inl, inr, refl, arith, length-append}
 use Rattle.std.specs.List.{list_all, list_any}
 use Rattle.std.proofs.Math.Bool.{and-true}
 use Rattle.std.proofs.lemmas.Bool.{and_parts, eqb-true, eq-eqb, ltb-true, lt-leb}
@@ -24,9 +25,14 @@ use Rattle.lock_queue.specs.Jobs.{is_blocked_by, is_blocking, is_in_the_way, is_
 use Rattle.lock_queue.specs.Keys.{same_key}
 use Rattle.lock_queue.specs.Outcomes.{outcome, unless_refused, refuse_if, or_else, first_refusal}
 use Rattle.lock_queue.specs.Pools.{PoolShare}
-use Rattle.lock_queue.specs.Queue.{agree, all_wants, chosen_behind, fits, fits_beside, granted, granted_behind, is_granted, is_owner, is_pooled, is_waiter, names, requests_of, some_behind, wants_at, wants_of}
+use Rattle.lock_queue.specs.Queue.{agree, all_wants, chosen_behind, fits, fits_beside, granted, granted_behind, is_granted, is_owner}
+use Rattle.lock_queue.specs.Queue.{is_pooled, is_waiter, names, requests_of, some_behind, wants_at, wants_of}
 use Rattle.lock_queue.proofs.Lists.{Has, Has-cases, Has-flat_map, Sub-filter, Sub-length, filter-Has, flat_map-Has, list_all-Has, list_all-each, map-Has}
-use Rattle.lock_laws.specs.Simple.{CallsAreSimple, RequestsAreSimple, RunsSimply, SpellingIsSimple, has_no_group, have_no_groups, is_simple_call, is_simple_owner, is_simple_waiter, is_simply_blocked_by, is_simply_granted, is_simply_in_the_way, is_simply_kept_by, simple_arrival, simple_modify, simple_outcome, simple_refusal, simple_requests_after, simple_replies_to, simply_agree, simply_changed, simply_changed_want, simply_fits, simply_fits_beside, simply_granted, simply_granted_behind, some_simply_lost_behind, with_simple_changes}
+use Rattle.lock_laws.specs.Simple.{CallsAreSimple, RequestsAreSimple, RunsSimply, SpellingIsSimple, has_no_group, have_no_groups, is_simple_call}
+use Rattle.lock_laws.specs.Simple.{is_simple_owner, is_simple_waiter, is_simply_blocked_by, is_simply_granted, is_simply_in_the_way, is_simply_kept_by}
+use Rattle.lock_laws.specs.Simple.{simple_arrival, simple_modify, simple_outcome, simple_refusal, simple_requests_after, simple_replies_to, simply_agree}
+use Rattle.lock_laws.specs.Simple.{simply_changed, simply_changed_want, simply_fits, simply_fits_beside, simply_granted, simply_granted_behind}
+use Rattle.lock_laws.specs.Simple.{some_simply_lost_behind, with_simple_changes}
 use Rattle.lock_laws.proofs.CallSteps.{Step, grows, releases, step_of}
 use Rattle.lock_laws.proofs.Places.{slice_get-Has}
 use Rattle.lock_laws.proofs.Steps.{Grows, stays, arrives, changes, Releases-length, is_job_of}

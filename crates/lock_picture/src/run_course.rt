@@ -1,5 +1,9 @@
 //! What is seen along a script of `lockmon run`.
-ghost use Rattle.std.specs.Prelude.{◌<◌};
+ghost use Rattle.std.specs.Prelude.{◌≡◌, ◌<◌, ◌≤◌, ◌⊎◌, ℕ, IfOk, IfErr, is_some, length};
+ghost use Rattle.std.specs.Str.Lines.{lines};
+ghost use Rattle.lock_bars.specs.Courses.{has_line};
+ghost use Rattle.lock_bars.specs.declared.errors.TheConstants.{MOST_LINES};
+ghost use Rattle.lock_picture.specs.Faults.{IsLengthFault, IsLineFault};
 
 use lock_bars::{
     Column, Course, Drawing, MOST_LINES, ScriptError, ScriptLines, SourceFault, drawing_of,
@@ -66,7 +70,9 @@ fn fault_in(answers: &[u8]) -> Option<(usize, u8)> {
 }
 
 /// The fault of the source that begins at a line of the script.
-fn source_fault(answers: &[u8], begins: usize) -> ScriptError {
+fn source_fault(answers: &[u8], begins: usize) -> ScriptError
+    ensures { (number : ℕ) → IsLineFault number result }
+{
     let (line, code) = fault_in(answers).unwrap_or((0, 7));
     ScriptError::Source(SourceFault { begins, line, code })
 }
@@ -81,6 +87,7 @@ fn take_line(
     begins: usize,
 ) -> Result<bool, ScriptError>
     requires { 0 < number }
+    ensures { IfErr result (λ e. IsLineFault number e) }
 {
     let mut answers = Vec::new(alloc);
     match service.take_line(number as u128, line, &mut answers)? {
@@ -92,7 +99,9 @@ fn take_line(
 }
 
 /// Says that no more lines come than these.
-fn end_lines(alloc: Global, service: &mut RunService, lines: usize) -> Result<(), ScriptError> {
+fn end_lines(alloc: Global, service: &mut RunService, lines: usize) -> Result<(), ScriptError>
+    ensures { IfErr result (λ e. (e ≡ ScriptError.Memory) ⊎ (e ≡ ScriptError.NoEnd lines)) }
+{
     let mut answers = Vec::new(alloc);
     match service.end_lines(lines as u128, &mut answers)? {
         Ending::Done => Ok(()),
@@ -110,6 +119,9 @@ fn take_ticks(
     ticks: usize,
 ) -> Result<(), ScriptError>
     requires { 0 < number }
+    ensures lines { seen.new.lines ≡ seen.old.lines }
+    ensures waits { seen.new.waits ≡ seen.old.waits }
+    ensures fault { IfErr result (λ e. IsLineFault number e) }
 {
     for before in 0..ticks {
         let _ = take_line(alloc, service, number, one, 0)?;
@@ -133,6 +145,9 @@ fn watch_line(
     line: &[u8],
 ) -> Result<bool, ScriptError>
     requires { 0 < number }
+    ensures lines { seen.new.lines ≡ seen.old.lines }
+    ensures waits { seen.new.waits ≡ seen.old.waits }
+    ensures fault { IfErr result (λ e. IsLineFault number e) }
 {
     if !sources.is_open
         && let Some((one, ticks)) = ticks_of(line)
@@ -157,7 +172,12 @@ fn watch_run(
     service: &mut RunService,
     script: &[u8],
     at: Option<usize>,
-) -> Result<Course, ScriptError> {
+) -> Result<Course, ScriptError>
+    ensures few { IfOk result (λ seen. seen.lines ≤ MOST_LINES) }
+    ensures within { IfOk result (λ seen. seen.lines ≤ length (lines script.now)) }
+    ensures passed { IfOk result (λ seen. is_some seen.waits ≡ has_line seen.lines at) }
+    ensures fault { IfErr result (λ e. IsLengthFault at (length (lines script.now)) e) }
+{
     let mut seen = Course::new(alloc);
     let mut sources = Sources {
         begins: 0,
@@ -186,7 +206,10 @@ pub fn draw_run_script(
     alloc: Global,
     script: &[u8],
     at: Option<usize>,
-) -> Result<Drawing, ScriptError> {
+) -> Result<Drawing, ScriptError>
+    ensures few { IfOk result (λ drawing. drawing.at ≤ MOST_LINES) }
+    ensures length { IfErr result (λ e. IsLengthFault at (length (lines script.now)) e) }
+{
     let config = Config::new(64, 1).unwrap();
     let mut service = RunService::new(alloc, config)?;
     let seen = watch_run(alloc, &mut service, script, at)?;

@@ -1,5 +1,6 @@
 -- Which wants fit, behind more, fewer or the same earlier wants.
-use Rattle.std.proofs.Common.{◌≡◌, ◌≢◌, ◌≤◌, ◌<◌, ◌+◌, ◌∙◌, sym, ap, subst, ◌&&◌, ◌==◌, true, false, List, ◌∷◌, ◌++◌, filter, sum_by, Option, Some, None, inl, refl, arith}
+use Rattle.std.proofs.Common.{◌≡◌, ◌≢◌, ◌≤◌, ◌<◌, ◌+◌, ◌∙◌, sym, ap, subst, ◌&&◌, ◌==◌, true, false, List, ◌∷◌}
+use Rattle.std.proofs.Common.{◌++◌, filter, sum_by, Option, Some, None, inl, refl, arith}
 use Rattle.std.proofs.lemmas.Bool.{and_parts, and_from, both_ways, eqb-true, eq-eqb, leb-true, leb-false, le-leb, lt-leb, false_from_ne_true}
 use Rattle.std.proofs.lemmas.List.Elements.{filter-append}
 use Rattle.std.proofs.lemmas.Slice.Eq.{bytes_eq-Decides}
@@ -14,7 +15,8 @@ use Rattle.lock_queue.specs.Enqueues.{same_pool_size}
 use Rattle.lock_queue.specs.Keys.{same_scope, same_name, same_key}
 use Rattle.lock_queue.specs.Pools.{PoolShare}
 use Rattle.lock_queue.specs.Queue.{all_wants, wants_at, agree, amount_of, amount_in, fits_beside, fits, granted_behind, names}
-use Rattle.lock_queue.proofs.Lists.{Has, Has-right, Sub, Sub-Has, Sub-all, Sub-sum, Sub-filters, Has-filter, Has-flat_map, list_all-Has, list_all-each, list_all-fails, list_any-found, list_any-Has, flat_map-append}
+use Rattle.lock_queue.proofs.Lists.{Has, Has-right, Sub, Sub-Has, Sub-all, Sub-sum, Sub-filters, Has-filter, Has-flat_map, list_all-Has}
+use Rattle.lock_queue.proofs.Lists.{list_all-each, list_all-fails, list_any-found, list_any-Has, flat_map-append}
 
 -- keys that the test takes for one are one
 same_scope-eq : (a b : Scope) → same_scope a b ≡ true → a ≡ b

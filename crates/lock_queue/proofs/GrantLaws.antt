@@ -1,5 +1,6 @@
 -- What a call leaves of each request, and that a request which is asked for grants no other.
-use Rattle.std.proofs.Common.{◌≡◌, ◌∙◌, sym, ap, append-nil, ℕ, Bool, true, false, not, ◌&&◌, ◌==◌, cond, if◌then◌else◌, List, [], ◌∷◌, ◌++◌, map, filter, filter_map, Option, Some, None, refl}
+use Rattle.std.proofs.Common.{◌≡◌, ◌∙◌, sym, ap, append-nil, ℕ, Bool, true, false, not, ◌&&◌, ◌==◌, cond, if◌then◌else◌}
+use Rattle.std.proofs.Common.{List, [], ◌∷◌, ◌++◌, map, filter, filter_map, Option, Some, None, refl}
 use Rattle.std.specs.List.{cons_option}
 use Rattle.std.proofs.lemmas.Bool.{and_left, and_right}
 use Rattle.arrayvec.specs.ArrayVec.{ArrayVec}

@@ -1,5 +1,6 @@
 -- Lists: their elements, their pairs, and lists with some elements left out.
-use Rattle.std.proofs.Common.{◌≡◌, ◌≤◌, ◌<◌, ◌+◌, ◌&&◌, ◌∙◌, sym, ap, subst, ℕ, zero, suc, add-one, drop, get_or, Bool, true, false, cond, List, [], ◌∷◌, ◌++◌, length, map, filter, flat_map, sum_by, ◌⊎◌, inl, inr, refl, arith}
+use Rattle.std.proofs.Common.{◌≡◌, ◌≤◌, ◌<◌, ◌+◌, ◌&&◌, ◌∙◌, sym, ap, subst, ℕ, zero, suc, add-one, drop, get_or, Bool, true, false, cond}
+use Rattle.std.proofs.Common.{List, [], ◌∷◌, ◌++◌, length, map, filter, flat_map, sum_by, ◌⊎◌, inl, inr, refl, arith}
 use Rattle.std.specs.List.{list_all, list_any}
 use Rattle.std.proofs.lemmas.Grind.{common_steps}
 

@@ -1,5 +1,6 @@
 -- A status with one more owner, or one more waiter, in front.
-use Rattle.std.proofs.Common.{◌≡◌, ◌∙◌, ap, ℕ, zero, suc, ◌+◌, ◌<◌, Bool, true, false, ◌||◌, List, [], ◌∷◌, ◌++◌, length, get_or, drop, filter, Option, Some, None, refl, arith, add-one}
+use Rattle.std.proofs.Common.{◌≡◌, ◌∙◌, ap, ℕ, zero, suc, ◌+◌, ◌<◌, Bool, true, false, ◌||◌, List, [], ◌∷◌, ◌++◌, length}
+use Rattle.std.proofs.Common.{get_or, drop, filter, Option, Some, None, refl, arith, add-one}
 use Rattle.std.specs.List.{list_any}
 use Rattle.std.proofs.lemmas.List.Elements.{filter-append}
 use Rattle.std.proofs.lemmas.List.Sums.{sum_by-append}

@@ -1,8 +1,11 @@
 -- A text that is written over zero bytes is filled up by those that are left.
-use Rattle.std.proofs.Common.{◌≡◌, ◌∙◌, sym, ap, subst, ℕ, List, ◌++◌, length, take, drop, arith}
+use Rattle.std.proofs.Common.{◌≡◌, ◌∙◌, sym, ap, subst, ℕ, suc, ◌+◌, ◌-◌, ◌<◌, ◌≤◌, List, [], ◌∷◌, ◌++◌, length, take, drop, slice_set, arith}
 use Rattle.std.specs.Prelude.{replicate, IsUtf8}
+use Rattle.std.proofs.Math.Logic.{∥∥₁_map}
 use Rattle.std.proofs.lemmas.Grind.{merely}
-use Rattle.std.proofs.lemmas.List.{drop-replicate, take-append-le, take_all}
+use Rattle.std.proofs.lemmas.Str.{IsUtf8-append, IsUtf8-from_ascii}
+use Rattle.std.proofs.lemmas.Str.Ascii.{IsAscii-cons}
+use Rattle.std.proofs.lemmas.List.{append_assoc, drop-replicate, length_push, length-take-le, set-append_right, take-append-le, take_all, take_more_set}
 use Rattle.lock_queue.specs.Names.{filled_up}
 
 -- a text over the zero bytes
@@ -20,3 +23,31 @@ filled-written text front is =
 
 pub written-utf8 : (text front : List ℕ) → front ≡ text → IsUtf8 text → ∥ IsUtf8 (take (length text) (written text front)) ∥₁
 written-utf8 text front is h = merely (subst IsUtf8 (sym (ap (λ l. take (length text) (written text l)) is ∙ front-written text)) h)
+
+-- one character more, where the zero bytes begin: the bytes are the text with it, and zero bytes again
+pushed-is : (bytes : List ℕ) (n c : ℕ) → n < length bytes → length bytes ≡ 32 → bytes ≡ filled_up (take n bytes)
+    → slice_set bytes n c ≡ filled_up (take n bytes ++ c ∷ [])
+pushed-is bytes n c less all is =
+    let text = take n bytes in
+    let count : length text ≡ n = length-take-le n bytes (omega (arith, less)) in
+    let more : length (text ++ c ∷ []) ≡ n + 1 = length_push text c ∙ ap (λ k. k + 1) count in
+    let here : n - n ≡ 0 = omega arith in
+    let left : 32 - length text ≡ suc (31 - n) = omega (arith, count, less, all) in
+    let zeros : replicate (32 - length text) 0 ≡ 0 ∷ replicate (31 - n) 0 = ap (λ k. replicate k 0) left in
+    let rest : 31 - n ≡ 32 - length (text ++ c ∷ []) = omega (arith, more) in
+    ap (λ l. slice_set l n c) is
+    ∙ set-append_right text (replicate (32 - length text) 0) n n c count (omega arith)
+    ∙ ap (λ k. text ++ slice_set (replicate (32 - length text) 0) k c) here
+    ∙ ap (λ l. text ++ slice_set l 0 c) zeros
+    ∙ sym (append_assoc text (c ∷ []) (replicate (31 - n) 0))
+    ∙ ap (λ k. (text ++ c ∷ []) ++ replicate k 0) rest
+
+pub filled-pushed : (bytes : List ℕ) (n c : ℕ) → n < length bytes → length bytes ≡ 32 → bytes ≡ filled_up (take n bytes)
+    → slice_set bytes n c ≡ filled_up (take (n + 1) (slice_set bytes n c))
+filled-pushed bytes n c less all is = pushed-is bytes n c less all is ∙ ap filled_up (sym (take_more_set bytes n c less))
+
+pub pushed-utf8 : (bytes : List ℕ) (n c : ℕ) → n < length bytes → c < 128 → ∥ IsUtf8 (take n bytes) ∥₁ → ∥ IsUtf8 (take (n + 1) (slice_set bytes n c)) ∥₁
+pushed-utf8 bytes n c less ascii h =
+    ∥∥₁_map h (λ u.
+    subst IsUtf8 (sym (take_more_set bytes n c less)) (IsUtf8-append (take n bytes)
+    (c ∷ []) u (IsUtf8-from_ascii (c ∷ []) (IsAscii-cons c [] ascii (λ i. grind arith)))))

@@ -1,5 +1,6 @@
 -- Well-formed requests stay so over each change of the list.
-use Rattle.std.proofs.Common.{◌≡◌, ◌≤◌, ◌∙◌, sym, ap, subst, ℕ, Bool, true, false, not, ◌&&◌, ◌||◌, ◌==◌, cond, List, [], ◌∷◌, ◌++◌, length, map, filter, Option, Some, None, inl, inr, refl, arith, nat_le}
+use Rattle.std.proofs.Common.{◌≡◌, ◌≤◌, ◌∙◌, sym, ap, subst, ℕ, Bool, true, false, not, ◌&&◌, ◌||◌, ◌==◌, cond, List, [], ◌∷◌}
+use Rattle.std.proofs.Common.{◌++◌, length, map, filter, Option, Some, None, inl, inr, refl, arith, nat_le}
 use Rattle.std.specs.List.{list_all, list_any}
 use Rattle.std.proofs.lemmas.Bool.{and_parts, and_from, and_cases, or_parts, both_ways, not_from_false, leb-true, le-leb, eqb-true, false_from_ne_true}
 use Rattle.std.proofs.lemmas.List.{length-map}
@@ -22,7 +23,8 @@ use Rattle.lock_queue.specs.Keys.{same_key}
 use Rattle.lock_queue.specs.Outcomes.{outcome, unless_refused, first_refusal}
 use Rattle.lock_queue.specs.Queue.{all_wants, chosen_behind, is_pooled, names, requests_of, wants_at, wants_of}
 use Rattle.lock_queue.specs.WellFormed.{is_job, is_in_range, shares_rightly, are_apart, are_right_wants, is_well_formed, are_well_formed}
-use Rattle.lock_queue.proofs.Lists.{Has, Has-filter, Has-flat_map, filter-Has, map-Has, list_all-Has, list_all-each, list_any-Has, Sub, nil, skip, keep, Sub-all, Sub-filter, Sub-length}
+use Rattle.lock_queue.proofs.Lists.{Has, Has-filter, Has-flat_map, filter-Has, map-Has, list_all-Has, list_all-each}
+use Rattle.lock_queue.proofs.Lists.{list_any-Has, Sub, nil, skip, keep, Sub-all, Sub-filter, Sub-length}
 use Rattle.lock_queue.proofs.Refusing.{refuse_if-None, or_else-None}
 
 -- the test of a job's number

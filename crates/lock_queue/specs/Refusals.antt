@@ -1,7 +1,9 @@
 -- The codes of refusals (this project's profile).
 use Rattle.std.specs.Prelude.{ℕ}
 use Rattle.lock_queue.specs.declared.refusal.Refusal.{Refusal}
-use Rattle.lock_queue.specs.declared.refusal.Refusal.TheVariants.{NotGranted, NoFunction, BadBlock, BadCount, BadPointer, BadName, BadQualifier, BadPool, Differs, LevelOrder, NamedAlready, NotPresent, WouldLose, QueueFull, NoVector, OverQuota, TimedOut, NoSuchQuota}
+use Rattle.lock_queue.specs.declared.refusal.Refusal.TheVariants.{NotGranted, NoFunction, BadBlock, BadCount, BadPointer, BadName, BadQualifier, BadPool}
+use Rattle.lock_queue.specs.declared.refusal.Refusal.TheVariants.{Differs, LevelOrder, NamedAlready, NotPresent, WouldLose, QueueFull, NoVector, OverQuota}
+use Rattle.lock_queue.specs.declared.refusal.Refusal.TheVariants.{TimedOut, NoSuchQuota}
 
 abbrev pub code_of : Refusal → ℕ
 code_of NotGranted = 1

@@ -21,7 +21,7 @@ mod want;
 pub use call::{Asking, LockCall, LockReply};
 pub use grant::{Grant, Woken};
 pub use key::{Key, Scope};
-pub use name::{NAME_NUMBERS, Name, NameText, UserCode};
+pub use name::{NAME_NUMBERS, Name, NameCharacters, NameText, UserCode};
 pub use pool::Pool;
 pub use refusal::Refusal;
 pub use request::{EnqueueKind, Request, RequestId};

@@ -1,5 +1,6 @@
 -- Wants that are changed, and the wants of a key among them.
-use Rattle.std.proofs.Common.{◌≡◌, ◌∙◌, sym, ap, subst, ℕ, zero, suc, Bool, true, false, ◌&&◌, ◌||◌, ◌==◌, not, cond, List, [], ◌∷◌, map, filter, set, slice_get, Some, inl, inr, refl}
+use Rattle.std.proofs.Common.{◌≡◌, ◌∙◌, sym, ap, subst, ℕ, zero, suc, Bool, true, false, ◌&&◌, ◌||◌, ◌==◌, not, cond}
+use Rattle.std.proofs.Common.{List, [], ◌∷◌, map, filter, set, slice_get, Some, inl, inr, refl}
 use Rattle.std.specs.List.{list_all}
 use Rattle.std.proofs.lemmas.Bool.{and_parts, both_ways, false_from_ne_true, not-true, or_parts}
 use Rattle.lock_queue.specs.declared.key.Key.{Key}

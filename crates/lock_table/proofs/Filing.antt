@@ -1,5 +1,6 @@
 -- What the code of a table finds.
-use Rattle.std.proofs.Common.{◌≡◌, ◌≢◌, ◌<◌, ◌∙◌, sym, ap, subst, ℕ, suc, Bool, true, ◌==◌, cond, List, [], length, take, drop, get_or, slice_get, Some, inl, inr, refl, arith}
+use Rattle.std.proofs.Common.{◌≡◌, ◌≢◌, ◌<◌, ◌∙◌, sym, ap, subst, ℕ, suc, Bool, true, ◌==◌, cond, List, [], length}
+use Rattle.std.proofs.Common.{take, drop, get_or, slice_get, Some, inl, inr, refl, arith}
 use Rattle.std.specs.List.{All, list_all, position_or_len, remove}
 use Rattle.std.proofs.lemmas.Bool.{eq-eqb, ne_eqb, cases_eq, cases_lt, false≢true}
 use Rattle.std.proofs.lemmas.List.{get_or_past, get_or-set_same, get_or-set_other, nil_from_length}
@@ -17,7 +18,8 @@ use Rattle.request_store.specs.Stores.{Stored, filed_at, removed, with_filed}
 use Rattle.request_store.specs.Filing.{unused_filed, with_granted, without_want}
 use Rattle.table_reads.specs.Filing.{own_at, want_at, state_of}
 use Rattle.key_queues.specs.Kept.{KeptQueue, fits_next, admitted}
-use Rattle.key_queues.specs.States.{State, Stands, all_count, IsKept, FlagsAll, CountsAll, CountsBut, IsCounted, Renews, LetsIn, GivesUpAt, IsUsed, IsTable, Leaves, Extended, OpenAreUsed}
+use Rattle.key_queues.specs.States.{State, Stands, all_count, IsKept, FlagsAll, CountsAll, CountsBut, IsCounted, Renews}
+use Rattle.key_queues.specs.States.{LetsIn, GivesUpAt, IsUsed, IsTable, Leaves, Extended, OpenAreUsed}
 use Rattle.key_queues.specs.Tables.{is_counted, is_there}
 use Rattle.key_queues.proofs.Keeping.{letting_in_keeps, giving_up_keeps, leaving_keeps}
 use Rattle.key_queues.proofs.Moves.{there_without}

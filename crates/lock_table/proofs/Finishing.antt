@@ -1,5 +1,6 @@
 -- All that fits is counted once all changes are made.
-use Rattle.std.proofs.Common.{◌≡◌, ◌<◌, ◌+◌, ◌∙◌, sym, ap, subst, ℕ, suc, add-one, Bool, true, false, ◌&&◌, ◌==◌, List, [], ◌∷◌, length, drop, get_or, map, None, refl}
+use Rattle.std.proofs.Common.{◌≡◌, ◌<◌, ◌+◌, ◌∙◌, sym, ap, subst, ℕ, suc, add-one, Bool, true, false, ◌&&◌, ◌==◌}
+use Rattle.std.proofs.Common.{List, [], ◌∷◌, length, drop, get_or, map, None, refl}
 use Rattle.std.proofs.Math.Seq.{drop-cons}
 use Rattle.std.proofs.lemmas.Bool.{both_ways, eq-eqb, or_from, or_left, or_right}
 use Rattle.lock_queue.specs.declared.call.LockReply.TheVariants.{Done}

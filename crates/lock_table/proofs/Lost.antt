@@ -1,5 +1,6 @@
 -- Wants are found by their keys and leave.
-use Rattle.std.proofs.Common.{◌≡◌, ◌<◌, ◌∙◌, sym, ap, subst, ℕ, zero, suc, Bool, true, false, ◌==◌, ◌||◌, not, List, [], ◌∷◌, length, get_or, filter, slice_get, Some, refl, arith}
+use Rattle.std.proofs.Common.{◌≡◌, ◌<◌, ◌∙◌, sym, ap, subst, ℕ, zero, suc, Bool, true, false, ◌==◌, ◌||◌, not, List}
+use Rattle.std.proofs.Common.{[], ◌∷◌, length, get_or, filter, slice_get, Some, refl, arith}
 use Rattle.std.specs.List.{list_all, position_or_len, remove}
 use Rattle.std.proofs.lemmas.Bool.{both_ways, false_from_ne_true, false≢true, and_parts, ne_eqb}
 use Rattle.lock_queue.specs.declared.key.Key.{Key}

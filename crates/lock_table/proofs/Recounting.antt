@@ -1,5 +1,6 @@
 -- The wants of a queue, once a job's is changed.
-use Rattle.std.proofs.Common.{◌≡◌, ◌<◌, ◌∙◌, sym, ap, subst, ℕ, zero, suc, Bool, true, false, ◌&&◌, ◌||◌, ◌==◌, not, cond, List, [], ◌∷◌, length, take, drop, get_or, map, filter, Option, Some, None, is_some, refl}
+use Rattle.std.proofs.Common.{◌≡◌, ◌<◌, ◌∙◌, sym, ap, subst, ℕ, zero, suc, Bool, true, false, ◌&&◌, ◌||◌, ◌==◌, not, cond, List, []}
+use Rattle.std.proofs.Common.{◌∷◌, length, take, drop, get_or, map, filter, Option, Some, None, is_some, refl}
 use Rattle.std.specs.List.{All, list_all, list_any, position_or_len}
 use Rattle.std.proofs.lemmas.Bool.{and_from, and_parts, both_ways, eq-eqb, eqb-true, false_from_ne_true, not-true, or_right}
 use Rattle.lock_queue.specs.declared.key.Key.{Key}

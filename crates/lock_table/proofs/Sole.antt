@@ -1,5 +1,6 @@
 -- A job's only request leaves, whose only want is the only one that is named.
-use Rattle.std.proofs.Common.{◌≡◌, ◌≢◌, ◌∙◌, sym, ap, subst, ℕ, true, false, not, ◌||◌, ◌==◌, cond, List, [], ◌∷◌, length, filter, map, None, inl, inr, refl, arith, append-nil}
+use Rattle.std.proofs.Common.{◌≡◌, ◌≢◌, ◌∙◌, sym, ap, subst, ℕ, true, false, not, ◌||◌, ◌==◌, cond, List, [], ◌∷◌}
+use Rattle.std.proofs.Common.{length, filter, map, None, inl, inr, refl, arith, append-nil}
 use Rattle.std.proofs.lemmas.Bool.{cases_eq, eq-eqb, eqb-true, false_from_ne_true, or_left, or_cases}
 use Rattle.lock_queue.specs.declared.refusal.Refusal.TheVariants.{NotPresent}
 use Rattle.lock_queue.specs.declared.request.Request.{Request}

@@ -1,5 +1,6 @@
 -- Changes that are not refused are sound, and stay so while others are made.
-use Rattle.std.proofs.Common.{◌≡◌, ◌∙◌, sym, ap, subst, ℕ, zero, suc, Bool, true, false, ◌&&◌, ◌||◌, ◌==◌, not, cond, List, [], ◌∷◌, ◌++◌, drop, map, filter, Option, Some, None, is_some, inl, inr, refl, arith}
+use Rattle.std.proofs.Common.{◌≡◌, ◌∙◌, sym, ap, subst, ℕ, zero, suc, Bool, true, false, ◌&&◌, ◌||◌, ◌==◌, not, cond, List, [], ◌∷◌}
+use Rattle.std.proofs.Common.{◌++◌, drop, map, filter, Option, Some, None, is_some, inl, inr, refl, arith}
 use Rattle.std.specs.List.{All, list_all, list_any}
 use Rattle.std.proofs.lemmas.Bool.{and_from, and_parts, both_ways, eq-eqb, eqb-true, false_from_ne_true, not-false, not-true, or_left, or_parts, or_right}
 use Rattle.lock_queue.specs.declared.request.Request.{Request}

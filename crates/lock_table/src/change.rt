@@ -17,7 +17,8 @@ ghost use Rattle.table_reads.specs.Filing.{state_of, want_filed};
 ghost use Rattle.table_reads.specs.Reads.{request_at};
 ghost use Rattle.table_reads.specs.Whole.{AreRight, IsWhole, requests_in};
 ghost use Rattle.lock_table.specs.Turns.{Turned};
-ghost use Rattle.lock_table.specs.Changing.{Altered, AreSound, ExtendedAt, IsAltering, IsBetween, IsChanged, IsExtending, IsFreeAt, IsFullBut, IsSound, SparesPools, altered_at, changed_by, loses_by, want_then};
+ghost use Rattle.lock_table.specs.Changing.{Altered, AreSound, ExtendedAt, IsAltering, IsBetween, IsChanged, IsExtending, IsFreeAt};
+ghost use Rattle.lock_table.specs.Changing.{IsFullBut, IsSound, SparesPools, altered_at, changed_by, loses_by, want_then};
 
 use crate::steps::extend;
 use crate::turns::Turns;

@@ -3,7 +3,8 @@ ghost use Rattle.std.specs.Prelude.{◌≡◌, ◌<◌, ◌≤◌, ◌+◌, ◌=
 ghost use Rattle.std.specs.List.{All, position_or_len};
 ghost use Rattle.key_queues.specs.Kept.{admitted, fits_next};
 ghost use Rattle.key_queues.specs.Locks.{lock_at, uncounted, with_queue, without_place};
-ghost use Rattle.key_queues.specs.States.{CountsAll, CountsBut, all_count, Extended, FlagsAll, GivesUpAt, IsCounted, IsFull, IsKept, IsTable, IsUsed, LosesWant, OnlyShuts, Renews};
+ghost use Rattle.key_queues.specs.States.{CountsAll, CountsBut, all_count, Extended, FlagsAll, GivesUpAt, IsCounted, IsFull};
+ghost use Rattle.key_queues.specs.States.{IsKept, IsTable, IsUsed, LosesWant, OnlyShuts, Renews};
 ghost use Rattle.key_queues.specs.Tables.{is_there};
 ghost use Rattle.request_store.specs.Filing.{without_want};
 ghost use Rattle.request_store.specs.Stores.{filed_at};

@@ -18,11 +18,11 @@ const ROWS: [([&str; 3], &str); 9] = [
     (["--version", "", ""], "lockmon 0.1.0"),
     (
         ["run", "--blocks", "257"],
-        "invalid value '257' for '--blocks <N>': a number from 1 to 256",
+        "invalid value '257' for '--blocks <N>': a number from 1 to 256 is wanted",
     ),
     (
         ["run", "--quantum", "0"],
-        "invalid value '0' for '--quantum <N>': a number from 1 to 60",
+        "invalid value '0' for '--quantum <N>': a number from 1 to 60 is wanted",
     ),
 ];
 

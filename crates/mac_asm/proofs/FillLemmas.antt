@@ -1,5 +1,6 @@
 -- The words of all lines put into cells, and the image that comes of them.
-use Rattle.std.proofs.Common.{◌≡◌, ℕ, ◌+◌, ◌<◌, ◌≤◌, List, [], ◌∷◌, length, take, drop, drop_of_length-le, get_or, min, Option, Some, None, Result, Ok, Err, Bool, true, false, cond, refl, sym, ap, ◌∙◌, inl, inr, arith}
+use Rattle.std.proofs.Common.{◌≡◌, ℕ, ◌+◌, ◌<◌, ◌≤◌, List, [], ◌∷◌, length, take, drop, drop_of_length-le, get_or, min, Option, Some}
+use Rattle.std.proofs.Common.{None, Result, Ok, Err, Bool, true, false, cond, refl, sym, ap, ◌∙◌, inl, inr, arith}
 use Rattle.std.specs.Prelude.{option_map, is_some, ◌&&◌, slice_get, unwrap_or}
 use Rattle.std.specs.List.{last_or}
 use Rattle.std.proofs.lemmas.List.{drop_more, take_all}

@@ -1,6 +1,7 @@
 -- What it is for an image to be the assembly of a source (MACRO-10 Assembler Manual, this project's profile): one map from
 -- labels to numbers satisfies all lines at once.
-use Rattle.std.specs.Prelude.{◌≡◌, ℕ, ◌^◌, Bool, true, nat_eq, nat_lt, nat_le, ◌&&◌, List, [], ◌∷◌, ◌++◌, length, replicate, flat_map, filter_map, zip, Option, Some, None, is_some, option_map, Ok}
+use Rattle.std.specs.Prelude.{◌≡◌, ℕ, ◌^◌, Bool, true, nat_eq, nat_lt, nat_le, ◌&&◌, List, [], ◌∷◌, ◌++◌, length, replicate}
+use Rattle.std.specs.Prelude.{flat_map, filter_map, zip, Option, Some, None, is_some, option_map, Ok}
 use Rattle.std.specs.List.{range_with_len, last_or, list_all}
 use Rattle.std.specs.Map.{lookup, keys_of, values_of}
 use Rattle.mac_text.specs.Lines.{program_of}
@@ -11,7 +12,8 @@ use Rattle.mac_text.specs.declared.syntax.Statement.TheVariants as statements
 use Rattle.mac_text.specs.declared.syntax.Line.{Line}
 use Rattle.mac_layout.specs.Values.{◌>>=◌, Names}
 use Rattle.mac_asm.specs.Words.{words_of, start_of}
-use Rattle.mac_layout.specs.Places.{Labels, first_place, are_apart, count_of, Located, located, place_after, labels_at, literal_sizes, places_from, Placed, placed, are_settled}
+use Rattle.mac_layout.specs.Places.{Labels, first_place, are_apart, count_of, Located, located, place_after, labels_at}
+use Rattle.mac_layout.specs.Places.{literal_sizes, places_from, Placed, placed, are_settled}
 
 -- words with their places, by rising place, and the start
 pub record Assembled : Type 0 where

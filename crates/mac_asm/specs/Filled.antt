@@ -1,5 +1,6 @@
 -- Words put into the cells of a memory, and how an answer of the assembler tells what a source comes to.
-use Rattle.std.specs.Prelude.{◌≡◌, ℕ, ◌+◌, ◌-◌, ◌^◌, Bool, true, List, [], ◌∷◌, ◌++◌, length, set, Option, Some, None, option_map, Result, Ok, Err, unwrap_or, is_some, ◌&&◌, false, replicate, if◌then◌else◌}
+use Rattle.std.specs.Prelude.{◌≡◌, ℕ, ◌+◌, ◌-◌, ◌^◌, Bool, true, List, [], ◌∷◌, ◌++◌, length, set, Option, Some, None, option_map}
+use Rattle.std.specs.Prelude.{Result, Ok, Err, unwrap_or, is_some, ◌&&◌, false, replicate, if◌then◌else◌}
 use Rattle.word36.specs.declared.image.Image.{Image}
 use Rattle.mac_layout.specs.declared.error.AsmError.{AsmError}
 use Rattle.mac_layout.specs.declared.error.AsmError.TheVariants as errors

@@ -1,6 +1,7 @@
 -- What a source comes to (this project's profile): its image, or the first line at fault with the least code of what is
 -- wrong with it. The lines are laid out from above first; where that is right, their words are worked out.
-use Rattle.std.specs.Prelude.{ℕ, ◌+◌, Bool, true, false, is_some, ◌&&◌, List, [], ◌∷◌, ◌++◌, length, take, drop, reverse, unwrap_or, zip, Option, Some, None, Result, Ok, Err, if◌then◌else◌}
+use Rattle.std.specs.Prelude.{ℕ, ◌+◌, Bool, true, false, is_some, ◌&&◌, List, [], ◌∷◌, ◌++◌, length, take, drop, reverse}
+use Rattle.std.specs.Prelude.{unwrap_or, zip, Option, Some, None, Result, Ok, Err, if◌then◌else◌}
 use Rattle.std.specs.List.{list_all}
 use Rattle.mac_text.specs.Lines.{program_of, is_end}
 use Rattle.mac_text.specs.declared.syntax.Statement.{Statement}

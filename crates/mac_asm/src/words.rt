@@ -3,7 +3,9 @@
 ghost use Rattle.std.specs.Prelude.{◌≡◌, ◌<◌, ◌≤◌, ◌^◌, ◌++◌, [], ◌∷◌, Some, None, IfOk, IfSome, length, true, false};
 ghost use Rattle.mac_layout.specs.Values.{names_of, is_known};
 ghost use Rattle.mac_layout.specs.TextSizes.{words_in};
-ghost use Rattle.mac_asm.specs.Words.{fitted, word_of, half_of, register_of, start_of, operand_of, or_zero, AreFields, pointer_word, text_word, is_missing, with_accumulator, with_operand, instruction_of, at_most, position_of, pointer_of, halves_of, iowd_of, words_of_all, text_words_from, is_known_if, is_operand_known, are_known, Adds};
+ghost use Rattle.mac_asm.specs.Words.{fitted, word_of, half_of, register_of, start_of, operand_of, or_zero, AreFields, pointer_word, text_word};
+ghost use Rattle.mac_asm.specs.Words.{is_missing, with_accumulator, with_operand, instruction_of, at_most, position_of, pointer_of, halves_of, iowd_of};
+ghost use Rattle.mac_asm.specs.Words.{words_of_all, text_words_from, is_known_if, is_operand_known, are_known, Adds};
 ghost use Rattle.std.specs.List.{list_all};
 
 use crate::texts::{ascii_word, sixbit_word};

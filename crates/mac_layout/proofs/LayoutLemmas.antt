@@ -1,18 +1,22 @@
 -- Marks, places and labels while lines are laid out.
-use Rattle.std.proofs.Common.{◌≡◌, ◌∙◌, sym, ap, refl, subst, ℕ, zero, suc, ◌+◌, ◌-◌, ◌^◌, ◌<◌, ◌≤◌, ◌⊎◌, inl, inr, Bool, true, false, not, ◌&&◌, ◌||◌, ◌==◌, cond, nat_eq, nat_lt, nat_le, IfOk, List, [], ◌∷◌, ◌++◌, length, take, drop, set, replicate, get_or, min, map, is_some, Option, Some, None, Result, Ok, Err, append-nil, arith, length-append, length-drop, append_assoc}
+use Rattle.std.proofs.Common.{◌≡◌, ◌∙◌, sym, ap, refl, subst, ℕ, zero, suc, ◌+◌, ◌-◌, ◌^◌, ◌<◌, ◌≤◌, ◌⊎◌, inl, inr, Bool, true, false, not, ◌&&◌, ◌||◌, ◌==◌}
+use Rattle.std.proofs.Common.{cond, nat_eq, nat_lt, nat_le, IfOk, List, [], ◌∷◌, ◌++◌, length, take, drop, set, replicate, get_or, min, map, is_some, Option}
+use Rattle.std.proofs.Common.{Some, None, Result, Ok, Err, append-nil, arith, length-append, length-drop, append_assoc}
 use Rattle.std.specs.List.{range_with_len, list_any, between}
 use Rattle.std.specs.Map.{lookup, keys_of}
 use Rattle.indexmap.specs.IndexMap.{insert_entry}
 use Rattle.std.proofs.lemmas.Map.Made.{is_some-lookup}
 use Rattle.std.proofs.lemmas.Bool.{and_parts}
-use Rattle.std.proofs.lemmas.List.{at_drop_all, drop_more, take_more, take_all, take-append-drop, map-append, length-take-le, length-replicate, length-set, get_or-set_same, get_or-set_other, get_or-take, get_or-drop, get_or-replicate, get_or_append_left, get_or-append_right}
+use Rattle.std.proofs.lemmas.List.{at_drop_all, drop_more, take_more, take_all, take-append-drop, map-append, length-take-le, length-replicate, length-set}
+use Rattle.std.proofs.lemmas.List.{get_or-set_same, get_or-set_other, get_or-take, get_or-drop, get_or-replicate, get_or_append_left, get_or-append_right}
 use Rattle.std.proofs.lemmas.List.Folds.{list_any-append}
 use Rattle.std.proofs.lemmas.Bool.Decides.{nat_tests, leb_tells, eqb_tells}
 use Rattle.mac_layout.specs.declared.error.AsmCode.{AsmCode}
 use Rattle.mac_layout.specs.declared.error.AsmCode.TheVariants.{DefinedTwice, DoesNotFit, PlaceTooHigh}
 use Rattle.mac_layout.specs.Places.{are_apart, Labels, places_from}
 use Rattle.mac_layout.specs.Faults.{Fault, unless_fault, number_of, least, code_if, code_of}
-use Rattle.mac_layout.specs.LaidOut.{Layout, checked_count, checked_size, literal_size, with_labels, labels_code, statement_code, with_statement, line_code, with_line, laid_out, count_or, is_taken, places_in, taking, taking_size, taking_all}
+use Rattle.mac_layout.specs.LaidOut.{Layout, checked_count, checked_size, literal_size, with_labels, labels_code, statement_code, with_statement}
+use Rattle.mac_layout.specs.LaidOut.{line_code, with_line, laid_out, count_or, is_taken, places_in, taking, taking_size, taking_all}
 use Rattle.mac_layout.specs.Layouts.{AreMarks, StandsFor, Lays, Defines, with_size}
 use Rattle.mac_text.specs.declared.syntax.SignedTerm.{SignedTerm}
 use Rattle.mac_text.specs.declared.syntax.Data.{Data}

@@ -1,6 +1,7 @@
 -- Lines laid out from above (this project's profile): where the labels and the words stand, or the first line that cannot
 -- be laid out with the least code of what is wrong with it.
-use Rattle.std.specs.Prelude.{ℕ, ℤ, ◌+◌, ◌^◌, Bool, not, nat_lt, nat_le, nat_eq, ◌-◌, ◌&&◌, ◌==◌, List, [], ◌∷◌, ◌++◌, length, map, Option, Some, None, Result, Ok, Err, if◌then◌else◌}
+use Rattle.std.specs.Prelude.{ℕ, ℤ, ◌+◌, ◌^◌, Bool, not, nat_lt, nat_le, nat_eq, ◌-◌, ◌&&◌, ◌==◌, List, [], ◌∷◌, ◌++◌}
+use Rattle.std.specs.Prelude.{length, map, Option, Some, None, Result, Ok, Err, if◌then◌else◌}
 use Rattle.std.specs.List.{range_with_len, list_any}
 use Rattle.std.specs.Map.{keys_of}
 use Rattle.mac_text.specs.declared.syntax.SignedTerm.{SignedTerm}

@@ -5,7 +5,8 @@ ghost use Rattle.std.specs.List.{range_with_len, list_any};
 ghost use Rattle.std.specs.Map.{keys_of};
 ghost use Rattle.mac_layout.specs.Places.{are_apart, places_from};
 ghost use Rattle.mac_layout.specs.Faults.{code_if};
-ghost use Rattle.mac_layout.specs.LaidOut.{Layout as Above, checked_count, checked_size, literal_size, taking, places_in, taking_all, taking_size, count_or, statement_code, with_statement, line_code, with_line, empty_layout};
+ghost use Rattle.mac_layout.specs.LaidOut.{Layout as Above, checked_count, checked_size, literal_size, taking, places_in, taking_all, taking_size};
+ghost use Rattle.mac_layout.specs.LaidOut.{count_or, statement_code, with_statement, line_code, with_line, empty_layout};
 ghost use Rattle.mac_layout.specs.declared.error.AsmCode.TheVariants.{DoesNotFit, PlaceTooHigh};
 ghost use Rattle.mac_layout.specs.Layouts.{AreMarks, StandsFor, Defines, Lays, with_size, IsLayoutOf, Refuses};
 

@@ -1,5 +1,6 @@
 -- What `ka_isa` writes of a word is read back as a statement with its fields.
-use Rattle.std.proofs.Common.{◌≡◌, ℕ, zero, suc, ◌+◌, ◌-◌, ◌*◌, ◌/◌, ◌^◌, ◌<◌, ◌==◌, ◌&&◌, List, [], ◌∷◌, ◌++◌, Option, Some, None, Ok, Bool, true, false, cond, length, take, drop, refl, sym, ap, ◌∙◌, append_assoc, append-nil, arith}
+use Rattle.std.proofs.Common.{◌≡◌, ℕ, zero, suc, ◌+◌, ◌-◌, ◌*◌, ◌/◌, ◌^◌, ◌<◌, ◌==◌, ◌&&◌, List, [], ◌∷◌, ◌++◌, Option, Some, None, Ok, Bool}
+use Rattle.std.proofs.Common.{true, false, cond, length, take, drop, refl, sym, ap, ◌∙◌, append_assoc, append-nil, arith}
 use Rattle.std.specs.Prelude.{codes, is_none}
 use Rattle.std.specs.List.{list_all, All, prefix_len, slice_index}
 use Rattle.std.specs.Str.Lines.{lines, lines_of_parts}
@@ -33,7 +34,8 @@ use Rattle.mac_text.specs.declared.syntax.Statement.{Statement}
 use Rattle.mac_text.specs.Scan.{is_at_end, items_at}
 use Rattle.mac_text.specs.Lines.{is_label, is_ascii, next_label_at, optional_statement_at, whole_statement_at, literals_of, line_of, lines_from, program_of}
 use Rattle.mac_text.specs.Printed.{source_of_word, line_of_word, number_alone, unless_zero, instruction_with, named_data}
-use Rattle.mac_text.proofs.NumberTexts.{place, word_read, behind_read, is_printed, word_is_printed, octal_is_printed, EndsExpression, octal_begins, octal_read, optional_read, optional_none}
+use Rattle.mac_text.proofs.NumberTexts.{place, word_read, behind_read, is_printed, word_is_printed, octal_is_printed}
+use Rattle.mac_text.proofs.NumberTexts.{EndsExpression, octal_begins, octal_read, optional_read, optional_none}
 
 -- a blank before a text does not count
 after_blank : (text : List ℕ) → after_blanks (32 ∷ text) ≡ after_blanks text

@@ -6,7 +6,8 @@ use Rattle.mac_text.specs.Keywords.{form_of}
 use Rattle.mac_text.specs.Lines.{gives_words}
 use Rattle.mac_text.specs.Names.{symbol_of}
 use Rattle.mac_text.specs.Written
-use Rattle.mac_text.specs.Written.{Blanks, NameText, ExpressionText, OperandsText, StatementText, LiteralText, LineText, IsLine, IsStatement, literal_text, more_before, items_before, labels_before, more_literals, more_given, items_literals, items_given, line_text, line_given}
+use Rattle.mac_text.specs.Written.{Blanks, NameText, ExpressionText, OperandsText, StatementText, LiteralText, LineText, IsLine, IsStatement, literal_text}
+use Rattle.mac_text.specs.Written.{more_before, items_before, labels_before, more_literals, more_given, items_literals, items_given, line_text, line_given}
 use Rattle.mac_text.specs.WrittenExample.{IsExampleWritten, example_text, example_line}
 use Rattle.mac_text.specs.declared.syntax.Sign.TheVariants.{Minus}
 use Rattle.mac_text.specs.declared.syntax.TextForm.TheVariants.{Asciz}

@@ -1,5 +1,6 @@
 -- Lines are read as they are written.
-use Rattle.std.proofs.Common.{◌≡◌, ℕ, zero, suc, ◌≤◌, ◌==◌, ◌&&◌, not, List, [], ◌∷◌, ◌++◌, Option, Some, None, Bool, true, false, length, length-append, map, refl, ap, subst, ◌∙◌, append-nil, arith}
+use Rattle.std.proofs.Common.{◌≡◌, ℕ, zero, suc, ◌≤◌, ◌==◌, ◌&&◌, not, List, [], ◌∷◌, ◌++◌, Option, Some, None, Bool, true}
+use Rattle.std.proofs.Common.{false, length, length-append, map, refl, ap, subst, ◌∙◌, append-nil, arith}
 use Rattle.std.specs.Prelude.{◌||◌}
 use Rattle.std.specs.List.{list_all}
 use Rattle.std.proofs.lemmas.Bool.{and_parts, not-true}
@@ -9,7 +10,10 @@ use Rattle.mac_text.specs.Scan.{◌>>=◌, Scan, after_blanks, skipped, begins_w
 use Rattle.mac_text.specs.Texts.{after_word, literal_len}
 use Rattle.mac_text.specs.Lines.{scan_of, is_label, next_label_at, whole_statement_at, literal_data, literal_of, literals_of, is_ascii, line_of}
 use Rattle.mac_text.specs.Written
-use Rattle.mac_text.specs.Written.{Blanks, NameText, SignText, TermText, MoreText, ExpressionText, StatementText, LiteralText, LabelText, LineText, IsStatement, IsStatementOr, IsLine, parts_name, before_if, sign_before, sign_character, term_before, more_before, expression_before, form_before, operands_before, statement_before, statement_literals, statement_given, nothing_of, literal_text, labels_before, comment_text, line_text, literals_written, line_given}
+use Rattle.mac_text.specs.Written.{Blanks, NameText, SignText, TermText, MoreText, ExpressionText, StatementText, LiteralText, LabelText, LineText}
+use Rattle.mac_text.specs.Written.{IsStatement, IsStatementOr, IsLine, parts_name, before_if, sign_before, sign_character, term_before, more_before}
+use Rattle.mac_text.specs.Written.{expression_before, form_before, operands_before, statement_before, statement_literals, statement_given, nothing_of}
+use Rattle.mac_text.specs.Written.{literal_text, labels_before, comment_text, line_text, literals_written, line_given}
 use Rattle.mac_text.specs.declared.syntax.Sign.{Sign}
 use Rattle.mac_text.specs.declared.syntax.Sign.TheVariants.{Plus, Minus}
 use Rattle.mac_text.specs.declared.syntax.Data.{Data}
@@ -18,7 +22,8 @@ use Rattle.mac_text.proofs.ItemLemmas.{one_more, no_more}
 use Rattle.mac_text.proofs.NumberTexts.{word_read, behind_read}
 use Rattle.mac_text.proofs.WrittenTerms.{skip_blanks, skip_to, firm_stays, word_begins, name_some, digits_are_characters, drop_further}
 use Rattle.mac_text.proofs.WrittenLiterals.{cut_nothing, literal_cut}
-use Rattle.mac_text.proofs.WrittenStatements.{EndsStatement, statement_ends, statement_ends_blank, blanks_part, parts_word_end, parts_form, parts_operands, digits_no_name, firm_case, whole_read, nothing_read}
+use Rattle.mac_text.proofs.WrittenStatements.{EndsStatement, statement_ends, statement_ends_blank, blanks_part, parts_word_end, parts_form}
+use Rattle.mac_text.proofs.WrittenStatements.{parts_operands, digits_no_name, firm_case, whole_read, nothing_read}
 
 -- ---- literals
 

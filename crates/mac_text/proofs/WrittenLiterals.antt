@@ -1,5 +1,6 @@
 -- The bracket that ends a literal is found: its statement holds none but in a text.
-use Rattle.std.proofs.Common.{◌≡◌, ℕ, ◌+◌, ◌-◌, ◌<◌, ◌≤◌, ◌==◌, not, List, [], ◌∷◌, ◌++◌, Option, Some, None, Bool, true, false, length, length-append, refl, sym, ap, ◌∙◌, append_assoc, arith}
+use Rattle.std.proofs.Common.{◌≡◌, ℕ, ◌+◌, ◌-◌, ◌<◌, ◌≤◌, ◌==◌, not, List, [], ◌∷◌, ◌++◌, Option, Some, None, Bool, true}
+use Rattle.std.proofs.Common.{false, length, length-append, refl, sym, ap, ◌∙◌, append_assoc, arith}
 use Rattle.std.specs.Prelude.{◌||◌, is_none, is_some}
 use Rattle.std.specs.List.{list_all, prefix_len}
 use Rattle.std.specs.Str.{bytes_eq}
@@ -15,7 +16,12 @@ use Rattle.mac_text.specs.Scan.{after_blanks, word_of}
 use Rattle.mac_text.specs.Texts.{after_word, text_at, behind_form, behind_text, literal_len}
 use Rattle.mac_text.specs.Expressions.{radix_of_mark}
 use Rattle.mac_text.specs.Written
-use Rattle.mac_text.specs.Written.{Blanks, NameText, DigitsText, MarkedText, NumberText, SignText, TermText, MoreText, ExpressionText, IndexText, OperandText, AccumulatorText, OperandsText, ItemText, PositionText, QuotedText, FormText, StatementText, LiteralText, IsStatement, parts_name, before_if, marked_before, number_before, sign_before, sign_character, term_before, more_before, expression_before, index_before, indirect_before, operand_before, accumulator_before, operands_before, items_before, position_before, quoted_before, form_before, form_written, tells_nothing, is_bare, statement_before, statement_given, nothing_of, literal_text}
+use Rattle.mac_text.specs.Written.{Blanks, NameText, DigitsText, MarkedText, NumberText, SignText, TermText, MoreText, ExpressionText, IndexText, OperandText}
+use Rattle.mac_text.specs.Written.{AccumulatorText, OperandsText, ItemText, PositionText, QuotedText, FormText, StatementText, LiteralText, IsStatement}
+use Rattle.mac_text.specs.Written.{parts_name, before_if, marked_before, number_before, sign_before, sign_character, term_before, more_before}
+use Rattle.mac_text.specs.Written.{expression_before, index_before, indirect_before, operand_before, accumulator_before, operands_before, items_before}
+use Rattle.mac_text.specs.Written.{position_before, quoted_before, form_before, form_written, tells_nothing, is_bare, statement_before, statement_given}
+use Rattle.mac_text.specs.Written.{nothing_of, literal_text}
 use Rattle.mac_text.specs.declared.keyword.Form.{Form}
 use Rattle.mac_text.specs.declared.keyword.Form.TheVariants as forms
 use Rattle.mac_text.specs.declared.syntax.TextForm.{TextForm}

@@ -1,5 +1,6 @@
 -- Operands, lists and numbers are read as they are written.
-use Rattle.std.proofs.Common.{◌≡◌, ℕ, zero, suc, ◌≤◌, ◌==◌, not, List, [], ◌∷◌, ◌++◌, Option, Some, None, Bool, true, false, length, length-append, length-drop, map, refl, sym, ap, ◌∙◌, arith}
+use Rattle.std.proofs.Common.{◌≡◌, ℕ, zero, suc, ◌≤◌, ◌==◌, not, List, [], ◌∷◌, ◌++◌, Option, Some, None, Bool, true, false}
+use Rattle.std.proofs.Common.{length, length-append, length-drop, map, refl, sym, ap, ◌∙◌, arith}
 use Rattle.std.specs.Prelude.{◌||◌, is_none, is_some, option_map}
 use Rattle.std.specs.List.{prefix_len}
 use Rattle.std.proofs.lemmas.Bool.{or_parts, ne_eqb, false≢true}
@@ -10,16 +11,24 @@ use Rattle.mac_text.specs.Scan.{Scan, after_blanks, skipped, begins_with, begins
 use Rattle.mac_text.specs.Texts.{literal_len}
 use Rattle.mac_text.specs.Numbers.{number_of}
 use Rattle.mac_text.specs.Expressions.{expression_at, optional_at, marked_at}
-use Rattle.mac_text.specs.Statements.{index_at, operand_at, operands_at, is_allowed, instruction_at, pair_at, next_expression_at, expressions_at, decimal_at, number_at, point_at}
+use Rattle.mac_text.specs.Statements.{index_at, operand_at, operands_at, is_allowed, instruction_at, pair_at}
+use Rattle.mac_text.specs.Statements.{next_expression_at, expressions_at, decimal_at, number_at, point_at}
 use Rattle.mac_text.specs.Written
-use Rattle.mac_text.specs.Written.{Blanks, DigitsText, MarkedText, NumberText, SignText, MoreText, TermText, ExpressionText, IndexText, OperandText, AccumulatorText, OperandsText, PairText, ItemText, PositionText, PointText, allows, before_if, marked_before, sign_before, sign_character, number_before, number_given, term_before, more_before, expression_before, index_before, indirect_before, operand_before, accumulator_before, operands_before, pair_before, items_before, position_before, point_before, expression_literals, expression_given, optional_literals, optional_given, index_expression, operand_literals, operand_given, accumulator_expression, operands_literals, instruction_given, pair_literals, right_given, items_literals, items_given}
+use Rattle.mac_text.specs.Written.{Blanks, DigitsText, MarkedText, NumberText, SignText, MoreText, TermText, ExpressionText, IndexText, OperandText}
+use Rattle.mac_text.specs.Written.{AccumulatorText, OperandsText, PairText, ItemText, PositionText, PointText, allows, before_if, marked_before, sign_before}
+use Rattle.mac_text.specs.Written.{sign_character, number_before, number_given, term_before, more_before, expression_before, index_before, indirect_before}
+use Rattle.mac_text.specs.Written.{operand_before, accumulator_before, operands_before, pair_before, items_before, position_before, point_before}
+use Rattle.mac_text.specs.Written.{expression_literals, expression_given, optional_literals, optional_given, index_expression, operand_literals}
+use Rattle.mac_text.specs.Written.{operand_given, accumulator_expression, operands_literals, instruction_given, pair_literals, right_given, items_literals}
+use Rattle.mac_text.specs.Written.{items_given}
 use Rattle.mac_text.specs.declared.syntax.SignedTerm.{SignedTerm}
 use Rattle.mac_text.specs.declared.syntax.Operand.{Operand}
 use Rattle.mac_text.specs.declared.syntax.Data.TheVariants as data_of
 use Rattle.mac_text.proofs.ItemLemmas.{one_more, no_more}
 use Rattle.mac_text.proofs.WordLemmas.{skip_twice}
 use Rattle.mac_text.proofs.NumberTexts.{ends_word, word_read}
-use Rattle.mac_text.proofs.WrittenTerms.{skip_to, blanks_end, EndsSum, word_begins, digits_are_characters, digits_read, marked_is_read, expression_read, expression_begins, expression_behind_blanks, longer_term}
+use Rattle.mac_text.proofs.WrittenTerms.{skip_to, blanks_end, EndsSum, word_begins, digits_are_characters, digits_read, marked_is_read}
+use Rattle.mac_text.proofs.WrittenTerms.{expression_read, expression_begins, expression_behind_blanks, longer_term}
 
 -- ---- what comes next
 

@@ -1,5 +1,6 @@
 -- Sources are read as they are written.
-use Rattle.std.proofs.Common.{◌≡◌, ℕ, ◌+◌, ◌-◌, ◌<◌, ◌≤◌, ◌==◌, List, [], ◌∷◌, ◌++◌, Option, Some, None, Result, Ok, Err, Bool, true, false, cond, length, length-append, take, refl, sym, ap, subst, ◌∙◌, append_assoc, append-nil, arith}
+use Rattle.std.proofs.Common.{◌≡◌, ℕ, ◌+◌, ◌-◌, ◌<◌, ◌≤◌, ◌==◌, List, [], ◌∷◌, ◌++◌, Option, Some, None, Result, Ok, Err, Bool, true, false, cond}
+use Rattle.std.proofs.Common.{length, length-append, take, refl, sym, ap, subst, ◌∙◌, append_assoc, append-nil, arith}
 use Rattle.std.specs.Prelude.{◌&&◌, nat_le, slice_index}
 use Rattle.std.specs.List.{All, list_all, slice_split}
 use Rattle.std.specs.Str.Lines.{lines, lines_of_parts, strip_carriage_return}
@@ -8,7 +9,8 @@ use Rattle.std.proofs.lemmas.Bool.{not-true, and_parts, leb-true, ne_eqb}
 use Rattle.std.proofs.lemmas.List.Sums.{AllPass-from_list_all}
 use Rattle.std.proofs.lemmas.List.Splits.{slice_split_at, slice_split_none}
 use Rattle.mac_text.specs.Lines.{line_of, lines_from, program_of, radix_of, radix_after, is_end, line_then, with_line}
-use Rattle.mac_text.specs.WrittenSource.{LineEnd, Feed, ReturnAndFeed, end_before, is_line_character, ends_with_return, IsOneLine, SourceLine, source_line_text, source_line_given, source_before, source_given, radix_behind, GoOn}
+use Rattle.mac_text.specs.WrittenSource.{LineEnd, Feed, ReturnAndFeed, end_before, is_line_character, ends_with_return, IsOneLine, SourceLine}
+use Rattle.mac_text.specs.WrittenSource.{source_line_text, source_line_given, source_before, source_given, radix_behind, GoOn}
 use Rattle.mac_text.specs.declared.syntax.Statement.{Statement}
 use Rattle.mac_text.specs.declared.syntax.Statement.TheVariants as statements
 use Rattle.mac_text.specs.declared.syntax.Line.{Line}

@@ -1,5 +1,6 @@
 -- Statements are read as they are written.
-use Rattle.std.proofs.Common.{◌≡◌, ℕ, suc, ◌+◌, ◌<◌, ◌≤◌, ◌==◌, ◌&&◌, not, List, [], ◌∷◌, ◌++◌, Option, Some, None, Bool, true, false, length, length-append, map, take, drop, refl, sym, ap, subst, ◌∙◌, append-nil, arith, eq-eqb}
+use Rattle.std.proofs.Common.{◌≡◌, ℕ, suc, ◌+◌, ◌<◌, ◌≤◌, ◌==◌, ◌&&◌, not, List, [], ◌∷◌, ◌++◌, Option, Some, None, Bool, true, false, length}
+use Rattle.std.proofs.Common.{length-append, map, take, drop, refl, sym, ap, subst, ◌∙◌, append-nil, arith, eq-eqb}
 use Rattle.std.specs.Prelude.{◌||◌, is_none, is_some, nat_lt, option_map, position}
 use Rattle.std.specs.List.{list_all, prefix_len}
 use Rattle.std.proofs.lemmas.Bool.{and_parts, not-true, ne_eqb}
@@ -17,7 +18,12 @@ use Rattle.mac_text.specs.Expressions.{expression_at}
 use Rattle.mac_text.specs.Statements.{instruction_at, value_at, with_data, form_at, worded_at, statement_at}
 use Rattle.mac_text.specs.Lines.{optional_statement_at, whole_statement_at}
 use Rattle.mac_text.specs.Written
-use Rattle.mac_text.specs.Written.{Blanks, DigitsText, NumberText, SignText, TermText, ExpressionText, IndexText, OperandText, AccumulatorText, OperandsText, PairText, QuotedText, TitleText, FormText, StatementText, IsStatement, parts_name, allows, before_if, sign_before, sign_character, number_before, term_before, more_before, expression_before, index_before, indirect_before, operand_before, accumulator_before, operands_before, quoted_before, form_written, form_before, form_literals, form_given, expression_literals, expression_given, tells_nothing, is_bare, statement_before, statement_literals, statement_given, comment_text}
+use Rattle.mac_text.specs.Written.{Blanks, DigitsText, NumberText, SignText, TermText, ExpressionText, IndexText, OperandText, AccumulatorText, OperandsText}
+use Rattle.mac_text.specs.Written.{PairText, QuotedText, TitleText, FormText, StatementText, IsStatement, parts_name, allows, before_if, sign_before}
+use Rattle.mac_text.specs.Written.{sign_character, number_before, term_before, more_before, expression_before, index_before, indirect_before, operand_before}
+use Rattle.mac_text.specs.Written.{accumulator_before, operands_before, quoted_before, form_written, form_before, form_literals, form_given}
+use Rattle.mac_text.specs.Written.{expression_literals, expression_given, tells_nothing, is_bare, statement_before, statement_literals, statement_given}
+use Rattle.mac_text.specs.Written.{comment_text}
 use Rattle.mac_text.specs.declared.keyword.Form.{Form}
 use Rattle.mac_text.specs.declared.syntax.SignedTerm.{SignedTerm}
 use Rattle.mac_text.specs.declared.syntax.Sign.{Sign}
@@ -29,8 +35,10 @@ use Rattle.mac_text.specs.declared.syntax.Statement.TheVariants as statements
 use Rattle.mac_text.proofs.WordLemmas.{skip_twice}
 use Rattle.mac_text.proofs.DigitLemmas.{digit_is_digit, no_name}
 use Rattle.mac_text.proofs.NumberTexts.{ends_word, word_read}
-use Rattle.mac_text.proofs.WrittenTerms.{skip_to, firm_stays, is_firm, blanks_end, EndsSum, word_begins, name_some, digits_are_characters, drop_further, more_end, term_begins, expression_read, expression_begins, expression_behind_blanks}
-use Rattle.mac_text.proofs.WrittenParts.{left, EndsPart, part_ends_sum, sum_ends_at, begun_not, index_rest, index_rest_blanks, instruction_read, optional_read, pair_read, list_read, number_read, point_rest, point_read, point_rest_blanks}
+use Rattle.mac_text.proofs.WrittenTerms.{skip_to, firm_stays, is_firm, blanks_end, EndsSum, word_begins, name_some, digits_are_characters, drop_further}
+use Rattle.mac_text.proofs.WrittenTerms.{more_end, term_begins, expression_read, expression_begins, expression_behind_blanks}
+use Rattle.mac_text.proofs.WrittenParts.{left, EndsPart, part_ends_sum, sum_ends_at, begun_not, index_rest, index_rest_blanks, instruction_read}
+use Rattle.mac_text.proofs.WrittenParts.{optional_read, pair_read, list_read, number_read, point_rest, point_read, point_rest_blanks}
 
 -- ---- texts
 

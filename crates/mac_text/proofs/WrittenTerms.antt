@@ -1,5 +1,6 @@
 -- Terms and expressions are read as they are written.
-use Rattle.std.proofs.Common.{◌≡◌, ℕ, zero, suc, ◌+◌, ◌<◌, ◌≤◌, ◌==◌, not, List, [], ◌∷◌, ◌++◌, Option, Some, None, Bool, true, false, length, length-append, map, drop, refl, sym, ap, ◌∙◌, arith}
+use Rattle.std.proofs.Common.{◌≡◌, ℕ, zero, suc, ◌+◌, ◌<◌, ◌≤◌, ◌==◌, not, List, [], ◌∷◌, ◌++◌, Option, Some, None, Bool, true}
+use Rattle.std.proofs.Common.{false, length, length-append, map, drop, refl, sym, ap, ◌∙◌, arith}
 use Rattle.std.specs.Prelude.{unwrap_or, ◌||◌}
 use Rattle.std.specs.List.{list_all, prefix_len}
 use Rattle.std.proofs.lemmas.Bool.{and_parts, not-true, ne_eqb, false≢true}
@@ -12,9 +13,12 @@ use Rattle.mac_text.specs.Names.{is_name, symbol_of}
 use Rattle.mac_text.specs.Numbers.{is_digit_of, number_of}
 use Rattle.mac_text.specs.Scan.{Scan, after_blanks, skipped, begins_with, begins_expression, word_of, items_at}
 use Rattle.mac_text.specs.Texts.{literal_len}
-use Rattle.mac_text.specs.Expressions.{radix_of_mark, term_of_word, word_term_at, marked_at, literal_at, term_at, sign_at, signed_at, next_term_at, expression_at}
+use Rattle.mac_text.specs.Expressions.{radix_of_mark, term_of_word, word_term_at, marked_at, literal_at, term_at}
+use Rattle.mac_text.specs.Expressions.{sign_at, signed_at, next_term_at, expression_at}
 use Rattle.mac_text.specs.Written
-use Rattle.mac_text.specs.Written.{Blanks, NameText, DigitsText, MarkedText, TermText, SignText, MoreText, ExpressionText, marked_before, marked_number, before_if, sign_character, sign_before, sign_given, term_before, more_before, expression_before, term_literals, term_given, more_literals, more_given, expression_literals, expression_given}
+use Rattle.mac_text.specs.Written.{Blanks, NameText, DigitsText, MarkedText, TermText, SignText, MoreText, ExpressionText, marked_before, marked_number}
+use Rattle.mac_text.specs.Written.{before_if, sign_character, sign_before, sign_given, term_before, more_before, expression_before, term_literals}
+use Rattle.mac_text.specs.Written.{term_given, more_literals, more_given, expression_literals, expression_given}
 use Rattle.mac_text.specs.declared.syntax.Sign.{Sign}
 use Rattle.mac_text.specs.declared.syntax.Sign.TheVariants.{Plus, Minus}
 use Rattle.mac_text.specs.declared.syntax.Term.{Term}

@@ -1,6 +1,7 @@
 -- Lines as they may be written (MACRO-10 Assembler Manual, this project's profile): of each part the characters and the
 -- blanks that a writer chose, its text before what stands behind it, and what it stands for.
-use Rattle.std.specs.Prelude.{◌≡◌, ℕ, ◌<◌, Bool, true, false, ◌==◌, ◌||◌, ◌&&◌, not, is_none, is_some, List, [], ◌∷◌, ◌++◌, length, map, Option, Some, None, option_map}
+use Rattle.std.specs.Prelude.{◌≡◌, ℕ, ◌<◌, Bool, true, false, ◌==◌, ◌||◌, ◌&&◌, not, is_none, is_some, List, []}
+use Rattle.std.specs.Prelude.{◌∷◌, ◌++◌, length, map, Option, Some, None, option_map}
 use Rattle.std.specs.List.{list_all}
 use Rattle.whole_numbers.specs.Numerals.{digits_value}
 use Rattle.ka_isa.specs.Operations.{named_of}

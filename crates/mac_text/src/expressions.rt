@@ -4,7 +4,8 @@ ghost use Rattle.std.specs.Prelude.{◌≡◌, ℕ, [], Some, option_map, IfSome
 ghost use Rattle.std.specs.Option.{IfNone};
 ghost use Rattle.mac_text.specs.Scan.{Gives, after_blanks, with_front, items_at};
 ghost use Rattle.mac_text.specs.Names.{is_name};
-ghost use Rattle.mac_text.specs.Expressions.{word_term_at, marked_at, literal_at, term_at, sign_at, signed_at, term_of_word, first_at, next_term_at, expression_at, optional_at};
+ghost use Rattle.mac_text.specs.Expressions.{word_term_at, marked_at, literal_at, term_at, sign_at, signed_at, term_of_word};
+ghost use Rattle.mac_text.specs.Expressions.{first_at, next_term_at, expression_at, optional_at};
 ghost use Rattle.mac_text.specs.Terms.{alone};
 ghost use Rattle.mac_text.specs.declared.syntax.Sign.TheVariants.{Plus};
 

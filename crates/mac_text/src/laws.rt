@@ -4,7 +4,8 @@ ghost use Rattle.std.specs.Prelude.{◌≡◌, ◌<◌, ◌≤◌, ◌+◌, ◌�
 ghost use Rattle.mac_text.specs.Lines.{line_of, program_of, is_end};
 ghost use Rattle.mac_text.specs.Written.{IsLine, LineText, line_given, line_text};
 ghost use Rattle.mac_text.specs.WrittenExample.{IsExampleWritten};
-ghost use Rattle.mac_text.specs.WrittenSource.{GoOn, IsOneLine, LineEnd, SourceLine, end_before, radix_behind, source_before, source_given, source_line_given, source_line_text};
+ghost use Rattle.mac_text.specs.WrittenSource.{GoOn, IsOneLine, LineEnd, SourceLine, end_before, radix_behind, source_before};
+ghost use Rattle.mac_text.specs.WrittenSource.{source_given, source_line_given, source_line_text};
 
 /// Each line is read as it is written, with any blanks in their places: labels, every form of statement, literals, and
 /// a comment.

@@ -4,7 +4,8 @@ ghost use Rattle.std.specs.Prelude.{◌≡◌, ◌<◌, ◌≤◌, Some, true, I
 ghost use Rattle.std.specs.Option.{IfNone, OnSome};
 ghost use Rattle.std.specs.List.{list_all};
 ghost use Rattle.mac_text.specs.Scan.{Gives, after_blanks, word_of, items_at};
-ghost use Rattle.mac_text.specs.Lines.{is_ascii, next_label_at, optional_statement_at, whole_statement_at, gives_words, with_words, literal_data, literal_of, literals_of, line_of, radix_after, is_end};
+ghost use Rattle.mac_text.specs.Lines.{is_ascii, next_label_at, optional_statement_at, whole_statement_at, gives_words, with_words};
+ghost use Rattle.mac_text.specs.Lines.{literal_data, literal_of, literals_of, line_of, radix_after, is_end};
 
 use crate::characters::is_ascii;
 use crate::expressions::is_name;

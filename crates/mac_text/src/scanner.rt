@@ -1,7 +1,8 @@
 //! A line as it is read from left to right.
 
 ghost use Rattle.std.specs.Prelude.{◌≡◌, ◌<◌, ◌≤◌, List, [], ◌∷◌, ◌++◌, ◌||◌, map, Some, None, Bool, true, false, IsTrue, length, drop};
-ghost use Rattle.mac_text.specs.Scan.{Gives, Scan, after_blanks, skipped, head_of, begins_with, meets, eaten, word_of, take_cut, begins_expression, is_at_end, without, meets_commas, commas_eaten, comment_of};
+ghost use Rattle.mac_text.specs.Scan.{Gives, Scan, after_blanks, skipped, head_of, begins_with, meets, eaten, word_of, take_cut};
+ghost use Rattle.mac_text.specs.Scan.{begins_expression, is_at_end, without, meets_commas, commas_eaten, comment_of};
 ghost use Rattle.std.specs.List.{list_all};
 ghost use Rattle.std.specs.Str.{IsAscii};
 ghost use Rattle.mac_text.specs.Characters.{is_name_character};

@@ -4,7 +4,8 @@ ghost use Rattle.std.specs.Prelude.{◌≡◌, ◌≤◌, length};
 ghost use Rattle.std.specs.Str.{IsAscii};
 ghost use Rattle.mac_text.specs.Scan.{Gives, after_blanks, word_of, present, with_front, items_at};
 ghost use Rattle.mac_text.specs.declared.syntax.Data.TheVariants as data_of;
-ghost use Rattle.mac_text.specs.Statements.{with_data, index_at, operand_at, operands_at, is_allowed, instruction_at, pair_at, next_expression_at, expressions_at, decimal_at, number_at, point_at, value_at, form_at, formed_at, operation_of, statement_at};
+ghost use Rattle.mac_text.specs.Statements.{with_data, index_at, operand_at, operands_at, is_allowed, instruction_at, pair_at, next_expression_at};
+ghost use Rattle.mac_text.specs.Statements.{expressions_at, decimal_at, number_at, point_at, value_at, form_at, formed_at, operation_of, statement_at};
 ghost use Rattle.mac_text.specs.Names.{folded};
 ghost use Rattle.mac_text.specs.Keywords.{form_of};
 

@@ -1,6 +1,7 @@
 -- The machine: its state, what each event does, and whole runs (this project's profile; calls and waits are those of the TOPS-10 Monitor Calls Manual).
 use Rattle.std.specs.List.{list_any}
-use Rattle.std.specs.Prelude.{ℕ, ◌+◌, ◌%◌, ◌==◌, nat_le, min, ◌++◌, take, drop, length, if◌then◌else◌, List, [], ◌∷◌, replicate, Option, Some, None, Result, Ok, Err}
+use Rattle.std.specs.Prelude.{ℕ, ◌+◌, ◌%◌, ◌==◌, nat_le, min, ◌++◌, take, drop, length, if◌then◌else◌, List, []}
+use Rattle.std.specs.Prelude.{◌∷◌, replicate, Option, Some, None, Result, Ok, Err}
 use Rattle.word36.specs.declared.sizes.TheConstants.{LINES, INPUT_RING, TAKEN_AT_ONCE, DATA_WORDS}
 use Rattle.core_store.specs.Cores.{all_free, taken as taken_core, with_core}
 use Rattle.lock_queue.specs.Jobs.{withdrawn, withdrawn_where}

@@ -1,5 +1,6 @@
 -- What there is to see of the jobs after a word was put at a place of one.
-use Rattle.std.proofs.Common.{◌≡◌, ◌≢◌, ◌∙◌, ◌⊎◌, sym, ap, subst, ℕ, zero, suc, nat_lt, Bool, true, false, cond, List, [], ◌∷◌, slice_set, slice_get, Option, Some, None, is_some, inl, inr, refl}
+use Rattle.std.proofs.Common.{◌≡◌, ◌≢◌, ◌∙◌, ◌⊎◌, sym, ap, subst, ℕ, zero, suc, nat_lt, Bool, true, false, cond, List, []}
+use Rattle.std.proofs.Common.{◌∷◌, slice_set, slice_get, Option, Some, None, is_some, inl, inr, refl}
 use Rattle.std.proofs.lemmas.Bool.{both_ways, cases_eq}
 use Rattle.std.proofs.lemmas.List.{get_or-set_other, get_or-set_same}
 use Rattle.ka_cpu.specs.Places.{ac_with, core_with, word_at}
@@ -43,7 +44,8 @@ memory-there : (ac core : List ℕ) (a word : ℕ) → is_some (word_at ac core 
 memory-there ac core a word h = there-by (nat_lt a 16) ac core a word h
 
 other-by : (low put : Bool) (ac core : List ℕ) (a b word : ℕ) → b ≢ a
-    → cond low (slice_get (cond put (slice_set ac a word) ac) b) (slice_get (cond put core (slice_set core a word)) b) ≡ cond low (slice_get ac b) (slice_get core b)
+    → cond low (slice_get (cond put (slice_set ac a word) ac) b)
+    (slice_get (cond put core (slice_set core a word)) b) ≡ cond low (slice_get ac b) (slice_get core b)
 other-by true true ac core a b word ne = get-other ac a b word ne
 other-by true false ac core a b word ne = refl
 other-by false true ac core a b word ne = refl

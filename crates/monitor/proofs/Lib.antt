@@ -1,4 +1,5 @@
 pub mod Clearing
 pub mod SoundDeposits
 pub mod DepositedWords
+pub mod AwakeJobs
 pub mod Running

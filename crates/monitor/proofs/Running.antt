@@ -82,7 +82,8 @@ ran_next (suc k) g h core rest is =
         let same = is ∙ ran-ended k g core d in
         absurd (false≢true (sym d ∙ sym (ap (λ (r : Ran). is_done r.after.outcome) same)))
 
-pub ran_more : (k : ℕ) (g h i : Regs) (core rest left : List ℕ) (o : Outcome) → record { steps = k; after = record { regs = h; core = rest; outcome = Done } } ≡ ran k g core
+pub ran_more : (k : ℕ) (g h i : Regs) (core rest left : List ℕ) (o : Outcome) →
+    record { steps = k; after = record { regs = h; core = rest; outcome = Done } } ≡ ran k g core
     → record { regs = i; core = left; outcome = o } ≡ exec h rest
     → record { steps = k + 1; after = record { regs = i; core = left; outcome = o } } ≡ ran (k + 1) g core
 ran_more k g h i core rest left o is step =

@@ -1,5 +1,6 @@
 -- What a debugger changes of a job leaves the state sound, and is what there is to see of it then.
-use Rattle.std.proofs.Common.{◌≡◌, ◌<◌, ◌^◌, ◌∙◌, sym, ap, subst, ℕ, zero, suc, true, List, [], ◌∷◌, length, slice_set, slice_index_or, Option, Some, None, is_some, refl, arith}
+use Rattle.std.proofs.Common.{◌≡◌, ◌<◌, ◌^◌, ◌∙◌, sym, ap, subst, ℕ, zero, suc, true, List, [], ◌∷◌, length}
+use Rattle.std.proofs.Common.{slice_set, slice_index_or, Option, Some, None, is_some, refl, arith}
 use Rattle.std.specs.Option.{option_map}
 use Rattle.ka_cpu.specs.Places.{core_with}
 use Rattle.ka_cpu.proofs.ExecLaws.{by_test, length-core_with}
@@ -78,11 +79,13 @@ sound-core s n words there long h = record {
 }
 
 -- a word
-sound-word : (s : S) (n a word : ℕ) (o : Option Job) → job_at s.world.table.jobs n ≡ o → IsSound s → IsSound (record s { world = with_word_of s.world n a word o })
+sound-word : (s : S) (n a word : ℕ) (o : Option Job) → job_at s.world.table.jobs n ≡ o →
+    IsSound s → IsSound (record s { world = with_word_of s.world n a word o })
 sound-word s n a word None is h = h
 sound-word s n a word (Some j) is h =
     let there : is_some (job_at s.world.table.jobs n) ≡ true = ap is_some is in
-    sound-core (record s { world = record s.world { table = with_job s.world.table n (Some (with_register j a word)) } }) n (core_with (core_of s.world.cores n) a word)
+    sound-core (record s { world = record s.world { table = with_job s.world.table n (Some (with_register j a word)) } }) n
+    (core_with (core_of s.world.cores n) a word)
     (there-set s.world.table.jobs n n (with_register j a word) there ∙ there) (length-core_with (core_of s.world.cores n) a word)
     (sound-job s n j (with_register j a word) is refl refl (subst Placed is (h.safe.placed n)) h)
 
@@ -94,7 +97,8 @@ sound-pc : (s : S) (n a : ℕ) (o : Option Job) → job_at s.world.table.jobs n 
     → IsSound (record s { world = record s.world { table = with_job s.world.table n (option_map (λ j. with_pc j a) o) } })
 sound-pc s n a (Some j) is low h = sound-job s n j (with_pc j a) is refl refl (low, (subst Placed is (h.safe.placed n)).1) h
 sound-pc s n a None is low h =
-    let same : slice_set s.world.table.jobs n None ≡ s.world.table.jobs = ap (λ (o : Option Job). slice_set s.world.table.jobs n o) (sym is) ∙ set-own s.world.table.jobs n None in
+    let same : slice_set s.world.table.jobs n None ≡ s.world.table.jobs = ap (λ (o : Option Job). slice_set s.world.table.jobs n o) (sym is)
+    ∙ set-own s.world.table.jobs n None in
     subst (λ (jobs : List (Option Job)). IsSound (record s { world = record s.world { table = record s.world.table { jobs = jobs } } })) (sym same) h
 
 sound-placed : (s : S) (n a : ℕ) → a < 2 ^ 18 → IsSound s → IsSound (placed s n a)

@@ -7,7 +7,6 @@ mod login;
 mod parts;
 mod rounds;
 mod runner;
-mod step;
 mod system;
 mod turn;
 

@@ -1,24 +1,26 @@
 //! The parts of the machine, seen as one state, and what each event does to them.
-ghost use Rattle.std.specs.Prelude.{◌≡◌, ◌<◌, ◌≤◌, ◌^◌, ◌+◌, if◌then◌else◌, is_some, [], ℕ, true, Some, IfOk, slice_get};
+ghost use Rattle.std.specs.Prelude.{◌≡◌, ◌≢◌, ◌<◌, ◌≤◌, ◌^◌, ◌+◌, ◌-◌, if◌then◌else◌, is_some, [], ℕ, Bool, true, Some, IsSome, IfOk, slice_get};
 ghost use Rattle.word36.specs.declared.sizes.TheConstants.{MOST_BLOCKS, MOST_REQUESTS};
 ghost use Rattle.core_store.specs.Cores.{IsJob, core_of};
 ghost use Rattle.job_sched.specs.Ready.{next_job};
 ghost use Rattle.job_sched.specs.Tables.{job_at};
-ghost use Rattle.machine.specs.Between.{Between, is_among, next_in};
+ghost use Rattle.job_sched.specs.declared.job.Job.{Job as JobRecord};
+ghost use Rattle.machine.specs.Between.{Between, NoneOver, is_among, next_in};
 ghost use Rattle.machine.specs.Deposits.{deposited, started_at};
 ghost use Rattle.machine.specs.Images.{blocks_for};
-ghost use Rattle.machine.specs.Machine.{S, after, answers, refusal_of, stepped, ticked, killed, happens, at_boot, started, continued, restarted, typed, taken, admitted, first_quota, logged_in};
+ghost use Rattle.machine.specs.Machine.{S, after, answers, refusal_of, stepped, ticked, killed, happens, at_boot, started};
+ghost use Rattle.machine.specs.Machine.{continued, restarted, typed, taken, admitted, first_quota, logged_in};
 ghost use Rattle.machine.specs.Rounds.{rounds, runs_in};
 ghost use Rattle.machine.specs.Safe.{Safe};
-ghost use Rattle.machine.specs.Stretches.{ticked_if};
+ghost use Rattle.machine.specs.Stretches.{Stretched, runs_on, table_after, ticked_if, time_after};
 ghost use Rattle.machine.specs.Views.{job_view, held_wait, word_in};
 
 use crate::cores::give_all;
 use crate::deposits::{is_done, put_pc, put_word};
 use crate::login::{image_top, settle};
 use crate::rounds::Rounds;
-use crate::runner::{Runner, Several, UpTo};
-use crate::step::run_job_for;
+use crate::runner::{Loop, Runner, UpTo};
+use crate::turn::run_turn;
 use core_store::CoreStore;
 use job_sched::{Job, JobError, JobTable, TimeOfDay, Wait};
 use lock_queue::LockTable;
@@ -26,24 +28,14 @@ use machine::{Answer, Config, Event, INTERRUPT_CHARACTER, JobView, LOGIN_QUOTA, 
 use std::alloc::{AllocError, Global};
 use std::marker::Model;
 use tty_lines::{Char7, LineNumber, Lines};
-use uuo_calls::{CallRoom, remove_job};
+use uuo_calls::{CallRoom, World};
 use word36::{Address, BLOCK_WORDS, DATA_WORDS, Image, JOBS, Word};
 
 /// The parts of the machine.
 #[derive(Drop)]
 pub struct Parts<L: LockTable, C: CoreStore> {
-    /// The jobs, which of them is current, and what is left of its quantum.
-    table: JobTable,
-    /// The characters typed and put out at each line.
-    lines: Lines,
-    /// The requests for locks.
-    locks: L,
-    /// The core of each job.
-    cores: C,
-    /// The words that all jobs share.
-    shared: [Word; DATA_WORDS],
-    /// Room for the locks of a call.
-    room: CallRoom,
+    /// What the calls of jobs work on.
+    world: World<L, C>,
     /// The time of day in ticks.
     time: TimeOfDay,
     /// The ticks of a quantum.
@@ -58,14 +50,7 @@ impl<L: LockTable, C: CoreStore> Model for Parts<L, C> {
     ghost Value = { S };
 
     ghost view = { λ p. record {
-      world = record {
-        size = L.REQS;
-        table = p.table;
-        lines = p.lines;
-        requests = L.requests p.locks;
-        cores = C.meaning p.cores;
-        shared = p.shared;
-      };
+      world = p.world;
       time = p.time;
       quantum = p.quantum;
       blocks = p.blocks;
@@ -89,6 +74,19 @@ fn refusal_of(error: JobError) -> RefusedEvent
     }
 }
 
+/// The ticks behind all of some rounds but the last go by, where ticks go by.
+#[inline(always)]
+fn pass(ticking: bool, rounds: u32, quantum: u8, table: &mut JobTable, time: &mut TimeOfDay)
+    requires { 1 ≤ rounds }
+    ensures table { table.new ≡ table_after table.old quantum ticking (rounds - 1) }
+    ensures time { time.new ≡ time_after time.old ticking (rounds - 1) }
+{
+    if ticking && rounds > 1 {
+        table.spend(rounds - 1, quantum);
+        time.advance_by(rounds - 1);
+    }
+}
+
 impl<L: LockTable, C: CoreStore> Parts<L, C> {
     /// The parts at boot.
     pub fn boot(alloc: Global, config: Config) -> Result<Self, AllocError>
@@ -100,13 +98,16 @@ impl<L: LockTable, C: CoreStore> Parts<L, C> {
         let cores = C::new(alloc, config.blocks())?;
         let locks = L::new(alloc)?;
         let lines = Lines::new(alloc)?;
-        Ok(Parts {
+        let world = World {
             table: JobTable::new(),
             lines,
             locks,
             cores,
             shared: [Word::new(0); DATA_WORDS],
             room: CallRoom::new(),
+        };
+        Ok(Parts {
+            world,
             time: TimeOfDay::new(0),
             quantum: config.quantum(),
             blocks: config.blocks(),
@@ -120,12 +121,12 @@ impl<L: LockTable, C: CoreStore> Parts<L, C> {
         ensures state { self.new ≡ (stepped self.old (next_job self.old.world.table self.old.world.lines self.old.world.requests)).state }
         ensures job { result ≡ next_job self.old.world.table self.old.world.lines self.old.world.requests }
     {
-        self.run_next::<Several, false>(1, false, &Several).job
+        self.run_next::<Loop<false>, false>(1, false, &Loop).job
     }
 
     /// The job that is next runs for some rounds, each a step with a tick behind it where `ticking`,
     /// but for the last one's tick; where no job is ready an idle round goes by. `IN_PLACE` is that of
-    /// `run_job_for`.
+    /// `run_job`.
     #[inline(always)]
     fn run_next<R: Runner, const IN_PLACE: bool>(
         &mut self,
@@ -142,45 +143,108 @@ impl<L: LockTable, C: CoreStore> Parts<L, C> {
         ensures most { result.made ≤ most }
         ensures between { (k : ℕ) → 1 ≤ k → k < result.made → Between self.old (after (rounds k ticking) self.old) result.job (R.ends runner.now) }
     {
-        let Some(n) = self.table.next(&self.lines, &self.locks) else {
+        let world = &mut self.world;
+        let Some(n) = world.table.next(&world.lines, &world.locks) else {
             return Rounds { job: None, made: 1 };
         };
-        let alone = self.table.is_alone(n);
-        self.table.choose(n, self.quantum);
-        let span = self.table.span(n, most, ticking, alone);
-        let made = run_job_for::<L, C, R, IN_PLACE>(
-            n,
-            span,
-            ticking,
-            &self.quantum,
-            &mut self.table,
-            &mut self.lines,
-            &mut self.locks,
-            &mut self.cores,
-            &mut self.shared,
-            &mut self.room,
-            &mut self.time,
-            runner,
-        );
+        let alone = world.table.is_alone(n);
+        world.table.choose(n, self.quantum);
+        let span = world.table.span(n, most, ticking, alone);
+        let made = self.run_job::<R, IN_PLACE>(n, span, ticking, runner);
         Rounds { job: Some(n), made }
     }
 
-    /// So many rounds, steps that have each a tick behind it where `ticking`, and in how many of them a
-    /// job ran. Where `IN_PLACE`, a round of one instruction is made in the loop itself, which one loop of a
-    /// program can have.
+    /// A job runs for one round: its wait is over, it takes its turn, whose instruction is executed where the
+    /// caller is, and the call that it makes is performed.
     #[inline(always)]
-    pub fn run_rounds<const IN_PLACE: bool>(&mut self, most: u32, ticking: bool) -> u32
+    fn run_once(&mut self, n: u8)
+        requires number { IsJob n }
+        requires there { IsSome (job_at self.old.world.table.jobs n) }
+        requires core { core_of self.old.world.cores n ≢ [] }
+        ensures runs { (ticking : Bool) → record { world = self.new.world; time = self.new.time; rounds = 1 }
+            ≡ runs_on self.old.world self.old.time self.old.quantum n 1 ticking (job_at self.old.world.table.jobs n) }
+        ensures others { self.new ≡ record self.old { world = self.new.world; time = self.new.time } }
+    {
+        let world = &mut self.world;
+        let Some(job) = &mut world.table.jobs[n as usize] else {
+            return;
+        };
+        job.wait = Wait::None;
+        let (_, call) = run_turn::<L, C, Loop<true>>(
+            n,
+            job,
+            &mut world.locks,
+            &mut world.cores,
+            1,
+            &Loop,
+        );
+        if let Some(call) = call {
+            world.perform(n, call, self.time);
+        }
+    }
+
+    /// A job runs for at most so many rounds, and in how many: its wait is over, it takes its turn, whose
+    /// instructions are executed by `runner`, and the call that it makes is performed. Where `IN_PLACE`, a
+    /// single round is that of `run_once`.
+    #[inline(always)]
+    fn run_job<R: Runner, const IN_PLACE: bool>(
+        &mut self,
+        n: u8,
+        most: u32,
+        ticking: bool,
+        runner: &R,
+    ) -> u32
+        requires number { IsJob n }
+        requires some { 1 ≤ most }
+        requires there { IsSome (job_at self.old.world.table.jobs n) }
+        requires core { core_of self.old.world.cores n ≢ [] }
+        ensures runs { record { world = self.new.world; time = self.new.time; rounds = result }
+            ≡ runs_on self.old.world self.old.time self.old.quantum n result ticking (job_at self.old.world.table.jobs n) }
+        ensures others { self.new ≡ record self.old { world = self.new.world; time = self.new.time } }
+        ensures least { 1 ≤ result }
+        ensures most { result ≤ most }
+        ensures none_over { (j : JobRecord) → job_at self.old.world.table.jobs n ≡ Some j
+            → NoneOver (R.ends runner.now) j.regs (core_of self.old.world.cores n) result }
+    {
+        if IN_PLACE && most == 1 {
+            self.run_once(n);
+            return 1;
+        }
+        let world = &mut self.world;
+        let Some(job) = &mut world.table.jobs[n as usize] else {
+            return 1;
+        };
+        job.wait = Wait::None;
+        let (rounds, call) = run_turn(n, job, &mut world.locks, &mut world.cores, most, runner);
+        pass(
+            ticking,
+            rounds,
+            self.quantum,
+            &mut world.table,
+            &mut self.time,
+        );
+        if let Some(call) = call {
+            world.perform(n, call, self.time);
+        }
+        rounds
+    }
+
+    /// So many rounds, steps that have each a tick behind it where `TICKING`, and in how many of them a
+    /// job ran. The loop with ticks makes a round of one instruction in place, which one loop of a program
+    /// can do.
+    #[inline(always)]
+    pub fn run_rounds<const TICKING: bool>(&mut self, most: u32) -> u32
         requires { Safe self.old }
-        ensures state { self.new ≡ after (rounds most ticking) self.old }
-        ensures count { result ≡ runs_in (answers (rounds most ticking) self.old) }
+        ensures state { self.new ≡ after (rounds most TICKING) self.old }
+        ensures count { result ≡ runs_in (answers (rounds most TICKING) self.old) }
     {
         let mut idle = 0;
         let mut left = most;
         while left > 0 {
-            let some = self.run_next::<Several, IN_PLACE>(left, ticking, &Several);
-            idle = some.idle_after(idle);
+            let some = self.run_next::<Loop<false>, TICKING>(left, TICKING, &Loop);
+            some.count_idle(&mut idle);
             left -= some.made;
-            self.tick_if(ticking);
+            self.tick_if(TICKING);
         }
         most - idle
     }
@@ -219,9 +283,9 @@ impl<L: LockTable, C: CoreStore> Parts<L, C> {
         ensures { self.new ≡ (ticked self.old).state }
     {
         self.time.advance();
-        let ended = self.table.pass_tick(&self.locks);
+        let ended = self.world.table.pass_tick(&self.world.locks);
         if ended != 0 {
-            self.locks.withdraw_all(ended);
+            self.world.locks.withdraw_all(ended);
         }
     }
 
@@ -232,10 +296,10 @@ impl<L: LockTable, C: CoreStore> Parts<L, C> {
         ensures state { self.new ≡ (killed self.old n (job_at self.old.world.table.jobs n)).state }
         ensures answer { result ≡ (killed self.old n (job_at self.old.world.table.jobs n)).answer }
     {
-        if self.table.job(n).is_none() {
+        if self.world.table.job(n).is_none() {
             return Answer::Refused(RefusedEvent::NoSuchJob);
         }
-        remove_job(n, &mut self.table, &mut self.locks, &mut self.cores);
+        self.world.remove_job(n);
         Answer::Done
     }
 
@@ -246,9 +310,9 @@ impl<L: LockTable, C: CoreStore> Parts<L, C> {
         ensures state { self.new ≡ (started self.old n).state }
         ensures answer { result ≡ (started self.old n).answer }
     {
-        match self.table.start(n) {
+        match self.world.table.start(n) {
             Ok(()) => {
-                self.locks.withdraw(n);
+                self.world.locks.withdraw(n);
                 Answer::Done
             }
             Err(error) => Answer::Refused(refusal_of(error)),
@@ -262,7 +326,7 @@ impl<L: LockTable, C: CoreStore> Parts<L, C> {
         ensures state { self.new ≡ (continued self.old n).state }
         ensures answer { result ≡ (continued self.old n).answer }
     {
-        match self.table.go_on(n) {
+        match self.world.table.go_on(n) {
             Ok(()) => Answer::Done,
             Err(error) => Answer::Refused(refusal_of(error)),
         }
@@ -275,10 +339,10 @@ impl<L: LockTable, C: CoreStore> Parts<L, C> {
         ensures state { self.new ≡ (restarted self.old).state }
         ensures answer { result ≡ (restarted self.old).answer }
     {
-        self.table = JobTable::new();
-        self.lines.clear();
-        self.locks.clear();
-        give_all(&mut self.cores, self.blocks);
+        self.world.table = JobTable::new();
+        self.world.lines.clear();
+        self.world.locks.clear();
+        give_all(&mut self.world.cores, self.blocks);
         Answer::Done
     }
 
@@ -293,10 +357,10 @@ impl<L: LockTable, C: CoreStore> Parts<L, C> {
             return Answer::Refused(RefusedEvent::NoLine);
         };
         if c.number() == INTERRUPT_CHARACTER {
-            self.table.break_at(at);
+            self.world.table.break_at(at);
             return Answer::Done;
         }
-        match self.lines.typed(line, c) {
+        match self.world.lines.typed(line, c) {
             Ok(()) => Answer::Done,
             Err(_) => Answer::Refused(RefusedEvent::Full),
         }
@@ -309,7 +373,7 @@ impl<L: LockTable, C: CoreStore> Parts<L, C> {
         ensures state { self.new ≡ (taken self.old line n).state }
         ensures answer { result ≡ (taken self.old line n).answer }
     {
-        match self.lines.taken(line, n) {
+        match self.world.lines.taken(line, n) {
             Ok(text) => Answer::Text(text),
             Err(_) => Answer::Refused(RefusedEvent::NoLine),
         }
@@ -326,9 +390,16 @@ impl<L: LockTable, C: CoreStore> Parts<L, C> {
     {
         let blocks = top / BLOCK_WORDS as u32 + 1;
         let start = Address::new(image.start);
-        match settle(n, &mut self.cores, image.words.as_slice(), start, blocks) {
+        match settle(
+            n,
+            &mut self.world.cores,
+            image.words.as_slice(),
+            start,
+            blocks,
+        ) {
             Ok(regs) => {
-                self.table
+                self.world
+                    .table
                     .place(n, Job::new(line, regs, start, first_quota(L::REQS)));
                 Answer::JobNumber(n)
             }
@@ -346,13 +417,13 @@ impl<L: LockTable, C: CoreStore> Parts<L, C> {
         let Some(at) = LineNumber::try_new(line) else {
             return Answer::Refused(RefusedEvent::NoLine);
         };
-        if self.table.is_busy(at) {
+        if self.world.table.is_busy(at) {
             return Answer::Refused(RefusedEvent::LineBusy);
         }
         let Some(top) = image_top(image) else {
             return Answer::Refused(RefusedEvent::BadImage);
         };
-        let Some(n) = self.table.free_number() else {
+        let Some(n) = self.world.table.free_number() else {
             return Answer::Refused(RefusedEvent::NoJobNumber);
         };
         self.admit(n, at, image, top)
@@ -389,13 +460,14 @@ impl<L: LockTable, C: CoreStore> Parts<L, C> {
     fn held_wait(&self, n: u8, job: &Job) -> Wait
         ensures { result ≡ held_wait self.now.world.lines self.now.world.requests n job.now }
     {
+        let world = &self.world;
         let holds = match job.wait {
             Wait::None => false,
             Wait::Sleep(ticks) => ticks > 0,
-            Wait::Char => !self.lines.has_char(job.line),
-            Wait::Line => !self.lines.has_line(job.line),
-            Wait::Room(places) => self.lines.room(job.line) < places as usize,
-            Wait::Queue(..) => self.locks.waiting(n),
+            Wait::Char => !world.lines.has_char(job.line),
+            Wait::Line => !world.lines.has_line(job.line),
+            Wait::Room(places) => world.lines.room(job.line) < places as usize,
+            Wait::Queue(..) => world.locks.waiting(n),
         };
         if holds { job.wait } else { Wait::None }
     }
@@ -406,10 +478,10 @@ impl<L: LockTable, C: CoreStore> Parts<L, C> {
         requires { Safe self.now }
         ensures { result ≡ job_view self.now.world n }
     {
-        let job = self.table.job(n)?;
+        let job = self.world.table.job(n)?;
         Some(JobView {
             line: job.line,
-            blocks: self.cores.blocks(n),
+            blocks: self.world.cores.blocks(n),
             pc: job.regs.pc,
             stop: job.stop,
             wait: self.held_wait(n, job),
@@ -421,11 +493,11 @@ impl<L: LockTable, C: CoreStore> Parts<L, C> {
         requires { Safe self.now }
         ensures { result ≡ word_in self.now.world n a }
     {
-        let job = self.table.job(n)?;
+        let job = self.world.table.job(n)?;
         if (a as usize) < job.regs.ac.len() {
             Some(job.regs.ac[a as usize])
         } else {
-            self.cores.read(n, a)
+            self.world.cores.read(n, a)
         }
     }
 
@@ -439,8 +511,9 @@ impl<L: LockTable, C: CoreStore> Parts<L, C> {
         if n > JOBS {
             return false;
         }
-        match &mut self.table.jobs[n as usize] {
-            Some(job) => put_word(n, job, &mut self.cores, a, word),
+        let world = &mut self.world;
+        match &mut world.table.jobs[n as usize] {
+            Some(job) => put_word(n, job, &mut world.cores, a, word),
             None => false,
         }
     }
@@ -454,7 +527,7 @@ impl<L: LockTable, C: CoreStore> Parts<L, C> {
     {
         let answer = self.start(n);
         if is_done(&answer) {
-            put_pc(n, &mut self.table, a);
+            put_pc(n, &mut self.world.table, a);
         }
         answer
     }
@@ -463,13 +536,13 @@ impl<L: LockTable, C: CoreStore> Parts<L, C> {
     pub fn data_word(&self, i: usize) -> Option<Word>
         ensures { result ≡ slice_get self.now.world.shared i }
     {
-        self.shared.get(i).copied()
+        self.world.shared.get(i).copied()
     }
 
     /// The requests.
     pub fn locks(&self) -> &L
         ensures { L.requests result.now ≡ self.now.world.requests }
     {
-        &self.locks
+        &self.world.locks
     }
 }

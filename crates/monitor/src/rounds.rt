@@ -10,16 +10,25 @@ pub struct Rounds {
     pub made: u32,
 }
 
+/// Adds to a count, out of line: so the count stays in memory, and rounds in which a job ran do nothing
+/// about it.
+#[inline(never)]
+fn add(count: &mut u32, more: u32)
+    requires { count.old + more < 2 ^ 32 }
+    ensures { count.new ≡ count.old + more }
+{
+    *count += more;
+}
+
 impl Rounds {
-    /// In how many rounds no job ran, in some before them and in these.
+    /// Adds these rounds to those in which no job ran, where none did.
     #[inline(always)]
-    pub(crate) fn idle_after(self, before: u32) -> u32
-        requires { before + self.made < 2 ^ 32 }
-        ensures { result ≡ before + (if is_some self.job then 0 else self.made) }
+    pub(crate) fn count_idle(self, idle: &mut u32)
+        requires { idle.old + self.made < 2 ^ 32 }
+        ensures { idle.new ≡ idle.old + (if is_some self.job then 0 else self.made) }
     {
-        match self.job {
-            Some(_) => before,
-            None => before + self.made,
+        if self.job.is_none() {
+            add(idle, self.made);
         }
     }
 }

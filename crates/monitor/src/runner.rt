@@ -3,7 +3,7 @@ ghost use Rattle.std.specs.Prelude.{◌≡◌, ◌≤◌, ◌+◌, ℕ, Bool, fa
 ghost use Rattle.ka_cpu.specs.Runs.{ran};
 ghost use Rattle.machine.specs.Between.{NoneOver, is_among};
 
-use ka_cpu::{CoreWords, Outcome, Regs, run_steps_from, step};
+use ka_cpu::{CoreWords, Outcome, Regs, run_steps_from, step_in_loop};
 use word36::{Address, Word};
 
 /// How the instructions of a turn are executed, and where they end.
@@ -21,29 +21,16 @@ pub(crate) trait Runner {
         ensures none_over { NoneOver (ends self.now) regs.old words.old result.0 };
 }
 
-/// By the processor's own loop.
+/// By the processor's own loop. Where `IN_PLACE`, one that is wanted alone is executed where the caller is.
 #[derive(Clone, Copy, Debug)]
-pub(crate) struct Several;
+pub(crate) struct Loop<const IN_PLACE: bool>;
 
-impl Runner for Several {
+impl<const IN_PLACE: bool> Runner for Loop<IN_PLACE> {
     ghost ends = { λ r a. false };
 
     #[inline(always)]
     fn run(&self, regs: &mut Regs, words: &mut [Word], most: u64) -> (u64, Outcome) {
-        run_steps_from::<false>(regs, words, most)
-    }
-}
-
-/// One alone where the caller is.
-#[derive(Clone, Copy, Debug)]
-pub(crate) struct InPlace;
-
-impl Runner for InPlace {
-    ghost ends = { λ r a. false };
-
-    #[inline(always)]
-    fn run(&self, regs: &mut Regs, words: &mut [Word], most: u64) -> (u64, Outcome) {
-        run_steps_from::<true>(regs, words, most)
+        run_steps_from::<IN_PLACE>(regs, words, most)
     }
 }
 
@@ -61,7 +48,7 @@ impl<'a> Runner for UpTo<'a> {
     fn run(&self, regs: &mut Regs, words: &mut [Word], most: u64) -> (u64, Outcome) {
         let mut memory = CoreWords { words };
         for done in 0..most {
-            match step(regs, &mut memory) {
+            match step_in_loop(regs, &mut memory) {
                 Outcome::Done => {
                     if is_among(self.places, regs.pc) {
                         return (done + 1, Outcome::Done);

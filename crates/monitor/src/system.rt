@@ -131,9 +131,9 @@ impl<L: LockTable, C: CoreStore> System<L, C> {
         ensures count { result ≡ runs_in (answers (rounds most ticking) self.old) }
     {
         if ticking {
-            self.parts.run_rounds::<true>(most, true)
+            self.parts.run_rounds::<true>(most)
         } else {
-            self.parts.run_rounds::<false>(most, false)
+            self.parts.run_rounds::<false>(most)
         }
     }
 

@@ -1,5 +1,6 @@
 -- Between two of some rounds of a job that only computes, that job is next, and nobody else has moved.
-use Rattle.std.proofs.Common.{◌≡◌, ◌<◌, ◌≤◌, ◌∙◌, sym, ap, subst, ℕ, zero, suc, ◌+◌, ◌-◌, Bool, true, false, cond, List, Option, Some, None, slice_set, refl, arith, IsSome}
+use Rattle.std.proofs.Common.{◌≡◌, ◌<◌, ◌≤◌, ◌∙◌, sym, ap, subst, ℕ, zero, suc, ◌+◌, ◌-◌, Bool, true, false, cond}
+use Rattle.std.proofs.Common.{List, Option, Some, None, slice_set, refl, arith, IsSome}
 use Rattle.std.proofs.lemmas.Bool.{false≢true}
 use Rattle.std.proofs.lemmas.List.{get_or-set_other, get_or-set_same}
 use Rattle.ka_cpu.specs.Effects.{After}
@@ -19,7 +20,8 @@ use Rattle.machine.specs.Rounds.{rounds}
 use Rattle.machine.specs.Safe.{Safe}
 use Rattle.machine.specs.Stretches.{Stretched, runs_on, stretched, ticked_if}
 use Rattle.monitor_laws.proofs.Safety.{runs-next}
-use Rattle.monitor_laws.proofs.Stretching.{Computes, chosen_world, closed-undisturbed, computes-undisturbed, done-after, ended_by, going, jobs-of_chosen, next-going, none-due, poised-first, reached, tick-done, with_regs}
+use Rattle.monitor_laws.proofs.Stretching.{Computes, chosen_world, closed-undisturbed, computes-undisturbed, done-after, ended_by, going}
+use Rattle.monitor_laws.proofs.Stretching.{jobs-of_chosen, next-going, none-due, poised-first, reached, tick-done, with_regs}
 
 -- with one instruction before: all were done before the last one
 step-before : (b : Bool) (k m : ℕ) (some all one : Ran) → one.steps ≡ 1 → (b ≡ true → all.steps ≡ m → (some.steps ≡ k) × (is_done some.after.outcome ≡ true))
@@ -29,7 +31,8 @@ step-before true k m some all one e rest less whole = let x = rest refl (omega (
 step-before false k m some all one e rest less whole = absurd (omega (arith, e, less, whole))
 
 -- where so many instructions were executed, fewer end with one that is done
-ran-before : (k m : ℕ) (g : Regs) (core : List ℕ) → k < m → (ran m g core).steps ≡ m → ((ran k g core).steps ≡ k) × (is_done (ran k g core).after.outcome ≡ true)
+ran-before : (k m : ℕ) (g : Regs) (core : List ℕ) → k < m → (ran m g core).steps ≡ m →
+    ((ran k g core).steps ≡ k) × (is_done (ran k g core).after.outcome ≡ true)
 unfolding ran
 ran-before zero m g core less whole = (refl, refl)
 ran-before (suc k) zero g core less whole = absurd (omega (arith, less))
@@ -88,7 +91,8 @@ between-rounds s n made (suc k) j ticking ends safe next u there whole none some
     subst (λ (t : S). Between s t (Some n) ends) (sym goes) (going-between s n j ticking made k r.after.regs r.after.core ends h less (none (suc k) some less))
 
 -- fewer rounds
-undisturbed-fewer : (t : Table) (n : ℕ) (ticking alone : Bool) (most made : ℕ) → made ≤ most → Undisturbed t n ticking alone most → Undisturbed t n ticking alone made
+undisturbed-fewer : (t : Table) (n : ℕ) (ticking alone : Bool) (most made : ℕ) →
+    made ≤ most → Undisturbed t n ticking alone most → Undisturbed t n ticking alone made
 undisturbed-fewer t n ticking alone most made fewer u = record {
   current = u.current;
   quantum = u.quantum;

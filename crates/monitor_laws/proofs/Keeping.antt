@@ -1,5 +1,6 @@
 -- No event but a login gives a job a line, and all words stay as many.
-use Rattle.std.proofs.Common.{◌≡◌, ◌≢◌, ◌≤◌, ◌<◌, ◌∙◌, sym, ap, subst, ℕ, ◌+◌, ◌-◌, ◌*◌, nat_lt, nat_le, Bool, true, false, List, [], length, Option, Some, None, is_some, is_none, Result, Ok, Err, refl, arith, slice_set, replicate, sum_by, inl, inr}
+use Rattle.std.proofs.Common.{◌≡◌, ◌≢◌, ◌≤◌, ◌<◌, ◌∙◌, sym, ap, subst, ℕ, ◌+◌, ◌-◌, ◌*◌, nat_lt, nat_le, Bool, true, false, List, [], length, Option}
+use Rattle.std.proofs.Common.{Some, None, is_some, is_none, Result, Ok, Err, refl, arith, slice_set, replicate, sum_by, inl, inr}
 use Rattle.std.proofs.lemmas.Grind.{common_steps}
 use Rattle.std.proofs.lemmas.Bool.{cases_eq}
 use Rattle.std.proofs.lemmas.List.{get_or-set_same, get_or-set_other, length-set}
@@ -28,7 +29,8 @@ use Rattle.uuo_calls.specs.declared.call.CallOutcome.{CallOutcome}
 use Rattle.uuo_calls.specs.declared.call.CallOutcome.TheVariants as ending
 use Rattle.uuo_calls.specs.declared.service.Awaited.{Awaited}
 use Rattle.uuo_calls.specs.declared.service.Service.{Service}
-use Rattle.uuo_calls.specs.declared.service.Service.TheVariants.{Reset, Core, Exit, Monrt, Logout, Mstime, Pjob, Sleep, Piini, Pisys, Debrk, Enq, Deq, Enqc, Datrd, Datwr, Input, Outchr, Outstr, Clrbfi, Clrbfo, Skpin, Unlisted}
+use Rattle.uuo_calls.specs.declared.service.Service.TheVariants.{Reset, Core, Exit, Monrt, Logout, Mstime, Pjob, Sleep, Piini, Pisys, Debrk, Enq, Deq, Enqc}
+use Rattle.uuo_calls.specs.declared.service.Service.TheVariants.{Datrd, Datwr, Input, Outchr, Outstr, Clrbfi, Clrbfo, Skpin, Unlisted}
 use Rattle.uuo_calls.specs.Around.{Around, ac_of, stopped}
 use Rattle.uuo_calls.specs.CoreRow.{JobCores, grown, blocks_asked, core_done, with_highest}
 use Rattle.uuo_calls.specs.DataRows.{JobData}

@@ -1,5 +1,6 @@
 -- Each event keeps owners but for those that give up.
-use Rattle.std.proofs.Common.{◌≡◌, sym, ap, subst, ℕ, Bool, true, false, ◌==◌, nat_le, length, List, [], ◌∷◌, Option, Some, None, is_some, Result, Ok, Err, refl}
+use Rattle.std.proofs.Common.{◌≡◌, sym, ap, subst, ℕ, Bool, true, false, ◌==◌, nat_le, length, List, [], ◌∷◌}
+use Rattle.std.proofs.Common.{Option, Some, None, is_some, Result, Ok, Err, refl}
 use Rattle.std.proofs.lemmas.Bool.{both_ways}
 use Rattle.word36.specs.Words.{left_half, right_half}
 use Rattle.ka_cpu.specs.Exec.{exec}
@@ -26,7 +27,8 @@ use Rattle.job_sched.specs.Tables.{job_at}
 use Rattle.job_sched.specs.declared.job.Job.{Job}
 use Rattle.uuo_calls.specs.declared.service.Awaited.{Awaited}
 use Rattle.uuo_calls.specs.declared.service.Service.{Service}
-use Rattle.uuo_calls.specs.declared.service.Service.TheVariants.{Reset, Core, Exit, Monrt, Logout, Mstime, Pjob, Sleep, Piini, Pisys, Debrk, Enq, Deq, Enqc, Datrd, Datwr, Input, Outchr, Outstr, Clrbfi, Clrbfo, Skpin, Unlisted}
+use Rattle.uuo_calls.specs.declared.service.Service.TheVariants.{Reset, Core, Exit, Monrt, Logout, Mstime, Pjob, Sleep, Piini, Pisys, Debrk, Enq, Deq, Enqc}
+use Rattle.uuo_calls.specs.declared.service.Service.TheVariants.{Datrd, Datwr, Input, Outchr, Outstr, Clrbfi, Clrbfo, Skpin, Unlisted}
 use Rattle.uuo_calls.specs.Around.{Around, ac_of, stopped}
 use Rattle.uuo_calls.specs.LockRows.{asked, entering, changing, enq_asks, deq_asks}
 use Rattle.uuo_calls.specs.Performed.{World, row_of, around, performed_by, with_around, left_by}
@@ -48,7 +50,8 @@ use Rattle.machine.specs.declared.event.Event.TheVariants.{Step, Tick, Typed, Ta
 use Rattle.uuo_calls.specs.declared.call.MonitorCall.{MonitorCall}
 use Rattle.job_sched.specs.Changes.{standing, chosen, free_number, is_at, ticked_table}
 use Rattle.job_sched.specs.Limits.{expires}
-use Rattle.machine.specs.Machine.{S, Made, made, made_if, started, continued, with_turn, called, awake, ran, stepped, killed, happens, typed, taken, admitted, examined, logged_in}
+use Rattle.machine.specs.Machine.{S, Made, made, made_if, started, continued, with_turn, called, awake, ran, stepped}
+use Rattle.machine.specs.Machine.{killed, happens, typed, taken, admitted, examined, logged_in}
 use Rattle.machine.specs.Along.{Along}
 use Rattle.machine.specs.Owners.{is_release, releases, turn_releases, KeepsOwners}
 use Rattle.machine.specs.Turns.{Turn, turn_of, turned, due, concluded, done, told_at, interrupted_at}

@@ -1,5 +1,6 @@
 -- Every call and every turn leaves a job's PC and start places of memory.
-use Rattle.std.proofs.Common.{◌<◌, ℕ, zero, suc, ◌%◌, ◌^◌, nat_le, nat_lt, ◌==◌, ◌&&◌, Bool, true, false, is_none, is_some, List, [], ◌∷◌, length, map, Option, Some, None, Result, Ok, Err, arith, slice_set, subst, sym}
+use Rattle.std.proofs.Common.{◌<◌, ℕ, zero, suc, ◌%◌, ◌^◌, nat_le, nat_lt, ◌==◌, ◌&&◌, Bool, true, false, is_none, is_some, List, [], ◌∷◌}
+use Rattle.std.proofs.Common.{length, map, Option, Some, None, Result, Ok, Err, arith, slice_set, subst, sym}
 use Rattle.word36.specs.declared.sizes.TheConstants.{DATA_WORDS, OUTPUT_RING}
 use Rattle.std.specs.Option.{option_map}
 use Rattle.word36.specs.Words.{right_half}
@@ -23,7 +24,8 @@ use Rattle.job_sched.proofs.Limits.{job-limited, limited-kept}
 use Rattle.job_sched.specs.declared.job.Job.{Job}
 use Rattle.uuo_calls.specs.declared.service.Awaited.{Awaited}
 use Rattle.uuo_calls.specs.declared.service.Service.{Service}
-use Rattle.uuo_calls.specs.declared.service.Service.TheVariants.{Reset, Core, Exit, Monrt, Logout, Mstime, Pjob, Sleep, Piini, Pisys, Debrk, Enq, Deq, Enqc, Datrd, Datwr, Input, Outchr, Outstr, Clrbfi, Clrbfo, Skpin, Unlisted}
+use Rattle.uuo_calls.specs.declared.service.Service.TheVariants.{Reset, Core, Exit, Monrt, Logout, Mstime, Pjob, Sleep, Piini, Pisys, Debrk, Enq, Deq, Enqc}
+use Rattle.uuo_calls.specs.declared.service.Service.TheVariants.{Datrd, Datwr, Input, Outchr, Outstr, Clrbfi, Clrbfo, Skpin, Unlisted}
 use Rattle.uuo_calls.specs.Around.{Around, ac_of, stopped}
 use Rattle.uuo_calls.specs.CoreRow.{JobCores, grown, blocks_asked, core_done}
 use Rattle.uuo_calls.specs.DataRows.{JobData}

@@ -1,7 +1,9 @@
 -- Every event keeps the state safe.
 use Rattle.machine.specs.declared.sizes.TheConstants.{INTERRUPT_CHARACTER}
 use Rattle.job_sched.specs.declared.job_error.JobError.{JobError}
-use Rattle.std.proofs.Common.{◌^◌, ◌≡◌, ◌≢◌, ◌≤◌, ◌<◌, ◌∙◌, sym, ap, subst, ℕ, zero, suc, ◌+◌, ◌-◌, ◌*◌, ◌/◌, ◌%◌, ◌==◌, ◌&&◌, nat_lt, nat_le, not, Bool, true, false, List, [], ◌∷◌, length, Option, Some, None, is_some, is_none, Result, Ok, Err, is_ok, refl, arith, slice_set, slice_index_or, replicate, IsSome, rules, sum_by}
+use Rattle.std.proofs.Common.{◌^◌, ◌≡◌, ◌≢◌, ◌≤◌, ◌<◌, ◌∙◌, sym, ap, subst, ℕ, zero, suc, ◌+◌, ◌-◌, ◌*◌, ◌/◌, ◌%◌, ◌==◌, ◌&&◌, nat_lt, nat_le}
+use Rattle.std.proofs.Common.{not, Bool, true, false, List, [], ◌∷◌, length, Option, Some, None, is_some, is_none, Result, Ok, Err, is_ok}
+use Rattle.std.proofs.Common.{refl, arith, slice_set, slice_index_or, replicate, IsSome, rules, sum_by}
 use Rattle.std.proofs.lemmas.Grind.{common_steps}
 use Rattle.std.proofs.lemmas.Bool.{both_ways, and_parts, false_from_ne_true}
 use Rattle.word36.specs.declared.sizes.TheConstants.{JOBS, BLOCK_WORDS, MOST_BLOCKS, LINES, INPUT_RING, DATA_WORDS}
@@ -22,7 +24,8 @@ use Rattle.job_sched.specs.Tables.{job_at, no_jobs}
 use Rattle.job_sched.specs.declared.job.Job.{Job}
 use Rattle.job_sched.specs.Tables.{Table}
 use Rattle.uuo_calls.specs.declared.service.Service.{Service}
-use Rattle.uuo_calls.specs.declared.service.Service.TheVariants.{Reset, Core, Exit, Monrt, Logout, Mstime, Pjob, Sleep, Piini, Pisys, Debrk, Enq, Deq, Enqc, Datrd, Datwr, Input, Outchr, Outstr, Clrbfi, Clrbfo, Skpin, Unlisted}
+use Rattle.uuo_calls.specs.declared.service.Service.TheVariants.{Reset, Core, Exit, Monrt, Logout, Mstime, Pjob, Sleep, Piini, Pisys, Debrk, Enq, Deq, Enqc}
+use Rattle.uuo_calls.specs.declared.service.Service.TheVariants.{Datrd, Datwr, Input, Outchr, Outstr, Clrbfi, Clrbfo, Skpin, Unlisted}
 use Rattle.ka_cpu.specs.declared.outcome.StopReason.TheVariants.{IllegalAddress}
 use Rattle.ka_cpu.specs.Places.{are_legal}
 use Rattle.uuo_calls.specs.Around.{Around, ac_of, stopped}
@@ -42,7 +45,8 @@ use Rattle.machine.specs.declared.event.Event.TheVariants.{Step, Tick, Typed, Ta
 use Rattle.uuo_calls.specs.declared.call.MonitorCall.{MonitorCall}
 use Rattle.job_sched.specs.Changes.{chosen, free_number, first_free, is_at}
 use Rattle.job_sched.specs.Jobs.{broken_job, started_job, going_on, ticked_job}
-use Rattle.machine.specs.Machine.{S, made_if, with_turn, called, awake, ran, stepped, limited, ticked, first_quota, killed, happens, at_boot, Made, made, typed, broken, taken, started, continued, with_image, admitted, examined, logged_in}
+use Rattle.machine.specs.Machine.{S, made_if, with_turn, called, awake, ran, stepped, limited, ticked, first_quota, killed, happens, at_boot, Made}
+use Rattle.machine.specs.Machine.{made, typed, broken, taken, started, continued, with_image, admitted, examined, logged_in}
 use Rattle.job_sched.specs.Jobs.{new_job}
 use Rattle.machine.specs.Images.{blocks_for, image_top, top_of, image_places, loaded, fresh_regs}
 use Rattle.machine.specs.Safe.{Safe, Placed, Housed, Queued, wait_of, line_of, LinesApart, LinesBelow}
@@ -51,20 +55,23 @@ use Rattle.lock_laws.specs.Circles.{NoPlainCircle}
 use Rattle.lock_laws.proofs.EveryChange.{safe_jobs_make_no_circle}
 use Rattle.lock_laws.proofs.AlongCalls.{always_safe}
 use Rattle.lock_laws.proofs.Circling.{by_latest, waits-none}
-use Rattle.monitor_laws.proofs.Housing.{there-set, is_job, housed-job, housed-core, housed-resized, housed-highest, housed-gone, housed-taken, housed-same, mild-ticked, mild-broken, same-limited, same-mapped}
+use Rattle.monitor_laws.proofs.Housing.{there-set, is_job, housed-job, housed-core, housed-resized, housed-highest, housed-gone}
+use Rattle.monitor_laws.proofs.Housing.{housed-taken, housed-same, mild-ticked, mild-broken, same-limited, same-mapped}
 use Rattle.monitor_laws.proofs.Placing.{placed-set, placed-map, placed-ticked, placed-broken, placed-limited}
 use Rattle.ka_cpu.proofs.ExecLaws.{by_test, length-core_with, length-exec}
 use Rattle.monitor_laws.proofs.Turning.{length-noted}
 use Rattle.monitor_laws.proofs.Enquiring.{by_enqc}
 use Rattle.monitor_laws.proofs.Stored.{length-status, length-input}
-use Rattle.monitor_laws.proofs.Queueing.{queued-job, queued-call, queued-told, free-told, queued-gone, queued-released, queued-started, queued-going_on, queued-new, queued-mapped, queued-limited}
+use Rattle.monitor_laws.proofs.Queueing.{queued-job, queued-call, queued-told, free-told, queued-gone, queued-released}
+use Rattle.monitor_laws.proofs.Queueing.{queued-started, queued-going_on, queued-new, queued-mapped, queued-limited}
 use Rattle.std.proofs.lemmas.List.{length-set}
 use Rattle.std.specs.List.{list_any}
 use Rattle.std.specs.Option.{option_map}
 use Rattle.monitor_laws.proofs.Waiting.{holds-grant}
 use Rattle.job_sched.specs.declared.time_of_day.TheConstants.{TICKS_A_DAY}
 use Rattle.job_sched.specs.Changes.{ticked_table}
-use Rattle.monitor_laws.proofs.Keeping.{Kept, kept-refl, kept-row, kept-turned, kept-left, lines-set, apart-kept, words-taken, lines-same, apart-new, below-kept, below-new}
+use Rattle.monitor_laws.proofs.Keeping.{Kept, kept-refl, kept-row, kept-turned, kept-left, lines-set, apart-kept}
+use Rattle.monitor_laws.proofs.Keeping.{words-taken, lines-same, apart-new, below-kept, below-new}
 
 -- a job that is there and does not wait, in a safe state
 pub record Free (size : ℕ) (jobs : List (Option Job)) (n : ℕ) (cores : Cores) (requests : List Request) : Type 0 where

@@ -1,5 +1,6 @@
 -- A job among others runs as it would alone.
-use Rattle.std.proofs.Common.{◌≡◌, ◌<◌, ◌∙◌, sym, ap, subst, ℕ, suc, ◌^◌, Bool, true, false, cond, List, [], ◌∷◌, ◌++◌, length, Option, Some, None, is_some, refl, arith, append_assoc}
+use Rattle.std.proofs.Common.{◌≡◌, ◌<◌, ◌∙◌, sym, ap, subst, ℕ, suc, ◌^◌, Bool, true, false, cond, List, [], ◌∷◌, ◌++◌}
+use Rattle.std.proofs.Common.{length, Option, Some, None, is_some, refl, arith, append_assoc}
 use Rattle.std.proofs.lemmas.Bool.{both_ways, eqb-true}
 use Rattle.ka_cpu.specs.Effects.{After}
 use Rattle.ka_cpu.specs.Exec.{exec}
@@ -14,7 +15,8 @@ use Rattle.job_sched.specs.declared.job.Job.{Job}
 use Rattle.uuo_calls.specs.Performed.{World}
 use Rattle.machine.specs.declared.event.Event.{Event}
 use Rattle.machine.specs.declared.event.Event.TheVariants.{Step, Tick, Typed, Take, Login, Start, Continue, Kill, Restart}
-use Rattle.machine.specs.Alone.{Solo, solo_step, solo, is_allowed, OnlyPrints, Spares, spares, is_ran, advances, steps_of, taken_by, taken_from, solo_of, RunsAlone}
+use Rattle.machine.specs.Alone.{Solo, solo_step, solo, is_allowed, OnlyPrints, Spares, spares, is_ran, advances}
+use Rattle.machine.specs.Alone.{steps_of, taken_by, taken_from, solo_of, RunsAlone}
 use Rattle.job_sched.specs.Changes.{chosen}
 use Rattle.machine.specs.Machine.{S, Made, with_turn, called, awake, ran, stepped, happens, after}
 use Rattle.machine.specs.Safe.{Safe, Placed, line_of}

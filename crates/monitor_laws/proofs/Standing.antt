@@ -1,5 +1,6 @@
 -- What is known of a job at each time of a run, and that an event in which it does not run leaves that.
-use Rattle.std.proofs.Common.{◌≡◌, ◌≢◌, ◌<◌, ◌∙◌, sym, ap, subst, ℕ, Bool, true, false, not, ◌&&◌, ◌==◌, nat_le, min, List, [], ◌++◌, length, take, drop, Option, Some, None, Result, Ok, Err, is_some, is_none, inl, inr, refl, arith, append_assoc}
+use Rattle.std.proofs.Common.{◌≡◌, ◌≢◌, ◌<◌, ◌∙◌, sym, ap, subst, ℕ, Bool, true, false, not, ◌&&◌, ◌==◌, nat_le, min, List, [], ◌++◌, length, take}
+use Rattle.std.proofs.Common.{drop, Option, Some, None, Result, Ok, Err, is_some, is_none, inl, inr, refl, arith, append_assoc}
 use Rattle.std.proofs.lemmas.Grind.{common_steps}
 use Rattle.std.proofs.lemmas.Bool.{both_ways, cases_eq, eqb-true, eq-eqb}
 use Rattle.std.proofs.lemmas.List.{get_or-set_other, get_or-set_same}
@@ -31,7 +32,8 @@ use Rattle.job_sched.specs.Limits.{limit_of, limited_job}
 use Rattle.job_sched.specs.declared.job.Wait.{Wait}
 use Rattle.job_sched.specs.declared.job.Wait.TheVariants.{None as Nothing, Sleep, Char, Line, Room, Queue}
 use Rattle.job_sched.proofs.Limits.{job-limited, limited-none}
-use Rattle.machine.specs.Machine.{S, Made, limited, made_if, started, continued, with_turn, called, awake, ran, stepped, killed, happens, typed, broken, taken, admitted, examined, logged_in, with_image, after}
+use Rattle.machine.specs.Machine.{S, Made, limited, made_if, started, continued, with_turn, called, awake, ran, stepped, killed}
+use Rattle.machine.specs.Machine.{happens, typed, broken, taken, admitted, examined, logged_in, with_image, after}
 use Rattle.machine.specs.Safe.{Safe, Housed, line_of, LinesApart}
 use Rattle.machine.specs.Turns.{Turn, turn_of, due}
 use Rattle.monitor_laws.proofs.Housing.{at-ticked, at-mapped, there-below}

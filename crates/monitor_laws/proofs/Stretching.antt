@@ -1,5 +1,6 @@
 -- Rounds of one job that only computes, made at once, are those rounds one after another.
-use Rattle.std.proofs.Common.{◌≡◌, ◌≢◌, ◌<◌, ◌≤◌, ◌^◌, ◌∙◌, sym, ap, subst, ℕ, zero, suc, ◌+◌, ◌-◌, ◌==◌, ◌&&◌, not, nat_lt, Bool, true, false, cond, inl, inr, List, [], length, Option, Some, None, is_none, is_some, slice_set, refl, arith, IsSome}
+use Rattle.std.proofs.Common.{◌≡◌, ◌≢◌, ◌<◌, ◌≤◌, ◌^◌, ◌∙◌, sym, ap, subst, ℕ, zero, suc, ◌+◌, ◌-◌, ◌==◌, ◌&&◌, not, nat_lt, Bool, true, false, cond}
+use Rattle.std.proofs.Common.{inl, inr, List, [], length, Option, Some, None, is_none, is_some, slice_set, refl, arith, IsSome}
 use Rattle.std.proofs.lemmas.Bool.{and_parts, cases_eq, eq-eqb, false≢true, lt-ltb}
 use Rattle.std.proofs.lemmas.List.{get_or-set_other, get_or-set_same, set-set}
 use Rattle.std.specs.List.{list_any}
@@ -248,7 +249,8 @@ quiet-limited w none =
     (withdrawn-none w.requests (expires w.requests w.table.jobs) (expires-awake w.requests w.table.jobs none))
 
 -- a tick after a step that is done
-pub tick-done : (s : S) (n : ℕ) (j : Job) (ticking : Bool) (i : ℕ) (g : Regs) (core : List ℕ) → (ticking ≡ true → list_any is_sleeper s.world.table.jobs ≡ false)
+pub tick-done : (s : S) (n : ℕ) (j : Job) (ticking : Bool) (i : ℕ) (g : Regs) (core : List ℕ) →
+    (ticking ≡ true → list_any is_sleeper s.world.table.jobs ≡ false)
     → ticked_if ticking (ended_by s n j ticking i (record { regs = g; core = core; outcome = outcome.Done })) ≡ going s n j ticking i g core
 tick-done s n j false i g core awake = refl
 tick-done s n j true i g core awake =

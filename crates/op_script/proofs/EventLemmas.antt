@@ -1,5 +1,6 @@
 -- Lemmas on events that happen several times.
-use Rattle.std.proofs.Common.{◌≡◌, ◌<◌, ◌≤◌, ◌+◌, ◌-◌, ◌++◌, ◌∙◌, ℕ, suc, cond, List, [], ◌∷◌, Option, Some, None, length, drop, replicate, refl, ap, sym, arith, append_assoc, append-nil, get_or}
+use Rattle.std.proofs.Common.{◌≡◌, ◌<◌, ◌≤◌, ◌+◌, ◌-◌, ◌++◌, ◌∙◌, ℕ, suc, cond, List, [], ◌∷◌, Option, Some, None, length}
+use Rattle.std.proofs.Common.{drop, replicate, refl, ap, sym, arith, append_assoc, append-nil, get_or}
 use Rattle.std.proofs.lemmas.List.{drop_more, drop_all}
 use Rattle.std.proofs.lemmas.Bool.{lt-ltb, le-ltb}
 use Rattle.word36.specs.declared.sizes.TheConstants.{TAKEN_AT_ONCE}

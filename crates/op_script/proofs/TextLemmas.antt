@@ -1,5 +1,6 @@
 -- Lemmas on texts.
-use Rattle.std.proofs.Common.{◌≡◌, ◌<◌, ◌≤◌, ◌+◌, ◌-◌, ◌++◌, ◌∙◌, ℕ, zero, suc, List, [], ◌∷◌, Option, Some, None, length, drop, take, refl, ap, sym, arith, append_assoc, append-nil, length-append, length-drop}
+use Rattle.std.proofs.Common.{◌≡◌, ◌<◌, ◌≤◌, ◌+◌, ◌-◌, ◌++◌, ◌∙◌, ℕ, zero, suc, List, [], ◌∷◌, Option, Some, None, length, drop, take}
+use Rattle.std.proofs.Common.{refl, ap, sym, arith, append_assoc, append-nil, length-append, length-drop}
 use Rattle.std.specs.Prelude.{option_map, option_and_then}
 use Rattle.std.proofs.lemmas.List.{take_rest}
 use Rattle.op_script.specs.Texts.{first_spelled, spelled_behind, characters_of}

@@ -1,5 +1,6 @@
 -- The commands of a script on the machine (this project's profile).
-use Rattle.std.specs.Prelude.{◌==◌, ◌-◌, ◌^◌, ℕ, Bool, List, [], ◌∷◌, drop, nat_eq, Option, Some, None, if◌then◌else◌, codes, bytes_eq, option_and_then, option_map}
+use Rattle.std.specs.Prelude.{◌==◌, ◌-◌, ◌^◌, ℕ, Bool, List, [], ◌∷◌, drop, nat_eq, Option, Some, None}
+use Rattle.std.specs.Prelude.{if◌then◌else◌, codes, bytes_eq, option_and_then, option_map}
 use Rattle.std.specs.List.{before_first, after_first, starts_with}
 use Rattle.word36.specs.declared.sizes.TheConstants.{DATA_WORDS}
 use Rattle.script_io.specs.Numbers.{number, parts}

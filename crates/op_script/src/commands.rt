@@ -3,7 +3,8 @@ ghost use Rattle.std.specs.Prelude.{◌≡◌, ◌^◌, ◌<◌, ◌≤◌, ◌&
 ghost use Rattle.std.specs.List.{before_first, after_first};
 ghost use Rattle.script_io.specs.Lines.{is_allowed};
 ghost use Rattle.op_script.specs.Names.{name_of};
-ghost use Rattle.op_script.specs.Commands.{byte_of, count_of, address_of, data_place_of, only, alone, login_of, shown_by, examine_of, is_space, text_of, typed_of, keyword_of, command_with, command_of_items, command_of};
+ghost use Rattle.op_script.specs.Commands.{byte_of, count_of, address_of, data_place_of, only, alone, login_of, shown_by, examine_of, is_space};
+ghost use Rattle.op_script.specs.Commands.{text_of, typed_of, keyword_of, command_with, command_of_items, command_of};
 
 use crate::names::ImageName;
 use crate::texts::TypedText;

@@ -1,7 +1,8 @@
 //! The lines that a script on the machine writes.
 ghost use Rattle.std.specs.Prelude.{◌≡◌, ◌++◌, ◌<◌, ◌^◌, OnOk};
 ghost use Rattle.word36.specs.Octal.{octal};
-ghost use Rattle.op_script.specs.Printing.{refused_line, number_line, text_line, answer_line, ran_line, done_line, taken_line, image_line, limit_text, wait_text, standing_text, job_line, place_line, word_line};
+ghost use Rattle.op_script.specs.Printing.{refused_line, number_line, text_line, answer_line, ran_line, done_line, taken_line, image_line};
+ghost use Rattle.op_script.specs.Printing.{limit_text, wait_text, standing_text, job_line, place_line, word_line};
 
 use crate::names::ImageName;
 use crate::texts::push_text;

@@ -3,7 +3,8 @@ ghost use Rattle.std.specs.Prelude.{◌≡◌, ◌++◌, ◌^◌, ◌≤◌, Non
 ghost use Rattle.mac_asm.specs.Outcome.{outcome_of};
 ghost use Rattle.script_io.specs.Serves.{Serves, Blames};
 ghost use Rattle.script_io.specs.Endings.{served_as};
-ghost use Rattle.op_script.specs.RunScripts.{effect_of, defined, assembled_text, assembled_ending, source_effect, line_effect, fresh, transcript_of, transcript};
+ghost use Rattle.op_script.specs.RunScripts.{effect_of, defined, assembled_text, assembled_ending, source_effect};
+ghost use Rattle.op_script.specs.RunScripts.{line_effect, fresh, transcript_of, transcript};
 
 use crate::commands::{Command, read_command};
 use crate::desk::{Desk, Machine};

@@ -1,7 +1,8 @@
 //! What concerns the requests of one job: what it wants, which wait, which are told, which leave.
 ghost use Rattle.std.specs.Prelude.{◌≡◌, ◌≤◌, length};
 ghost use Rattle.std.specs.List.{list_any};
-ghost use Rattle.lock_queue.specs.Jobs.{is_waiting_job, withdrawn, withdrawn_all, is_pending, pending, as_told, told_of, is_in_the_way, is_kept_by, is_blocked_by, waits_for};
+ghost use Rattle.lock_queue.specs.Jobs.{is_waiting_job, withdrawn, withdrawn_all, is_pending, pending, as_told, told_of};
+ghost use Rattle.lock_queue.specs.Jobs.{is_in_the_way, is_kept_by, is_blocked_by, waits_for};
 ghost use Rattle.lock_queue.specs.Queue.{names, wants_at, wants_of, requests_of};
 
 use crate::row::Row;

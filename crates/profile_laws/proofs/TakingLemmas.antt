@@ -1,5 +1,6 @@
 -- Takes of 64 characters, up to one that gives fewer, take all of an output.
-use Rattle.std.proofs.Common.{◌≡◌, ◌<◌, ◌≤◌, ◌*◌, ◌∙◌, ℕ, zero, suc, Bool, true, false, List, ◌++◌, length, take, drop, take_all, take-append-drop, None, refl, sym, ap, subst, arith, cond, inl, inr, nat_lt, slice_index_or}
+use Rattle.std.proofs.Common.{◌≡◌, ◌<◌, ◌≤◌, ◌*◌, ◌∙◌, ℕ, zero, suc, Bool, true, false, List, ◌++◌, length, take, drop, take_all}
+use Rattle.std.proofs.Common.{take-append-drop, None, refl, sym, ap, subst, arith, cond, inl, inr, nat_lt, slice_index_or}
 use Rattle.std.proofs.lemmas.Bool.{cases_lt, lt-leb, ltb-true, ltb-false}
 use Rattle.std.proofs.lemmas.List.{drop_all, length-set, length-take-le, length-drop, get_or-set_same}
 use Rattle.std.proofs.lemmas.List.Elements.{All-get_or}
@@ -28,12 +29,18 @@ after_take s line =
 happens-take : (s : S) (line : ℕ) → line < LINES
     → happens s (event.Take line TAKEN_AT_ONCE) ≡ record { state = after_take s line; answer = Text (take TAKEN_AT_ONCE (output_of s.world.lines line)) }
 happens-take s line low =
-    ap (λ b. cond b (refused s NoLine) (record { state = after_take s line; answer = Text (take TAKEN_AT_ONCE (output_of s.world.lines line)) })) (lt-leb LINES line low)
+    ap (λ b. cond b (refused s NoLine) (record { state = after_take s line; answer = Text (take TAKEN_AT_ONCE (output_of s.world.lines line)) }))
+    (lt-leb LINES line low)
 
 -- the line's output is what is left then
-left-then : (s : S) (line : ℕ) → line < length s.world.lines → output_of (after_take s line).world.lines line ≡ drop TAKEN_AT_ONCE (output_of s.world.lines line)
+left-then : (s : S) (line : ℕ) → line < length s.world.lines →
+    output_of (after_take s line).world.lines line ≡ drop TAKEN_AT_ONCE (output_of s.world.lines line)
 left-then s line there =
-    ap (λ r. r.output) (get_or-set_same s.world.lines line (record { input = (slice_index_or s.world.lines line no_characters).input; output = drop TAKEN_AT_ONCE (output_of s.world.lines line) }) no_characters there)
+    ap (λ r. r.output) (get_or-set_same s.world.lines line (record {
+      input =
+          (slice_index_or s.world.lines line no_characters).input;
+      output = drop TAKEN_AT_ONCE (output_of s.world.lines line);
+    }) no_characters there)
 
 -- ---- several
 
@@ -63,7 +70,8 @@ takes-enough (suc k) s line low count few =
       taken = refl;
     })
     (λ long.
-    let i = takes-enough k next line low (length-set s.world.lines line _ ∙ count) (subst (λ l. length l < k * TAKEN_AT_ONCE) (sym left) (fewer k out (ltb-false _ _ long) few)) in record {
+    let i = takes-enough k next line low (length-set s.world.lines line _ ∙ count)
+    (subst (λ l. length l < k * TAKEN_AT_ONCE) (sym left) (fewer k out (ltb-false _ _ long) few)) in record {
       text = ap (λ l. take TAKEN_AT_ONCE out ++ l) (i.text ∙ left) ∙ take-append-drop TAKEN_AT_ONCE out;
       left = i.left;
       taken = i.taken;
@@ -75,7 +83,8 @@ takes-enough (suc k) s line low count few =
       | inr h ↦ absurd (let e = length-take-le TAKEN_AT_ONCE out h in omega (arith, short, e))
     ]
 
-    fewer : (k : ℕ) (out : List ℕ) → TAKEN_AT_ONCE ≤ length (take TAKEN_AT_ONCE out) → length out < suc k * TAKEN_AT_ONCE → length (drop TAKEN_AT_ONCE out) < k * TAKEN_AT_ONCE
+    fewer : (k : ℕ) (out : List ℕ) → TAKEN_AT_ONCE ≤ length (take TAKEN_AT_ONCE out) →
+        length out < suc k * TAKEN_AT_ONCE → length (drop TAKEN_AT_ONCE out) < k * TAKEN_AT_ONCE
     fewer k out long few = elim (cases_lt (length out) TAKEN_AT_ONCE) [
       | inl h ↦ absurd (let e = ap (λ l. length l) (take_all TAKEN_AT_ONCE out (omega (arith, h))) in omega (arith, long, h, e))
       | inr h ↦ (let e = length-drop TAKEN_AT_ONCE out in omega (arith, h, few, e))

@@ -1,5 +1,6 @@
 -- Printed characters are read again.
-use Rattle.std.proofs.Common.{◌≡◌, ℕ, suc, ◌+◌, ◌-◌, ◌*◌, ◌/◌, ◌%◌, ◌<◌, ◌≤◌, ◌≢◌, Bool, true, false, List, [], ◌∷◌, ◌++◌, Some, refl, sym, ap, subst, ◌∙◌, arith, cond, nat_eq, nat_lt, nat_le, ◌||◌}
+use Rattle.std.proofs.Common.{◌≡◌, ℕ, suc, ◌+◌, ◌-◌, ◌*◌, ◌/◌, ◌%◌, ◌<◌, ◌≤◌, ◌≢◌, Bool, true, false, List, [], ◌∷◌, ◌++◌, Some}
+use Rattle.std.proofs.Common.{refl, sym, ap, subst, ◌∙◌, arith, cond, nat_eq, nat_lt, nat_le, ◌||◌}
 use Rattle.std.proofs.lemmas.Bool.{le-leb, eqb-false, eqb-true}
 use Rattle.std.proofs.lemmas.Bool.Decides.{eqb_tells}
 use Rattle.std.proofs.Common.{inl, inr}
@@ -66,7 +67,8 @@ unfolding spelled_behind
 in_octal c rest low =
     let whole : 64 * (c / 64) + 8 * (c / 8 % 8) + c % 8 ≡ c = omega arith in
     let f = octal_read (c / 64) (c / 8 % 8) (c % 8) rest (omega arith) (omega arith) (omega arith) in
-    ap (λ o. option_and_then (λ s. option_map (λ cs. s.character ∷ cs) (spelled_behind (s.length - 1) ((48 + c / 64) ∷ (48 + c / 8 % 8) ∷ (48 + c % 8) ∷ rest))) o) f
+    ap (λ o. option_and_then (λ s. option_map (λ cs. s.character ∷ cs)
+    (spelled_behind (s.length - 1) ((48 + c / 64) ∷ (48 + c / 8 % 8) ∷ (48 + c % 8) ∷ rest))) o) f
     ∙ ap (λ n. option_map (λ cs. n ∷ cs) (characters_of rest)) whole
 
 pub character_read : (c : ℕ) (rest : List ℕ) → c < 128 → ReadsAs c rest (printed_character c)
@@ -81,4 +83,5 @@ character_read c rest low =
 pub text_read : (text : List ℕ) → All (λ c. c < 128) text → characters_of (printed text) ≡ Some text
 unfolding spelled_behind
 text_read [] h = refl
-text_read (c ∷ more) h = character_read c (printed more) (All-head (λ n. n < 128) c more h) ∙ ap (option_map (λ cs. c ∷ cs)) (text_read more (All-tail (λ n. n < 128) c more h))
+text_read (c ∷ more) h = character_read c (printed more) (All-head (λ n. n < 128) c more h)
+    ∙ ap (option_map (λ cs. c ∷ cs)) (text_read more (All-tail (λ n. n < 128) c more h))

@@ -1,5 +1,6 @@
 -- Nobody comes in front of a request over events and runs.
-use Rattle.std.proofs.Common.{◌≡◌, sym, subst, ℕ, zero, suc, Bool, true, false, ◌&&◌, ◌==◌, cond, nat_le, List, [], ◌∷◌, length, Option, Some, None, is_some, Result, Ok, Err, refl, slice_set, ◌⊎◌, inl, inr, ◌++◌, ap}
+use Rattle.std.proofs.Common.{◌≡◌, sym, subst, ℕ, zero, suc, Bool, true, false, ◌&&◌, ◌==◌, cond, nat_le, List, [], ◌∷◌, length, Option}
+use Rattle.std.proofs.Common.{Some, None, is_some, Result, Ok, Err, refl, slice_set, ◌⊎◌, inl, inr, ◌++◌, ap}
 use Rattle.std.specs.List.{list_any}
 use Rattle.word36.specs.declared.sizes.TheConstants.{LINES, INPUT_RING}
 use Rattle.word36.specs.Words.{left_half, right_half}
@@ -36,15 +37,18 @@ use Rattle.uuo_calls.specs.declared.call.CallOutcome.{CallOutcome}
 use Rattle.uuo_calls.specs.declared.call.CallOutcome.TheVariants as ending
 use Rattle.uuo_calls.specs.declared.call.MonitorCall.{MonitorCall}
 use Rattle.uuo_calls.specs.declared.service.Service.{Service}
-use Rattle.uuo_calls.specs.declared.service.Service.TheVariants.{Reset, Core, Exit, Monrt, Logout, Mstime, Pjob, Sleep, Piini, Pisys, Debrk, Enq, Deq, Enqc, Datrd, Datwr, Input, Outchr, Outstr, Clrbfi, Clrbfo, Skpin, Unlisted}
+use Rattle.uuo_calls.specs.declared.service.Service.TheVariants.{Reset, Core, Exit, Monrt, Logout, Mstime, Pjob, Sleep, Piini, Pisys, Debrk, Enq, Deq, Enqc}
+use Rattle.uuo_calls.specs.declared.service.Service.TheVariants.{Datrd, Datwr, Input, Outchr, Outstr, Clrbfi, Clrbfo, Skpin, Unlisted}
 use Rattle.machine.specs.declared.event.Answer.TheVariants.{Ran}
 use Rattle.machine.specs.declared.event.Event.{Event}
 use Rattle.machine.specs.declared.event.Event.TheVariants.{Step, Tick, Typed, Take, Login, Start, Continue, Kill, Restart}
 use Rattle.machine.specs.declared.sizes.TheConstants.{INTERRUPT_CHARACTER}
 use Rattle.machine.specs.Images.{image_top, blocks_for}
-use Rattle.machine.specs.Machine.{S, Made, made_if, started, continued, with_turn, after_turn, called, awake, ran, stepped, killed, happens, typed, taken, admitted, examined, logged_in}
+use Rattle.machine.specs.Machine.{S, Made, made_if, started, continued, with_turn, after_turn, called, awake, ran, stepped}
+use Rattle.machine.specs.Machine.{killed, happens, typed, taken, admitted, examined, logged_in}
 use Rattle.machine.specs.Turns.{Turn, turn_of, turned, due, concluded, delivered, done, told_at, interrupted_at}
-use Rattle.progress_laws.specs.Arrivals.{is_enq, changes_wants, job_changes_wants, next_changes_wants, is_change_of_wants, LeaveOrComeOver, InFrontOver, NobodyInFrontAlong}
+use Rattle.progress_laws.specs.Arrivals.{is_enq, changes_wants, job_changes_wants, next_changes_wants}
+use Rattle.progress_laws.specs.Arrivals.{is_change_of_wants, LeaveOrComeOver, InFrontOver, NobodyInFrontAlong}
 use Rattle.lock_laws.specs.Owning.{is_dequeue}
 use Rattle.progress_laws.specs.Fronts.{IsSame, IsSameButSharing, Remains, NobodyInFront, LeaveOrCome, is_change}
 use Rattle.progress_laws.specs.Thinning.{Thinned}

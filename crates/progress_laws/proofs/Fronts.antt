@@ -1,5 +1,6 @@
 -- Nobody comes in front.
-use Rattle.std.proofs.Common.{◌≡◌, ◌∙◌, sym, ap, subst, ℕ, Bool, true, false, not, ◌==◌, cond, refl, List, [], ◌∷◌, ◌++◌, map, filter, length, Option, Some, None, inl, inr}
+use Rattle.std.proofs.Common.{◌≡◌, ◌∙◌, sym, ap, subst, ℕ, Bool, true, false, not, ◌==◌, cond, refl, List, [], ◌∷◌}
+use Rattle.std.proofs.Common.{◌++◌, map, filter, length, Option, Some, None, inl, inr}
 use Rattle.std.specs.List.{list_any}
 use Rattle.arrayvec.specs.ArrayVec.{ArrayVec}
 use Rattle.lock_queue.specs.declared.call.Asking.{Asking}

@@ -1,5 +1,6 @@
 -- Jobs that ask for one lock at a time by rising levels are granted in time.
-use Rattle.std.proofs.Common.{◌≡◌, ◌≤◌, ◌<◌, ◌∙◌, ◌⊎◌, sym, ap, subst, ℕ, zero, suc, ◌+◌, ◌-◌, ◌*◌, ◌==◌, nat_lt, ◌&&◌, Bool, true, false, cond, List, [], ◌∷◌, length, filter, Option, Some, None, refl, arith, inl, inr}
+use Rattle.std.proofs.Common.{◌≡◌, ◌≤◌, ◌<◌, ◌∙◌, ◌⊎◌, sym, ap, subst, ℕ, zero, suc, ◌+◌, ◌-◌, ◌*◌, ◌==◌, nat_lt, ◌&&◌, Bool, true, false}
+use Rattle.std.proofs.Common.{cond, List, [], ◌∷◌, length, filter, Option, Some, None, refl, arith, inl, inr}
 use Rattle.std.proofs.lemmas.Bool.{and_parts, and_from, eqb-true, eq-eqb, lt-ltb, ltb-true, not-true, not_from_false}
 use Rattle.lock_queue.specs.declared.key.Key.{Key}
 use Rattle.lock_queue.specs.declared.request.Request.{Request}
@@ -25,12 +26,14 @@ use Rattle.progress_laws.specs.Levels.{IsPlain, HasLevels, HasFew, OwnersGoOn, t
 use Rattle.progress_laws.specs.Rounds.{rounds_from, MayRun, HasJobs, KeepsTime}
 use Rattle.progress_laws.specs.Together.{is_for, ahead, IsWithout, IsWantedAlone, steps_owning, GivenUpWithin}
 use Rattle.progress_laws.specs.Wakes.{IsWellFormed}
-use Rattle.progress_laws.proofs.Blocked.{BlockedFor, IsPlainList, OneWant, one-want, SomeKey, waits-for-key, blocked-waits, blocked-wanted, blocked-without, blocked-once, blocked-rises}
+use Rattle.progress_laws.proofs.Blocked.{BlockedFor, IsPlainList, OneWant, one-want, SomeKey, waits-for-key, blocked-waits}
+use Rattle.progress_laws.proofs.Blocked.{blocked-wanted, blocked-without, blocked-once, blocked-rises}
 use Rattle.progress_laws.proofs.Circles.{times-less, times-one-less}
 use Rattle.progress_laws.proofs.Counting.{turn, begun_after, counted, rounds-cons, owes, owed-falls, quantum-kept}
 use Rattle.progress_laws.proofs.Holders.{holder, First, first-of, first-granted, head-some, Stays}
 use Rattle.progress_laws.proofs.Running.{owed, always-first, time_is_kept}
-use Rattle.progress_laws.proofs.Together.{Stage, stage-any, stage-owns, stage-head, stage-least, stage-most, stage-owed, stage-begun, stage-moves, fewer-ahead, one-step, no-step, steps-more, steps-few, whole}
+use Rattle.progress_laws.proofs.Together.{Stage, stage-any, stage-owns, stage-head, stage-least, stage-most, stage-owed, stage-begun}
+use Rattle.progress_laws.proofs.Together.{stage-moves, fewer-ahead, one-step, no-step, steps-more, steps-few, whole}
 use Rattle.progress_laws.proofs.Waited.{still-blocked}
 use Rattle.progress_laws.proofs.WellFormed.{well_is_kept}
 

@@ -1,5 +1,6 @@
 -- A job's number is at most the number of lines.
-use Rattle.std.proofs.Common.{◌≡◌, ◌≢◌, ◌≤◌, ◌<◌, ◌∙◌, sym, ap, ℕ, zero, suc, ◌+◌, ◌==◌, nat_le, Bool, true, false, cond, min, List, [], ◌∷◌, Option, Some, None, is_some, slice_set, ◌⊎◌, refl, arith, inl, inr}
+use Rattle.std.proofs.Common.{◌≡◌, ◌≢◌, ◌≤◌, ◌<◌, ◌∙◌, sym, ap, ℕ, zero, suc, ◌+◌, ◌==◌, nat_le, Bool, true, false, cond, min, List}
+use Rattle.std.proofs.Common.{[], ◌∷◌, Option, Some, None, is_some, slice_set, ◌⊎◌, refl, arith, inl, inr}
 use Rattle.std.specs.List.{list_any}
 use Rattle.std.proofs.lemmas.Grind.{common_steps}
 use Rattle.std.proofs.lemmas.Bool.{cases_eq, cases_lt, both_ways, eqb-true, eq-eqb, le-leb, leb-false, or_parts}

@@ -1,5 +1,6 @@
 -- A job that may run at each step runs in time.
-use Rattle.std.proofs.Common.{◌≡◌, ◌≢◌, ◌≤◌, ◌<◌, ◌∙◌, ◌⊎◌, sym, ap, subst, ℕ, zero, suc, ◌+◌, ◌-◌, ◌*◌, ◌==◌, ◌&&◌, ◌||◌, nat_lt, Bool, true, false, List, [], ◌∷◌, Option, Some, None, is_some, replicate, refl, arith, inl, inr}
+use Rattle.std.proofs.Common.{◌≡◌, ◌≢◌, ◌≤◌, ◌<◌, ◌∙◌, ◌⊎◌, sym, ap, subst, ℕ, zero, suc, ◌+◌, ◌-◌, ◌*◌, ◌==◌, ◌&&◌, ◌||◌, nat_lt, Bool, true}
+use Rattle.std.proofs.Common.{false, List, [], ◌∷◌, Option, Some, None, is_some, replicate, refl, arith, inl, inr}
 use Rattle.std.specs.Prelude.{Contains}
 use Rattle.std.specs.List.{list_any}
 use Rattle.std.proofs.lemmas.Bool.{cases_eq, both_ways, and_parts, ltb-true, lt-ltb, eqb-true, eq-eqb}
@@ -26,8 +27,10 @@ use Rattle.monitor_laws.proofs.OtherCores.{jobs-chosen}
 use Rattle.progress_laws.specs.Rounds.{rounds_from, rounds_in, MayRun, HasJobs, KeepsTime, RunsInTime, RunsInTimeAmongAll, RunsInTimeAmongThese, is_login}
 use Rattle.progress_laws.specs.Turns.{passing_from, how_many}
 use Rattle.job_sched.proofs.Circle.{at}
-use Rattle.progress_laws.proofs.Circles.{asked_before, rounds_before, Found, found-before, reached, rounds-less, rounds-tick, rounds-on, rounds-next, rounds-most}
-use Rattle.progress_laws.proofs.Tables.{Calm, NoneCame, none-same, Quiet, quiet-ran, still-ticked, still-typed, still-taken, still-started, still-continued, still-killed, steady-logged_in}
+use Rattle.progress_laws.proofs.Circles.{asked_before, rounds_before, Found, found-before, reached, rounds-less}
+use Rattle.progress_laws.proofs.Circles.{rounds-tick, rounds-on, rounds-next, rounds-most}
+use Rattle.progress_laws.proofs.Tables.{Calm, NoneCame, none-same, Quiet, quiet-ran, still-ticked, still-typed, still-taken}
+use Rattle.progress_laws.proofs.Tables.{still-started, still-continued, still-killed, steady-logged_in}
 
 -- who is ready is there
 pub ready-there : (lines : List Rings) (requests : List Request) (n : ℕ) (o : Option Job) → is_ready_job lines requests n o ≡ true → is_some o ≡ true

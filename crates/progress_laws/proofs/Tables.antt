@@ -1,5 +1,6 @@
 -- What events leave of the current job, of its quantum and of who is there.
-use Rattle.std.proofs.Common.{◌≡◌, ◌≤◌, ◌∙◌, sym, ap, subst, ℕ, zero, suc, ◌==◌, nat_le, true, false, cond, List, [], ◌∷◌, length, map, Option, Some, None, is_some, Result, Ok, Err, refl, arith, slice_set, inl, inr}
+use Rattle.std.proofs.Common.{◌≡◌, ◌≤◌, ◌∙◌, sym, ap, subst, ℕ, zero, suc, ◌==◌, nat_le, true, false, cond, List, [], ◌∷◌, length, map}
+use Rattle.std.proofs.Common.{Option, Some, None, is_some, Result, Ok, Err, refl, arith, slice_set, inl, inr}
 use Rattle.std.proofs.lemmas.Grind.{common_steps}
 use Rattle.std.proofs.lemmas.Bool.{cases_eq, both_ways}
 use Rattle.std.proofs.lemmas.List.{get_or-set_other}
@@ -24,7 +25,8 @@ use Rattle.uuo_calls.specs.declared.call.MonitorCall.{MonitorCall}
 use Rattle.uuo_calls.specs.declared.service.Service.{Service}
 use Rattle.machine.specs.declared.sizes.TheConstants.{INTERRUPT_CHARACTER}
 use Rattle.machine.specs.Images.{image_top, blocks_for}
-use Rattle.machine.specs.Machine.{S, Made, made_if, started, continued, with_turn, called, awake, ran, ticked, killed, typed, taken, admitted, examined, logged_in}
+use Rattle.machine.specs.Machine.{S, Made, made_if, started, continued, with_turn, called, awake, ran, ticked}
+use Rattle.machine.specs.Machine.{killed, typed, taken, admitted, examined, logged_in}
 use Rattle.machine.specs.Turns.{Turn, turn_of}
 use Rattle.job_sched.proofs.Limits.{there-limited}
 use Rattle.monitor_laws.proofs.Housing.{Mild, mild-ticked, mild-broken, at-mapped}

@@ -1,5 +1,6 @@
 -- No wake-up is lost.
-use Rattle.std.proofs.Common.{◌≡◌, ◌≢◌, ◌≤◌, ◌∙◌, sym, ap, subst, ℕ, ◌+◌, ◌==◌, ◌&&◌, nat_le, not, Bool, true, false, List, [], ◌∷◌, ◌++◌, take, filter, sum_by, Option, Some, None, is_some, is_none, refl, arith, ◌⊎◌, inl, inr}
+use Rattle.std.proofs.Common.{◌≡◌, ◌≢◌, ◌≤◌, ◌∙◌, sym, ap, subst, ℕ, ◌+◌, ◌==◌, ◌&&◌, nat_le, not, Bool, true, false, List, [], ◌∷◌, ◌++◌}
+use Rattle.std.proofs.Common.{take, filter, sum_by, Option, Some, None, is_some, is_none, refl, arith, ◌⊎◌, inl, inr}
 use Rattle.std.specs.List.{fold, list_any}
 use Rattle.std.proofs.lemmas.Bool.{both_ways, and_parts, and_from, or_parts, leb-true, le-leb, eq-eqb, not_from_false}
 use Rattle.lock_queue.specs.declared.request.Request.{Request}
@@ -7,10 +8,12 @@ use Rattle.lock_queue.specs.declared.want.Want.{Want}
 use Rattle.lock_queue.specs.Jobs.{is_blocked, is_blocked_by, is_in_the_way, is_kept_by, is_waiting_job, waits_for}
 use Rattle.lock_queue.specs.Keys.{same_key}
 use Rattle.lock_queue.specs.Pools.{PoolShare}
-use Rattle.lock_queue.specs.Queue.{all_wants, wants_at, requests_of, names, is_pooled, agree, amount_in, amount_of, fits, fits_beside, granted_behind, is_granted}
+use Rattle.lock_queue.specs.Queue.{all_wants, wants_at, requests_of, names, is_pooled, agree, amount_in}
+use Rattle.lock_queue.specs.Queue.{amount_of, fits, fits_beside, granted_behind, is_granted}
 use Rattle.lock_queue.specs.WellFormed.{is_right_pool, is_in_range, is_well_formed, are_well_formed}
 use Rattle.lock_queue.proofs.Fitting.{same_key-eq}
-use Rattle.lock_queue.proofs.Lists.{Has, Has-left, Has-right, Has-filter, filter-Has, Has-map, Has-flat_map, flat_map-Has, list_all-Has, list_all-each, list_all-fails, list_any-Has, list_any-found, flat_map-append, Pairs, Pairs-across}
+use Rattle.lock_queue.proofs.Lists.{Has, Has-left, Has-right, Has-filter, filter-Has, Has-map, Has-flat_map, flat_map-Has, list_all-Has}
+use Rattle.lock_queue.proofs.Lists.{list_all-each, list_all-fails, list_any-Has, list_any-found, flat_map-append, Pairs, Pairs-across}
 use Rattle.lock_queue.proofs.WellKept.{wants_in_range}
 use Rattle.lock_laws.specs.Claims.{claim_of, claims_of, claims, AreApart}
 use Rattle.lock_laws.specs.Safe.{Safe as SafeRequests}
@@ -31,7 +34,8 @@ use Rattle.machine.specs.Machine.{S, after}
 use Rattle.machine.specs.Safe.{Safe}
 use Rattle.monitor_laws.proofs.Limiting.{limits_are_kept}
 use Rattle.progress_laws.proofs.Places.{or-behind}
-use Rattle.progress_laws.specs.Wakes.{FirstIsGranted, HasRoom, WhoHasRoomIsGranted, WaitersWaitForOthers, GrantedAreReady, IsReadyUnlessStopped, NobodyWaitsPastALimit}
+use Rattle.progress_laws.specs.Wakes.{FirstIsGranted, HasRoom, WhoHasRoomIsGranted, WaitersWaitForOthers}
+use Rattle.progress_laws.specs.Wakes.{GrantedAreReady, IsReadyUnlessStopped, NobodyWaitsPastALimit}
 
 -- a request that is there has pools that are right
 pub right-pool : (requests : List Request) (r : Request) (w : Want) → are_well_formed requests ≡ true → Has requests r

@@ -1,5 +1,6 @@
 -- The laws along scripts, from those of each change of the requests.
-use Rattle.std.proofs.Common.{◌≡◌, ◌+◌, ◌++◌, ◌∙◌, ap, sym, subst, refl, cond, ℕ, suc, Bool, true, false, List, [], ◌∷◌, length, Option, Some, None, Ok, Err, is_some, append_assoc, arith}
+use Rattle.std.proofs.Common.{◌≡◌, ◌+◌, ◌++◌, ◌∙◌, ap, sym, subst, refl, cond, ℕ, suc, Bool, true, false, List, [], ◌∷◌}
+use Rattle.std.proofs.Common.{length, Option, Some, None, Ok, Err, is_some, append_assoc, arith}
 use Rattle.lock_queue.specs.Calls.{outcome_of}
 use Rattle.lock_queue.specs.Jobs.{is_waiting_job}
 use Rattle.lock_queue.specs.declared.call.LockCall.{LockCall}
@@ -14,7 +15,8 @@ use Rattle.script_io.specs.Transcripts.{Transcript, after, unless_ended}
 use Rattle.queue_script.specs.Commands.{Asked, nothing, call, status, free, show, waits, quit, command_of}
 use Rattle.queue_script.specs.QueueScripts.{Effect, effect_of, call_effect, transcript_of}
 use Rattle.script_io.specs.declared.endings.Ending.{Ending}
-use Rattle.queue_laws.specs.Scripts.{effect_at, requests_after, ends_within, GivesUp, FollowsTranscript, ScriptsAreSafe, ScriptsMakeNoPlainCircle, LinesKeepOwners}
+use Rattle.queue_laws.specs.Scripts.{effect_at, requests_after, ends_within, GivesUp, FollowsTranscript}
+use Rattle.queue_laws.specs.Scripts.{ScriptsAreSafe, ScriptsMakeNoPlainCircle, LinesKeepOwners}
 
 -- ---- one line
 

@@ -1,5 +1,6 @@
 -- Each call that a line asks for can be made.
-use Rattle.std.proofs.Common.{◌≡◌, ◌&&◌, ◌||◌, ◌==◌, ◌∙◌, ap, sym, subst, refl, cond, ℕ, suc, Bool, true, false, not, List, [], ◌∷◌, length, Option, Some, None, Result, Ok, Err, is_some, nat_le, nat_lt, arith}
+use Rattle.std.proofs.Common.{◌≡◌, ◌&&◌, ◌||◌, ◌==◌, ◌∙◌, ap, sym, subst, refl, cond, ℕ, suc, Bool, true, false, not, List, [], ◌∷◌}
+use Rattle.std.proofs.Common.{length, Option, Some, None, Result, Ok, Err, is_some, nat_le, nat_lt, arith}
 use Rattle.std.specs.Prelude.{option_map, option_and_then, bytes_eq, codes}
 use Rattle.std.specs.List.{list_all}
 use Rattle.std.proofs.lemmas.Bool.Decides.{nat_tests}
@@ -21,7 +22,9 @@ use Rattle.lock_queue.specs.declared.terms.BlockUse.TheVariants.{Full, Named}
 use Rattle.lock_queue.specs.declared.terms.Terms.{Terms}
 use Rattle.lock_queue.specs.declared.want.Want.{Want}
 use Rattle.queue_script.specs.Asks.{asks_right}
-use Rattle.queue_script.specs.Commands.{Asked, show, waits, quit, free, not_zero, job_of, asked_call, asked_status, call_with, request_call, change_call, release_call, unknown_call, enqueue_call, enqueue_of, release_all_call, release_id_call, dequeue_call, dequeue_of, status_of_items, free_of, bare, named_command, command_of_items, command_of}
+use Rattle.queue_script.specs.Commands.{Asked, show, waits, quit, free, not_zero, job_of, asked_call, asked_status, call_with, request_call, change_call}
+use Rattle.queue_script.specs.Commands.{release_call, unknown_call, enqueue_call, enqueue_of, release_all_call, release_id_call, dequeue_call, dequeue_of}
+use Rattle.queue_script.specs.Commands.{status_of_items, free_of, bare, named_command, command_of_items, command_of}
 use Rattle.script_io.specs.Lines.{is_allowed, is_silent}
 use Rattle.queue_script.specs.Locks.{key_of, terms_of, locks_of, want_of, want_of_name, onto_wants, wants_of, stored, call_wants}
 use Rattle.script_io.specs.Numbers.{number, is_digit, value_onto, parts}

@@ -1,5 +1,7 @@
 -- Lemmas on who waits for whom.
-use Rattle.std.proofs.Common.{◌≡◌, ◌<◌, ◌≤◌, ◌+◌, ◌-◌, ◌*◌, ◌/◌, ◌%◌, ◌++◌, ◌&&◌, ◌||◌, ℕ, Bool, true, false, cond, suc, zero, List, [], ◌∷◌, length, slice_index_or, slice_set, replicate, arith, refl, sym, ap, ◌∙◌, append_assoc, append-nil, add-one, below_more, get_or-set_other, get_or-set_same, ◌≢◌, subst, inl, inr}
+use Rattle.std.proofs.Common.{◌≡◌, ◌<◌, ◌≤◌, ◌+◌, ◌-◌, ◌*◌, ◌/◌, ◌%◌, ◌++◌, ◌&&◌, ◌||◌, ℕ, Bool, true, false, cond, suc, zero, List, []}
+use Rattle.std.proofs.Common.{◌∷◌, length, slice_index_or, slice_set, replicate, arith, refl, sym, ap, ◌∙◌, append_assoc, append-nil}
+use Rattle.std.proofs.Common.{add-one, below_more, get_or-set_other, get_or-set_same, ◌≢◌, subst, inl, inr}
 use Rattle.std.proofs.lemmas.Bool.{cases_lt}
 use Rattle.std.proofs.Math.Bool.{beq}
 use Rattle.std.specs.Cmp.Lexicographic.{pointwise}

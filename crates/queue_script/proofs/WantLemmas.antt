@@ -1,5 +1,6 @@
 -- Lemmas on the wants of a call.
-use Rattle.std.proofs.Common.{◌≡◌, ◌≤◌, ◌+◌, ◌++◌, ◌&&◌, ℕ, Bool, true, false, cond, List, [], ◌∷◌, length, Option, Some, None, Result, Ok, Err, min, nat_le, arith, refl, sym, ap, ◌∙◌, append_assoc, length-append}
+use Rattle.std.proofs.Common.{◌≡◌, ◌≤◌, ◌+◌, ◌++◌, ◌&&◌, ℕ, Bool, true, false, cond, List, [], ◌∷◌, length, Option, Some, None, Result}
+use Rattle.std.proofs.Common.{Ok, Err, min, nat_le, arith, refl, sym, ap, ◌∙◌, append_assoc, length-append}
 use Rattle.std.specs.Prelude.{option_map, option_and_then}
 use Rattle.std.proofs.lemmas.Bool.Decides.{nat_tests}
 use Rattle.arrayvec.specs.ArrayVec.{ArrayVec}
@@ -14,7 +15,8 @@ use Rattle.queue_script.specs.declared.locks.LockName.TheVariants.{Spelled}
 use Rattle.queue_script.specs.declared.locks.Taken.{Taken}
 use Rattle.queue_script.specs.declared.locks.Taken.TheVariants as taken
 use Rattle.lock_queue.specs.declared.terms.BlockUse.TheVariants.{Blocking, Full, Named}
-use Rattle.queue_script.specs.Locks.{lock_of, locks_of, want_of, plain_want, with_want, taken_as, Takes, TakesFirst, IsFirstLock, refused_with, onto_wants, wants_of, stored, call_wants}
+use Rattle.queue_script.specs.Locks.{lock_of, locks_of, want_of, plain_want, with_want, taken_as, Takes, TakesFirst}
+use Rattle.queue_script.specs.Locks.{IsFirstLock, refused_with, onto_wants, wants_of, stored, call_wants}
 
 -- the wants so far, or the first refusal
 abbrev pub told_by : Option Refusal → List Want → Result (List Want) Refusal

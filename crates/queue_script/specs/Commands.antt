@@ -1,5 +1,6 @@
 -- The commands of a script on the lock queue (this project's profile).
-use Rattle.std.specs.Prelude.{◌==◌, ◌&&◌, ◌||◌, ℕ, Bool, true, List, [], ◌∷◌, length, Option, Some, None, Result, Ok, Err, if◌then◌else◌, codes, bytes_eq, nat_le, nat_lt, option_and_then, option_map, slice_index}
+use Rattle.std.specs.Prelude.{◌==◌, ◌&&◌, ◌||◌, ℕ, Bool, true, List, [], ◌∷◌, length, Option, Some, None, Result, Ok, Err}
+use Rattle.std.specs.Prelude.{if◌then◌else◌, codes, bytes_eq, nat_le, nat_lt, option_and_then, option_map, slice_index}
 use Rattle.std.specs.List.{list_all}
 use Rattle.arrayvec.specs.ArrayVec.{ArrayVec}
 use Rattle.word36.specs.declared.sizes.TheConstants.{JOBS}

@@ -1,7 +1,8 @@
 //! The commands of a script on the lock queue.
 ghost use Rattle.std.specs.Prelude.{◌≡◌, ◌<◌, ◌^◌, None, is_some, IfSome, MatchOption};
 ghost use Rattle.queue_script.specs.Borrowed.{lent_by, asked_by, asked_by_line};
-ghost use Rattle.queue_script.specs.Commands.{job_of, enqueue_call, dequeue_call, unknown_call, enqueue_of, dequeue_of, status_of_items, free_of, bare, command_of_items, command_of};
+ghost use Rattle.queue_script.specs.Commands.{job_of, enqueue_call, dequeue_call, unknown_call, enqueue_of, dequeue_of};
+ghost use Rattle.queue_script.specs.Commands.{status_of_items, free_of, bare, command_of_items, command_of};
 ghost use Rattle.queue_script.specs.Locks.{locks_of};
 ghost use Rattle.script_io.specs.Numbers.{front, IsFront, parts};
 ghost use Rattle.queue_script.specs.Options.{half_of};

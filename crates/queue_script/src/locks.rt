@@ -1,7 +1,8 @@
 //! The locks of a command.
 ghost use Rattle.std.specs.Prelude.{◌≡◌, ◌≢◌, ◌<◌, ◌≤◌, true, [], length, take, ◌^◌, IfSome};
 ghost use Rattle.std.specs.List.{list_all};
-ghost use Rattle.queue_script.specs.Locks.{is_name_character, user_code, name_of_characters, name_of, lock_of, want_of_name, plain_want, with_want, taken_as, key_of, terms_of, Takes, TakesFirst};
+ghost use Rattle.queue_script.specs.Locks.{is_name_character, user_code, name_of_characters, name_of, lock_of, want_of_name};
+ghost use Rattle.queue_script.specs.Locks.{plain_want, with_want, taken_as, key_of, terms_of, Takes, TakesFirst};
 ghost use Rattle.queue_script.specs.declared.locks.LockName.TheVariants.{Spelled};
 ghost use Rattle.arrayvec.specs.ArrayVec.{array_vec_len};
 ghost use Rattle.lock_queue.specs.Uses.{want_on};

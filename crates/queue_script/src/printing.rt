@@ -1,7 +1,8 @@
 //! The lines that commands on the lock queue write.
 ghost use Rattle.std.specs.Prelude.{◌≡◌, ◌++◌, [], if◌then◌else◌, OnOk};
 ghost use Rattle.std.specs.List.{flat_map};
-ghost use Rattle.queue_script.specs.Printing.{code_line, reply_line, grant_line, status_line, name_character, name_text, group_text, level_text, pool_text, scope_text, want_text, kind_number, wants_text, request_line};
+ghost use Rattle.queue_script.specs.Printing.{code_line, reply_line, grant_line, status_line, name_character, name_text, group_text, level_text};
+ghost use Rattle.queue_script.specs.Printing.{pool_text, scope_text, want_text, kind_number, wants_text, request_line};
 
 use crate::locks::is_name_character;
 use lock_queue::{

@@ -1,7 +1,8 @@
 //! Scripts on the lock queue.
 ghost use Rattle.std.specs.Prelude.{◌≡◌, ◌+◌, ◌^◌, ◌≤◌, ◌++◌, ◌∷◌, [], ℕ, List, Ok, Err, false, OnOk, IfOk, IfErr, IsTrue};
 ghost use Rattle.std.specs.Str.Lines.{lines};
-ghost use Rattle.queue_script.specs.QueueScripts.{effect_of, call_effect, unless_busy, free_effect, statuses, status_text, show_text, transcript_of, transcript};
+ghost use Rattle.queue_script.specs.QueueScripts.{effect_of, call_effect, unless_busy, free_effect, statuses};
+ghost use Rattle.queue_script.specs.QueueScripts.{status_text, show_text, transcript_of, transcript};
 ghost use Rattle.queue_script.specs.Asks.{asks_right};
 ghost use Rattle.queue_script.specs.Borrowed.{asked_by_line, lent};
 ghost use Rattle.lock_queue.specs.WellFormed.{is_call};

@@ -1,13 +1,17 @@
 -- What a store keeps when a request comes, leaves or is changed.
-use Rattle.std.proofs.Common.{◌≡◌, ◌≢◌, ◌≤◌, ◌<◌, ◌+◌, ◌∙◌, sym, ap, subst, ℕ, zero, suc, Bool, true, false, ◌||◌, ◌&&◌, ◌==◌, cond, List, [], ◌∷◌, ◌++◌, length, map, filter, get_or, slice_set, Option, Some, None, is_some, inl, inr, refl, arith}
+use Rattle.std.proofs.Common.{◌≡◌, ◌≢◌, ◌≤◌, ◌<◌, ◌+◌, ◌∙◌, sym, ap, subst, ℕ, zero, suc, Bool, true, false, ◌||◌, ◌&&◌, ◌==◌, cond, List, [], ◌∷◌}
+use Rattle.std.proofs.Common.{◌++◌, length, map, filter, get_or, slice_set, Option, Some, None, is_some, inl, inr, refl, arith}
 use Rattle.std.proofs.lemmas.Bool.{eqb-true, both_ways, ne_eqb, or_right, eq-eqb, cases_eq}
 use Rattle.std.proofs.lemmas.List.{append-nil, length-append, length-set, get_or-set_same, get_or-set_other, map-set, length-map}
 use Rattle.word36.specs.declared.sizes.TheConstants.{JOBS, MOST_REQUESTS}
 use Rattle.request_store.specs.declared.filed.Filed.{Filed}
 use Rattle.request_store.specs.Filing.{unused_filed}
 use Rattle.request_store.specs.Shelves.{slot, is_filled, with_slot}
-use Rattle.request_store.specs.Stores.{one_if, is_there, StandsOnce, without_place, Stored, filed_at, with_filed, inserted, removed, filed_or, job_at, list_of, IsStored, blocked_at, blocked_of, is_blocked, places_of, number_of, recounted}
-use Rattle.request_store.proofs.Orders.{there_filter, filter_passes, count_changed, count_last, count_without, there_last, stands_filter, filter_last, filter_same, filter_short, filter_there, stands_last, without_other, without_gone, without_once, without_length, without_kept, without_left}
+use Rattle.request_store.specs.Stores.{one_if, is_there, StandsOnce, without_place, Stored, filed_at, with_filed, inserted, removed, filed_or, job_at}
+use Rattle.request_store.specs.Stores.{list_of, IsStored, blocked_at, blocked_of, is_blocked, places_of, number_of, recounted}
+use Rattle.request_store.proofs.Orders.{there_filter, filter_passes, count_changed, count_last, count_without, there_last, stands_filter}
+use Rattle.request_store.proofs.Orders.{filter_last, filter_same, filter_short, filter_there, stands_last, without_other, without_gone}
+use Rattle.request_store.proofs.Orders.{without_once, without_length, without_kept, without_left}
 use Rattle.request_store.proofs.Slots.{within}
 
 -- the request of a place, from what stands there

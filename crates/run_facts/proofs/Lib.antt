@@ -1,2 +1,4 @@
 pub mod RequestLemmas
+pub mod TestLemmas
+pub mod StepLemmas
 pub mod KeeperLemmas

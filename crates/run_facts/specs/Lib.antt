@@ -3,3 +3,4 @@ pub mod LockWaits
 pub mod Grants
 pub mod Typing
 pub mod Ends
+pub mod Steps

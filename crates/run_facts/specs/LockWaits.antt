@@ -1,11 +1,10 @@
 -- Which jobs keep a job waiting, and from which lock: owners of what it wants or, where nobody owns it, those that
 -- asked before it (this project's profile).
-use Rattle.std.specs.Prelude.{◌≡◌, ◌&&◌, ℕ, Bool, true, List, [], ◌∷◌, if◌then◌else◌}
+use Rattle.std.specs.Prelude.{◌&&◌, ℕ, Bool, List, [], ◌∷◌, if◌then◌else◌}
 use Rattle.std.specs.List.{flat_map, list_any}
 use Rattle.lock_queue.specs.declared.request.Request.{Request}
 use Rattle.lock_queue.specs.declared.want.Want.{Want}
 use Rattle.lock_queue.specs.Jobs.{is_blocked, is_kept_by, waits_for}
-use Rattle.lock_queue.specs.Queue.{some_behind}
 use Rattle.lock_queue.specs.Waits.{is_withheld_by, jobs, waits_hard_for}
 
 -- whether a job waits for another: hard, for one that owns what it wants, or for any
@@ -28,3 +27,18 @@ keeper is_held requests job earlier w other =
 -- all of these, by rising number
 abbrev pub keepers : Bool → List Request → ℕ → List Request → Want → List ℕ
 keepers is_held requests job earlier w = flat_map (keeper is_held requests job earlier w) jobs
+
+-- whether one of the jobs for which a job waits keeps a want from fitting
+abbrev pub has_keeper : Bool → List Request → ℕ → List Request → Want → Bool
+has_keeper is_held requests job earlier w =
+    list_any (λ other. waits_by is_held requests job other && keeps is_held earlier w other) jobs
+
+-- whether a job waits by a request behind these ones, and such a job keeps one of its wants from fitting
+abbrev pub is_kept_waiting : Bool → List Request → ℕ → List Request → Request → Bool
+is_kept_waiting is_held requests job earlier r =
+    is_blocked job earlier r && list_any (has_keeper is_held requests job earlier) r.wants.items
+
+-- the same of one other job
+abbrev pub is_kept_from : Bool → ℕ → ℕ → List Request → Request → Bool
+is_kept_from is_held job other earlier r =
+    is_blocked job earlier r && list_any (λ w. keeps is_held earlier w other) r.wants.items

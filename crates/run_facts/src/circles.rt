@@ -1,10 +1,17 @@
 //! Circles of waits.
-ghost use Rattle.std.specs.Prelude.{◌≡◌, ◌<◌, ◌↔◌, true, Some, IsTrue, IfOk, IfSome, slice_get};
-ghost use Rattle.lock_queue.specs.Waits.{is_circle, is_in_circle, is_walk};
+ghost use Rattle.std.specs.Prelude.{◌≡◌, ◌<◌, true, false, None, Some, length, IfOk, IfSome, slice_get, slice_index_or};
+ghost use Rattle.std.specs.Prelude.{◌&&◌, ℕ, nat_lt};
+ghost use Rattle.std.specs.List.{list_any};
+ghost use Rattle.lock_queue.specs.Waits.{is_circle, is_in_circle, jobs, leads_to};
 ghost use Rattle.queue_script.specs.WaitPairs.{MarksWaiters, pair_in};
+ghost use Rattle.run_facts.specs.Steps.{CountsSteps, counted, is_nearer, leads_on};
 
 use queue_script::circles::{JobMarks, NUMBERS, PairTable, leading_to};
 use std::alloc::{AllocError, Global};
+use word36::JOBS;
+
+/// How many steps of waits lead from each job to a target at least; 0 where none lead there.
+type StepTable = [u8; NUMBERS];
 
 /// Whether a walk of waits leads from a job back to it. The jobs that wait are marked.
 pub fn is_in_circle(pairs: &PairTable, waiting: &JobMarks, job: usize) -> bool
@@ -15,71 +22,128 @@ pub fn is_in_circle(pairs: &PairTable, waiting: &JobMarks, job: usize) -> bool
     leading_to(pairs, waiting, job)[job]
 }
 
-/// Whether one job waits for another, by the table.
-fn is_pair(pairs: &PairTable, job: u8, other: u8) -> bool
-    ensures { result ≡ pair_in pairs.now job other }
+/// Whether a job waits for one from which steps are counted.
+fn is_step(pairs: &PairTable, steps: &StepTable, job: usize, other: usize) -> bool
+    requires job { job < NUMBERS }
+    requires other { other < NUMBERS }
+    ensures { result ≡ (pair_in pairs.now job other && nat_lt 0 (slice_index_or steps.now other 0)) }
 {
-    let place = NUMBERS * usize::from(job) + usize::from(other);
-    if place < pairs.len() {
-        pairs[place]
+    pairs[NUMBERS * job + other] && steps[other] > 0
+}
+
+/// Whether a job waits for one of those from which steps are counted.
+fn has_step(pairs: &PairTable, steps: &StepTable, job: usize) -> bool
+    requires { job < NUMBERS }
+    ensures { result ≡ list_any (λ m. pair_in pairs.now job m && nat_lt 0 (slice_index_or steps.now m 0)) jobs }
+{
+    for other in 1..NUMBERS {
+        if is_step(pairs, steps, job, other) {
+            return true;
+        }
+    }
+    false
+}
+
+/// Whether a job waits for the target, or for one of those from which steps are counted.
+fn leads_on(pairs: &PairTable, steps: &StepTable, job: usize, target: usize) -> bool
+    requires job { job < NUMBERS }
+    requires target { target < NUMBERS }
+    ensures { result ≡ leads_on pairs.now steps.now job target }
+{
+    pairs[NUMBERS * job + target] || has_step(pairs, steps, job)
+}
+
+/// How many steps lead from a job to the target: this round finds those that none before has found.
+fn steps_from(pairs: &PairTable, steps: &StepTable, round: u8, job: usize, target: usize) -> u8
+    requires job { job < NUMBERS }
+    requires target { target < NUMBERS }
+    ensures { result ≡ counted pairs.now steps.now round job target }
+{
+    let before = steps[job];
+    if before == 0 && leads_on(pairs, steps, job, target) {
+        round
     } else {
-        false
+        before
     }
 }
 
-/// Whether each of some jobs waits for the next, from the first on and up to the last.
-fn is_walk(pairs: &PairTable, first: u8, between: &[u8], last: u8) -> bool
-    ensures { result ≡ is_walk (pair_in pairs.now) first between.now last }
+/// How many steps lead from each job to the target, of which there are at most as many as rounds.
+fn count_further(pairs: &PairTable, steps: &StepTable, round: u8, target: usize) -> StepTable
+    requires { target < NUMBERS }
+    ensures { (j : ℕ) → j < NUMBERS → slice_index_or result j 0 ≡ counted pairs.now steps.now round j target }
 {
-    let mut at = first;
-    for next in between {
-        if !is_pair(pairs, at, *next) {
-            return false;
-        }
-        at = *next;
+    let mut further = [0u8; NUMBERS];
+    for job in 0..NUMBERS {
+        further[job] = steps_from(pairs, steps, round, job, target);
     }
-    is_pair(pairs, at, last)
+    further
 }
 
-/// Whether each of some jobs waits for the next, and the last for the first.
-fn is_circle(pairs: &PairTable, circle: &[u8]) -> bool
-    ensures { result ≡ is_circle (pair_in pairs.now) circle.now }
+/// How many steps lead from each job to the target.
+fn steps_to(pairs: &PairTable, target: usize) -> StepTable
+    requires { target < NUMBERS }
+    ensures { CountsSteps pairs.now target JOBS result }
 {
-    match circle {
-        [] => false,
-        [first, later @ ..] => is_walk(pairs, *first, later, *first),
-    }
-}
-
-/// Whether some jobs begin with this one.
-fn is_first(circle: &[u8], job: u8) -> bool
-    ensures { IsTrue result ↔ (slice_get circle.now 0 ≡ Some job) }
-{
-    match circle {
-        [] => false,
-        [first, ..] => *first == job,
-    }
-}
-
-/// How many steps of waits lead from each job to the target at least; 0 where none lead there.
-fn steps_to(pairs: &PairTable, target: u8) -> [u8; NUMBERS] {
     let mut steps = [0u8; NUMBERS];
-    for round in 1..NUMBERS as u8 {
-        let before = steps;
-        for job in 1..NUMBERS as u8 {
-            let place = usize::from(job);
-            let is_reached = if round == 1 {
-                is_pair(pairs, job, target)
-            } else {
-                (1..NUMBERS as u8).any(|next| before[usize::from(next)] == round - 1
-                    && is_pair(pairs, job, next))
-            };
-            if steps[place] == 0 && is_reached {
-                steps[place] = round;
-            }
-        }
+    for round in 0..JOBS {
+        steps = count_further(pairs, &steps, round + 1, target);
     }
     steps
+}
+
+/// Whether one job waits for another, from which fewer steps are counted.
+fn is_nearer(pairs: &PairTable, steps: &StepTable, job: usize, other: usize) -> bool
+    requires job { job < NUMBERS }
+    requires other { other < NUMBERS }
+    ensures { result ≡ is_nearer pairs.now steps.now job other }
+{
+    pairs[NUMBERS * job + other] && 0 < steps[other] && steps[other] < steps[job]
+}
+
+/// The first job for which a job waits and from which fewer steps are counted.
+fn next_on(pairs: &PairTable, steps: &StepTable, job: usize) -> Option<usize>
+    requires { job < NUMBERS }
+    ensures within { IfSome result (λ m. m < NUMBERS) }
+    ensures nearer { IfSome result (λ m. is_nearer pairs.now steps.now job m ≡ true) }
+    ensures none { result ≡ None → list_any (is_nearer pairs.now steps.now job) jobs ≡ false }
+{
+    for other in 1..NUMBERS {
+        if is_nearer(pairs, steps, job, other) {
+            return Some(other);
+        }
+    }
+    None
+}
+
+/// Walks from the target on, by fewer and fewer steps, until a job waits for it.
+fn walk_back(
+    alloc: Global,
+    pairs: &PairTable,
+    steps: &StepTable,
+    target: usize,
+) -> Result<Option<Vec<u8>>, AllocError>
+    requires target { target < NUMBERS }
+    requires steps { CountsSteps pairs.now target JOBS steps.now }
+    ensures circle { IfOk result (λ o. IfSome o (λ circle. is_circle (pair_in pairs.now) circle.items ≡ true)) }
+    ensures through { IfOk result (λ o. IfSome o (λ circle. slice_get circle.items 0 ≡ Some target)) }
+    ensures none { IfOk result (λ o. o ≡ None → is_in_circle (pair_in pairs.now) target ≡ false) }
+    ensures shortest { IfOk result (λ o. IfSome o (λ circle. (n : ℕ) → n < length circle.items
+        → leads_to (pair_in pairs.now) n target target ≡ false)) }
+{
+    if steps[target] == 0 {
+        return Ok(None);
+    }
+    let mut circle = Vec::new(alloc);
+    circle.push(target as u8)?;
+    let mut at = target;
+    while !pairs[NUMBERS * at + target] {
+        let Some(next) = next_on(pairs, steps, at) else {
+            return Ok(None);
+        };
+        circle.push(next as u8)?;
+        at = next;
+    }
+    Ok(Some(circle))
 }
 
 /// A shortest walk of waits from a job back to it, if one leads back: each of these jobs waits for the
@@ -91,27 +155,14 @@ pub fn circle_through(
 ) -> Result<Option<Vec<u8>>, AllocError>
     ensures circle { IfOk result (λ o. IfSome o (λ circle. is_circle (pair_in pairs.now) circle.items ≡ true)) }
     ensures through { IfOk result (λ o. IfSome o (λ circle. slice_get circle.items 0 ≡ Some job)) }
+    ensures none { IfOk result (λ o. o ≡ None → is_in_circle (pair_in pairs.now) job ≡ false) }
+    ensures shortest { IfOk result (λ o. IfSome o (λ circle. (n : ℕ) → n < length circle.items
+        → leads_to (pair_in pairs.now) n job job ≡ false)) }
 {
-    let steps = steps_to(pairs, job);
-    let mut circle = Vec::new(alloc);
-    let mut at = job;
-    for _ in 0..NUMBERS {
-        circle.push(at)?;
-        let left = steps.get(usize::from(at)).copied().unwrap_or(0);
-        if left <= 1 {
-            break;
-        }
-        let next = (1..NUMBERS as u8).find(|next| {
-            is_pair(pairs, at, *next) && steps.get(usize::from(*next)).copied() == Some(left - 1)
-        });
-        match next {
-            Some(next) => at = next,
-            None => break,
-        }
+    let target = usize::from(job);
+    if target >= NUMBERS {
+        return Ok(None);
     }
-    if is_first(circle.as_slice(), job) && is_circle(pairs, circle.as_slice()) {
-        Ok(Some(circle))
-    } else {
-        Ok(None)
-    }
+    let steps = steps_to(pairs, target);
+    walk_back(alloc, pairs, &steps, target)
 }

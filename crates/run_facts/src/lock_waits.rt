@@ -1,9 +1,10 @@
 //! By which lock a job waits, and who keeps it waiting.
-ghost use Rattle.std.specs.Prelude.{◌≡◌, ◌≢◌, ◌<◌, ◌≤◌, ◌&&◌, [], ◌∷◌, ◌++◌};
-ghost use Rattle.std.specs.Prelude.{All, Contains, true, length, take, slice_get, IfOk, IfSome, OnOk};
-ghost use Rattle.std.specs.List.{flat_map, list_any};
+ghost use Rattle.std.specs.Prelude.{◌≡◌, ◌≢◌, ◌≤◌, [], ◌++◌};
+ghost use Rattle.std.specs.Prelude.{All, None, true, false, length, take, IfOk, IfSome, OnOk};
+ghost use Rattle.std.specs.List.{list_any};
+ghost use Rattle.lock_queue.specs.Jobs.{waits_for};
 ghost use Rattle.lock_queue.specs.Waits.{jobs, waits_hard_for};
-ghost use Rattle.run_facts.specs.LockWaits.{keeper, keepers, keeps, waits_by, waits_for_owner};
+ghost use Rattle.run_facts.specs.LockWaits.{is_kept_from, is_kept_waiting, keeper, keepers, keeps, waits_by, waits_for_owner};
 
 use crate::in_the_way::{keeps, waits_by};
 use lock_queue::steps::is_blocked;
@@ -77,16 +78,22 @@ fn wait_at<'a>(
     alloc: Global,
     requests: &'a [Request],
     place: usize,
+    r: &'a Request,
     job: u8,
 ) -> Result<Option<LockWait<'a>>, AllocError>
-    requires { place < length requests.now }
+    requires { place ≤ length requests.now }
     ensures held { IfOk result (λ o. IfSome o (λ w. w.is_held ≡ waits_for_owner requests.now job)) }
     ensures some { IfOk result (λ o. IfSome o (λ w. w.jobs.items ≢ [])) }
     ensures place { IfOk result (λ o. IfSome o (λ w. w.place ≡ place)) }
     ensures jobs { IfOk result (λ o. IfSome o (λ w. w.jobs.items ≡ keepers w.is_held requests.now job (take place requests.now) w.want.now)) }
+    ensures none { IfOk result (λ o. o ≡ None
+        → is_kept_waiting (waits_for_owner requests.now job) requests.now job (take place requests.now) r.now ≡ false) }
 {
+    if !is_blocked(&requests[..place], r, job) {
+        return Ok(None);
+    }
     let is_held = waits_for_owner(requests, job);
-    for want in requests[place].wants.as_slice() {
+    for want in r.wants.as_slice() {
         let jobs = keepers(alloc, requests, job, &requests[..place], want, is_held)?;
         if !jobs.is_empty() {
             return Ok(Some(LockWait {
@@ -100,7 +107,7 @@ fn wait_at<'a>(
     Ok(None)
 }
 
-/// What a job waits for, if it waits for locks. The jobs are owners of the lock where the job waits for
+/// What a job waits for, if it waits for others. The jobs are owners of the lock where the job waits for
 /// any owner, and else those that asked for it before.
 #[tactic(auto, using(crate::proofs::KeeperLemmas::keepers_are_waited_for))]
 pub fn lock_wait<'a>(
@@ -112,10 +119,11 @@ pub fn lock_wait<'a>(
     ensures some { IfOk result (λ o. IfSome o (λ w. w.jobs.items ≢ [])) }
     ensures waits { IfOk result (λ o. IfSome o (λ w. All (λ other. waits_by w.is_held requests.now job other ≡ true) w.jobs.items)) }
     ensures jobs { IfOk result (λ o. IfSome o (λ w. w.jobs.items ≡ keepers w.is_held requests.now job (take w.place requests.now) w.want.now)) }
+    ensures none { IfOk result (λ o. o ≡ None → list_any (waits_for requests.now job) jobs ≡ false) }
 {
     for (i, r) in requests.iter().enumerate() {
-        if is_blocked(&requests[..i], r, job) {
-            return wait_at(alloc, requests, i, job);
+        if let Some(wait) = wait_at(alloc, requests, i, r, job)? {
+            return Ok(Some(wait));
         }
     }
     Ok(None)
@@ -132,24 +140,42 @@ pub struct LockBetween<'a> {
     pub is_held: bool,
 }
 
+/// The first lock of a request by which a job waits from which another keeps it.
+fn kept_want<'a>(
+    earlier: &[Request],
+    r: &'a Request,
+    job: u8,
+    other: u8,
+    is_held: bool,
+) -> Option<&'a Want>
+    ensures keeps { IfSome result (λ w. keeps is_held earlier.now w.now other ≡ true) }
+    ensures none { result ≡ None → is_kept_from is_held job other earlier.now r.now ≡ false }
+{
+    if !is_blocked(earlier, r, job) {
+        return None;
+    }
+    for want in r.wants.as_slice() {
+        if keeps(earlier, want, other, is_held) {
+            return Some(want);
+        }
+    }
+    None
+}
+
 /// The first lock from which one job keeps another, that waits for it.
 pub fn lock_between(requests: &[Request], job: u8, other: u8) -> Option<LockBetween<'_>>
     ensures held { IfSome result (λ b. b.is_held ≡ waits_hard_for requests.now job other) }
     ensures keeps { IfSome result (λ b. keeps b.is_held (take b.place requests.now) b.want.now other ≡ true) }
+    ensures none { result ≡ None → waits_for requests.now job other ≡ false }
 {
     let is_held = waits_by(requests, job, other, true);
     for (place, r) in requests.iter().enumerate() {
-        if !is_blocked(&requests[..place], r, job) {
-            continue;
-        }
-        for want in r.wants.as_slice() {
-            if keeps(&requests[..place], want, other, is_held) {
-                return Some(LockBetween {
-                    place,
-                    want,
-                    is_held,
-                });
-            }
+        if let Some(want) = kept_want(&requests[..place], r, job, other, is_held) {
+            return Some(LockBetween {
+                place,
+                want,
+                is_held,
+            });
         }
     }
     None

@@ -3,14 +3,14 @@
 use crate::block_words::core_for_block;
 use crate::locks::LockText;
 use crate::snapshot::Snapshot;
-use crate::told_job::Machine;
 use call_block::{Block, read_block};
 use job_sched::{NO_FLAGS, Wait};
 use ka_cpu::{CoreWords, Regs};
 use ka_isa::{Family, classify, decode};
-use lock_queue::{BlockUse, LockTable, Name, Request, Want};
+use lock_queue::{BlockUse, Name, Request, Want};
 use monitor::JobView;
 use run_facts::{CallAnswer, CallSeen, answer_of};
+use run_machine::Machine;
 use std::alloc::{AllocError, Global};
 use std::fmt;
 use word36::{Address, Word};
@@ -156,18 +156,18 @@ impl CallLook {
         }
     }
 
+    /// Whether the call gives up this request of its job, which names a lock of this name.
+    fn gives_up_lock(&self, number: u8, request: &Request, name: &Name) -> bool {
+        request.job == number && self.gives_up(request) && has_name(request.wants.as_slice(), name)
+    }
+
     /// Whether the call is on a lock of this name: it names it, or gives up a request that does.
     pub fn is_on(&self, machine: &Machine, number: u8, name: &Name) -> bool {
         if let Some(block) = &self.block {
             return has_name(block.wants.as_slice(), name);
         }
-        let locks = machine.locks();
-        for i in 0..locks.len() {
-            let request = locks.request(i);
-            if request.job == number
-                && self.gives_up(request)
-                && has_name(request.wants.as_slice(), name)
-            {
+        for i in 0..machine.request_count() {
+            if self.gives_up_lock(number, machine.request(i), name) {
                 return true;
             }
         }
@@ -214,7 +214,7 @@ fn push_statuses(
     wants: &[Want],
 ) -> Result<(), AllocError> {
     for want in wants {
-        let status = machine.locks().status(&want.key, number);
+        let status = machine.status(&want.key, number);
         let lock = LockText { want };
         let (owners, waiters) = (status.owner_count, status.waiter_count);
         let told = format!(in alloc; ", {lock} (owners {owners}, waiters {waiters})")?;

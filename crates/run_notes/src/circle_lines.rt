@@ -1,21 +1,16 @@
 //! Circles of waits, in words.
 
 use crate::locks::NameText;
-use lock_queue::{LockTable, Request};
-use queue_script::{pair_table, waiting_jobs};
-use run_facts::{LockBetween, circle_through, is_in_circle, lock_between, requests_in};
+use run_facts::{LockBetween, circle_through, is_in_circle, lock_between};
+use run_machine::Machine;
 use std::alloc::{AllocError, Global};
 use word36::JOBS;
 
 /// The circle of waits that a job is in, if it is in one: each of these jobs waits for the next, and the
 /// last for the first.
-pub fn circle_of<L: LockTable>(
-    alloc: Global,
-    table: &L,
-    job: u8,
-) -> Result<Option<Vec<u8>>, AllocError> {
-    let waiting = waiting_jobs(table);
-    let pairs = pair_table(table, &waiting);
+pub fn circle_of(alloc: Global, machine: &Machine, job: u8) -> Result<Option<Vec<u8>>, AllocError> {
+    let waiting = machine.waiting_jobs();
+    let pairs = machine.pair_table(&waiting);
     if job > JOBS || !is_in_circle(&pairs, &waiting, usize::from(job)) {
         return Ok(None);
     }
@@ -23,9 +18,9 @@ pub fn circle_of<L: LockTable>(
 }
 
 /// Whether some job is in a circle of waits.
-pub fn has_circle<L: LockTable>(table: &L) -> bool {
-    let waiting = waiting_jobs(table);
-    let pairs = pair_table(table, &waiting);
+pub fn has_circle(machine: &Machine) -> bool {
+    let waiting = machine.waiting_jobs();
+    let pairs = machine.pair_table(&waiting);
     for job in 0..=JOBS {
         if is_in_circle(&pairs, &waiting, usize::from(job)) {
             return true;
@@ -81,13 +76,13 @@ fn least_place(circle: &[u8]) -> usize {
 }
 
 /// The line on a circle, from its least job on: `tick 94: circle: job 1 (has A, waits for B), job 2 (has B, waits for A)`.
-pub fn circle_line<L: LockTable>(
+pub fn circle_line(
     alloc: Global,
     tick: u64,
-    table: &L,
+    machine: &Machine,
     circle: &[u8],
 ) -> Result<String, AllocError> {
-    let requests = requests_in(alloc, table)?;
+    let requests = machine.requests(alloc)?;
     let requests = requests.as_slice();
     let mut text = format!(in alloc; "tick {tick}: circle:")?;
     let first = least_place(circle);

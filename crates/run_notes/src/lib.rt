@@ -23,6 +23,6 @@ pub use instructions::{InstructionText, Reference};
 pub use job_stops::stop_text;
 pub use snapshot::{Snapshot, effective_address, snapshot_of};
 pub use steps::{step_line, time_limit_line};
-pub use told_job::{Machine, ToldJob};
+pub use told_job::ToldJob;
 pub use wait_clocks::WaitClocks;
 pub use wait_lines::lock_wait_text;

@@ -1,8 +1,7 @@
 //! A job before its turn.
 
-use crate::told_job::Machine;
 use ka_isa::{Family, classify, decode};
-use lock_queue::LockTable;
+use run_machine::Machine;
 use word36::{Address, Word};
 
 /// So many indirect words, or XCTs, are followed.
@@ -40,10 +39,9 @@ struct Requests {
 
 /// The requests of a job.
 fn requests_of(machine: &Machine, number: u8) -> Requests {
-    let locks = machine.locks();
     let mut requests = Requests { all: 0, told: 0 };
-    for i in 0..locks.len() {
-        let request = locks.request(i);
+    for i in 0..machine.request_count() {
+        let request = machine.request(i);
         if request.job == number {
             requests.all = requests.all.saturating_add(1);
             if request.told {

@@ -4,10 +4,11 @@ use crate::instructions::{DEBRK, InstructionText};
 use crate::job_stops::stop_text;
 use crate::snapshot::Snapshot;
 use crate::stores::push_changes;
-use crate::told_job::{Machine, ToldJob};
+use crate::told_job::ToldJob;
 use job_sched::{Stop, Wait};
 use ka_isa::{Family, classify, decode};
 use monitor::JobView;
+use run_machine::Machine;
 use std::alloc::{AllocError, Global};
 use word36::Address;
 

@@ -2,8 +2,9 @@
 
 use crate::instructions::Reference;
 use crate::snapshot::{Snapshot, effective_address};
-use crate::told_job::{Machine, ToldJob};
+use crate::told_job::ToldJob;
 use ka_isa::{Family, classify, decode};
+use run_machine::Machine;
 use std::alloc::{AllocError, Global};
 use word36::Word;
 

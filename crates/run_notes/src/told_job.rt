@@ -1,13 +1,7 @@
 //! A job of which is told.
 
-use core_store::BlockCore;
-use monitor::System;
-use queue_script::ScriptTable;
 use source_labels::{Places, Spot};
 use word36::Address;
-
-/// The machine, with the tables that it keeps its locks and its core in.
-pub type Machine = System<ScriptTable, BlockCore>;
 
 /// A job of which is told.
 #[derive(Drop)]

@@ -3,8 +3,9 @@
 use crate::calls::push_wants;
 use crate::locks::NameText;
 use crate::wait_lines::lock_wait_text;
-use lock_queue::{EnqueueKind, Key, LockTable, Request};
+use lock_queue::{EnqueueKind, Key, Request};
 use run_facts::{is_granted_in, is_left_of};
+use run_machine::Machine;
 use std::alloc::{AllocError, Global};
 
 /// Since when a request is there.
@@ -202,12 +203,12 @@ impl WaitClocks {
     }
 
     /// The lines on jobs that wait for longer than is to be told, each once. The requests are those of
-    /// the table.
-    pub fn overdue<L: LockTable>(
+    /// the machine.
+    pub fn overdue(
         &mut self,
         alloc: Global,
         tick: u64,
-        table: &L,
+        machine: &Machine,
         requests: &[Request],
     ) -> Result<String, AllocError> {
         let mut text = String::new(alloc);
@@ -218,7 +219,7 @@ impl WaitClocks {
                 continue;
             }
             clock.is_told = true;
-            let waits = lock_wait_text(alloc, table, request.job)?;
+            let waits = lock_wait_text(alloc, machine, request.job)?;
             let line = format!(in alloc;
                 "tick {tick}, job {}: {}, for {ticks} ticks\n",
                 request.job,

@@ -1,8 +1,8 @@
 //! What a job waits for, in words.
 
 use crate::locks::LockText;
-use lock_queue::LockTable;
-use run_facts::{LockWait, lock_wait, requests_in};
+use run_facts::{LockWait, lock_wait};
+use run_machine::Machine;
 use std::alloc::{AllocError, Global};
 
 /// `lock X, held by job 2`, or `lock X, behind job 3` where nobody holds what a job waits for.
@@ -18,12 +18,8 @@ fn wait_text(alloc: Global, wait: &LockWait<'_>) -> Result<String, AllocError> {
 }
 
 /// What a job waits for by its request: `waits for lock X, held by job 2`.
-pub fn lock_wait_text<L: LockTable>(
-    alloc: Global,
-    table: &L,
-    job: u8,
-) -> Result<String, AllocError> {
-    let requests = requests_in(alloc, table)?;
+pub fn lock_wait_text(alloc: Global, machine: &Machine, job: u8) -> Result<String, AllocError> {
+    let requests = machine.requests(alloc)?;
     match lock_wait(alloc, requests.as_slice(), job)? {
         Some(wait) => {
             let text = wait_text(alloc, &wait)?;

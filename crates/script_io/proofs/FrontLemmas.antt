@@ -1,5 +1,6 @@
 -- Lemmas on a number that is read with the separator behind it.
-use Rattle.std.proofs.Common.{◌≡◌, ◌<◌, ◌≤◌, ◌+◌, ◌-◌, ◌*◌, ◌==◌, ◌&&◌, ℕ, List, [], ◌∷◌, Option, None, Some, length, get_or, drop, arith, sym, ap, ◌∙◌, subst, true, false, Bool, refl, nat_le, nat_lt, cond, take, eq-eqb, inl, inr}
+use Rattle.std.proofs.Common.{◌≡◌, ◌<◌, ◌≤◌, ◌+◌, ◌-◌, ◌*◌, ◌==◌, ◌&&◌, ℕ, List, [], ◌∷◌, Option, None, Some, length, get_or, drop, arith, sym}
+use Rattle.std.proofs.Common.{ap, ◌∙◌, subst, true, false, Bool, refl, nat_le, nat_lt, cond, take, eq-eqb, inl, inr}
 use Rattle.std.proofs.lemmas.List.{drop_more, take_rest, drop_all}
 use Rattle.std.proofs.lemmas.List.Splits.{slice_split-cons_yes, slice_split-cons_no}
 use Rattle.std.proofs.lemmas.Bool.{cases_lt, ne_eqb}

@@ -1,5 +1,6 @@
 -- Lemmas on scripts of lines.
-use Rattle.std.proofs.Common.{◌≡◌, ◌<◌, ◌+◌, ◌-◌, ◌==◌, ◌++◌, ℕ, List, [], ◌∷◌, Option, None, Some, length, take, arith, sym, ap, ◌∙◌, subst, true, false, Bool, refl, cond, append_assoc, append-nil, length-take, length-append, Result, IfOk}
+use Rattle.std.proofs.Common.{◌≡◌, ◌<◌, ◌+◌, ◌-◌, ◌==◌, ◌++◌, ℕ, List, [], ◌∷◌, Option, None, Some, length, take, arith, sym, ap, ◌∙◌, subst, true}
+use Rattle.std.proofs.Common.{false, Bool, refl, cond, append_assoc, append-nil, length-take, length-append, Result, IfOk}
 use Rattle.std.proofs.lemmas.Result.{IfOk-weaker}
 use Rattle.std.proofs.lemmas.Bool.{ne_eqb}
 use Rattle.std.specs.List.{All, slice_split, onto_first}

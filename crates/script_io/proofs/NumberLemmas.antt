@@ -1,5 +1,7 @@
 -- Lemmas on numbers and parts.
-use Rattle.std.proofs.Common.{◌≡◌, ◌<◌, ◌≤◌, ◌+◌, ◌-◌, ◌*◌, ◌==◌, ◌&&◌, ℕ, List, [], ◌∷◌, Option, None, Some, length, get_or, drop, arith, sym, ap, ◌∙◌, subst, true, false, Bool, refl, nat_le, cond, take, ◌++◌, take-append-drop, get_or-take, length-take-le, take_all, eq-eqb, Bor, is_some, not, IsTrue}
+use Rattle.std.proofs.Common.{◌≡◌, ◌<◌, ◌≤◌, ◌+◌, ◌-◌, ◌*◌, ◌==◌, ◌&&◌, ℕ, List, [], ◌∷◌, Option, None, Some, length, get_or, drop}
+use Rattle.std.proofs.Common.{arith, sym, ap, ◌∙◌, subst, true, false, Bool, refl, nat_le, cond, take, ◌++◌, take-append-drop}
+use Rattle.std.proofs.Common.{get_or-take, length-take-le, take_all, eq-eqb, Bor, is_some, not, IsTrue}
 use Rattle.std.proofs.lemmas.List.{drop_more, take_rest}
 use Rattle.std.proofs.lemmas.List.Splits.{slice_split_at, slice_split_none, length-slice_split}
 use Rattle.std.proofs.lemmas.List.Elements.{All-from_get_or}

@@ -1,5 +1,6 @@
 -- Lemmas on serving.
-use Rattle.std.proofs.Common.{◌≡◌, ◌++◌, ℕ, List, [], Option, None, Some, take, drop, sym, ap, ◌∙◌, ◌-◌, length, ◌∷◌, subst, arith, append_assoc, append-nil, take-append-drop, refl, ◌⊎◌, inl, inr, IfSome, Ok, Err, Result}
+use Rattle.std.proofs.Common.{◌≡◌, ◌++◌, ℕ, List, [], Option, None, Some, take, drop, sym, ap, ◌∙◌, ◌-◌, length, ◌∷◌, subst, arith}
+use Rattle.std.proofs.Common.{append_assoc, append-nil, take-append-drop, refl, ◌⊎◌, inl, inr, IfSome, Ok, Err, Result}
 use Rattle.std.proofs.lemmas.List.{take_rest}
 use Rattle.std.specs.Io.KnownBytes.{Appends, Consumes, IsAtEnd}
 use Rattle.std.proofs.KnownBytes.{Appends-trans, Consumes-trans, Appends-nil, Consumes-nil}

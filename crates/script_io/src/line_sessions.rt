@@ -1,5 +1,6 @@
 //! Scripts of lines.
-ghost use Rattle.std.specs.Prelude.{◌≡◌, ◌==◌, ◌+◌, ◌-◌, ◌^◌, ◌<◌, ◌≤◌, ◌++◌, ℕ, List, [], ◌∷◌, Some, None, false, true, All, IsTrue, ◌↔◌, length, take, drop, is_some, OnOk, IfOk, IfSome, MatchOption};
+ghost use Rattle.std.specs.Prelude.{◌≡◌, ◌==◌, ◌+◌, ◌-◌, ◌^◌, ◌<◌, ◌≤◌, ◌++◌, ℕ, List, [], ◌∷◌, Some, None, false, true, All};
+ghost use Rattle.std.specs.Prelude.{IsTrue, ◌↔◌, length, take, drop, is_some, OnOk, IfOk, IfSome, MatchOption};
 ghost use Rattle.std.specs.Str.Lines.{lines, strip_carriage_return};
 ghost use Rattle.script_io.specs.Lines.{is_no_newline};
 ghost use Rattle.script_io.specs.Transcripts.{Transcript, after, closed, unless_ended, unless_ended-same};
@@ -120,12 +121,11 @@ impl<S: LineService + Drop> LineSession<S> {
             ≡ after out.new.items (⟦<LineSession<S> as Session>⟧.follow self.new more)) }
     {
         self.number += 1;
-        match self
+        let told = self
             .service
-            .take_line(self.number, without_return(line), out)
-        {
-            Ok(ending) => self.ending = ending,
-            Err(error) => return Err(error),
+            .take_line(self.number, without_return(line), out)?;
+        if let Some(ending) = told {
+            self.ending = Some(ending);
         }
         Ok(())
     }
@@ -142,11 +142,11 @@ impl<S: LineService + Drop> LineSession<S> {
         self.number += 1;
         let buffer = &self.line;
         let line = without_return(buffer.bytes.as_slice());
-        match self.service.take_line(self.number, line, out) {
-            Ok(ending) => self.ending = ending,
-            Err(error) => return Err(error),
-        }
+        let told = self.service.take_line(self.number, line, out)?;
         self.line.clear();
+        if let Some(ending) = told {
+            self.ending = Some(ending);
+        }
         Ok(())
     }
 

@@ -1,5 +1,6 @@
 //! Scripts served from any reader to any writer.
-ghost use Rattle.std.specs.Prelude.{◌≡◌, ◌≢◌, ◌+◌, ◌*◌, ◌^◌, ◌<◌, ◌≤◌, ◌++◌, ◌⊎◌, ℕ, List, [], Ok, Err, true, false, length, take, drop, MatchResult, OnOk, OnErr, IfOk, IfErr};
+ghost use Rattle.std.specs.Prelude.{◌≡◌, ◌≢◌, ◌+◌, ◌*◌, ◌^◌, ◌<◌, ◌≤◌, ◌++◌, ◌⊎◌, ℕ, List, [], Ok, Err, true, false};
+ghost use Rattle.std.specs.Prelude.{length, take, drop, MatchResult, OnOk, OnErr, IfOk, IfErr};
 ghost use Rattle.std.specs.Io.KnownBytes.{Appends, IsAtEnd};
 ghost use Rattle.script_io.specs.Transcripts.{after};
 ghost use Rattle.script_io.specs.Serves.{Serves, Goes, Stops, Sends, Cuts, Blames};

@@ -26,11 +26,17 @@ IsEarlier place s t = t.place ≤ place → place < t.end → t.place ≤ s
 abbrev IsElsewhere : ℕ → Label → Type 0
 IsElsewhere place t = t.place ≤ place → t.end ≤ place
 
-pub nearest_of : (place s e : ℕ) (labels : List Label) → s ≤ place → place < e → All (λ t. reach place t.place t.end ≤ reach place s e) labels → All (λ m. m.place ≤ place → place < m.end → m.place ≤ s) labels
-nearest_of place s e labels before within most = All-weaker (IsFarther place s e) (IsEarlier place s) (λ t h start end. nearer place s e t.place t.end before within h start end) labels most
+pub nearest_of : (place s e : ℕ) (labels : List Label) → s ≤ place → place < e →
+    All (λ t. reach place t.place t.end ≤ reach place s e) labels → All (λ m. m.place ≤ place → place < m.end → m.place ≤ s) labels
+nearest_of place s e labels before within most = All-weaker (IsFarther place s e) (IsEarlier place s)
+    (λ t h start end. nearer place s e t.place t.end before within h start end) labels most
 
-pub none_before : (place s e : ℕ) (labels : List Label) → place < s → All (λ t. reach place t.place t.end ≤ reach place s e) labels → All (λ m. m.place ≤ place → m.end ≤ place) labels
-none_before place s e labels after most = All-weaker (IsFarther place s e) (IsElsewhere place) (λ t h start. behind place s e t.place t.end after h start) labels most
+pub none_before : (place s e : ℕ) (labels : List Label) → place < s →
+    All (λ t. reach place t.place t.end ≤ reach place s e) labels → All (λ m. m.place ≤ place → m.end ≤ place) labels
+none_before place s e labels after most = All-weaker (IsFarther place s e)
+    (IsElsewhere place) (λ t h start. behind place s e t.place t.end after h start) labels most
 
-pub none_within : (place s e : ℕ) (labels : List Label) → e ≤ place → All (λ t. reach place t.place t.end ≤ reach place s e) labels → All (λ m. m.place ≤ place → m.end ≤ place) labels
-none_within place s e labels after most = All-weaker (IsFarther place s e) (IsElsewhere place) (λ t h start. past place s e t.place t.end after h start) labels most
+pub none_within : (place s e : ℕ) (labels : List Label) → e ≤ place →
+    All (λ t. reach place t.place t.end ≤ reach place s e) labels → All (λ m. m.place ≤ place → m.end ≤ place) labels
+none_within place s e labels after most = All-weaker (IsFarther place s e)
+    (IsElsewhere place) (λ t h start. past place s e t.place t.end after h start) labels most

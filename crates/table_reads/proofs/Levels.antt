@@ -1,5 +1,6 @@
 -- The wants of a key are of one level and of one pool, so the first tells of all.
-use Rattle.std.proofs.Common.{◌≡◌, ◌∙◌, sym, ap, subst, ℕ, Bool, true, false, ◌&&◌, ◌==◌, cond, List, [], ◌∷◌, filter, get_or, map, take, Option, Some, None, refl, append-nil, unwrap_or, zero, suc, arith}
+use Rattle.std.proofs.Common.{◌≡◌, ◌∙◌, sym, ap, subst, ℕ, Bool, true, false, ◌&&◌, ◌==◌, cond, List, [], ◌∷◌, filter, get_or, map}
+use Rattle.std.proofs.Common.{take, Option, Some, None, refl, append-nil, unwrap_or, zero, suc, arith}
 use Rattle.std.specs.List.{All, list_all}
 use Rattle.std.proofs.lemmas.Bool.{and_from, and_parts, eq-eqb, eqb-true, or_left, or_right}
 use Rattle.lock_queue.specs.declared.key.Key.{Key}

@@ -1,5 +1,6 @@
 -- What marks of grants tell of the requests.
-use Rattle.std.proofs.Common.{◌≡◌, ◌<◌, ◌+◌, ◌∙◌, sym, ap, subst, ℕ, suc, Bool, true, false, ◌&&◌, ◌||◌, ◌==◌, not, cond, List, [], ◌∷◌, ◌++◌, length, take, drop, get_or, map, filter, Some, option_map, unwrap_or, refl, arith, nat_le}
+use Rattle.std.proofs.Common.{◌≡◌, ◌<◌, ◌+◌, ◌∙◌, sym, ap, subst, ℕ, suc, Bool, true, false, ◌&&◌, ◌||◌, ◌==◌, not, cond, List, [], ◌∷◌, ◌++◌}
+use Rattle.std.proofs.Common.{length, take, drop, get_or, map, filter, Some, option_map, unwrap_or, refl, arith, nat_le}
 use Rattle.std.specs.List.{find, list_any, position_or_len}
 use Rattle.std.proofs.Math.Bool.{and_assoc}
 use Rattle.std.proofs.lemmas.Bool.{and_parts, eq-eqb, eqb-true, leb-true, or_parts}
@@ -27,7 +28,8 @@ use Rattle.key_queues.proofs.Marks.{marks_choose}
 use Rattle.key_queues.proofs.Places.{found_within, split_at}
 use Rattle.request_store.specs.Stores.{Stored, filed_at, is_blocked, places_of}
 use Rattle.table_reads.specs.Filing.{state_of}
-use Rattle.table_reads.specs.Reads.{MarksGrants, before_of, id_at, is_blocked_from, is_kept_from, is_pending_filed, owners_among, request_at, requests_at, status_at, waiters_among}
+use Rattle.table_reads.specs.Reads.{MarksGrants, before_of, id_at, is_blocked_from, is_kept_from, is_pending_filed}
+use Rattle.table_reads.specs.Reads.{owners_among, request_at, requests_at, status_at, waiters_among}
 use Rattle.table_reads.specs.Whole.{AreRight, requests_in}
 use Rattle.table_reads.proofs.Reading.{wants_at_places}
 

@@ -2,8 +2,6 @@
 
 ghost use Rattle.machine.specs.Setups.{IsSetup};
 
-use clap::Error;
-
 /// What the words of the command line ask for.
 #[derive(Drop)]
 pub struct Asked<'a> {
@@ -26,13 +24,4 @@ pub struct Asked<'a> {
     /// The names of the sources' files, 1 to 63.
     pub files: Vec<&'a str>,
     ghost right: { IsSetup blocks quantum },
-}
-
-/// Why the words were refused.
-#[derive(Debug, Drop)]
-pub enum Refusal {
-    /// There was no memory.
-    Memory,
-    /// They ask for what there is not, or for help or the version.
-    Usage(Error),
 }

@@ -4,7 +4,8 @@ use crate::history::History;
 use crate::terminal::Terminal;
 use job_sched::{Stop, Wait};
 use run_facts::Standing;
-use run_notes::{CallLook, Machine, Snapshot, ToldJob, lock_wait_text, stop_text};
+use run_machine::Machine;
+use run_notes::{CallLook, Snapshot, ToldJob, lock_wait_text, stop_text};
 use std::alloc::{AllocError, Global};
 
 /// What a job does next, as it stands before that.
@@ -57,9 +58,9 @@ fn wait_text(
         Wait::Char => String::from_str(alloc, "waits for a character"),
         Wait::Line => String::from_str(alloc, "waits for a line"),
         Wait::Room(_) => String::from_str(alloc, "waits for its output to be taken"),
-        Wait::Queue(0, _) => lock_wait_text(alloc, machine.locks(), number),
+        Wait::Queue(0, _) => lock_wait_text(alloc, machine, number),
         Wait::Queue(limit, _) => {
-            let text = lock_wait_text(alloc, machine.locks(), number)?;
+            let text = lock_wait_text(alloc, machine, number)?;
             format!(in alloc; "{}, for {limit} ticks more", text.as_str())
         }
     }

@@ -13,7 +13,8 @@ mod terminal;
 mod texts;
 mod words;
 
-pub use asked::{Asked, Refusal};
+pub use asked::Asked;
 pub use program::{ten, unread_words};
+pub use run_words::Refusal;
 pub use running::{Ran, run_sources};
 pub use words::read_words;

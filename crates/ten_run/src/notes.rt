@@ -6,10 +6,10 @@ use line_ports::{Answers, Failure};
 use lock_queue::Request;
 use lock_svg::RunCourse;
 use monitor::JobView;
-use run_facts::requests_in;
+use run_machine::Machine;
 use run_notes::{
-    CallLook, Machine, Snapshot, WaitClocks, call_line, circle_line, circle_of, grant_lines,
-    limit_line, snapshot_of, step_line, time_limit_line,
+    CallLook, Snapshot, WaitClocks, call_line, circle_line, circle_of, grant_lines, limit_line,
+    snapshot_of, step_line, time_limit_line,
 };
 use script_io::ByteOut;
 use std::alloc::{AllocError, Global};
@@ -146,7 +146,7 @@ impl Notes {
         if !self.looks_at_requests() {
             return Ok(());
         }
-        let requests = requests_in(alloc, machine.locks())?;
+        let requests = machine.requests(alloc)?;
         let (before, now) = (self.requests.as_slice(), requests.as_slice());
         if self.locks {
             let lines = grant_lines(alloc, tick, before, now)?;
@@ -170,7 +170,7 @@ impl Notes {
     ) -> Result<(), Failure> {
         if let Some(clocks) = &mut self.clocks {
             let requests = self.requests.as_slice();
-            let lines = clocks.overdue(alloc, tick, machine.locks(), requests)?;
+            let lines = clocks.overdue(alloc, tick, machine, requests)?;
             errors.write(lines.as_str().as_bytes())?;
         }
         Ok(())
@@ -218,8 +218,8 @@ pub fn tell_circle<E: ByteOut + Drop>(
     number: u8,
     errors: &mut Answers<E>,
 ) -> Result<(), Failure> {
-    if let Some(circle) = circle_of(alloc, machine.locks(), number)? {
-        let line = circle_line(alloc, tick, machine.locks(), circle.as_slice())?;
+    if let Some(circle) = circle_of(alloc, machine, number)? {
+        let line = circle_line(alloc, tick, machine, circle.as_slice())?;
         errors.write(line.as_str().as_bytes())?;
     }
     Ok(())

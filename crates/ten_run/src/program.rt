@@ -1,11 +1,11 @@
 //! The whole program.
 ghost use Rattle.std.specs.Prelude.{◌≡◌, ◌≢◌, false};
 
-use crate::asked::Refusal;
 use crate::running::run_sources;
 use crate::words::read_words;
 use line_ports::{Answers, Failure};
 use run_facts::{DONE, FAILED, USAGE};
+use run_words::Refusal;
 use script_io::{ByteIn, ByteOut};
 use source_labels::Source;
 use std::alloc::{AllocError, Global};

@@ -12,7 +12,8 @@ use line_ports::{Answers, Failure, LineReader};
 use lock_svg::RunCourse;
 use monitor::{Answer, Config, Event, RefusedEvent};
 use run_facts::{Ending, REFUSED, has_ended_well, status_of};
-use run_notes::{Machine, ToldJob, WaitClocks, has_circle};
+use run_machine::Machine;
+use run_notes::{ToldJob, WaitClocks, has_circle};
 use script_io::{ByteIn, ByteOut};
 use source_labels::{Assembled, Program, Source, assemble_source, warnings_of};
 use std::alloc::Global;
@@ -88,49 +89,57 @@ fn log_in(machine: &mut Machine, line: u8, image: &Image) -> Result<u8, RefusedE
     }
 }
 
-/// Logs all programs in, at lines from 0 on; none where one is refused, which is told.
+/// The job of a program, which has this number and has run no step.
+fn job_of<'a>(
+    program: Program<'a>,
+    number: u8,
+    terminal: Terminal,
+    history: History,
+) -> RunningJob<'a> {
+    let start = Address::try_new(program.image.start).unwrap_or(Address::new(0));
+    RunningJob {
+        told: ToldJob {
+            number,
+            places: program.places,
+            last: start,
+            next: start,
+        },
+        file: program.file,
+        terminal,
+        steps: 0,
+        history,
+        look: None,
+    }
+}
+
+/// Logs programs in, at lines from 0 on, and adds their jobs; false where one is refused, which is told.
 fn log_in_all<'a, E: ByteOut + Drop>(
     alloc: Global,
     machine: &mut Machine,
+    jobs: &mut Vec<RunningJob<'a>>,
     programs: Vec<Program<'a>>,
     history: usize,
     errors: &mut Answers<E>,
-) -> Result<Option<Vec<RunningJob<'a>>>, Failure> {
+) -> Result<bool, Failure> {
     let is_numbered = programs.len() > 1;
-    let mut jobs = Vec::new(alloc);
     let mut line = 0u8;
     for program in programs {
-        let Program {
-            file,
-            image,
-            places,
-        } = program;
-        let number = match log_in(machine, line, &image) {
-            Ok(number) => number,
+        match log_in(machine, line, &program.image) {
+            Ok(number) => {
+                let terminal = Terminal::new(line, is_numbered);
+                let history = History::new(alloc, history);
+                jobs.push(job_of(program, number, terminal, history))?;
+            }
             Err(refusal) => {
-                let reason = refusal_text(refusal);
+                let (file, reason) = (program.file, refusal_text(refusal));
                 let text = format!(in alloc; "{file}: {reason}\n")?;
                 errors.write(text.as_str().as_bytes())?;
-                return Ok(None);
+                return Ok(false);
             }
-        };
-        let start = Address::try_new(image.start).unwrap_or(Address::new(0));
-        jobs.push(RunningJob {
-            told: ToldJob {
-                number,
-                places,
-                last: start,
-                next: start,
-            },
-            file,
-            terminal: Terminal::new(line, is_numbered),
-            steps: 0,
-            history: History::new(alloc, history),
-            look: None,
-        })?;
+        }
         line = line.saturating_add(1);
     }
-    Ok(Some(jobs))
+    Ok(true)
 }
 
 /// Says how each job stands, and gives the exit status.
@@ -152,7 +161,7 @@ fn tell_ends<E: ByteOut + Drop>(
         standings.push(standing)?;
     }
     let ending = Ending {
-        has_circle: has_circle(machine.locks()),
+        has_circle: has_circle(machine),
         is_cut,
     };
     Ok(status_of(ending, standings.as_slice()))
@@ -200,6 +209,23 @@ fn finish<R: ByteIn + Drop, W: ByteOut + Drop, E: ByteOut + Drop>(
     Ok(Ran { status, picture })
 }
 
+/// Logs programs in, runs their jobs, and says how the run ended.
+fn run_programs<'a, R: ByteIn + Drop, W: ByteOut + Drop, E: ByteOut + Drop>(
+    session: &mut Session<'a, R, W>,
+    asked: &Asked<'_>,
+    programs: Vec<Program<'a>>,
+    errors: &mut Answers<E>,
+) -> Result<Ran, Failure> {
+    let (machine, jobs) = (&mut session.machine, &mut session.jobs);
+    let history = asked.history;
+    if !log_in_all(session.alloc, machine, jobs, programs, history, errors)? {
+        return Ok(Ran::refused());
+    }
+    session.look_at_all()?;
+    let ran = session.run(asked.steps, errors);
+    finish(session, ran, errors)
+}
+
 /// Assembles sources, runs a job for each of them, and says on `errors` what is wrong with a source
 /// or how each job ended.
 pub fn run_sources<R: ByteIn + Drop, W: ByteOut + Drop, E: ByteOut + Drop>(
@@ -216,15 +242,13 @@ pub fn run_sources<R: ByteIn + Drop, W: ByteOut + Drop, E: ByteOut + Drop>(
     let Some(programs) = assemble_all(alloc, sources, errors)? else {
         return Ok(Ran::refused());
     };
-    let mut machine = Machine::boot(alloc, config_of(asked.blocks, asked.quantum))?;
-    let Some(jobs) = log_in_all(alloc, &mut machine, programs, asked.history, errors)? else {
-        return Ok(Ran::refused());
-    };
+    let input = LineReader::new(alloc, reader)?;
+    let machine = Machine::boot(alloc, config_of(asked.blocks, asked.quantum))?;
     let mut session = Session {
         alloc,
         machine,
-        jobs,
-        input: LineReader::new(alloc, reader)?,
+        jobs: Vec::new(alloc),
+        input,
         output: Answers::new(writer),
         text: Vec::new(alloc),
         line: 0,
@@ -234,7 +258,5 @@ pub fn run_sources<R: ByteIn + Drop, W: ByteOut + Drop, E: ByteOut + Drop>(
         ticks: 0,
         notes: notes_of(alloc, asked),
     };
-    session.look_at_all()?;
-    let ran = session.run(asked.steps, errors);
-    finish(&mut session, ran, errors)
+    run_programs(&mut session, asked, programs, errors)
 }

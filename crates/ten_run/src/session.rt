@@ -9,7 +9,7 @@ use job_sched::Wait;
 use line_ports::{Answers, Failure, LineReader};
 use monitor::{Answer, Event, RefusedEvent};
 use run_facts::{Target, target_of};
-use run_notes::Machine;
+use run_machine::Machine;
 use script_io::{ByteIn, ByteOut};
 use std::alloc::Global;
 use tty_lines::Char7;

@@ -1,8 +1,5 @@
 //! What `--help` and `--version` say.
 
-/// The version of the program.
-pub const VERSION: &str = "0.1.0";
-
 /// The program.
 pub const PROGRAM: &str =
     "Assembles programs in a subset of MACRO-10 and runs them on a DECsystem-10 (KA10), a job each.";
@@ -16,13 +13,6 @@ pub const PROGRAM_END: &str = "As in:  ten examples/counter.mac\n\
     Status: 0 all jobs ended by EXIT, LOGOUT or HALT; 1 a source was refused, or a job was left waiting\n\
     or stopped by CTRL-C; 2 wrong words; 3 reading, writing or memory failed; 4 jobs wait for each\n\
     other in a circle; 5 the run ended by --steps; 6 the processor stopped a job at a fault.";
-
-/// `--blocks`.
-pub const BLOCKS: &str = "blocks of core of 1024 words that the jobs share, 1 to 256 [default: 64]";
-
-/// `--quantum`.
-pub const QUANTUM: &str =
-    "ticks for which a job runs before the next has its turn, 1 to 60 [default: 1]";
 
 /// `--steps`.
 pub const STEPS: &str = "ends the run after so many steps";
@@ -46,6 +36,3 @@ pub const WAITS: &str =
 /// `--picture`.
 pub const PICTURE: &str =
     "writes a picture of the run: who has which lock at which tick, and who waits for whom";
-
-/// `FILE`.
-pub const FILES: &str = "sources, 1 to 63: job n runs the n-th of them, at terminal line n - 1";

@@ -1,5 +1,6 @@
 -- What terminal lines mean: two lists of characters a line (this project's profile).
-use Rattle.std.specs.Prelude.{ℕ, ◌≡◌, ◌≤◌, ◌-◌, Bool, ◌||◌, nat_lt, nat_le, min, List, [], length, slice_index_or, slice_set, take, replicate, Result, Ok, Err, if◌then◌else◌, All}
+use Rattle.std.specs.Prelude.{ℕ, ◌≡◌, ◌≤◌, ◌-◌, Bool, ◌||◌, nat_lt, nat_le, min, List, [], length, slice_index_or}
+use Rattle.std.specs.Prelude.{slice_set, take, replicate, Result, Ok, Err, if◌then◌else◌, All}
 use Rattle.std.specs.List.{list_any}
 use Rattle.word36.specs.declared.sizes.TheConstants.{LINES, INPUT_RING, OUTPUT_RING, TAKEN_AT_ONCE}
 use Rattle.tty_lines.specs.declared.line_error.LineError.{LineError}

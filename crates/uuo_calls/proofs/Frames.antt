@@ -1,5 +1,6 @@
 -- What a call leaves of what is not its own.
-use Rattle.std.proofs.Common.{◌≡◌, ◌≢◌, ◌∙◌, sym, ap, subst, ℕ, ◌+◌, ◌==◌, Bool, true, false, List, [], length, Option, Some, None, slice_index_or, slice_set, refl, nat_le}
+use Rattle.std.proofs.Common.{◌≡◌, ◌≢◌, ◌∙◌, sym, ap, subst, ℕ, ◌+◌, ◌==◌, Bool, true, false, List, [], length}
+use Rattle.std.proofs.Common.{Option, Some, None, slice_index_or, slice_set, refl, nat_le}
 use Rattle.std.proofs.lemmas.List.{get_or-set_other}
 use Rattle.ka_cpu.specs.Places.{is_legal, word_below}
 use Rattle.core_store.specs.Cores.{Cores, blocks_of, core_of, resized, with_core}
@@ -12,7 +13,8 @@ use Rattle.uuo_calls.specs.declared.call.CallOutcome.{CallOutcome}
 use Rattle.uuo_calls.specs.declared.call.CallOutcome.TheVariants.{Done, Empty, Gone}
 use Rattle.uuo_calls.specs.declared.service.Awaited.{Awaited}
 use Rattle.uuo_calls.specs.declared.service.Service.{Service}
-use Rattle.uuo_calls.specs.declared.service.Service.TheVariants.{Reset, Core, Exit, Monrt, Logout, Mstime, Pjob, Sleep, Piini, Pisys, Debrk, Enq, Deq, Enqc, Datrd, Datwr, Input, Outchr, Outstr, Clrbfi, Clrbfo, Skpin, Unlisted}
+use Rattle.uuo_calls.specs.declared.service.Service.TheVariants.{Reset, Core, Exit, Monrt, Logout, Mstime, Pjob, Sleep, Piini, Pisys, Debrk, Enq, Deq, Enqc}
+use Rattle.uuo_calls.specs.declared.service.Service.TheVariants.{Datrd, Datwr, Input, Outchr, Outstr, Clrbfi, Clrbfo, Skpin, Unlisted}
 use Rattle.uuo_calls.specs.Around.{Around, ac_of}
 use Rattle.uuo_calls.specs.CoreRow.{JobCores, blocks_asked, core_done, grown, with_highest}
 use Rattle.uuo_calls.specs.Laws.{IsSpared, OthersAreSpared, service_in}

@@ -14,7 +14,8 @@ use Rattle.job_sched.specs.Tables.{job_at}
 use Rattle.uuo_calls.specs.declared.call.CallOutcome.TheVariants.{Empty}
 use Rattle.uuo_calls.specs.declared.call.MonitorCall.{MonitorCall}
 use Rattle.uuo_calls.specs.declared.service.Service.{Service}
-use Rattle.uuo_calls.specs.declared.service.Service.TheVariants.{Reset, Core, Exit, Monrt, Logout, Mstime, Pjob, Sleep as SleepCall, Piini, Pisys, Debrk, Enq, Deq, Enqc, Datrd, Datwr, Input, Outchr, Outstr, Clrbfi, Clrbfo, Skpin, Unlisted}
+use Rattle.uuo_calls.specs.declared.service.Service.TheVariants.{Reset, Core, Exit, Monrt, Logout, Mstime, Pjob, Sleep as SleepCall, Piini, Pisys, Debrk, Enq}
+use Rattle.uuo_calls.specs.declared.service.Service.TheVariants.{Deq, Enqc, Datrd, Datwr, Input, Outchr, Outstr, Clrbfi, Clrbfo, Skpin, Unlisted}
 use Rattle.uuo_calls.specs.Around.{ac_of, with_ac, put_back, waiting}
 use Rattle.uuo_calls.specs.Performed.{World, performed}
 use Rattle.uuo_calls.specs.Services.{service_of}

@@ -12,7 +12,8 @@ use Rattle.uuo_calls.specs.declared.call.MonitorCall.{MonitorCall}
 use Rattle.uuo_calls.specs.declared.call.CallOutcome.{CallOutcome}
 use Rattle.uuo_calls.specs.declared.call.CallOutcome.TheVariants.{Done, Empty, Gone}
 use Rattle.uuo_calls.specs.declared.service.Service.{Service}
-use Rattle.uuo_calls.specs.declared.service.Service.TheVariants.{Reset, Core, Exit, Monrt, Logout, Mstime, Pjob, Sleep, Piini, Pisys, Debrk, Enq, Deq, Enqc, Datrd, Datwr, Input, Outchr, Outstr, Clrbfi, Clrbfo, Skpin, Unlisted}
+use Rattle.uuo_calls.specs.declared.service.Service.TheVariants.{Reset, Core, Exit, Monrt, Logout, Mstime, Pjob, Sleep, Piini, Pisys, Debrk, Enq, Deq, Enqc}
+use Rattle.uuo_calls.specs.declared.service.Service.TheVariants.{Datrd, Datwr, Input, Outchr, Outstr, Clrbfi, Clrbfo, Skpin, Unlisted}
 use Rattle.uuo_calls.specs.Around.{Around, stopped_at}
 use Rattle.uuo_calls.specs.CoreRow.{core_row}
 use Rattle.uuo_calls.specs.InterruptRows.{piini_row, pisys_row, debrk_row}

@@ -4,7 +4,8 @@ use Rattle.ka_cpu.specs.declared.outcome.CallKind.{CallKind}
 use Rattle.ka_cpu.specs.declared.outcome.CallKind.TheVariants.{Calli, Ttcall}
 use Rattle.uuo_calls.specs.declared.service.Awaited.TheVariants as awaited
 use Rattle.uuo_calls.specs.declared.service.Service.{Service}
-use Rattle.uuo_calls.specs.declared.service.Service.TheVariants.{Reset, Core, Exit, Monrt, Logout, Mstime, Pjob, Sleep, Piini, Pisys, Debrk, Enq, Deq, Enqc, Datrd, Datwr, Input, Outchr, Outstr, Clrbfi, Clrbfo, Skpin, Unlisted}
+use Rattle.uuo_calls.specs.declared.service.Service.TheVariants.{Reset, Core, Exit, Monrt, Logout, Mstime, Pjob, Sleep, Piini, Pisys, Debrk, Enq, Deq, Enqc}
+use Rattle.uuo_calls.specs.declared.service.Service.TheVariants.{Datrd, Datwr, Input, Outchr, Outstr, Clrbfi, Clrbfo, Skpin, Unlisted}
 
 -- EXIT goes by its AC field: 0 for EXIT, 1 for MONRT.
 abbrev pub exit_of : ℕ → Service

@@ -32,15 +32,23 @@ use lock_queue::LockTable;
 use tty_lines::Lines;
 use word36::{Address, DATA_WORDS, Word};
 
-/// A call of a job, by its row of the table of calls; `quota` is that of the job that a call of ENQC. names,
-/// if it is there.
-fn carry_out<L: LockTable, C: CoreStore>(
+/// A call that a job makes.
+struct Made {
+    /// Its row of the table of calls.
     service: Service,
+    /// When it is made.
     time: TimeOfDay,
+    /// The job.
     number: u8,
     ac: Accumulator,
     e: Address,
+    /// The quota of the job that a call of ENQC. names, if it is there.
     quota: Option<u16>,
+}
+
+/// Serves a call of a job, by its row of the table of calls.
+fn carry_out<L: LockTable, C: CoreStore>(
+    made: Made,
     job: &mut Job,
     lines: &mut Lines,
     locks: &mut L,
@@ -48,9 +56,10 @@ fn carry_out<L: LockTable, C: CoreStore>(
     shared: &mut [Word; DATA_WORDS],
     room: &mut CallRoom,
 ) -> CallOutcome
-    requires number { IsJob number }
-    requires core { core_of (C.meaning cores.old) number ≢ [] }
-    ensures row { (jobs : List (Option JobView)) → (service ≡ Enqc → quota_at jobs (named_job number (right_half (ac_of job.old ac))) ≡ quota)
+    requires number { IsJob made.number }
+    requires core { core_of (C.meaning cores.old) made.number ≢ [] }
+    ensures row { (jobs : List (Option JobView))
+        → (made.service ≡ Enqc → quota_at jobs (named_job made.number (right_half (ac_of job.old made.ac))) ≡ made.quota)
         → record {
           size = L.REQS;
           job = job.new;
@@ -61,7 +70,7 @@ fn carry_out<L: LockTable, C: CoreStore>(
           shared = shared.new;
           ending = result;
         }
-        ≡ row_of service time number ac e (record {
+        ≡ row_of made.service made.time made.number made.ac made.e (record {
           size = L.REQS;
           job = job.old;
           jobs = jobs;
@@ -72,6 +81,14 @@ fn carry_out<L: LockTable, C: CoreStore>(
           ending = Done;
         }) }
 {
+    let Made {
+        service,
+        time,
+        number,
+        ac,
+        e,
+        quota,
+    } = made;
     match service {
         Service::Reset => reset(number, job, locks),
         Service::Core => resize_core(number, job, ac, cores),
@@ -171,9 +188,15 @@ pub fn perform<L: LockTable, C: CoreStore>(
     let quota = quota_asked(service, number, ac, &table.jobs);
     let outcome = match &mut table.jobs[number as usize] {
         Some(job) => {
-            let outcome = carry_out(
-                service, time, number, ac, e, quota, job, lines, locks, cores, shared, room,
-            );
+            let made = Made {
+                service,
+                time,
+                number,
+                ac,
+                e,
+                quota,
+            };
+            let outcome = carry_out(made, job, lines, locks, cores, shared, room);
             table.sleepers |= job.is_asleep();
             outcome
         }

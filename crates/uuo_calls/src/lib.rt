@@ -17,6 +17,7 @@ mod returns;
 mod room;
 mod service;
 mod status;
+mod world;
 
 pub use call::{CallOutcome, MonitorCall};
 pub use calls::{perform, remove_job};
@@ -26,3 +27,4 @@ pub use laws::{
     refusals_change_ac_alone, texts_go_whole,
 };
 pub use room::CallRoom;
+pub use world::World;

@@ -1,6 +1,7 @@
 //! Words of 36 bits.
 
-ghost use Rattle.std.specs.Prelude.{◌≡◌, ◌+◌, ◌-◌, ◌*◌, ◌/◌, ◌%◌, ◌^◌, ◌<◌, ◌≤◌, ◌≤ℤ◌, ◌<ℤ◌, bit_and, bit_or, bit_xor, ◌↔◌, IfSome, IsSome, if◌then◌else◌, pos, negsuc, length, Some};
+ghost use Rattle.std.specs.Prelude.{◌≡◌, ◌+◌, ◌-◌, ◌*◌, ◌/◌, ◌%◌, ◌^◌, ◌<◌, ◌≤◌, ◌≤ℤ◌, ◌<ℤ◌, bit_and, bit_or, bit_xor, ◌↔◌};
+ghost use Rattle.std.specs.Prelude.{IfSome, IsSome, if◌then◌else◌, pos, negsuc, length, Some};
 ghost use Rattle.word36.specs.Words.{left_half, right_half, joined, is_negative, signed_value, complement, sum_of, carry_0, carry_1};
 ghost use Rattle.word36.specs.Octal.{word_text};
 

@@ -10,7 +10,8 @@ returns g c = enough _ _ _ 31 _ _ _ c.loop-count-test.false c.loop-count.invaria
 
 pub returns-then-character-eq0 : goal.returns-then-character-eq0
 returns-then-character-eq0 g c =
-    let at = character_in _ _ _ _ _ _ c.next_word-word.ensures c.increment-pointer.ensures.value c.in_ok-word.was ∙ ap Some (sym c.character_of-character.ensures.value ∙ c.if-character-eq0.true) in
+    let at = character_in _ _ _ _ _ _ c.next_word-word.ensures c.increment-pointer.ensures.value c.in_ok-word.was
+    ∙ ap Some (sym c.character_of-character.ensures.value ∙ c.if-character-eq0.true) in
     zero_ends _ _ _ _ 31 _ _ _ c.loop-count-test.true c.loop-count.invariant.read c.increment-pointer.ensures.value at
 
 pub returns-in_err-word : goal.returns-in_err-word
@@ -21,12 +22,13 @@ returns-in_err-word g c =
 
 pub loop-count-preserved : goal.loop-count-preserved
 loop-count-preserved g c =
-    let at = character_in _ _ _ _ _ _ c.next_word-word.ensures c.increment-pointer.ensures.value c.in_ok-word.was ∙ ap Some (sym c.character_of-character.ensures.value) in
-    let here = c.push.ensures.ascii (rw c.from.ensures c.character_of-character.ensures.ascii) in
-    let pushed = rw c.from.ensures at here in
+    let at = character_in _ _ _ _ _ _ c.next_word-word.ensures c.increment-pointer.ensures.value c.in_ok-word.was
+    ∙ ap Some (sym c.character_of-character.ensures.value) in
+    let pushed = c.push.ensures in
     record {
       read = rw pushed (more _ _ _ _ 31 _ _ _ _ c.loop-count-test.true c.loop-count.invariant.read c.increment-pointer.ensures.value at c.if-character-eq0.false);
       counted = rw (pushed, length_push) (ap (λ n. n + 1) c.loop-count.invariant.counted);
       size = c.increment-pointer.ensures.size;
-      word = c.next_word-word.ensures ∙ ap (λ (r : ℕ). word_at c.args.regs.now.ac (g.M.JobMemory.words c.args.memory.now) (right_half r)) (sym c.increment-pointer.ensures.value);
+      word = c.next_word-word.ensures ∙ ap (λ (r : ℕ). word_at c.args.regs.now.ac (g.M.JobMemory.words c.args.memory.now) (right_half r))
+          (sym c.increment-pointer.ensures.value);
     }

@@ -5,5 +5,5 @@ use Rattle.call_block.proofs.name.read_text.Goals as goal
 
 pub returns : goal.returns
 returns g c =
-    let made = name_text-new c.new.result c.as_str.result.now c.new.ensures.variant c.new.ensures.value in
-    c.ok_or.ensures.value ∙ made ∙ ap name_text c.as_str.ensures.value ∙ sym (text_of-legal c.in-Some.text.bytes _ c.in-Some.ensures)
+    let made = name_text-new c.name.result c.in-Some.text c.name.ensures.variant c.name.ensures.value in
+    c.ok_or.ensures.value ∙ made ∙ sym (text_of-legal c.in-Some.text _ c.in-Some.ensures)

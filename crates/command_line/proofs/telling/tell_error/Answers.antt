@@ -8,4 +8,5 @@ returns-in-Ok g c =
 
 pub returns-in-Ok-source_text : goal.returns-in-Ok-source_text
 returns-in-Ok-source_text g c =
-    tells_source _ _ _ _ _ _ c.as_slice-in-Ok-source_text.ensures.value (c.write_all-in-Ok-source_text.result, c.write_all-in-Ok-source_text.ensures) c.in-Source.fault c.in-Source.is c.in-Ok-source_text.ensures
+    tells_source _ _ _ _ _ _ c.as_slice-in-Ok-source_text.ensures.value
+    (c.write_all-in-Ok-source_text.result, c.write_all-in-Ok-source_text.ensures) c.in-Source.fault c.in-Source.is c.in-Ok-source_text.ensures

@@ -9,4 +9,5 @@ pub returns-in-None-clause-value : goal.returns-in-None-clause-value
 returns-in-None-clause-value c = ap (number_in c.args.most) (c.in-None.ensures ∙ first_value-rows (found_of c.args.given.now) c.args.id.now)
 
 pub returns-in-Some-clause-value : goal.returns-in-Some-clause-value
-returns-in-Some-clause-value c = c.number_from_one.ensures.value ∙ ap (λ t. number_in c.args.most (Some t)) c.as_bytes.ensures.value ∙ ap (number_in c.args.most) (c.in-Some.ensures ∙ first_value-rows (found_of c.args.given.now) c.args.id.now)
+returns-in-Some-clause-value c = c.number_from_one.ensures.value ∙ ap (λ t. number_in c.args.most (Some t)) c.as_bytes.ensures.value
+    ∙ ap (number_in c.args.most) (c.in-Some.ensures ∙ first_value-rows (found_of c.args.given.now) c.args.id.now)

@@ -5,7 +5,8 @@ use Rattle.std.proofs.lemmas.List.{length-set}
 use Rattle.core_store.specs.declared.areas.Area.{Area}
 use Rattle.core_store.specs.Layout.{area_of, IsLaidOut}
 use Rattle.core_store.proofs.AreaLemmas.{area-set}
-use Rattle.core_store.proofs.Packing.{ArePacked-next, ArePacked-skip, IsLaidOut-next, blocks_from, blocks_from-end, blocks_from-next, blocks_from-skip, sum-moved}
+use Rattle.core_store.proofs.Packing.{ArePacked-next, ArePacked-skip, IsLaidOut-next, blocks_from}
+use Rattle.core_store.proofs.Packing.{blocks_from-end, blocks_from-next, blocks_from-skip, sum-moved}
 use Rattle.core_store.proofs.moves.pack.Goals as goal
 use Rattle.core_store.proofs.moves.pack.Goals.{in-Some, in_default}
 

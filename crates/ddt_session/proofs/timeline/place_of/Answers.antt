@@ -1,4 +1,4 @@
-use Rattle.std.proofs.Common.{◌≡◌, arith, ◌∙◌, sym, ap}
+use Rattle.std.proofs.Common.{arith}
 use Rattle.ddt_session.proofs.RunLemmas.{steps_next}
 use Rattle.ddt_session.proofs.timeline.place_of.Goals as goal
 

@@ -1,7 +1,8 @@
--- What is seen from here on is what is seen of the whole script.
-use Rattle.std.proofs.Common.{◌≡◌, ◌≤◌, [], length}
+-- What is seen from here on is what is seen of the whole script, and the waits are those behind the line that is asked for.
+use Rattle.std.proofs.Common.{◌≡◌, ◌≤◌, ◌+◌, ℕ, [], is_some, length}
 use Rattle.std.specs.Str.Lines.{lines}
-use Rattle.lock_bars.specs.Courses.{course_of}
+use Rattle.lock_bars.proofs.CourseLemmas.{Kept}
+use Rattle.lock_bars.specs.Courses.{course_of, has_line, requests_after}
 use Rattle.lock_bars.specs.declared.errors.TheConstants.{MOST_LINES}
 use Rattle.lock_bars.proofs.queue_course.watch_queue.Given as goal
 
@@ -9,8 +10,13 @@ abbrev pub invariant-loop-line : goal.invariant-loop-line
 invariant-loop-line g l = record {
   few : l.seen.lines ≤ MOST_LINES;
   columns : length l.seen.columns.items ≡ l.seen.lines;
+  count : l.seen.lines + length l.lines ≡ length (lines l.script);
   course : course_of g.L.LockTable.REQS (g.L.LockTable.requests l.table) l.seen.lines l.lines l.seen.bars.items
       ≡ course_of g.L.LockTable.REQS [] 0 (lines l.script) [];
+  behind : (k : ℕ) → requests_after g.L.LockTable.REQS k (g.L.LockTable.requests l.table) l.seen.lines l.lines
+      ≡ requests_after g.L.LockTable.REQS (l.seen.lines + k) [] 0 (lines l.script);
+  passed : is_some l.seen.waits ≡ has_line l.seen.lines l.at;
+  waits : Kept l.at (λ k. requests_after g.L.LockTable.REQS k [] 0 (lines l.script)) l.seen.waits;
 }
 
 abbrev pub decreases-loop-line : goal.decreases-loop-line

@@ -2,7 +2,8 @@ use Rattle.std.proofs.Common.{◌≡◌, ◌+◌, Err, Ok, length, ap, sym, ◌�
 use Rattle.std.specs.Prelude.{slice_set}
 use Rattle.std.proofs.lemmas.Bool.{eqb-true}
 use Rattle.std.specs.Str.Lines.{lines}
-use Rattle.mac_text.proofs.SourceLemmas.{source_begins, source_goes_on, source_ends, source_fails, source_done, lines_of_nothing, one_longer, placed, there, with_lines}
+use Rattle.mac_text.proofs.SourceLemmas.{source_begins, source_goes_on, source_ends, source_fails, source_done}
+use Rattle.mac_text.proofs.SourceLemmas.{lines_of_nothing, one_longer, placed, there, with_lines}
 use Rattle.mac_text.specs.Lines.{is_ascii, is_end, lines_from, radix_after}
 use Rattle.mac_text.proofs.source.parse.Goals as goal
 

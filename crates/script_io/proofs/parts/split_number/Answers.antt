@@ -1,7 +1,8 @@
 use Rattle.std.proofs.Common.{◌≡◌, ◌<◌, arith, length}
 use Rattle.std.proofs.lemmas.Bool.{ne_eqb}
 use Rattle.std.proofs.lemmas.Bool.Decides.{nat_tests}
-use Rattle.script_io.proofs.FrontLemmas.{follows-start, follows-digit, not_front-small, not_front-beyond, not_front-large, not_front-nothing, not_front-begins, is_front-at, is_front-all}
+use Rattle.script_io.proofs.FrontLemmas.{follows-start, follows-digit, not_front-small, not_front-beyond, not_front-large}
+use Rattle.script_io.proofs.FrontLemmas.{not_front-nothing, not_front-begins, is_front-at, is_front-all}
 use Rattle.script_io.proofs.parts.split_number.Goals as goal
 
 pub loop-i-init : goal.loop-i-init

@@ -1,4 +1,3 @@
-use Rattle.std.proofs.Common.{◌≡◌, arith, ◌∙◌, sym, ap}
 use Rattle.ddt_session.proofs.RunLemmas.{replayed}
 use Rattle.ddt_session.proofs.timeline.Timeline.go_to.Goals as goal
 

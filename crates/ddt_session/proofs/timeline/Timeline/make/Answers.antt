@@ -1,4 +1,3 @@
-use Rattle.std.proofs.Common.{◌≡◌, arith, ◌∙◌, sym, ap}
 use Rattle.ddt_session.proofs.RunLemmas.{made_more}
 use Rattle.ddt_session.proofs.timeline.Timeline.make.Goals as goal
 

@@ -9,12 +9,13 @@ none-some : (j : Job) → None ≡ Some j → ⊥
 none-some j e = cc
 
 -- a word in a register lets nobody sleep
-pub invariant_of-self-inside : goal.invariant_of-self-inside
-invariant_of-self-inside g c =
-    let jobs : List (Option Job) = c.self-inside.inside.0.0.jobs in
-    let low : c.args.n < length jobs = omega (arith, c.self-inside.invariant.places, c.if-n-gt-JOBS.false) in
+pub invariant_of-world-inside : goal.invariant_of-world-inside
+invariant_of-world-inside g c =
+    let table = c.world-inside.inside.0.0 in
+    let jobs : List (Option Job) = table.jobs in
+    let low : c.args.n < length jobs = omega (arith, c.world-inside.invariant.places, c.if-n-gt-JOBS.false) in
     let there : job_at jobs c.args.n ≡ Some c.in-Some.job = sym (none-at jobs c.args.n _ low) ∙ c.in-Some.is in
     let same = ap (λ (j : Job). is_sleep j.wait) c.put_word.ensures.job in
-    IsTable-changed jobs c.args.n (Some c.put_word.new.job) c.self-inside.inside.0.0.sleepers c.self-inside.inside.0.0.sleepers c.self-inside.inside.0.0.vacant_from c.self-inside.invariant (λ e. e)
-    (λ e. same ∙ ap is_sleeper (sym there) ∙ awake-at jobs c.args.n None low (c.self-inside.invariant.awake e))
+    IsTable-changed jobs c.args.n (Some c.put_word.new.job) table.sleepers table.sleepers table.vacant_from c.world-inside.invariant (λ e. e)
+    (λ e. same ∙ ap is_sleeper (sym there) ∙ awake-at jobs c.args.n None low (c.world-inside.invariant.awake e))
     (λ e. absurd (none-some c.in-Some.job (sym e ∙ there)))

@@ -12,7 +12,8 @@ returns-clause-there g c =
 
 pub returns-clause-others : goal.returns-clause-others
 returns-clause-others g c =
-    λ m b other. rw (← c.self.view_is, c.deposit.ensures.state) (other_words_stay c.self.inside.parts c.args.n c.args.a c.args.w m b c.self.invariant.safe other)
+    λ m b other. rw (← c.self.view_is, c.deposit.ensures.state)
+    (other_words_stay c.self.inside.parts c.args.n c.args.a c.args.w m b c.self.invariant.safe other)
 
 pub returns-clause-kept : goal.returns-clause-kept
 returns-clause-kept g c =

@@ -1,0 +1,127 @@
+//! The machine, named once with its tables.
+ghost use Rattle.std.specs.Prelude.{ℕ, ◌≡◌, ◌≢◌, ◌≤◌, ◌<◌, ◌⊎◌, true, false, is_some, Some, IfOk};
+ghost use Rattle.word36.specs.declared.sizes.TheConstants.{MOST_REQUESTS};
+ghost use Rattle.lock_laws.specs.Circles.{NoPlainCircle};
+ghost use Rattle.machine.specs.Between.{Between, is_among, next_in};
+ghost use Rattle.machine.specs.Deposits.{deposited, started_at};
+ghost use Rattle.machine.specs.Machine.{happens, after, answers, at_boot};
+ghost use Rattle.machine.specs.Owners.{KeepsOwners};
+ghost use Rattle.machine.specs.Rounds.{rounds, runs_in};
+ghost use Rattle.machine.specs.Safe.{Safe};
+ghost use Rattle.machine.specs.Waits.{WaitsForGrants};
+ghost use Rattle.machine.specs.Views.{job_view, word_in};
+ghost use Rattle.progress_laws.specs.Arrivals.{FrontThinsOver};
+ghost use Rattle.progress_laws.specs.Wakes.{FirstIsGranted, WaitersWaitForOthers, WhoHasRoomIsGranted};
+
+use core_store::BlockCore;
+use lock_queue::LockTable;
+use monitor::{Answer, Config, Event, JobView, Rounds, System};
+use queue_script::ScriptTable;
+use std::alloc::{AllocError, Global};
+use std::marker::Model;
+use word36::{Address, Word};
+
+/// A machine, as `System` is one, with the lock table and the core of the programs.
+#[derive(Drop)]
+pub struct Machine {
+    system: System<ScriptTable, BlockCore>,
+}
+
+impl Model for Machine {
+    ghost use Rattle.machine.specs.Machine.{S};
+
+    ghost Value = { S };
+
+    ghost view = { λ machine. machine.system };
+}
+
+impl Machine {
+    /// A machine without jobs, with the blocks and the quantum of a `Config`.
+    pub fn boot(alloc: Global, config: Config) -> Result<Self, AllocError>
+        ensures { IfOk result (λ s. s ≡ at_boot MOST_REQUESTS config.blocks config.quantum) }
+    {
+        let system = System::boot(alloc, config)?;
+        Ok(Machine { system })
+    }
+
+    /// Makes one event happen. A refused event changes nothing.
+    #[inline(always)]
+    pub fn event(&mut self, event: &Event) -> Answer
+        ensures state { self.new ≡ (happens self.old event.now).state }
+        ensures answer { result ≡ (happens self.old event.now).answer }
+        ensures safe { Safe self.new }
+        ensures waits { WaitsForGrants self.new.world }
+        ensures owners { KeepsOwners self.old event.now }
+        ensures circles { NoPlainCircle self.new.world.requests }
+        ensures front { FrontThinsOver self.old event.now }
+        ensures first { FirstIsGranted self.new.world.requests }
+        ensures room { WhoHasRoomIsGranted self.new.world.requests }
+        ensures others { WaitersWaitForOthers self.new.world.requests }
+    {
+        self.system.event(event)
+    }
+
+    /// Makes so many steps, each followed by a tick where `ticking`, and counts those in which a job ran.
+    pub fn steps(&mut self, most: u32, ticking: bool) -> u32
+        ensures state { self.new ≡ after (rounds most ticking) self.old }
+        ensures count { result ≡ runs_in (answers (rounds most ticking) self.old) }
+    {
+        self.system.steps(most, ticking)
+    }
+
+    /// Makes rounds at once, each a step with a tick behind it, at most so many and one at least: those of
+    /// the job that is next, up to the first behind which it stands at one of some places.
+    pub fn rounds_to(&mut self, most: u32, places: &[Address]) -> Rounds
+        requires { 1 ≤ most }
+        ensures state { self.new ≡ after (rounds result.made true) self.old }
+        ensures next { next_in self.old ≡ result.job }
+        ensures least { 1 ≤ result.made }
+        ensures most { result.made ≤ most }
+        ensures between { (k : ℕ) → 1 ≤ k → k < result.made → Between self.old (after (rounds k true) self.old) result.job (is_among places.now) }
+    {
+        self.system.rounds_to(most, places)
+    }
+
+    /// What there is to see of a job, if it is there.
+    #[inline(always)]
+    pub fn job(&self, n: u8) -> Option<JobView>
+        ensures { result ≡ job_view self.now.world n }
+    {
+        self.system.job(n)
+    }
+
+    /// The word at a place of a job: a register below 20 octal, and its core from there on. There is none
+    /// where the job is not there or the place is not legal.
+    pub fn peek(&self, n: u8, a: u32) -> Option<Word>
+        ensures { result ≡ word_in self.now.world n a }
+    {
+        self.system.peek(n, a)
+    }
+
+    /// Puts a word at a place of a job, as a debugger does. False where the job is not there or the place
+    /// is not legal: then nothing changes. This is no event.
+    pub fn deposit(&mut self, n: u8, a: u32, w: Word) -> bool
+        ensures state { self.new ≡ deposited self.old n a w }
+        ensures told { result ≡ is_some (word_in self.old.world n a) }
+        ensures there { result ≡ true → word_in self.new.world n a ≡ Some w }
+        ensures others { (m b : ℕ) → (m ≢ n) ⊎ (b ≢ a) → word_in self.new.world m b ≡ word_in self.old.world m b }
+        ensures kept { result ≡ false → self.new ≡ self.old }
+    {
+        self.system.deposit(n, a, w)
+    }
+
+    /// Starts a job at a place, as a debugger does. This is no event either.
+    pub fn start_at(&mut self, n: u8, a: Address) -> Answer
+        ensures state { self.new ≡ (started_at self.old n a).state }
+        ensures answer { result ≡ (started_at self.old n a).answer }
+    {
+        self.system.start_at(n, a)
+    }
+
+    /// The table of the requests of all jobs.
+    pub fn locks(&self) -> &ScriptTable
+        ensures { ⟦<ScriptTable as LockTable>⟧.requests result.now ≡ self.now.world.requests }
+    {
+        self.system.locks()
+    }
+}

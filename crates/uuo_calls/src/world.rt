@@ -1,0 +1,79 @@
+//! All that the calls of jobs work on, as one value.
+ghost use Rattle.std.specs.Prelude.{◌≡◌, ◌≢◌, [], IsSome};
+ghost use Rattle.core_store.specs.Cores.{IsJob, core_of};
+ghost use Rattle.job_sched.specs.Tables.{job_at};
+ghost use Rattle.uuo_calls.specs.Performed.{Performed, performed, without_job};
+
+use crate::call::{CallOutcome, MonitorCall};
+use crate::calls::{perform, remove_job};
+use crate::room::CallRoom;
+use core_store::CoreStore;
+use job_sched::{JobTable, TimeOfDay};
+use lock_queue::LockTable;
+use std::marker::Model;
+use tty_lines::Lines;
+use word36::{DATA_WORDS, Word};
+
+/// What monitor calls work on: the jobs, their terminal lines, their requests for locks, and their core.
+#[derive(Drop)]
+pub struct World<L: LockTable, C: CoreStore> {
+    /// The jobs, which of them is current, and what is left of its quantum.
+    pub table: JobTable,
+    /// The characters typed and put out at each line.
+    pub lines: Lines,
+    /// The requests for locks.
+    pub locks: L,
+    /// The core of each job.
+    pub cores: C,
+    /// The words that all jobs share.
+    pub shared: [Word; DATA_WORDS],
+    /// Room for the locks of a call.
+    pub room: CallRoom,
+}
+
+impl<L: LockTable, C: CoreStore> Model for World<L, C> {
+    ghost use Rattle.uuo_calls.specs.Performed.{World};
+
+    ghost Value = { World };
+
+    ghost view = { λ w. record {
+      size = L.REQS;
+      table = w.table;
+      lines = w.lines;
+      requests = L.requests w.locks;
+      cores = C.meaning w.cores;
+      shared = w.shared;
+    } };
+}
+
+impl<L: LockTable, C: CoreStore> World<L, C> {
+    /// Performs a monitor call of a job, as the function `perform` does.
+    #[inline(always)]
+    pub fn perform(&mut self, number: u8, call: MonitorCall, time: TimeOfDay) -> CallOutcome
+        requires number { IsJob number }
+        requires there { IsSome (job_at self.old.table.jobs number) }
+        requires core { core_of self.old.cores number ≢ [] }
+        ensures performed { record { world = self.new; outcome = result } ≡ performed self.old time number call }
+    {
+        perform(
+            number,
+            call,
+            &mut self.table,
+            &mut self.lines,
+            &mut self.locks,
+            &mut self.cores,
+            &mut self.shared,
+            &mut self.room,
+            time,
+        )
+    }
+
+    /// Takes a job away, as LOGOUT does.
+    #[inline(always)]
+    pub fn remove_job(&mut self, number: u8)
+        requires { IsJob number }
+        ensures { self.new ≡ without_job self.old number }
+    {
+        remove_job(number, &mut self.table, &mut self.locks, &mut self.cores);
+    }
+}
