@@ -2,7 +2,7 @@
 ghost use Rattle.std.specs.Prelude.{◌≡◌, ◌<◌, Some, IfOk, length, slice_get};
 ghost use Rattle.lock_queue.specs.StatusWords.{status_of};
 
-use crate::machine::Machine;
+use crate::whole_machine::Machine;
 use lock_queue::{Key, LockTable, Request, Status};
 use run_facts::requests_in;
 use std::alloc::{AllocError, Global};

@@ -3,7 +3,7 @@ ghost use Rattle.std.specs.Prelude.{◌≡◌, ◌++◌, OnOk};
 ghost use Rattle.queue_script.specs.QueueScripts.{show_text};
 ghost use Rattle.queue_script.specs.WaitPairs.{waits_text};
 
-use crate::machine::Machine;
+use crate::whole_machine::Machine;
 use queue_script::{push_requests, push_waits};
 use std::alloc::AllocError;
 

@@ -3,7 +3,7 @@ ghost use Rattle.std.specs.Prelude.{◌≡◌, ◌<◌, ◌/◌, ◌%◌, ℕ, f
 ghost use Rattle.lock_queue.specs.Jobs.{is_waiting_job, waits_for};
 ghost use Rattle.queue_script.specs.WaitPairs.{MarksWaiters, pair_in};
 
-use crate::machine::Machine;
+use crate::whole_machine::Machine;
 use queue_script::circles::{JobMarks, NUMBERS, PAIRS, PairTable};
 use queue_script::{pair_table, waiting_jobs};
 
