@@ -151,6 +151,6 @@ fn obey_changing(session: &mut Session<'_>, command: &Command<'_>) -> Result<(),
 /// `.HELP` and `.HELP word`.
 fn tell_help(session: &mut Session<'_>, word: &[u8]) -> Result<(), AllocError> {
     let mut text = String::new(session.alloc);
-    help_text(session.alloc, word, &mut text)?;
+    help_text(word, &mut text)?;
     session.say(text.as_str())
 }
