@@ -2,15 +2,9 @@
 #![tactic(auto)]
 
 #[cfg(test)]
-mod circles;
-#[cfg(test)]
-mod faults;
-#[cfg(test)]
 mod helps;
 #[cfg(test)]
 mod labels;
-#[cfg(test)]
-mod notes;
 #[cfg(test)]
 mod pictures;
 #[cfg(test)]
@@ -20,10 +14,4 @@ mod programs;
 #[cfg(test)]
 mod rows;
 #[cfg(test)]
-mod runs;
-#[cfg(test)]
-mod sharers;
-#[cfg(test)]
-mod waits;
-#[cfg(test)]
-mod wrong_words;
+mod words;

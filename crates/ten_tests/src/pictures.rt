@@ -1,7 +1,6 @@
 //! The picture of a run.
 
-use crate::notes::GIVER;
-use crate::programs::{HELLO, HOLDER, WAITER};
+use crate::programs::{GIVER, HELLO, HOLDER, WAITER};
 use crate::rows::{GOES, ROOM, Row, outcome_of};
 use std::alloc::Global;
 use std::process::Abort;

@@ -1,7 +1,36 @@
-//! Ports that fail.
+//! Inputs with bytes that are no plain text, and ports that fail.
 
-use crate::programs::NAME;
-use crate::rows::{Calls, GOES, ROOM, Row, status_of, written};
+use crate::programs::{ECHO, NAME};
+use crate::rows::{Calls, GOES, ROOM, Row, status_of, walk, written};
+
+/// Runs whose input has bytes that no line of `tests/ten` holds.
+const INPUTS: [Row<'static>; 2] = [
+    // A CR before an LF is left out.
+    Row {
+        words: &["ten", "name.mac"],
+        sources: &[NAME],
+        input: "ADA\r\nNOT READ\n",
+        output: "NAME? HELLO ADA\n",
+        told: "job 1, name.mac: EXIT at SAY+5, 24 steps\n",
+        status: 0,
+    },
+    // CTRL-C stops the job; a byte that is no character is left out.
+    Row {
+        words: &["ten", "echo.mac"],
+        sources: &[ECHO],
+        input: "A\u{e9}B\u{3}C\n",
+        output: "",
+        told: "job 1, echo.mac: stopped by CTRL-C at READ, 1 step\n",
+        status: 1,
+    },
+];
+
+#[test]
+fn inputs(rt: HostRuntime) {
+    for row in &INPUTS {
+        walk(&rt, rt.alloc(), row);
+    }
+}
 
 const NAME_RUN: Row<'static> = Row {
     words: &["ten", "name.mac"],

@@ -61,3 +61,33 @@ BLK:    1,,5
         0
         END     140
 ";
+
+/// Asks about the lock X, takes it for two seconds, asks again, and for too many; then all is given
+/// back, and some of it twice.
+pub const GIVER: &str = "\
+        MOVE    1,[BLK]
+        MOVEI   2,600
+        ENQC.   1,
+        HALT
+        ENQ.    1,
+        HALT
+        MOVEI   3,2
+        SLEEP   3,
+        ENQC.   1,
+        HALT
+        ENQ.    1,
+        JFCL
+        MOVSI   4,1
+        DEQ.    4,
+        HALT
+        MOVE    4,[2,,7]
+        DEQ.    4,
+        EXIT
+        HALT
+BLK:    1,,5
+        0,,7
+        400000,,777777
+        POINT   7,[ASCIZ /X/]
+        0
+        END     140
+";

@@ -38,7 +38,8 @@ pub const GOES: Calls = Calls {
     errors: u64::MAX,
 };
 
-/// What came of a run, or nothing where it was cut short.
+/// What came of a run, or nothing where it was cut short. Its input comes two bytes at a time, so that a
+/// line, or a CR and its LF, may come in two parts.
 pub fn outcome_of(
     alloc: Global,
     row: &Row,
@@ -52,7 +53,7 @@ pub fn outcome_of(
         let text = Vec::from_slice(alloc, text.as_bytes()).ok()?;
         sources.push(Source { file: *file, text }).ok()?;
     }
-    let reader = TestIn::new(row.input.as_bytes(), 5, calls.reader);
+    let reader = TestIn::new(row.input.as_bytes(), 2, calls.reader);
     let writer = TestOut::new(room, 3, calls.writer);
     let mut errors = Answers::new(TestOut::new(told, 100, calls.errors));
     run_sources(
