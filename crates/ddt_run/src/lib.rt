@@ -3,6 +3,8 @@
 
 mod asked;
 mod changes;
+mod dialogue;
+mod files;
 mod going_back;
 mod histories;
 mod loading;
@@ -11,7 +13,6 @@ mod obey;
 mod program;
 mod runs;
 mod searches;
-mod served;
 mod session;
 mod stop_commands;
 mod tables;

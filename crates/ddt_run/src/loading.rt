@@ -1,5 +1,4 @@
 //! Sources that are assembled, and jobs that are logged in with them.
-ghost use Rattle.machine.specs.Setups.{IsSetup};
 
 use crate::asked::Asked;
 use crate::session::{Session, SessionJob};
@@ -7,7 +6,7 @@ use ddt_lines::{Look, Symbol};
 use ddt_moves::{InputLines, StopList};
 use ddt_session::{Entry, Timeline};
 use ddt_show::ShownJob;
-use monitor::{Answer, Config, RefusedEvent};
+use monitor::{Answer, RefusedEvent};
 use source_labels::{Assembled, Places, Program, Source, assemble_source, warnings_of};
 use std::alloc::{AllocError, Global};
 use word36::{JOBS, Word};
@@ -120,20 +119,13 @@ fn place_of_first(session: &Session<'_>) -> u32 {
     }
 }
 
-/// The size of a machine.
-fn config_of(blocks: u32, quantum: u8) -> Config
-    requires { IsSetup blocks quantum }
-{
-    Config::new(blocks, quantum).unwrap()
-}
-
 /// A session without jobs, whose first will be open, and where nothing was looked at.
 pub fn new_session<'a>(
     alloc: Global,
     asked: &Asked<'a>,
     input: InputLines,
 ) -> Result<Session<'a>, AllocError> {
-    let timeline = Timeline::new(alloc, config_of(asked.blocks, asked.quantum))?;
+    let timeline = Timeline::new(alloc, asked.config)?;
     Ok(Session {
         alloc,
         timeline,
@@ -147,5 +139,6 @@ pub fn new_session<'a>(
         input,
         edited: None,
         text: Vec::new(alloc),
+        kept: Vec::new(alloc),
     })
 }

@@ -30,10 +30,9 @@ pub enum Wish<'a> {
     Quit,
 }
 
-/// Obeys a line; the answer stands in `text`. A wrong line is answered by what is wrong with it, and
+/// Obeys a line, and adds the answer to `text`. A wrong line is answered by what is wrong with it, and
 /// changes nothing.
 pub fn obey_line<'a>(session: &mut Session<'_>, line: &'a [u8]) -> Result<Wish<'a>, AllocError> {
-    session.text.clear();
     let read = read_line(line, &session.scope());
     let done = match &read {
         Ok(command) => obey(session, command),

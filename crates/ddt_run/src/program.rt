@@ -2,8 +2,10 @@
 ghost use Rattle.std.specs.Prelude.{◌≡◌, ◌≢◌, false};
 
 use crate::asked::Asked;
-use crate::loading::{assemble_all, new_session};
-use crate::served::Served;
+use crate::dialogue::{Dialogue, serve_lines};
+use crate::files::read_file;
+use crate::loading::{assemble_all, log_in_all, new_session};
+use crate::session::Session;
 use crate::words::read_words;
 use ddt_moves::InputLines;
 use line_ports::{Answers, Failure, LineReader};
@@ -13,7 +15,6 @@ use script_io::{ByteIn, ByteOut};
 use source_labels::{Program, Source};
 use std::alloc::Global;
 use std::convert::AsStr;
-use std::fs;
 use std::io::ErrorKind;
 use std::rt::Files;
 
@@ -30,16 +31,16 @@ pub struct Ports<R: ByteIn + Drop, W: ByteOut + Drop, E: ByteOut + Drop> {
     pub is_person: bool,
 }
 
-/// Reads a file, or tells why it cannot be read.
-fn read_file<F: Files + AllocGlobal, E: ByteOut + Drop>(
+/// Reads a file; or tells why it cannot be read.
+fn read_or_tell<F: Files + AllocGlobal, E: ByteOut + Drop>(
     rt: &F,
     file: &str,
     errors: &mut Answers<E>,
 ) -> Result<Option<Vec<u8>>, Failure> {
-    match fs::read(rt, file) {
+    match read_file(rt, file)? {
         Ok(text) => Ok(Some(text)),
-        Err(error) => {
-            let text = format!(in rt.alloc(); "ddt: {file}: {error}\n")?;
+        Err(reason) => {
+            let text = format!(in rt.alloc(); "ddt: {file}: {reason}\n")?;
             errors.write(text.as_str().as_bytes())?;
             Ok(None)
         }
@@ -54,7 +55,7 @@ fn read_sources<'a, F: Files + AllocGlobal, E: ByteOut + Drop>(
 ) -> Result<Option<Vec<Source<'a>>>, Failure> {
     let mut sources = Vec::new(rt.alloc());
     for file in files {
-        match read_file(rt, file, errors)? {
+        match read_or_tell(rt, file, errors)? {
             Some(text) => sources.push(Source { file, text })?,
             None => return Ok(None),
         }
@@ -71,7 +72,7 @@ fn read_input<F: Files + AllocGlobal, E: ByteOut + Drop>(
     let Some(file) = asked.input else {
         return Ok(Some(InputLines::none(rt.alloc())));
     };
-    let text = read_file(rt, file, errors)?;
+    let text = read_or_tell(rt, file, errors)?;
     Ok(text.map(|text| InputLines::new(rt.alloc(), text)))
 }
 
@@ -138,8 +139,8 @@ fn load<'a, F: Files + AllocGlobal, E: ByteOut + Drop>(
     }))
 }
 
-/// Serves the lines of a session on what was loaded, and gives the exit status.
-fn serve_session<
+/// Logs programs in and serves lines, until the session ends; gives the exit status.
+fn serve_programs<
     'a,
     F: Files + AllocGlobal,
     R: ByteIn + Drop,
@@ -147,43 +148,45 @@ fn serve_session<
     E: ByteOut + Drop,
 >(
     rt: &F,
+    session: &mut Session<'a>,
+    programs: Vec<Program<'a>>,
+    dialogue: &mut Dialogue<R, W, E>,
+) -> Result<u8, Failure> {
+    if let Some(told) = log_in_all(session, programs)? {
+        dialogue.errors.write(told.as_str().as_bytes())?;
+        return Ok(REFUSED);
+    }
+    serve_lines(rt, session, dialogue)?;
+    Ok(DONE)
+}
+
+/// Serves a session on what was loaded, and gives the exit status.
+fn serve_loaded<'a, F: Files + AllocGlobal, R: ByteIn + Drop, W: ByteOut + Drop, E: ByteOut + Drop>(
+    rt: &F,
     asked: &Asked<'a>,
     loaded: Loaded<'a>,
-    input: LineReader<R>,
-    output: Answers<W>,
-    errors: &mut Answers<E>,
-    is_person: bool,
+    dialogue: &mut Dialogue<R, W, E>,
 ) -> Result<u8, Failure> {
-    let Loaded {
-        programs,
-        input: lines,
-    } = loaded;
-    let mut served = Served {
-        session: new_session(rt.alloc(), asked, lines)?,
-        input,
-        output,
-        errors,
-        is_person,
-        kept: Vec::new(rt.alloc()),
-    };
-    served.serve(rt, programs)
+    let Loaded { programs, input } = loaded;
+    let mut session = new_session(rt.alloc(), asked, input)?;
+    serve_programs(rt, &mut session, programs, dialogue)
 }
 
 /// The program, but for what is said of a failure.
 fn serve<F: Files + AllocGlobal, S: AsStr, R: ByteIn + Drop, W: ByteOut + Drop, E: ByteOut + Drop>(
     rt: &F,
     words: &[S],
-    input: LineReader<R>,
-    mut output: Answers<W>,
-    errors: &mut Answers<E>,
-    is_person: bool,
+    dialogue: &mut Dialogue<R, W, E>,
 ) -> Result<u8, Failure> {
-    let asked = match read_words(rt.alloc(), words) {
+    let alloc = rt.alloc();
+    let asked = match read_words(alloc, words) {
         Ok(asked) => asked,
-        Err(refusal) => return tell_refusal(rt.alloc(), refusal, &mut output, errors),
+        Err(refusal) => {
+            return tell_refusal(alloc, refusal, &mut dialogue.output, &mut dialogue.errors);
+        }
     };
-    match load(rt, &asked, errors)? {
-        Ok(loaded) => serve_session(rt, &asked, loaded, input, output, errors, is_person),
+    match load(rt, &asked, &mut dialogue.errors)? {
+        Ok(loaded) => serve_loaded(rt, &asked, loaded, dialogue),
         Err(status) => Ok(status),
     }
 }
@@ -209,13 +212,18 @@ pub fn ddt<
         is_person,
     } = ports;
     let mut errors = Answers::new(errors);
-    let output = Answers::new(writer);
     let Ok(input) = LineReader::new(rt.alloc(), reader) else {
         return tell_failure(rt.alloc(), Failure::Memory, &mut errors);
     };
-    match serve(rt, words, input, output, &mut errors, is_person) {
+    let mut dialogue = Dialogue {
+        input,
+        output: Answers::new(writer),
+        errors,
+        is_person,
+    };
+    match serve(rt, words, &mut dialogue) {
         Ok(status) => status,
-        Err(failure) => tell_failure(rt.alloc(), failure, &mut errors),
+        Err(failure) => tell_failure(rt.alloc(), failure, &mut dialogue.errors),
     }
 }
 

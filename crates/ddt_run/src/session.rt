@@ -48,14 +48,34 @@ pub struct Session<'a> {
     pub input: InputLines,
     /// Behind how many entries the first word was deposited.
     pub edited: Option<usize>,
-    /// The answer to the line in hand.
+    /// The answer that is not written yet.
     pub text: Vec<u8>,
+    /// The lines that were obeyed, with their ends.
+    pub kept: Vec<u8>,
 }
+
+/// What stands before a line of a file that is obeyed.
+const ECHO: &[u8] = b"* ";
 
 impl Session<'_> {
     /// Adds to the answer.
     pub fn say(&mut self, text: &str) -> Result<(), AllocError> {
         self.text.extend_from_slice(text.as_bytes())
+    }
+
+    /// Adds a line of a file, which stands before its answer.
+    pub fn echo(&mut self, line: &[u8]) -> Result<(), AllocError> {
+        self.text.extend_from_slice(ECHO)?;
+        self.text.extend_from_slice(line)?;
+        self.text.push(b'\n')?;
+        Ok(())
+    }
+
+    /// Keeps a line that was obeyed.
+    pub fn keep(&mut self, line: &[u8]) -> Result<(), AllocError> {
+        self.kept.extend_from_slice(line)?;
+        self.kept.push(b'\n')?;
+        Ok(())
     }
 
     /// Adds a line that says why nothing is done.

@@ -4,7 +4,7 @@ use crate::asked::Asked;
 use crate::texts;
 use clap::{Arg, ArgMatches, Command};
 use run_words::{
-    Refusal, Wrong, files_in, make_command, matches_of, refused, setup_in, with_files,
+    Refusal, Wrong, config_in, files_in, make_command, matches_of, refused, with_files,
 };
 use std::alloc::{AllocError, Global};
 use std::convert::AsStr;
@@ -36,11 +36,15 @@ fn ddt_command<'a>(alloc: Global) -> Result<Command<'a>, AllocError> {
 
 /// What is asked for.
 fn read<'a>(alloc: Global, matches: &ArgMatches<'a>) -> Result<Asked<'a>, Wrong<'a>> {
-    let setup = setup_in(matches)?;
+    // The prover has no rule for `?` on this type.
+    let config = match config_in(matches) {
+        Ok(config) => config,
+        Err(wrong) => return Err(wrong),
+    };
+    let files = files_in(alloc, matches)?;
     Ok(Asked {
-        blocks: setup.blocks,
-        quantum: setup.quantum,
+        config,
         input: matches.get_str("input"),
-        files: files_in(alloc, matches)?,
+        files,
     })
 }

@@ -1,10 +1,9 @@
 //! What the words give.
 ghost use Rattle.std.specs.Prelude.{◌<◌, ◌≤◌, ◌^◌, IfOk, IfSome};
-ghost use Rattle.machine.specs.Setups.{IsSetup};
 
 use crate::refusal::{Refusal, Wrong, refusal_of};
 use clap::{ArgMatches, Command};
-use machine::MOST_QUANTUM;
+use machine::{Config, MOST_QUANTUM};
 use script_io::number;
 use std::alloc::Global;
 use std::convert::AsStr;
@@ -12,16 +11,6 @@ use word36::{JOBS, MOST_BLOCKS};
 
 /// The blocks of a machine where no number is given.
 const DEFAULT_BLOCKS: u64 = 64;
-
-/// Of what size a machine is.
-#[derive(Clone, Copy, Debug)]
-pub struct Setup {
-    /// The blocks of core of 1024 words that the jobs share, 1 to 256.
-    pub blocks: u32,
-    /// The ticks for which a job runs before the next has its turn, 1 to 60.
-    pub quantum: u8,
-    ghost right: { IsSetup blocks quantum },
-}
 
 /// The words, which begin with the program's name, as the command line takes them.
 pub fn matches_of<'a, S: AsStr>(
@@ -53,13 +42,10 @@ pub fn number_of<'a>(
 }
 
 /// The size of the machine: 64 blocks and a quantum of one tick, where the words give no other.
-pub fn setup_in<'a>(matches: &ArgMatches<'a>) -> Result<Setup, Wrong<'a>> {
+pub fn config_in<'a>(matches: &ArgMatches<'a>) -> Result<Config, Wrong<'a>> {
     let blocks = number_of(matches, "blocks", u64::from(MOST_BLOCKS))?.unwrap_or(DEFAULT_BLOCKS);
     let quantum = number_of(matches, "quantum", u64::from(MOST_QUANTUM))?.unwrap_or(1);
-    Ok(Setup {
-        blocks: blocks as u32,
-        quantum: quantum as u8,
-    })
+    Ok(Config::new(blocks as u32, quantum as u8).unwrap())
 }
 
 /// The names of the sources, of which there are at most as many as jobs.

@@ -6,5 +6,5 @@ mod given;
 mod refusal;
 
 pub use command::{make_command, make_flag, make_option, with_files};
-pub use given::{Setup, files_in, matches_of, number_of, setup_in};
+pub use given::{config_in, files_in, matches_of, number_of};
 pub use refusal::{Refusal, Wrong, refused};

@@ -1,14 +1,12 @@
 //! What the program is asked for.
 
-ghost use Rattle.machine.specs.Setups.{IsSetup};
+use machine::Config;
 
 /// What the words of the command line ask for.
 #[derive(Drop)]
 pub struct Asked<'a> {
-    /// The blocks of core of 1024 words that the jobs share, 1 to 256.
-    pub blocks: u32,
-    /// The ticks for which a job runs before the next has its turn, 1 to 60.
-    pub quantum: u8,
+    /// The blocks of core that the jobs share, and the quantum.
+    pub config: Config,
     /// After so many steps the run ends.
     pub steps: u64,
     /// Whether each step is told.
@@ -23,5 +21,4 @@ pub struct Asked<'a> {
     pub picture: Option<&'a str>,
     /// The names of the sources' files, 1 to 63.
     pub files: Vec<&'a str>,
-    ghost right: { IsSetup blocks quantum },
 }

@@ -1,6 +1,5 @@
 //! Sources that are assembled and run.
 ghost use Rattle.std.specs.Prelude.{◌≡◌, false};
-ghost use Rattle.machine.specs.Setups.{IsSetup};
 
 use crate::asked::Asked;
 use crate::history::History;
@@ -10,7 +9,7 @@ use crate::session::Session;
 use crate::terminal::Terminal;
 use line_ports::{Answers, Failure, LineReader};
 use lock_svg::RunCourse;
-use monitor::{Answer, Config, Event, RefusedEvent};
+use monitor::{Answer, Event, RefusedEvent};
 use run_facts::{Ending, REFUSED, has_ended_well, status_of};
 use run_machine::Machine;
 use run_notes::{ToldJob, WaitClocks, has_circle};
@@ -180,13 +179,6 @@ fn notes_of(alloc: Global, asked: &Asked<'_>) -> Notes {
     }
 }
 
-/// The size of a machine.
-fn config_of(blocks: u32, quantum: u8) -> Config
-    requires { IsSetup blocks quantum }
-{
-    Config::new(blocks, quantum).unwrap()
-}
-
 /// Says how a run ended that was made to its end or to a failure, and gives what came of it.
 fn finish<R: ByteIn + Drop, W: ByteOut + Drop, E: ByteOut + Drop>(
     session: &mut Session<'_, R, W>,
@@ -243,7 +235,7 @@ pub fn run_sources<R: ByteIn + Drop, W: ByteOut + Drop, E: ByteOut + Drop>(
         return Ok(Ran::refused());
     };
     let input = LineReader::new(alloc, reader)?;
-    let machine = Machine::boot(alloc, config_of(asked.blocks, asked.quantum))?;
+    let machine = Machine::boot(alloc, asked.config)?;
     let mut session = Session {
         alloc,
         machine,

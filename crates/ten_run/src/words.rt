@@ -4,8 +4,8 @@ use crate::asked::Asked;
 use crate::texts;
 use clap::{Arg, ArgMatches, Command};
 use run_words::{
-    Refusal, Wrong, files_in, make_command, make_flag, make_option, matches_of, number_of, refused,
-    setup_in, with_files,
+    Refusal, Wrong, config_in, files_in, make_command, make_flag, make_option, matches_of, number_of,
+    refused, with_files,
 };
 use std::alloc::{AllocError, Global};
 use std::convert::AsStr;
@@ -51,13 +51,16 @@ fn ten_command<'a>(alloc: Global) -> Result<Command<'a>, AllocError> {
 
 /// What is asked for.
 fn read<'a>(alloc: Global, matches: &ArgMatches<'a>) -> Result<Asked<'a>, Wrong<'a>> {
-    let setup = setup_in(matches)?;
+    // The prover has no rule for `?` on this type.
+    let config = match config_in(matches) {
+        Ok(config) => config,
+        Err(wrong) => return Err(wrong),
+    };
     let steps = number_of(matches, "steps", MOST_STEPS)?.unwrap_or(u64::MAX);
     let history = number_of(matches, "history", MOST_HISTORY)?.unwrap_or(0);
     let waits = number_of(matches, "waits", MOST_STEPS)?;
     Ok(Asked {
-        blocks: setup.blocks,
-        quantum: setup.quantum,
+        config,
         steps,
         trace: matches.get_flag("trace"),
         locks: matches.get_flag("locks"),
