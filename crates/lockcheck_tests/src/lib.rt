@@ -1,15 +1,9 @@
-//! Tests of `lockcheck` over ports in memory.
+//! Tests of `lockcheck` that need its calls: ports in memory, long scripts, and programs that are generated.
 #![tactic(auto)]
 
-#[cfg(test)]
-mod dining;
 #[cfg(test)]
 mod longest;
 #[cfg(test)]
 mod plain_walk;
 #[cfg(test)]
-mod refusals;
-#[cfg(test)]
-mod reports;
-#[cfg(test)]
-mod rows;
+mod ports;

@@ -1,6 +1,6 @@
 //! The longest script that is looked at, and the shortest that is refused for its length.
 
-use crate::rows::MANY;
+use crate::ports::MANY;
 use lockcheck_run::program;
 use script_io::{TestIn, TestOut};
 use state_search::Unwatched;

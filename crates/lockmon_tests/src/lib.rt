@@ -1,10 +1,6 @@
-//! Tests of the whole program over ports in memory, and of what it says of lines that are refused.
+//! Tests of `lockmon` that need its calls: ports in memory, long inputs, and lines that are generated.
 #![tactic(auto)]
 
-#[cfg(test)]
-mod edges;
-#[cfg(test)]
-mod faults;
 #[cfg(test)]
 mod grammar;
 #[cfg(test)]
@@ -12,4 +8,4 @@ mod ports;
 #[cfg(test)]
 mod told;
 #[cfg(test)]
-mod wrong_words;
+mod unread_words;

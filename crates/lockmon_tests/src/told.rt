@@ -1,16 +1,52 @@
-//! The line on standard error where a line is refused.
+//! The line on standard error where a line is refused: of inputs that come in pieces, and of long ones.
 
-use command_line::{KeptIn, language_of, program_told};
+ghost use Rattle.std.specs.Prelude.{◌<◌};
+
+use command_line::{KeptIn, REFUSED, language_of, program_told};
 use script_io::{TestIn, TestOut};
+use std::alloc::Global;
 use std::test::Fail;
 
-/// A command, its input, and what is told.
-const ROWS: [(&str, &str, &str); 7] = [
-    (
-        "queue",
-        "; one\nSHOW\nshow\nSHOW\n",
-        "lockmon: line 3: no command \"show\" (commands are upper case)\n",
-    ),
+fn is_text(bytes: &[u8], text: &str) -> bool {
+    bytes == text.as_bytes()
+}
+
+/// Whether an input is refused, and this, and nothing else, is told of it. It comes in pieces of so many
+/// bytes, and what is written goes into the room in such pieces.
+fn tells(
+    alloc: Global,
+    command: &str,
+    input: &str,
+    piece: usize,
+    room: &mut [u8],
+    told: &str,
+) -> bool
+    requires { 0 < piece }
+{
+    let mut error_room = [0u8; 64];
+    let mut told_room = [0u8; 256];
+    let words = ["lockmon", command];
+    let mut reader = KeptIn::new(
+        alloc,
+        language_of(&words),
+        TestIn::new(input.as_bytes(), piece, 1000),
+    );
+    let mut writer = TestOut::new(room, piece, 1000);
+    let mut errors = TestOut::new(&mut error_room, 100, 1000);
+    let mut telling = TestOut::new(&mut told_room, 256, 1000);
+    let status = program_told(
+        alloc,
+        &words,
+        &mut reader,
+        &mut writer,
+        &mut errors,
+        &mut telling,
+    );
+    status == REFUSED && is_text(errors.as_slice(), "") && is_text(telling.as_slice(), told)
+}
+
+/// A command, its input, and what is told. The line ends of the source are CR and LF.
+const ROWS: [(&str, &str, &str); 3] = [
     (
         "queue",
         "SHOW\nENQ 64 0 1 X",
@@ -21,78 +57,38 @@ const ROWS: [(&str, &str, &str); 7] = [
         " MOVEI 1,5\r\n FADR 1,2\r\n END\r\n",
         "lockmon: line 2: column 2: \"FADR\" is not an operation of this assembler\n",
     ),
-    ("asm", "", "lockmon: line 0: the source has no END\n"),
     (
         "run",
         "ASSEMBLE A\n EXIT\n END\nENDASM\nASSEMBLE B\n EXIT\n JRST X\n END\nENDASM\nASSEMBLE C\n",
         "lockmon: line 7, line 2 of its source: \"X\" is not defined\n",
     ),
-    (
-        "run",
-        "ASSEMBLE A\n EXIT\n END\n",
-        "lockmon: line 4: the input ends before ENDASM\n",
-    ),
-    ("run", "TICK 1\n", ""),
 ];
 
+/// Inputs that come seven bytes at a time.
 #[test]
-fn lines(rt: HostRuntime) {
-    let alloc = rt.alloc();
+fn in_pieces(rt: HostRuntime) {
     for (command, input, told) in ROWS {
         let mut room = [0u8; 256];
-        let mut error_room = [0u8; 64];
-        let mut told_room = [0u8; 256];
-        let words = ["lockmon", command];
-        let language = language_of(&words);
-        let mut reader = KeptIn::new(alloc, language, TestIn::new(input.as_bytes(), 7, 1000));
-        let mut writer = TestOut::new(&mut room, 5, 1000);
-        let mut errors = TestOut::new(&mut error_room, 100, 1000);
-        let mut telling = TestOut::new(&mut told_room, 100, 1000);
-        let status = program_told(
-            alloc,
-            &words,
-            &mut reader,
-            &mut writer,
-            &mut errors,
-            &mut telling,
+        assert!(rt;
+            tells(rt.alloc(), command, input, 7, &mut room, told),
+            "of {command}"
         );
-        assert_eq!(rt; status == 0, told.is_empty());
-        assert_eq!(rt; telling.as_slice(), told.as_bytes());
     }
 }
 
 /// A long script, whose finished lines are dropped on the way.
 #[test]
-fn far_behind(rt: HostRuntime) {
+fn far_behind(rt: HostRuntime) -> Result<(), Fail> {
     let alloc = rt.alloc();
     let mut input = String::new(alloc);
     for _ in 0..20_000 {
-        assert!(rt; input.push_str("STAT 1 X\n").is_ok());
+        input.push_str("STAT 1 X\n")?;
     }
-    assert!(rt; input.push_str("STAT 1 X \n").is_ok());
-    let mut room = vec![in alloc; 0u8; 1_000_000].expect(&rt, "memory");
-    let mut error_room = [0u8; 64];
-    let mut told_room = [0u8; 256];
-    let words = ["lockmon", "queue"];
-    let mut reader = KeptIn::new(
-        alloc,
-        language_of(&words),
-        TestIn::new(input.as_bytes(), 5000, 1000),
-    );
-    let mut writer = TestOut::new(&mut room, 100_000, 1000);
-    let mut errors = TestOut::new(&mut error_room, 100, 1000);
-    let mut telling = TestOut::new(&mut told_room, 100, 1000);
-    let status = program_told(
-        alloc,
-        &words,
-        &mut reader,
-        &mut writer,
-        &mut errors,
-        &mut telling,
-    );
-    assert_eq!(rt; status, 1);
+    input.push_str("STAT 1 X \n")?;
+    let mut room = vec![in alloc; 0u8; 1_000_000]?;
     let told = "lockmon: line 20001: column 9: a space at the end of the line\n";
-    assert_eq!(rt; telling.as_slice(), told.as_bytes());
+    assert!(rt; tells(alloc, "queue", input.as_str(), 5000, &mut room, told));
+    Ok(())
 }
 
 /// A comment of 80 bytes.
@@ -147,33 +143,18 @@ fn long_source(rt: HostRuntime) -> Result<(), Fail> {
         script.push_str("ASSEMBLE B\n")?;
         script.push_str(source.as_str())?;
         script.push_str("ENDASM\n")?;
-        for (command, input, wanted) in [
-            ("asm", source.as_str(), told),
-            ("run", script.as_str(), told_in_script),
-        ] {
-            let mut room = [0u8; 256];
-            let mut error_room = [0u8; 64];
-            let mut told_room = [0u8; 256];
-            let words = ["lockmon", command];
-            let mut reader = KeptIn::new(
+        let mut room = [0u8; 256];
+        assert!(rt; tells(alloc, "asm", source.as_str(), 5000, &mut room, told));
+        assert!(rt;
+            tells(
                 alloc,
-                language_of(&words),
-                TestIn::new(input.as_bytes(), 5000, 1000),
-            );
-            let mut writer = TestOut::new(&mut room, 100, 1000);
-            let mut errors = TestOut::new(&mut error_room, 100, 1000);
-            let mut telling = TestOut::new(&mut told_room, 256, 1000);
-            let status = program_told(
-                alloc,
-                &words,
-                &mut reader,
-                &mut writer,
-                &mut errors,
-                &mut telling,
-            );
-            assert_eq!(rt; status, 1);
-            assert_eq!(rt; telling.as_slice(), wanted.as_bytes());
-        }
+                "run",
+                script.as_str(),
+                5000,
+                &mut room,
+                told_in_script
+            )
+        );
     }
     Ok(())
 }
