@@ -80,11 +80,20 @@ typed_of rest =
 
 -- ---- lines
 
+-- the names of the commands that are no events
+abbrev pub other_keyword_of : List ℕ → Option Keyword
+other_keyword_of name =
+    if bytes_eq name (codes "ASSEMBLE") then Some keyword.Assemble
+    else (if bytes_eq name (codes "SHOW") then Some keyword.Show
+    else (if bytes_eq name (codes "EXAMINE") then Some keyword.Examine
+    else (if bytes_eq name (codes "DATA") then Some keyword.Data
+    else (if bytes_eq name (codes "QUIT") then Some keyword.Quit
+    else None))))
+
 -- the names of the commands but TYPE
 abbrev pub keyword_of : List ℕ → Option Keyword
 keyword_of name =
-    if bytes_eq name (codes "ASSEMBLE") then Some keyword.Assemble
-    else (if bytes_eq name (codes "LOGIN") then Some keyword.Login
+    if bytes_eq name (codes "LOGIN") then Some keyword.Login
     else (if bytes_eq name (codes "STEP") then Some keyword.Step
     else (if bytes_eq name (codes "RUN") then Some keyword.Run
     else (if bytes_eq name (codes "TICK") then Some keyword.Tick
@@ -93,11 +102,7 @@ keyword_of name =
     else (if bytes_eq name (codes "CONTINUE") then Some keyword.Continue
     else (if bytes_eq name (codes "KILL") then Some keyword.Kill
     else (if bytes_eq name (codes "RESTART") then Some keyword.Restart
-    else (if bytes_eq name (codes "SHOW") then Some keyword.Show
-    else (if bytes_eq name (codes "EXAMINE") then Some keyword.Examine
-    else (if bytes_eq name (codes "DATA") then Some keyword.Data
-    else (if bytes_eq name (codes "QUIT") then Some keyword.Quit
-    else None)))))))))))))
+    else other_keyword_of name))))))))
 
 -- the command of a name and what follows it
 abbrev pub command_with : Keyword → List (List ℕ) → Option Command

@@ -21,58 +21,58 @@ use Rattle.script_io.specs.declared.endings.Ending.{Ending}
 use Rattle.script_io.specs.declared.endings.Ending.TheVariants as ending
 use Rattle.script_io.specs.Transcripts.{Transcript, after, closed, unless_ended}
 use Rattle.op_script.specs.Commands.{command_of}
+use Rattle.op_script.specs.Desks.{DeskState}
 use Rattle.op_script.specs.Events.{after_steps, steps_run, Typing, typed_by, Taking, taken_by}
 use Rattle.op_script.specs.Images.{Named, image_of, with_image}
 use Rattle.op_script.specs.Printing.{answer_line, ran_line, done_line, taken_line, image_line, refused_line, job_line, place_line, word_line}
 use Rattle.op_script.specs.Sources.{SourceText, empty_source, with_line}
 use Rattle.op_script.specs.declared.commands.Command.{Command}
 use Rattle.op_script.specs.declared.commands.Command.TheVariants as command
-use Rattle.op_script.specs.declared.desk.Desk.{Desk}
 use Rattle.op_script.specs.declared.events.TheConstants.{MOST_TAKES}
 
 -- what a line does: the machine, the images and the source afterwards, what it writes, and how the script ends, if it
 -- ends there
 pub record Effect : Type 0 where
-  pub desk : Desk
+  pub desk : DeskState
   pub text : List ℕ
   pub ending : Option Ending
 
 -- the script goes on
-abbrev pub goes : Desk → List ℕ → Effect
+abbrev pub goes : DeskState → List ℕ → Effect
 goes d text = record { desk = d; text = text; ending = None }
 
 -- the script ends
-abbrev pub ends : Desk → List ℕ → Ending → Effect
+abbrev pub ends : DeskState → List ℕ → Ending → Effect
 ends d text e = record { desk = d; text = text; ending = Some e }
 
 -- line n is not in the grammar
-abbrev pub fault : ℕ → Desk → Effect
+abbrev pub fault : ℕ → DeskState → Effect
 fault n d = ends d (script_fault n).text (ending.Script n)
 
 -- ---- events
 
-abbrev pub with_machine : Desk → S → Desk
+abbrev pub with_machine : DeskState → S → DeskState
 with_machine d s = record d { machine = s }
 
 -- one event, whose answer is written
-abbrev pub answered : Desk → Made → Effect
+abbrev pub answered : DeskState → Made → Effect
 answered d m = goes (with_machine d m.state) (answer_line m.answer)
 
 -- LOGIN: an image that is not known is a fault of the script
-abbrev pub login_effect : ℕ → Desk → ℕ → Option Assembled → Effect
+abbrev pub login_effect : ℕ → DeskState → ℕ → Option Assembled → Effect
 login_effect n d line None = fault n d
 login_effect n d line (Some image) = answered d (logged_in d.machine line image.words image.start)
 
 -- STEP and RUN: so many steps, and in how many of them a job ran
-abbrev pub steps_effect : Desk → ℕ → Bool → Effect
+abbrev pub steps_effect : DeskState → ℕ → Bool → Effect
 steps_effect d most ticking =
     let ran = steps_run most ticking d.machine in
     goes (with_machine d (after_steps most ticking d.machine)) (ran_line ran (most - ran))
 
-abbrev pub typing_effect : Desk → Typing → Effect
+abbrev pub typing_effect : DeskState → Typing → Effect
 typing_effect d t = goes (with_machine d t.machine) (done_line t.refusal)
 
-abbrev pub taking_effect : Desk → Taking → Effect
+abbrev pub taking_effect : DeskState → Taking → Effect
 taking_effect d t = goes (with_machine d t.machine) (taken_line t.refusal t.text)
 
 -- ---- looking
@@ -89,7 +89,7 @@ examined_text s job a =
 -- ---- commands
 
 -- what line n does, which asks for this; one that is not in the grammar ends the script
-abbrev pub effect_of : ℕ → Desk → Option Command → Effect
+abbrev pub effect_of : ℕ → DeskState → Option Command → Effect
 effect_of n d None = fault n d
 effect_of n d (Some command.Nothing) = goes d []
 effect_of n d (Some (command.Assemble name)) = goes (record d { source = Some (empty_source name n) }) []
@@ -126,7 +126,7 @@ abbrev pub assembled_ending : ℕ → Result Assembled Fault → Option Ending
 assembled_ending before (Ok image) = None
 assembled_ending before (Err wrong) = Some (ending.Source (fault_behind before wrong))
 
-abbrev pub assembled_effect : Desk → SourceText → Result Assembled Fault → Effect
+abbrev pub assembled_effect : DeskState → SourceText → Result Assembled Fault → Effect
 assembled_effect d source outcome = record {
   desk = record d { images = defined d.images source.name outcome; source = None };
   text = assembled_text source.name outcome;
@@ -134,7 +134,7 @@ assembled_effect d source outcome = record {
 }
 
 -- ENDASM ends a source; every other line belongs to it
-abbrev pub source_effect : Desk → SourceText → List ℕ → Effect
+abbrev pub source_effect : DeskState → SourceText → List ℕ → Effect
 source_effect d source line =
     if bytes_eq line (codes "ENDASM")
     then assembled_effect d source (outcome_of source.text)
@@ -142,16 +142,16 @@ source_effect d source line =
 
 -- ---- lines
 
-abbrev pub allowed_effect : ℕ → Desk → Option SourceText → List ℕ → Effect
+abbrev pub allowed_effect : ℕ → DeskState → Option SourceText → List ℕ → Effect
 allowed_effect n d (Some source) line = source_effect d source line
 allowed_effect n d None line = effect_of n d (command_of line)
 
 -- what line n does: a command, or a line of a source
-abbrev pub line_effect : ℕ → Desk → List ℕ → Effect
+abbrev pub line_effect : ℕ → DeskState → List ℕ → Effect
 line_effect n d line = if is_allowed line then allowed_effect n d d.source line else fault n d
 
 -- the line's text, and then what follows, unless the script ends
-abbrev pub continued : Effect → (Desk → Transcript Ending) → Transcript Ending
+abbrev pub continued : Effect → (DeskState → Transcript Ending) → Transcript Ending
 continued e rest = after e.text (unless_ended e.ending (rest e.desk))
 
 -- no line comes behind line n: a source without ENDASM is a fault of the next
@@ -160,13 +160,13 @@ at_end n None = closed [] ending.Done
 at_end n (Some source) = script_fault (n + 1)
 
 -- what lines write, where n lines have come and left this
-abbrev pub transcript_of : Desk → ℕ → List (List ℕ) → Transcript Ending
+abbrev pub transcript_of : DeskState → ℕ → List (List ℕ) → Transcript Ending
 transcript_of d n [] = at_end n d.source
 transcript_of d n (line ∷ more) =
     continued (line_effect (n + 1) d line) (λ next. transcript_of next (n + 1) more)
 
 -- a machine from a fresh boot, whose lock table is of the largest size, without images
-abbrev pub fresh : ℕ → ℕ → Desk
+abbrev pub fresh : ℕ → ℕ → DeskState
 fresh blocks quantum = record { machine = at_boot MOST_REQUESTS blocks quantum; images = []; source = None }
 
 -- what a script writes on a machine of so many blocks and a quantum of so many ticks, and how it ends

@@ -4,7 +4,7 @@ ghost use Rattle.std.specs.List.{before_first, after_first};
 ghost use Rattle.script_io.specs.Lines.{is_allowed};
 ghost use Rattle.op_script.specs.Names.{name_of};
 ghost use Rattle.op_script.specs.Commands.{byte_of, count_of, address_of, data_place_of, only, alone, login_of, shown_by, examine_of, is_space};
-ghost use Rattle.op_script.specs.Commands.{text_of, typed_of, keyword_of, command_with, command_of_items, command_of};
+ghost use Rattle.op_script.specs.Commands.{text_of, typed_of, other_keyword_of, keyword_of, command_with, command_of_items, command_of};
 
 use crate::names::ImageName;
 use crate::texts::TypedText;
@@ -12,7 +12,7 @@ use script_io::{LINE_LENGTH, Parts, is_allowed, is_silent, number};
 use word36::DATA_WORDS;
 
 /// The name of a command, but for TYPE, whose text is no list of items.
-#[derive(Clone, Copy, Debug, PartialEq, Eq)]
+#[derive(Clone, Copy)]
 pub enum Keyword {
     Assemble,
     Login,
@@ -207,13 +207,30 @@ fn read_typed(rest: &[u8]) -> Option<Command>
     Some(Command::Typed(line, read_text(text)?))
 }
 
+/// The name of a command that is no event.
+fn read_other_keyword(name: &[u8]) -> Option<Keyword>
+    ensures { result ≡ other_keyword_of name.now }
+{
+    if name == b"ASSEMBLE".as_slice() {
+        Some(Keyword::Assemble)
+    } else if name == b"SHOW".as_slice() {
+        Some(Keyword::Show)
+    } else if name == b"EXAMINE".as_slice() {
+        Some(Keyword::Examine)
+    } else if name == b"DATA".as_slice() {
+        Some(Keyword::Data)
+    } else if name == b"QUIT".as_slice() {
+        Some(Keyword::Quit)
+    } else {
+        None
+    }
+}
+
 /// The name of a command.
 fn read_keyword(name: &[u8]) -> Option<Keyword>
     ensures { result ≡ keyword_of name.now }
 {
-    if name == b"ASSEMBLE".as_slice() {
-        Some(Keyword::Assemble)
-    } else if name == b"LOGIN".as_slice() {
+    if name == b"LOGIN".as_slice() {
         Some(Keyword::Login)
     } else if name == b"STEP".as_slice() {
         Some(Keyword::Step)
@@ -231,16 +248,8 @@ fn read_keyword(name: &[u8]) -> Option<Keyword>
         Some(Keyword::Kill)
     } else if name == b"RESTART".as_slice() {
         Some(Keyword::Restart)
-    } else if name == b"SHOW".as_slice() {
-        Some(Keyword::Show)
-    } else if name == b"EXAMINE".as_slice() {
-        Some(Keyword::Examine)
-    } else if name == b"DATA".as_slice() {
-        Some(Keyword::Data)
-    } else if name == b"QUIT".as_slice() {
-        Some(Keyword::Quit)
     } else {
-        None
+        read_other_keyword(name)
     }
 }
 

@@ -5,11 +5,12 @@ ghost use Rattle.machine.specs.declared.event.Event.TheVariants.{Typed};
 ghost use Rattle.op_script.specs.Events.{after_steps, steps_run, refusal_in, typed_by, taken_by};
 ghost use Rattle.op_script.specs.Printing.{answer_line, ran_line, done_line, taken_line};
 
-use crate::desk::Machine;
 use crate::printing::{push_answer, push_done, push_ran, push_taken};
 use crate::texts::TypedText;
 use arrayvec::ArrayVec;
-use monitor::{Answer, Event, RefusedEvent};
+use core_store::CoreStore;
+use lock_queue::LockTable;
+use monitor::{Answer, Event, RefusedEvent, System};
 use std::alloc::AllocError;
 use tty_lines::Char7;
 use word36::{Image, OUTPUT_RING, TAKEN_AT_ONCE};
@@ -21,7 +22,11 @@ pub const MOST_TAKES: usize = OUTPUT_RING / TAKEN_AT_ONCE + 1;
 const TAKEN_ROOM: usize = MOST_TAKES * TAKEN_AT_ONCE;
 
 /// One event, whose answer is written.
-pub fn happen(machine: &mut Machine, event: &Event<'_>, out: &mut Vec<u8>) -> Result<(), AllocError>
+pub fn happen<L: LockTable, C: CoreStore>(
+    machine: &mut System<L, C>,
+    event: &Event<'_>,
+    out: &mut Vec<u8>,
+) -> Result<(), AllocError>
     ensures state { OnOk result (machine.new ≡ (happens machine.old event.now).state) }
     ensures text { OnOk result (out.new.items ≡ out.old.items ++ answer_line (happens machine.old event.now).answer) }
 {
@@ -30,8 +35,8 @@ pub fn happen(machine: &mut Machine, event: &Event<'_>, out: &mut Vec<u8>) -> Re
 }
 
 /// Steps, each followed by a tick where `ticking` says so.
-pub fn step(
-    machine: &mut Machine,
+pub fn step<L: LockTable, C: CoreStore>(
+    machine: &mut System<L, C>,
     most: u32,
     ticking: bool,
     out: &mut Vec<u8>,
@@ -45,7 +50,7 @@ pub fn step(
 
 /// Makes steps, and counts those in which a job ran.
 #[tactic(auto, unfolding(crate::specs::Events::after_steps, crate::specs::Events::steps_run))]
-fn step_by(machine: &mut Machine, most: u32, ticking: bool) -> u32
+fn step_by<L: LockTable, C: CoreStore>(machine: &mut System<L, C>, most: u32, ticking: bool) -> u32
     ensures state { machine.new ≡ after_steps most ticking machine.old }
     ensures ran { result ≡ steps_run most ticking machine.old }
 {
@@ -53,7 +58,7 @@ fn step_by(machine: &mut Machine, most: u32, ticking: bool) -> u32
 }
 
 /// An event, so many times.
-fn repeat(machine: &mut Machine, event: &Event<'_>, times: u32)
+fn repeat<L: LockTable, C: CoreStore>(machine: &mut System<L, C>, event: &Event<'_>, times: u32)
     ensures { machine.new ≡ after (replicate times event.now) machine.old }
 {
     'times: for _ in 0..times {
@@ -62,8 +67,8 @@ fn repeat(machine: &mut Machine, event: &Event<'_>, times: u32)
 }
 
 /// An event, so many times, whose answers are not written.
-pub fn happen_often(
-    machine: &mut Machine,
+pub fn happen_often<L: LockTable, C: CoreStore>(
+    machine: &mut System<L, C>,
     event: &Event<'_>,
     times: u32,
     out: &mut Vec<u8>,
@@ -86,7 +91,11 @@ fn refusal_in(answer: Answer) -> Option<RefusedEvent>
 }
 
 /// Types a character at a line, and says why it is refused, if it is.
-fn type_character(machine: &mut Machine, line: u8, character: Char7) -> Option<RefusedEvent>
+fn type_character<L: LockTable, C: CoreStore>(
+    machine: &mut System<L, C>,
+    line: u8,
+    character: Char7,
+) -> Option<RefusedEvent>
     ensures state { machine.new ≡ (happens machine.old (Typed line character)).state }
     ensures refusal { result ≡ refusal_in (happens machine.old (Typed line character)).answer }
 {
@@ -96,7 +105,11 @@ fn type_character(machine: &mut Machine, line: u8, character: Char7) -> Option<R
 }
 
 /// Types characters at a line, up to the first that is refused.
-fn type_characters(machine: &mut Machine, line: u8, text: &[Char7]) -> Option<RefusedEvent>
+fn type_characters<L: LockTable, C: CoreStore>(
+    machine: &mut System<L, C>,
+    line: u8,
+    text: &[Char7],
+) -> Option<RefusedEvent>
     ensures machine { machine.new ≡ (typed_by text.now machine.old line).machine }
     ensures refusal { result ≡ (typed_by text.now machine.old line).refusal }
 {
@@ -110,8 +123,8 @@ fn type_characters(machine: &mut Machine, line: u8, text: &[Char7]) -> Option<Re
 }
 
 /// Types a text at a line.
-pub fn type_text(
-    machine: &mut Machine,
+pub fn type_text<L: LockTable, C: CoreStore>(
+    machine: &mut System<L, C>,
     line: u8,
     text: &TypedText,
     out: &mut Vec<u8>,
@@ -132,8 +145,8 @@ fn extend(text: &mut ArrayVec<Char7, TAKEN_ROOM>, more: &[Char7])
 }
 
 /// Takes characters by an event, up to the first time that it gives fewer than it might.
-fn take_characters(
-    machine: &mut Machine,
+fn take_characters<L: LockTable, C: CoreStore>(
+    machine: &mut System<L, C>,
     event: &Event<'_>,
     text: &mut ArrayVec<Char7, TAKEN_ROOM>,
 ) -> Option<RefusedEvent>
@@ -159,8 +172,8 @@ fn take_characters(
 }
 
 /// Takes all characters that an event gives.
-pub fn take_text(
-    machine: &mut Machine,
+pub fn take_text<L: LockTable, C: CoreStore>(
+    machine: &mut System<L, C>,
     event: &Event<'_>,
     out: &mut Vec<u8>,
 ) -> Result<(), AllocError>

@@ -6,15 +6,20 @@ ghost use Rattle.machine.specs.Views.{job_view};
 ghost use Rattle.op_script.specs.Printing.{job_line, word_line};
 ghost use Rattle.op_script.specs.RunScripts.{jobs_text, examined_text};
 
-use crate::desk::Machine;
 use crate::printing::{push_job, push_place, push_refused, push_word_line};
-use monitor::RefusedEvent;
+use core_store::CoreStore;
+use lock_queue::LockTable;
+use monitor::{RefusedEvent, System};
 use queue_script::{push_requests, push_waits};
 use std::alloc::AllocError;
 use word36::{JOBS, Word};
 
 /// Adds the line of a job, if it is there.
-fn push_job_of(out: &mut Vec<u8>, machine: &Machine, n: u8) -> Result<(), AllocError>
+fn push_job_of<L: LockTable, C: CoreStore>(
+    out: &mut Vec<u8>,
+    machine: &System<L, C>,
+    n: u8,
+) -> Result<(), AllocError>
     ensures { OnOk result (out.new.items ≡ out.old.items ++ job_line n (job_view machine.now.world n)) }
 {
     match machine.job(n) {
@@ -25,7 +30,10 @@ fn push_job_of(out: &mut Vec<u8>, machine: &Machine, n: u8) -> Result<(), AllocE
 
 /// Adds the lines of all jobs.
 #[tactic(auto, using(std::proofs::Common::append_assoc))]
-pub fn push_jobs(out: &mut Vec<u8>, machine: &Machine) -> Result<(), AllocError>
+pub fn push_jobs<L: LockTable, C: CoreStore>(
+    out: &mut Vec<u8>,
+    machine: &System<L, C>,
+) -> Result<(), AllocError>
     ensures { OnOk result (out.new.items ≡ out.old.items ++ jobs_text machine.now) }
 {
     for n in 1..JOBS + 1 {
@@ -36,23 +44,29 @@ pub fn push_jobs(out: &mut Vec<u8>, machine: &Machine) -> Result<(), AllocError>
 }
 
 /// Adds the requests.
-pub fn push_locks(out: &mut Vec<u8>, machine: &Machine) -> Result<(), AllocError>
+pub fn push_locks<L: LockTable, C: CoreStore>(
+    out: &mut Vec<u8>,
+    machine: &System<L, C>,
+) -> Result<(), AllocError>
     ensures { OnOk result (out.new.items ≡ out.old.items ++ show_text machine.now.world.requests) }
 {
     push_requests(out, machine.locks())
 }
 
 /// Adds who waits for whom.
-pub fn push_waiting(out: &mut Vec<u8>, machine: &Machine) -> Result<(), AllocError>
+pub fn push_waiting<L: LockTable, C: CoreStore>(
+    out: &mut Vec<u8>,
+    machine: &System<L, C>,
+) -> Result<(), AllocError>
     ensures { OnOk result (out.new.items ≡ out.old.items ++ waits_text machine.now.world.requests) }
 {
     push_waits(out, machine.locks())
 }
 
 /// Adds the word at a place of a job.
-pub fn push_examined(
+pub fn push_examined<L: LockTable, C: CoreStore>(
     out: &mut Vec<u8>,
-    machine: &Machine,
+    machine: &System<L, C>,
     job: u8,
     place: u32,
 ) -> Result<(), AllocError>
@@ -65,7 +79,11 @@ pub fn push_examined(
 }
 
 /// Adds a word that all jobs share.
-pub fn push_data_word(out: &mut Vec<u8>, machine: &Machine, i: u16) -> Result<(), AllocError>
+pub fn push_data_word<L: LockTable, C: CoreStore>(
+    out: &mut Vec<u8>,
+    machine: &System<L, C>,
+    i: u16,
+) -> Result<(), AllocError>
     ensures { OnOk result (out.new.items ≡ out.old.items ++ word_line (slice_index machine.now.world.shared i)) }
 {
     let word = machine.data_word(usize::from(i)).unwrap_or(Word::new(0));

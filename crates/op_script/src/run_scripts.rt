@@ -1,9 +1,10 @@
 //! The service of `lockmon run`: scripts on the machine.
-ghost use Rattle.std.specs.Prelude.{◌≡◌, ◌++◌, ◌^◌, ◌≤◌, None, false, IfOk, IfErr, OnOk};
+ghost use Rattle.std.specs.Prelude.{◌≡◌, ◌++◌, ◌^◌, ◌≤◌, None, Some, false, IfOk, IfErr, OnOk};
 ghost use Rattle.mac_asm.specs.Outcome.{outcome_of};
 ghost use Rattle.script_io.specs.Serves.{Serves, Blames};
-ghost use Rattle.script_io.specs.Endings.{served_as};
-ghost use Rattle.op_script.specs.RunScripts.{effect_of, defined, assembled_text, assembled_ending, source_effect};
+ghost use Rattle.script_io.specs.Endings.{script_fault, served_as};
+ghost use Rattle.op_script.specs.Images.{image_of};
+ghost use Rattle.op_script.specs.RunScripts.{effect_of, login_effect, defined, assembled_text, assembled_ending, source_effect};
 ghost use Rattle.op_script.specs.RunScripts.{line_effect, fresh, transcript_of, transcript};
 
 use crate::commands::{Command, read_command};
@@ -11,11 +12,15 @@ use crate::desk::{Desk, Machine};
 use crate::events::{happen, happen_often, step, take_text, type_text};
 use crate::images::Images;
 use crate::looking::{push_data_word, push_examined, push_jobs, push_locks, push_waiting};
+use crate::names::ImageName;
 use crate::printing::push_image;
 use crate::sources::Source;
 use asm_script::{push_asm_fault, source_ending};
+use core_store::{BlockCore, CoreStore};
+use lock_queue::LockTable;
 use mac_asm::{AsmError, assemble};
 use monitor::{Config, Event};
+use queue_script::ScriptTable;
 use script_io::{
     ByteIn, ByteOut, Ending, LineService, LineSession, ServeError, is_allowed, push_fault,
     serve_script,
@@ -23,11 +28,39 @@ use script_io::{
 use std::alloc::{AllocError, Global};
 use word36::TAKEN_AT_ONCE;
 
+/// Adds `?SCRIPT n`, and ends the script there.
+fn end_at_fault(number: u128, out: &mut Vec<u8>) -> Result<Option<Ending>, AllocError>
+    ensures text { OnOk result (out.new.items ≡ out.old.items ++ (script_fault number).text) }
+    ensures ending { IfOk result (λ ending. ending ≡ Some (Ending.Script number)) }
+{
+    push_fault(out, number)?;
+    Ok(Some(Ending::Script(number)))
+}
+
+/// A job begins at a line, with the image of a name, if there is one.
+fn login<L: LockTable, C: CoreStore>(
+    desk: &mut Desk<L, C>,
+    number: u128,
+    line: u8,
+    name: &ImageName,
+    out: &mut Vec<u8>,
+) -> Result<Option<Ending>, AllocError>
+    ensures desk { OnOk result (desk.new ≡ (login_effect number desk.old line (image_of desk.old.images name.now)).desk) }
+    ensures text { OnOk result (out.new.items ≡ out.old.items ++ (login_effect number desk.old line (image_of desk.old.images name.now)).text) }
+    ensures ending { IfOk result (λ ending. ending ≡ (login_effect number desk.old line (image_of desk.old.images name.now)).ending) }
+{
+    let Some(image) = desk.images.get(name) else {
+        return end_at_fault(number, out);
+    };
+    happen(&mut desk.machine, &Event::Login(line, image), out)?;
+    Ok(None)
+}
+
 /// Does what a line asks for, and adds what it writes. It answers an ending where the script ends
 /// there.
-fn perform(
+fn perform<L: LockTable, C: CoreStore>(
     alloc: Global,
-    desk: &mut Desk,
+    desk: &mut Desk<L, C>,
     number: u128,
     command: Option<Command>,
     out: &mut Vec<u8>,
@@ -36,42 +69,34 @@ fn perform(
     ensures text { OnOk result (out.new.items ≡ out.old.items ++ (effect_of number desk.old command).text) }
     ensures ending { IfOk result (λ ending. ending ≡ (effect_of number desk.old command).ending) }
 {
-    match command {
-        None => {
-            push_fault(out, number)?;
-            return Ok(Some(Ending::Script(number)));
-        }
-        Some(Command::Quit) => return Ok(Some(Ending::Done)),
-        Some(Command::Nothing) => {}
-        Some(Command::Assemble(name)) => {
+    let Some(command) = command else {
+        return end_at_fault(number, out);
+    };
+    let machine = &mut desk.machine;
+    let done = match command {
+        Command::Quit => return Ok(Some(Ending::Done)),
+        Command::Login(line, name) => return login(desk, number, line, &name, out),
+        Command::Nothing => Ok(()),
+        Command::Assemble(name) => {
             desk.source = Some(Source::new(alloc, name, number));
+            Ok(())
         }
-        Some(Command::Login(line, name)) => {
-            let Some(image) = desk.images.get(&name) else {
-                push_fault(out, number)?;
-                return Ok(Some(Ending::Script(number)));
-            };
-            happen(&mut desk.machine, &Event::Login(line, image), out)?;
-        }
-        Some(Command::Step(most)) => step(&mut desk.machine, most, false, out)?,
-        Some(Command::Run(most)) => step(&mut desk.machine, most, true, out)?,
-        Some(Command::Tick(ticks)) => happen_often(&mut desk.machine, &Event::Tick, ticks, out)?,
-        Some(Command::Typed(line, text)) => type_text(&mut desk.machine, line, &text, out)?,
-        Some(Command::Take(line)) => take_text(
-            &mut desk.machine,
-            &Event::Take(line, TAKEN_AT_ONCE),
-            out,
-        )?,
-        Some(Command::Start(job)) => happen(&mut desk.machine, &Event::Start(job), out)?,
-        Some(Command::Continue(job)) => happen(&mut desk.machine, &Event::Continue(job), out)?,
-        Some(Command::Kill(job)) => happen(&mut desk.machine, &Event::Kill(job), out)?,
-        Some(Command::Restart) => happen(&mut desk.machine, &Event::Restart, out)?,
-        Some(Command::ShowJobs) => push_jobs(out, &desk.machine)?,
-        Some(Command::ShowLocks) => push_locks(out, &desk.machine)?,
-        Some(Command::ShowWaits) => push_waiting(out, &desk.machine)?,
-        Some(Command::Examine(job, place)) => push_examined(out, &desk.machine, job, place)?,
-        Some(Command::Data(i)) => push_data_word(out, &desk.machine, i)?,
-    }
+        Command::Step(most) => step(machine, most, false, out),
+        Command::Run(most) => step(machine, most, true, out),
+        Command::Tick(ticks) => happen_often(machine, &Event::Tick, ticks, out),
+        Command::Typed(line, text) => type_text(machine, line, &text, out),
+        Command::Take(line) => take_text(machine, &Event::Take(line, TAKEN_AT_ONCE), out),
+        Command::Start(job) => happen(machine, &Event::Start(job), out),
+        Command::Continue(job) => happen(machine, &Event::Continue(job), out),
+        Command::Kill(job) => happen(machine, &Event::Kill(job), out),
+        Command::Restart => happen(machine, &Event::Restart, out),
+        Command::ShowJobs => push_jobs(out, machine),
+        Command::ShowLocks => push_locks(out, machine),
+        Command::ShowWaits => push_waiting(out, machine),
+        Command::Examine(job, place) => push_examined(out, machine, job, place),
+        Command::Data(i) => push_data_word(out, machine, i),
+    };
+    done?;
     Ok(None)
 }
 
@@ -102,9 +127,9 @@ fn end_source(
 }
 
 /// A line of a source comes.
-fn take_source_line(
+fn take_source_line<L: LockTable, C: CoreStore>(
     alloc: Global,
-    desk: &mut Desk,
+    desk: &mut Desk<L, C>,
     mut source: Source,
     line: &[u8],
     out: &mut Vec<u8>,
@@ -123,9 +148,9 @@ fn take_source_line(
 }
 
 /// Does what a line says, and adds what it writes. It answers an ending where the script ends there.
-fn obey(
+fn obey<L: LockTable, C: CoreStore>(
     alloc: Global,
-    desk: &mut Desk,
+    desk: &mut Desk<L, C>,
     number: u128,
     line: &[u8],
     out: &mut Vec<u8>,
@@ -135,8 +160,7 @@ fn obey(
     ensures ending { IfOk result (λ ending. ending ≡ (line_effect number desk.old line.now).ending) }
 {
     if !is_allowed(line) {
-        push_fault(out, number)?;
-        return Ok(Some(Ending::Script(number)));
+        return end_at_fault(number, out);
     }
     match desk.source.take() {
         Some(source) => take_source_line(alloc, desk, source, line, out),
@@ -148,7 +172,7 @@ fn obey(
 #[derive(Drop)]
 pub struct RunService {
     alloc: Global,
-    desk: Desk,
+    desk: Desk<ScriptTable, BlockCore>,
 }
 
 impl RunService {

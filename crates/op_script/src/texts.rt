@@ -10,7 +10,7 @@ use std::marker::Model;
 use tty_lines::Char7;
 
 /// The characters that are typed by one command.
-#[derive(Debug, Drop)]
+#[derive(Drop)]
 pub struct TypedText {
     characters: ArrayVec<Char7, LINE_LENGTH>,
 }
@@ -24,7 +24,7 @@ impl Model for TypedText {
 }
 
 /// The first character that a text spells.
-#[derive(Clone, Copy, Debug, PartialEq, Eq)]
+#[derive(Clone, Copy)]
 pub struct Spelled {
     /// The character.
     pub character: Char7,

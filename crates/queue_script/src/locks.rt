@@ -161,7 +161,7 @@ pub fn read_lock(item: &[u8]) -> Option<Lock<'_>>
 }
 
 /// What has come of an item that a call wants the lock of.
-#[derive(Clone, Copy, Debug, PartialEq, Eq)]
+#[derive(Clone, Copy)]
 pub enum Taken {
     /// It is no lock.
     NoLock,

@@ -15,7 +15,7 @@ pub const MOST_LEVEL: u64 = 0o777;
 pub const MOST_HALF: u64 = 0o777_777;
 
 /// The two numbers of a pool's option, which need not make sense.
-#[derive(Clone, Copy, Debug, PartialEq, Eq)]
+#[derive(Clone, Copy)]
 pub struct PoolOption {
     /// The pool's size.
     pub size: u32,
@@ -24,7 +24,7 @@ pub struct PoolOption {
 }
 
 /// An option of a lock.
-#[derive(Clone, Copy, Debug, PartialEq, Eq)]
+#[derive(Clone, Copy)]
 pub enum LockOption {
     /// `/S`: others may share the lock.
     Shared,
@@ -41,7 +41,7 @@ pub enum LockOption {
 }
 
 /// The options of a lock, each at most once.
-#[derive(Clone, Copy, Debug, PartialEq, Eq)]
+#[derive(Clone, Copy)]
 pub struct Options {
     /// Whether others may share the lock.
     pub shared: bool,

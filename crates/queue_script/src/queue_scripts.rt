@@ -214,6 +214,29 @@ impl<L: LockTable> LineService for QueueService<L> {
     }
 }
 
+/// Serves a script on a lock table that is empty at first: reads it, and writes its transcript.
+fn serve_on<L: LockTable, R: ByteIn, W: ByteOut>(
+    alloc: Global,
+    reader: &mut R,
+    writer: &mut W,
+) -> Result<(), ServeError>
+    requires size { (1 ≤ L.REQS) × (L.REQS ≤ MOST_REQUESTS) }
+    requires reader_sound { R.has_failed reader.old ≡ false }
+    requires writer_sound { W.has_failed writer.old ≡ false }
+    requires few { R.reads_left reader.old ≤ 2 ^ 63 }
+    ensures serves { Serves (λ bytes. transcript_of L.REQS [] 0 (lines bytes)) (R.to_come reader.old) (R.to_come reader.new)
+        (W.written writer.old) (W.written writer.new) (served_as result) }
+    ensures blames { IfErr (served_as result) (λ e. Blames e (R.has_failed reader.new) (W.has_failed writer.new)) }
+{
+    let table = match L::new(alloc) {
+        Ok(table) => table,
+        Err(_) => return Err(ServeError::Memory),
+    };
+    let service = QueueService::new(table);
+    let mut session = LineSession::new(service);
+    serve_script(alloc, &mut session, reader, writer)
+}
+
 /// Serves a script on a lock queue that is empty at first: reads it, and writes its transcript.
 /// What a command writes goes out before the next read.
 pub fn serve_queue<R: ByteIn, W: ByteOut>(
@@ -227,11 +250,5 @@ pub fn serve_queue<R: ByteIn, W: ByteOut>(
     ensures serves { Serves transcript (R.to_come reader.old) (R.to_come reader.new) (W.written writer.old) (W.written writer.new) (served_as result) }
     ensures blames { IfErr (served_as result) (λ e. Blames e (R.has_failed reader.new) (W.has_failed writer.new)) }
 {
-    let table = match ScriptTable::new(alloc) {
-        Ok(table) => table,
-        Err(_) => return Err(ServeError::Memory),
-    };
-    let service = QueueService::new(table);
-    let mut session = LineSession::new(service);
-    serve_script(alloc, &mut session, reader, writer)
+    serve_on::<ScriptTable, R, W>(alloc, reader, writer)
 }

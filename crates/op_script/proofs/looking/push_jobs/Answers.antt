@@ -9,16 +9,16 @@ use Rattle.op_script.specs.Printing.{job_line}
 use Rattle.op_script.proofs.looking.push_jobs.Goals as goal
 
 pub loop-n-init : goal.loop-n-init
-loop-n-init c = texts-start (λ n. job_line n (job_view c.args.machine.now.world n)) c.args.out.now.items
+loop-n-init g c = texts-start (λ n. job_line n (job_view c.args.machine.now.world n)) c.args.out.now.items
 
 pub loop-n-preserved : goal.loop-n-preserved
-loop-n-preserved c =
+loop-n-preserved g c =
     let within : c.loop-n.n < NUMBERS = omega arith in
     texts-step (λ n. job_line n (job_view c.args.machine.now.world n)) c.loop-n.n c.loop-n.out.items c.push_job_of.new.out.items _
     within c.in_ok-push_job_of.ensures c.loop-n.invariant
 
 pub returns : goal.returns
-returns c =
+returns g c =
     let line = λ (n : ℕ). job_line n (job_view c.args.machine.now.world n) in
     let end : NUMBERS ≤ c.loop-n.n = omega arith in
     let all = texts-end line c.loop-n.n c.loop-n.out.items (c.args.out.now.items ++ flat_map line jobs) end c.loop-n.invariant in

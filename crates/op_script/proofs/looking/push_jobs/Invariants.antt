@@ -7,6 +7,6 @@ use Rattle.op_script.specs.Printing.{job_line}
 use Rattle.op_script.proofs.looking.push_jobs.Given as goal
 
 abbrev pub invariant-loop-n : goal.invariant-loop-n
-invariant-loop-n l =
+invariant-loop-n g l =
     l.out.items ++ flat_map (λ n. job_line n (job_view l.machine.world n)) (numbers_from l.n (NUMBERS - l.n))
     ≡ l.initial.out.items ++ flat_map (λ n. job_line n (job_view l.machine.world n)) jobs
