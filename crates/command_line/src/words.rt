@@ -67,13 +67,12 @@ fn make_command<'a>(alloc: Global) -> Result<Command<'a>, AllocError>
     ensures { IfOk result (λ c. app_of c ≡ app) }
 {
     let run = make_run(alloc)?;
-    let queue = described(alloc, "queue", texts::QUEUE, texts::QUEUE_END);
-    let asm = described(alloc, "asm", texts::ASM, texts::ASM_END);
     let top = make_top(alloc).subcommand_required(true);
     let with_run = top.subcommand(run)?;
+    let queue = described(alloc, "queue", texts::QUEUE, texts::QUEUE_END);
     let with_queue = with_run.subcommand(queue)?;
-    let whole = with_queue.subcommand(asm)?;
-    Ok(whole)
+    let asm = described(alloc, "asm", texts::ASM, texts::ASM_END);
+    with_queue.subcommand(asm)
 }
 
 /// The program without its commands.
@@ -125,11 +124,11 @@ fn make_run<'a>(alloc: Global) -> Result<Command<'a>, AllocError>
     ensures shape { IfOk result (λ c. app_of c ≡ run_app) }
     ensures local { IfOk result (λ c. (fields_of c).has_globals ≡ false) }
 {
+    let run = described(alloc, "run", texts::RUN, texts::RUN_END);
     let blocks = make_option(alloc, "blocks", "64", texts::BLOCKS);
+    let with_blocks = run.arg(blocks)?;
     let quantum = make_option(alloc, "quantum", "1", texts::QUANTUM);
-    let with_blocks = described(alloc, "run", texts::RUN, texts::RUN_END).arg(blocks)?;
-    let whole = with_blocks.arg(quantum)?;
-    Ok(whole)
+    with_blocks.arg(quantum)
 }
 
 fn chosen(matches: &ArgMatches<'_>) -> Option<Choice>

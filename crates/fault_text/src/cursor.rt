@@ -3,7 +3,7 @@
 use crate::fault::{Fault, Reason};
 
 /// What a statement gives, as far as its values have to fit.
-#[derive(Clone, Copy, Debug, PartialEq, Eq)]
+#[derive(Clone, Copy, PartialEq, Eq)]
 pub enum Kind {
     /// No statement.
     Nothing,
@@ -26,7 +26,7 @@ pub enum Kind {
 }
 
 /// The text in a literal's brackets, and the column where it begins.
-#[derive(Clone, Copy, Debug)]
+#[derive(Clone, Copy)]
 pub struct Cut<'a> {
     pub text: &'a [u8],
     pub column: usize,
@@ -36,7 +36,7 @@ pub struct Cut<'a> {
 pub type Names<'a> = [Option<&'a [u8]>; 3];
 
 /// What is left of a line, and what was seen of it.
-#[derive(Clone, Copy, Debug)]
+#[derive(Clone, Copy)]
 pub struct Cursor<'a> {
     rest: &'a [u8],
     column: usize,

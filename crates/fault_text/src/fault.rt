@@ -10,7 +10,7 @@ use std::fmt;
 const MOST_QUOTED: usize = 40;
 
 /// What is wrong with a line.
-#[derive(Clone, Copy, Debug)]
+#[derive(Clone, Copy)]
 pub struct Fault<'a> {
     /// The column where it is, counted from 1, or 0 where it is in no one place.
     pub column: usize,
@@ -19,7 +19,7 @@ pub struct Fault<'a> {
 }
 
 /// What is wrong.
-#[derive(Clone, Copy, Debug)]
+#[derive(Clone, Copy)]
 pub enum Reason<'a> {
     /// A sentence that says it.
     Said(&'static str),
@@ -42,7 +42,7 @@ pub enum Reason<'a> {
 }
 
 /// The numbers that may stand in a place.
-#[derive(Clone, Copy, Debug, PartialEq, Eq)]
+#[derive(Clone, Copy)]
 pub struct Range {
     /// What the number is of.
     pub name: &'static str,
@@ -156,24 +156,25 @@ fn write_found<W: fmt::Write>(f: &mut fmt::Formatter<W>, found: &[u8]) -> fmt::R
 }
 
 /// Bytes of a line between quotes; those that are not printed are shown in octal.
-#[derive(Clone, Copy, Debug)]
+#[derive(Clone, Copy)]
 struct Quoted<'a>(&'a [u8]);
 
 impl fmt::Display for Quoted<'_> {
     fn fmt<W: fmt::Write>(&self, f: &mut fmt::Formatter<W>) -> fmt::Result {
-        write!(f, "\"")?;
-        for byte in self.0.iter().take(MOST_QUOTED) {
-            let byte = *byte;
-            if byte >= b' ' && byte < 0o177 {
-                let character = char::from(byte);
-                write!(f, "{character}")?;
-            } else {
-                write!(f, "\\{byte:03o}")?;
-            }
+        let shown = self.0.len().min(MOST_QUOTED);
+        f.write_str("\"")?;
+        for byte in &self.0[..shown] {
+            write_byte(f, *byte)?;
         }
-        if self.0.len() > MOST_QUOTED {
-            write!(f, "..")?;
-        }
-        write!(f, "\"")
+        f.write_str(if shown < self.0.len() { "..\"" } else { "\"" })
+    }
+}
+
+/// A byte as it is, or in octal where it is not printed.
+fn write_byte<W: fmt::Write>(f: &mut fmt::Formatter<W>, byte: u8) -> fmt::Result {
+    if byte >= b' ' && byte < 0o177 {
+        f.write_char(char::from(byte))
+    } else {
+        write!(f, "\\{byte:03o}")
     }
 }

@@ -4,7 +4,7 @@ use crate::fault::{Fault, Reason};
 use script_io::LINE_LENGTH;
 
 /// A part of a line, and the column where it begins.
-#[derive(Clone, Copy, Debug)]
+#[derive(Clone, Copy)]
 pub struct Item<'a> {
     pub text: &'a [u8],
     pub column: usize,
@@ -24,6 +24,16 @@ impl<'a> Item<'a> {
     /// The fault that it is not what the sentence says.
     pub fn is(self, sentence: &'static str) -> Fault<'a> {
         Fault::at(self.column, Reason::Is(self.text, sentence))
+    }
+
+    /// What stands behind its first bytes.
+    pub fn after(self, length: usize) -> Item<'a> {
+        let text = self.text;
+        let length = length.min(text.len());
+        Item {
+            text: &text[length..],
+            column: self.column.saturating_add(length),
+        }
     }
 
     /// Cuts it at the first byte of this kind: what stands before, and what stands behind where there
@@ -48,7 +58,7 @@ impl<'a> Item<'a> {
 }
 
 /// The items of a line, with separators between them.
-#[derive(Clone, Copy, Debug)]
+#[derive(Clone, Copy)]
 pub struct Items<'a> {
     /// What is left, where not all was given.
     rest: Option<Item<'a>>,

@@ -63,7 +63,7 @@ pub fn check_lock(item: Item<'_>) -> Result<(), Fault<'_>> {
 }
 
 /// The options that were seen.
-#[derive(Clone, Copy, Debug, Default)]
+#[derive(Clone, Copy, Default)]
 struct Seen {
     shared: bool,
     group: bool,

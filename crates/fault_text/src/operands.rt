@@ -69,7 +69,7 @@ fn literal_len(text: &[u8]) -> Option<usize> {
 }
 
 /// Whether a word is ASCII, ASCIZ or SIXBIT.
-pub fn is_text_form(word: &[u8]) -> bool {
+fn is_text_form(word: &[u8]) -> bool {
     word.eq_ignore_ascii_case(b"ASCII")
         || word.eq_ignore_ascii_case(b"ASCIZ")
         || word.eq_ignore_ascii_case(b"SIXBIT")

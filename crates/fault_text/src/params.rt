@@ -9,7 +9,7 @@ use script_io::LINE_LENGTH;
 use word36::{DATA_WORDS, JOBS};
 
 /// What a command takes in one place.
-#[derive(Clone, Copy, Debug, PartialEq, Eq)]
+#[derive(Clone, Copy)]
 pub enum Param {
     /// Nothing.
     Nothing,
@@ -129,10 +129,16 @@ pub fn check_param<'a>(param: Param, items: &mut Items<'a>) -> Result<(), Fault<
     }
 }
 
+/// Looks at what stands in these places, one behind the other.
+pub fn check_each<'a>(params: &[Param], items: &mut Items<'a>) -> Result<(), Fault<'a>> {
+    for param in params {
+        check_param(*param, items)?;
+    }
+    Ok(())
+}
+
 /// Looks at what a command takes, and that nothing stands behind it.
 pub fn check_params<'a>(params: [Param; 3], items: &mut Items<'a>) -> Result<(), Fault<'a>> {
-    for param in params {
-        check_param(param, items)?;
-    }
+    check_each(&params, items)?;
     items.end()
 }

@@ -2,7 +2,7 @@
 
 use crate::fault::Fault;
 use crate::items::{Item, Items, check_blanks, check_form, is_number};
-use crate::params::{Param, check_param, check_params};
+use crate::params::{Param, check_each, check_param, check_params};
 use crate::tables::{QUEUE_COMMANDS, QUEUE_NAMES, params_of, unknown};
 use script_io::is_silent;
 
@@ -20,28 +20,39 @@ fn check(line: &[u8]) -> Result<(), Fault<'_>> {
         return Ok(());
     }
     check_blanks(line)?;
-    let mut items = Items::of(
-        Item {
-            text: line,
-            column: 1,
-        },
-        b' ',
-    );
+    check_command(Item {
+        text: line,
+        column: 1,
+    })
+}
+
+/// Looks at a command and at what it takes.
+fn check_command(line: Item<'_>) -> Result<(), Fault<'_>> {
+    let mut items = Items::of(line, b' ');
     let name = items.wanted("a command")?;
     match params_of(&QUEUE_COMMANDS, name.text) {
         None => Err(unknown(&QUEUE_COMMANDS, name, QUEUE_NAMES)),
-        Some(_) if name.text == b"DEQ".as_slice() => check_dequeue(&mut items),
-        Some(_) if name.text == b"ENQ".as_slice() => check_enqueue(&mut items),
-        Some(params) => check_params(params, &mut items),
+        Some(params) => check_behind(name.text, params, &mut items),
+    }
+}
+
+/// Looks at what stands behind the name of a command, which takes these unless it is DEQ or ENQ.
+fn check_behind<'a>(
+    name: &[u8],
+    params: [Param; 3],
+    items: &mut Items<'a>,
+) -> Result<(), Fault<'a>> {
+    match name {
+        b"DEQ" => check_dequeue(items),
+        b"ENQ" => check_enqueue(items),
+        _ => check_params(params, items),
     }
 }
 
 /// What follows ENQ.
 fn check_enqueue<'a>(items: &mut Items<'a>) -> Result<(), Fault<'a>> {
-    check_param(Param::QueueJob, items)?;
-    check_param(Param::Function, items)?;
-    check_param(Param::Id, items)?;
-    check_param(Param::Locks, items)
+    let params = [Param::QueueJob, Param::Function, Param::Id, Param::Locks];
+    check_each(&params, items)
 }
 
 /// What follows DEQ goes by its function.
@@ -49,10 +60,7 @@ fn check_dequeue<'a>(items: &mut Items<'a>) -> Result<(), Fault<'a>> {
     check_param(Param::QueueJob, items)?;
     let mut ahead = *items;
     check_param(Param::Function, items)?;
-    let function = match ahead.next() {
-        Some(item) => item.text,
-        None => &[],
-    };
+    let function = ahead.next_or_end().text;
     if is_number(function, 10, 1, 1) {
         return items.end();
     }

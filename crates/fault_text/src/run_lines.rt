@@ -46,11 +46,15 @@ fn check(line: &[u8]) -> Result<(), Fault<'_>> {
         return Err(Fault::whole(ENDASM));
     }
     check_blanks(line)?;
-    let item = Item {
+    check_command(Item {
         text: line,
         column: 1,
-    };
-    let mut items = Items::of(item, b' ');
+    })
+}
+
+/// Looks at a command and at what it takes.
+fn check_command(line: Item<'_>) -> Result<(), Fault<'_>> {
+    let mut items = Items::of(line, b' ');
     let name = items.wanted("a command")?;
     match params_of(&RUN_COMMANDS, name.text) {
         None => Err(unknown(&RUN_COMMANDS, name, RUN_NAMES)),
@@ -62,12 +66,15 @@ fn check(line: &[u8]) -> Result<(), Fault<'_>> {
 fn check_typed(item: Item<'_>) -> Result<(), Fault<'_>> {
     let (line, text) = item.cut(b' ');
     check_param(Param::Line, &mut Items::of(line, b' '))?;
-    let column = line.column.saturating_add(line.text.len());
-    match text {
-        None => Err(Fault::at(column, Reason::Expected(TEXT, &[]))),
-        Some(text) if text.text.is_empty() => Err(text.expects(TEXT)),
-        Some(text) => check_text(text),
+    let end = Item {
+        text: &[],
+        column: line.column.saturating_add(line.text.len()),
+    };
+    let text = text.unwrap_or(end);
+    if text.text.is_empty() {
+        return Err(text.expects(TEXT));
     }
+    check_text(text)
 }
 
 const TEXT: &str = "a text behind one space";
@@ -83,20 +90,20 @@ fn check_text(item: Item<'_>) -> Result<(), Fault<'_>> {
         let Some(behind) = behind else {
             return Ok(());
         };
-        rest = match behind.text {
-            [b'n' | b'r' | b'e' | b'\\', more @ ..] => Item {
-                text: more,
-                column: behind.column.saturating_add(1),
-            },
-            [b'0' | b'1', b'0'..=b'7', b'0'..=b'7', more @ ..] => Item {
-                text: more,
-                column: behind.column.saturating_add(3),
-            },
-            _ => {
-                let column = behind.column.saturating_sub(1);
-                return Err(Fault::at(column, Reason::Said(BACKSLASH)));
-            }
+        let Some(length) = escape_len(behind.text) else {
+            let column = behind.column.saturating_sub(1);
+            return Err(Fault::at(column, Reason::Said(BACKSLASH)));
         };
+        rest = behind.after(length);
     }
     Ok(())
+}
+
+/// How many bytes stand for one character with the backslash before them.
+fn escape_len(text: &[u8]) -> Option<usize> {
+    match text {
+        [b'n' | b'r' | b'e' | b'\\', ..] => Some(1),
+        [b'0' | b'1', b'0'..=b'7', b'0'..=b'7', ..] => Some(3),
+        _ => None,
+    }
 }

@@ -1,6 +1,6 @@
 //! Lines of a source.
 
-use crate::cursor::{Cursor, Kind};
+use crate::cursor::{Cursor, Cut, Kind};
 use crate::fault::{Fault, Reason};
 use crate::items::check_ascii;
 use crate::statements::{read_labels, read_statement};
@@ -24,12 +24,21 @@ fn read<'a>(line: &'a [u8], radix: u8) -> (Cursor<'a>, Result<(), Fault<'a>>) {
     read_labels(&mut cursor);
     let mut outcome = read_statement(&mut cursor);
     let whole = cursor;
-    for cut in whole.cuts.iter().flatten() {
-        let mut inner = cursor.inside(*cut);
-        outcome = first_of(outcome, read_statement(&mut inner));
-        cursor.names = inner.names;
+    for cut in &whole.cuts {
+        let Some(cut) = cut else {
+            break;
+        };
+        outcome = first_of(outcome, read_literal(*cut, &mut cursor));
     }
     (cursor, outcome)
+}
+
+/// Reads a literal of a line, and notes the names in it.
+fn read_literal<'a>(cut: Cut<'a>, cursor: &mut Cursor<'a>) -> Result<(), Fault<'a>> {
+    let mut inner = cursor.inside(cut);
+    let outcome = read_statement(&mut inner);
+    cursor.names = inner.names;
+    outcome
 }
 
 /// The fault that stands further left.

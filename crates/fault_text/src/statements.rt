@@ -4,11 +4,62 @@ ghost use Rattle.std.specs.Prelude.{◌≤◌};
 use crate::cursor::{Cursor, Kind};
 use crate::fault::{Fault, Reason};
 use crate::operands::{
-    is_name, is_text_form, read_decimal, read_expression, read_index, read_operand, read_optional,
-    read_text,
+    is_name, read_decimal, read_expression, read_index, read_operand, read_optional, read_text,
 };
 use ka_isa::{Named, named};
 use std::str;
+
+/// The form of a statement that has a name of its own.
+#[derive(Clone, Copy)]
+enum Form {
+    /// LOC.
+    Loc,
+    /// BLOCK.
+    Block,
+    /// END.
+    End,
+    /// RADIX.
+    Radix,
+    /// A name that stands before any text.
+    Title,
+    /// Two halves.
+    Halves,
+    /// EXP.
+    Exp,
+    /// POINT.
+    Point,
+    /// ASCII.
+    Ascii,
+    /// ASCIZ.
+    Asciz,
+    /// SIXBIT.
+    Sixbit,
+}
+
+impl Form {
+    /// Whether it gives no words wherever it stands.
+    fn gives_none(self) -> bool {
+        matches!(self, Form::Loc | Form::End | Form::Radix | Form::Title)
+    }
+}
+
+/// The names of the forms.
+static FORMS: [(&str, Form); 14] = [
+    ("LOC", Form::Loc),
+    ("BLOCK", Form::Block),
+    ("END", Form::End),
+    ("RADIX", Form::Radix),
+    ("TITLE", Form::Title),
+    ("SUBTTL", Form::Title),
+    ("SEARCH", Form::Title),
+    ("XWD", Form::Halves),
+    ("IOWD", Form::Halves),
+    ("EXP", Form::Exp),
+    ("POINT", Form::Point),
+    ("ASCII", Form::Ascii),
+    ("ASCIZ", Form::Asciz),
+    ("SIXBIT", Form::Sixbit),
+];
 
 /// The first six characters of a name in upper case, and how many there are.
 fn folded(name: &[u8]) -> ([u8; 6], usize)
@@ -21,6 +72,18 @@ fn folded(name: &[u8]) -> ([u8; 6], usize)
         length = length.saturating_add(1);
     }
     (characters, length.min(6))
+}
+
+/// The form of a statement that has a name of its own.
+fn form_of(name: &[u8]) -> Option<Form> {
+    let (characters, length) = folded(name);
+    let name = &characters[..length];
+    for (known, form) in &FORMS {
+        if known.as_bytes() == name {
+            return Some(*form);
+        }
+    }
+    None
 }
 
 /// The operation of a name.
@@ -52,25 +115,35 @@ pub fn read_statement<'a>(cursor: &mut Cursor<'a>) -> Result<(), Fault<'a>> {
         return Ok(());
     }
     cursor.skip();
+    read_body(cursor)?;
+    read_end(cursor)
+}
+
+/// Reads a statement, whatever stands behind it.
+fn read_body<'a>(cursor: &mut Cursor<'a>) -> Result<(), Fault<'a>> {
     let name = cursor.word();
-    let column = cursor.column();
-    if is_name(name) {
-        let (characters, length) = folded(name);
-        if read_form(&characters[..length], name, cursor)? {
-            return read_end(cursor);
-        }
-        if let Some(operation) = operation_of(name) {
-            cursor.advance(name.len());
-            read_instruction(operation, cursor)?;
-            return read_end(cursor);
-        }
+    if !is_name(name) {
+        return read_value(cursor);
     }
+    if let Some(form) = form_of(name) {
+        return read_form(form, name, cursor);
+    }
+    if let Some(operation) = operation_of(name) {
+        cursor.advance(name.len());
+        return read_instruction(operation, cursor);
+    }
+    read_named_value(name, cursor)
+}
+
+/// Reads a value that begins with a name, which must not look like an operation's.
+fn read_named_value<'a>(name: &'a [u8], cursor: &mut Cursor<'a>) -> Result<(), Fault<'a>> {
+    let column = cursor.column();
     read_value(cursor)?;
-    if is_name(name) && is_call_like(cursor) {
+    if is_call_like(cursor) {
         let reason = Reason::Is(name, "is not an operation of this assembler");
         return Err(Fault::at(column, reason));
     }
-    read_end(cursor)
+    Ok(())
 }
 
 /// Whether what is left looks like what stands behind an operation.
@@ -126,62 +199,62 @@ fn read_value<'a>(cursor: &mut Cursor<'a>) -> Result<(), Fault<'a>> {
         return Err(cursor.expected("an operation, a value or a comment"));
     }
     cursor.skip();
-    if cursor.rest().starts_with(b",,".as_slice()) {
-        cursor.kind = Kind::Halves;
-        cursor.advance(2);
-        read_expression(cursor)?;
+    if !cursor.rest().starts_with(b",,".as_slice()) {
+        return Ok(());
+    }
+    cursor.kind = Kind::Halves;
+    cursor.advance(2);
+    read_expression(cursor)
+}
+
+/// Reads a statement with a name of its own, and looks that it may stand where it does.
+fn read_form<'a>(form: Form, name: &'a [u8], cursor: &mut Cursor<'a>) -> Result<(), Fault<'a>> {
+    let column = cursor.column();
+    cursor.advance(name.len());
+    read_behind(form, cursor)?;
+    if cursor.is_in_literal() && form.gives_none() {
+        let reason = Reason::Said("a literal has a statement that gives words");
+        return Err(Fault::at(column, reason));
     }
     Ok(())
 }
 
-/// Reads a statement that begins with a name of its own, and says whether this is one.
-fn read_form<'a>(
-    folded: &[u8],
-    name: &'a [u8],
-    cursor: &mut Cursor<'a>,
-) -> Result<bool, Fault<'a>> {
-    let start = *cursor;
-    cursor.advance(name.len());
-    match folded {
-        b"LOC" | b"BLOCK" => {
+/// Reads what stands behind the name of a statement.
+fn read_behind<'a>(form: Form, cursor: &mut Cursor<'a>) -> Result<(), Fault<'a>> {
+    match form {
+        Form::Loc | Form::Block => {
             cursor.kind = Kind::Place;
-            read_expression(cursor)?;
+            read_expression(cursor)
         }
-        b"END" => {
-            cursor.kind = Kind::End;
-            let _ = read_optional(cursor)?;
-        }
-        b"RADIX" => {
+        Form::End => read_start(cursor),
+        Form::Radix => {
             cursor.kind = Kind::Radix;
-            read_decimal(cursor)?;
+            read_decimal(cursor)
         }
-        b"TITLE" | b"SUBTTL" | b"SEARCH" => read_title(cursor),
-        b"XWD" | b"IOWD" => {
-            cursor.kind = Kind::Halves;
-            read_expression(cursor)?;
-            cursor.want(b',', "\",\" and a second value")?;
-            read_expression(cursor)?;
+        Form::Title => {
+            read_title(cursor);
+            Ok(())
         }
-        b"EXP" => read_values(cursor)?,
-        b"POINT" => read_point(cursor)?,
-        _ if is_text_form(folded) => read_text_form(folded, cursor)?,
-        _ => {
-            *cursor = start;
-            return Ok(false);
-        }
+        Form::Halves => read_halves(cursor),
+        Form::Exp => read_values(cursor),
+        Form::Point => read_point(cursor),
+        Form::Ascii | Form::Asciz | Form::Sixbit => read_text_form(form, cursor),
     }
-    if start.is_in_literal() && gives_none(folded) {
-        return Err(start.said("a literal has a statement that gives words"));
-    }
-    Ok(true)
 }
 
-/// Whether a form gives no words wherever it stands.
-fn gives_none(form: &[u8]) -> bool {
-    matches!(
-        form,
-        b"LOC" | b"END" | b"RADIX" | b"TITLE" | b"SUBTTL" | b"SEARCH"
-    )
+/// Reads the start that END may have.
+fn read_start<'a>(cursor: &mut Cursor<'a>) -> Result<(), Fault<'a>> {
+    cursor.kind = Kind::End;
+    let _ = read_optional(cursor)?;
+    Ok(())
+}
+
+/// Reads the halves of XWD and IOWD.
+fn read_halves<'a>(cursor: &mut Cursor<'a>) -> Result<(), Fault<'a>> {
+    cursor.kind = Kind::Halves;
+    read_expression(cursor)?;
+    cursor.want(b',', "\",\" and a second value")?;
+    read_expression(cursor)
 }
 
 /// Goes to the comment.
@@ -212,21 +285,22 @@ fn read_point<'a>(cursor: &mut Cursor<'a>) -> Result<(), Fault<'a>> {
     cursor.want(b',', "\",\" and an address")?;
     let _ = read_operand(cursor)?;
     if cursor.eat(b',') {
-        read_decimal(cursor)?;
+        return read_decimal(cursor);
     }
     Ok(())
 }
 
 /// Reads the text of ASCII, ASCIZ or SIXBIT.
-fn read_text_form<'a>(form: &[u8], cursor: &mut Cursor<'a>) -> Result<(), Fault<'a>> {
+fn read_text_form<'a>(form: Form, cursor: &mut Cursor<'a>) -> Result<(), Fault<'a>> {
     cursor.kind = match form {
-        b"SIXBIT" => Kind::Sixbit,
+        Form::Sixbit => Kind::Sixbit,
         _ => Kind::Word,
     };
-    let start = *cursor;
+    let column = cursor.column();
     let length = read_text(cursor)?;
-    if length == 0 && start.is_in_literal() && form != b"ASCIZ".as_slice() {
-        return Err(start.said("an empty text gives a literal no word"));
+    if length == 0 && cursor.is_in_literal() && !matches!(form, Form::Asciz) {
+        let reason = Reason::Said("an empty text gives a literal no word");
+        return Err(Fault::at(column, reason));
     }
     Ok(())
 }

@@ -5,7 +5,7 @@ use crate::items::Item;
 use crate::params::{Param, Shape};
 
 /// The commands of `lockmon queue`. What ENQ and DEQ take stands elsewhere.
-pub const QUEUE_COMMANDS: [Shape; 7] = [
+pub static QUEUE_COMMANDS: [Shape; 7] = [
     ("ENQ", [Param::Nothing, Param::Nothing, Param::Nothing]),
     ("DEQ", [Param::Nothing, Param::Nothing, Param::Nothing]),
     ("STAT", [Param::QueueJob, Param::Locks, Param::Nothing]),
@@ -19,7 +19,7 @@ pub const QUEUE_COMMANDS: [Shape; 7] = [
 pub const QUEUE_NAMES: &str = "ENQ, DEQ, STAT, FREE, SHOW, WAITS and QUIT are";
 
 /// The commands of `lockmon run`, but for TYPE.
-pub const RUN_COMMANDS: [Shape; 15] = [
+pub static RUN_COMMANDS: [Shape; 15] = [
     (
         "ASSEMBLE",
         [Param::ImageName, Param::Nothing, Param::Nothing],
