@@ -18,7 +18,10 @@ fn right_words(rt: HostRuntime) {
         assert!(rt; false);
         return;
     };
-    assert_eq!(rt; (asked.config.blocks(), asked.config.quantum(), asked.steps), (256, 60, 7));
+    assert_eq!(rt;
+        (asked.config.blocks(), asked.config.quantum(), asked.steps),
+        (256, 60, 7)
+    );
     assert_eq!(rt; asked.files.as_slice(), ["a", "b"].as_slice());
     assert_eq!(rt; asked.picture, None);
     let words = ["ten", "--picture", "run.svg", "a"];
