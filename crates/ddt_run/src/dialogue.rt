@@ -24,16 +24,14 @@ pub struct Dialogue<R: ByteIn + Drop, W: ByteOut + Drop, E: ByteOut + Drop> {
     pub is_person: bool,
 }
 
-/// Tells a person something, where there is one.
-fn tell_person<E: ByteOut + Drop>(
-    errors: &mut Answers<E>,
-    is_person: bool,
-    text: &str,
-) -> Result<(), Failure> {
-    if is_person {
-        errors.write(text.as_bytes())?;
+impl<R: ByteIn + Drop, W: ByteOut + Drop, E: ByteOut + Drop> Dialogue<R, W, E> {
+    /// Tells a person something, where there is one.
+    fn tell_person(&mut self, text: &str) -> Result<(), Failure> {
+        if self.is_person {
+            self.errors.write(text.as_bytes())?;
+        }
+        Ok(())
     }
-    Ok(())
 }
 
 /// Writes the answer.
@@ -53,21 +51,30 @@ pub fn serve_lines<F: Files + AllocGlobal, R: ByteIn + Drop, W: ByteOut + Drop, 
     dialogue: &mut Dialogue<R, W, E>,
 ) -> Result<(), Failure> {
     let mut line = Vec::new(session.alloc);
-    let is_person = dialogue.is_person;
-    tell_person(&mut dialogue.errors, is_person, texts::BANNER)?;
+    dialogue.tell_person(texts::BANNER)?;
     for _ in 0..u64::MAX {
-        tell_person(&mut dialogue.errors, is_person, texts::PROMPT)?;
-        let goes_on = match dialogue.input.next_line(&mut line)? {
-            Came::End => false,
-            Came::TooLong => refuse_length(session)?,
-            Came::Line => obey(rt, session, &mut dialogue.output, line.as_slice())?,
-        };
-        write_answer(&mut dialogue.output, session)?;
-        if !goes_on {
+        if !serve_next(rt, session, dialogue, &mut line)? {
             return Ok(());
         }
     }
     Ok(())
+}
+
+/// Serves the next line; false where the session ends.
+fn serve_next<F: Files + AllocGlobal, R: ByteIn + Drop, W: ByteOut + Drop, E: ByteOut + Drop>(
+    rt: &F,
+    session: &mut Session<'_>,
+    dialogue: &mut Dialogue<R, W, E>,
+    line: &mut Vec<u8>,
+) -> Result<bool, Failure> {
+    dialogue.tell_person(texts::PROMPT)?;
+    let goes_on = match dialogue.input.next_line(line)? {
+        Came::End => return Ok(false),
+        Came::TooLong => refuse_length(session)?,
+        Came::Line => obey(rt, session, &mut dialogue.output, line.as_slice())?,
+    };
+    write_answer(&mut dialogue.output, session)?;
+    Ok(goes_on)
 }
 
 /// Says that a line is too long; the session goes on.
@@ -77,21 +84,19 @@ fn refuse_length(session: &mut Session<'_>) -> Result<bool, AllocError> {
     Ok(true)
 }
 
-/// Says why something is not done with a file.
-fn refuse_file(session: &mut Session<'_>, file: &str, reason: &str) -> Result<(), AllocError> {
-    let text = format!(in session.alloc; "? {file}: {reason}\n")?;
-    session.say(text.as_str())
+/// Says why something is not done with a file: a line that names it.
+fn refuse(session: &mut Session<'_>, line: &str) -> Result<(), AllocError> {
+    session.say("? ")?;
+    session.say(line)
 }
 
 /// The name of a file, or says that it is none.
 fn name_in<'a>(session: &mut Session<'_>, file: &'a [u8]) -> Result<Option<&'a str>, AllocError> {
-    match str::from_utf8(file) {
-        Ok(file) => Ok(Some(file)),
-        Err(_) => {
-            refuse_file(session, "", "the name of a file is no text")?;
-            Ok(None)
-        }
+    let name = str::from_utf8(file).ok();
+    if name.is_none() {
+        refuse(session, ": the name of a file is no text\n")?;
     }
+    Ok(name)
 }
 
 /// Writes the lines that were obeyed to a file.
@@ -104,7 +109,7 @@ fn save<F: Files + AllocGlobal>(
         return Ok(());
     };
     match write_file(rt, file, session.kept.as_slice())? {
-        Some(reason) => refuse_file(session, file, reason.as_str()),
+        Some(reason) => refuse(session, reason.as_str()),
         None => Ok(()),
     }
 }
@@ -139,7 +144,7 @@ fn obey_file<F: Files + AllocGlobal, W: ByteOut + Drop>(
     match read_file(rt, file)? {
         Ok(text) => obey_lines(rt, session, output, file, text.as_slice()),
         Err(reason) => {
-            refuse_file(session, file, reason.as_str())?;
+            refuse(session, reason.as_str())?;
             Ok(true)
         }
     }
@@ -164,6 +169,12 @@ fn obey_lines<F: Files + AllocGlobal, W: ByteOut + Drop>(
     Ok(true)
 }
 
+/// Says that a file of lines names another.
+fn refuse_nested(session: &mut Session<'_>, file: &str) -> Result<(), AllocError> {
+    let line = format!(in session.alloc; "{file}: a file of lines obeys no other file\n")?;
+    refuse(session, line.as_str())
+}
+
 /// Obeys a line of a file, which may name no other file of lines; false where it ends the session.
 fn obey_line_of<F: Files + AllocGlobal>(
     rt: &F,
@@ -176,7 +187,7 @@ fn obey_line_of<F: Files + AllocGlobal>(
         Wish::Nothing => session.keep(line)?,
         Wish::Quit => return Ok(false),
         Wish::Save(name) => save(rt, session, name)?,
-        Wish::Do(_) => refuse_file(session, file, "a file of lines obeys no other file")?,
+        Wish::Do(_) => refuse_nested(session, file)?,
     }
     Ok(true)
 }

@@ -1,6 +1,7 @@
 //! Going back, and forward again.
 
 use crate::session::Session;
+use crate::told::say_turn;
 use ddt_help::Refusal;
 use ddt_moves::turn_at;
 use ddt_session::{last_at, last_write};
@@ -39,16 +40,17 @@ pub fn back_to_write(session: &mut Session<'_>, place: u32) -> Result<(), AllocE
         return session.refuse(Refusal::NeverWritten);
     };
     if let Some((job, from)) = turn_at(&session.timeline, steps)? {
-        let written = session.spot(session.open, place)?;
-        let writer = session.spot(job, from)?;
-        let line = format!(in session.alloc;
-            "{} was last changed by job {job} at {}\n",
-            written.as_str(),
-            writer.as_str()
-        )?;
-        session.say(line.as_str())?;
+        tell_write(session, place, job, from)?;
     }
     put_back(session, steps)
+}
+
+/// Tells which job last changed a word of the open job, and where that stood.
+fn tell_write(session: &mut Session<'_>, place: u32, job: u8, from: u32) -> Result<(), AllocError> {
+    session.say_spot(session.open, place)?;
+    session.say(" was last changed by ")?;
+    say_turn(session, job, from)?;
+    session.say("\n")
 }
 
 /// `.FORWARD`: to where `.BACK` was typed.

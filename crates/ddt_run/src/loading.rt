@@ -1,50 +1,47 @@
 //! Sources that are assembled, and jobs that are logged in with them.
 
-use crate::asked::Asked;
 use crate::session::{Session, SessionJob};
 use ddt_lines::{Look, Symbol};
 use ddt_moves::{InputLines, StopList};
 use ddt_session::{Entry, Timeline};
 use ddt_show::ShownJob;
-use monitor::{Answer, RefusedEvent};
+use monitor::{Answer, Config, RefusedEvent};
 use source_labels::{Assembled, Places, Program, Source, assemble_source, warnings_of};
 use std::alloc::{AllocError, Global};
 use word36::{JOBS, Word};
 
-/// Programs that were assembled, and what is told of their sources.
-#[derive(Drop)]
-pub struct Programs<'a> {
-    /// The programs; those of right sources alone.
-    pub programs: Vec<Program<'a>>,
-    /// What is wrong with sources, and warnings.
-    pub told: Vec<u8>,
-    /// Whether all are right.
-    pub are_right: bool,
-}
-
-/// Assembles sources.
-pub fn assemble_all<'a>(alloc: Global, sources: &[Source<'a>]) -> Result<Programs<'a>, AllocError> {
-    let mut programs = Vec::new(alloc);
-    let mut told = Vec::new(alloc);
-    let mut are_right = true;
-    for source in sources {
-        match assemble_source(alloc, source)? {
-            Assembled::Program(program) => {
-                let warnings = warnings_of(alloc, program.file, &program.image, &program.places)?;
-                told.extend_from_slice(warnings.as_str().as_bytes())?;
-                programs.push(program)?;
-            }
-            Assembled::Refused(text) => {
-                told.extend_from_slice(text.as_slice())?;
-                are_right = false;
-            }
+/// Assembles a source. What is wrong with it, or warnings, are added to what is told.
+fn assemble<'a>(
+    alloc: Global,
+    source: &Source<'a>,
+    told: &mut Vec<u8>,
+) -> Result<Option<Program<'a>>, AllocError> {
+    match assemble_source(alloc, source)? {
+        Assembled::Program(program) => {
+            let warnings = warnings_of(alloc, program.file, &program.image, &program.places)?;
+            told.extend_from_slice(warnings.as_str().as_bytes())?;
+            Ok(Some(program))
+        }
+        Assembled::Refused(text) => {
+            told.extend_from_slice(text.as_slice())?;
+            Ok(None)
         }
     }
-    Ok(Programs {
-        programs,
-        told,
-        are_right,
-    })
+}
+
+/// The programs of sources, where all are right.
+fn assemble_all<'a>(
+    alloc: Global,
+    sources: &[Source<'a>],
+    told: &mut Vec<u8>,
+) -> Result<Option<Vec<Program<'a>>>, AllocError> {
+    let mut programs = Vec::new(alloc);
+    for source in sources {
+        if let Some(program) = assemble(alloc, source, told)? {
+            programs.push(program)?;
+        }
+    }
+    Ok((programs.len() == sources.len()).then_some(programs))
 }
 
 /// The labels of a program, as symbols.
@@ -94,21 +91,46 @@ fn log_in<'a>(
     Ok(None)
 }
 
-/// Logs programs in at lines from 0 on, none of which is started; gives what is told where one is
-/// refused.
-pub fn log_in_all<'a>(
+/// Says why a program cannot be logged in.
+fn tell_refusal(
+    alloc: Global,
+    file: &str,
+    refusal: RefusedEvent,
+    told: &mut Vec<u8>,
+) -> Result<(), AllocError> {
+    let reason = refusal_text(refusal);
+    let line = format!(in alloc; "{file}: {reason}\n")?;
+    told.extend_from_slice(line.as_str().as_bytes())
+}
+
+/// Logs programs in at lines from 0 on, none of which is started; false where one is refused.
+fn log_in_all<'a>(
     session: &mut Session<'a>,
     programs: Vec<Program<'a>>,
-) -> Result<Option<String>, AllocError> {
+    told: &mut Vec<u8>,
+) -> Result<bool, AllocError> {
     for program in programs {
         let file = program.file;
         if let Some(refusal) = log_in(session, program)? {
-            let reason = refusal_text(refusal);
-            return Ok(Some(format!(in session.alloc; "{file}: {reason}\n")?));
+            tell_refusal(session.alloc, file, refusal, told)?;
+            return Ok(false);
         }
     }
     session.here = place_of_first(session);
-    Ok(None)
+    Ok(true)
+}
+
+/// Assembles sources, and logs their programs in where all are right; false where one of them or of the
+/// programs is refused. What is told of that, and warnings, are added to `told`.
+pub fn begin<'a>(
+    session: &mut Session<'a>,
+    sources: &[Source<'a>],
+    told: &mut Vec<u8>,
+) -> Result<bool, AllocError> {
+    match assemble_all(session.alloc, sources, told)? {
+        Some(programs) => log_in_all(session, programs, told),
+        None => Ok(false),
+    }
 }
 
 /// Where the first job stands.
@@ -120,15 +142,10 @@ fn place_of_first(session: &Session<'_>) -> u32 {
 }
 
 /// A session without jobs, whose first will be open, and where nothing was looked at.
-pub fn new_session<'a>(
-    alloc: Global,
-    asked: &Asked<'a>,
-    input: InputLines,
-) -> Result<Session<'a>, AllocError> {
-    let timeline = Timeline::new(alloc, asked.config)?;
+pub fn new_session<'a>(alloc: Global, config: Config) -> Result<Session<'a>, AllocError> {
     Ok(Session {
         alloc,
-        timeline,
+        timeline: Timeline::new(alloc, config)?,
         jobs: Vec::new(alloc),
         open: 1,
         look: Look::Symbolic,
@@ -136,7 +153,7 @@ pub fn new_session<'a>(
         is_open: false,
         last: Word::new(0),
         list: StopList::new(),
-        input,
+        input: InputLines::none(alloc),
         edited: None,
         text: Vec::new(alloc),
         kept: Vec::new(alloc),

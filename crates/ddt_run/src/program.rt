@@ -4,7 +4,7 @@ ghost use Rattle.std.specs.Prelude.{◌≡◌, ◌≢◌, false};
 use crate::asked::Asked;
 use crate::dialogue::{Dialogue, serve_lines};
 use crate::files::read_file;
-use crate::loading::{assemble_all, log_in_all, new_session};
+use crate::loading::{begin, new_session};
 use crate::session::Session;
 use crate::words::read_words;
 use ddt_moves::InputLines;
@@ -12,7 +12,7 @@ use line_ports::{Answers, Failure, LineReader};
 use run_facts::{DONE, FAILED, REFUSED, USAGE};
 use run_words::Refusal;
 use script_io::{ByteIn, ByteOut};
-use source_labels::{Program, Source};
+use source_labels::Source;
 use std::alloc::Global;
 use std::convert::AsStr;
 use std::io::ErrorKind;
@@ -40,8 +40,8 @@ fn read_or_tell<F: Files + AllocGlobal, E: ByteOut + Drop>(
     match read_file(rt, file)? {
         Ok(text) => Ok(Some(text)),
         Err(reason) => {
-            let text = format!(in rt.alloc(); "ddt: {file}: {reason}\n")?;
-            errors.write(text.as_str().as_bytes())?;
+            errors.write(b"ddt: ")?;
+            errors.write(reason.as_str().as_bytes())?;
             Ok(None)
         }
     }
@@ -63,17 +63,24 @@ fn read_sources<'a, F: Files + AllocGlobal, E: ByteOut + Drop>(
     Ok(Some(sources))
 }
 
-/// The lines of the input, or none where no file is named; `None` where the file cannot be read.
+/// Reads the lines that are typed where a job waits, if a file of them is named; false where it cannot be
+/// read, which is told.
 fn read_input<F: Files + AllocGlobal, E: ByteOut + Drop>(
     rt: &F,
     asked: &Asked<'_>,
+    session: &mut Session<'_>,
     errors: &mut Answers<E>,
-) -> Result<Option<InputLines>, Failure> {
+) -> Result<bool, Failure> {
     let Some(file) = asked.input else {
-        return Ok(Some(InputLines::none(rt.alloc())));
+        return Ok(true);
     };
-    let text = read_or_tell(rt, file, errors)?;
-    Ok(text.map(|text| InputLines::new(rt.alloc(), text)))
+    match read_or_tell(rt, file, errors)? {
+        Some(text) => {
+            session.input = InputLines::new(session.alloc, text);
+            Ok(true)
+        }
+        None => Ok(false),
+    }
 }
 
 /// Says why the words were refused, or on `writer` the help or the version that they asked for.
@@ -107,40 +114,37 @@ fn tell_failure<E: ByteOut + Drop>(alloc: Global, failure: Failure, errors: &mut
     FAILED
 }
 
-/// What a session begins with.
-#[derive(Drop)]
-struct Loaded<'a> {
-    /// The programs.
-    programs: Vec<Program<'a>>,
-    /// What is typed where a job waits for characters.
-    input: InputLines,
+/// Assembles sources and logs their programs in; gives the exit status where one is refused.
+fn begin_telling<'a, E: ByteOut + Drop>(
+    session: &mut Session<'a>,
+    sources: &[Source<'a>],
+    errors: &mut Answers<E>,
+) -> Result<Option<u8>, Failure> {
+    let mut told = Vec::new(session.alloc);
+    let is_right = begin(session, sources, &mut told)?;
+    errors.write(told.as_slice())?;
+    Ok((!is_right).then_some(REFUSED))
 }
 
-/// Reads and assembles what is asked for; gives the exit status where that fails, which is told.
+/// Reads what is asked for, and logs a job in for each source; gives the exit status where that fails,
+/// which is told.
 fn load<'a, F: Files + AllocGlobal, E: ByteOut + Drop>(
     rt: &F,
     asked: &Asked<'a>,
+    session: &mut Session<'a>,
     errors: &mut Answers<E>,
-) -> Result<Result<Loaded<'a>, u8>, Failure> {
+) -> Result<Option<u8>, Failure> {
     let Some(sources) = read_sources(rt, asked.files.as_slice(), errors)? else {
-        return Ok(Err(FAILED));
+        return Ok(Some(FAILED));
     };
-    let Some(input) = read_input(rt, asked, errors)? else {
-        return Ok(Err(FAILED));
-    };
-    let assembled = assemble_all(rt.alloc(), sources.as_slice())?;
-    errors.write(assembled.told.as_slice())?;
-    if !assembled.are_right {
-        return Ok(Err(REFUSED));
+    if !read_input(rt, asked, session, errors)? {
+        return Ok(Some(FAILED));
     }
-    Ok(Ok(Loaded {
-        programs: assembled.programs,
-        input,
-    }))
+    begin_telling(session, sources.as_slice(), errors)
 }
 
-/// Logs programs in and serves lines, until the session ends; gives the exit status.
-fn serve_programs<
+/// Serves a session that has no jobs yet, and gives the exit status.
+fn serve_session<
     'a,
     F: Files + AllocGlobal,
     R: ByteIn + Drop,
@@ -148,28 +152,27 @@ fn serve_programs<
     E: ByteOut + Drop,
 >(
     rt: &F,
+    asked: &Asked<'a>,
     session: &mut Session<'a>,
-    programs: Vec<Program<'a>>,
     dialogue: &mut Dialogue<R, W, E>,
 ) -> Result<u8, Failure> {
-    if let Some(told) = log_in_all(session, programs)? {
-        dialogue.errors.write(told.as_str().as_bytes())?;
-        return Ok(REFUSED);
+    if let Some(status) = load(rt, asked, session, &mut dialogue.errors)? {
+        return Ok(status);
     }
     serve_lines(rt, session, dialogue)?;
     Ok(DONE)
 }
 
-/// Serves a session on what was loaded, and gives the exit status.
-fn serve_loaded<'a, F: Files + AllocGlobal, R: ByteIn + Drop, W: ByteOut + Drop, E: ByteOut + Drop>(
+/// Serves what is asked for, and gives the exit status.
+fn serve_asked<F: Files + AllocGlobal, R: ByteIn + Drop, W: ByteOut + Drop, E: ByteOut + Drop>(
     rt: &F,
-    asked: &Asked<'a>,
-    loaded: Loaded<'a>,
+    asked: &Asked<'_>,
     dialogue: &mut Dialogue<R, W, E>,
 ) -> Result<u8, Failure> {
-    let Loaded { programs, input } = loaded;
-    let mut session = new_session(rt.alloc(), asked, input)?;
-    serve_programs(rt, &mut session, programs, dialogue)
+    match new_session(rt.alloc(), asked.config) {
+        Ok(mut session) => serve_session(rt, asked, &mut session, dialogue),
+        Err(_) => Err(Failure::Memory),
+    }
 }
 
 /// The program, but for what is said of a failure.
@@ -179,15 +182,9 @@ fn serve<F: Files + AllocGlobal, S: AsStr, R: ByteIn + Drop, W: ByteOut + Drop, 
     dialogue: &mut Dialogue<R, W, E>,
 ) -> Result<u8, Failure> {
     let alloc = rt.alloc();
-    let asked = match read_words(alloc, words) {
-        Ok(asked) => asked,
-        Err(refusal) => {
-            return tell_refusal(alloc, refusal, &mut dialogue.output, &mut dialogue.errors);
-        }
-    };
-    match load(rt, &asked, &mut dialogue.errors)? {
-        Ok(loaded) => serve_loaded(rt, &asked, loaded, dialogue),
-        Err(status) => Ok(status),
+    match read_words(alloc, words) {
+        Ok(asked) => serve_asked(rt, &asked, dialogue),
+        Err(refusal) => tell_refusal(alloc, refusal, &mut dialogue.output, &mut dialogue.errors),
     }
 }
 

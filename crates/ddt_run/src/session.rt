@@ -117,12 +117,24 @@ impl Session<'_> {
     }
 
     /// A place of a job: `LOOP+3`.
-    pub fn spot(&self, job: u8, place: u32) -> Result<String, AllocError> {
+    fn spot(&self, job: u8, place: u32) -> Result<String, AllocError> {
         let at = usize::from(job).saturating_sub(1);
         match self.jobs.as_slice().get(at) {
             Some(job) => place_text(self.alloc, &job.shown, place),
             None => format!(in self.alloc; "{place:o}"),
         }
+    }
+
+    /// Adds a place of a job.
+    pub fn say_spot(&mut self, job: u8, place: u32) -> Result<(), AllocError> {
+        let spot = self.spot(job, place)?;
+        self.say(spot.as_str())
+    }
+
+    /// Adds a number in decimal.
+    pub fn say_number(&mut self, number: u64) -> Result<(), AllocError> {
+        let number = format!(in self.alloc; "{number}")?;
+        self.say(number.as_str())
     }
 
     /// Adds a place of the open job and its word, as words are shown, without the end of the line.

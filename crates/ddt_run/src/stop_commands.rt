@@ -34,16 +34,29 @@ pub fn unset(session: &mut Session<'_>, number: u8) -> Result<(), AllocError> {
     Ok(())
 }
 
+/// The line on a place of a job where runs stop.
+fn say_stop(session: &mut Session<'_>, head: &str, job: u8, place: u32) -> Result<(), AllocError> {
+    session.say(head)?;
+    session.say(" job ")?;
+    session.say_number(u64::from(job))?;
+    session.say(" ")?;
+    session.say_spot(job, place)?;
+    session.say("\n")
+}
+
 /// The line on a breakpoint: `$1B job 1 LOOP+3`.
 fn tell_breakpoint(
     session: &mut Session<'_>,
     number: usize,
     breakpoint: Breakpoint,
 ) -> Result<(), AllocError> {
-    let job = breakpoint.job;
-    let place = session.spot(job, breakpoint.place.number())?;
-    let line = format!(in session.alloc; "${number}B job {job} {}\n", place.as_str())?;
-    session.say(line.as_str())
+    let head = format!(in session.alloc; "${number}B")?;
+    say_stop(
+        session,
+        head.as_str(),
+        breakpoint.job,
+        breakpoint.place.number(),
+    )
 }
 
 /// The line on a watched word: `watched job 1 COUNT`.
@@ -52,10 +65,7 @@ fn tell_watched(
     head: &str,
     word: WatchedWord,
 ) -> Result<(), AllocError> {
-    let job = word.job;
-    let place = session.spot(job, word.place)?;
-    let line = format!(in session.alloc; "{head} job {job} {}\n", place.as_str())?;
-    session.say(line.as_str())
+    say_stop(session, head, word.job, word.place)
 }
 
 /// The breakpoint at a place of the list, if one is set there.

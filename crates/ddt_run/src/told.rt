@@ -23,24 +23,32 @@ fn tell_breakpoint(
     Ok(())
 }
 
-/// A word in octal.
-fn octal_of(session: &Session<'_>, word: Option<Word>) -> Result<String, AllocError> {
+/// Adds a word in octal.
+fn say_word(session: &mut Session<'_>, word: Option<Word>) -> Result<(), AllocError> {
     match word {
-        Some(word) => String::from_str(session.alloc, word.octal().as_str()),
-        None => String::from_str(session.alloc, "no word"),
+        Some(word) => session.say(word.octal().as_str()),
+        None => session.say("no word"),
     }
 }
 
-/// By whom a word was changed in the last step that was made: ` by job 1 at LOOP+3`.
-fn writer_text(session: &Session<'_>) -> Result<String, AllocError> {
+/// Adds by whom a word was changed in the last step that was made: ` by job 1 at LOOP+3`.
+fn say_writer(session: &mut Session<'_>) -> Result<(), AllocError> {
     let steps = session.timeline.steps().saturating_sub(1);
     match turn_at(&session.timeline, steps)? {
         Some((job, place)) => {
-            let place = session.spot(job, place)?;
-            format!(in session.alloc; " by job {job} at {}", place.as_str())
+            session.say(" by ")?;
+            say_turn(session, job, place)
         }
-        None => Ok(String::new(session.alloc)),
+        None => Ok(()),
     }
+}
+
+/// Adds where a job stood: `job 1 at LOOP+3`.
+pub fn say_turn(session: &mut Session<'_>, job: u8, place: u32) -> Result<(), AllocError> {
+    session.say("job ")?;
+    session.say_number(u64::from(job))?;
+    session.say(" at ")?;
+    session.say_spot(job, place)
 }
 
 /// A run ended since a word of a job changed, which is open from here on.
@@ -51,18 +59,14 @@ fn tell_change(
     was: Option<Word>,
 ) -> Result<(), AllocError> {
     session.open = job;
-    let name = session.spot(job, place)?;
-    let old = octal_of(session, was)?;
-    let new = octal_of(session, session.machine().peek(job, place))?;
-    let writer = writer_text(session)?;
-    let line = format!(in session.alloc;
-        "{} was {}, is {}, changed{}\n",
-        name.as_str(),
-        old.as_str(),
-        new.as_str(),
-        writer.as_str()
-    )?;
-    session.say(line.as_str())?;
+    session.say_spot(job, place)?;
+    session.say(" was ")?;
+    say_word(session, was)?;
+    session.say(", is ")?;
+    say_word(session, session.machine().peek(job, place))?;
+    session.say(", changed")?;
+    say_writer(session)?;
+    session.say("\n")?;
     session.show_next()
 }
 
