@@ -135,40 +135,66 @@ fn halves(reader: &mut Reader<'_>, scope: &Scope<'_>) -> Result<Word, Wrong> {
     Ok(Word::join(first.right(), second.right()))
 }
 
+/// The address of an instruction.
+#[derive(Clone, Copy)]
+struct Operand {
+    /// Whether `@` stands before it.
+    is_indirect: bool,
+    /// Its 18 bits.
+    address: u32,
+}
+
+/// An address with or without `@`; 0 where none stands before an index register, or where none is written
+/// and none has to be.
+fn read_operand(
+    reader: &mut Reader<'_>,
+    scope: &Scope<'_>,
+    may_be_empty: bool,
+) -> Result<Operand, Wrong> {
+    reader.skip();
+    let is_indirect = reader.eat(b'@');
+    let is_empty = may_be_empty && reader.rest.is_empty();
+    let address = if is_empty || reader.rest.starts_with(b"(".as_slice()) {
+        0
+    } else {
+        sum(reader, scope)?.right()
+    };
+    Ok(Operand {
+        is_indirect,
+        address,
+    })
+}
+
+/// The index register between parentheses, or 0.
+fn index_register(reader: &mut Reader<'_>, scope: &Scope<'_>) -> Result<u32, Wrong> {
+    if !reader.eat(b'(') {
+        return Ok(0);
+    }
+    let index = sum(reader, scope)?;
+    if !reader.eat(b')') {
+        return Err(Wrong::NoParenthesis);
+    }
+    Ok(index.right() & 0o17)
+}
+
 /// Puts an accumulator, an address and an index register to an instruction.
 fn with_operands(reader: &mut Reader<'_>, scope: &Scope<'_>, word: Word) -> Result<Word, Wrong> {
-    let mut number = word.number();
     reader.skip();
     if reader.rest.is_empty() {
         return Ok(word);
     }
-    let mut is_indirect = reader.eat(b'@');
-    let mut address = if reader.rest.starts_with(b"(".as_slice()) {
-        Word::new(0)
-    } else {
-        sum(reader, scope)?
-    };
-    if !is_indirect && reader.eat(b',') {
-        number |= u64::from(address.right() & 0o17) << 23;
-        reader.skip();
-        is_indirect = reader.eat(b'@');
-        address = if reader.rest.is_empty() || reader.rest.starts_with(b"(".as_slice()) {
-            Word::new(0)
-        } else {
-            sum(reader, scope)?
-        };
+    let mut accumulator = 0;
+    let mut last = read_operand(reader, scope, false)?;
+    if !last.is_indirect && reader.eat(b',') {
+        accumulator = last.address & 0o17;
+        last = read_operand(reader, scope, true)?;
     }
-    if is_indirect {
-        number |= 1 << 22;
-    }
-    number |= u64::from(address.right());
-    if reader.eat(b'(') {
-        let index = sum(reader, scope)?;
-        number |= u64::from(index.right() & 0o17) << 18;
-        if !reader.eat(b')') {
-            return Err(Wrong::NoParenthesis);
-        }
-    }
+    let index = index_register(reader, scope)?;
+    let number = word.number()
+        | u64::from(accumulator) << 23
+        | u64::from(last.is_indirect) << 22
+        | u64::from(index) << 18
+        | u64::from(last.address);
     Ok(Word::low_bits(number))
 }
 
