@@ -3,7 +3,7 @@
 use std::alloc::AllocError;
 
 /// Each command, and what it does: that stands behind so many characters.
-const COMMANDS: [&str; 39] = [
+static COMMANDS: [&str; 39] = [
     "a/               opens a place and shows its word",
     "(empty)          the next place; ^ the one before; TAB the one that the last word addresses",
     "value            puts the value in the place that is open",
