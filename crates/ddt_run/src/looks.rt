@@ -40,8 +40,9 @@ pub fn open_addressed(session: &mut Session<'_>) -> Result<(), AllocError> {
 }
 
 /// Shows words so from here on.
-pub fn show_as(session: &mut Session<'_>, look: Look) {
+pub fn show_as(session: &mut Session<'_>, look: Look) -> Result<(), AllocError> {
     session.look = look;
+    Ok(())
 }
 
 /// Tells the last quantity, shown so.

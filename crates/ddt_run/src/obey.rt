@@ -61,89 +61,45 @@ fn wish_of<'a>(read: &Result<Command<'a>, Wrong>) -> Wish<'a> {
 
 /// Does what a command asks of the session.
 fn obey(session: &mut Session<'_>, command: &Command<'_>) -> Result<(), AllocError> {
-    let is_done = obey_telling(session, command)?
-        || obey_looking(session, command)?
-        || obey_stops(session, command)?
-        || obey_running(session, command)?;
-    if is_done {
-        return Ok(());
-    }
-    obey_changing(session, command)
-}
-
-/// Obeys a command that tells of the session; false where it is none of these.
-fn obey_telling(session: &mut Session<'_>, command: &Command<'_>) -> Result<bool, AllocError> {
     match *command {
-        Command::Help(word) => tell_help(session, word)?,
-        Command::Job(number) => open_job(session, number)?,
-        Command::Jobs => tell_jobs(session)?,
-        Command::Locks => tell_locks(session)?,
-        Command::Waits => tell_waits(session)?,
-        Command::Registers => tell_registers(session)?,
-        Command::History(count) => tell_history(session, count)?,
-        _ => return Ok(false),
-    }
-    Ok(true)
-}
-
-/// Obeys a command that looks at words; false where it is none of these.
-fn obey_looking(session: &mut Session<'_>, command: &Command<'_>) -> Result<bool, AllocError> {
-    match *command {
-        Command::Next => open_next(session)?,
-        Command::Before => open_before(session)?,
-        Command::Addressed => open_addressed(session)?,
-        Command::Open(place) => open(session, place)?,
-        Command::Tell(word) => tell_value(session, word)?,
-        Command::Last(last) => tell_last(session, last)?,
-        Command::Examine(first, last) => examine(session, first, last)?,
-        Command::Search(wanted) => search(session, &wanted)?,
-        Command::Show(look) => show_as(session, look),
-        _ => return Ok(false),
-    }
-    Ok(true)
-}
-
-/// Obeys a command on where runs stop; false where it is none of these.
-fn obey_stops(session: &mut Session<'_>, command: &Command<'_>) -> Result<bool, AllocError> {
-    match *command {
-        Command::Break(place, number) => set(session, place, number)?,
-        Command::Unbreak(number) => unset(session, number)?,
-        Command::Breaks => tell_stops(session)?,
-        Command::Watch(place) => watch(session, place)?,
-        Command::BreakCircle => stop_at_circles(session)?,
-        Command::BreakLock(name) => stop_at_lock(session, name)?,
-        Command::BreakGrant => stop_at_grants(session)?,
-        _ => return Ok(false),
-    }
-    Ok(true)
-}
-
-/// Obeys a command that runs the machine or puts it back; false where it is none of these.
-fn obey_running(session: &mut Session<'_>, command: &Command<'_>) -> Result<bool, AllocError> {
-    match *command {
-        Command::Go => go(session)?,
-        Command::GoAt(place) => start_at(session, place)?,
-        Command::Proceed(times) => proceed(session, times)?,
-        Command::Execute(count) => execute(session, count)?,
-        Command::ExecuteCall => execute_call(session)?,
-        Command::Step(count) => step(session, count)?,
-        Command::Back(steps) => back(session, steps)?,
-        Command::BackTo(place) => back_to(session, place)?,
-        Command::BackWrite(place) => back_to_write(session, place)?,
-        Command::Forward => forward(session)?,
-        _ => return Ok(false),
-    }
-    Ok(true)
-}
-
-/// Obeys a command that changes the machine by hand.
-fn obey_changing(session: &mut Session<'_>, command: &Command<'_>) -> Result<(), AllocError> {
-    match *command {
+        Command::Next => open_next(session),
+        Command::Before => open_before(session),
+        Command::Addressed => open_addressed(session),
+        Command::Open(place) => open(session, place),
         Command::Deposit(word) => deposit(session, word),
+        Command::Tell(word) => tell_value(session, word),
+        Command::Show(look) => show_as(session, look),
+        Command::Last(last) => tell_last(session, last),
+        Command::Examine(first, last) => examine(session, first, last),
+        Command::Search(wanted) => search(session, &wanted),
+        Command::Break(place, number) => set(session, place, number),
+        Command::Unbreak(number) => unset(session, number),
+        Command::Breaks => tell_stops(session),
+        Command::Watch(place) => watch(session, place),
+        Command::BreakLock(name) => stop_at_lock(session, name),
+        Command::BreakGrant => stop_at_grants(session),
+        Command::BreakCircle => stop_at_circles(session),
+        Command::Go => go(session),
+        Command::GoAt(place) => start_at(session, place),
+        Command::Proceed(times) => proceed(session, times),
+        Command::Execute(count) => execute(session, count),
+        Command::ExecuteCall => execute_call(session),
+        Command::Step(count) => step(session, count),
         Command::Tick(count) => tick(session, count),
         Command::Type(line, text) => type_at(session, line, text),
         Command::Take => take(session),
-        _ => Ok(()),
+        Command::Back(steps) => back(session, steps),
+        Command::BackTo(place) => back_to(session, place),
+        Command::BackWrite(place) => back_to_write(session, place),
+        Command::Forward => forward(session),
+        Command::Job(number) => open_job(session, number),
+        Command::Jobs => tell_jobs(session),
+        Command::Locks => tell_locks(session),
+        Command::Waits => tell_waits(session),
+        Command::Registers => tell_registers(session),
+        Command::History(count) => tell_history(session, count),
+        Command::Help(word) => tell_help(session, word),
+        Command::Remark | Command::Save(_) | Command::Do(_) | Command::Quit => Ok(()),
     }
 }
 
