@@ -4,8 +4,8 @@ use crate::asked::Asked;
 use crate::texts;
 use clap::{Arg, ArgMatches, Command};
 use run_words::{
-    Refusal, Wrong, config_in, files_in, make_command, make_flag, make_option, matches_of, number_of,
-    refused, with_files,
+    Refusal, Wrong, config_in, files_in, make_command, make_flag, make_option, matches_of,
+    number_of, refused, with_files,
 };
 use std::alloc::{AllocError, Global};
 use std::convert::AsStr;
