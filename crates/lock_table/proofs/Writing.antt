@@ -1,7 +1,7 @@
 -- One change is made.
 use Rattle.std.proofs.Common.{◌≡◌, ◌≤◌, ◌<◌, ◌∙◌, sym, ap, subst, ℕ, zero, suc, add-one, Bool, true, false, ◌&&◌, ◌==◌, not, cond, List, [], ◌∷◌, ◌++◌}
 use Rattle.std.proofs.Common.{length, take, drop, get_or, slice_get, map, sum_by, min, Some, None, inl, inr, refl, arith}
-use Rattle.std.specs.List.{All, list_all, list_any, position_or_len}
+use Rattle.std.specs.List.{All, find, list_all, list_any, position_or_len}
 use Rattle.std.proofs.Math.Nat.{le-min, min-le_left, min-le_right}
 use Rattle.std.proofs.lemmas.Bool.{both_ways, cases_eq, cases_lt, eq-eqb, eqb-true, false_from_ne_true, ne_eqb, or_cases, or_left, or_right}
 use Rattle.std.proofs.lemmas.List.{length-map, length-set}
@@ -32,13 +32,14 @@ use Rattle.key_queues.specs.Tables.{is_there, own_wants}
 use Rattle.key_queues.proofs.Beginnings.{alike-Has}
 use Rattle.key_queues.proofs.Changing.{changing_keeps, counts_counting}
 use Rattle.key_queues.proofs.Counting.{no_pool}
-use Rattle.key_queues.proofs.Finding.{open_parts, open_within}
+use Rattle.key_queues.proofs.Finding.{find_passes, open_parts, open_within}
 use Rattle.key_queues.proofs.Opening.{used_open, used_same}
 use Rattle.key_queues.proofs.Places.{split_at, take_Has}
 use Rattle.key_queues.proofs.Using.{kept_there, lock_with, queue_of_want}
 use Rattle.table_reads.specs.Filing.{state_of, want_filed}
 use Rattle.table_reads.specs.Reads.{request_at}
 use Rattle.table_reads.specs.Whole.{requests_in}
+use Rattle.table_reads.proofs.Telling.{find_there}
 use Rattle.lock_table.specs.Changing.{Altered, IsBetween, altered_at, changed_by, changed_once, loses_by, want_then}
 use Rattle.lock_table.proofs.Altering.{job_changed, named_changed, set_is_changed, unnamed_wants}
 use Rattle.lock_table.proofs.Filing.{filed_with, place_within}
@@ -390,3 +391,11 @@ pub queued_named : (s : Stored) (locks : List Lock) (n x : ℕ) (key : Key) → 
 queued_named s locks n x key kept used of present named =
     subst (λ l. is_there x l ≡ true) (sym (counts s locks n kept used).places)
     (kept_there (λ y. names (request_at s y).wants.items (lock_at locks n).key) x s.order present (ap (names (request_at s x).wants.items) of ∙ named))
+
+-- the first of some places whose request is the job's
+pub found_of_job : (s : Stored) (job : ℕ) (places : List ℕ) (p : ℕ) → find (λ q. (request_at s q).job == job) places ≡ Some p
+    → (is_there p places ≡ true) × ((request_at s p).job ≡ job)
+found_of_job s job places p found = (
+  find_there (λ q. (request_at s q).job == job) places p found,
+  eqb-true (request_at s p).job job (find_passes (λ q. (request_at s q).job == job) places p found),
+)

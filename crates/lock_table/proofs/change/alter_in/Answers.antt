@@ -1,13 +1,10 @@
-use Rattle.std.proofs.Common.{◌≡◌, ◌<◌, ◌∙◌, ◌==◌, sym, Some, None, true, length, lit<}
-use Rattle.std.specs.List.{find}
-use Rattle.std.proofs.lemmas.Bool.{both_ways, eq-eqb, eqb-true}
+use Rattle.std.proofs.Common.{◌≡◌, ◌<◌, ◌∙◌, ◌==◌, sym, None, length, lit<}
+use Rattle.std.proofs.lemmas.Bool.{both_ways, eq-eqb}
 use Rattle.key_queues.specs.Locks.{lock_at}
-use Rattle.key_queues.specs.Tables.{is_there}
-use Rattle.key_queues.proofs.Finding.{find_misses, find_passes, open_parts, open_within}
+use Rattle.key_queues.proofs.Finding.{find_misses, open_parts, open_within}
 use Rattle.table_reads.specs.Reads.{request_at}
-use Rattle.table_reads.proofs.Telling.{find_there}
 use Rattle.lock_table.proofs.Recounting.{all_free, all_there, no_size, wanted_at}
-use Rattle.lock_table.proofs.Writing.{queued_named, some_there, written}
+use Rattle.lock_table.proofs.Writing.{found_of_job, queued_named, some_there, written}
 use Rattle.lock_table.proofs.change.alter_in.Goals as goal
 
 pub counted_then-k-requires : goal.counted_then-k-requires
@@ -16,7 +13,6 @@ counted_then-k-requires g c =
     let locks = c.args.locks.now in
     let n = c.args.n in
     let b = c.requires.between in
-    let sound = c.requires.sound in
     let parts = open_parts c.args.c.now.key (lock_at locks n) c.requires.lock in
     let lt : n < length locks = open_within locks n parts.0 in
     let used = b.used n parts.0 in
@@ -43,11 +39,9 @@ place_of-requires g c =
     let locks = c.args.locks.now in
     let n = c.args.n in
     let b = c.requires.between in
-    let sound = c.requires.sound in
     let parts = open_parts c.args.c.now.key (lock_at locks n) c.requires.lock in
     let lt : n < length locks = open_within locks n parts.0 in
     let used = b.used n parts.0 in
-    let none : (lock_at locks n).size ≡ None = no_size (lock_at locks n).size (sym c.is_pool.ensures ∙ c.if-is_pool.false) in
     (lit< tt, (lt, all_there s locks n b.kept used))
 
 pub alter_want-requires : goal.alter_want-requires
@@ -56,15 +50,10 @@ alter_want-requires g c =
     let locks = c.args.locks.now in
     let n = c.args.n in
     let b = c.requires.between in
-    let sound = c.requires.sound in
     let parts = open_parts c.args.c.now.key (lock_at locks n) c.requires.lock in
-    let lt : n < length locks = open_within locks n parts.0 in
-    let used = b.used n parts.0 in
-    let none : (lock_at locks n).size ≡ None = no_size (lock_at locks n).size (sym c.is_pool.ensures ∙ c.if-is_pool.false) in
-    let found : find (λ p. (request_at s p).job == c.args.job) (lock_at locks n).queue.places ≡ Some c.in-Some.p = sym c.place_of.ensures ∙ c.in-Some.is in
-    let queued : is_there c.in-Some.p (lock_at locks n).queue.places ≡ true =
-    find_there (λ p. (request_at s p).job == c.args.job) (lock_at locks n).queue.places c.in-Some.p found in
-    let w = wanted_at s locks n b.kept used c.in-Some.p queued in
+    let found =
+    found_of_job s c.args.job (lock_at locks n).queue.places c.in-Some.p (sym c.place_of.ensures ∙ c.in-Some.is) in
+    let w = wanted_at s locks n b.kept (b.used n parts.0) c.in-Some.p found.0 in
     (lit< tt, (w.present, w.within))
 
 pub returns-in-Some-clause-between : goal.returns-in-Some-clause-between
@@ -72,42 +61,24 @@ returns-in-Some-clause-between g c =
     let s = c.args.store.now in
     let locks = c.args.locks.now in
     let n = c.args.n in
-    let b = c.requires.between in
-    let sound = c.requires.sound in
-    let parts = open_parts c.args.c.now.key (lock_at locks n) c.requires.lock in
-    let lt : n < length locks = open_within locks n parts.0 in
-    let used = b.used n parts.0 in
-    let none : (lock_at locks n).size ≡ None = no_size (lock_at locks n).size (sym c.is_pool.ensures ∙ c.if-is_pool.false) in
-    let found : find (λ p. (request_at s p).job == c.args.job) (lock_at locks n).queue.places ≡ Some c.in-Some.p = sym c.place_of.ensures ∙ c.in-Some.is in
-    let queued : is_there c.in-Some.p (lock_at locks n).queue.places ≡ true =
-    find_there (λ p. (request_at s p).job == c.args.job) (lock_at locks n).queue.places c.in-Some.p found in
-    let mine : (request_at s c.in-Some.p).job ≡ c.args.job =
-    eqb-true (request_at s c.in-Some.p).job c.args.job
-    (find_passes (λ p. (request_at s p).job == c.args.job) (lock_at locks n).queue.places c.in-Some.p found) in
-    (written s locks c.args.keys.now.buckets.items n c.in-Some.p c.args.job c.args.c.now b c.requires.lock none queued mine
-    sound.safe c.alter_want.new.store c.recount.new.locks c.counted_then-k.result c.first_then-first.result
-    c.alter_want.ensures c.recount.ensures c.counted_then-k.ensures c.first_then-first.ensures).0
+    let none = no_size (lock_at locks n).size (sym c.is_pool.ensures ∙ c.if-is_pool.false) in
+    let found =
+    found_of_job s c.args.job (lock_at locks n).queue.places c.in-Some.p (sym c.place_of.ensures ∙ c.in-Some.is) in
+    (written s locks c.args.keys.now.buckets.items n c.in-Some.p c.args.job c.args.c.now c.requires.between c.requires.lock none
+    found.0 found.1 c.requires.sound.safe c.alter_want.new.store c.recount.new.locks c.counted_then-k.result
+    c.first_then-first.result c.alter_want.ensures c.recount.ensures c.counted_then-k.ensures c.first_then-first.ensures).0
 
 pub returns-in-Some-clause-altered : goal.returns-in-Some-clause-altered
 returns-in-Some-clause-altered g c =
     let s = c.args.store.now in
     let locks = c.args.locks.now in
     let n = c.args.n in
-    let b = c.requires.between in
-    let sound = c.requires.sound in
-    let parts = open_parts c.args.c.now.key (lock_at locks n) c.requires.lock in
-    let lt : n < length locks = open_within locks n parts.0 in
-    let used = b.used n parts.0 in
-    let none : (lock_at locks n).size ≡ None = no_size (lock_at locks n).size (sym c.is_pool.ensures ∙ c.if-is_pool.false) in
-    let found : find (λ p. (request_at s p).job == c.args.job) (lock_at locks n).queue.places ≡ Some c.in-Some.p = sym c.place_of.ensures ∙ c.in-Some.is in
-    let queued : is_there c.in-Some.p (lock_at locks n).queue.places ≡ true =
-    find_there (λ p. (request_at s p).job == c.args.job) (lock_at locks n).queue.places c.in-Some.p found in
-    let mine : (request_at s c.in-Some.p).job ≡ c.args.job =
-    eqb-true (request_at s c.in-Some.p).job c.args.job
-    (find_passes (λ p. (request_at s p).job == c.args.job) (lock_at locks n).queue.places c.in-Some.p found) in
-    (written s locks c.args.keys.now.buckets.items n c.in-Some.p c.args.job c.args.c.now b c.requires.lock none queued mine
-    sound.safe c.alter_want.new.store c.recount.new.locks c.counted_then-k.result c.first_then-first.result
-    c.alter_want.ensures c.recount.ensures c.counted_then-k.ensures c.first_then-first.ensures).1
+    let none = no_size (lock_at locks n).size (sym c.is_pool.ensures ∙ c.if-is_pool.false) in
+    let found =
+    found_of_job s c.args.job (lock_at locks n).queue.places c.in-Some.p (sym c.place_of.ensures ∙ c.in-Some.is) in
+    (written s locks c.args.keys.now.buckets.items n c.in-Some.p c.args.job c.args.c.now c.requires.between c.requires.lock none
+    found.0 found.1 c.requires.sound.safe c.alter_want.new.store c.recount.new.locks c.counted_then-k.result
+    c.first_then-first.result c.alter_want.ensures c.recount.ensures c.counted_then-k.ensures c.first_then-first.ensures).1
 
 pub returns-in_default-clause-altered : goal.returns-in_default-clause-altered
 returns-in_default-clause-altered g c =
