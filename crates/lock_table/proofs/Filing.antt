@@ -211,12 +211,16 @@ pub given_up : (store middle then : Stored) (locks more : List Lock) (p k : ℕ)
     → IsKept (state_of store locks)
     → FlagsAll (state_of store locks)
     → is_there p store.order ≡ true
-    → GivesUpAt (state_of store locks) (state_of then more) p k
+    → k < length (filed_at store p).queues.items
+    → middle ≡ with_filed store p (without_want (filed_at store p) k)
+    → more ≡ with_queue locks (own_at store p k) (without_place (lock_at locks (own_at store p k)).queue p (want_at store p k))
     → Renews (state_of middle more) (state_of then more) p
     → IsKept (state_of then more) × FlagsAll (state_of then more)
     × (CountsAll (state_of store locks) → CountsBut (own_at store p k) (state_of then more)) × IsCounted (state_of then more) (own_at store p k)
-given_up store middle then locks more p k kept flags present gives renews =
+given_up store middle then locks more p k kept flags present lt is lock_is renews =
     let s : State = state_of store locks in
+    let gives =
+    gives_up_by store middle then locks more p k kept lt (given store locks p k kept present lt) is lock_is renews in
     let both =
     giving_up_keeps s (state_of then more) p (own_at store p k) (take k (s.at p).wants.items) (drop (suc k) (s.at p).wants.items)
     (want_at store p k) (take k (s.own p)) (drop (suc k) (s.own p))

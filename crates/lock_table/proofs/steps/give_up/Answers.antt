@@ -46,23 +46,15 @@ renew_less-requires g c =
 
 pub returns-clause-kept : goal.returns-clause-kept
 returns-clause-kept g c =
-    let a = given c.args.store.now c.args.locks.now c.args.p c.args.k c.requires.kept c.requires.present c.requires.want in
-    let gives =
-    gives_up_by c.args.store.now c.take_want.new.self c.renew_less.new.store c.args.locks.now c.leave_queue_of.new.locks
-    c.args.p c.args.k c.requires.kept c.requires.want a c.take_want.ensures.value c.leave_queue_of.ensures
-    c.renew_less.ensures.renews in
     (given_up c.args.store.now c.take_want.new.self c.renew_less.new.store c.args.locks.now c.leave_queue_of.new.locks c.args.p
-    c.args.k c.requires.kept c.requires.flags c.requires.present gives c.renew_less.ensures.renews).0
+    c.args.k c.requires.kept c.requires.flags c.requires.present c.requires.want c.take_want.ensures.value
+    c.leave_queue_of.ensures c.renew_less.ensures.renews).0
 
 pub returns-clause-flags : goal.returns-clause-flags
 returns-clause-flags g c =
-    let a = given c.args.store.now c.args.locks.now c.args.p c.args.k c.requires.kept c.requires.present c.requires.want in
-    let gives =
-    gives_up_by c.args.store.now c.take_want.new.self c.renew_less.new.store c.args.locks.now c.leave_queue_of.new.locks
-    c.args.p c.args.k c.requires.kept c.requires.want a c.take_want.ensures.value c.leave_queue_of.ensures
-    c.renew_less.ensures.renews in
     (given_up c.args.store.now c.take_want.new.self c.renew_less.new.store c.args.locks.now c.leave_queue_of.new.locks c.args.p
-    c.args.k c.requires.kept c.requires.flags c.requires.present gives c.renew_less.ensures.renews).1
+    c.args.k c.requires.kept c.requires.flags c.requires.present c.requires.want c.take_want.ensures.value
+    c.leave_queue_of.ensures c.renew_less.ensures.renews).1
 
 pub returns-clause-gives : goal.returns-clause-gives
 returns-clause-gives g c =
@@ -72,23 +64,15 @@ returns-clause-gives g c =
 
 pub returns-clause-full : goal.returns-clause-full
 returns-clause-full g c =
-    let a = given c.args.store.now c.args.locks.now c.args.p c.args.k c.requires.kept c.requires.present c.requires.want in
-    let gives =
-    gives_up_by c.args.store.now c.take_want.new.self c.renew_less.new.store c.args.locks.now c.leave_queue_of.new.locks
-    c.args.p c.args.k c.requires.kept c.requires.want a c.take_want.ensures.value c.leave_queue_of.ensures
-    c.renew_less.ensures.renews in
     (given_up c.args.store.now c.take_want.new.self c.renew_less.new.store c.args.locks.now c.leave_queue_of.new.locks c.args.p
-    c.args.k c.requires.kept c.requires.flags c.requires.present gives c.renew_less.ensures.renews).2
+    c.args.k c.requires.kept c.requires.flags c.requires.present c.requires.want c.take_want.ensures.value
+    c.leave_queue_of.ensures c.renew_less.ensures.renews).2
 
 pub returns-clause-counts : goal.returns-clause-counts
 returns-clause-counts g c =
-    let a = given c.args.store.now c.args.locks.now c.args.p c.args.k c.requires.kept c.requires.present c.requires.want in
-    let gives =
-    gives_up_by c.args.store.now c.take_want.new.self c.renew_less.new.store c.args.locks.now c.leave_queue_of.new.locks
-    c.args.p c.args.k c.requires.kept c.requires.want a c.take_want.ensures.value c.leave_queue_of.ensures
-    c.renew_less.ensures.renews in
     (given_up c.args.store.now c.take_want.new.self c.renew_less.new.store c.args.locks.now c.leave_queue_of.new.locks c.args.p
-    c.args.k c.requires.kept c.requires.flags c.requires.present gives c.renew_less.ensures.renews).3
+    c.args.k c.requires.kept c.requires.flags c.requires.present c.requires.want c.take_want.ensures.value
+    c.leave_queue_of.ensures c.renew_less.ensures.renews).3
 
 pub returns-clause-lock : goal.returns-clause-lock
 returns-clause-lock g c =
