@@ -1,5 +1,4 @@
 pub mod Places
-pub mod Removing
 pub mod Beginnings
 pub mod Standing
 pub mod Coming

@@ -4,6 +4,7 @@ pub mod Granted
 pub mod ListSteps
 pub mod Lists
 pub mod Refusing
+pub mod Removing
 pub mod StatusLaws
 pub mod Texts
 pub mod WellKept

@@ -1,5 +1,5 @@
 use Rattle.std.proofs.Common.{refl}
-use Rattle.key_queues.proofs.Removing.{moved_on, left_on, moved_all, none_moved}
+use Rattle.lock_queue.proofs.Removing.{moved_on, left_on, moved_all, none_moved}
 use Rattle.key_queues.proofs.queue.move_up.Goals as goal
 
 pub loop-k-init : goal.loop-k-init

@@ -1,5 +1,5 @@
 use Rattle.std.proofs.Common.{refl}
-use Rattle.request_store.proofs.Removing.{moved_on, left_on, moved_all, none_moved}
+use Rattle.lock_queue.proofs.Removing.{moved_on, left_on, moved_all, none_moved}
 use Rattle.request_store.proofs.places.move_up.Goals as goal
 
 pub loop-k-init : goal.loop-k-init
