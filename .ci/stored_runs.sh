@@ -122,5 +122,6 @@ for file in "$top"/tests/*/*.runs; do
     all=$((all | wrong))
 done
 
+[ "$runs" -gt 0 ] || { say "there are none"; all=1; }
 echo "stored runs: $same of $runs gave what was stored" >&2
 exit "$all"
