@@ -1,6 +1,7 @@
 //! The lines of a session, as they come.
 ghost use Rattle.std.specs.Prelude.{◌≡◌, false};
 
+use crate::file_lines::FileLines;
 use crate::files::{read_file, write_file};
 use crate::obey::{Wish, obey_line};
 use crate::session::Session;
@@ -32,16 +33,19 @@ impl<R: ByteIn + Drop, W: ByteOut + Drop, E: ByteOut + Drop> Dialogue<R, W, E> {
         }
         Ok(())
     }
-}
 
-/// Writes the answer.
-fn write_answer<W: ByteOut + Drop>(
-    output: &mut Answers<W>,
-    session: &mut Session<'_>,
-) -> Result<(), Failure> {
-    output.write(session.text.as_slice())?;
-    session.text.clear();
-    Ok(())
+    /// Puts the next line that is typed in place of `line`.
+    fn next_line(&mut self, line: &mut Vec<u8>) -> Result<Came, Failure> {
+        self.tell_person(texts::PROMPT)?;
+        self.input.next_line(line)
+    }
+
+    /// Writes the answer.
+    fn write_answer(&mut self, session: &mut Session<'_>) -> Result<(), Failure> {
+        self.output.write(session.text.as_slice())?;
+        session.text.clear();
+        Ok(())
+    }
 }
 
 /// Serves lines until the session ends.
@@ -60,27 +64,64 @@ pub fn serve_lines<F: Files + AllocGlobal, R: ByteIn + Drop, W: ByteOut + Drop, 
     Ok(())
 }
 
-/// Serves the next line; false where the session ends.
+/// Serves the next line, of the file that is obeyed or else that is typed; false where the session ends.
 fn serve_next<F: Files + AllocGlobal, R: ByteIn + Drop, W: ByteOut + Drop, E: ByteOut + Drop>(
     rt: &F,
     session: &mut Session<'_>,
     dialogue: &mut Dialogue<R, W, E>,
     line: &mut Vec<u8>,
 ) -> Result<bool, Failure> {
-    dialogue.tell_person(texts::PROMPT)?;
-    let goes_on = match dialogue.input.next_line(line)? {
-        Came::End => return Ok(false),
-        Came::TooLong => refuse_length(session)?,
-        Came::Line => obey(rt, session, &mut dialogue.output, line.as_slice())?,
+    let came = match next_of_file(session, line)? {
+        Came::End => dialogue.next_line(line)?,
+        came => came,
     };
-    write_answer(&mut dialogue.output, session)?;
+    let goes_on = serve_line(rt, session, came, line.as_slice())?;
+    dialogue.write_answer(session)?;
     Ok(goes_on)
+}
+
+/// Puts the next line of the file that is obeyed in place of `line`; it is written before its answer.
+fn next_of_file(session: &mut Session<'_>, line: &mut Vec<u8>) -> Result<Came, AllocError> {
+    let came = session.file_lines.next_line(line)?;
+    if came != Came::End {
+        session.echo(line.as_slice())?;
+    }
+    Ok(came)
+}
+
+/// Serves what came; false where the session ends.
+fn serve_line<F: Files + AllocGlobal>(
+    rt: &F,
+    session: &mut Session<'_>,
+    came: Came,
+    line: &[u8],
+) -> Result<bool, AllocError> {
+    match came {
+        Came::End => Ok(false),
+        Came::TooLong => refuse_length(session),
+        Came::Line => obey(rt, session, line),
+    }
 }
 
 /// Says that a line is too long; the session goes on.
 fn refuse_length(session: &mut Session<'_>) -> Result<bool, AllocError> {
     let text = format!(in session.alloc; "? a line has at most {LINE_LENGTH} characters\n")?;
     session.say(text.as_str())?;
+    Ok(true)
+}
+
+/// Obeys a line; false where it ends the session.
+fn obey<F: Files + AllocGlobal>(
+    rt: &F,
+    session: &mut Session<'_>,
+    line: &[u8],
+) -> Result<bool, AllocError> {
+    match obey_line(session, line)? {
+        Wish::Nothing => session.keep(line)?,
+        Wish::Quit => return Ok(false),
+        Wish::Save(file) => save(rt, session, file)?,
+        Wish::Do(file) => obey_file(rt, session, file)?,
+    }
     Ok(true)
 }
 
@@ -114,80 +155,34 @@ fn save<F: Files + AllocGlobal>(
     }
 }
 
-/// Obeys a line; false where it ends the session.
-fn obey<F: Files + AllocGlobal, W: ByteOut + Drop>(
-    rt: &F,
-    session: &mut Session<'_>,
-    output: &mut Answers<W>,
-    line: &[u8],
-) -> Result<bool, Failure> {
-    match obey_line(session, line)? {
-        Wish::Nothing => session.keep(line)?,
-        Wish::Quit => return Ok(false),
-        Wish::Save(file) => save(rt, session, file)?,
-        Wish::Do(file) => return obey_file(rt, session, output, file),
-    }
+/// Says that a file of lines names another, where one is obeyed; whether one is.
+fn refuse_nested(session: &mut Session<'_>) -> Result<bool, AllocError> {
+    let Some(file) = session.file_lines.file() else {
+        return Ok(false);
+    };
+    let line = format!(in session.alloc; "{file}: a file of lines obeys no other file\n")?;
+    refuse(session, line.as_str())?;
     Ok(true)
 }
 
-/// Obeys the lines of a file, each of which is written before its answer; false where one ends the
-/// session.
-fn obey_file<F: Files + AllocGlobal, W: ByteOut + Drop>(
+/// The lines of a file are obeyed next.
+fn obey_file<F: Files + AllocGlobal>(
     rt: &F,
     session: &mut Session<'_>,
-    output: &mut Answers<W>,
     file: &[u8],
-) -> Result<bool, Failure> {
+) -> Result<(), AllocError> {
+    if refuse_nested(session)? {
+        return Ok(());
+    }
     let Some(file) = name_in(session, file)? else {
-        return Ok(true);
+        return Ok(());
     };
     match read_file(rt, file)? {
-        Ok(text) => obey_lines(rt, session, output, file, text.as_slice()),
-        Err(reason) => {
-            refuse(session, reason.as_str())?;
-            Ok(true)
+        Ok(text) => {
+            let name = format!(in session.alloc; "{file}")?;
+            session.file_lines = FileLines::new(name, text);
+            Ok(())
         }
+        Err(reason) => refuse(session, reason.as_str()),
     }
-}
-
-/// Obeys lines of a file, and writes the answer to each; false where one ends the session.
-fn obey_lines<F: Files + AllocGlobal, W: ByteOut + Drop>(
-    rt: &F,
-    session: &mut Session<'_>,
-    output: &mut Answers<W>,
-    file: &str,
-    text: &[u8],
-) -> Result<bool, Failure> {
-    let lines = text.strip_suffix(b"\n".as_slice()).unwrap_or(text);
-    for line in lines.split(|byte| *byte == b'\n') {
-        let goes_on = obey_line_of(rt, session, file, line)?;
-        write_answer(output, session)?;
-        if !goes_on {
-            return Ok(false);
-        }
-    }
-    Ok(true)
-}
-
-/// Says that a file of lines names another.
-fn refuse_nested(session: &mut Session<'_>, file: &str) -> Result<(), AllocError> {
-    let line = format!(in session.alloc; "{file}: a file of lines obeys no other file\n")?;
-    refuse(session, line.as_str())
-}
-
-/// Obeys a line of a file, which may name no other file of lines; false where it ends the session.
-fn obey_line_of<F: Files + AllocGlobal>(
-    rt: &F,
-    session: &mut Session<'_>,
-    file: &str,
-    line: &[u8],
-) -> Result<bool, AllocError> {
-    session.echo(line)?;
-    match obey_line(session, line)? {
-        Wish::Nothing => session.keep(line)?,
-        Wish::Quit => return Ok(false),
-        Wish::Save(name) => save(rt, session, name)?,
-        Wish::Do(_) => refuse_nested(session, file)?,
-    }
-    Ok(true)
 }

@@ -4,6 +4,7 @@
 mod asked;
 mod changes;
 mod dialogue;
+mod file_lines;
 mod files;
 mod going_back;
 mod histories;

@@ -1,5 +1,6 @@
 //! Sources that are assembled, and jobs that are logged in with them.
 
+use crate::file_lines::FileLines;
 use crate::session::{Session, SessionJob};
 use ddt_lines::{Look, Symbol};
 use ddt_moves::{InputLines, StopList};
@@ -157,5 +158,6 @@ pub fn new_session<'a>(alloc: Global, config: Config) -> Result<Session<'a>, All
         edited: None,
         text: Vec::new(alloc),
         kept: Vec::new(alloc),
+        file_lines: FileLines::none(alloc),
     })
 }

@@ -13,8 +13,7 @@ use run_facts::{DONE, FAILED, REFUSED, USAGE};
 use run_words::Refusal;
 use script_io::{ByteIn, ByteOut};
 use source_labels::Source;
-use std::alloc::Global;
-use std::convert::AsStr;
+use std::alloc::{AllocError, Global};
 use std::io::ErrorKind;
 use std::rt::Files;
 
@@ -31,31 +30,31 @@ pub struct Ports<R: ByteIn + Drop, W: ByteOut + Drop, E: ByteOut + Drop> {
     pub is_person: bool,
 }
 
-/// Reads a file; or tells why it cannot be read.
-fn read_or_tell<F: Files + AllocGlobal, E: ByteOut + Drop>(
+/// Reads a file; or adds why it cannot be read to what is told.
+fn read_or_tell<F: Files + AllocGlobal>(
     rt: &F,
     file: &str,
-    errors: &mut Answers<E>,
-) -> Result<Option<Vec<u8>>, Failure> {
+    told: &mut Vec<u8>,
+) -> Result<Option<Vec<u8>>, AllocError> {
     match read_file(rt, file)? {
         Ok(text) => Ok(Some(text)),
         Err(reason) => {
-            errors.write(b"ddt: ")?;
-            errors.write(reason.as_str().as_bytes())?;
+            told.extend_from_slice(b"ddt: ")?;
+            told.extend_from_slice(reason.as_str().as_bytes())?;
             Ok(None)
         }
     }
 }
 
 /// Reads all sources, or tells of the first that cannot be read.
-fn read_sources<'a, F: Files + AllocGlobal, E: ByteOut + Drop>(
+fn read_sources<'a, F: Files + AllocGlobal>(
     rt: &F,
     files: &[&'a str],
-    errors: &mut Answers<E>,
-) -> Result<Option<Vec<Source<'a>>>, Failure> {
+    told: &mut Vec<u8>,
+) -> Result<Option<Vec<Source<'a>>>, AllocError> {
     let mut sources = Vec::new(rt.alloc());
     for file in files {
-        match read_or_tell(rt, file, errors)? {
+        match read_or_tell(rt, file, told)? {
             Some(text) => sources.push(Source { file, text })?,
             None => return Ok(None),
         }
@@ -65,16 +64,16 @@ fn read_sources<'a, F: Files + AllocGlobal, E: ByteOut + Drop>(
 
 /// Reads the lines that are typed where a job waits, if a file of them is named; false where it cannot be
 /// read, which is told.
-fn read_input<F: Files + AllocGlobal, E: ByteOut + Drop>(
+fn read_input<F: Files + AllocGlobal>(
     rt: &F,
     asked: &Asked<'_>,
     session: &mut Session<'_>,
-    errors: &mut Answers<E>,
-) -> Result<bool, Failure> {
+    told: &mut Vec<u8>,
+) -> Result<bool, AllocError> {
     let Some(file) = asked.input else {
         return Ok(true);
     };
-    match read_or_tell(rt, file, errors)? {
+    match read_or_tell(rt, file, told)? {
         Some(text) => {
             session.input = InputLines::new(session.alloc, text);
             Ok(true)
@@ -114,33 +113,22 @@ fn tell_failure<E: ByteOut + Drop>(alloc: Global, failure: Failure, errors: &mut
     FAILED
 }
 
-/// Assembles sources and logs their programs in; gives the exit status where one is refused.
-fn begin_telling<'a, E: ByteOut + Drop>(
-    session: &mut Session<'a>,
-    sources: &[Source<'a>],
-    errors: &mut Answers<E>,
-) -> Result<Option<u8>, Failure> {
-    let mut told = Vec::new(session.alloc);
-    let is_right = begin(session, sources, &mut told)?;
-    errors.write(told.as_slice())?;
-    Ok((!is_right).then_some(REFUSED))
-}
-
-/// Reads what is asked for, and logs a job in for each source; gives the exit status where that fails,
-/// which is told.
-fn load<'a, F: Files + AllocGlobal, E: ByteOut + Drop>(
+/// Reads what is asked for, and logs a job in for each source; gives the exit status where that fails.
+/// What is wrong, and warnings, are added to what is told.
+fn load<'a, F: Files + AllocGlobal>(
     rt: &F,
     asked: &Asked<'a>,
     session: &mut Session<'a>,
-    errors: &mut Answers<E>,
-) -> Result<Option<u8>, Failure> {
-    let Some(sources) = read_sources(rt, asked.files.as_slice(), errors)? else {
+    told: &mut Vec<u8>,
+) -> Result<Option<u8>, AllocError> {
+    let Some(sources) = read_sources(rt, asked.files.as_slice(), told)? else {
         return Ok(Some(FAILED));
     };
-    if !read_input(rt, asked, session, errors)? {
+    if !read_input(rt, asked, session, told)? {
         return Ok(Some(FAILED));
     }
-    begin_telling(session, sources.as_slice(), errors)
+    let is_right = begin(session, sources.as_slice(), told)?;
+    Ok((!is_right).then_some(REFUSED))
 }
 
 /// Serves a session that has no jobs yet, and gives the exit status.
@@ -156,7 +144,10 @@ fn serve_session<
     session: &mut Session<'a>,
     dialogue: &mut Dialogue<R, W, E>,
 ) -> Result<u8, Failure> {
-    if let Some(status) = load(rt, asked, session, &mut dialogue.errors)? {
+    let mut told = Vec::new(session.alloc);
+    let ended = load(rt, asked, session, &mut told)?;
+    dialogue.errors.write(told.as_slice())?;
+    if let Some(status) = ended {
         return Ok(status);
     }
     serve_lines(rt, session, dialogue)?;
@@ -176,9 +167,9 @@ fn serve_asked<F: Files + AllocGlobal, R: ByteIn + Drop, W: ByteOut + Drop, E: B
 }
 
 /// The program, but for what is said of a failure.
-fn serve<F: Files + AllocGlobal, S: AsStr, R: ByteIn + Drop, W: ByteOut + Drop, E: ByteOut + Drop>(
+fn serve<F: Files + AllocGlobal, R: ByteIn + Drop, W: ByteOut + Drop, E: ByteOut + Drop>(
     rt: &F,
-    words: &[S],
+    words: &[String],
     dialogue: &mut Dialogue<R, W, E>,
 ) -> Result<u8, Failure> {
     let alloc = rt.alloc();
@@ -191,13 +182,11 @@ fn serve<F: Files + AllocGlobal, S: AsStr, R: ByteIn + Drop, W: ByteOut + Drop, 
 /// Does what the words, which begin with the program's name, ask for, and gives the exit status: reads
 /// files, assembles them, logs a job in for each, and obeys lines until the session ends. The help and
 /// the version go to the output, and then there is no session.
-pub fn ddt<
-    F: Files + AllocGlobal,
-    S: AsStr,
-    R: ByteIn + Drop,
-    W: ByteOut + Drop,
-    E: ByteOut + Drop,
->(rt: &F, words: &[S], ports: Ports<R, W, E>) -> u8
+pub fn ddt<F: Files + AllocGlobal, R: ByteIn + Drop, W: ByteOut + Drop, E: ByteOut + Drop>(
+    rt: &F,
+    words: &[String],
+    ports: Ports<R, W, E>,
+) -> u8
     requires reader_sound { R.has_failed ports.reader ≡ false }
     requires writer_sound { W.has_failed ports.writer ≡ false }
     requires errors_sound { E.has_failed ports.errors ≡ false }

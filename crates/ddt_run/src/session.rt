@@ -1,5 +1,6 @@
 //! A session: the machine with its jobs, and what is looked at.
 
+use crate::file_lines::FileLines;
 use ddt_help::{Refusal, refuse};
 use ddt_lines::{Look, Scope, Symbol};
 use ddt_moves::{InputLines, StopList};
@@ -52,6 +53,8 @@ pub struct Session<'a> {
     pub text: Vec<u8>,
     /// The lines that were obeyed, with their ends.
     pub kept: Vec<u8>,
+    /// The lines of the file that is obeyed.
+    pub file_lines: FileLines,
 }
 
 /// What stands before a line of a file that is obeyed.

@@ -7,10 +7,9 @@ use run_words::{
     Refusal, Wrong, config_in, files_in, make_command, matches_of, refused, with_files,
 };
 use std::alloc::{AllocError, Global};
-use std::convert::AsStr;
 
 /// What the words, which begin with the program's name, ask for.
-pub fn read_words<'a, S: AsStr>(alloc: Global, words: &'a [S]) -> Result<Asked<'a>, Refusal> {
+pub fn read_words<'a>(alloc: Global, words: &'a [String]) -> Result<Asked<'a>, Refusal> {
     let mut command = match ddt_command(alloc) {
         Ok(command) => command,
         Err(_) => return Err(Refusal::Memory),

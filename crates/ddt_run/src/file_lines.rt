@@ -1,0 +1,72 @@
+//! The lines of a file that is obeyed.
+
+use line_ports::Came;
+use script_io::LINE_LENGTH;
+use std::alloc::{AllocError, Global};
+
+/// The lines of a file, of which some were obeyed.
+#[derive(Drop)]
+pub struct FileLines {
+    /// The name of the file, while its lines are obeyed.
+    file: Option<String>,
+    text: Vec<u8>,
+    /// Where the next line begins.
+    next: usize,
+}
+
+impl FileLines {
+    /// No file.
+    pub fn none(alloc: Global) -> Self {
+        FileLines {
+            file: None,
+            text: Vec::new(alloc),
+            next: 0,
+        }
+    }
+
+    /// The lines of a file.
+    pub fn new(file: String, text: Vec<u8>) -> Self {
+        FileLines {
+            file: Some(file),
+            text,
+            next: 0,
+        }
+    }
+
+    /// The name of the file whose lines are obeyed, if there is one.
+    pub fn file(&self) -> Option<&str> {
+        match &self.file {
+            Some(file) => Some(file.as_str()),
+            None => None,
+        }
+    }
+
+    /// The next line, without its LF and a CR before that; `None` at the end.
+    fn take_next(&mut self) -> Option<&[u8]> {
+        let rest = self.text.as_slice().get(self.next..)?;
+        if rest.is_empty() {
+            return None;
+        }
+        let length = rest
+            .iter()
+            .position(|byte| *byte == b'\n')
+            .unwrap_or(rest.len());
+        self.next = self.next.saturating_add(length).saturating_add(1);
+        let line = rest.get(..length)?;
+        Some(line.strip_suffix(b"\r".as_slice()).unwrap_or(line))
+    }
+
+    /// Puts the next line in place of `line`. At the end no file is obeyed any longer.
+    pub fn next_line(&mut self, line: &mut Vec<u8>) -> Result<Came, AllocError> {
+        line.clear();
+        let Some(next) = self.take_next() else {
+            self.file = None;
+            return Ok(Came::End);
+        };
+        line.extend_from_slice(next)?;
+        if line.len() > LINE_LENGTH {
+            return Ok(Came::TooLong);
+        }
+        Ok(Came::Line)
+    }
+}
