@@ -17,7 +17,7 @@ use Rattle.key_queues.specs.Tables.{is_there}
 use Rattle.key_queues.specs.declared.hash.TheConstants.{HASHES}
 use Rattle.key_queues.specs.declared.keys.Bucket.{Bucket}
 use Rattle.key_queues.specs.declared.keys.TheConstants.{ROOM}
-use Rattle.key_queues.specs.Found.{bucket_at, no_bucket, numbered, Holds, IsIndex, Readies}
+use Rattle.key_queues.specs.Found.{bucket_at, no_bucket, numbered, Holds, IsGrown, IsIndex, Readies}
 use Rattle.key_queues.specs.Hashes.{hash_of}
 use Rattle.key_queues.specs.Opened.{fresh_lock, is_closed, is_open_for}
 
@@ -116,7 +116,7 @@ found_ready buckets locks w n index t =
     let parts = open_parts w.key (lock_at locks n) t in
     record {
       within = open_within locks n parts.0;
-      long = refl;
+      kept = omega arith;
       others = λ m ne. refl;
       mine = inl (record { same = refl; open_for = t });
       index = index;
@@ -176,7 +176,7 @@ pub begun_ready : (buckets then : List Bucket) (locks more : List Lock) (w : Wan
 begun_ready buckets then locks more w n h index none lt closed below hash is put long as_long =
     record {
       within = omega (arith, lt, long);
-      long = long;
+      kept = omega (arith, long);
       others = other;
       mine = inr (record { fresh = mine; closed = closed; none = none });
       index = record {
@@ -235,3 +235,41 @@ begun_ready buckets then locks more w n h index none lt closed below hash is put
               subst (λ (l : Lock). Holds (bucket_at then (hash_of l.key)) m) (sym (other m ne))
               (still (hash_of (lock_at locks m).key) m (index.holds m was))
         ]
+
+-- locks that are not open may come behind the others
+pub grown_index : (buckets : List Bucket) (locks more : List Lock) → IsGrown locks more → IsIndex buckets locks → IsIndex buckets more
+grown_index buckets locks more grown index = record {
+  long = index.long;
+  few = grown.few;
+  within = λ h k d lt. omega (arith, index.within h k d lt, grown.kept);
+  holds =
+      λ n some.
+      subst (λ (l : Lock). Holds (bucket_at buckets (hash_of l.key)) n) (sym (grown.same n))
+      (index.holds n (ap (λ (l : Lock). is_open l.queue) (sym (grown.same n)) ∙ some));
+}
+
+pub ready_grown : (locks mid more : List Lock) (buckets : List Bucket) (w : Want) (n : ℕ) → IsGrown locks mid → Readies mid more buckets w n
+    → Readies locks more buckets w n
+ready_grown locks mid more buckets w n grown r = record {
+  within = r.within;
+  kept = omega (arith, r.kept, grown.kept);
+  others = λ m ne. r.others m ne ∙ grown.same m;
+  mine =
+      elim r.mine [
+        | inl was ↦
+            inl
+            (record {
+              same = was.same ∙ grown.same n;
+              open_for = subst (λ (l : Lock). is_open_for w.key l ≡ true) (grown.same n) was.open_for;
+            })
+        | inr begun ↦
+            inr
+            (record {
+              fresh = begun.fresh;
+              closed = subst (λ (l : Lock). is_closed l ≡ true) (grown.same n) begun.closed;
+              none = λ m. subst (λ (l : Lock). is_open_for w.key l ≡ false) (grown.same m) (begun.none m);
+            })
+      ];
+  index = r.index;
+  holds = r.holds;
+}

@@ -41,6 +41,12 @@ pub record IsIndex (buckets : List Bucket) (locks : List Lock) : Type 0 where
   pub within : (h : ℕ) → All (λ n. n < length locks) (bucket_at buckets h).numbers.items
   pub holds : (n : ℕ) → is_open (lock_at locks n).queue ≡ true → Holds (bucket_at buckets (hash_of (lock_at locks n).key)) n
 
+-- there may be more locks, none of which is open
+pub record IsGrown (locks more : List Lock) : Type 0 where
+  pub same : (n : ℕ) → lock_at more n ≡ lock_at locks n
+  pub kept : length locks ≤ length more
+  pub few : length more ≤ 2 ^ 16
+
 -- the lock of the key is open, and stays as it is
 pub record WasOpen (locks more : List Lock) (w : Want) (n : ℕ) : Type 0 where
   pub same : lock_at more n ≡ lock_at locks n
@@ -55,7 +61,7 @@ pub record IsBegun (locks more : List Lock) (w : Want) (n : ℕ) : Type 0 where
 -- the lock of a want's key is made ready for it
 pub record Readies (locks more : List Lock) (buckets : List Bucket) (w : Want) (n : ℕ) : Type 0 where
   pub within : n < length more
-  pub long : length more ≡ length locks
+  pub kept : length locks ≤ length more
   pub others : (m : ℕ) → (m ≡ n → ⊥) → lock_at more m ≡ lock_at locks m
   pub mine : WasOpen locks more w n ⊎ IsBegun locks more w n
   pub index : IsIndex buckets more

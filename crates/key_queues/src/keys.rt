@@ -1,14 +1,14 @@
 //! The numbers of locks, by hashes of their keys.
-ghost use Rattle.std.specs.Prelude.{IfOk, ◌≡◌, ◌<◌, ◌≤◌, ◌^◌, ℕ, true, false, length, slice_set, IfSome};
+ghost use Rattle.std.specs.Prelude.{IfOk, ◌≡◌, ◌<◌, ◌≤◌, ◌^◌, ℕ, true, false, length, slice_set, vec_capacity, IfSome};
 ghost use Rattle.std.specs.List.{All, list_any};
 ghost use Rattle.key_queues.specs.Locks.{lock_at};
 ghost use Rattle.key_queues.specs.declared.hash.TheConstants.{HASHES};
 ghost use Rattle.key_queues.specs.Hashes.{hash_of};
 ghost use Rattle.key_queues.specs.Opened.{is_closed, is_open_for};
-ghost use Rattle.key_queues.specs.Found.{Holds, IsIndex, Readies, bucket_at, no_bucket, numbered, without_number};
+ghost use Rattle.key_queues.specs.Found.{Holds, IsGrown, IsIndex, Readies, bucket_at, no_bucket, numbered, without_number};
 
 use crate::hash::{HASHES, hash_of};
-use crate::locks::{begin, find_in, find_open, first_closed};
+use crate::locks::{begin, find_in, find_open, unopened};
 use crate::queue::remove_at;
 use crate::{Lock, index_of};
 use arrayvec::ArrayVec;
@@ -80,16 +80,6 @@ impl Keys {
         })
     }
 
-    /// Numbers from one on, up to so many, may be free.
-    pub fn offer(&mut self, from: usize, count: usize)
-        requires { count ≤ 2 ^ 16 }
-        ensures { self.new.buckets.items ≡ self.old.buckets.items }
-    {
-        for n in from..count {
-            self.free_if_room(n as u16);
-        }
-    }
-
     /// A number may be free.
     fn free_if_room(&mut self, n: u16)
         ensures { self.new.buckets.items ≡ self.old.buckets.items }
@@ -124,35 +114,42 @@ impl Keys {
         put(&mut self.buckets[hash as usize], n);
     }
 
-    /// The number of a lock that is not open.
-    fn take_free(&mut self, locks: &[Lock]) -> u16
-        requires few { length locks.now ≤ 2 ^ 16 }
-        requires room { list_any is_closed locks.now ≡ true }
-        ensures within { result < length locks.now }
-        ensures closed { is_closed (lock_at locks.now result) ≡ true }
+    /// The number of a lock that is not open, of which there may be so many.
+    fn take_free(&mut self, locks: &mut Vec<Lock>, most: usize) -> u16
+        requires few { most ≤ 2 ^ 16 }
+        requires short { length locks.old.items ≤ 2 ^ 16 }
+        requires reserved { most ≤ vec_capacity locks.old }
+        requires room { most ≤ length locks.old.items → list_any is_closed locks.old.items ≡ true }
+        ensures grown { IsGrown locks.old.items locks.new.items }
+        ensures within { result < length locks.new.items }
+        ensures closed { is_closed (lock_at locks.new.items result) ≡ true }
         ensures buckets { self.new.buckets.items ≡ self.old.buckets.items }
+        ensures capacity { vec_capacity locks.new ≡ vec_capacity locks.old }
     {
         if let Some(n) = self.free.pop() {
-            if (n as usize) < locks.len() && locks[n as usize].queue.len() == 0 {
+            if (n as usize) < locks.len() && locks.as_slice()[n as usize].queue.len() == 0 {
                 return n;
             }
         }
-        first_closed(locks) as u16
+        unopened(locks, most) as u16
     }
 
     /// The number of the lock of a want's key: of the open one, or of one that was not open and now is of
-    /// that key.
-    pub fn queue_for(&mut self, locks: &mut [Lock], w: &Want) -> u16
-        requires index { IsIndex self.old.buckets.items locks.old }
-        requires room { list_any is_closed locks.old ≡ true }
-        ensures { Readies locks.old locks.new self.new.buckets.items w.now result }
+    /// that key. There may be so many locks.
+    pub fn queue_for(&mut self, locks: &mut Vec<Lock>, w: &Want, most: usize) -> u16
+        requires index { IsIndex self.old.buckets.items locks.old.items }
+        requires few { most ≤ 2 ^ 16 }
+        requires reserved { most ≤ vec_capacity locks.old }
+        requires room { most ≤ length locks.old.items → list_any is_closed locks.old.items ≡ true }
+        ensures ready { Readies locks.old.items locks.new.items self.new.buckets.items w.now result }
+        ensures capacity { vec_capacity locks.new ≡ vec_capacity locks.old }
     {
         let hash = hash_of(&w.key);
-        if let Some(n) = self.find(locks, &w.key, hash) {
+        if let Some(n) = self.find(locks.as_slice(), &w.key, hash) {
             return n;
         }
-        let n = self.take_free(locks);
-        begin(locks, n, w);
+        let n = self.take_free(locks, most);
+        begin(locks.as_mut_slice(), n, w);
         self.file(hash, n);
         n
     }

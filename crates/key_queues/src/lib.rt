@@ -17,6 +17,6 @@ pub use laws::{
     wants_fit_from_the_front,
 };
 pub use lock::Lock;
-pub use locks::{begin, find_in, find_open, first_closed, more_locks, no_locks};
+pub use locks::{begin, find_in, find_open, no_locks};
 pub use queue::{Queue, index_of};
 pub use stands::{all_count, append, is_empty, leave_queue, let_in, next_place, want_in};

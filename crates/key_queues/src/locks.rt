@@ -1,6 +1,7 @@
 //! Locks by their numbers.
-ghost use Rattle.std.specs.Prelude.{IfOk, ◌≡◌, ◌<◌, ◌≤◌, ◌^◌, ◌&&◌, [], ℕ, true, false, not, IfSome, length, max, slice_set, vec_capacity};
+ghost use Rattle.std.specs.Prelude.{IfOk, ◌≡◌, ◌<◌, ◌≤◌, ◌^◌, ◌&&◌, ◌++◌, ◌∷◌, [], ℕ, true, false, not, IfSome, length, slice_set, vec_capacity};
 ghost use Rattle.std.specs.List.{All, find, list_any, position_or_len};
+ghost use Rattle.key_queues.specs.Found.{IsGrown};
 ghost use Rattle.key_queues.specs.Locks.{lock_at, unused_lock};
 ghost use Rattle.key_queues.specs.Opened.{fresh_lock, is_closed, is_open_for, size_of};
 
@@ -51,8 +52,7 @@ pub fn find_open(locks: &[Lock], key: &Key) -> Option<u16>
 }
 
 /// The first lock that is not open.
-#[cold]
-pub fn first_closed(locks: &[Lock]) -> usize
+fn first_closed(locks: &[Lock]) -> usize
     ensures { result ≡ position_or_len is_closed locks.now }
 {
     for (i, lock) in locks.iter().enumerate() {
@@ -106,16 +106,33 @@ pub fn no_locks(alloc: Global, count: usize) -> Result<Vec<Lock>, AllocError>
     Vec::with_capacity(alloc, count)
 }
 
-/// Sees to it that there are so many locks: those that come are not open.
-pub fn more_locks(locks: &mut Vec<Lock>, count: usize)
-    requires { count ≤ vec_capacity locks.old }
-    ensures same { (n : ℕ) → lock_at locks.new.items n ≡ lock_at locks.old.items n }
-    ensures long { count ≤ length locks.new.items }
-    ensures kept { length locks.old.items ≤ length locks.new.items }
-    ensures most { length locks.new.items ≤ max count (length locks.old.items) }
-    ensures room { vec_capacity locks.new ≡ vec_capacity locks.old }
+/// The number of one lock more, which is not open.
+fn one_more(locks: &mut Vec<Lock>) -> usize
+    requires { length locks.old.items < vec_capacity locks.old }
+    ensures value { result ≡ length locks.old.items }
+    ensures locks { locks.new.items ≡ locks.old.items ++ unused_lock ∷ [] }
+    ensures capacity { vec_capacity locks.new ≡ vec_capacity locks.old }
 {
-    while locks.len() < count {
-        locks.push_reserved(unused());
+    let n = locks.len();
+    locks.push_reserved(unused());
+    n
+}
+
+/// The number of a lock that is not open: of one more, as long as there are fewer than so many.
+#[cold]
+pub fn unopened(locks: &mut Vec<Lock>, most: usize) -> usize
+    requires few { most ≤ 2 ^ 16 }
+    requires short { length locks.old.items ≤ 2 ^ 16 }
+    requires reserved { most ≤ vec_capacity locks.old }
+    requires room { most ≤ length locks.old.items → list_any is_closed locks.old.items ≡ true }
+    ensures grown { IsGrown locks.old.items locks.new.items }
+    ensures within { result < length locks.new.items }
+    ensures closed { is_closed (lock_at locks.new.items result) ≡ true }
+    ensures capacity { vec_capacity locks.new ≡ vec_capacity locks.old }
+{
+    if locks.len() < most {
+        one_more(locks)
+    } else {
+        first_closed(locks.as_slice())
     }
 }

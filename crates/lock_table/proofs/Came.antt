@@ -1,6 +1,6 @@
 -- A request has come.
-use Rattle.std.proofs.Common.{◌≡◌, ◌≢◌, ◌≤◌, ◌<◌, ◌+◌, ◌*◌, ◌∙◌, sym, ap, subst, ℕ, true, false, ◌==◌, cond, List, []}
-use Rattle.std.proofs.Common.{◌∷◌, ◌++◌, length, map, inl, inr, refl, arith, length-append}
+use Rattle.std.proofs.Common.{◌≡◌, ◌≢◌, ◌≤◌, ◌<◌, ◌∙◌, sym, ap, subst, ℕ, true, false, ◌==◌, cond, List, []}
+use Rattle.std.proofs.Common.{◌∷◌, ◌++◌, length, map, inl, inr, refl, arith}
 use Rattle.std.specs.List.{All}
 use Rattle.std.proofs.lemmas.Bool.{both_ways, eq-eqb, eqb-true, false≢true, ne_eqb, cases_eq, or_cases, or_left}
 use Rattle.std.proofs.lemmas.List.Folds.{list_any-append}
@@ -38,13 +38,12 @@ pub came_last : (store later : Stored) (locks : List Lock) (buckets : List Bucke
     → AreShort store
     → p < length store.filed
     → is_there p store.order ≡ false
-    → LOCKS_A_CALL * (length store.order + 1) ≤ length locks
     → are_apart wants ≡ true
     → length wants ≤ LOCKS_A_CALL
     → AdmitsFrom 0 locks wants
     → later ≡ inserted store p (arrived job asking false)
     → IsArriving later locks buckets p wants 0
-came_last store later locks buckets p job asking wants table index short lt out room apart few admits put = record {
+came_last store later locks buckets p job asking wants table index short lt out apart few admits put = record {
   kept = both.0;
   full = both.1 table.full;
   flags = both.2 table.flags;
@@ -67,7 +66,6 @@ came_last store later locks buckets p job asking wants table index short lt out 
             let was : is_there x store.order ≡ true = there_before x ne (subst (λ l. is_there x l ≡ true) same_order h) in
             subst (λ (g : Filed). length g.queues.items ≤ LOCKS_A_CALL) (sym (others x ne)) (short x was)
       ];
-  room = omega (arith, room, ap length same_order, length-append store.order (p ∷ []));
 }
   where
     f : Filed

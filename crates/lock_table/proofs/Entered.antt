@@ -93,7 +93,6 @@ module _ (store later : Stored) (locks more most : List Lock) (buckets then : Li
     few = a.few;
     admits = admits;
     short = short;
-    room = omega (arith, a.room, r.long, same_length, ap length same_order);
   }
     where
       f : Filed

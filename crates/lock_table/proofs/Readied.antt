@@ -1,10 +1,10 @@
 -- A want's lock is made ready for it.
-use Rattle.std.proofs.Common.{◌≡◌, ◌<◌, ◌∙◌, sym, ap, subst, ℕ, Bool, true, false, ◌&&◌, ◌==◌, List, [], ◌∷◌, length}
+use Rattle.std.proofs.Common.{◌*◌, ◌≤◌, ◌≡◌, ◌<◌, ◌∙◌, sym, ap, subst, ℕ, Bool, true, false, ◌&&◌, ◌==◌, List, [], ◌∷◌, length}
 use Rattle.std.proofs.Common.{Option, Some, None, inl, inr, refl, arith, length-append}
 use Rattle.std.specs.List.{list_any}
 use Rattle.std.proofs.lemmas.Bool.{both_ways, eq-eqb, cases_eq, or_left, false≢true, not-true, not-false}
 use Rattle.std.proofs.lemmas.List.Folds.{list_any-append}
-use Rattle.word36.specs.declared.sizes.TheConstants.{JOBS}
+use Rattle.word36.specs.declared.sizes.TheConstants.{JOBS, LOCKS_A_CALL}
 use Rattle.lock_queue.specs.declared.key.Key.{Key}
 use Rattle.lock_queue.specs.declared.want.Want.{Want}
 use Rattle.lock_queue.specs.Keys.{same_key}
@@ -60,8 +60,9 @@ module _ (store : Stored) (locks : List Lock) (buckets : List Bucket) (p : ℕ) 
   -- there is a lock that is not open
   pub room_left : IsArriving store locks buckets p wants k
       → k < length wants
+      → LOCKS_A_CALL * length store.order ≤ length locks
       → list_any is_closed locks ≡ true
-  room_left a more = go (list_any is_closed locks) refl
+  room_left a more room = go (list_any is_closed locks) refl
     where
       go : (b : Bool) → list_any is_closed locks ≡ b → b ≡ true
       go true e = refl
@@ -80,7 +81,7 @@ module _ (store : Stored) (locks : List Lock) (buckets : List Bucket) (p : ℕ) 
           (list_any-append (λ z. z == x) before (p ∷ []) ∙ or_left (is_there x before) (is_there x (p ∷ [])) h))) in
           let same = ap (λ l. length (owned (λ x. (filed_at store x).queues.items) l)) a.last.1 in
           let count = ap length a.last.1 in
-          absurd (omega (arith, long, few, same, count, length-append before (p ∷ []), a.room, more, a.few, a.own))
+          absurd (omega (arith, long, few, same, count, length-append before (p ∷ []), room, more, a.few, a.own))
 
   -- the lock stays as it is
   was_ready : (more : List Lock) (w : Want) (n : ℕ) → IsArriving store locks buckets p wants k → Admits locks w

@@ -1,6 +1,6 @@
 -- A request comes, and its wants are entered one by one (this project's profile).
 use Rattle.std.specs.Prelude.{◌≡◌, ◌≤◌, ◌<◌, ◌*◌, ℕ, List, [], ◌∷◌, ◌++◌, length, slice_index_or, take, true}
-use Rattle.word36.specs.declared.sizes.TheConstants.{JOBS, LOCKS_A_CALL}
+use Rattle.word36.specs.declared.sizes.TheConstants.{JOBS, LOCKS_A_CALL, MOST_REQUESTS}
 use Rattle.lock_queue.specs.declared.want.Want.{Want}
 use Rattle.lock_queue.specs.Dequeues.{with_wants}
 use Rattle.lock_queue.specs.Unused.{unused_want}
@@ -48,7 +48,11 @@ pub record IsArriving (s : Stored) (locks : List Lock) (buckets : List Bucket) (
   pub few : length wants ≤ LOCKS_A_CALL
   pub admits : AdmitsFrom k locks wants
   pub short : AreShort s
-  pub room : LOCKS_A_CALL * length s.order ≤ length locks
+
+-- there may be a lock for each want, and there is memory for it
+pub record HasRoom (size most_locks : ℕ) : Type 0 where
+  pub small : size ≤ MOST_REQUESTS
+  pub reserved : LOCKS_A_CALL * size ≤ most_locks
 
 -- all requests are as they were, but for the wants of one
 pub record SameRequests (s t : Stored) (p : ℕ) : Type 0 where

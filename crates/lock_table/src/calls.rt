@@ -1,11 +1,12 @@
 //! The calls of a job.
-ghost use Rattle.std.specs.Prelude.{◌≡◌, ◌≤◌, ◌+◌, ◌*◌, ℕ, List, IsTrue, length, min};
-ghost use Rattle.word36.specs.declared.sizes.TheConstants.{JOBS, LOCKS_A_CALL, MOST_REQUESTS};
+ghost use Rattle.std.specs.Prelude.{◌≡◌, ◌≤◌, ℕ, List, IsTrue, vec_capacity};
+ghost use Rattle.word36.specs.declared.sizes.TheConstants.{JOBS};
 ghost use Rattle.lock_queue.specs.declared.call.LockReply.TheVariants.{Done};
 ghost use Rattle.lock_queue.specs.Calls.{outcome_of};
 ghost use Rattle.lock_queue.specs.Grants.{left_of};
 ghost use Rattle.lock_queue.specs.WellFormed.{all_share_rightly, names_locks};
 ghost use Rattle.table_reads.specs.Whole.{IsWhole, requests_in};
+ghost use Rattle.lock_table.specs.Arrivals.{HasRoom};
 ghost use Rattle.lock_table.specs.Departures.{LeavesBy};
 ghost use Rattle.lock_table.specs.Turns.{Turned};
 
@@ -23,18 +24,18 @@ pub fn make<const REQS: usize>(
     store: &mut Store<REQS>,
     turns: &mut Turns<REQS>,
     keys: &mut Keys,
-    locks: &mut [Lock],
+    locks: &mut Vec<Lock>,
     leaving: &mut Leaving,
     job: u8,
     call: &LockCall,
 ) -> LockReply
-    requires whole { IsWhole REQS store.old locks.old keys.old.buckets.items }
-    requires small { REQS ≤ MOST_REQUESTS }
+    requires whole { IsWhole REQS store.old locks.old.items keys.old.buckets.items }
     requires job { (1 ≤ job) × (job ≤ JOBS) }
     requires named { IsTrue (names_locks call.now) }
     requires unshared { IsTrue (all_share_rightly call.now) }
-    requires room { LOCKS_A_CALL * min (length store.old.order + 1) REQS ≤ length locks.old }
-    ensures whole { IsWhole REQS store.new locks.new keys.new.buckets.items }
+    requires room { HasRoom REQS (vec_capacity locks.old) }
+    ensures whole { IsWhole REQS store.new locks.new.items keys.new.buckets.items }
+    ensures capacity { vec_capacity locks.new ≡ vec_capacity locks.old }
     ensures requests { requests_in store.new ≡ (outcome_of REQS (requests_in store.old) job call.now).requests }
     ensures reply { result ≡ (outcome_of REQS (requests_in store.old) job call.now).reply }
     ensures left { result ≡ Done → LeavesBy (left_of job call.now) store.old store.new }
@@ -44,9 +45,31 @@ pub fn make<const REQS: usize>(
         LockCall::Enqueue { asking, wants } => enqueue(
             store, turns, keys, locks, job, asking, wants,
         ),
-        LockCall::Modify(changes) => modify(store, turns, keys, locks, job, changes.as_slice()),
-        LockCall::DequeueNamed(named) => dequeue_named(store, turns, keys, locks, job, named),
-        LockCall::DequeueAll => dequeue_all(store, turns, keys, locks, leaving, job),
-        LockCall::DequeueId(id) => dequeue_id(store, turns, keys, locks, leaving, job, *id),
+        LockCall::Modify(changes) => modify(
+            store,
+            turns,
+            keys,
+            locks.as_mut_slice(),
+            job,
+            changes.as_slice(),
+        ),
+        LockCall::DequeueNamed(named) => dequeue_named(
+            store,
+            turns,
+            keys,
+            locks.as_mut_slice(),
+            job,
+            named,
+        ),
+        LockCall::DequeueAll => dequeue_all(store, turns, keys, locks.as_mut_slice(), leaving, job),
+        LockCall::DequeueId(id) => dequeue_id(
+            store,
+            turns,
+            keys,
+            locks.as_mut_slice(),
+            leaving,
+            job,
+            *id,
+        ),
     }
 }

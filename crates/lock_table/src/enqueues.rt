@@ -1,7 +1,7 @@
 //! A request is taken in.
-ghost use Rattle.std.specs.Prelude.{◌≡◌, ◌≤◌, ◌<◌, ◌+◌, ◌*◌, ◌++◌, ◌∷◌, if◌then◌else◌, List, ℕ, true, false, [], None, IsTrue, length, min, nat_le};
+ghost use Rattle.std.specs.Prelude.{◌≡◌, ◌≤◌, ◌<◌, ◌+◌, ◌*◌, ◌++◌, ◌∷◌, if◌then◌else◌, List, ℕ, true, false, [], None, IsTrue, length, nat_le, vec_capacity};
 ghost use Rattle.std.specs.List.{list_all};
-ghost use Rattle.word36.specs.declared.sizes.TheConstants.{JOBS, LOCKS_A_CALL};
+ghost use Rattle.word36.specs.declared.sizes.TheConstants.{JOBS};
 ghost use Rattle.lock_queue.specs.Enqueues.{arrival, enqueue, enqueue_fault, request_of, with_arrival};
 ghost use Rattle.lock_queue.specs.Outcomes.{first_refusal};
 ghost use Rattle.lock_queue.specs.Queue.{granted};
@@ -11,6 +11,7 @@ ghost use Rattle.key_queues.specs.declared.keys.Bucket.{Bucket as BucketView};
 ghost use Rattle.key_queues.specs.declared.lock.Lock.{Lock as LockView};
 ghost use Rattle.request_store.specs.Stores.{filed_at, without_place};
 ghost use Rattle.table_reads.specs.Whole.{IsWhole, requests_in};
+ghost use Rattle.lock_table.specs.Arrivals.{HasRoom};
 ghost use Rattle.lock_queue.specs.Jobs.{as_told, is_interrupt};
 
 use crate::arrive::arrive;
@@ -45,19 +46,20 @@ fn are_in_range(wants: &[Want])
 fn come<const REQS: usize>(
     store: &mut Store<REQS>,
     keys: &mut Keys,
-    locks: &mut [Lock],
+    locks: &mut Vec<Lock>,
     job: u8,
     asking: &Asking,
     wants: &Wants,
 ) -> u16
-    requires whole { IsWhole REQS store.old locks.old keys.old.buckets.items }
+    requires whole { IsWhole REQS store.old locks.old.items keys.old.buckets.items }
     requires job { (1 ≤ job) × (job ≤ JOBS) }
     requires some { IsTrue (nat_le 1 (length wants.now.items)) }
     requires unshared { IsTrue (list_all shares_rightly wants.now.items) }
     requires passed { first_refusal (enqueue_fault (requests_in store.old) job) [] wants.now.items ≡ None }
     requires few { length store.old.order < REQS }
-    requires room { LOCKS_A_CALL * (length store.old.order + 1) ≤ length locks.old }
-    ensures whole { IsWhole REQS store.new locks.new keys.new.buckets.items }
+    requires room { HasRoom REQS (vec_capacity locks.old) }
+    ensures capacity { vec_capacity locks.new ≡ vec_capacity locks.old }
+    ensures whole { IsWhole REQS store.new locks.new.items keys.new.buckets.items }
     ensures requests { requests_in store.new ≡ with_arrival (requests_in store.old) job asking.now false wants.now }
     ensures granted { (filed_at store.new result).granted
         ≡ granted (with_arrival (requests_in store.old) job asking.now false wants.now) (length (requests_in store.old)) }
@@ -108,19 +110,20 @@ fn take_in<const REQS: usize>(
     store: &mut Store<REQS>,
     turns: &mut Turns<REQS>,
     keys: &mut Keys,
-    locks: &mut [Lock],
+    locks: &mut Vec<Lock>,
     job: u8,
     asking: &Asking,
     wants: &Wants,
 ) -> LockReply
-    requires whole { IsWhole REQS store.old locks.old keys.old.buckets.items }
+    requires whole { IsWhole REQS store.old locks.old.items keys.old.buckets.items }
     requires job { (1 ≤ job) × (job ≤ JOBS) }
     requires some { IsTrue (nat_le 1 (length wants.now.items)) }
     requires unshared { IsTrue (list_all shares_rightly wants.now.items) }
     requires passed { first_refusal (enqueue_fault (requests_in store.old) job) [] wants.now.items ≡ None }
     requires few { length store.old.order < REQS }
-    requires room { LOCKS_A_CALL * (length store.old.order + 1) ≤ length locks.old }
-    ensures whole { IsWhole REQS store.new locks.new keys.new.buckets.items }
+    requires room { HasRoom REQS (vec_capacity locks.old) }
+    ensures capacity { vec_capacity locks.new ≡ vec_capacity locks.old }
+    ensures whole { IsWhole REQS store.new locks.new.items keys.new.buckets.items }
     ensures requests { requests_in store.new ≡ (arrival (requests_in store.old) job asking.now wants.now).requests }
     ensures reply { result ≡ (arrival (requests_in store.old) job asking.now wants.now).reply }
 {
@@ -132,7 +135,7 @@ fn take_in<const REQS: usize>(
     match asking.kind {
         EnqueueKind::Blocking => LockReply::Queued,
         EnqueueKind::AtOnce => {
-            go_again(store, turns, keys, locks, p);
+            go_again(store, turns, keys, locks.as_mut_slice(), p);
             LockReply::Refused(Refusal::NotGranted)
         }
         EnqueueKind::Interrupt => LockReply::Refused(Refusal::NotGranted),
@@ -144,21 +147,22 @@ pub fn enqueue<const REQS: usize>(
     store: &mut Store<REQS>,
     turns: &mut Turns<REQS>,
     keys: &mut Keys,
-    locks: &mut [Lock],
+    locks: &mut Vec<Lock>,
     job: u8,
     asking: &Asking,
     wants: &Wants,
 ) -> LockReply
-    requires whole { IsWhole REQS store.old locks.old keys.old.buckets.items }
+    requires whole { IsWhole REQS store.old locks.old.items keys.old.buckets.items }
     requires job { (1 ≤ job) × (job ≤ JOBS) }
     requires some { IsTrue (nat_le 1 (length wants.now.items)) }
     requires unshared { IsTrue (list_all shares_rightly wants.now.items) }
-    requires room { LOCKS_A_CALL * min (length store.old.order + 1) REQS ≤ length locks.old }
-    ensures whole { IsWhole REQS store.new locks.new keys.new.buckets.items }
+    requires room { HasRoom REQS (vec_capacity locks.old) }
+    ensures capacity { vec_capacity locks.new ≡ vec_capacity locks.old }
+    ensures whole { IsWhole REQS store.new locks.new.items keys.new.buckets.items }
     ensures requests { requests_in store.new ≡ (enqueue REQS (requests_in store.old) job asking.now wants.now).requests }
     ensures reply { result ≡ (enqueue REQS (requests_in store.old) job asking.now wants.now).reply }
 {
-    match refusal_of_enqueue(store, keys, locks, job, asking, wants.as_slice()) {
+    match refusal_of_enqueue(store, keys, locks.as_slice(), job, asking, wants.as_slice()) {
         Some(refusal) => LockReply::Refused(refusal),
         None => take_in(store, turns, keys, locks, job, asking, wants),
     }

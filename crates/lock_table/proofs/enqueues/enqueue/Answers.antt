@@ -1,5 +1,4 @@
-use Rattle.std.proofs.Common.{◌≤◌, ◌+◌, ◌*◌, ◌∙◌, sym, ap, length, arith, lit<}
-use Rattle.word36.specs.declared.sizes.TheConstants.{LOCKS_A_CALL}
+use Rattle.std.proofs.Common.{◌∙◌, sym, ap, lit<}
 use Rattle.lock_queue.specs.Enqueues.{enqueue_refusal}
 use Rattle.table_reads.specs.Whole.{requests_in}
 use Rattle.lock_table.proofs.Admitting.{passes_all}
@@ -8,8 +7,7 @@ use Rattle.lock_table.proofs.enqueues.enqueue.Goals as goal
 pub take_in-requires : goal.take_in-requires
 take_in-requires g c =
     let none =
-    ap (enqueue_refusal g.row.REQS (requests_in c.args.store.now) c.args.job c.args.asking.now) (sym c.as_slice.ensures.value)
+    ap (enqueue_refusal g.row.REQS (requests_in c.args.store.now) c.args.job c.args.asking.now) (sym c.as_slice-2.ensures.value)
     ∙ sym c.refusal_of_enqueue.ensures ∙ c.in-None.is in
     let both = passes_all g.row.REQS c.args.store.now c.args.job c.args.asking.now c.args.wants.now.items none in
-    let room : LOCKS_A_CALL * (length c.args.store.now.order + 1) ≤ length c.args.locks.now = omega (arith, both.1, c.requires.room) in
-    (lit< tt, (lit< tt, (c.requires.whole, (c.requires.job, (c.requires.some, (c.requires.unshared, (both.0, (both.1, room))))))))
+    (lit< tt, (lit< tt, (c.requires.whole, (c.requires.job, (c.requires.some, (c.requires.unshared, (both.0, (both.1, c.requires.room))))))))

@@ -13,7 +13,7 @@ use Rattle.lock_table.proofs.Choosing.{without_new}
 use Rattle.lock_table.proofs.enqueues.take_in.Goals as goal
 
 pub returns-then-get-clause-whole : goal.returns-then-get-clause-whole
-returns-then-get-clause-whole g c = c.know.ensures.whole g.row.REQS c.come-p.new.locks c.come-p.new.keys.buckets.items c.come-p.ensures.whole
+returns-then-get-clause-whole g c = c.know.ensures.whole g.row.REQS c.come-p.new.locks.items c.come-p.new.keys.buckets.items c.come-p.ensures.whole
 
 pub returns-then-get-clause-requests : goal.returns-then-get-clause-requests
 returns-then-get-clause-requests g c =

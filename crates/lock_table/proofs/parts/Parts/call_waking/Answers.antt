@@ -9,7 +9,7 @@ pub returns-clause-woken : goal.returns-clause-woken
 returns-clause-woken g c =
     let s = c.self.inside.store in
     c.fill_if.ensures
-    ∙ woken_if g.row.REQS s c.make-reply.new.store c.self.inside.locks.items c.make-reply.new.locks c.args.job c.args.call.now
+    ∙ woken_if g.row.REQS s c.make-reply.new.store c.self.inside.locks.items c.make-reply.new.locks.items c.args.job c.args.call.now
     c.clear.new.self c.make-reply.new.turns c.self.invariant.whole.table
     c.make-reply.ensures.whole.table c.make-reply.result c.make-reply.ensures.reply c.make-reply.ensures.left c.clear.ensures
     c.make-reply.ensures.turns c.is_done-done.result c.is_done-done.ensures

@@ -8,7 +8,6 @@ use Rattle.lock_table.proofs.parts.Parts.told.Goals as goal
 pub invariant_of-self : goal.invariant_of-self
 invariant_of-self g c = record {
   least = c.self.invariant.least;
-  small = c.self.invariant.small;
   whole = c.tell.ensures.whole g.row.REQS c.self.inside.locks.items c.self.inside.keys.buckets.items c.self.invariant.whole;
   room = c.self.invariant.room;
 }
