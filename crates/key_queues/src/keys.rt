@@ -90,6 +90,7 @@ impl Keys {
     }
 
     /// The number of the open lock of a key that has this hash.
+    #[inline(always)]
     pub fn find(&self, locks: &[Lock], key: &Key, hash: u16) -> Option<u16>
         requires index { IsIndex self.now.buckets.items locks.now }
         requires hash { hash ≡ hash_of key.now }

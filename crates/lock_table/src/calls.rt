@@ -20,6 +20,7 @@ use lock_queue::{LockCall, LockReply};
 use request_store::Store;
 
 /// Makes one call of a job.
+#[inline(always)]
 pub fn make<const REQS: usize>(
     store: &mut Store<REQS>,
     turns: &mut Turns<REQS>,
