@@ -2,7 +2,7 @@
 
 use crate::runs::run_from_start;
 use crate::session::Session;
-use ddt_help::Refusal;
+use ddt_lines::Refusal;
 use ddt_moves::{take_line, type_line};
 use ddt_session::Entry;
 use monitor::Answer;

@@ -2,7 +2,7 @@
 
 use crate::session::Session;
 use crate::told::say_turn;
-use ddt_help::Refusal;
+use ddt_lines::Refusal;
 use ddt_moves::turn_at;
 use ddt_session::{last_at, last_write};
 use std::alloc::AllocError;

@@ -1,8 +1,7 @@
 //! The last turns of a job.
 
 use crate::session::Session;
-use ddt_help::Refusal;
-use ddt_lines::Look;
+use ddt_lines::{Look, Refusal};
 use ddt_session::{Replay, last_turns};
 use ddt_show::{ShownJob, place_line};
 use run_machine::Machine;

@@ -1,8 +1,7 @@
 //! Places that are opened, and quantities that are told.
 
 use crate::session::Session;
-use ddt_help::Refusal;
-use ddt_lines::{Last, Look};
+use ddt_lines::{Last, Look, Refusal};
 use ddt_show::word_line;
 use std::alloc::AllocError;
 use word36::Word;

@@ -13,8 +13,7 @@ use crate::stop_commands::{
     set, stop_at_circles, stop_at_grants, stop_at_lock, tell_stops, unset, watch,
 };
 use crate::tables::{open_job, tell_jobs, tell_locks, tell_registers, tell_waits};
-use ddt_help::help_text;
-use ddt_lines::{Command, Wrong, read_line};
+use ddt_lines::{Command, Wrong, help_text, read_line};
 use std::alloc::AllocError;
 
 /// What a line asks of the program, beside its answer.

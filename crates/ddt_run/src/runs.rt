@@ -2,7 +2,7 @@
 
 use crate::session::Session;
 use crate::told::tell_end;
-use ddt_help::Refusal;
+use ddt_lines::Refusal;
 use ddt_moves::{
     Cause, Ended, Stops, breakpoint_of, go_on, is_loaded, is_stopped, run_to, stands_at_call,
     start, stops_of,

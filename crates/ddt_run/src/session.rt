@@ -1,8 +1,7 @@
 //! A session: the machine with its jobs, and what is looked at.
 
 use crate::file_lines::FileLines;
-use ddt_help::{Refusal, refuse};
-use ddt_lines::{Look, Scope, Symbol};
+use ddt_lines::{Look, Refusal, Scope, Symbol, refuse};
 use ddt_moves::{InputLines, StopList};
 use ddt_session::Timeline;
 use ddt_show::{ShownJob, job_line, place_line, place_text};

@@ -1,7 +1,7 @@
 //! Breakpoints, watched words and the other stops, as they are asked for.
 
 use crate::session::Session;
-use ddt_help::Refusal;
+use ddt_lines::Refusal;
 use ddt_moves::{BREAKPOINTS, Breakpoint, StopList, WatchedWord};
 use lock_queue::Name;
 use queue_script::CallRoom;

@@ -1,7 +1,7 @@
 //! What is told of jobs, locks and registers.
 
 use crate::session::Session;
-use ddt_help::Refusal;
+use ddt_lines::Refusal;
 use ddt_show::{lock_lines, register_lines, wait_lines};
 use std::alloc::AllocError;
 
