@@ -36,6 +36,20 @@ done
 { cat "$top/tests/ddt/back.ddt"; echo .SAVE saved; } | "$program" counter.mac >first
 echo .DO saved | "$program" counter.mac | grep -v '^\* ' | cmp -s - first || say "a saved session gives other answers"
 
+# a file may name no other; its lines are as long as those that are typed, and may end in CR LF or, the last, in nothing
+{ echo .DO other; printf '%257s\n' '.='; printf '.=\r\n.='; } >lines
+echo .DO lines | "$program" counter.mac >given
+{
+    printf '* .DO other\n? lines: a file of lines obeys no other file\n'
+    printf '* %257s\n? a line has at most 256 characters\n' '.='
+    printf '* .=\n000000,,000140\n* .=\n000000,,000140\n'
+} | cmp -s - given || say "a file of lines: $(cat given)"
+
+# behind a file the lines that are typed are read on, and a file may be obeyed again
+printf '.=\n' >lines
+printf '.DO lines\n.=\n.DO lines\n' | "$program" counter.mac >given
+printf '%s\n' '* .=' '000000,,000140' '000000,,000140' '* .=' '000000,,000140' | cmp -s - given || say "two files of lines: $(cat given)"
+
 # a line of 256 characters is read, one of 257 is passed over
 { printf '%256s\n' '.='; printf '%257s\n' '.='; echo .=; } | "$program" counter.mac >given
 printf '%s\n' '000000,,000140' '? a line has at most 256 characters' '000000,,000140' | cmp -s - given || say "a line that is too long: $(cat given)"
