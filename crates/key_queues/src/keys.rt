@@ -115,7 +115,7 @@ impl Keys {
         put(&mut self.buckets[hash as usize], n);
     }
 
-    /// The number of a lock that is not open, of which there may be so many.
+    /// The number of a lock that is not open. `most` is how many locks there may be.
     fn take_free(&mut self, locks: &mut Vec<Lock>, most: usize) -> u16
         requires few { most ≤ 2 ^ 16 }
         requires short { length locks.old.items ≤ 2 ^ 16 }
@@ -136,7 +136,7 @@ impl Keys {
     }
 
     /// The number of the lock of a want's key: of the open one, or of one that was not open and now is of
-    /// that key. There may be so many locks.
+    /// that key. `most` is how many locks there may be.
     pub fn queue_for(&mut self, locks: &mut Vec<Lock>, w: &Want, most: usize) -> u16
         requires index { IsIndex self.old.buckets.items locks.old.items }
         requires few { most ≤ 2 ^ 16 }

@@ -118,7 +118,7 @@ fn one_more(locks: &mut Vec<Lock>) -> usize
     n
 }
 
-/// The number of a lock that is not open: of one more, as long as there are fewer than so many.
+/// The number of a lock that is not open: of one more, as long as there are fewer than `most`.
 #[cold]
 pub fn unopened(locks: &mut Vec<Lock>, most: usize) -> usize
     requires few { most ≤ 2 ^ 16 }
