@@ -1,24 +1,16 @@
 -- Open queues stay used.
-use Rattle.std.proofs.Common.{◌≡◌, ◌≢◌, ◌<◌, ◌∙◌, sym, ap, subst, ℕ, suc, true, ◌==◌, not, List, [], ◌∷◌, ◌++◌, length, get_or, inl, inr, arith}
-use Rattle.std.proofs.lemmas.Bool.{or_left, or_right, or_cases, eqb-true, cases_eq, ne_eqb, not-true}
+use Rattle.std.proofs.lemmas.Grind.{common_steps}
+use Rattle.std.proofs.Common.{◌≡◌, ◌≢◌, ◌<◌, sym, subst, ℕ, true, ◌==◌, List, ◌∷◌, ◌++◌, length, get_or, inl, inr, arith}
+use Rattle.std.proofs.lemmas.Bool.{cases_eq, not-true}
 use Rattle.std.proofs.lemmas.List.Folds.{list_any-append}
 use Rattle.key_queues.specs.Kept.{KeptQueue}
-use Rattle.key_queues.specs.States.{State, Stands, IsKept, IsCounted, IsUsed, GivesUpAt, Extended, OpenAreUsed, OnlyShuts, is_open}
+use Rattle.key_queues.specs.States.{State, Stands, IsKept, IsCounted, IsUsed, GivesUpAt, Extended, OpenAreUsed, is_open}
 use Rattle.key_queues.specs.Tables.{is_there}
-use Rattle.key_queues.proofs.Using.{stands_in_queue, there_at, used_after}
+use Rattle.key_queues.proofs.Using.{stands_in_queue, used_after}
 
 -- what stands around a number that is not it
 pub there_around : (m n : ℕ) (a b : List ℕ) → m ≢ n → is_there m (a ++ n ∷ b) ≡ true → is_there m (a ++ b) ≡ true
-there_around m n a b ne h =
-    let both = list_any-append (λ x. x == m) a b in
-    elim (or_cases (is_there m a) (is_there m (n ∷ b)) (sym (list_any-append (λ x. x == m) a (n ∷ b)) ∙ h)) [
-      | inl l ↦ both ∙ or_left (is_there m a) (is_there m b) l
-      | inr r ↦
-          elim (or_cases (n == m) (is_there m b) r) [
-            | inl e ↦ absurd (ne (sym (eqb-true n m e)))
-            | inr l ↦ both ∙ or_right (is_there m a) (is_there m b) l
-          ]
-    ]
+there_around m n a b ne h = grind (arith, common_steps, list_any-append)
 
 pub open_given_up : (s t : State) (p k : ℕ) → IsKept s → IsKept t → is_there p s.order ≡ true → k < length (s.own p)
     → GivesUpAt s t p k
@@ -53,60 +45,15 @@ open_given_up s t p k kept_s kept_t present lt gives counted used m some =
 
 -- a queue that is used stays so where the order and the queues of requests stay
 pub used_same : (s t : State) (m : ℕ) → t.order ≡ s.order → ((x : ℕ) → t.own x ≡ s.own x) → IsUsed s m → IsUsed t m
-used_same s t m order own u = record {
-  place = u.place;
-  stands = record {
-    present = subst (λ l. is_there u.place l ≡ true) (sym order) u.stands.present;
-    there = subst (λ l. is_there m l ≡ true) (sym (own u.place)) u.stands.there;
-  };
-}
+used_same s t m order own u = grind (arith, common_steps)
 
 pub open_extended : (s t : State) (n : ℕ) → Extended s t n → IsUsed s n → OpenAreUsed s → OpenAreUsed t
-open_extended s t n e used_n used m some =
-    elim (cases_eq m n) [
-      | inl here ↦ subst (IsUsed t) (sym here) (used_same s t n e.order e.own used_n)
-      | inr ne ↦
-          used_same s t m e.order e.own (used m (subst (λ (q : KeptQueue). is_open q ≡ true) (e.others m ne) some))
-    ]
+open_extended s t n e used_n used m some = grind (arith, common_steps, used_same)
 
 -- an open queue has places
 pub open_where_there : (x : ℕ) (q : KeptQueue) → is_there x q.places ≡ true → is_open q ≡ true
-open_where_there x q h = go q.places h
-  where
-    go : (l : List ℕ) → is_there x l ≡ true → not (length l == 0) ≡ true
-    go [] h = cc
-    go (y ∷ l) h = ap not (ne_eqb (suc (length l)) 0 (λ e. absurd (omega arith)))
+open_where_there x q h = grind (arith, common_steps)
 
 -- a queue that is used is open
 pub used_open : (s : State) (x n : ℕ) → IsKept s → Stands s x n → is_open (s.queue n) ≡ true
 used_open s x n kept st = open_where_there x (s.queue n) (stands_in_queue s x n kept st)
-
--- a want that is given up opens no queue
-pub shuts_given_up : (s t : State) (p k : ℕ) → IsKept s → is_there p s.order ≡ true → k < length (s.own p) → GivesUpAt s t p k
-    → OnlyShuts s t
-shuts_given_up s t p k kept present lt gives = record {
-  key = gives.key;
-  size = gives.size;
-  shut =
-      λ m some.
-      elim (cases_eq m (get_or (s.own p) k 0)) [
-        | inl e ↦
-            subst (λ j. is_open (s.queue j) ≡ true) (sym e)
-            (used_open s p (get_or (s.own p) k 0) kept (record { present = present; there = there_at (s.own p) k 0 lt }))
-        | inr ne ↦ subst (λ (q : KeptQueue). is_open q ≡ true) (gives.others m ne) some
-      ];
-}
-
--- nor do those that are counted then
-pub shuts_extended : (s m t : State) (n : ℕ) → OnlyShuts s m → Extended m t n → IsUsed m n → IsKept m → OnlyShuts s t
-shuts_extended s m t n shuts e used kept = record {
-  key = λ j. e.key j ∙ shuts.key j;
-  size = λ j. e.size j ∙ shuts.size j;
-  shut =
-      λ j some.
-      elim (cases_eq j n) [
-        | inl here ↦
-            subst (λ z. is_open (s.queue z) ≡ true) (sym here) (shuts.shut n (used_open m used.place n kept used.stands))
-        | inr ne ↦ shuts.shut j (subst (λ (q : KeptQueue). is_open q ≡ true) (e.others j ne) some)
-      ];
-}

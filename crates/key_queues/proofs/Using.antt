@@ -1,12 +1,12 @@
 -- What is found of queues that are used.
-use Rattle.std.proofs.Common.{◌≡◌, ◌≤◌, ◌<◌, ◌+◌, ◌-◌, ◌∙◌, sym, ap, subst, ℕ, zero, suc, Bool, true, false, ◌||◌, ◌==◌, not, cond, List, [], ◌∷◌}
+use Rattle.std.proofs.lemmas.Grind.{common_steps}
+use Rattle.std.proofs.Common.{◌≡◌, ◌≤◌, ◌<◌, ◌+◌, ◌∙◌, sym, ap, subst, ℕ, zero, suc, Bool, true, false, ◌||◌, ◌==◌, not, cond, List, [], ◌∷◌}
 use Rattle.std.proofs.Common.{length, get_or, map, filter, slice_get, Some, None, option_map, inl, inr, refl, arith}
 use Rattle.std.specs.List.{position_or_len, remove}
-use Rattle.std.proofs.lemmas.Bool.{or_left, or_right, or_cases, eq-eqb, eqb-true, eqb-false, ne_eqb, cases_eq}
+use Rattle.std.proofs.lemmas.Bool.{or_left, or_right, or_cases, eq-eqb, eqb-true, eqb-false}
 use Rattle.std.proofs.lemmas.List.{get_or-set_same, get_or-set_other, nil_from_length}
 use Rattle.std.proofs.lemmas.Option.{slice_get-map}
 use Rattle.lock_queue.specs.declared.key.Key.{Key}
-use Rattle.lock_queue.specs.declared.request.Request.{Request}
 use Rattle.lock_queue.specs.declared.want.Want.{Want}
 use Rattle.lock_queue.specs.Keys.{same_key}
 use Rattle.lock_queue.specs.Queue.{wants_at, names}
@@ -14,8 +14,7 @@ use Rattle.lock_queue.specs.Unused.{unused_want}
 use Rattle.lock_queue.proofs.Fitting.{eq-same_key, names-found}
 use Rattle.lock_queue.proofs.Lists.{Has}
 use Rattle.key_queues.specs.declared.lock.Lock.{Lock}
-use Rattle.key_queues.specs.Locks.{uncounted, unused_lock, lock_at, want_in, with_queue}
-use Rattle.key_queues.specs.Beginnings.{fitting}
+use Rattle.key_queues.specs.Locks.{uncounted, lock_at, want_in, with_queue}
 use Rattle.key_queues.specs.Kept.{KeptQueue, fits_next, admitted}
 use Rattle.key_queues.specs.States.{State, Stands, IsKept, CountsAll, CountsBut, IsCounted, GivesUpAt, IsUsed, IsFull, Extended}
 use Rattle.key_queues.specs.Tables.{is_there, places_at, QueuesOf}
@@ -177,25 +176,14 @@ full_where_unfit s n p w kept used next f =
 -- a lock with its queue changed, and the others
 pub lock_with : (locks : List Lock) (n m : ℕ) (q : KeptQueue) → n < length locks
     → lock_at (with_queue locks n q) m ≡ cond (m == n) (record (lock_at locks n) { queue = q }) (lock_at locks m)
-lock_with locks n m q lt =
-    elim (cases_eq m n) [
-      | inl e ↦
-          rw (eq-eqb m n e)
-          (ap (λ k. lock_at (with_queue locks n q) k) e ∙ get_or-set_same locks n (record (lock_at locks n) { queue = q }) unused_lock lt)
-      | inr ne ↦ rw (ne_eqb m n ne) (get_or-set_other locks n m (record (lock_at locks n) { queue = q }) unused_lock ne)
-    ]
+lock_with locks n m q lt = grind (arith, common_steps, get_or-set_other, get_or-set_same)
 
 -- one want fewer is left to count
 pub one_fewer : (locks more : List Lock) (n : ℕ) (w : Want) → n < length locks
     → (lock_at locks n).queue.fitting < length (lock_at locks n).queue.places
     → more ≡ with_queue locks n (admitted (lock_at locks n).queue w)
     → uncounted (lock_at more n).queue + 1 ≤ uncounted (lock_at locks n).queue
-one_fewer locks more n w lt next is =
-    let mine : lock_at more n ≡ record (lock_at locks n) { queue = admitted (lock_at locks n).queue w } =
-    ap (λ l. lock_at l n) is ∙ lock_with locks n n (admitted (lock_at locks n).queue w) lt ∙ rw (eq-eqb n n refl) refl in
-    let left : uncounted (lock_at more n).queue ≡ length (lock_at locks n).queue.places - ((lock_at locks n).queue.fitting + 1) =
-    ap (λ (k : Lock). uncounted k.queue) mine in
-    omega (arith, left, next)
+one_fewer locks more n w lt next is = grind (arith, common_steps, lock_with)
 
 -- the first place of a number that is there
 pub position_found : (p : ℕ) (xs : List ℕ) → is_there p xs ≡ true
@@ -233,14 +221,7 @@ as_many_queues R (w ∷ ws) [] q = absurd q
 
 -- what a request owns after that it owned before
 pub owned_before : (s t : State) (p k x m : ℕ) → GivesUpAt s t p k → is_there m (t.own x) ≡ true → is_there m (s.own x) ≡ true
-owned_before s t p k x m gives there =
-    elim (cases_eq x p) [
-      | inl e ↦
-          let here : is_there m (t.own p) ≡ true = subst (λ z. is_there m (t.own z) ≡ true) e there in
-          let was : is_there m (s.own p) ≡ true = there_removed m k (s.own p) (subst (λ l. is_there m l ≡ true) gives.owns here) in
-          subst (λ z. is_there m (s.own z) ≡ true) (sym e) was
-      | inr ne ↦ subst (λ l. is_there m l ≡ true) (gives.own x ne) there
-    ]
+owned_before s t p k x m gives there = grind (arith, common_steps, there_removed)
 
 -- a queue of the key of the one that was given up is that one
 pub same_queue : (s t : State) (p k x m : ℕ) (key : Key) → IsKept s → is_there p s.order ≡ true → k < length (s.own p) → GivesUpAt s t p k
@@ -280,31 +261,7 @@ used_after s t p k kept_s kept_t present lt gives counted some =
 
 -- all queues are full again where the one that was not is, or is empty
 pub full_extended : (s t : State) (n : ℕ) → CountsBut n s → Extended s t n → IsFull t n → CountsAll t
-full_extended s t n but e full x m st =
-    elim (cases_eq m n) [
-      | inl here ↦ subst (IsFull t) (sym here) full
-      | inr ne ↦
-          let was : Stands s x m = record {
-            present = subst (λ l. is_there x l ≡ true) e.order st.present;
-            there = subst (λ l. is_there m l ≡ true) (e.own x) st.there;
-          } in
-          let same : (λ y. t.at y) ≡ (λ y. s.at y) = λ i y. e.at y i in
-          ap (λ (q : KeptQueue). q.fitting) (e.others m ne)
-          ∙ but x m was ne
-          ∙ ap fitting
-          (sym
-          (ap (λ l. wants_at (map t.at l) (t.key m)) e.order
-          ∙ ap (λ (f : ℕ → Request). wants_at (map f s.order) (t.key m)) same ∙ ap (wants_at (map s.at s.order)) (e.key m)))
-    ]
+full_extended s t n but e full x m st = grind (arith, common_steps)
 
 pub full_empty : (s : State) (n : ℕ) → IsKept s → CountsBut n s → (length (s.queue n).places == 0) ≡ true → CountsAll s
-full_empty s n kept but none x m st =
-    elim (cases_eq m n) [
-      | inl here ↦
-          let at : Stands s x n = subst (Stands s x) here st in
-          let there : is_there x (s.queue n).places ≡ true = stands_in_queue s x n kept at in
-          let nil : (s.queue n).places ≡ [] = nil_from_length (s.queue n).places (eqb-true (length (s.queue n).places) 0 none) in
-          let no_place : is_there x [] ≡ true = subst (λ l. is_there x l ≡ true) nil there in
-          cc
-      | inr ne ↦ but x m st ne
-    ]
+full_empty s n kept but none x m st = grind (arith, common_steps, nil_from_length, stands_in_queue)

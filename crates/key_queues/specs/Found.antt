@@ -1,15 +1,17 @@
 -- Where the number of a key's lock is found (this project's profile).
-use Rattle.std.specs.Prelude.{◌≡◌, ◌≤◌, ◌<◌, ◌^◌, ◌⊎◌, ◌==◌, ℕ, true, false, List, [], ◌∷◌, ◌++◌, length, if◌then◌else◌, slice_index_or}
+use Rattle.std.specs.Prelude.{◌≡◌, ◌≤◌, ◌<◌, ◌*◌, ◌^◌, ◌⊎◌, ◌==◌, ℕ, true, false, List, [], ◌∷◌, ◌++◌, length, if◌then◌else◌, slice_index_or}
 use Rattle.std.specs.List.{All, position_or_len, remove}
+use Rattle.word36.specs.declared.sizes.TheConstants.{LOCKS_A_CALL, MOST_REQUESTS}
 use Rattle.lock_queue.specs.declared.want.Want.{Want}
 use Rattle.key_queues.specs.declared.lock.Lock.{Lock}
-use Rattle.key_queues.specs.Locks.{lock_at}
+use Rattle.key_queues.specs.Kept.{appended}
+use Rattle.key_queues.specs.Locks.{lock_at, with_queue}
 use Rattle.key_queues.specs.States.{is_open}
 use Rattle.key_queues.specs.Tables.{is_there}
 use Rattle.key_queues.specs.declared.hash.TheConstants.{HASHES}
 use Rattle.key_queues.specs.Hashes.{hash_of}
-use Rattle.key_queues.specs.declared.keys.Bucket.{Bucket}
-use Rattle.key_queues.specs.declared.keys.TheConstants.{ROOM}
+use Rattle.key_queues.specs.declared.buckets.Bucket.{Bucket}
+use Rattle.key_queues.specs.declared.buckets.TheConstants.{ROOM}
 use Rattle.key_queues.specs.Opened.{fresh_lock, is_closed, is_open_for}
 
 abbrev pub no_bucket : Bucket
@@ -41,11 +43,18 @@ pub record IsIndex (buckets : List Bucket) (locks : List Lock) : Type 0 where
   pub within : (h : ℕ) → All (λ n. n < length locks) (bucket_at buckets h).numbers.items
   pub holds : (n : ℕ) → is_open (lock_at locks n).queue ≡ true → Holds (bucket_at buckets (hash_of (lock_at locks n).key)) n
 
--- there may be more locks, none of which is open
-pub record IsGrown (locks more : List Lock) : Type 0 where
-  pub same : (n : ℕ) → lock_at more n ≡ lock_at locks n
+-- the locks of a table of so many requests, with memory for so many, each open one in the index
+pub record IsKeyed (size : ℕ) (locks : List Lock) (most : ℕ) (buckets : List Bucket) : Type 0 where
+  pub small : size ≤ MOST_REQUESTS
+  pub reserved : LOCKS_A_CALL * size ≤ most
+  pub index : IsIndex buckets locks
+
+-- a lock that is not open, of locks to which others that are not open may have come
+pub record IsSpare (locks more : List Lock) (n : ℕ) : Type 0 where
+  pub same : (m : ℕ) → lock_at more m ≡ lock_at locks m
   pub kept : length locks ≤ length more
-  pub few : length more ≤ 2 ^ 16
+  pub within : n < length more
+  pub closed : is_closed (lock_at more n) ≡ true
 
 -- the lock of the key is open, and stays as it is
 pub record WasOpen (locks more : List Lock) (w : Want) (n : ℕ) : Type 0 where
@@ -59,10 +68,14 @@ pub record IsBegun (locks more : List Lock) (w : Want) (n : ℕ) : Type 0 where
   pub none : (m : ℕ) → is_open_for w.key (lock_at locks m) ≡ false
 
 -- the lock of a want's key is made ready for it
-pub record Readies (locks more : List Lock) (buckets : List Bucket) (w : Want) (n : ℕ) : Type 0 where
+pub record Readies (locks more : List Lock) (w : Want) (n : ℕ) : Type 0 where
   pub within : n < length more
   pub kept : length locks ≤ length more
   pub others : (m : ℕ) → (m ≡ n → ⊥) → lock_at more m ≡ lock_at locks m
   pub mine : WasOpen locks more w n ⊎ IsBegun locks more w n
-  pub index : IsIndex buckets more
-  pub holds : Holds (bucket_at buckets (hash_of w.key)) n
+
+-- and the want of the request at a place comes last in its queue
+pub record IsEntered (locks more : List Lock) (p : ℕ) (w : Want) (n : ℕ) : Type 0 where
+  pub middle : List Lock
+  pub ready : Readies locks middle w n
+  pub after : more ≡ with_queue middle n (appended (lock_at middle n).queue p w)

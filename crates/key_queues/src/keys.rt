@@ -1,178 +1,226 @@
-//! The numbers of locks, by hashes of their keys.
-ghost use Rattle.std.specs.Prelude.{IfOk, ◌≡◌, ◌<◌, ◌≤◌, ◌^◌, ℕ, true, false, length, slice_set, vec_capacity, IfSome};
-ghost use Rattle.std.specs.List.{All, list_any};
-ghost use Rattle.key_queues.specs.Locks.{lock_at};
-ghost use Rattle.key_queues.specs.declared.hash.TheConstants.{HASHES};
+//! The locks of a table, which are found by hashes of their keys.
+ghost use Rattle.std.specs.Prelude.{IfOk, IfSome, ◌≡◌, ◌<◌, ◌≤◌, ◌*◌, ◌==◌, [], ℕ, true, false, if◌then◌else◌, length, slice_get};
+ghost use Rattle.std.specs.List.{All, list_all, list_any, position_or_len};
+ghost use Rattle.word36.specs.declared.sizes.TheConstants.{JOBS, LOCKS_A_CALL, MOST_REQUESTS};
+ghost use Rattle.key_queues.specs.Found.{IsEntered, IsSpare};
 ghost use Rattle.key_queues.specs.Hashes.{hash_of};
+ghost use Rattle.key_queues.specs.Kept.{admitted, counting, fits_next};
+ghost use Rattle.key_queues.specs.Locks.{lock_at, with_queue, without_place};
 ghost use Rattle.key_queues.specs.Opened.{is_closed, is_open_for};
-ghost use Rattle.key_queues.specs.Found.{Holds, IsGrown, IsIndex, Readies, bucket_at, no_bucket, numbered, without_number};
+ghost use Rattle.key_queues.specs.Tables.{is_counted};
 
+use crate::Lock;
+use crate::buckets::{Bucket, no_buckets};
 use crate::hash::{HASHES, hash_of};
-use crate::locks::{begin, find_in, find_open, unopened};
-use crate::queue::remove_at;
-use crate::{Lock, index_of};
-use arrayvec::ArrayVec;
+use crate::locks::{find_in, find_open, first_closed};
 use lock_queue::{Key, Want};
 use std::alloc::{AllocError, Global};
+use std::marker::Model;
+use word36::LOCKS_A_CALL;
 
-/// How many numbers stand at a hash.
-pub const ROOM: usize = 4;
-
-/// The numbers of open locks whose keys have one hash. Where there was no room for one, it is crowded.
+/// The locks of a table by their numbers: an open one is found by a hash of its key. Numbers that may
+/// be of locks that are not open are kept beside them. No memory is taken after `new`.
 #[derive(Drop)]
-pub struct Bucket {
-    pub numbers: ArrayVec<u16, ROOM>,
-    pub crowded: bool,
+pub struct Keys<const REQS: usize> {
+    locks: Vec<Lock>,
+    buckets: Vec<Bucket>,
+    free: Vec<u16>,
 }
 
-/// The numbers of locks: of the open ones by the hashes of their keys, and of those that may be free.
-#[derive(Drop)]
-pub struct Keys {
-    pub buckets: Vec<Bucket>,
-    pub free: Vec<u16>,
+impl<const REQS: usize> Model for Keys<REQS> {
+    ghost use Rattle.std.specs.Prelude.{List, vec_capacity};
+    ghost use Rattle.key_queues.specs.declared.lock.Lock.{Lock as LockView};
+    ghost use Rattle.key_queues.specs.Found.{IsKeyed};
+
+    ghost Value = { List LockView };
+
+    ghost view = { λ k. k.locks.items };
+
+    ghost invariant = { λ k. IsKeyed REQS k.locks.items (vec_capacity k.locks) k.buckets.items };
 }
 
-/// Puts a number into a bucket, where there is room.
-fn put(bucket: &mut Bucket, n: u16)
-    ensures { bucket.new ≡ numbered bucket.old n }
-{
-    if bucket.numbers.is_full() {
-        bucket.crowded = true;
-    } else {
-        bucket.numbers.push(n);
+/// A number comes last, where there is memory for it.
+fn push_if_room(free: &mut Vec<u16>, n: u16) {
+    if free.len() < free.capacity() {
+        let _ = free.push(n);
     }
 }
 
-/// Takes a number out of a bucket, where it is there.
-fn take_out(bucket: &mut Bucket, n: u16)
-    ensures { bucket.new ≡ without_number bucket.old n }
-{
-    let i = index_of(bucket.numbers.as_slice(), n);
-    if i < bucket.numbers.len() {
-        remove_at(&mut bucket.numbers, i);
-    }
-}
-
-/// So many buckets without numbers.
-fn no_buckets(alloc: Global, count: usize) -> Result<Vec<Bucket>, AllocError>
-    ensures long { IfOk result (λ buckets. length buckets.items ≡ count) }
-    ensures none { IfOk result (λ buckets. (h : ℕ) → bucket_at buckets.items h ≡ no_bucket) }
-{
-    let mut buckets = Vec::with_capacity(alloc, count)?;
-    for _ in 0..count {
-        buckets.push(Bucket {
-            numbers: ArrayVec::new(),
-            crowded: false,
-        })?;
-    }
-    Ok(buckets)
-}
-
-impl Keys {
-    /// No numbers, and memory for so many.
-    pub fn new(alloc: Global, count: usize) -> Result<Self, AllocError>
-        ensures long { IfOk result (λ keys. length keys.buckets.items ≡ HASHES) }
-        ensures none { IfOk result (λ keys. (h : ℕ) → bucket_at keys.buckets.items h ≡ no_bucket) }
+impl<const REQS: usize> Keys<REQS> {
+    /// No locks, and memory for all that `REQS` requests may name, of which there are at most 1,024.
+    pub fn new(alloc: Global) -> Result<Self, AllocError>
+        requires { REQS ≤ MOST_REQUESTS }
+        ensures { IfOk result (λ keys. keys ≡ []) }
     {
         Ok(Keys {
+            locks: Vec::with_capacity(alloc, LOCKS_A_CALL * REQS)?,
             buckets: no_buckets(alloc, HASHES)?,
-            free: Vec::with_capacity(alloc, count)?,
+            free: Vec::with_capacity(alloc, LOCKS_A_CALL * REQS)?,
         })
     }
 
-    /// A number may be free.
-    fn free_if_room(&mut self, n: u16)
-        ensures { self.new.buckets.items ≡ self.old.buckets.items }
+    /// The locks.
+    pub fn locks(&self) -> &[Lock]
+        ensures { result.now ≡ self.now }
     {
-        if self.free.len() < self.free.capacity() {
-            let _ = self.free.push(n);
-        }
+        self.locks.as_slice()
+    }
+
+    /// The number of the open lock of a key.
+    #[inline(always)]
+    pub fn find(&self, key: &Key) -> Option<u16>
+        ensures found { IfSome result (λ n. is_open_for key.now (lock_at self.now n) ≡ true) }
+        ensures none { result ≡ None → (n : ℕ) → is_open_for key.now (lock_at self.now n) ≡ false }
+    {
+        self.find_at(key, hash_of(key))
     }
 
     /// The number of the open lock of a key that has this hash.
     #[inline(always)]
-    pub fn find(&self, locks: &[Lock], key: &Key, hash: u16) -> Option<u16>
-        requires index { IsIndex self.now.buckets.items locks.now }
-        requires hash { hash ≡ hash_of key.now }
-        ensures found { IfSome result (λ n. is_open_for key.now (lock_at locks.now n) ≡ true) }
-        ensures none { result ≡ None → (n : ℕ) → is_open_for key.now (lock_at locks.now n) ≡ false }
+    fn find_at(&self, key: &Key, hash: u16) -> Option<u16>
+        requires { hash ≡ hash_of key.now }
+        ensures found { IfSome result (λ n. is_open_for key.now (lock_at self.now n) ≡ true) }
+        ensures none { result ≡ None → (n : ℕ) → is_open_for key.now (lock_at self.now n) ≡ false }
     {
         let bucket = &self.buckets[hash as usize];
-        if let Some(n) = find_in(bucket.numbers.as_slice(), locks, key) {
+        if let Some(n) = find_in(bucket.numbers.as_slice(), self.locks.as_slice(), key) {
             return Some(n);
         }
         if !bucket.crowded {
             return None;
         }
-        find_open(locks, key)
+        find_open(self.locks.as_slice(), key)
     }
 
-    /// Puts a number at a hash.
-    fn file(&mut self, hash: u16, n: u16)
-        requires { hash < length self.old.buckets.items }
-        ensures { self.new.buckets.items ≡ slice_set self.old.buckets.items hash (numbered (bucket_at self.old.buckets.items hash) n) }
+    /// The number of a lock that is not open: of one more, as long as there is memory for it, and then of
+    /// the first.
+    #[cold]
+    fn unopened(&mut self) -> u16
+        requires { LOCKS_A_CALL * REQS ≤ length self.old → list_any is_closed self.old ≡ true }
+        ensures { IsSpare self.old self.new result }
     {
-        put(&mut self.buckets[hash as usize], n);
+        if self.locks.len() < LOCKS_A_CALL * REQS {
+            let n = self.locks.len();
+            self.locks.push_reserved(Lock::unused());
+            n as u16
+        } else {
+            first_closed(self.locks.as_slice()) as u16
+        }
     }
 
-    /// The number of a lock that is not open. `most` is how many locks there may be.
-    fn take_free(&mut self, locks: &mut Vec<Lock>, most: usize) -> u16
-        requires few { most ≤ 2 ^ 16 }
-        requires short { length locks.old.items ≤ 2 ^ 16 }
-        requires reserved { most ≤ vec_capacity locks.old }
-        requires room { most ≤ length locks.old.items → list_any is_closed locks.old.items ≡ true }
-        ensures grown { IsGrown locks.old.items locks.new.items }
-        ensures within { result < length locks.new.items }
-        ensures closed { is_closed (lock_at locks.new.items result) ≡ true }
-        ensures buckets { self.new.buckets.items ≡ self.old.buckets.items }
-        ensures capacity { vec_capacity locks.new ≡ vec_capacity locks.old }
+    /// The number of a lock that is not open. A number that is popped may be that of an open one, and is
+    /// looked at.
+    fn take_free(&mut self) -> u16
+        requires { LOCKS_A_CALL * REQS ≤ length self.old → list_any is_closed self.old ≡ true }
+        ensures { IsSpare self.old self.new result }
     {
         if let Some(n) = self.free.pop() {
-            if (n as usize) < locks.len() && locks.as_slice()[n as usize].queue.len() == 0 {
+            if (n as usize) < self.locks.len() && self.locks[n as usize].is_closed() {
                 return n;
             }
         }
-        unopened(locks, most) as u16
+        self.unopened()
     }
 
-    /// The number of the lock of a want's key: of the open one, or of one that was not open and now is of
-    /// that key. `most` is how many locks there may be.
-    pub fn queue_for(&mut self, locks: &mut Vec<Lock>, w: &Want, most: usize) -> u16
-        requires index { IsIndex self.old.buckets.items locks.old.items }
-        requires few { most ≤ 2 ^ 16 }
-        requires reserved { most ≤ vec_capacity locks.old }
-        requires room { most ≤ length locks.old.items → list_any is_closed locks.old.items ≡ true }
-        ensures ready { Readies locks.old.items locks.new.items self.new.buckets.items w.now result }
-        ensures capacity { vec_capacity locks.new ≡ vec_capacity locks.old }
+    /// The want of the request at a place comes last in the queue of its key, which has room for it. The
+    /// number of the key's lock: of the open one, or where none is, of one that was not open and now is
+    /// of that key. Where all locks are made, one of them is not open.
+    pub fn enter(&mut self, p: u16, w: &Want) -> u16
+        requires room { LOCKS_A_CALL * REQS ≤ length self.old → list_any is_closed self.old ≡ true }
+        requires few { (n : ℕ) → is_open_for w.now.key (lock_at self.old n) ≡ true → length (lock_at self.old n).queue.places < JOBS }
+        ensures { IsEntered self.old self.new p w.now result }
     {
         let hash = hash_of(&w.key);
-        if let Some(n) = self.find(locks.as_slice(), &w.key, hash) {
+        if let Some(n) = self.find_at(&w.key, hash) {
+            self.locks[n as usize].queue.append(p, w);
             return n;
         }
-        let n = self.take_free(locks, most);
-        begin(locks.as_mut_slice(), n, w);
-        self.file(hash, n);
+        let n = self.take_free();
+        self.locks[n as usize].begin(p, w);
+        self.buckets[hash as usize].put(n);
         n
     }
 
-    /// Puts the number of a lock that is no longer open among the free ones.
-    fn close(&mut self, hash: u16, n: u16)
-        requires { hash < length self.old.buckets.items }
-        ensures { self.new.buckets.items ≡ slice_set self.old.buckets.items hash (without_number (bucket_at self.old.buckets.items hash) n) }
+    /// Counts the first want of a queue that is not counted, which there is, where it fits.
+    pub fn let_in(&mut self, n: u16, w: &Want) -> bool
+        requires lock { n < length self.old }
+        requires next { (lock_at self.old n).queue.fitting < length (lock_at self.old n).queue.places }
+        ensures value { result ≡ fits_next (lock_at self.old n).queue w.now w.now.pool }
+        ensures after { self.new ≡ (if result
+            then with_queue self.old n (admitted (lock_at self.old n).queue w.now)
+            else self.old) }
     {
-        take_out(&mut self.buckets[hash as usize], n);
-        self.free_if_room(n);
+        self.locks[n as usize].queue.let_in(w)
     }
 
-    /// Closes a lock where no want stands in its queue.
-    pub fn close_if_shut(&mut self, locks: &[Lock], n: u16)
-        requires lock { n < length locks.now }
-        requires index { IsIndex self.old.buckets.items locks.now }
-        ensures { IsIndex self.new.buckets.items locks.now }
+    /// Counts k wants of a queue's front, no more than before, of the party of the first.
+    pub fn recount(&mut self, n: u16, k: usize, first: &Want)
+        requires lock { n < length self.old }
+        requires fewer { k ≤ (lock_at self.old n).queue.fitting }
+        ensures { self.new ≡ with_queue self.old n (counting (lock_at self.old n).queue k first.now) }
     {
-        let lock = &locks[n as usize];
-        if lock.queue.len() == 0 {
-            self.close(hash_of(&lock.key), n);
+        self.locks[n as usize].queue.recount(k, first);
+    }
+
+    /// Takes the want of a place, which stands there, out of a queue. What may fit for that is not yet
+    /// counted: `let_in` does so.
+    pub fn leave_queue(&mut self, n: u16, p: u16, w: &Want)
+        requires lock { n < length self.old }
+        requires place { position_or_len (λ m. m == p) (lock_at self.old n).queue.places
+            < length (lock_at self.old n).queue.places }
+        ensures { self.new ≡ with_queue self.old n (without_place (lock_at self.old n).queue p w.now) }
+    {
+        let queue = &mut self.locks[n as usize].queue;
+        let i = queue.index_of(p);
+        queue.give_up(i, w);
+    }
+
+    /// Closes a lock where no want stands in its queue: it is looked for no longer, and its number may be
+    /// taken for another key.
+    pub fn close_if_shut(&mut self, n: u16)
+        requires { n < length self.old }
+        ensures { self.new ≡ self.old }
+    {
+        let lock = &self.locks[n as usize];
+        if lock.is_closed() {
+            self.buckets[hash_of(&lock.key) as usize].take_out(n);
+            push_if_room(&mut self.free, n);
         }
+    }
+
+    /// Whether all of these queues count a place.
+    pub fn all_count(&self, queues: &[u16], p: u16) -> bool
+        requires { All (λ n. n < length self.now) queues.now }
+        ensures { result ≡ list_all (λ n. is_counted (lock_at self.now n).queue p) queues.now }
+    {
+        let locks = self.locks();
+        for n in queues {
+            if !locks[*n as usize].queue.counts(p) {
+                return false;
+            }
+        }
+        true
+    }
+
+    /// The place of the first want of a queue that is not counted, if there is one.
+    pub fn next_place(&self, n: u16) -> Option<u16>
+        requires { n < length self.now }
+        ensures { result ≡ slice_get (lock_at self.now n).queue.places (lock_at self.now n).queue.fitting }
+    {
+        let queue = &self.locks[n as usize].queue;
+        let next = queue.fitting();
+        if next < queue.len() {
+            Some(queue.place(next))
+        } else {
+            None
+        }
+    }
+
+    /// Whether no want stands in a queue.
+    pub fn is_empty(&self, n: u16) -> bool
+        requires { n < length self.now }
+        ensures { result ≡ (length (lock_at self.now n).queue.places == 0) }
+    {
+        self.locks[n as usize].queue.len() == 0
     }
 }

@@ -1,6 +1,11 @@
 //! What a table keeps of a key.
+ghost use Rattle.std.specs.Prelude.{◌≡◌};
+ghost use Rattle.key_queues.specs.Kept.{appended, no_queue};
+ghost use Rattle.key_queues.specs.Locks.{unused_lock};
+ghost use Rattle.key_queues.specs.Opened.{fresh_lock, is_closed, is_open_for, size_of};
+
 use crate::Queue;
-use lock_queue::Key;
+use lock_queue::{Key, Name, Pool, Scope, UserCode, Want};
 
 /// A key, the size of its pool, if it is one, and its queue.
 #[derive(Drop)]
@@ -8,4 +13,54 @@ pub struct Lock {
     pub key: Key,
     pub size: Option<u32>,
     pub queue: Queue,
+}
+
+/// The size of a pool.
+fn size_of(pool: &Option<Pool>) -> Option<u32>
+    ensures { result ≡ size_of pool.now }
+{
+    match pool {
+        Some(pool) => Some(pool.size()),
+        None => None,
+    }
+}
+
+impl Lock {
+    /// A lock that is not open.
+    pub(crate) fn unused() -> Self
+        ensures { result ≡ unused_lock }
+    {
+        Lock {
+            key: Key {
+                scope: Scope::All,
+                name: Name::Code(UserCode::new(0)),
+            },
+            size: None,
+            queue: Queue::new(),
+        }
+    }
+
+    /// Whether it is open and of a key.
+    pub(crate) fn is_open_for(&self, key: &Key) -> bool
+        ensures { result ≡ is_open_for key.now self.now }
+    {
+        self.queue.len() != 0 && self.key.is_same(key)
+    }
+
+    /// Whether it is not open.
+    pub(crate) fn is_closed(&self) -> bool
+        ensures { result ≡ is_closed self.now }
+    {
+        self.queue.len() == 0
+    }
+
+    /// Becomes that of a want's key. The want alone stands in its queue, of the request at this place.
+    pub(crate) fn begin(&mut self, p: u16, w: &Want)
+        ensures { self.new ≡ record (fresh_lock w.now) { queue = appended no_queue p w.now } }
+    {
+        self.key = w.key.copied();
+        self.size = size_of(&w.pool);
+        self.queue.clear();
+        self.queue.append(p, w);
+    }
 }

@@ -4,6 +4,7 @@ ghost use Rattle.std.specs.List.{position_or_len, remove};
 ghost use Rattle.word36.specs.declared.sizes.TheConstants.{JOBS};
 ghost use Rattle.lock_queue.specs.Queue.{amount_of};
 ghost use Rattle.key_queues.specs.Tables.{is_counted};
+ghost use Rattle.key_queues.specs.Locks.{want_in};
 ghost use Rattle.key_queues.specs.Kept.{Counts, IsQueueOf, admitted, appended, counting, fits_last, fits_next, no_queue, with_place, without};
 
 use arrayvec::ArrayVec;
@@ -60,6 +61,14 @@ pub fn index_of(list: &[u16], n: u16) -> usize
         }
     }
     list.len()
+}
+
+/// The want of a request that stands in a queue.
+pub fn want_in<'a>(queues: &[u16], wants: &'a [Want], n: u16) -> &'a Want
+    requires { position_or_len (λ m. m == n) queues.now < length wants.now }
+    ensures { result.now ≡ want_in queues.now wants.now n }
+{
+    &wants[index_of(queues, n)]
 }
 
 /// Moves the numbers behind the i-th one place up, over it. The last stays behind them.

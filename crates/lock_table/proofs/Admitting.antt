@@ -25,7 +25,6 @@ use Rattle.lock_queue.proofs.Fitting.{names-Has, names-found}
 use Rattle.lock_queue.proofs.Lists.{Has, Has-filter, Has-flat_map, Has-map, list_any-found}
 use Rattle.lock_queue.proofs.Refusing.{or_else-None, refuse_if-None}
 use Rattle.lock_queue.proofs.WellKept.{job_number, right_job, well-arrival}
-use Rattle.key_queues.specs.declared.keys.Bucket.{Bucket}
 use Rattle.key_queues.specs.declared.lock.Lock.{Lock}
 use Rattle.key_queues.specs.Beginnings.{is_share_of}
 use Rattle.key_queues.specs.Locks.{lock_at}
@@ -126,8 +125,8 @@ alike_of s job e (v ∷ ws) w h (inr has) =
     (or_else-None (enqueue_fault (requests_in s) job e v) (first_refusal (enqueue_fault (requests_in s) job) (e ++ v ∷ []) ws)
     h).1 has
 
-module _ (size : ℕ) (s : Stored) (locks : List Lock) (buckets : List Bucket) (job : ℕ) where
-  admits_one : (w : Want) → IsWhole size s locks buckets → is_job job ≡ true → Passed s job w → Admits locks w
+module _ (size : ℕ) (s : Stored) (locks : List Lock) (job : ℕ) where
+  admits_one : (w : Want) → IsWhole size s locks → is_job job ≡ true → Passed s job w → Admits locks w
   admits_one w whole mine passed = record {
     alike =
         λ n t.
@@ -164,14 +163,14 @@ module _ (size : ℕ) (s : Stored) (locks : List Lock) (buckets : List Bucket) (
       not-true-of true h = sym h
       not-true-of false h = refl
 
-  pub admits_from : (wants : List Want) → IsWhole size s locks buckets → is_job job ≡ true
+  pub admits_from : (wants : List Want) → IsWhole size s locks → is_job job ≡ true
       → first_refusal (enqueue_fault (requests_in s) job) [] wants ≡ None
       → AdmitsFrom 0 locks wants
   admits_from wants whole mine passed k le lt =
       admits_one (get_or wants k unused_want) whole mine
       (passed_one s job (take k wants) (get_or wants k unused_want) (passes_at (enqueue_fault (requests_in s) job) [] wants k passed lt))
 
-  pub short_of : IsWhole size s locks buckets → AreShort s
+  pub short_of : IsWhole size s locks → AreShort s
   short_of whole x h =
       let many =
       as_many_queues (λ w n. (state_of s locks).key n ≡ w.key) (request_at s x).wants.items (filed_at s x).queues.items

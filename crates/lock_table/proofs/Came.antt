@@ -27,14 +27,11 @@ use Rattle.lock_table.proofs.Filing.{filed_with, own_within}
 use Rattle.key_queues.proofs.Keeping.{renewing_keeps, flags_tell_grants, there_split}
 use Rattle.key_queues.proofs.Moves.{map_same}
 use Rattle.key_queues.proofs.Opening.{used_same}
-use Rattle.key_queues.specs.declared.keys.Bucket.{Bucket}
 use Rattle.lock_table.specs.Arrivals.{AdmitsFrom, AreShort, IsArriving}
-use Rattle.key_queues.specs.Found.{IsIndex}
 
 -- a request stands last, and none of its wants is entered
-pub came_last : (store later : Stored) (locks : List Lock) (buckets : List Bucket) (p job : ℕ) (asking : Asking) (wants : List Want)
+pub came_last : (store later : Stored) (locks : List Lock) (p job : ℕ) (asking : Asking) (wants : List Want)
     → IsTable (state_of store locks)
-    → IsIndex buckets locks
     → AreShort store
     → p < length store.filed
     → is_there p store.order ≡ false
@@ -42,14 +39,13 @@ pub came_last : (store later : Stored) (locks : List Lock) (buckets : List Bucke
     → length wants ≤ LOCKS_A_CALL
     → AdmitsFrom 0 locks wants
     → later ≡ inserted store p (arrived job asking false)
-    → IsArriving later locks buckets p wants 0
-came_last store later locks buckets p job asking wants table index short lt out apart few admits put = record {
+    → IsArriving later locks p wants 0
+came_last store later locks p job asking wants table short lt out apart few admits put = record {
   kept = both.0;
   full = both.1 table.full;
   flags = both.2 table.flags;
   used = used;
   last = (store.order, same_order);
-  index = index;
   entered = ap (λ (g : Filed). g.request.wants.items) mine;
   own = ap (λ (g : Filed). length g.queues.items) mine;
   within = omega arith;
@@ -153,11 +149,11 @@ came_mine store later p job asking lt put =
     ap (λ (g : Filed). g.request) mine
 
 -- all wants of the request are entered, and its flag is set right
-module _ (store later : Stored) (locks : List Lock) (buckets : List Bucket) (p : ℕ) (wants : List Want) where
-  pub present_last : IsArriving store locks buckets p wants (length wants) → is_there p store.order ≡ true
+module _ (store later : Stored) (locks : List Lock) (p : ℕ) (wants : List Want) where
+  pub present_last : IsArriving store locks p wants (length wants) → is_there p store.order ≡ true
   present_last a = subst (λ l. is_there p l ≡ true) (sym a.last.1) (there_split p a.last.0 [])
 
-  pub arrived_by : IsArriving store locks buckets p wants (length wants)
+  pub arrived_by : IsArriving store locks p wants (length wants)
       → Renews (state_of store locks) (state_of later locks) p
       → IsTable (state_of later locks)
   arrived_by a renews = record {
@@ -188,7 +184,7 @@ module _ (store later : Stored) (locks : List Lock) (buckets : List Bucket) (p :
           a.full x m was
           ∙ ap fitting (sym (ap (λ l. wants_at (map t.at l) (s.key m)) renews.order ∙ ap (λ (f : ℕ → Request). wants_at (map f s.order) (s.key m)) same))
 
-  pub queues_within : IsArriving store locks buckets p wants (length wants)
+  pub queues_within : IsArriving store locks p wants (length wants)
       → All (λ n. n < length locks) (filed_at store p).queues.items
   queues_within a = own_within store locks p a.kept (present_last a)
 

@@ -1,12 +1,11 @@
 -- A want is entered in the lock that is ready for it.
 use Rattle.std.proofs.Common.{◌≡◌, ◌≤◌, ◌<◌, ◌+◌, ◌∙◌, sym, ap, subst, ℕ, zero, suc, Bool, true, false, ◌==◌, not, cond, List, []}
 use Rattle.std.proofs.Common.{◌∷◌, ◌++◌, length, get_or, take, Some, inl, inr, refl, arith, length-append}
-use Rattle.std.specs.List.{All, list_all}
+use Rattle.std.specs.List.{list_all}
 use Rattle.std.proofs.lemmas.Bool.{both_ways, and_parts, and_from, eq-eqb, ne_eqb, cases_eq, not-true, or_left, or_right}
 use Rattle.std.proofs.lemmas.List.Folds.{list_any-append}
 use Rattle.std.proofs.lemmas.Option.{slice_get-get_or}
 use Rattle.word36.specs.declared.sizes.TheConstants.{JOBS, LOCKS_A_CALL}
-use Rattle.lock_queue.specs.declared.key.Key.{Key}
 use Rattle.lock_queue.specs.declared.want.Want.{Want}
 use Rattle.lock_queue.specs.Dequeues.{with_wants}
 use Rattle.lock_queue.specs.Keys.{same_key}
@@ -26,12 +25,10 @@ use Rattle.key_queues.proofs.Using.{lock_with}
 use Rattle.lock_table.proofs.Filing.{filed_with}
 use Rattle.key_queues.proofs.Keeping.{there_split}
 use Rattle.key_queues.proofs.Places.{take_next}
-use Rattle.key_queues.specs.declared.keys.Bucket.{Bucket}
 use Rattle.request_store.specs.Filing.{with_more}
 use Rattle.table_reads.specs.Filing.{state_of}
 use Rattle.lock_table.specs.Arrivals.{Admits, AdmitsFrom, AreShort, IsArriving, SameRequests}
-use Rattle.key_queues.specs.Found.{Readies, IsIndex, Holds, bucket_at}
-use Rattle.key_queues.specs.Hashes.{hash_of}
+use Rattle.key_queues.specs.Found.{IsEntered, Readies}
 use Rattle.key_queues.specs.Opened.{is_open_for}
 use Rattle.key_queues.proofs.Finding.{open_parts}
 use Rattle.lock_table.proofs.Readied.{IsReady, is_ready}
@@ -69,23 +66,20 @@ apart_at (w ∷ ws) (suc j) (suc k) d h lt within =
     let parts = and_parts (list_all (λ v. not (same_key w.key v.key)) ws) (are_apart ws) h in
     apart_at ws j k d parts.1 (omega arith) (omega arith)
 
-module _ (store later : Stored) (locks more most : List Lock) (buckets then : List Bucket) (p n k : ℕ) (wants : List Want) (w : Want) where
-  pub entered_one : IsArriving store locks buckets p wants k
+module _ (store later : Stored) (locks most : List Lock) (p n k : ℕ) (wants : List Want) (w : Want) where
+  pub entered_one : IsArriving store locks p wants k
       → k < length wants
       → w ≡ get_or wants k unused_want
       → p < length store.filed
-      → Readies locks more then w n
-      → most ≡ with_queue more n (appended (lock_at more n).queue p w)
+      → IsEntered locks most p w n
       → later ≡ with_filed store p (with_more (filed_at store p) w n)
-      → length most ≡ length more
-      → IsArriving later most then p wants (k + 1)
-  entered_one a within is placed r queued owned same_length = record {
+      → IsArriving later most p wants (k + 1)
+  entered_one a within is placed e owned = record {
     kept = both.0;
     full = both.1 ready.full;
     flags = both.2 flags;
     used = used;
     last = (a.last.0, same_order ∙ a.last.1);
-    index = index;
     entered = ap (λ (g : Filed). g.request.wants.items) mine ∙ ap (λ l. l ++ w ∷ []) a.entered ∙ sym next;
     own = own_length ∙ ap (λ j. j + 1) a.own;
     within = omega (arith, within);
@@ -95,6 +89,15 @@ module _ (store later : Stored) (locks more most : List Lock) (buckets then : Li
     short = short;
   }
     where
+      more : List Lock
+      more = e.middle
+
+      r : Readies locks more w n
+      r = e.ready
+
+      queued : most ≡ with_queue more n (appended (lock_at more n).queue p w)
+      queued = e.after
+
       f : Filed
       f = filed_at store p
 
@@ -132,7 +135,7 @@ module _ (store later : Stored) (locks more most : List Lock) (buckets then : Li
       takes = subst (Admits locks) (sym is) (a.admits k (omega arith) within)
 
       both_ready : IsReady s w n × FlagsBut p s
-      both_ready = is_ready store locks buckets p wants k more then w n a takes r
+      both_ready = is_ready store locks p wants k more w n a takes r
 
       ready : IsReady s w n
       ready = both_ready.0
@@ -211,26 +214,6 @@ module _ (store later : Stored) (locks more most : List Lock) (buckets then : Li
                   stands = record { present = here_still u.place u.stands.present; there = owns_still u.place m u.stands.there };
                 }
           ]
-
-      index : IsIndex then most
-      index = record {
-        long = r.index.long;
-        few = omega (arith, r.index.few, same_length);
-        within =
-            λ h. subst (λ j. All (λ m. m < j) (bucket_at then h).numbers.items) (sym same_length) (r.index.within h);
-        holds =
-            λ m some.
-            elim (cases_eq m n) [
-              | inl e ↦
-                  let key : (lock_at most n).key ≡ w.key = ap (λ (l : Lock). l.key) lock_mine ∙ ready.key in
-                  let here : Holds (bucket_at then (hash_of (lock_at most n).key)) n =
-                  subst (λ (j : Key). Holds (bucket_at then (hash_of j)) n) (sym key) r.holds in
-                  subst (λ z. Holds (bucket_at then (hash_of (lock_at most z).key)) z) (sym e) here
-              | inr ne ↦
-                  subst (λ (l : Lock). Holds (bucket_at then (hash_of l.key)) m) (sym (lock_other m ne))
-                  (r.index.holds m (subst (λ (l : Lock). is_open l.queue ≡ true) (lock_other m ne) some))
-            ];
-      }
 
       short : AreShort later
       short x h =

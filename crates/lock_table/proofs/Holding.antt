@@ -29,7 +29,7 @@ use Rattle.table_reads.specs.Reads.{MarksGrants, request_at}
 use Rattle.table_reads.specs.Whole.{requests_in}
 use Rattle.table_reads.proofs.Telling.{before_is}
 use Rattle.lock_table.specs.Departures.{LeavesBy, LeavesWhere, is_blocking_at, is_of}
-use Rattle.lock_table.specs.Held.{is_done}
+use Rattle.lock_table.specs.Tables.{is_done}
 use Rattle.lock_table.specs.Raised.{grants_marked}
 use Rattle.lock_table.specs.Turns.{Turned, mark_at}
 use Rattle.lock_table.proofs.Raising.{woken_by_call}

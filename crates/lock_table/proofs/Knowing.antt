@@ -9,7 +9,6 @@ use Rattle.lock_queue.specs.Jobs.{as_told, is_interrupt, is_pending, told_behind
 use Rattle.lock_queue.specs.Keys.{same_key}
 use Rattle.lock_queue.specs.Queue.{all_wants, names, wants_at}
 use Rattle.lock_queue.specs.WellFormed.{are_apart, is_well_formed}
-use Rattle.key_queues.specs.declared.keys.Bucket.{Bucket}
 use Rattle.key_queues.specs.declared.lock.Lock.{Lock}
 use Rattle.key_queues.specs.Beginnings.{fitting}
 use Rattle.key_queues.specs.Kept.{Counts}
@@ -97,11 +96,10 @@ module _ (s t : Stored) (p : ℕ) (lt : p < length s.filed) (is : t ≡ with_fil
   pub told_others : (x : ℕ) → x ≢ p → (filed_at t x).request ≡ (filed_at s x).request
   told_others x ne = ap (λ (g : Filed). g.request) (other x ne)
 
-  pub told_whole : (size : ℕ) (locks : List Lock) (buckets : List Bucket) → IsWhole size s locks buckets → IsWhole size t locks buckets
-  told_whole size locks buckets w =
-      whole_by size s t locks locks buckets buckets w
+  pub told_whole : (size : ℕ) (locks : List Lock) → IsWhole size s locks → IsWhole size t locks
+  told_whole size locks w =
+      whole_by size s t locks locks w
       (subst IsTable (sym same_state) (table_same (state_of s locks) (request_at t) (like (λ (g : Filed). g.request.wants.items) refl) w.table))
-      w.index
       (λ x h. like (λ (g : Filed). is_well_formed g.request) refl x ∙ w.right x (subst (λ l. is_there x l ≡ true) told_order h))
       (λ x y key hx hy nx ny e.
       w.jobs x y key (subst (λ l. is_there x l ≡ true) told_order hx) (subst (λ l. is_there y l ≡ true) told_order hy)

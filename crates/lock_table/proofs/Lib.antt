@@ -15,6 +15,7 @@ pub mod Came
 pub mod Lost
 pub mod Choosing
 pub mod Wholes
+pub mod Gathering
 pub mod Named
 pub mod Sole
 pub mod Admitting

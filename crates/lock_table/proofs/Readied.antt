@@ -24,7 +24,6 @@ use Rattle.key_queues.proofs.Counted.{fresh_queue}
 use Rattle.key_queues.proofs.Using.{queue_of_want}
 use Rattle.key_queues.proofs.Keeping.{Has-there}
 use Rattle.key_queues.proofs.Opening.{used_same, used_open}
-use Rattle.key_queues.specs.declared.keys.Bucket.{Bucket}
 use Rattle.table_reads.specs.Filing.{state_of}
 use Rattle.lock_table.specs.Arrivals.{IsArriving, Admits}
 use Rattle.key_queues.specs.Found.{Readies, IsBegun}
@@ -56,9 +55,9 @@ pub record IsReady (s : State) (w : Want) (n : ℕ) : Type 0 where
   pub alike : is_share_of (s.size n) w.pool ≡ true
   pub room : length (s.queue n).places < JOBS
 
-module _ (store : Stored) (locks : List Lock) (buckets : List Bucket) (p : ℕ) (wants : List Want) (k : ℕ) where
+module _ (store : Stored) (locks : List Lock) (p : ℕ) (wants : List Want) (k : ℕ) where
   -- there is a lock that is not open
-  pub room_left : IsArriving store locks buckets p wants k
+  pub room_left : IsArriving store locks p wants k
       → k < length wants
       → LOCKS_A_CALL * length store.order ≤ length locks
       → list_any is_closed locks ≡ true
@@ -84,7 +83,7 @@ module _ (store : Stored) (locks : List Lock) (buckets : List Bucket) (p : ℕ) 
           absurd (omega (arith, long, few, same, count, length-append before (p ∷ []), room, more, a.few, a.own))
 
   -- the lock stays as it is
-  was_ready : (more : List Lock) (w : Want) (n : ℕ) → IsArriving store locks buckets p wants k → Admits locks w
+  was_ready : (more : List Lock) (w : Want) (n : ℕ) → IsArriving store locks p wants k → Admits locks w
       → ((m : ℕ) → lock_at more m ≡ lock_at locks m)
       → is_open_for w.key (lock_at locks n) ≡ true
       → IsReady (state_of store more) w n × FlagsBut p (state_of store more)
@@ -127,7 +126,7 @@ module _ (store : Stored) (locks : List Lock) (buckets : List Bucket) (p : ℕ) 
         room = admits.room n t;
       }
 
-  begun_is_ready : (more : List Lock) (w : Want) (n : ℕ) → IsArriving store locks buckets p wants k
+  begun_is_ready : (more : List Lock) (w : Want) (n : ℕ) → IsArriving store locks p wants k
       → ((m : ℕ) → (m ≡ n → ⊥) → lock_at more m ≡ lock_at locks m)
       → IsBegun locks more w n
       → IsReady (state_of store more) w n × FlagsBut p (state_of store more)
@@ -206,11 +205,11 @@ module _ (store : Stored) (locks : List Lock) (buckets : List Bucket) (p : ℕ) 
       }
 
   -- in both cases
-  pub is_ready : (more : List Lock) (then : List Bucket) (w : Want) (n : ℕ) → IsArriving store locks buckets p wants k
+  pub is_ready : (more : List Lock) (w : Want) (n : ℕ) → IsArriving store locks p wants k
       → Admits locks w
-      → Readies locks more then w n
+      → Readies locks more w n
       → IsReady (state_of store more) w n × FlagsBut p (state_of store more)
-  is_ready more then w n a admits r =
+  is_ready more w n a admits r =
       elim r.mine [
         | inl was ↦
             was_ready more w n a admits

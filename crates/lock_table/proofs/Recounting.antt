@@ -3,6 +3,7 @@ use Rattle.std.proofs.Common.{◌≡◌, ◌<◌, ◌∙◌, sym, ap, subst, ℕ
 use Rattle.std.proofs.Common.{◌∷◌, length, take, drop, get_or, map, filter, Option, Some, None, is_some, refl}
 use Rattle.std.specs.List.{All, list_all, list_any, position_or_len}
 use Rattle.std.proofs.lemmas.Bool.{and_from, and_parts, both_ways, eq-eqb, eqb-true, false_from_ne_true, not-true, or_right}
+use Rattle.std.proofs.lemmas.List.{get_or_read}
 use Rattle.lock_queue.specs.declared.key.Key.{Key}
 use Rattle.lock_queue.specs.declared.request.Request.{Request}
 use Rattle.lock_queue.specs.declared.want.Want.{Want}
@@ -16,7 +17,7 @@ use Rattle.lock_queue.proofs.Fitting.{eq-same_key, names-found, same_key-eq}
 use Rattle.lock_queue.proofs.Lists.{Has, filter-Has, Has-filter, Has-flat_map, Has-map, list_all-Has, list_any-Has, list_any-found}
 use Rattle.key_queues.specs.declared.lock.Lock.{Lock}
 use Rattle.key_queues.specs.Beginnings.{fitting, is_share_of}
-use Rattle.key_queues.specs.Locks.{lock_at}
+use Rattle.key_queues.specs.Locks.{lock_at, unused_lock}
 use Rattle.key_queues.specs.States.{IsKept, IsTable, IsUsed, all_count}
 use Rattle.key_queues.specs.Tables.{CountsAt, StandsOnce, is_counted, is_there, own_wants, places_at}
 use Rattle.key_queues.proofs.Beginnings.{alike-Has}
@@ -238,3 +239,7 @@ module _ (s : Stored) (locks : List Lock) (n : ℕ) (job : ℕ) (c : Want) (t : 
       let once : StandsOnce (lock_at locks n).queue.places =
       subst StandsOnce (sym places) (stands_filter (λ x. names (request_at s x).wants.items c.key) s.order t.kept.once) in
       both_ways _ (not_in_both (lock_at locks n).queue.fitting p (lock_at locks n).queue.places once past) front)
+
+-- a lock that is read by its number
+pub read_lock : (locks read : List Lock) (n : ℕ) (l : Lock) → read ≡ locks → n < length locks → l ≡ get_or read n l → l ≡ lock_at locks n
+read_lock locks read n l same lt is = get_or_read locks n l lt (subst (λ r. l ≡ get_or r n l) same is) unused_lock

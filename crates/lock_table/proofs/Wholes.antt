@@ -1,5 +1,5 @@
 -- What holds between two calls still holds after a departure.
-use Rattle.std.proofs.Common.{◌≡◌, ◌≤◌, ◌∙◌, sym, ap, subst, ℕ, Bool, true, false, not, ◌&&◌, ◌==◌, cond, List, []}
+use Rattle.std.proofs.Common.{◌≡◌, ◌≤◌, ◌∙◌, sym, ap, subst, ℕ, Bool, true, false, not, ◌==◌, List, []}
 use Rattle.std.proofs.Common.{◌∷◌, length, map, filter, Option, Some, inl, inr, refl, arith}
 use Rattle.std.specs.List.{list_all}
 use Rattle.std.proofs.lemmas.Bool.{and_parts, and_from, both_ways, eq-eqb, eqb-true, or_cases, or_left, or_right, false_from_ne_true}
@@ -7,9 +7,7 @@ use Rattle.lock_queue.specs.declared.request.Request.{Request}
 use Rattle.lock_queue.specs.declared.key.Key.{Key}
 use Rattle.lock_queue.specs.Queue.{names}
 use Rattle.lock_queue.specs.WellFormed.{are_well_formed, is_well_formed}
-use Rattle.key_queues.specs.declared.keys.Bucket.{Bucket}
 use Rattle.key_queues.specs.declared.lock.Lock.{Lock}
-use Rattle.key_queues.specs.Found.{IsIndex}
 use Rattle.key_queues.specs.States.{IsTable}
 use Rattle.key_queues.specs.Tables.{is_there}
 use Rattle.key_queues.proofs.Using.{kept_there, there_kept}
@@ -82,30 +80,27 @@ levels_left s t then stays agree left fewer same x y key hx hy nx ny =
     ∙ agree x y key was_x.0 was_y.0 (fewer x key has_x) (fewer y key has_y)
     ∙ sym (same y key has_y) ∙ sym (ap (λ (r : Request). level_at r key) is_y)
 
-pub whole_by : (size : ℕ) (s t : Stored) (locks more : List Lock) (buckets then : List Bucket) → IsWhole size s locks buckets
+pub whole_by : (size : ℕ) (s t : Stored) (locks more : List Lock) → IsWhole size s locks
     → IsTable (state_of t more)
-    → IsIndex then more
     → AreRight t
     → JobsAreApart t
     → LevelsAgree t
     → length t.order ≤ size
-    → IsWhole size t more then
-whole_by size s t locks more buckets then w table index right jobs levels few = record {
+    → IsWhole size t more
+whole_by size s t locks more w table right jobs levels few = record {
   table = table;
-  index = index;
   right = right;
   jobs = jobs;
   levels = levels;
   few = few;
 }
 
-pub whole_left : (size : ℕ) (s t : Stored) (locks more : List Lock) (buckets then : List Bucket) (stays : ℕ → Bool) → IsWhole size s locks buckets
+pub whole_left : (size : ℕ) (s t : Stored) (locks more : List Lock) (stays : ℕ → Bool) → IsWhole size s locks
     → IsTable (state_of t more)
-    → IsIndex then more
     → IsLeft s t (request_at s) stays
-    → IsWhole size t more then
-whole_left size s t locks more buckets then stays w table index left =
-    whole_by size s t locks more buckets then w table index
+    → IsWhole size t more
+whole_left size s t locks more stays w table left =
+    whole_by size s t locks more w table
     (λ x h.
     let was = there_kept stays x s.order (subst (λ l. is_there x l ≡ true) left.order h) in
     subst (λ (r : Request). is_well_formed r ≡ true) (sym (left.left x h)) (w.right x was.0))
@@ -133,23 +128,10 @@ leaves_where s t test places left is = record {
   left = left.left;
 }
 
--- those that two tests choose, one behind the other
-pub filter_twice : (a t : ℕ → Bool) (xs : List ℕ) → filter t (filter a xs) ≡ filter (λ x. a x && t x) xs
-filter_twice a t [] = refl
-filter_twice a t (x ∷ xs) = go (a x) (filter_twice a t xs)
-  where
-    go : (b : Bool) → filter t (filter a xs) ≡ filter (λ y. a y && t y) xs
-        → filter t (cond b (x ∷ filter a xs) (filter a xs)) ≡ cond (b && t x) (x ∷ filter (λ y. a y && t y) xs) (filter (λ y. a y && t y) xs)
-    go true h = ap (λ l. cond (t x) (x ∷ l) l) h
-    go false h = h
-
--- none stays beside all
-pub none_beside : (xs : List ℕ) → filter (stays_beside xs) xs ≡ []
-none_beside xs = filter_same (stays_beside xs) (λ x. false) xs (λ x h. ap not h) ∙ none xs
-  where
-    none : (ys : List ℕ) → filter (λ y. false) ys ≡ []
-    none [] = refl
-    none (y ∷ ys) = none ys
+-- where each leaves, none stays
+pub none_stay : (xs : List ℕ) → filter (λ x. false) xs ≡ []
+none_stay [] = refl
+none_stay (x ∷ xs) = none_stay xs
 
 -- ---- what is left
 

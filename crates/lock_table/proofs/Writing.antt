@@ -1,10 +1,10 @@
 -- One change is made.
 use Rattle.std.proofs.Common.{◌≡◌, ◌≤◌, ◌<◌, ◌∙◌, sym, ap, subst, ℕ, zero, suc, add-one, Bool, true, false, ◌&&◌, ◌==◌, not, cond, List, [], ◌∷◌, ◌++◌}
 use Rattle.std.proofs.Common.{length, take, drop, get_or, slice_get, map, sum_by, min, Some, None, inl, inr, refl, arith}
-use Rattle.std.specs.List.{All, find, list_all, list_any, position_or_len}
+use Rattle.std.specs.List.{find, list_all, list_any, position_or_len}
 use Rattle.std.proofs.Math.Nat.{le-min, min-le_left, min-le_right}
 use Rattle.std.proofs.lemmas.Bool.{both_ways, cases_eq, cases_lt, eq-eqb, eqb-true, false_from_ne_true, ne_eqb, or_cases, or_left, or_right}
-use Rattle.std.proofs.lemmas.List.{length-map, length-set}
+use Rattle.std.proofs.lemmas.List.{length-map}
 use Rattle.std.proofs.lemmas.Option.{slice_get-get_or}
 use Rattle.lock_queue.specs.declared.key.Key.{Key}
 use Rattle.lock_queue.specs.declared.request.Request.{Request}
@@ -20,10 +20,8 @@ use Rattle.lock_queue.proofs.Lists.{Has, list_any-Has, sum-cons}
 use Rattle.request_store.specs.declared.filed.Filed.{Filed}
 use Rattle.request_store.specs.Filing.{with_want}
 use Rattle.request_store.specs.Stores.{Stored, filed_at}
-use Rattle.key_queues.specs.declared.keys.Bucket.{Bucket}
 use Rattle.key_queues.specs.declared.lock.Lock.{Lock}
 use Rattle.key_queues.specs.Beginnings.{Alike, fitting, is_share_of}
-use Rattle.key_queues.specs.Found.{IsIndex, bucket_at}
 use Rattle.key_queues.specs.Kept.{Counts, KeptQueue, counting}
 use Rattle.key_queues.specs.Locks.{lock_at, with_queue}
 use Rattle.key_queues.specs.Opened.{is_open_for}
@@ -89,19 +87,7 @@ pub some_there : (p : ℕ) (xs : List ℕ) → is_there p xs ≡ true → 0 < le
 some_there p [] h = cc
 some_there p (x ∷ xs) h = omega arith
 
--- what is found by its key stays so where keys stay and no queue is opened
-pub index_kept : (buckets : List Bucket) (locks more : List Lock) → IsIndex buckets locks → length more ≡ length locks
-    → ((m : ℕ) → (lock_at more m).key ≡ (lock_at locks m).key)
-    → ((m : ℕ) → is_open (lock_at more m).queue ≡ true → is_open (lock_at locks m).queue ≡ true)
-    → IsIndex buckets more
-index_kept buckets locks more index long key shut = record {
-  long = index.long;
-  few = omega (arith, index.few, long);
-  within = λ h. subst (λ j. All (λ m. m < j) (bucket_at buckets h).numbers.items) (sym long) (index.within h);
-  holds = λ n some. rw (key n) (index.holds n (shut n some));
-}
-
-module _ (s : Stored) (locks : List Lock) (buckets : List Bucket) (n p job : ℕ) (c : Want) (b : IsBetween s locks buckets)
+module _ (s : Stored) (locks : List Lock) (n p job : ℕ) (c : Want) (b : IsBetween s locks)
     (lock : is_open_for c.key (lock_at locks n) ≡ true) (none : (lock_at locks n).size ≡ None) (queued : is_there p (lock_at locks n).queue.places ≡ true)
     (mine : (request_at s p).job ≡ job) (safe : loses_by s job c ≡ false) where
   abbrev q : KeptQueue
@@ -327,15 +313,11 @@ module _ (s : Stored) (locks : List Lock) (buckets : List Bucket) (n p job : ℕ
       changing_keeps (state_of s locks) (state_of t more) p n (take i (request_at s p).wants.items)
       (drop (suc i) (request_at s p).wants.items) w (changed_by c w) b.kept step
 
-  pub between_then : IsBetween t more buckets
+  pub between_then : IsBetween t more
   between_then = record {
     kept = kept_t.0;
     flags = kept_t.1 b.flags;
     used = λ m some. used_same (state_of s locks) (state_of t more) m refl own_t (b.used m (subst (λ l. not (length l == 0) ≡ true) (places_t m) some));
-    index =
-        index_kept buckets locks more b.index
-        (length-set locks n (record (lock_at locks n) { queue = counting q k (f (get_or q.places 0 0)) })) key_t
-        (λ m some. subst (λ l. not (length l == 0) ≡ true) (places_t m) some);
     jobs =
         λ x y key px py nx ny same.
         b.jobs x y key px py (named_back x key px nx) (named_back y key py ny) (sym (job_back x px) ∙ same ∙ job_back y py);
@@ -362,10 +344,10 @@ module _ (s : Stored) (locks : List Lock) (buckets : List Bucket) (n p job : ℕ
 
   pub written : (u : Stored) (l : List Lock) (j : ℕ) (v : Want) → u ≡ t → l ≡ with_queue locks n (counting (lock_at locks n).queue j v) → j ≡ k
       → v ≡ want_then s n job c (get_or (lock_at locks n).queue.places 0 0)
-      → IsBetween u l buckets × Altered s u locks l job c
+      → IsBetween u l × Altered s u locks l job c
   written u l j v is put count first =
-      subst (λ x. IsBetween x l buckets × Altered s x locks l job c) (sym is)
-      (subst (λ x. IsBetween t x buckets × Altered s t locks x job c) (sym all) (between_then, altered_then))
+      subst (λ x. IsBetween x l × Altered s x locks l job c) (sym is)
+      (subst (λ x. IsBetween t x × Altered s t locks x job c) (sym all) (between_then, altered_then))
     where
       all : l ≡ more
       all =

@@ -1,14 +1,12 @@
 -- A request comes, and its wants are entered one by one (this project's profile).
-use Rattle.std.specs.Prelude.{◌≡◌, ◌≤◌, ◌<◌, ◌*◌, ℕ, List, [], ◌∷◌, ◌++◌, length, slice_index_or, take, true}
-use Rattle.word36.specs.declared.sizes.TheConstants.{JOBS, LOCKS_A_CALL, MOST_REQUESTS}
+use Rattle.std.specs.Prelude.{◌≡◌, ◌≤◌, ◌<◌, ℕ, List, [], ◌∷◌, ◌++◌, length, slice_index_or, take, true}
+use Rattle.word36.specs.declared.sizes.TheConstants.{JOBS, LOCKS_A_CALL}
 use Rattle.lock_queue.specs.declared.want.Want.{Want}
 use Rattle.lock_queue.specs.Dequeues.{with_wants}
 use Rattle.lock_queue.specs.Unused.{unused_want}
 use Rattle.lock_queue.specs.WellFormed.{are_apart}
-use Rattle.key_queues.specs.declared.keys.Bucket.{Bucket}
 use Rattle.key_queues.specs.declared.lock.Lock.{Lock}
 use Rattle.key_queues.specs.Beginnings.{is_share_of}
-use Rattle.key_queues.specs.Found.{IsIndex}
 use Rattle.key_queues.specs.Locks.{lock_at}
 use Rattle.key_queues.specs.Opened.{is_open_for}
 use Rattle.key_queues.specs.States.{IsKept, CountsAll, FlagsBut, OpenAreUsed}
@@ -34,13 +32,12 @@ abbrev pub AreShort : Stored → Type 0
 AreShort s = (x : ℕ) → is_there x s.order ≡ true → length (filed_at s x).queues.items ≤ LOCKS_A_CALL
 
 -- what holds while the first k of some wants of the last request are entered
-pub record IsArriving (s : Stored) (locks : List Lock) (buckets : List Bucket) (p : ℕ) (wants : List Want) (k : ℕ) : Type 0 where
+pub record IsArriving (s : Stored) (locks : List Lock) (p : ℕ) (wants : List Want) (k : ℕ) : Type 0 where
   pub kept : IsKept (state_of s locks)
   pub full : CountsAll (state_of s locks)
   pub flags : FlagsBut p (state_of s locks)
   pub used : OpenAreUsed (state_of s locks)
   pub last : IsLast p s.order
-  pub index : IsIndex buckets locks
   pub entered : (filed_at s p).request.wants.items ≡ take k wants
   pub own : length (filed_at s p).queues.items ≡ k
   pub within : k ≤ length wants
@@ -48,11 +45,6 @@ pub record IsArriving (s : Stored) (locks : List Lock) (buckets : List Bucket) (
   pub few : length wants ≤ LOCKS_A_CALL
   pub admits : AdmitsFrom k locks wants
   pub short : AreShort s
-
--- there may be a lock for each want, and there is memory for it
-pub record HasRoom (size most_locks : ℕ) : Type 0 where
-  pub small : size ≤ MOST_REQUESTS
-  pub reserved : LOCKS_A_CALL * size ≤ most_locks
 
 -- all requests are as they were, but for the wants of one
 pub record SameRequests (s t : Stored) (p : ℕ) : Type 0 where

@@ -7,10 +7,8 @@ use Rattle.lock_queue.specs.declared.want.Want.{Want}
 use Rattle.lock_queue.specs.Changes.{changed, changed_group}
 use Rattle.lock_queue.specs.Queue.{is_pooled, names, requests_of, wants_at}
 use Rattle.lock_queue.specs.WellFormed.{are_apart}
-use Rattle.key_queues.specs.declared.keys.Bucket.{Bucket}
 use Rattle.key_queues.specs.declared.lock.Lock.{Lock}
 use Rattle.key_queues.specs.Beginnings.{fitting, is_share_of}
-use Rattle.key_queues.specs.Found.{IsIndex}
 use Rattle.key_queues.specs.Locks.{lock_at}
 use Rattle.key_queues.specs.States.{FlagsAll, IsKept, IsUsed, OpenAreUsed, IsFull, Stands}
 use Rattle.key_queues.specs.Tables.{is_there, places_at}
@@ -70,11 +68,10 @@ pub record IsSound (s : Stored) (locks : List Lock) (job : ℕ) (c : Want) : Typ
   pub safe : loses_by s job c ≡ false
 
 -- what holds of a table while wants are changed
-pub record IsBetween (s : Stored) (locks : List Lock) (buckets : List Bucket) : Type 0 where
+pub record IsBetween (s : Stored) (locks : List Lock) : Type 0 where
   pub kept : IsKept (state_of s locks)
   pub flags : FlagsAll (state_of s locks)
   pub used : OpenAreUsed (state_of s locks)
-  pub index : IsIndex buckets locks
   pub jobs : JobsAreApart s
 
 -- one change is made: more wants may fit then than are counted

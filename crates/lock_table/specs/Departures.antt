@@ -7,9 +7,13 @@ use Rattle.lock_queue.specs.Dequeues.{with_wants, without_keys_of}
 use Rattle.lock_queue.specs.Grants.{staying_if}
 use Rattle.lock_queue.specs.Keys.{same_key}
 use Rattle.key_queues.specs.Tables.{is_there}
-use Rattle.request_store.specs.Stores.{Stored, filed_at, is_blocked}
+use Rattle.lock_queue.specs.Jobs.{is_among}
+use Rattle.request_store.specs.declared.filed.Filed.{Filed}
+use Rattle.request_store.specs.Stores.{Stored, filed_at, is_blocked, places_of}
 use Rattle.table_reads.specs.Filing.{want_at}
 use Rattle.table_reads.specs.Reads.{IsSole}
+use Rattle.lock_table.specs.declared.leaving.Leavers.{Leavers}
+use Rattle.lock_table.specs.declared.leaving.Leavers.TheVariants.{All, Job, Id, Waiter, Waiters}
 
 -- a request without its want of a key
 abbrev pub without_key : Key → Request → Request
@@ -48,7 +52,7 @@ pub record IsSoleNamed (s : Stored) (job : ℕ) (named : List Want) (p : ℕ) : 
   pub named_is : named ≡ want ∷ []
   pub sole : IsSole s job want.key p
 
--- which requests of a job have an id, block it, or block one of some jobs
+-- which requests are a job's, have an id besides, or block one of some jobs
 abbrev pub is_of : Stored → ℕ → ℕ → Bool
 is_of s job x = (filed_at s x).request.job == job
 
@@ -57,6 +61,33 @@ has_id_at s job id x = is_of s job x && (filed_at s x).request.id == id
 
 abbrev pub is_blocking_at : Stored → (ℕ → Bool) → ℕ → Bool
 is_blocking_at s waiters x = waiters (filed_at s x).request.job && is_blocked (filed_at s x)
+
+-- whether a request is one of those that leave
+abbrev pub is_leaver : Leavers → Filed → Bool
+is_leaver All f = true
+is_leaver (Job job) f = f.request.job == job
+is_leaver (Id job id) f = f.request.job == job && f.request.id == id
+is_leaver (Waiter job) f = f.request.job == job && is_blocked f
+is_leaver (Waiters jobs) f = is_among jobs f.request.job && is_blocked f
+
+abbrev pub is_leaver_at : Stored → Leavers → ℕ → Bool
+is_leaver_at s who x = is_leaver who (filed_at s x)
+
+-- whether it leaves, of those that may
+abbrev pub is_chosen : Leavers → Filed → Bool
+is_chosen All f = true
+is_chosen (Job job) f = true
+is_chosen (Id job id) f = f.request.id == id
+is_chosen (Waiter job) f = is_blocked f
+is_chosen (Waiters jobs) f = is_among jobs f.request.job && is_blocked f
+
+-- the places where those stand that may leave
+abbrev pub may_be_leavers : Stored → Leavers → List ℕ
+may_be_leavers s All = s.order
+may_be_leavers s (Job job) = places_of s job
+may_be_leavers s (Id job id) = places_of s job
+may_be_leavers s (Waiter job) = places_of s job
+may_be_leavers s (Waiters jobs) = s.order
 
 -- the requests for which a test holds leave
 abbrev pub LeavesWhere : Stored → Stored → (ℕ → Bool) → Type 0

@@ -3,4 +3,4 @@ pub mod Arrivals
 pub mod Departures
 pub mod Changing
 pub mod Raised
-pub mod Held
+pub mod Tables

@@ -3,9 +3,8 @@ ghost use Rattle.std.specs.Prelude.{◌≡◌, ◌≤◌, ◌<◌, [], ◌==◌,
 ghost use Rattle.std.specs.List.{All, find, list_any, position_or_len};
 ghost use Rattle.word36.specs.declared.sizes.TheConstants.{JOBS};
 ghost use Rattle.key_queues.specs.Beginnings.{fitting};
-ghost use Rattle.key_queues.specs.Found.{IsIndex};
-ghost use Rattle.key_queues.specs.Kept.{IsQueueOf, counting};
-ghost use Rattle.key_queues.specs.Locks.{lock_at, with_queue};
+ghost use Rattle.key_queues.specs.Kept.{IsQueueOf};
+ghost use Rattle.key_queues.specs.Locks.{lock_at};
 ghost use Rattle.key_queues.specs.Opened.{is_open_for};
 ghost use Rattle.key_queues.specs.States.{IsTable};
 ghost use Rattle.key_queues.specs.Tables.{is_there};
@@ -15,14 +14,13 @@ ghost use Rattle.lock_queue.specs.WellFormed.{are_apart};
 ghost use Rattle.request_store.specs.Stores.{filed_at};
 ghost use Rattle.table_reads.specs.Filing.{state_of, want_filed};
 ghost use Rattle.table_reads.specs.Reads.{request_at};
-ghost use Rattle.table_reads.specs.Whole.{AreRight, IsWhole, requests_in};
-ghost use Rattle.lock_table.specs.Turns.{Turned};
+ghost use Rattle.table_reads.specs.Whole.{AreRight, requests_in};
+ghost use Rattle.lock_table.specs.Tables.{AreTurned, IsRight, requests};
 ghost use Rattle.lock_table.specs.Changing.{Altered, AreSound, ExtendedAt, IsAltering, IsBetween, IsChanged, IsExtending, IsFreeAt};
 ghost use Rattle.lock_table.specs.Changing.{IsFullBut, IsSound, SparesPools, altered_at, changed_by, loses_by, want_then};
 
-use crate::steps::extend;
-use crate::turns::Turns;
-use key_queues::{Keys, Lock, Queue, hash_of, index_of, want_in};
+use crate::table::Table;
+use key_queues::{Keys, Lock, Queue, index_of, want_in};
 use lock_queue::steps::changed_group;
 use lock_queue::{Key, LockReply, Refusal, Want};
 use request_store::Store;
@@ -111,18 +109,18 @@ fn is_some_granted<const REQS: usize>(store: &Store<REQS>, places: &[u16], from:
 /// Whether a change of the key of a lock takes a grant.
 fn loses_in<const REQS: usize>(
     store: &Store<REQS>,
-    locks: &[Lock],
+    keys: &Keys<REQS>,
     n: u16,
     job: u8,
     c: &Want,
 ) -> bool
-    requires table { IsTable (state_of store.now locks.now) }
+    requires table { IsTable (state_of store.now keys.now) }
     requires right { AreRight store.now }
     requires spares { SparesPools store.now job c.now }
-    requires lock { is_open_for c.now.key (lock_at locks.now n) ≡ true }
+    requires lock { is_open_for c.now.key (lock_at keys.now n) ≡ true }
     ensures { result ≡ loses_by store.now job c.now }
 {
-    let lock = &locks[n as usize];
+    let lock = &keys.locks()[n as usize];
     if lock.size.is_some() {
         return false;
     }
@@ -131,21 +129,14 @@ fn loses_in<const REQS: usize>(
 }
 
 /// Whether a change takes a grant.
-fn loses<const REQS: usize>(
-    store: &Store<REQS>,
-    keys: &Keys,
-    locks: &[Lock],
-    job: u8,
-    c: &Want,
-) -> bool
-    requires table { IsTable (state_of store.now locks.now) }
-    requires index { IsIndex keys.now.buckets.items locks.now }
+fn loses<const REQS: usize>(store: &Store<REQS>, keys: &Keys<REQS>, job: u8, c: &Want) -> bool
+    requires table { IsTable (state_of store.now keys.now) }
     requires right { AreRight store.now }
     requires spares { SparesPools store.now job c.now }
     ensures { result ≡ loses_by store.now job c.now }
 {
-    match keys.find(locks, &c.key, hash_of(&c.key)) {
-        Some(n) => loses_in(store, locks, n, job, c),
+    match keys.find(&c.key) {
+        Some(n) => loses_in(store, keys, n, job, c),
         None => false,
     }
 }
@@ -153,19 +144,17 @@ fn loses<const REQS: usize>(
 /// Whether one of the changes takes a grant.
 fn some_loses<const REQS: usize>(
     store: &Store<REQS>,
-    keys: &Keys,
-    locks: &[Lock],
+    keys: &Keys<REQS>,
     job: u8,
     changes: &[Want],
 ) -> bool
-    requires table { IsTable (state_of store.now locks.now) }
-    requires index { IsIndex keys.now.buckets.items locks.now }
+    requires table { IsTable (state_of store.now keys.now) }
     requires right { AreRight store.now }
     requires spares { All (SparesPools store.now job) changes.now }
     ensures { result ≡ list_any (loses_by store.now job) changes.now }
 {
     for c in changes {
-        if loses(store, keys, locks, job, c) {
+        if loses(store, keys, job, c) {
             return true;
         }
     }
@@ -175,54 +164,57 @@ fn some_loses<const REQS: usize>(
 /// Whether the changes, all of them made, take a grant.
 fn is_some_lost<const REQS: usize>(
     store: &Store<REQS>,
-    keys: &Keys,
-    locks: &[Lock],
+    keys: &Keys<REQS>,
     job: u8,
     changes: &[Want],
 ) -> bool
-    requires table { IsTable (state_of store.now locks.now) }
-    requires index { IsIndex keys.now.buckets.items locks.now }
+    requires table { IsTable (state_of store.now keys.now) }
     requires right { AreRight store.now }
     requires spares { All (SparesPools store.now job) changes.now }
     requires apart { are_apart changes.now ≡ true }
     ensures { result ≡ some_lost (requests_in store.now) (with_changes (requests_in store.now) job changes.now) }
 {
-    some_loses(store, keys, locks, job, changes)
+    some_loses(store, keys, job, changes)
 }
 
 /// Whether a lock is of a pool.
-fn is_pool(locks: &[Lock], n: u16) -> bool
-    requires { n < length locks.now }
-    ensures { result ≡ is_some (lock_at locks.now n).size }
+fn is_pool<const REQS: usize>(keys: &Keys<REQS>, n: u16) -> bool
+    requires { n < length keys.now }
+    ensures { result ≡ is_some (lock_at keys.now n).size }
 {
-    locks[n as usize].size.is_some()
+    keys.locks()[n as usize].size.is_some()
 }
 
 /// How many wants of a queue are counted once the job's is changed: no more than before, and none that
 /// does not fit.
 fn counted_then<const REQS: usize>(
     store: &Store<REQS>,
-    locks: &[Lock],
+    keys: &Keys<REQS>,
     n: u16,
     job: u8,
     c: &Want,
 ) -> usize
-    requires lock { n < length locks.now }
-    requires free { All (IsFreeAt store.now n) (lock_at locks.now n).queue.places }
-    ensures { result ≡ min (fitting (map (want_then store.now n job c.now) (lock_at locks.now n).queue.places)) (lock_at locks.now n).queue.fitting }
+    requires lock { n < length keys.now }
+    requires free { All (IsFreeAt store.now n) (lock_at keys.now n).queue.places }
+    ensures { result ≡ min (fitting (map (want_then store.now n job c.now) (lock_at keys.now n).queue.places)) (lock_at keys.now n).queue.fitting }
 {
-    let lock = &locks[n as usize];
+    let lock = &keys.locks()[n as usize];
     let fitting = fitting_then(store, lock, n, job, c);
     fitting.min(lock.queue.fitting())
 }
 
 /// The first place of a queue of a job's request.
-fn place_of<const REQS: usize>(store: &Store<REQS>, locks: &[Lock], n: u16, job: u8) -> Option<u16>
-    requires lock { n < length locks.now }
-    requires there { All (λ p. is_there p store.now.order ≡ true) (lock_at locks.now n).queue.places }
-    ensures { result ≡ find (λ p. (request_at store.now p).job == job) (lock_at locks.now n).queue.places }
+fn place_of<const REQS: usize>(
+    store: &Store<REQS>,
+    keys: &Keys<REQS>,
+    n: u16,
+    job: u8,
+) -> Option<u16>
+    requires lock { n < length keys.now }
+    requires there { All (λ p. is_there p store.now.order ≡ true) (lock_at keys.now n).queue.places }
+    ensures { result ≡ find (λ p. (request_at store.now p).job == job) (lock_at keys.now n).queue.places }
 {
-    for p in locks[n as usize].queue.as_slice() {
+    for p in keys.locks()[n as usize].queue.as_slice() {
         if store.get(*p).request.job == job {
             return Some(*p);
         }
@@ -233,17 +225,17 @@ fn place_of<const REQS: usize>(store: &Store<REQS>, locks: &[Lock], n: u16, job:
 /// The first want of a queue, once the job's is changed.
 fn first_then<const REQS: usize>(
     store: &Store<REQS>,
-    locks: &[Lock],
+    keys: &Keys<REQS>,
     n: u16,
     job: u8,
     c: &Want,
 ) -> Want
-    requires lock { n < length locks.now }
-    requires some { 0 < length (lock_at locks.now n).queue.places }
-    requires free { All (IsFreeAt store.now n) (lock_at locks.now n).queue.places }
-    ensures { result ≡ want_then store.now n job c.now (slice_index (lock_at locks.now n).queue.places 0) }
+    requires lock { n < length keys.now }
+    requires some { 0 < length (lock_at keys.now n).queue.places }
+    requires free { All (IsFreeAt store.now n) (lock_at keys.now n).queue.places }
+    ensures { result ≡ want_then store.now n job c.now (slice_index (lock_at keys.now n).queue.places 0) }
 {
-    want_then(store, locks[n as usize].queue.place(0), n, job, c)
+    want_then(store, keys.locks()[n as usize].queue.place(0), n, job, c)
 }
 
 /// Changes the want of a place in a queue.
@@ -258,138 +250,104 @@ fn alter_want<const REQS: usize>(store: &mut Store<REQS>, p: u16, n: u16, c: &Wa
     store.set_want(p, i, &w);
 }
 
-/// Counts k wants of a queue, of the party of the first.
-fn recount(locks: &mut [Lock], n: u16, k: usize, first: &Want)
-    requires lock { n < length locks.old }
-    requires fewer { k ≤ (lock_at locks.old n).queue.fitting }
-    ensures { locks.new ≡ with_queue locks.old n (counting (lock_at locks.old n).queue k first.now) }
-{
-    locks[n as usize].queue.recount(k, first);
-}
-
 /// Makes one change in the queue of its key. What may be counted then is left to `extend`.
 fn alter_in<const REQS: usize>(
     store: &mut Store<REQS>,
-    keys: &Keys,
-    locks: &mut [Lock],
+    keys: &mut Keys<REQS>,
     n: u16,
     job: u8,
     c: &Want,
 )
-    requires between { IsBetween store.old locks.old keys.now.buckets.items }
-    requires sound { IsSound store.old locks.old job c.now }
-    requires lock { is_open_for c.now.key (lock_at locks.old n) ≡ true }
-    ensures between { IsBetween store.new locks.new keys.now.buckets.items }
-    ensures altered { Altered store.old store.new locks.old locks.new job c.now }
+    requires between { IsBetween store.old keys.old }
+    requires sound { IsSound store.old keys.old job c.now }
+    requires lock { is_open_for c.now.key (lock_at keys.old n) ≡ true }
+    ensures between { IsBetween store.new keys.new }
+    ensures altered { Altered store.old store.new keys.old keys.new job c.now }
 {
-    if is_pool(locks, n) {
+    if is_pool(keys, n) {
         return;
     }
-    let k = counted_then(store, locks, n, job, c);
-    let first = first_then(store, locks, n, job, c);
-    if let Some(p) = place_of(store, locks, n, job) {
+    let k = counted_then(store, keys, n, job, c);
+    let first = first_then(store, keys, n, job, c);
+    if let Some(p) = place_of(store, keys, n, job) {
         alter_want(store, p, n, c);
-        recount(locks, n, k, &first);
+        keys.recount(n, k, &first);
     }
 }
 
 /// Makes one change.
-fn alter<const REQS: usize>(
-    store: &mut Store<REQS>,
-    keys: &Keys,
-    locks: &mut [Lock],
-    job: u8,
-    c: &Want,
-)
-    requires between { IsBetween store.old locks.old keys.now.buckets.items }
-    requires sound { IsSound store.old locks.old job c.now }
-    ensures between { IsBetween store.new locks.new keys.now.buckets.items }
-    ensures altered { Altered store.old store.new locks.old locks.new job c.now }
+fn alter<const REQS: usize>(store: &mut Store<REQS>, keys: &mut Keys<REQS>, job: u8, c: &Want)
+    requires between { IsBetween store.old keys.old }
+    requires sound { IsSound store.old keys.old job c.now }
+    ensures between { IsBetween store.new keys.new }
+    ensures altered { Altered store.old store.new keys.old keys.new job c.now }
 {
-    if let Some(n) = keys.find(locks, &c.key, hash_of(&c.key)) {
-        alter_in(store, keys, locks, n, job, c);
+    if let Some(n) = keys.find(&c.key) {
+        alter_in(store, keys, n, job, c);
     }
 }
 
 /// Makes all changes.
 fn alter_all<const REQS: usize>(
     store: &mut Store<REQS>,
-    keys: &Keys,
-    locks: &mut [Lock],
+    keys: &mut Keys<REQS>,
     job: u8,
     changes: &[Want],
 )
-    requires between { IsBetween store.old locks.old keys.now.buckets.items }
-    requires sound { AreSound store.old locks.old job changes.now }
-    ensures between { IsBetween store.new locks.new keys.now.buckets.items }
-    ensures altered { IsAltering store.old store.new locks.old locks.new job changes.now [] }
+    requires between { IsBetween store.old keys.old }
+    requires sound { AreSound store.old keys.old job changes.now }
+    ensures between { IsBetween store.new keys.new }
+    ensures altered { IsAltering store.old store.new keys.old keys.new job changes.now [] }
 {
     for c in changes {
-        alter(store, keys, locks, job, c);
+        alter(store, keys, job, c);
     }
 }
 
-/// Counts all wants of a key that fit, and sets the flags of their requests right.
-fn extend_key<const REQS: usize>(
-    store: &mut Store<REQS>,
-    turns: &mut Turns<REQS>,
-    keys: &Keys,
-    locks: &mut [Lock],
-    key: &Key,
-)
-    requires { IsBetween store.old locks.old keys.now.buckets.items }
-    ensures between { IsBetween store.new locks.new keys.now.buckets.items }
-    ensures extended { ExtendedAt store.old store.new locks.old locks.new key.now }
-    ensures turns { Turned store.old store.new turns.old turns.new }
-{
-    if let Some(n) = keys.find(locks, key, hash_of(key)) {
-        extend(store, turns, locks, n);
+impl<const REQS: usize> Table<REQS> {
+    /// Counts all wants of a key that fit, and sets the flags of their requests right.
+    fn extend_key(&mut self, key: &Key)
+        requires { IsBetween self.old.store self.old.keys }
+        ensures between { IsBetween self.new.store self.new.keys }
+        ensures extended { ExtendedAt self.old.store self.new.store self.old.keys self.new.keys key.now }
+        ensures turns { AreTurned self.old self.new }
+    {
+        if let Some(n) = self.keys.find(key) {
+            self.extend(n);
+        }
     }
-}
 
-/// Counts all wants of the changes' keys that fit.
-fn extend_all<const REQS: usize>(
-    store: &mut Store<REQS>,
-    turns: &mut Turns<REQS>,
-    keys: &Keys,
-    locks: &mut [Lock],
-    changes: &[Want],
-)
-    requires between { IsBetween store.old locks.old keys.now.buckets.items }
-    requires full { IsFullBut store.old locks.old changes.now }
-    ensures between { IsBetween store.new locks.new keys.now.buckets.items }
-    ensures extended { IsExtending store.old store.new locks.old locks.new [] }
-    ensures turns { Turned store.old store.new turns.old turns.new }
-{
-    for c in changes {
-        extend_key(store, turns, keys, locks, &c.key);
+    /// Counts all wants of the changes' keys that fit.
+    fn extend_all(&mut self, changes: &[Want])
+        requires between { IsBetween self.old.store self.old.keys }
+        requires full { IsFullBut self.old.store self.old.keys changes.now }
+        ensures between { IsBetween self.new.store self.new.keys }
+        ensures extended { IsExtending self.old.store self.new.store self.old.keys self.new.keys [] }
+        ensures turns { AreTurned self.old self.new }
+    {
+        for c in changes {
+            self.extend_key(&c.key);
+        }
     }
-}
 
-/// A job's wants of the named keys become shared or exclusive, all of them or none. First all changes are
-/// made, then what fits is counted: what the first would grant may be shut out by the second.
-pub fn modify<const REQS: usize>(
-    store: &mut Store<REQS>,
-    turns: &mut Turns<REQS>,
-    keys: &Keys,
-    locks: &mut [Lock],
-    job: u8,
-    changes: &[Want],
-) -> LockReply
-    requires whole { IsWhole REQS store.old locks.old keys.now.buckets.items }
-    ensures whole { IsWhole REQS store.new locks.new keys.now.buckets.items }
-    ensures requests { requests_in store.new ≡ (modify (requests_in store.old) job changes.now).requests }
-    ensures reply { result ≡ (modify (requests_in store.old) job changes.now).reply }
-    ensures changed { result ≡ Done → IsChanged store.old store.new job changes.now }
-    ensures turns { Turned store.old store.new turns.old turns.new }
-{
-    if let Some(refusal) = refusal_of_modify(store, keys, locks, job, changes) {
-        return LockReply::Refused(refusal);
+    /// A job's wants of the named keys become shared or exclusive, all of them or none. First all changes
+    /// are made, then what fits is counted: what the first would grant may be shut out by the second.
+    pub fn modify(&mut self, job: u8, changes: &[Want]) -> LockReply
+        requires whole { IsRight REQS self.old }
+        ensures whole { IsRight REQS self.new }
+        ensures requests { requests self.new ≡ (modify (requests self.old) job changes.now).requests }
+        ensures reply { result ≡ (modify (requests self.old) job changes.now).reply }
+        ensures changed { result ≡ Done → IsChanged self.old.store self.new.store job changes.now }
+        ensures turns { AreTurned self.old self.new }
+    {
+        if let Some(refusal) = refusal_of_modify(&self.store, &self.keys, job, changes) {
+            return LockReply::Refused(refusal);
+        }
+        if is_some_lost(&self.store, &self.keys, job, changes) {
+            return LockReply::Refused(Refusal::WouldLose);
+        }
+        alter_all(&mut self.store, &mut self.keys, job, changes);
+        self.extend_all(changes);
+        LockReply::Done
     }
-    if is_some_lost(store, keys, locks, job, changes) {
-        return LockReply::Refused(Refusal::WouldLose);
-    }
-    alter_all(store, keys, locks, job, changes);
-    extend_all(store, turns, keys, locks, changes);
-    LockReply::Done
 }

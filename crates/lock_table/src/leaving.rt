@@ -1,82 +1,83 @@
-//! Which requests leave.
-ghost use Rattle.std.specs.Prelude.{◌≡◌, ◌≤◌, ◌==◌, filter, length};
+//! Which requests leave as a whole.
+ghost use Rattle.std.specs.Prelude.{◌≡◌, ◌≤◌, filter, length};
 ghost use Rattle.word36.specs.declared.sizes.TheConstants.{MOST_REQUESTS};
-ghost use Rattle.lock_queue.specs.Jobs.{is_among};
-ghost use Rattle.request_store.specs.Stores.{filed_at, is_blocked, places_of};
 ghost use Rattle.table_reads.specs.Whole.{AreRight};
-ghost use Rattle.lock_table.specs.Departures.{is_blocking_at};
+ghost use Rattle.lock_table.specs.Departures.{LeavesWhere, is_chosen, is_leaver_at, may_be_leavers};
+ghost use Rattle.lock_table.specs.Tables.{AreTurned, IsRight};
 
+use crate::table::Table;
 use arrayvec::ArrayVec;
 use lock_queue::RequestId;
 use lock_queue::steps::is_among;
-use request_store::Store;
+use request_store::{Filed, Store};
 use table_reads::own_places;
 use word36::MOST_REQUESTS;
 
 /// The places of requests that leave.
 pub type Leaving = ArrayVec<u16, MOST_REQUESTS>;
 
-/// Writes the places of all requests.
-pub fn all_of<const REQS: usize>(leaving: &mut Leaving, store: &Store<REQS>)
-    requires { length store.now.order ≤ MOST_REQUESTS }
-    ensures { leaving.new.items ≡ store.now.order }
+/// Whose requests leave.
+#[derive(Clone, Copy)]
+pub enum Leavers {
+    /// All.
+    All,
+    /// Those of a job.
+    Job(u8),
+    /// Those of a job with an id.
+    Id(u8, RequestId),
+    /// Those by which a job waits.
+    Waiter(u8),
+    /// Those by which some jobs wait, which are bits.
+    Waiters(u64),
+}
+
+/// Whether a request leaves, of those that may.
+fn is_chosen(who: &Leavers, f: &Filed) -> bool
+    ensures { result ≡ is_chosen who.now f.now }
 {
-    leaving.clear();
-    for p in store.order() {
-        leaving.push(*p);
+    match *who {
+        Leavers::All | Leavers::Job(_) => true,
+        Leavers::Id(_, id) => f.request.id == id,
+        Leavers::Waiter(_) => f.is_blocked(),
+        Leavers::Waiters(jobs) => is_among(jobs, f.request.job) && f.is_blocked(),
     }
 }
 
-/// Writes the places of a job's requests.
-pub fn own_of<const REQS: usize>(leaving: &mut Leaving, store: &Store<REQS>, job: u8)
-    requires right { AreRight store.now }
-    requires few { length store.now.order ≤ MOST_REQUESTS }
-    ensures { leaving.new.items ≡ places_of store.now job }
+/// The places where those stand that may leave: a job's, or all.
+fn may_be_leavers<'a, const REQS: usize>(store: &'a Store<REQS>, who: &Leavers) -> &'a [u16]
+    requires { AreRight store.now }
+    ensures { result.now ≡ may_be_leavers store.now who.now }
 {
-    leaving.clear();
-    for p in own_places(store, job) {
-        leaving.push(*p);
+    match *who {
+        Leavers::All | Leavers::Waiters(_) => store.order(),
+        Leavers::Job(job) | Leavers::Id(job, _) | Leavers::Waiter(job) => own_places(store, job),
     }
 }
 
-/// Writes the places of a job's requests of an id.
-pub fn id_of<const REQS: usize>(leaving: &mut Leaving, store: &Store<REQS>, job: u8, id: RequestId)
+/// Writes the places of the requests that leave, in order of arrival.
+fn gather<const REQS: usize>(leaving: &mut Leaving, store: &Store<REQS>, who: &Leavers)
     requires right { AreRight store.now }
     requires few { length store.now.order ≤ MOST_REQUESTS }
-    ensures { leaving.new.items ≡ filter (λ x. (filed_at store.now x).request.id == id) (places_of store.now job) }
+    ensures { leaving.new.items ≡ filter (is_leaver_at store.now who.now) store.now.order }
 {
     leaving.clear();
-    for p in own_places(store, job) {
-        if store.get(*p).request.id == id {
+    for p in may_be_leavers(store, who) {
+        if is_chosen(who, store.get(*p)) {
             leaving.push(*p);
         }
     }
 }
 
-/// Writes the places of the requests by which a job waits.
-pub fn blocked_of<const REQS: usize>(leaving: &mut Leaving, store: &Store<REQS>, job: u8)
-    requires right { AreRight store.now }
-    requires few { length store.now.order ≤ MOST_REQUESTS }
-    ensures { leaving.new.items ≡ filter (λ x. is_blocked (filed_at store.now x)) (places_of store.now job) }
-{
-    leaving.clear();
-    for p in own_places(store, job) {
-        if store.get(*p).is_blocked() {
-            leaving.push(*p);
-        }
-    }
-}
-
-/// Writes the places of the requests by which some jobs wait.
-pub fn blocked_among<const REQS: usize>(leaving: &mut Leaving, store: &Store<REQS>, jobs: u64)
-    requires { length store.now.order ≤ MOST_REQUESTS }
-    ensures { leaving.new.items ≡ filter (is_blocking_at store.now (is_among jobs)) store.now.order }
-{
-    leaving.clear();
-    for p in store.order() {
-        let f = store.get(*p);
-        if is_among(jobs, f.request.job) && f.is_blocked() {
-            leaving.push(*p);
-        }
+impl<const REQS: usize> Table<REQS> {
+    /// Requests leave as a whole.
+    pub fn release(&mut self, leaving: &mut Leaving, who: &Leavers)
+        requires whole { IsRight REQS self.old }
+        requires small { REQS ≤ MOST_REQUESTS }
+        ensures whole { IsRight REQS self.new }
+        ensures left { LeavesWhere self.old.store self.new.store (is_leaver_at self.old.store who.now) }
+        ensures turns { AreTurned self.old self.new }
+    {
+        gather(leaving, &self.store, who);
+        self.leave_all(leaving.as_slice());
     }
 }

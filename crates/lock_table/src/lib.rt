@@ -7,13 +7,13 @@ mod change;
 mod depart;
 mod dequeues;
 mod enqueues;
+mod indexed;
 mod leaving;
 mod parts;
-mod releases;
 mod steps;
 mod table;
 mod told;
 mod turns;
 mod waking;
 
-pub use table::IndexedTable;
+pub use indexed::IndexedTable;

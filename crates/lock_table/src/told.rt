@@ -3,7 +3,6 @@ ghost use Rattle.std.specs.Prelude.{◌≡◌, ℕ, List, true};
 ghost use Rattle.lock_queue.specs.Jobs.{as_told, told_of};
 ghost use Rattle.key_queues.specs.States.{IsTable};
 ghost use Rattle.key_queues.specs.Tables.{is_there};
-ghost use Rattle.key_queues.specs.declared.keys.Bucket.{Bucket as BucketView};
 ghost use Rattle.key_queues.specs.declared.lock.Lock.{Lock as LockView};
 ghost use Rattle.request_store.specs.Stores.{filed_at};
 ghost use Rattle.table_reads.specs.Filing.{state_of};
@@ -15,8 +14,7 @@ use table_reads::first_pending;
 /// The job of a request knows of its grant.
 pub fn mark_told<const REQS: usize>(store: &mut Store<REQS>, p: u16)
     requires { is_there p store.old.order ≡ true }
-    ensures whole { (size : ℕ) (locks : List LockView) (buckets : List BucketView)
-        → IsWhole size store.old locks buckets → IsWhole size store.new locks buckets }
+    ensures whole { (size : ℕ) (locks : List LockView) → IsWhole size store.old locks → IsWhole size store.new locks }
     ensures order { store.new.order ≡ store.old.order }
     ensures request { (filed_at store.new p).request ≡ as_told (filed_at store.old p).request }
     ensures others { (x : ℕ) → (x ≡ p → ⊥) → (filed_at store.new x).request ≡ (filed_at store.old x).request }
@@ -27,8 +25,7 @@ pub fn mark_told<const REQS: usize>(store: &mut Store<REQS>, p: u16)
 /// A job is told of its first grant of which it was not told.
 pub fn tell<const REQS: usize>(store: &mut Store<REQS>, job: u8)
     requires { AreRight store.old }
-    ensures whole { (size : ℕ) (locks : List LockView) (buckets : List BucketView)
-        → IsWhole size store.old locks buckets → IsWhole size store.new locks buckets }
+    ensures whole { (size : ℕ) (locks : List LockView) → IsWhole size store.old locks → IsWhole size store.new locks }
     ensures requests { (locks : List LockView) → IsTable (state_of store.old locks)
         → requests_in store.new ≡ told_of (requests_in store.old) job }
 {

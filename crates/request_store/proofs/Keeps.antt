@@ -37,9 +37,6 @@ module _ (n : ℕ) (slots : List (Option Filed)) (len : ℕ) (order : List ℕ) 
   other_slot : (o : Option Filed) (q : ℕ) → q ≢ p → slot (with_slot slots p o) q ≡ slot slots q
   other_slot o q ne = get_or-set_other slots p q o None ne
 
-  job_of : Option Filed → ℕ
-  job_of o = (filed_or o).request.job
-
   job_same : (o : Option Filed) → p < n → job_at (with_slot slots p o) p ≡ (filed_or o).request.job
   job_same o lt = ap (λ x. (filed_or x).request.job) (same_slot o lt)
 
@@ -259,9 +256,6 @@ module _ (n : ℕ) (slots : List (Option Filed)) (len : ℕ) (order : List ℕ) 
     pub present : is_there p order ≡ true
     present = k.there p ∙ h
 
-    pub in_order : is_there p order ≡ true
-    in_order = present
-
     pub in_list : is_there p (list_of own (job_at slots p)) ≡ true
     in_list =
         ap (is_there p) (k.each (job_at slots p) (k.jobs p))
@@ -360,12 +354,12 @@ module _ (slots : List (Option Filed)) (order : List ℕ) (s : Stored) (p : ℕ)
       → map filed_or (with_slot slots p o) ≡ slice_set s.filed p (filed_or o)
   seen_set seen o = map-set filed_or slots p o ∙ ap (λ (t : Stored). slice_set t.filed p (filed_or o)) seen
 
-  pub seen_change : record { filed = map filed_or slots; order = order } ≡ s → (new : List (Option Filed)) (change : Filed → Filed)
-      → new ≡ with_slot slots p (Some (change (filed_or (slot slots p))))
-      → record { filed = map filed_or new; order = order } ≡ with_filed s p (change (filed_at s p))
-  seen_change seen new change is =
-      let filed : map filed_or new ≡ slice_set s.filed p (change (filed_at s p)) =
-      ap (map filed_or) is ∙ seen_set seen (Some (change (filed_or (slot slots p)))) ∙ ap (λ f. slice_set s.filed p (change f)) (sym (seen_filed seen)) in
+  pub seen_change : record { filed = map filed_or slots; order = order } ≡ s → (change : Filed → Filed) (old f : Filed)
+      → old ≡ filed_or (slot slots p) → f ≡ change old
+      → record { filed = map filed_or (with_slot slots p (Some f)); order = order } ≡ with_filed s p (change (filed_at s p))
+  seen_change seen change old f was is =
+      let filed : map filed_or (with_slot slots p (Some f)) ≡ slice_set s.filed p (change (filed_at s p)) =
+      seen_set seen (Some f) ∙ ap (slice_set s.filed p) (is ∙ ap change (was ∙ sym (seen_filed seen))) in
       let same : order ≡ s.order = ap (λ (t : Stored). t.order) seen in
       λ i. record { filed = filed i; order = same i }
 
@@ -385,24 +379,24 @@ module _ (slots : List (Option Filed)) (order : List ℕ) (s : Stored) (p : ℕ)
       let order_then : later ≡ without_place s.order p = left ∙ ap (λ (t : Stored). without_place t.order p) seen in
       λ i. record { filed = filed i; order = order_then i }
 
--- a place that is present is within
-pub seen_within : (n : ℕ) (slots : List (Option Filed)) (len : ℕ) (order : List ℕ) (own : List (List ℕ)) (counts : List ℕ)
-    → IsStored n slots len order own counts
-    → (s : Stored) (p : ℕ)
-    → record { filed = map filed_or slots; order = order } ≡ s → is_there p s.order ≡ true
-    → p < length s.filed
-seen_within n slots len order own counts k s p seen h =
-    let filled : is_filled slots p ≡ true = sym (k.there p) ∙ ap (λ (t : Stored). is_there p t.order) seen ∙ h in
-    omega (arith, within n slots p k.long filled, k.long, length-map slots filed_or, ap (λ (t : Stored). length t.filed) seen)
+-- a place that is present
+module _ (n : ℕ) (slots : List (Option Filed)) (len : ℕ) (order : List ℕ) (own : List (List ℕ)) (counts : List ℕ)
+    (k : IsStored n slots len order own counts) (s : Stored) (p : ℕ) (seen : record { filed = map filed_or slots; order = order } ≡ s)
+    (h : is_there p s.order ≡ true) where
+  pub seen_filled : is_filled slots p ≡ true
+  seen_filled = sym (k.there p) ∙ ap (λ (t : Stored). is_there p t.order) seen ∙ h
 
-pub seen_small : (n : ℕ) (slots : List (Option Filed)) (len : ℕ) (order : List ℕ) (own : List (List ℕ)) (counts : List ℕ)
-    → IsStored n slots len order own counts
-    → (s : Stored) (p : ℕ)
-    → record { filed = map filed_or slots; order = order } ≡ s → is_there p s.order ≡ true
-    → p < n
-seen_small n slots len order own counts k s p seen h =
-    let filled : is_filled slots p ≡ true = sym (k.there p) ∙ ap (λ (t : Stored). is_there p t.order) seen ∙ h in
-    omega (arith, within n slots p k.long filled)
+  pub seen_small : p < n
+  seen_small = within n slots p k.long seen_filled
+
+  pub seen_within : p < length s.filed
+  seen_within = omega (arith, seen_small, k.long, length-map slots filed_or, ap (λ (t : Stored). length t.filed) seen)
+
+  -- a change that leaves its job, and whether that waits
+  pub change_kept : (old f : Filed) → old ≡ filed_or (slot slots p) → f.request.job ≡ old.request.job → is_blocked f ≡ is_blocked old
+      → IsStored n (with_slot slots p (Some f)) len order own counts
+  change_kept old f was job blocked =
+      change_keeps n slots len order own counts k p f seen_filled (job ∙ ap (λ (x : Filed). x.request.job) was) (blocked ∙ ap is_blocked was)
 
 -- by how many requests a job waits
 pub seen_blocked : (n : ℕ) (slots : List (Option Filed)) (len : ℕ) (order : List ℕ) (own : List (List ℕ)) (counts : List ℕ)

@@ -1,5 +1,5 @@
 //! The requests of a table.
-ghost use Rattle.std.specs.Prelude.{ℕ, ◌≡◌, ◌<◌, ◌≤◌, ◌++◌, ◌∷◌, [], length, true, false, IfOk};
+ghost use Rattle.std.specs.Prelude.{ℕ, ◌≡◌, ◌<◌, ◌≤◌, [], length, true, false, IfOk};
 ghost use Rattle.word36.specs.declared.sizes.TheConstants.{JOBS, LOCKS_A_CALL};
 ghost use Rattle.request_store.specs.Filing.{arrived, unused_filed, with_granted, with_more, with_told, with_want, without_want};
 ghost use Rattle.request_store.specs.Stores.{StandsOnce, blocked_of, filed_at, found, inserted, is_there, places_of, removed, with_filed};
@@ -90,6 +90,7 @@ impl<const REQS: usize> Store<REQS> {
     }
 
     /// The request at a place.
+    #[tactic(auto, using(crate::proofs::Keeps::seen_small, crate::proofs::Keeps::seen_within))]
     pub fn get(&self, p: u16) -> &Filed
         requires { is_there p self.now.order ≡ true }
         ensures value { result.now ≡ filed_at self.now p }
@@ -113,6 +114,7 @@ impl<const REQS: usize> Store<REQS> {
     }
 
     /// Takes in a request, which comes last and has no wants yet.
+    #[tactic(auto, using(crate::proofs::Keeps::job_listed, crate::proofs::Keeps::list_room, crate::proofs::Keeps::number_small))]
     pub fn insert(&mut self, job: u8, asking: &Asking, told: bool) -> u16
         requires room { length self.old.order < REQS }
         requires job { job ≤ JOBS }
@@ -129,6 +131,7 @@ impl<const REQS: usize> Store<REQS> {
     }
 
     /// Takes the request of a place out.
+    #[tactic(auto, using(crate::proofs::Keeps::number_small, crate::proofs::Keeps::seen_within))]
     pub fn remove(&mut self, p: u16)
         requires { is_there p self.old.order ≡ true }
         ensures value { self.new ≡ removed self.old p }
@@ -144,29 +147,32 @@ impl<const REQS: usize> Store<REQS> {
     }
 
     /// Sets whether the request of a place is granted.
+    #[tactic(auto, using(crate::proofs::Keeps::number_small, crate::proofs::Keeps::seen_within))]
     pub fn set_granted(&mut self, p: u16, granted: bool)
         requires { is_there p self.old.order ≡ true }
         ensures value { self.new ≡ with_filed self.old p (with_granted (filed_at self.old p) granted) }
         ensures within { p < length self.old.filed }
     {
-        let filed = self.shelf.get(p);
+        let filed = self.shelf.get_mut(p);
         let job = filed.request.job;
         let was = filed.is_blocked();
-        let is = filed.is_blocked_if(granted);
-        self.shelf.set_granted(p, granted);
+        filed.set_granted(granted);
+        let is = filed.is_blocked();
         recount(&mut self.blocked, job, was, is);
     }
 
     /// The job of the request at a place knows of its grant.
+    #[tactic(auto, using(crate::proofs::Keeps::seen_within))]
     pub fn set_told(&mut self, p: u16)
         requires { is_there p self.old.order ≡ true }
         ensures value { self.new ≡ with_filed self.old p (with_told (filed_at self.old p)) }
         ensures within { p < length self.old.filed }
     {
-        self.shelf.set_told(p);
+        self.shelf.get_mut(p).set_told();
     }
 
     /// The request of a place takes one more want, in a queue.
+    #[tactic(auto, using(crate::proofs::Keeps::seen_filed, crate::proofs::Keeps::seen_within))]
     pub fn push_want(&mut self, p: u16, w: &Want, n: u16)
         requires present { is_there p self.old.order ≡ true }
         requires wants { length (filed_at self.old p).request.wants.items < LOCKS_A_CALL }
@@ -174,10 +180,11 @@ impl<const REQS: usize> Store<REQS> {
         ensures value { self.new ≡ with_filed self.old p (with_more (filed_at self.old p) w.now n) }
         ensures within { p < length self.old.filed }
     {
-        self.shelf.push_want(p, w, n);
+        self.shelf.get_mut(p).push_want(w, n);
     }
 
     /// Takes the k-th want out of the request at a place.
+    #[tactic(auto, using(crate::proofs::Keeps::seen_filed, crate::proofs::Keeps::seen_within))]
     pub fn take_want(&mut self, p: u16, k: usize)
         requires present { is_there p self.old.order ≡ true }
         requires wants { k < length (filed_at self.old p).request.wants.items }
@@ -185,16 +192,17 @@ impl<const REQS: usize> Store<REQS> {
         ensures value { self.new ≡ with_filed self.old p (without_want (filed_at self.old p) k) }
         ensures within { p < length self.old.filed }
     {
-        self.shelf.take_want(p, k);
+        self.shelf.get_mut(p).take_want(k);
     }
 
     /// Writes another want over the k-th of the request at a place.
+    #[tactic(auto, using(crate::proofs::Keeps::seen_filed, crate::proofs::Keeps::seen_within))]
     pub fn set_want(&mut self, p: u16, k: usize, w: &Want)
         requires present { is_there p self.old.order ≡ true }
         requires wants { k < length (filed_at self.old p).request.wants.items }
         ensures value { self.new ≡ with_filed self.old p (with_want (filed_at self.old p) k w.now) }
         ensures within { p < length self.old.filed }
     {
-        self.shelf.set_want(p, k, w);
+        self.shelf.get_mut(p).set_want(k, w);
     }
 }

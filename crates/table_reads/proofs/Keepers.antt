@@ -22,7 +22,7 @@ use Rattle.key_queues.proofs.Using.{stands_in_queue, there_at}
 use Rattle.request_store.specs.Stores.{Stored, filed_at}
 use Rattle.table_reads.specs.Filing.{own_at, state_of, want_at}
 use Rattle.table_reads.specs.Reads.{before_of, is_kept_in, request_at, requests_at}
-use Rattle.table_reads.proofs.Reading.{kept_present, open_at, wants_at_places_of}
+use Rattle.table_reads.proofs.Reading.{present_at, open_at, wants_at_places_of}
 use Rattle.table_reads.proofs.Telling.{before_is, front_at}
 
 -- the k-th want and the k-th queue
@@ -117,10 +117,10 @@ module _ (s : Stored) (locks : List Lock) (p k : ℕ) (t : IsTable (state_of s l
       (λ l. not (fits (requests_at s (before_of s.order p)) w)
       && list_any (λ v. is_in_the_way v w) (wants_at (requests_of (requests_at s l) job) w.key)) before
       ∙ ap (λ l. not (fits (requests_at s (before_of s.order p)) w) && list_any (λ v. is_in_the_way v w) l)
-      (wants_at_places_of (request_at s) (before_of s.order p) w.key job)
+      (wants_at_places_of (request_at s) (before_of s.order p) w.key _ refl job)
 
   pub before_present : All (λ x. is_there x s.order ≡ true) (before_of (lock_at locks (own_at s p k)).queue.places p)
   before_present =
       All-take (λ x. is_there x s.order ≡ true) (position_or_len (λ x. x == p) (lock_at locks (own_at s p k)).queue.places)
       (lock_at locks (own_at s p k)).queue.places
-      (subst (All (λ x. is_there x s.order ≡ true)) (sym is.places) (kept_present test s.order))
+      (present_at test s.order _ is.places)

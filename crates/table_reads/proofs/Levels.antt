@@ -1,8 +1,9 @@
 -- The wants of a key are of one level and of one pool, so the first tells of all.
 use Rattle.std.proofs.Common.{◌≡◌, ◌∙◌, sym, ap, subst, ℕ, Bool, true, false, ◌&&◌, ◌==◌, cond, List, [], ◌∷◌, filter, get_or, map}
-use Rattle.std.proofs.Common.{take, Option, Some, None, refl, append-nil, unwrap_or, zero, suc, arith}
+use Rattle.std.proofs.Common.{take, Option, Some, None, refl, append-nil, unwrap_or}
 use Rattle.std.specs.List.{All, list_all}
 use Rattle.std.proofs.lemmas.Bool.{and_from, and_parts, eq-eqb, eqb-true, or_left, or_right}
+use Rattle.std.proofs.lemmas.List.Elements.{All-take}
 use Rattle.lock_queue.specs.declared.key.Key.{Key}
 use Rattle.lock_queue.specs.declared.request.Request.{Request}
 use Rattle.lock_queue.specs.declared.want.Want.{Want}
@@ -26,23 +27,13 @@ use Rattle.request_store.specs.Stores.{Stored}
 use Rattle.table_reads.specs.Filing.{state_of}
 use Rattle.table_reads.specs.Reads.{request_at}
 use Rattle.table_reads.specs.Whole.{LevelsAgree, level_at, requests_in}
-use Rattle.table_reads.proofs.Reading.{place_kept}
-
--- what a filter keeps it keeps again
-pub filter_again : (t : ℕ → Bool) (xs : List ℕ) → filter t (filter t xs) ≡ filter t xs
-filter_again t [] = refl
-filter_again t (x ∷ xs) = go (t x) refl (filter_again t xs)
-  where
-    go : (b : Bool) → t x ≡ b → filter t (filter t xs) ≡ filter t xs
-        → filter t (cond b (x ∷ filter t xs) (filter t xs)) ≡ cond b (x ∷ filter t xs) (filter t xs)
-    go true e h = ap (λ b. cond b (x ∷ filter t (filter t xs)) (filter t (filter t xs))) e ∙ ap (λ l. x ∷ l) h
-    go false e h = h
+use Rattle.table_reads.proofs.Reading.{present_at}
 
 -- the first of what a filter keeps is there
-pub first_present : (t : ℕ → Bool) (order places : List ℕ) → places ≡ filter t order → All (λ p. is_there p order ≡ true) (take 1 places)
-first_present t order [] is k d lt = absurd (omega arith)
-first_present t order (p ∷ rest) is zero d lt = place_kept t order (p ∷ rest) 0 is (omega arith)
-first_present t order (p ∷ rest) is (suc k) d lt = absurd (omega arith)
+pub first_present : (t : ℕ → Bool) (order places first : List ℕ) → places ≡ filter t order → first ≡ take 1 places
+    → All (λ p. is_there p order ≡ true) first
+first_present t order places first is one =
+    subst (All (λ p. is_there p order ≡ true)) (sym one) (All-take (λ p. is_there p order ≡ true) 1 places (present_at t order places is))
 
 -- the level of a request at a key is that of its want of it
 pub level_of_want : (r : Request) (key : Key) (w : Want) → are_apart r.wants.items ≡ true → Has r.wants.items w → w.key ≡ key
@@ -127,11 +118,10 @@ module _ (s : Stored) (locks : List Lock) (w : Want) (table : IsTable (state_of 
             (q.2 ∙ found.2) (table.kept.counts p q.0 st).counts.alike.each,
       )
 
-  -- the first tells of all
-  pub first_tells : (places : List ℕ) → places ≡ wanted
+  tells : (places : List ℕ) → places ≡ wanted
       → list_all (λ v. are_alike v w) (wants_at (map (request_at s) (take 1 places)) w.key) ≡ list_all (λ v. are_alike v w) (wants_at (requests_in s) w.key)
-  first_tells [] is = sym (ap (list_all (λ v. are_alike v w)) (by_places ∙ ap (map of) (sym is)))
-  first_tells (p ∷ rest) is =
+  tells [] is = sym (ap (list_all (λ v. are_alike v w)) (by_places ∙ ap (map of) (sym is)))
+  tells (p ∷ rest) is =
       ap (list_all (λ v. are_alike v w)) one ∙ go (are_alike (of p) w) refl
       ∙ sym (ap (list_all (λ v. are_alike v w)) (by_places ∙ ap (map of) (sym is)))
     where
@@ -153,3 +143,8 @@ module _ (s : Stored) (locks : List Lock) (w : Want) (table : IsTable (state_of 
           ap (λ b. are_alike (of p) w && b)
           (sym (alike_all size.0 (of p) w (map of rest) e parts.0 parts.1
           (levels_of p rest here (λ x h. ap (is_there x) (sym is) ∙ or_right (p == x) (is_there x rest) h))))
+
+  -- the first tells of all
+  pub first_tells : (places first : List ℕ) → places ≡ wanted → first ≡ take 1 places
+      → list_all (λ v. are_alike v w) (wants_at (map (request_at s) first) w.key) ≡ list_all (λ v. are_alike v w) (wants_at (requests_in s) w.key)
+  first_tells places first is one = ap (λ l. list_all (λ v. are_alike v w) (wants_at (map (request_at s) l) w.key)) one ∙ tells places is

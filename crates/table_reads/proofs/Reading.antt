@@ -3,6 +3,7 @@ use Rattle.std.proofs.Common.{◌≡◌, ◌<◌, ◌∙◌, sym, ap, subst, ℕ
 use Rattle.std.proofs.Common.{List, [], ◌∷◌, ◌++◌, length, get_or, map, filter, refl}
 use Rattle.std.specs.List.{All, list_any}
 use Rattle.std.proofs.lemmas.Bool.{both_ways}
+use Rattle.std.proofs.lemmas.List.{get_or_read, length-map}
 use Rattle.std.proofs.lemmas.List.Elements.{filter-append}
 use Rattle.lock_queue.specs.declared.key.Key.{Key}
 use Rattle.lock_queue.specs.declared.request.Request.{Request}
@@ -11,12 +12,19 @@ use Rattle.lock_queue.specs.Keys.{same_key}
 use Rattle.lock_queue.specs.Queue.{all_wants, names, requests_of, wants_at, wants_of}
 use Rattle.lock_queue.proofs.Fitting.{eq-same_key, names-found}
 use Rattle.lock_queue.proofs.Lists.{list_any-found}
+use Rattle.key_queues.specs.declared.lock.Lock.{Lock}
+use Rattle.key_queues.specs.Locks.{lock_at, unused_lock}
 use Rattle.key_queues.specs.States.{State, IsTable, is_open}
 use Rattle.key_queues.specs.Tables.{is_there, places_at, IsAt}
 use Rattle.key_queues.proofs.Counted.{none_kept}
 use Rattle.key_queues.proofs.Keeping.{Has-there}
 use Rattle.key_queues.proofs.Opening.{used_open}
 use Rattle.key_queues.proofs.Using.{queue_of_want, there_kept, there_at}
+use Rattle.request_store.specs.Stores.{Stored, filed_at, places_of}
+
+-- a lock that is read of some that are seen
+pub lock_read : (seen locks : List Lock) (n : ℕ) (l : Lock) → seen ≡ locks → n < length locks → l ≡ get_or seen n l → l ≡ lock_at locks n
+lock_read seen locks n l same lt is = get_or_read locks n l lt (is ∙ ap (λ s. get_or s n l) same) unused_lock
 
 -- an open queue is that of its key
 pub open_at : (s : State) (n : ℕ) → IsTable s → is_open (s.queue n) ≡ true
@@ -48,11 +56,18 @@ pub kept_present : (t : ℕ → Bool) (order : List ℕ) → All (λ p. is_there
 kept_present t order k d lt =
     (there_kept t _ order (there_at (filter t order) k d lt)).0
 
+pub present_at : (t : ℕ → Bool) (order places : List ℕ) → places ≡ filter t order → All (λ p. is_there p order ≡ true) places
+present_at t order places is = subst (All (λ p. is_there p order ≡ true)) (sym is) (kept_present t order)
+
 -- and stands at each of its indices
 pub place_kept : (t : ℕ → Bool) (order places : List ℕ) (i : ℕ) → places ≡ filter t order → i < length places
     → is_there (get_or places i 0) order ≡ true
-place_kept t order places i is lt =
-    subst (λ l. is_there (get_or l i 0) order ≡ true) (sym is) (kept_present t order i 0 (subst (λ l. i < length l) is lt))
+place_kept t order places i is lt = present_at t order places is i 0 lt
+
+-- so do a job's requests
+pub own_there : (s : Stored) (job : ℕ) (places : List ℕ) (i : ℕ) → places ≡ places_of s job → i < length places
+    → is_there (get_or places i 0) s.order ≡ true
+own_there s job = place_kept (λ p. (filed_at s p).request.job == job) s.order
 
 -- a filter of elements that are mapped
 pub filter_mapped : {X : Type 0} → (t : X → Bool) (f : ℕ → X) (xs : List ℕ)
@@ -109,31 +124,63 @@ wants_naming key (r ∷ rs) = go (names r.wants.items key) refl (wants_naming ke
     go false e h =
         h ∙ sym (filter-append t r.wants.items (all_wants rs) ∙ ap (λ l. l ++ wants_at rs key) (none_kept t r.wants.items e))
 
-module _ (at : ℕ → Request) (order : List ℕ) (key : Key) where
-  places_naming : map at (places_at at order key) ≡ naming key (map at order)
-  places_naming = sym (filter_mapped (λ r. names r.wants.items key) at order)
+module _ (at : ℕ → Request) (order : List ℕ) (key : Key) (places : List ℕ) (is : places ≡ places_at at order key) where
+  places_naming : map at places ≡ naming key (map at order)
+  places_naming = ap (map at) is ∙ sym (filter_mapped (λ r. names r.wants.items key) at order)
 
   -- the wants of a key are those of its places
-  pub wants_at_places : wants_at (map at (places_at at order key)) key ≡ wants_at (map at order) key
+  pub wants_at_places : wants_at (map at places) key ≡ wants_at (map at order) key
   wants_at_places = ap (λ l. wants_at l key) places_naming ∙ wants_naming key (map at order)
 
   -- so are those of a job
-  pub wants_at_places_of : (job : ℕ)
-      → wants_at (requests_of (map at (places_at at order key)) job) key ≡ wants_at (requests_of (map at order) job) key
+  pub wants_at_places_of : (job : ℕ) → wants_at (requests_of (map at places) job) key ≡ wants_at (requests_of (map at order) job) key
   wants_at_places_of job =
       ap (λ l. wants_at (requests_of l job) key) places_naming
       ∙ ap (λ l. wants_at l key) (filter_swapped (λ r. r.job == job) (λ r. names r.wants.items key) (map at order))
       ∙ wants_naming key (requests_of (map at order) job)
 
   -- and whether the job has one
-  pub names_at_places : (job : ℕ)
-      → names (wants_of (map at (places_at at order key)) job) key ≡ names (wants_of (map at order) job) key
+  pub names_at_places : (job : ℕ) → names (wants_of (map at places) job) key ≡ names (wants_of (map at order) job) key
   names_at_places job =
-      any_kept (λ w. same_key w.key key) (wants_of (map at (places_at at order key)) job)
+      any_kept (λ w. same_key w.key key) (wants_of (map at places) job)
       ∙ ap (list_any (λ w. true)) (wants_at_places_of job)
       ∙ sym (any_kept (λ w. same_key w.key key) (wants_of (map at order) job))
+
+-- what a filter keeps it keeps again
+pub filter_again : (t : ℕ → Bool) (xs : List ℕ) → filter t (filter t xs) ≡ filter t xs
+filter_again t [] = refl
+filter_again t (x ∷ xs) = go (t x) refl (filter_again t xs)
+  where
+    go : (b : Bool) → t x ≡ b → filter t (filter t xs) ≡ filter t xs
+        → filter t (cond b (x ∷ filter t xs) (filter t xs)) ≡ cond b (x ∷ filter t xs) (filter t xs)
+    go true e h = ap (λ b. cond b (x ∷ filter t (filter t xs)) (filter t (filter t xs))) e ∙ ap (λ l. x ∷ l) h
+    go false e h = h
 
 -- the requests of a job are those of its places
 pub requests_of_places : (at : ℕ → Request) (order : List ℕ) (job : ℕ)
     → requests_of (map at order) job ≡ map at (filter (λ p. (at p).job == job) order)
 requests_of_places at order job = filter_mapped (λ r. r.job == job) at order
+
+-- a job's requests are found again among those of its places
+pub requests_of_own : (s : Stored) (job : ℕ) (own : List ℕ) → own ≡ places_of s job
+    → requests_of (map (λ p. (filed_at s p).request) own) job ≡ requests_of (map (λ p. (filed_at s p).request) s.order) job
+requests_of_own s job own is =
+    let at : ℕ → Request = λ p. (filed_at s p).request in
+    requests_of_places at own job
+    ∙ ap (λ l. map at (filter (λ p. (at p).job == job) l)) is
+    ∙ ap (map at) (filter_again (λ p. (at p).job == job) s.order)
+    ∙ sym (requests_of_places at s.order job)
+
+-- there are as many
+pub count_is : (s : Stored) (job : ℕ) (own : List ℕ) → own ≡ places_of s job
+    → length own ≡ length (requests_of (map (λ p. (filed_at s p).request) s.order) job)
+count_is s job own is =
+    let at : ℕ → Request = λ p. (filed_at s p).request in
+    ap length is ∙ sym (ap length (requests_of_places at s.order job) ∙ length-map (places_of s job) at)
+
+-- and have all its wants
+pub wants_of_own : (s : Stored) (job : ℕ) (own : List ℕ) → own ≡ places_of s job
+    → all_wants (map (λ p. (filed_at s p).request) own) ≡ wants_of (map (λ p. (filed_at s p).request) s.order) job
+wants_of_own s job own is =
+    let at : ℕ → Request = λ p. (filed_at s p).request in
+    ap (λ l. all_wants (map at l)) is ∙ ap (λ (l : List Request). all_wants l) (sym (requests_of_places at s.order job))

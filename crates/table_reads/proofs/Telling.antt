@@ -5,7 +5,7 @@ use Rattle.std.specs.List.{find, list_any, position_or_len}
 use Rattle.std.proofs.Math.Bool.{and_assoc}
 use Rattle.std.proofs.lemmas.Bool.{and_parts, eq-eqb, eqb-true, leb-true, or_parts}
 use Rattle.std.proofs.lemmas.Bool.Decides.{nat_tests}
-use Rattle.std.proofs.lemmas.List.{take-map}
+use Rattle.std.proofs.lemmas.List.{get_or-map, length-map, take-map}
 use Rattle.std.proofs.lemmas.Option.{get_or_from_slice_get, slice_get-map}
 use Rattle.word36.specs.declared.sizes.TheConstants.{JOBS}
 use Rattle.lock_queue.specs.declared.key.Key.{Key}
@@ -14,10 +14,12 @@ use Rattle.lock_queue.specs.declared.want.Want.{Want}
 use Rattle.lock_queue.specs.Dequeues.{has_id, is_of_job}
 use Rattle.lock_queue.specs.Jobs.{first_id, is_blocked_by, is_blocking, is_interrupt, is_pending, is_waiting_job, pending, waits_for}
 use Rattle.lock_queue.specs.Jobs.{is_blocked as is_blocked_behind}
-use Rattle.lock_queue.specs.Queue.{chosen, granted, granted_behind, is_granted, is_owner, is_waiter, names, owners, some_behind, waiters}
+use Rattle.lock_queue.specs.Keys.{same_key}
+use Rattle.lock_queue.specs.Queue.{chosen, granted, granted_behind, is_granted, is_owner, is_waiter, names, owners, some_behind, waiters, wants_at}
 use Rattle.lock_queue.specs.StatusWords.{first_level, level_of, standing, status_of}
 use Rattle.lock_queue.specs.WellFormed.{is_job}
 use Rattle.lock_queue.proofs.Lists.{list_any-found}
+use Rattle.lock_queue.proofs.StatusLaws.{first_level_drop, first_of}
 use Rattle.lock_queue.proofs.WellKept.{job_number}
 use Rattle.key_queues.specs.declared.lock.Lock.{Lock}
 use Rattle.key_queues.specs.States.{IsTable}
@@ -26,6 +28,7 @@ use Rattle.key_queues.proofs.Counted.{none_kept}
 use Rattle.key_queues.proofs.Keeping.{Has-there, flags_tell_grants, found_there, split_there, there_split}
 use Rattle.key_queues.proofs.Marks.{marks_choose}
 use Rattle.key_queues.proofs.Places.{found_within, split_at}
+use Rattle.key_queues.proofs.Using.{there_kept}
 use Rattle.request_store.specs.Stores.{Stored, filed_at, is_blocked, places_of}
 use Rattle.table_reads.specs.Filing.{state_of}
 use Rattle.table_reads.specs.Reads.{MarksGrants, before_of, id_at, is_blocked_from, is_kept_from, is_pending_filed}
@@ -126,6 +129,11 @@ find_there t (x ∷ xs) p e = go (t x) e (find_there t xs p)
         or_true true = refl
         or_true false = refl
 
+-- a request that is found so is present
+pub pending_there : (s : Stored) (job p : ℕ) → Some p ≡ find (λ q. is_pending_filed (filed_at s q)) (places_of s job) → is_there p s.order ≡ true
+pending_there s job p is =
+    (there_kept (λ q. (filed_at s q).request.job == job) p s.order (find_there (λ q. is_pending_filed (filed_at s q)) (places_of s job) p (sym is))).0
+
 -- ---- jobs
 
 -- a job's requests are present
@@ -216,4 +224,14 @@ module _ (s : Stored) (key : Key) (m : MarksGrants s) where
       ∙ ap
       (λ o. standing key asker o (requests_at s (owners_among s (places_at (request_at s) s.order key)))
       (requests_at s (waiters_among s (places_at (request_at s) s.order key))))
-      (ap (λ (l : List Want). unwrap_or (first_level l) 0) (sym (wants_at_places (request_at s) s.order key)))
+      (ap (λ (l : List Want). unwrap_or (first_level l) 0) (sym (wants_at_places (request_at s) s.order key _ refl)))
+
+-- the level that is found first, from the i-th of some places on
+pub level_from : (s : Stored) (places : List ℕ) (key : Key) (i : ℕ) → i < length places
+    → first_level (wants_at (drop i (requests_at s places)) key)
+    ≡ first_of (first_level (filter (λ w. same_key w.key key) (request_at s (get_or places i 0)).wants.items))
+    (first_level (wants_at (drop (i + 1) (requests_at s places)) key))
+level_from s places key i lt =
+    let rs : List Request = requests_at s places in
+    let r : Request = request_at s (get_or places i 0) in
+    first_level_drop key rs i r (omega (arith, lt, length-map places (request_at s))) (sym (get_or-map (request_at s) places i 0 r lt))

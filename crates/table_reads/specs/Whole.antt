@@ -5,9 +5,7 @@ use Rattle.lock_queue.specs.declared.request.Request.{Request}
 use Rattle.lock_queue.specs.Queue.{names}
 use Rattle.lock_queue.specs.StatusWords.{level_of}
 use Rattle.lock_queue.specs.WellFormed.{is_well_formed}
-use Rattle.key_queues.specs.declared.keys.Bucket.{Bucket}
 use Rattle.key_queues.specs.declared.lock.Lock.{Lock}
-use Rattle.key_queues.specs.Found.{IsIndex}
 use Rattle.key_queues.specs.States.{IsTable}
 use Rattle.key_queues.specs.Tables.{is_there}
 use Rattle.request_store.specs.Stores.{Stored, filed_at}
@@ -42,10 +40,9 @@ LevelsAgree s =
     → names (filed_at s y).request.wants.items key ≡ true
     → level_at (filed_at s x).request key ≡ level_at (filed_at s y).request key
 
--- the queues count what fits, the flags tell who is granted, and open locks are found; requests are right
-pub record IsWhole (size : ℕ) (s : Stored) (locks : List Lock) (buckets : List Bucket) : Type 0 where
+-- the queues count what fits, and the flags tell who is granted; requests are right
+pub record IsWhole (size : ℕ) (s : Stored) (locks : List Lock) : Type 0 where
   pub table : IsTable (state_of s locks)
-  pub index : IsIndex buckets locks
   pub right : AreRight s
   pub jobs : JobsAreApart s
   pub levels : LevelsAgree s

@@ -2,7 +2,6 @@
 ghost use Rattle.std.specs.Prelude.{◌≡◌, ◌≤◌, length, true};
 ghost use Rattle.std.specs.List.{All};
 ghost use Rattle.word36.specs.declared.sizes.TheConstants.{JOBS};
-ghost use Rattle.key_queues.specs.Found.{IsIndex};
 ghost use Rattle.key_queues.specs.States.{IsTable};
 ghost use Rattle.key_queues.specs.Tables.{is_there};
 ghost use Rattle.lock_queue.specs.Queue.{wants_at};
@@ -12,12 +11,13 @@ ghost use Rattle.table_reads.specs.Reads.{MarksGrants, requests_at, status_at};
 ghost use Rattle.table_reads.specs.Whole.{requests_in};
 
 use crate::queues::places_of;
-use key_queues::{Keys, Lock};
+use key_queues::Keys;
 use lock_queue::steps::{level_in, with_owner, with_waiter};
 use lock_queue::{Key, Level, Status};
 use request_store::Store;
 
 /// The level of the first want of the key at these places.
+#[tactic(auto, using(crate::proofs::Telling::level_from))]
 fn level_at<const REQS: usize>(store: &Store<REQS>, places: &[u16], key: &Key) -> Option<Level>
     requires { All (λ p. is_there p store.now.order ≡ true) places.now }
     ensures { result ≡ first_level (wants_at (requests_at store.now places.now) key.now) }
@@ -62,15 +62,13 @@ fn status_at<const REQS: usize>(store: &Store<REQS>, places: &[u16], key: &Key, 
 /// What a job is told of a key.
 pub fn status_of<const REQS: usize>(
     store: &Store<REQS>,
-    keys: &Keys,
-    locks: &[Lock],
+    keys: &Keys<REQS>,
     key: &Key,
     job: u8,
 ) -> Status
-    requires table { IsTable (state_of store.now locks.now) }
-    requires index { IsIndex keys.now.buckets.items locks.now }
+    requires table { IsTable (state_of store.now keys.now) }
     requires marks { MarksGrants store.now }
     ensures { result ≡ status_of (requests_in store.now) key.now job }
 {
-    status_at(store, places_of(keys, locks, key), key, job)
+    status_at(store, places_of(keys, key), key, job)
 }

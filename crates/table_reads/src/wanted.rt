@@ -1,5 +1,5 @@
 //! What is found among the requests at some places.
-ghost use Rattle.std.specs.Prelude.{◌≡◌, length, nat_le, true};
+ghost use Rattle.std.specs.Prelude.{◌≡◌, nat_le, true};
 ghost use Rattle.std.specs.List.{All, list_all, list_any};
 ghost use Rattle.lock_queue.specs.Enqueues.{are_alike};
 ghost use Rattle.lock_queue.specs.Jobs.{is_in_the_way};

@@ -1,13 +1,10 @@
-use Rattle.std.proofs.Common.{◌≡◌, ◌≤◌, ◌<◌, ◌∙◌, sym, ap, subst, false, [], ◌∷◌, length, length-append, arith, lit<}
-use Rattle.std.specs.List.{All}
+use Rattle.std.proofs.Common.{◌≡◌, ◌≤◌, ◌∙◌, sym, ap, subst, false, [], ◌∷◌, length, length-append, arith, lit<}
 use Rattle.std.proofs.lemmas.List.{take_all}
 use Rattle.word36.specs.declared.sizes.TheConstants.{LOCKS_A_CALL}
 use Rattle.lock_queue.specs.declared.request.Request.{Request}
 use Rattle.lock_queue.specs.Dequeues.{with_wants}
 use Rattle.lock_queue.specs.Enqueues.{request_of}
 use Rattle.request_store.specs.Stores.{Stored, filed_at}
-use Rattle.key_queues.specs.States.{Renews}
-use Rattle.table_reads.specs.Filing.{state_of}
 use Rattle.lock_table.specs.Arrivals.{IsArriving}
 use Rattle.lock_table.proofs.Came.{came_last, came_mine, came_others, arrived_by, present_last, queues_within, whole_again, granted_last}
 use Rattle.lock_table.proofs.arrive.arrive.Goals as goal
@@ -17,12 +14,15 @@ enter_all-requires g c =
     let few : length c.args.wants.now.items ≤ LOCKS_A_CALL = omega (arith, c.as_slice.ensures.fits, ap length c.as_slice.ensures.value) in (
       lit< tt,
       (
-        subst (λ l. IsArriving c.insert-p.new.self c.args.locks.now.items c.args.keys.now.buckets.items c.insert-p.result l 0) (sym c.as_slice.ensures.value)
-            (came_last c.args.store.now c.insert-p.new.self c.args.locks.now.items c.args.keys.now.buckets.items c.insert-p.result
-            c.args.job c.args.asking.now c.args.wants.now.items
-            c.requires.table c.requires.index c.requires.short c.insert-p.ensures.within c.insert-p.ensures.out
-            c.requires.apart few c.requires.admits c.insert-p.ensures.value),
-        (omega (arith, c.requires.few, ap (λ (v : Stored). length v.order) c.insert-p.ensures.value, length-append c.args.store.now.order (c.insert-p.result ∷ [])), c.requires.room),
+        lit< tt,
+        (
+          subst (λ l. IsArriving c.insert-p.new.self c.args.keys.now c.insert-p.result l 0) (sym c.as_slice.ensures.value)
+              (came_last c.args.store.now c.insert-p.new.self c.args.keys.now c.insert-p.result
+              c.args.job c.args.asking.now c.args.wants.now.items
+              c.requires.table c.requires.short c.insert-p.ensures.within c.insert-p.ensures.out
+              c.requires.apart few c.requires.admits c.insert-p.ensures.value),
+          omega (arith, c.requires.few, ap (λ (v : Stored). length v.order) c.insert-p.ensures.value, length-append c.args.store.now.order (c.insert-p.result ∷ [])),
+        ),
       ),
     )
 
@@ -30,17 +30,18 @@ pub settle-requires : goal.settle-requires
 settle-requires g c = (
   lit< tt,
   (
-    present_last _ c.enter_all.new.store c.enter_all.new.locks.items c.enter_all.new.keys.buckets.items c.insert-p.result _ c.enter_all.ensures.arriving,
-    subst (λ l. All (λ n. n < length l) (filed_at c.enter_all.new.store c.insert-p.result).queues.items) (sym c.as_slice-2.ensures.value)
-        (queues_within _ c.enter_all.new.store c.enter_all.new.locks.items c.enter_all.new.keys.buckets.items c.insert-p.result _ c.enter_all.ensures.arriving),
+    lit< tt,
+    (
+      present_last _ c.enter_all.new.store c.enter_all.new.keys c.insert-p.result _ c.enter_all.ensures.arriving,
+      queues_within _ c.enter_all.new.store c.enter_all.new.keys c.insert-p.result _ c.enter_all.ensures.arriving,
+    ),
   ),
 )
 
 pub returns-clause-table : goal.returns-clause-table
 returns-clause-table g c =
-    arrived_by c.enter_all.new.store c.settle.new.store c.enter_all.new.locks.items c.enter_all.new.keys.buckets.items c.insert-p.result
-    _ c.enter_all.ensures.arriving (subst (λ l. Renews (state_of c.enter_all.new.store l) (state_of c.settle.new.store l) c.insert-p.result) c.as_slice-2.ensures.value
-    c.settle.ensures)
+    arrived_by c.enter_all.new.store c.settle.new.store c.enter_all.new.keys c.insert-p.result
+    _ c.enter_all.ensures.arriving c.settle.ensures
 
 pub returns-clause-request : goal.returns-clause-request
 returns-clause-request g c =
@@ -77,10 +78,9 @@ returns-clause-granted g c =
     ∙ ap (λ (r : Request). with_wants r [])
     (came_mine c.args.store.now c.insert-p.new.self c.insert-p.result c.args.job c.args.asking.now c.insert-p.ensures.within
     c.insert-p.ensures.value) in
-    granted_last c.args.store.now c.settle.new.store c.args.store.now.order c.enter_all.new.locks.items c.insert-p.result
+    granted_last c.args.store.now c.settle.new.store c.args.store.now.order c.enter_all.new.keys c.insert-p.result
     (request_of c.args.job c.args.asking.now false c.args.wants.now)
-    (arrived_by c.enter_all.new.store c.settle.new.store c.enter_all.new.locks.items c.enter_all.new.keys.buckets.items c.insert-p.result _ a (subst (λ l. Renews (state_of c.enter_all.new.store l) (state_of c.settle.new.store l) c.insert-p.result) c.as_slice-2.ensures.value
-    c.settle.ensures))
+    (arrived_by c.enter_all.new.store c.settle.new.store c.enter_all.new.keys c.insert-p.result _ a c.settle.ensures)
     (c.settle.ensures.order ∙ c.enter_all.ensures.same.order ∙ ap (λ (v : Stored). v.order) c.insert-p.ensures.value)
     c.insert-p.ensures.out
     (c.settle.ensures.at c.insert-p.result

@@ -10,19 +10,19 @@ use Rattle.lock_table.proofs.change.alter_in.Goals as goal
 pub counted_then-k-requires : goal.counted_then-k-requires
 counted_then-k-requires g c =
     let s = c.args.store.now in
-    let locks = c.args.locks.now in
+    let locks = c.args.keys.now in
     let n = c.args.n in
     let b = c.requires.between in
     let parts = open_parts c.args.c.now.key (lock_at locks n) c.requires.lock in
     let lt : n < length locks = open_within locks n parts.0 in
     let used = b.used n parts.0 in
     let none : (lock_at locks n).size ≡ None = no_size (lock_at locks n).size (sym c.is_pool.ensures ∙ c.if-is_pool.false) in
-    (lit< tt, (lt, all_free s locks n b.kept used none))
+    (lit< tt, (lit< tt, (lt, all_free s locks n b.kept used none)))
 
 pub first_then-first-requires : goal.first_then-first-requires
 first_then-first-requires g c =
     let s = c.args.store.now in
-    let locks = c.args.locks.now in
+    let locks = c.args.keys.now in
     let n = c.args.n in
     let b = c.requires.between in
     let sound = c.requires.sound in
@@ -31,23 +31,23 @@ first_then-first-requires g c =
     let used = b.used n parts.0 in
     let none : (lock_at locks n).size ≡ None = no_size (lock_at locks n).size (sym c.is_pool.ensures ∙ c.if-is_pool.false) in
     let queued = queued_named s locks n sound.place c.args.c.now.key b.kept used parts.1 sound.present sound.named in
-    (lit< tt, (lt, (some_there sound.place (lock_at locks n).queue.places queued, all_free s locks n b.kept used none)))
+    (lit< tt, (lit< tt, (lt, (some_there sound.place (lock_at locks n).queue.places queued, all_free s locks n b.kept used none))))
 
 pub place_of-requires : goal.place_of-requires
 place_of-requires g c =
     let s = c.args.store.now in
-    let locks = c.args.locks.now in
+    let locks = c.args.keys.now in
     let n = c.args.n in
     let b = c.requires.between in
     let parts = open_parts c.args.c.now.key (lock_at locks n) c.requires.lock in
     let lt : n < length locks = open_within locks n parts.0 in
     let used = b.used n parts.0 in
-    (lit< tt, (lt, all_there s locks n b.kept used))
+    (lit< tt, (lit< tt, (lt, all_there s locks n b.kept used)))
 
 pub alter_want-requires : goal.alter_want-requires
 alter_want-requires g c =
     let s = c.args.store.now in
-    let locks = c.args.locks.now in
+    let locks = c.args.keys.now in
     let n = c.args.n in
     let b = c.requires.between in
     let parts = open_parts c.args.c.now.key (lock_at locks n) c.requires.lock in
@@ -59,31 +59,31 @@ alter_want-requires g c =
 pub returns-in-Some-clause-between : goal.returns-in-Some-clause-between
 returns-in-Some-clause-between g c =
     let s = c.args.store.now in
-    let locks = c.args.locks.now in
+    let locks = c.args.keys.now in
     let n = c.args.n in
     let none = no_size (lock_at locks n).size (sym c.is_pool.ensures ∙ c.if-is_pool.false) in
     let found =
     found_of_job s c.args.job (lock_at locks n).queue.places c.in-Some.p (sym c.place_of.ensures ∙ c.in-Some.is) in
-    (written s locks c.args.keys.now.buckets.items n c.in-Some.p c.args.job c.args.c.now c.requires.between c.requires.lock none
-    found.0 found.1 c.requires.sound.safe c.alter_want.new.store c.recount.new.locks c.counted_then-k.result
+    (written s locks n c.in-Some.p c.args.job c.args.c.now c.requires.between c.requires.lock none
+    found.0 found.1 c.requires.sound.safe c.alter_want.new.store c.recount.new.self c.counted_then-k.result
     c.first_then-first.result c.alter_want.ensures c.recount.ensures c.counted_then-k.ensures c.first_then-first.ensures).0
 
 pub returns-in-Some-clause-altered : goal.returns-in-Some-clause-altered
 returns-in-Some-clause-altered g c =
     let s = c.args.store.now in
-    let locks = c.args.locks.now in
+    let locks = c.args.keys.now in
     let n = c.args.n in
     let none = no_size (lock_at locks n).size (sym c.is_pool.ensures ∙ c.if-is_pool.false) in
     let found =
     found_of_job s c.args.job (lock_at locks n).queue.places c.in-Some.p (sym c.place_of.ensures ∙ c.in-Some.is) in
-    (written s locks c.args.keys.now.buckets.items n c.in-Some.p c.args.job c.args.c.now c.requires.between c.requires.lock none
-    found.0 found.1 c.requires.sound.safe c.alter_want.new.store c.recount.new.locks c.counted_then-k.result
+    (written s locks n c.in-Some.p c.args.job c.args.c.now c.requires.between c.requires.lock none
+    found.0 found.1 c.requires.sound.safe c.alter_want.new.store c.recount.new.self c.counted_then-k.result
     c.first_then-first.result c.alter_want.ensures c.recount.ensures c.counted_then-k.ensures c.first_then-first.ensures).1
 
 pub returns-in_default-clause-altered : goal.returns-in_default-clause-altered
 returns-in_default-clause-altered g c =
     let s = c.args.store.now in
-    let locks = c.args.locks.now in
+    let locks = c.args.keys.now in
     let n = c.args.n in
     let b = c.requires.between in
     let sound = c.requires.sound in

@@ -6,4 +6,4 @@ use Rattle.lock_table.proofs.change.is_some_lost.Goals as goal
 pub returns : goal.returns
 returns g c =
     c.some_loses.ensures
-    ∙ changes_tell (state_of c.args.store.now c.args.locks.now) c.args.job c.args.changes.now c.requires.table c.requires.apart
+    ∙ changes_tell (state_of c.args.store.now c.args.keys.now) c.args.job c.args.changes.now c.requires.table c.requires.apart

@@ -14,5 +14,5 @@ returns-in-None g c =
     let k = fitting_then (request_at s) s.order c.args.job c.args.c.now in
     sym
     (ap (λ (l : List ℕ). list_any (λ x. (filed_at s x).granted) (drop k l))
-    (shut_at (state_of s c.args.locks.now) c.args.c.now.key c.requires.table (c.in-None.ensures.none refl))
+    (shut_at (state_of s c.args.keys.now) c.args.c.now.key c.requires.table (c.in-None.ensures.none refl))
     ∙ ap (list_any (λ x. (filed_at s x).granted)) (drop_none k))

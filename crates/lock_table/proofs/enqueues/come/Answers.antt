@@ -23,22 +23,19 @@ arrive-requires g c =
     c.requires.unshared c.requires.passed few range in (
       lit< tt,
       (
-        w.table,
+        lit< tt,
         (
-          w.index,
+          w.table,
           (
-            short_of g.row.REQS c.args.store.now c.args.locks.now.items c.args.keys.now.buckets.items c.args.job w,
+            short_of g.row.REQS c.args.store.now c.args.keys.now c.args.job w,
             (
               c.requires.few,
               (
-                c.requires.room,
+                c.requires.job.1,
                 (
-                  c.requires.job.1,
-                  (
-                    apart_after c.args.store.now c.args.job c.args.asking.now c.args.wants.now well,
-                    admits_from g.row.REQS c.args.store.now c.args.locks.now.items c.args.keys.now.buckets.items c.args.job
-                        c.args.wants.now.items w (right_job c.args.job c.requires.job) c.requires.passed,
-                  ),
+                  apart_after c.args.store.now c.args.job c.args.asking.now c.args.wants.now well,
+                  admits_from g.row.REQS c.args.store.now c.args.keys.now c.args.job
+                      c.args.wants.now.items w (right_job c.args.job c.requires.job) c.requires.passed,
                 ),
               ),
             ),
@@ -63,8 +60,8 @@ returns-clause-whole g c =
     let after : requests_in c.arrive.new.store ≡ requests_in c.args.store.now ++ request_of c.args.job c.args.asking.now false c.args.wants.now ∷ [] =
     requests_after c.args.store.now c.arrive.new.store c.arrive.result c.args.job (request_of c.args.job c.args.asking.now false c.args.wants.now)
     c.arrive.ensures.out c.arrive.ensures.order c.arrive.ensures.request c.arrive.ensures.others in
-    whole_by g.row.REQS c.args.store.now c.arrive.new.store c.args.locks.now.items c.arrive.new.locks.items c.args.keys.now.buckets.items c.arrive.new.keys.buckets.items w
-    c.arrive.ensures.table c.arrive.ensures.index
+    whole_by g.row.REQS c.args.store.now c.arrive.new.store c.args.keys.now c.arrive.new.keys w
+    c.arrive.ensures.table
     (right_from_well c.arrive.new.store (subst (λ l. are_well_formed l ≡ true) (sym after) well))
     (jobs_after c.args.store.now c.arrive.new.store c.arrive.result c.args.job (request_of c.args.job c.args.asking.now false c.args.wants.now)
     w.jobs c.arrive.ensures.out c.arrive.ensures.order c.arrive.ensures.request refl c.arrive.ensures.others c.requires.passed)

@@ -11,9 +11,9 @@ use Rattle.lock_table.proofs.steps.renew.Goals as goal
 
 pub returns-clause-renews : goal.returns-clause-renews
 returns-clause-renews g c =
-    renews_by _ _ c.args.locks.now c.args.p c.all_count-granted.result c.set_granted.ensures.within
+    renews_by _ _ c.args.keys.now c.args.p c.all_count-granted.result c.set_granted.ensures.within
     (c.all_count-granted.ensures
-    ∙ ap (list_all (λ n. is_counted (lock_at c.args.locks.now n).queue c.args.p))
+    ∙ ap (list_all (λ n. is_counted (lock_at c.args.keys.now n).queue c.args.p))
     (c.as_slice.ensures.value ∙ ap (λ (f : Filed). f.queues.items) c.get-f.ensures.value))
     c.set_granted.ensures.value
 

@@ -1,22 +1,15 @@
-use Rattle.std.proofs.Common.{◌≡◌, ◌∙◌, sym, ap, subst, true, ℕ, List, lit<}
-use Rattle.std.specs.List.{All}
+use Rattle.std.proofs.Common.{◌∙◌, sym, ap, ℕ, List, lit<}
 use Rattle.lock_queue.specs.Queue.{names}
-use Rattle.request_store.specs.Stores.{is_there}
 use Rattle.table_reads.specs.Reads.{request_at, status_at}
-use Rattle.table_reads.proofs.Reading.{kept_present}
+use Rattle.table_reads.proofs.Reading.{present_at}
 use Rattle.table_reads.proofs.Telling.{status_is}
 use Rattle.table_reads.proofs.standing.status_of.Goals as goal
 
 pub status_at-requires : goal.status_at-requires
 status_at-requires g c =
-    let s = c.args.store.now in (
-      lit< tt,
-      (
-        subst (All (λ p. is_there p s.order ≡ true)) (sym (c.places_of.ensures.places s c.requires.table))
-            (kept_present (λ p. names (request_at s p).wants.items c.args.key.now) s.order),
-        c.places_of.ensures.few,
-      ),
-    )
+    let s = c.args.store.now in
+    let is = c.places_of.ensures.places s c.requires.table in
+    (lit< tt, (present_at (λ p. names (request_at s p).wants.items c.args.key.now) s.order _ is, c.places_of.ensures.few))
 
 pub returns : goal.returns
 returns g c =

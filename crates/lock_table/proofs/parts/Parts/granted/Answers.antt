@@ -7,6 +7,6 @@ use Rattle.lock_table.proofs.parts.Parts.granted.Goals as goal
 
 pub is_granted-requires : goal.is_granted-requires
 is_granted-requires g c =
-    let within : c.args.i < length c.self.inside.store.order =
-    omega (arith, c.requires, ap (λ (l : List Request). length l) c.self.view_is, length-map c.self.inside.store.order (request_at c.self.inside.store)) in
-    (lit< tt, (within, marks_grants c.self.inside.store c.self.inside.locks.items c.self.invariant.whole.table))
+    let within : c.args.i < length c.self.inside.table.store.order =
+    omega (arith, c.requires, ap (λ (l : List Request). length l) c.self.view_is, length-map c.self.inside.table.store.order (request_at c.self.inside.table.store)) in
+    (lit< tt, (within, marks_grants c.self.inside.table.store c.self.inside.table.keys c.self.invariant.whole.table))

@@ -3,4 +3,4 @@ use Rattle.table_reads.proofs.Telling.{marks_grants}
 use Rattle.lock_table.proofs.parts.Parts.pending.Goals as goal
 
 pub pending_of-requires : goal.pending_of-requires
-pending_of-requires g c = (lit< tt, (c.self.invariant.whole.right, marks_grants c.self.inside.store c.self.inside.locks.items c.self.invariant.whole.table))
+pending_of-requires g c = (lit< tt, (c.self.invariant.whole.right, marks_grants c.self.inside.table.store c.self.inside.table.keys c.self.invariant.whole.table))

@@ -7,7 +7,7 @@ use Rattle.lock_table.proofs.parts.Parts.release.Goals as goal
 
 pub returns-clause-requests : goal.returns-clause-requests
 returns-clause-requests g c =
-    released_is c.self.inside.store c.release.new.store c.args.job c.release.ensures.left ∙ ap (λ (l : List Request). released l c.args.job) c.self.view_is
+    released_is c.self.inside.table.store c.release.new.self.store c.args.job c.release.ensures.left ∙ ap (λ (l : List Request). released l c.args.job) c.self.view_is
 
 pub returns-clause-well : goal.returns-clause-well
-returns-clause-well g c = well_from_right c.release.new.store c.release.ensures.whole.right
+returns-clause-well g c = well_from_right c.release.new.self.store c.release.ensures.whole.right

@@ -8,15 +8,15 @@ use Rattle.lock_table.proofs.parts.Parts.release_waking.Goals as goal
 
 pub returns-clause-requests : goal.returns-clause-requests
 returns-clause-requests g c =
-    released_is c.self.inside.store c.release.new.store c.args.job c.release.ensures.left ∙ ap (λ (l : List Request). released l c.args.job) c.self.view_is
+    released_is c.self.inside.table.store c.release.new.self.store c.args.job c.release.ensures.left ∙ ap (λ (l : List Request). released l c.args.job) c.self.view_is
 
 pub returns-clause-woken : goal.returns-clause-woken
 returns-clause-woken g c =
     c.fill_woken.ensures
-    ∙ woken_released c.self.inside.store c.release.new.store c.self.inside.locks.items c.release.new.locks c.args.job
-    c.clear.new.self c.release.new.turns c.self.invariant.whole.table
+    ∙ woken_released c.self.inside.table.store c.release.new.self.store c.self.inside.table.keys c.release.new.self.keys c.args.job
+    c.clear.new.self c.release.new.self.turns c.self.invariant.whole.table
     c.release.ensures.whole.table c.release.ensures.left c.clear.ensures c.release.ensures.turns
     ∙ ap (λ (l : List Request). woken_by_release l c.args.job) c.self.view_is
 
 pub returns-clause-well : goal.returns-clause-well
-returns-clause-well g c = well_from_right c.release.new.store c.release.ensures.whole.right
+returns-clause-well g c = well_from_right c.release.new.self.store c.release.ensures.whole.right

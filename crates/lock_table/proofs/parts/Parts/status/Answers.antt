@@ -1,20 +1,7 @@
-use Rattle.std.proofs.Common.{sym, subst, List, lit<}
-use Rattle.key_queues.specs.declared.lock.Lock.{Lock}
-use Rattle.key_queues.specs.Found.{IsIndex}
-use Rattle.key_queues.specs.States.{IsTable}
-use Rattle.table_reads.specs.Filing.{state_of}
+use Rattle.std.proofs.Common.{lit<}
 use Rattle.table_reads.proofs.Telling.{marks_grants}
 use Rattle.lock_table.proofs.parts.Parts.status.Goals as goal
 
 pub status_of-requires : goal.status_of-requires
-status_of-requires g c = (
-  lit< tt,
-  (
-    subst (λ (l : List Lock). IsTable (state_of c.self.inside.store l)) (sym c.as_slice.ensures.value) c.self.invariant.whole.table,
-    (
-      subst (λ (l : List Lock). IsIndex c.self.inside.keys.buckets.items l) (sym c.as_slice.ensures.value)
-          c.self.invariant.whole.index,
-      marks_grants c.self.inside.store c.self.inside.locks.items c.self.invariant.whole.table,
-    ),
-  ),
-)
+status_of-requires g c =
+    (lit< tt, (lit< tt, (c.self.invariant.whole.table, marks_grants c.self.inside.table.store c.self.inside.table.keys c.self.invariant.whole.table)))

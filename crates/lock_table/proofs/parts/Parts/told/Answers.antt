@@ -8,19 +8,19 @@ use Rattle.lock_table.proofs.parts.Parts.told.Goals as goal
 pub invariant_of-self : goal.invariant_of-self
 invariant_of-self g c = record {
   least = c.self.invariant.least;
-  whole = c.tell.ensures.whole g.row.REQS c.self.inside.locks.items c.self.inside.keys.buckets.items c.self.invariant.whole;
-  room = c.self.invariant.room;
+  small = c.self.invariant.small;
+  whole = c.tell.ensures.whole g.row.REQS c.self.inside.table.keys c.self.invariant.whole;
 }
 
 pub returns-clause-requests : goal.returns-clause-requests
 returns-clause-requests g c =
-    c.tell.ensures.requests c.self.inside.locks.items c.self.invariant.whole.table ∙ ap (λ (l : List Request). told_of l c.args.job) c.self.view_is
+    c.tell.ensures.requests c.self.inside.table.keys c.self.invariant.whole.table ∙ ap (λ (l : List Request). told_of l c.args.job) c.self.view_is
 
 pub returns-clause-few : goal.returns-clause-few
 returns-clause-few g c =
     few_requests c.tell.new.store g.row.REQS
-    (c.tell.ensures.whole g.row.REQS c.self.inside.locks.items c.self.inside.keys.buckets.items c.self.invariant.whole).few
+    (c.tell.ensures.whole g.row.REQS c.self.inside.table.keys c.self.invariant.whole).few
 
 pub returns-clause-well : goal.returns-clause-well
 returns-clause-well g c =
-    well_from_right c.tell.new.store (c.tell.ensures.whole g.row.REQS c.self.inside.locks.items c.self.inside.keys.buckets.items c.self.invariant.whole).right
+    well_from_right c.tell.new.store (c.tell.ensures.whole g.row.REQS c.self.inside.table.keys c.self.invariant.whole).right

@@ -8,9 +8,9 @@ use Rattle.lock_table.proofs.parts.Parts.withdraw.Goals as goal
 
 pub returns-clause-requests : goal.returns-clause-requests
 returns-clause-requests g c =
-    withdrawn_is c.self.inside.store c.withdraw.new.store (is_one c.args.job)
-    (marks_grants c.self.inside.store c.self.inside.locks.items c.self.invariant.whole.table) c.withdraw.ensures.left
+    withdrawn_is c.self.inside.table.store c.release.new.self.store (is_one c.args.job)
+    (marks_grants c.self.inside.table.store c.self.inside.table.keys c.self.invariant.whole.table) c.release.ensures.left
     ∙ ap (λ (l : List Request). withdrawn l c.args.job) c.self.view_is
 
 pub returns-clause-well : goal.returns-clause-well
-returns-clause-well g c = well_from_right c.withdraw.new.store c.withdraw.ensures.whole.right
+returns-clause-well g c = well_from_right c.release.new.self.store c.release.ensures.whole.right

@@ -8,9 +8,9 @@ use Rattle.lock_table.proofs.parts.Parts.withdraw_all.Goals as goal
 
 pub returns-clause-requests : goal.returns-clause-requests
 returns-clause-requests g c =
-    withdrawn_is c.self.inside.store c.withdraw_all.new.store (is_among c.args.jobs)
-    (marks_grants c.self.inside.store c.self.inside.locks.items c.self.invariant.whole.table) c.withdraw_all.ensures.left
+    withdrawn_is c.self.inside.table.store c.release.new.self.store (is_among c.args.jobs)
+    (marks_grants c.self.inside.table.store c.self.inside.table.keys c.self.invariant.whole.table) c.release.ensures.left
     ∙ ap (λ (l : List Request). withdrawn_all l c.args.jobs) c.self.view_is
 
 pub returns-clause-well : goal.returns-clause-well
-returns-clause-well g c = well_from_right c.withdraw_all.new.store c.withdraw_all.ensures.whole.right
+returns-clause-well g c = well_from_right c.release.new.self.store c.release.ensures.whole.right

@@ -1,0 +1,23 @@
+use Rattle.std.proofs.Common.{◌≡◌, ◌<◌, ◌-◌, ◌∙◌, ap, subst, true, length, arith}
+use Rattle.std.proofs.lemmas.List.Edits.{length-remove}
+use Rattle.key_queues.specs.Tables.{is_there}
+use Rattle.request_store.specs.Stores.{filed_at}
+use Rattle.lock_table.proofs.Turning.{turned_then}
+use Rattle.lock_table.proofs.table.Table.give_all_up.Goals as goal
+
+pub loop-left-preserved : goal.loop-left-preserved
+loop-left-preserved g c =
+    let was = c.loop-left.invariant in
+    let left = c.depart.ensures.left in
+    let queues = (filed_at c.loop-left.self.store c.args.p).queues.items in
+    let lt : c.loop-left.left - 1 < length queues = omega (arith, was.left, c.loop-left-test.true) in
+    let fewer = ap length left.owns in
+    record {
+      table = c.depart.ensures.table;
+      left = omega (arith, was.left, fewer, length-remove queues (c.loop-left.left - 1) lt, c.loop-left-test.true);
+      order = left.order ∙ was.order;
+      others = λ x ne. left.others x ne ∙ was.others x ne;
+      turns =
+          turned_then c.args.self.now.store c.loop-left.self.store c.depart.new.self.store c.args.self.now.turns c.loop-left.self.turns
+          c.depart.new.self.turns (λ x h. subst (λ l. is_there x l ≡ true) left.order h) was.turns c.depart.ensures.turns;
+    }

@@ -1,0 +1,13 @@
+use Rattle.std.proofs.Common.{take}
+use Rattle.key_queues.specs.States.{IsTable}
+use Rattle.table_reads.specs.Filing.{state_of}
+use Rattle.lock_table.specs.Departures.{IsLeft, request_at, stays_beside}
+use Rattle.lock_table.specs.Turns.{Turned}
+use Rattle.lock_table.proofs.table.Table.leave_all.Given as goal
+
+abbrev pub invariant-loop-i : goal.invariant-loop-i
+invariant-loop-i g l = record {
+  table : IsTable (state_of l.self.store l.self.keys);
+  left : IsLeft l.fn.self.store l.self.store (request_at l.fn.self.store) (stays_beside (take l.i l.places));
+  turns : Turned l.fn.self.store l.self.store l.fn.self.turns l.self.turns;
+}
