@@ -1,28 +1,26 @@
 -- A request that is not refused can come.
-use Rattle.std.proofs.Common.{◌≡◌, ◌≢◌, ◌≤◌, ◌<◌, ◌∙◌, sym, ap, subst, ℕ, Bool, true, false, not, ◌&&◌, ◌||◌, ◌==◌, cond, List, [], ◌∷◌}
-use Rattle.std.proofs.Common.{◌++◌, length, map, take, get_or, Option, Some, None, inl, inr, refl, arith, nat_le}
+use Rattle.std.proofs.Common.{◌≡◌, ◌≢◌, ◌≤◌, ◌<◌, ◌∙◌, sym, ap, subst, ℕ, Bool, true, false, not, ◌==◌, cond, List, [], ◌∷◌}
+use Rattle.std.proofs.Common.{◌++◌, length, map, take, get_or, Option, None, inl, inr, refl, arith, nat_le}
 use Rattle.std.specs.List.{list_all}
-use Rattle.std.proofs.lemmas.Bool.{and_parts, both_ways, cases_eq, eq-eqb, eqb-true, leb-false, leb-true, false≢true, not-false, or_cases, or_parts}
-use Rattle.std.proofs.lemmas.List.{length-map}
-use Rattle.std.proofs.lemmas.List.Folds.{list_all-append, list_any-append}
+use Rattle.std.proofs.lemmas.Bool.{both_ways, eq-eqb, not-false, or_parts}
+use Rattle.std.proofs.lemmas.List.{map-append}
+use Rattle.std.proofs.lemmas.List.Folds.{list_all-append}
 use Rattle.word36.specs.declared.sizes.TheConstants.{JOBS, LOCKS_A_CALL}
 use Rattle.lock_queue.specs.declared.key.Key.{Key}
-use Rattle.lock_queue.specs.declared.refusal.Refusal.TheVariants.{Differs, LevelOrder, NamedAlready, NoVector, OverQuota, QueueFull}
 use Rattle.lock_queue.specs.declared.request.Request.{Request}
 use Rattle.lock_queue.specs.declared.want.Want.{Want}
-use Rattle.lock_queue.specs.Dequeues.{has_wants}
 use Rattle.arrayvec.specs.ArrayVec.{ArrayVec}
 use Rattle.lock_queue.specs.declared.call.Asking.{Asking}
-use Rattle.lock_queue.specs.Enqueues.{are_alike, arrival, enqueue_fault, enqueue_refusal, not_granted, some_too_low, request_of, same_pool_size, with_arrival}
+use Rattle.lock_queue.specs.Enqueues.{are_alike, arrival, enqueue_fault, not_granted, request_of, same_pool_size, with_arrival}
 use Rattle.lock_queue.specs.declared.call.LockReply.TheVariants.{Granted}
 use Rattle.lock_queue.specs.Jobs.{as_told, is_interrupt}
-use Rattle.lock_queue.specs.Outcomes.{first_refusal, or_else, outcome, refuse_if}
+use Rattle.lock_queue.specs.Outcomes.{first_refusal, outcome}
 use Rattle.lock_queue.specs.Pools.{PoolShare}
 use Rattle.lock_queue.specs.Queue.{granted, names, requests_of, wants_at, wants_of}
 use Rattle.lock_queue.specs.Unused.{unused_want}
-use Rattle.lock_queue.specs.WellFormed.{are_apart, are_right_wants, are_well_formed, is_in_range, is_job, is_well_formed, shares_rightly}
+use Rattle.lock_queue.specs.WellFormed.{are_apart, are_well_formed, is_in_range, is_job, is_well_formed, shares_rightly}
 use Rattle.lock_queue.proofs.Fitting.{names-Has, names-found}
-use Rattle.lock_queue.proofs.Lists.{Has, Has-filter, Has-flat_map, Has-map, list_any-found}
+use Rattle.lock_queue.proofs.Lists.{Has, Has-filter, Has-flat_map, Has-map}
 use Rattle.lock_queue.proofs.Refusing.{or_else-None, refuse_if-None}
 use Rattle.lock_queue.proofs.WellKept.{job_number, right_job, well-arrival}
 use Rattle.key_queues.specs.declared.lock.Lock.{Lock}
@@ -41,10 +39,9 @@ use Rattle.lock_table.specs.Arrivals.{Admits, AdmitsFrom, AreShort}
 use Rattle.lock_table.specs.Departures.{request_at}
 use Rattle.lock_table.proofs.Named.{passes_at}
 use Rattle.lock_table.proofs.Wholes.{well_from_right}
-
-pub there_Has : (xs : List ℕ) (x : ℕ) → is_there x xs ≡ true → Has xs x
-there_Has xs x h =
-    let found = list_any-found (λ y. y == x) xs h in subst (λ y. Has xs y) (eqb-true found.0 x found.2) found.1
+use Rattle.lock_table.proofs.Losing.{there_Has}
+use Rattle.lock_table.proofs.Choosing.{there_before}
+use Rattle.std.proofs.lemmas.Grind.{common_steps}
 
 -- a job's request with a want of a key is found among the job's wants
 pub had_key : (s : Stored) (job : ℕ) (key : Key) (x : ℕ) → is_there x s.order ≡ true → (request_at s x).job ≡ job
@@ -52,78 +49,38 @@ pub had_key : (s : Stored) (job : ℕ) (key : Key) (x : ℕ) → is_there x s.or
     → names (wants_of (requests_in s) job) key ≡ true
 had_key s job key x present mine named =
     let of = names-found (request_at s x).wants.items key named in
-    let here : Has (requests_in s) (request_at s x) = Has-map (request_at s) s.order x (there_Has s.order x present) in
-    let own : Has (requests_of (requests_in s) job) (request_at s x) =
-    Has-filter (λ (r : Request). r.job == job) (requests_in s) (request_at s x) (eq-eqb (request_at s x).job job mine) here in
+    let own = Has-filter (λ (r : Request). r.job == job) (requests_in s) (request_at s x) (eq-eqb (request_at s x).job job mine)
+    (Has-map (request_at s) s.order x (there_Has x s.order present)) in
     names-Has (wants_of (requests_in s) job) key of.0
     (Has-flat_map (λ (r : Request). r.wants.items) (requests_of (requests_in s) job) (request_at s x) of.0 own of.1) of.2
 
 share_alike : (size : Option ℕ) (a b : Option PoolShare) → is_share_of size a ≡ true → same_pool_size a b ≡ true → is_share_of size b ≡ true
-share_alike (Some n) (Some a) (Some b) h e = eq-eqb b.size n (sym (eqb-true a.size b.size e) ∙ eqb-true a.size n h)
-share_alike (Some n) (Some a) None h e = cc
-share_alike (Some n) None b h e = cc
-share_alike None (Some a) b h e = cc
-share_alike None None (Some b) h e = cc
-share_alike None None None h e = refl
+share_alike size a b h e = grind (arith, common_steps)
 
 -- a want that stands in a list that is not empty is of the pool's size, and so is one like it
 first_alike : (size : Option ℕ) (w : Want) (ws : List Want) → (length ws == 0) ≡ false → list_all (λ v. is_share_of size v.pool) ws ≡ true
     → list_all (λ v. are_alike v w) ws ≡ true
     → is_share_of size w.pool ≡ true
 first_alike size w [] some sizes alike = cc
-first_alike size w (v ∷ ws) some sizes alike =
-    let here = (and_parts (is_share_of size v.pool) (list_all (λ u. is_share_of size u.pool) ws) sizes).0 in
-    let like = (and_parts (are_alike v w) (list_all (λ u. are_alike u w) ws) alike).0 in
-    share_alike size v.pool w.pool here (and_parts (v.level == w.level) (same_pool_size v.pool w.pool) like).1
+first_alike size w (v ∷ ws) some sizes alike = grind (arith, common_steps, share_alike size v.pool w.pool)
 
 -- a want that is not refused
-record Passed (s : Stored) (job : ℕ) (w : Want) : Type 0 where
-  alike : list_all (λ v. are_alike v w) (wants_at (requests_in s) w.key) ≡ true
-  new : names (wants_of (requests_in s) job) w.key ≡ false
+pub record Passed (s : Stored) (job : ℕ) (w : Want) : Type 0 where
+  pub alike : list_all (λ v. are_alike v w) (wants_at (requests_in s) w.key) ≡ true
+  pub new : names (wants_of (requests_in s) job) w.key ≡ false
 
 passed_one : (s : Stored) (job : ℕ) (e : List Want) (w : Want) → enqueue_fault (requests_in s) job e w ≡ None → Passed s job w
 passed_one s job e w h =
-    let both =
-    or_else-None (refuse_if (not (list_all (λ v. are_alike v w) (wants_at (requests_in s) w.key))) Differs)
-    (refuse_if (names e w.key || names (wants_of (requests_in s) job) w.key) NamedAlready) h in
-    record {
-      alike =
-          not-false (list_all (λ v. are_alike v w) (wants_at (requests_in s) w.key))
-          (refuse_if-None (not (list_all (λ v. are_alike v w) (wants_at (requests_in s) w.key))) Differs both.0);
-      new =
-          (or_parts (names e w.key) (names (wants_of (requests_in s) job) w.key)
-          (refuse_if-None (names e w.key || names (wants_of (requests_in s) job) w.key) NamedAlready both.1)).1;
-    }
+    let both = or_else-None _ _ h in
+    let new = refuse_if-None _ _ both.1 in
+    record { alike = not-false _ (refuse_if-None _ _ both.0); new = (or_parts (names e w.key) _ new).1 }
 
--- no key of the wants is the job's already
-pub fresh : (s : Stored) (job : ℕ) (e ws : List Want) (w : Want) → first_refusal (enqueue_fault (requests_in s) job) e ws ≡ None → Has ws w
-    → names (wants_of (requests_in s) job) w.key ≡ false
-fresh s job e [] w h has = absurd has
-fresh s job e (v ∷ ws) w h (inl same) =
-    let passed =
-    passed_one s job e v
-    (or_else-None (enqueue_fault (requests_in s) job e v) (first_refusal (enqueue_fault (requests_in s) job) (e ++ v ∷ []) ws)
-    h).0 in
-    subst (λ (u : Want). names (wants_of (requests_in s) job) u.key ≡ false) same passed.new
-fresh s job e (v ∷ ws) w h (inr has) =
-    fresh s job (e ++ v ∷ []) ws w
-    (or_else-None (enqueue_fault (requests_in s) job e v) (first_refusal (enqueue_fault (requests_in s) job) (e ++ v ∷ []) ws)
-    h).1 has
-
--- each want is like the present ones of its key
-pub alike_of : (s : Stored) (job : ℕ) (e ws : List Want) (w : Want) → first_refusal (enqueue_fault (requests_in s) job) e ws ≡ None → Has ws w
-    → list_all (λ v. are_alike v w) (wants_at (requests_in s) w.key) ≡ true
-alike_of s job e [] w h has = absurd has
-alike_of s job e (v ∷ ws) w h (inl same) =
-    let passed =
-    passed_one s job e v
-    (or_else-None (enqueue_fault (requests_in s) job e v) (first_refusal (enqueue_fault (requests_in s) job) (e ++ v ∷ []) ws)
-    h).0 in
-    subst (λ (u : Want). list_all (λ x. are_alike x u) (wants_at (requests_in s) u.key) ≡ true) same passed.alike
-alike_of s job e (v ∷ ws) w h (inr has) =
-    alike_of s job (e ++ v ∷ []) ws w
-    (or_else-None (enqueue_fault (requests_in s) job e v) (first_refusal (enqueue_fault (requests_in s) job) (e ++ v ∷ []) ws)
-    h).1 has
+-- no want is refused
+pub passed_of : (s : Stored) (job : ℕ) (e ws : List Want) (w : Want) → first_refusal (enqueue_fault (requests_in s) job) e ws ≡ None → Has ws w
+    → Passed s job w
+passed_of s job e [] w h has = absurd has
+passed_of s job e (v ∷ ws) w h (inl same) = subst (Passed s job) same (passed_one s job e v (or_else-None _ _ h).0)
+passed_of s job e (v ∷ ws) w h (inr has) = passed_of s job (e ++ v ∷ []) ws w (or_else-None _ _ h).1 has
 
 module _ (size : ℕ) (s : Stored) (locks : List Lock) (job : ℕ) where
   admits_one : (w : Want) → IsWhole size s locks → is_job job ≡ true → Passed s job w → Admits locks w
@@ -175,11 +132,7 @@ module _ (size : ℕ) (s : Stored) (locks : List Lock) (job : ℕ) where
       let many =
       as_many_queues (λ w n. (state_of s locks).key n ≡ w.key) (request_at s x).wants.items (filed_at s x).queues.items
       (whole.table.kept.queues x h) in
-      let r : Request = request_at s x in
-      let both = and_parts (is_job r.job && (has_wants r && nat_le (length r.wants.items) LOCKS_A_CALL)) (are_right_wants r.wants.items) (whole.right x h) in
-      let front = and_parts (is_job r.job) (has_wants r && nat_le (length r.wants.items) LOCKS_A_CALL) both.0 in
-      let few = (and_parts (has_wants r) (nat_le (length r.wants.items) LOCKS_A_CALL) front.1).1 in
-      omega (arith, many, leb-true (length r.wants.items) LOCKS_A_CALL few)
+      grind (arith, common_steps, many, whole.right x h)
 
 -- the requests after one has come
 module _ (s t : Stored) (p job : ℕ) (r : Request) where
@@ -187,54 +140,19 @@ module _ (s t : Stored) (p job : ℕ) (r : Request) where
       → ((x : ℕ) → (x ≡ p → ⊥) → (filed_at t x).request ≡ (filed_at s x).request)
       → requests_in t ≡ requests_in s ++ r ∷ []
   requests_after out order mine others =
-      ap (map (request_at t)) order ∙ both s.order
+      ap (map (request_at t)) order ∙ map-append (request_at t) s.order (p ∷ [])
       ∙ ap (λ l. l ++ request_at t p ∷ []) (map_same (request_at t) (request_at s) p s.order out others)
       ∙ ap (λ q. requests_in s ++ q ∷ []) mine
-    where
-      both : (xs : List ℕ) → map (request_at t) (xs ++ p ∷ []) ≡ map (request_at t) xs ++ request_at t p ∷ []
-      both [] = refl
-      both (x ∷ xs) = ap (λ l. request_at t x ∷ l) (both xs)
 
   pub jobs_after : JobsAreApart s → is_there p s.order ≡ false → t.order ≡ s.order ++ p ∷ [] → (filed_at t p).request ≡ r → r.job ≡ job
       → ((x : ℕ) → (x ≡ p → ⊥) → (filed_at t x).request ≡ (filed_at s x).request)
       → first_refusal (enqueue_fault (requests_in s) job) [] r.wants.items ≡ None
       → JobsAreApart t
   jobs_after apart out order mine job_is others passed x y key hx hy nx ny e =
-      elim (cases_eq x p) [
-        | inl ex ↦
-            elim (cases_eq y p) [
-              | inl ey ↦ ex ∙ sym ey
-              | inr ney ↦
-                  absurd
-                  (other y (was y ney hy) ney ny
-                  (sym e ∙ ap (λ z. (request_at t z).job) ex ∙ ap (λ (q : Request). q.job) mine ∙ job_is)
-                  (subst (λ z. names (request_at t z).wants.items key ≡ true) ex nx))
-            ]
-        | inr nex ↦
-            elim (cases_eq y p) [
-              | inl ey ↦
-                  absurd
-                  (other x (was x nex hx) nex nx
-                  (e ∙ ap (λ z. (request_at t z).job) ey ∙ ap (λ (q : Request). q.job) mine ∙ job_is)
-                  (subst (λ z. names (request_at t z).wants.items key ≡ true) ey ny))
-              | inr ney ↦
-                  apart x y key (was x nex hx) (was y ney hy)
-                  (subst (λ (q : Request). names q.wants.items key ≡ true) (others x nex) nx)
-                  (subst (λ (q : Request). names q.wants.items key ≡ true) (others y ney) ny)
-                  (sym (ap (λ (q : Request). q.job) (others x nex)) ∙ e ∙ ap (λ (q : Request). q.job) (others y ney))
-            ]
-      ]
+      grind (arith, common_steps, mine, job_is, others x, others y, was x, was y, other x, other y, apart x y key)
     where
       was : (x : ℕ) → x ≢ p → is_there x t.order ≡ true → is_there x s.order ≡ true
-      was x ne h =
-          elim (or_cases (is_there x s.order) (is_there x (p ∷ [])) (sym (list_any-append (λ z. z == x) s.order (p ∷ [])) ∙ ap (is_there x) (sym order) ∙ h)) [
-            | inl here ↦ here
-            | inr last ↦
-                elim (or_cases (p == x) false last) [
-                  | inl e ↦ absurd (ne (sym (eqb-true p x e)))
-                  | inr none ↦ absurd (false≢true none)
-                ]
-          ]
+      was x ne h = there_before x p s.order (sym (ap (is_there x) order) ∙ h) ne
 
       other : (x : ℕ) → is_there x s.order ≡ true → x ≢ p → names (request_at t x).wants.items key ≡ true → (request_at t x).job ≡ job
           → names (request_at t p).wants.items key ≡ true
@@ -242,10 +160,8 @@ module _ (s t : Stored) (p job : ℕ) (r : Request) where
       other x h ne nx ex np =
           let of = names-found r.wants.items key (subst (λ (q : Request). names q.wants.items key ≡ true) mine np) in
           let new : names (wants_of (requests_in s) job) key ≡ false =
-          subst (λ k. names (wants_of (requests_in s) job) k ≡ false) of.2 (fresh s job [] r.wants.items of.0 passed of.1) in
-          both_ways (names (wants_of (requests_in s) job) key) new
-          (had_key s job key x h (sym (ap (λ (q : Request). q.job) (others x ne)) ∙ ex)
-          (subst (λ (q : Request). names q.wants.items key ≡ true) (others x ne) nx))
+          subst (λ k. names (wants_of (requests_in s) job) k ≡ false) of.2 (passed_of s job [] r.wants.items of.0 passed of.1).new in
+          grind (arith, common_steps, new, had_key s job key x h, others x ne)
 
 -- the requests with one that comes are well-formed, and its keys are apart
 module _ (s : Stored) (job : ℕ) (asking : Asking) (wants : ArrayVec Want) where
@@ -260,50 +176,18 @@ module _ (s : Stored) (job : ℕ) (asking : Asking) (wants : ArrayVec Want) wher
 
   pub apart_after : are_well_formed (requests_in s ++ request_of job asking false wants ∷ []) ≡ true → are_apart wants.items ≡ true
   apart_after well =
-      let r : Request = request_of job asking false wants in
-      let both =
-      and_parts (are_well_formed (requests_in s)) (list_all is_well_formed (r ∷ []))
-      (sym (list_all-append is_well_formed (requests_in s) (r ∷ [])) ∙ well) in
-      let one = (and_parts (is_well_formed r) true both.1).0 in
-      let parts = and_parts (is_job r.job && (has_wants r && nat_le (length r.wants.items) LOCKS_A_CALL)) (are_right_wants r.wants.items) one in
-      (and_parts (list_all is_in_range r.wants.items && list_all shares_rightly r.wants.items) (are_apart r.wants.items) parts.1).1
+      grind (arith, common_steps, list_all-append is_well_formed (requests_in s) (request_of job asking false wants ∷ []))
 
 -- what an arrival leaves and answers
 module _ (rs : List Request) (job : ℕ) (asking : Asking) (wants : ArrayVec Want) where
   pub arrives_granted : granted (with_arrival rs job asking false wants) (length rs) ≡ true
       → arrival rs job asking wants ≡ outcome (with_arrival rs job asking (is_interrupt asking.kind) wants) Granted
-  arrives_granted h =
-      ap
-      (λ b. cond b (outcome (with_arrival rs job asking (is_interrupt asking.kind) wants) Granted)
-      (not_granted rs (with_arrival rs job asking false wants) asking.kind)) h
+  arrives_granted h = grind (arith, common_steps)
 
   pub arrives_waiting : granted (with_arrival rs job asking false wants) (length rs) ≡ false
       → arrival rs job asking wants ≡ not_granted rs (with_arrival rs job asking false wants) asking.kind
-  arrives_waiting h =
-      ap
-      (λ b. cond b (outcome (with_arrival rs job asking (is_interrupt asking.kind) wants) Granted)
-      (not_granted rs (with_arrival rs job asking false wants) asking.kind)) h
+  arrives_waiting h = grind (arith, common_steps)
 
 pub knows : (job : ℕ) (asking : Asking) (wants : ArrayVec Want) (r : Request) → r ≡ request_of job asking false wants
     → cond (is_interrupt asking.kind) (as_told r) r ≡ request_of job asking (is_interrupt asking.kind) wants
-knows job asking wants r is = ap (λ (q : Request). cond (is_interrupt asking.kind) (as_told q) q) is ∙ go (is_interrupt asking.kind)
-  where
-    go : (b : Bool) → cond b (as_told (request_of job asking false wants)) (request_of job asking false wants) ≡ request_of job asking b wants
-    go true = refl
-    go false = refl
-
--- a request that is not refused passes lock by lock, and finds room
-pub passes_all : (size : ℕ) (s : Stored) (job : ℕ) (asking : Asking) (wants : List Want) → enqueue_refusal size (requests_in s) job asking wants ≡ None
-    → (first_refusal (enqueue_fault (requests_in s) job) [] wants ≡ None) × (length s.order < size)
-passes_all size s job asking wants h =
-    let rs : List Request = requests_in s in
-    let room = refuse_if (nat_le size (length rs)) QueueFull in
-    let quota = or_else (refuse_if (nat_le asking.quota (length (requests_of rs job))) OverQuota) room in
-    let vector = or_else (refuse_if (is_interrupt asking.kind && not asking.armed) NoVector) quota in
-    let level = or_else (refuse_if (some_too_low (wants_of rs job) wants) LevelOrder) vector in
-    let a = or_else-None (first_refusal (enqueue_fault rs job) [] wants) level h in
-    let b = or_else-None (refuse_if (some_too_low (wants_of rs job) wants) LevelOrder) vector a.1 in
-    let c = or_else-None (refuse_if (is_interrupt asking.kind && not asking.armed) NoVector) quota b.1 in
-    let d = or_else-None (refuse_if (nat_le asking.quota (length (requests_of rs job))) OverQuota) room c.1 in
-    let below = leb-false size (length rs) (refuse_if-None (nat_le size (length rs)) QueueFull d.1) in
-    (a.0, omega (arith, below, length-map s.order (request_at s)))
+knows job asking wants r is = grind (arith, common_steps)

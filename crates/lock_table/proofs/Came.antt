@@ -1,8 +1,8 @@
 -- A request has come.
-use Rattle.std.proofs.Common.{◌≡◌, ◌≢◌, ◌≤◌, ◌<◌, ◌∙◌, sym, ap, subst, ℕ, true, false, ◌==◌, cond, List, []}
+use Rattle.std.proofs.Common.{◌≡◌, ◌≢◌, ◌≤◌, ◌<◌, ◌∙◌, sym, ap, subst, ℕ, true, false, ◌==◌, List, [], set}
 use Rattle.std.proofs.Common.{◌∷◌, ◌++◌, length, map, inl, inr, refl, arith}
 use Rattle.std.specs.List.{All}
-use Rattle.std.proofs.lemmas.Bool.{both_ways, eq-eqb, eqb-true, false≢true, ne_eqb, cases_eq, or_cases, or_left}
+use Rattle.std.proofs.lemmas.Bool.{both_ways, cases_eq, or_left}
 use Rattle.std.proofs.lemmas.List.Folds.{list_any-append}
 use Rattle.word36.specs.declared.sizes.TheConstants.{LOCKS_A_CALL}
 use Rattle.arrayvec.specs.ArrayVec.{ArrayVec}
@@ -23,11 +23,12 @@ use Rattle.key_queues.specs.Kept.{KeptQueue}
 use Rattle.key_queues.specs.States.{State, Stands, IsKept, CountsAll, FlagsAll, FlagsBut, OpenAreUsed, IsUsed, IsTable, Enters, Renews, is_open}
 use Rattle.key_queues.specs.Tables.{is_there}
 use Rattle.key_queues.proofs.Arriving.{entering_keeps}
-use Rattle.lock_table.proofs.Filing.{filed_with, own_within}
+use Rattle.lock_table.proofs.Filing.{own_within, filed_mine, filed_other}
 use Rattle.key_queues.proofs.Keeping.{renewing_keeps, flags_tell_grants, there_split}
 use Rattle.key_queues.proofs.Moves.{map_same}
 use Rattle.key_queues.proofs.Opening.{used_same}
 use Rattle.lock_table.specs.Arrivals.{AdmitsFrom, AreShort, IsArriving}
+use Rattle.lock_table.proofs.Choosing.{there_before}
 
 -- a request stands last, and none of its wants is entered
 pub came_last : (store later : Stored) (locks : List Lock) (p job : ℕ) (asking : Asking) (wants : List Want)
@@ -59,7 +60,7 @@ came_last store later locks p job asking wants table short lt out apart few admi
             subst (λ z. length (filed_at later z).queues.items ≤ LOCKS_A_CALL) (sym e)
             (subst (λ (g : Filed). length g.queues.items ≤ LOCKS_A_CALL) (sym mine) (omega arith))
         | inr ne ↦
-            let was : is_there x store.order ≡ true = there_before x ne (subst (λ l. is_there x l ≡ true) same_order h) in
+            let was : is_there x store.order ≡ true = there_before x p store.order (subst (λ l. is_there x l ≡ true) same_order h) ne in
             subst (λ (g : Filed). length g.queues.items ≤ LOCKS_A_CALL) (sym (others x ne)) (short x was)
       ];
 }
@@ -76,25 +77,14 @@ came_last store later locks p job asking wants table short lt out apart few admi
     same_order : later.order ≡ store.order ++ p ∷ []
     same_order = ap (λ (v : Stored). v.order) put
 
-    place : (x : ℕ) → filed_at later x ≡ cond (x == p) f (filed_at store x)
-    place x = ap (λ l. filed_at l x) put ∙ filed_with store p x f lt
+    put_in : later.filed ≡ set store.filed p f
+    put_in = ap (λ (v : Stored). v.filed) put
 
     mine : filed_at later p ≡ f
-    mine = place p ∙ rw (eq-eqb p p refl) refl
+    mine = filed_mine store later p f lt put_in
 
-    others : (x : ℕ) → (x ≡ p → ⊥) → filed_at later x ≡ filed_at store x
-    others x ne = place x ∙ rw (ne_eqb x p ne) refl
-
-    there_before : (x : ℕ) → (x ≡ p → ⊥) → is_there x (store.order ++ p ∷ []) ≡ true → is_there x store.order ≡ true
-    there_before x ne h =
-        elim (or_cases (is_there x store.order) (is_there x (p ∷ [])) (sym (list_any-append (λ z. z == x) store.order (p ∷ [])) ∙ h)) [
-          | inl was ↦ was
-          | inr last ↦
-              elim (or_cases (p == x) false last) [
-                | inl e ↦ absurd (ne (sym (eqb-true p x e)))
-                | inr none ↦ absurd (false≢true none)
-              ]
-        ]
+    others : (x : ℕ) → x ≢ p → filed_at later x ≡ filed_at store x
+    others = filed_other store later p f lt put_in
 
     step : Enters s t p
     step = record {
@@ -134,19 +124,13 @@ pub came_others : (store later : Stored) (p x job : ℕ) (asking : Asking) → p
     → (x ≡ p → ⊥)
     → (filed_at later x).request ≡ (filed_at store x).request
 came_others store later p x job asking lt put ne =
-    let place : filed_at later x ≡ cond (x == p) (arrived job asking false) (filed_at store x) =
-    ap (λ l. filed_at l x) put ∙ filed_with store p x (arrived job asking false) lt in
-    let same : filed_at later x ≡ filed_at store x = place ∙ rw (ne_eqb x p ne) refl in
-    ap (λ (g : Filed). g.request) same
+    ap (λ (g : Filed). g.request) (filed_other store later p (arrived job asking false) lt (ap (λ (v : Stored). v.filed) put) x ne)
 
 pub came_mine : (store later : Stored) (p job : ℕ) (asking : Asking) → p < length store.filed
     → later ≡ inserted store p (arrived job asking false)
     → (filed_at later p).request ≡ request_of job asking false (record { items = [] })
 came_mine store later p job asking lt put =
-    let place : filed_at later p ≡ cond (p == p) (arrived job asking false) (filed_at store p) =
-    ap (λ l. filed_at l p) put ∙ filed_with store p p (arrived job asking false) lt in
-    let mine : filed_at later p ≡ arrived job asking false = place ∙ rw (eq-eqb p p refl) refl in
-    ap (λ (g : Filed). g.request) mine
+    ap (λ (g : Filed). g.request) (filed_mine store later p (arrived job asking false) lt (ap (λ (v : Stored). v.filed) put))
 
 -- all wants of the request are entered, and its flag is set right
 module _ (store later : Stored) (locks : List Lock) (p : ℕ) (wants : List Want) where

@@ -1,13 +1,12 @@
 -- A want is entered in the lock that is ready for it.
-use Rattle.std.proofs.Common.{◌≡◌, ◌≤◌, ◌<◌, ◌+◌, ◌∙◌, sym, ap, subst, ℕ, zero, suc, Bool, true, false, ◌==◌, not, cond, List, []}
+use Rattle.std.proofs.Common.{◌≡◌, ◌<◌, ◌+◌, ◌∙◌, sym, ap, subst, ℕ, zero, suc, Bool, true, false, ◌==◌, not, List, [], set}
 use Rattle.std.proofs.Common.{◌∷◌, ◌++◌, length, get_or, take, Some, inl, inr, refl, arith, length-append}
 use Rattle.std.specs.List.{list_all}
-use Rattle.std.proofs.lemmas.Bool.{both_ways, and_parts, and_from, eq-eqb, ne_eqb, cases_eq, not-true, or_left, or_right}
+use Rattle.std.proofs.lemmas.Bool.{both_ways, cases_eq}
 use Rattle.std.proofs.lemmas.List.Folds.{list_any-append}
 use Rattle.std.proofs.lemmas.Option.{slice_get-get_or}
-use Rattle.word36.specs.declared.sizes.TheConstants.{JOBS, LOCKS_A_CALL}
+use Rattle.word36.specs.declared.sizes.TheConstants.{JOBS}
 use Rattle.lock_queue.specs.declared.want.Want.{Want}
-use Rattle.lock_queue.specs.Dequeues.{with_wants}
 use Rattle.lock_queue.specs.Keys.{same_key}
 use Rattle.lock_queue.specs.Unused.{unused_want}
 use Rattle.lock_queue.specs.WellFormed.{are_apart}
@@ -21,50 +20,41 @@ use Rattle.key_queues.specs.Kept.{appended}
 use Rattle.key_queues.specs.States.{State, IsKept, CountsAll, FlagsBut, OpenAreUsed, IsUsed, TakesWant, is_open}
 use Rattle.key_queues.specs.Tables.{is_there}
 use Rattle.key_queues.proofs.Arriving.{taking_keeps}
-use Rattle.key_queues.proofs.Using.{lock_with}
-use Rattle.lock_table.proofs.Filing.{filed_with}
 use Rattle.key_queues.proofs.Keeping.{there_split}
 use Rattle.key_queues.proofs.Places.{take_next}
 use Rattle.request_store.specs.Filing.{with_more}
 use Rattle.table_reads.specs.Filing.{state_of}
-use Rattle.lock_table.specs.Arrivals.{Admits, AdmitsFrom, AreShort, IsArriving, SameRequests}
+use Rattle.lock_table.specs.Arrivals.{Admits, AdmitsFrom, AreShort, IsArriving}
 use Rattle.key_queues.specs.Found.{IsEntered, Readies}
 use Rattle.key_queues.specs.Opened.{is_open_for}
 use Rattle.key_queues.proofs.Finding.{open_parts}
 use Rattle.lock_table.proofs.Readied.{IsReady, is_ready}
+use Rattle.lock_table.proofs.Filing.{filed_mine, filed_other, lock_mine, lock_other}
+use Rattle.std.proofs.lemmas.Grind.{common_steps}
 
 all_take : (f : Want → Bool) (n : ℕ) (ws : List Want) → list_all f ws ≡ true → list_all f (take n ws) ≡ true
 all_take f zero ws h = refl
 all_take f (suc n) [] h = refl
-all_take f (suc n) (w ∷ ws) h =
-    let parts = and_parts (f w) (list_all f ws) h in
-    and_from (f w) (list_all f (take n ws)) parts.0 (all_take f n ws parts.1)
+all_take f (suc n) (w ∷ ws) h = grind (arith, common_steps, all_take f n ws)
 
 all_at : (f : Want → Bool) (ws : List Want) (k : ℕ) (d : Want) → list_all f ws ≡ true → k < length ws → f (get_or ws k d) ≡ true
 all_at f [] k d h lt = absurd (omega arith)
-all_at f (w ∷ ws) zero d h lt = (and_parts (f w) (list_all f ws) h).0
-all_at f (w ∷ ws) (suc k) d h lt = all_at f ws k d (and_parts (f w) (list_all f ws) h).1 (omega arith)
+all_at f (w ∷ ws) zero d h lt = grind (arith, common_steps)
+all_at f (w ∷ ws) (suc k) d h lt = grind (arith, common_steps, all_at f ws k d)
 
 -- the first of wants whose keys are apart are so too
 apart_take : (n : ℕ) (ws : List Want) → are_apart ws ≡ true → are_apart (take n ws) ≡ true
 apart_take zero ws h = refl
 apart_take (suc n) [] h = refl
-apart_take (suc n) (w ∷ ws) h =
-    let parts = and_parts (list_all (λ v. not (same_key w.key v.key)) ws) (are_apart ws) h in
-    and_from (list_all (λ v. not (same_key w.key v.key)) (take n ws)) (are_apart (take n ws))
-    (all_take (λ v. not (same_key w.key v.key)) n ws parts.0) (apart_take n ws parts.1)
+apart_take (suc n) (w ∷ ws) h = grind (arith, common_steps, all_take (λ v. not (same_key w.key v.key)) n ws, apart_take n ws)
 
 -- and two of them have different keys
 pub apart_at : (ws : List Want) (j k : ℕ) (d : Want) → are_apart ws ≡ true → j < k → k < length ws
     → same_key (get_or ws j d).key (get_or ws k d).key ≡ false
 apart_at [] j k d h lt within = absurd (omega arith)
 apart_at (w ∷ ws) j zero d h lt within = absurd (omega arith)
-apart_at (w ∷ ws) zero (suc k) d h lt within =
-    let parts = and_parts (list_all (λ v. not (same_key w.key v.key)) ws) (are_apart ws) h in
-    not-true (same_key w.key (get_or ws k d).key) (all_at (λ v. not (same_key w.key v.key)) ws k d parts.0 (omega arith))
-apart_at (w ∷ ws) (suc j) (suc k) d h lt within =
-    let parts = and_parts (list_all (λ v. not (same_key w.key v.key)) ws) (are_apart ws) h in
-    apart_at ws j k d parts.1 (omega arith) (omega arith)
+apart_at (w ∷ ws) zero (suc k) d h lt within = grind (arith, common_steps, all_at (λ v. not (same_key w.key v.key)) ws k d)
+apart_at (w ∷ ws) (suc j) (suc k) d h lt within = grind (arith, common_steps, apart_at ws j k d)
 
 module _ (store later : Stored) (locks most : List Lock) (p n k : ℕ) (wants : List Want) (w : Want) where
   pub entered_one : IsArriving store locks p wants k
@@ -110,26 +100,23 @@ module _ (store later : Stored) (locks most : List Lock) (p n k : ℕ) (wants : 
       same_order : later.order ≡ store.order
       same_order = ap (λ (v : Stored). v.order) owned
 
-      place : (x : ℕ) → filed_at later x ≡ cond (x == p) (with_more f w n) (filed_at store x)
-      place x = ap (λ l. filed_at l x) owned ∙ filed_with store p x (with_more f w n) placed
+      put : later.filed ≡ set store.filed p (with_more f w n)
+      put = ap (λ (v : Stored). v.filed) owned
 
       mine : filed_at later p ≡ with_more f w n
-      mine = place p ∙ rw (eq-eqb p p refl) refl
+      mine = filed_mine store later p (with_more f w n) placed put
 
       others : (x : ℕ) → (x ≡ p → ⊥) → filed_at later x ≡ filed_at store x
-      others x ne = place x ∙ rw (ne_eqb x p ne) refl
+      others = filed_other store later p (with_more f w n) placed put
 
       own_length : length (filed_at later p).queues.items ≡ length f.queues.items + 1
       own_length = ap (λ (g : Filed). length g.queues.items) mine ∙ length-append f.queues.items (n ∷ [])
 
-      lock : (m : ℕ) → lock_at most m ≡ cond (m == n) (record (lock_at more n) { queue = appended (lock_at more n).queue p w }) (lock_at more m)
-      lock m = ap (λ l. lock_at l m) queued ∙ lock_with more n m (appended (lock_at more n).queue p w) r.within
+      here : lock_at most n ≡ record (lock_at more n) { queue = appended (lock_at more n).queue p w }
+      here = lock_mine more most n (appended (lock_at more n).queue p w) r.within queued
 
-      lock_mine : lock_at most n ≡ record (lock_at more n) { queue = appended (lock_at more n).queue p w }
-      lock_mine = lock n ∙ rw (eq-eqb n n refl) refl
-
-      lock_other : (m : ℕ) → (m ≡ n → ⊥) → lock_at most m ≡ lock_at more m
-      lock_other m ne = lock m ∙ rw (ne_eqb m n ne) refl
+      beside : (m : ℕ) → (m ≡ n → ⊥) → lock_at most m ≡ lock_at more m
+      beside = lock_other more most n (appended (lock_at more n).queue p w) r.within queued
 
       takes : Admits locks w
       takes = subst (Admits locks) (sym is) (a.admits k (omega arith) within)
@@ -160,12 +147,12 @@ module _ (store later : Stored) (locks most : List Lock) (p n k : ℕ) (wants : 
         alike = ready.alike;
         only = ready.only;
         same = λ x st. (ready.key, refl, refl);
-        key = ap (λ (l : Lock). l.key) lock_mine ∙ ready.key;
-        size_is = ap (λ (l : Lock). l.size) lock_mine;
-        queue = ap (λ (l : Lock). l.queue) lock_mine;
-        keys = λ m ne. ap (λ (l : Lock). l.key) (lock_other m ne);
-        sizes = λ m ne. ap (λ (l : Lock). l.size) (lock_other m ne);
-        others = λ m ne. ap (λ (l : Lock). l.queue) (lock_other m ne);
+        key = ap (λ (l : Lock). l.key) here ∙ ready.key;
+        size_is = ap (λ (l : Lock). l.size) here;
+        queue = ap (λ (l : Lock). l.queue) here;
+        keys = λ m ne. ap (λ (l : Lock). l.key) (beside m ne);
+        sizes = λ m ne. ap (λ (l : Lock). l.size) (beside m ne);
+        others = λ m ne. ap (λ (l : Lock). l.queue) (beside m ne);
         flags = λ x ne. ap (λ (g : Filed). g.granted) (others x ne);
       }
 
@@ -180,21 +167,11 @@ module _ (store later : Stored) (locks most : List Lock) (p n k : ℕ) (wants : 
 
       owns_still : (x m : ℕ) → is_there m (filed_at store x).queues.items ≡ true → is_there m (filed_at later x).queues.items ≡ true
       owns_still x m h =
-          elim (cases_eq x p) [
-            | inl e ↦
-                let here : is_there m f.queues.items ≡ true = subst (λ z. is_there m (filed_at store z).queues.items ≡ true) e h in
-                let more_there : is_there m (f.queues.items ++ n ∷ []) ≡ true =
-                list_any-append (λ z. z == m) f.queues.items (n ∷ []) ∙ or_left (is_there m f.queues.items) (is_there m (n ∷ [])) here in
-                subst (λ z. is_there m (filed_at later z).queues.items ≡ true) (sym e)
-                (subst (λ (g : Filed). is_there m g.queues.items ≡ true) (sym mine) more_there)
-            | inr ne ↦ subst (λ (g : Filed). is_there m g.queues.items ≡ true) (sym (others x ne)) h
-          ]
+          let more = list_any-append (λ z. z == m) f.queues.items (n ∷ []) in
+          grind (arith, common_steps, mine, others x, more)
 
       owns_new : is_there n (filed_at later p).queues.items ≡ true
-      owns_new =
-          subst (λ (g : Filed). is_there n g.queues.items ≡ true) (sym mine)
-          (list_any-append (λ z. z == n) f.queues.items (n ∷ [])
-          ∙ or_right (is_there n f.queues.items) (is_there n (n ∷ [])) (or_left (n == n) false (eq-eqb n n refl)))
+      owns_new = grind (arith, common_steps, mine, list_any-append (λ z. z == n) f.queues.items (n ∷ []))
 
       used : OpenAreUsed t
       used m some =
@@ -208,7 +185,7 @@ module _ (store later : Stored) (locks most : List Lock) (p n k : ℕ) (wants : 
                   };
                 }
             | inr ne ↦
-                let u : IsUsed s m = ready.used m (subst (λ (l : Lock). is_open l.queue ≡ true) (lock_other m ne) some) in
+                let u : IsUsed s m = ready.used m (subst (λ (l : Lock). is_open l.queue ≡ true) (beside m ne) some) in
                 record {
                   place = u.place;
                   stands = record { present = here_still u.place u.stands.present; there = owns_still u.place m u.stands.there };
@@ -216,15 +193,7 @@ module _ (store later : Stored) (locks most : List Lock) (p n k : ℕ) (wants : 
           ]
 
       short : AreShort later
-      short x h =
-          elim (cases_eq x p) [
-            | inl e ↦
-                subst (λ z. length (filed_at later z).queues.items ≤ LOCKS_A_CALL) (sym e)
-                (omega (arith, own_length, a.own, within, a.few))
-            | inr ne ↦
-                subst (λ (g : Filed). length g.queues.items ≤ LOCKS_A_CALL) (sym (others x ne))
-                (a.short x (subst (λ l. is_there x l ≡ true) same_order h))
-          ]
+      short x h = grind (arith, common_steps, own_length, a.own, a.few, others x, a.short x, same_order)
 
       -- the open lock of a want that is entered later is what it was
       still : (j m : ℕ) → k < j → j < length wants → is_open_for (get_or wants j unused_want).key (lock_at most m) ≡ true
@@ -234,13 +203,13 @@ module _ (store later : Stored) (locks most : List Lock) (p n k : ℕ) (wants : 
             | inl e ↦
                 let parts = open_parts (get_or wants j unused_want).key (lock_at most m) t in
                 let key : w.key ≡ (get_or wants j unused_want).key =
-                sym ready.key ∙ sym (ap (λ (l : Lock). l.key) lock_mine) ∙ ap (λ z. (lock_at most z).key) (sym e) ∙ parts.1 in
+                sym ready.key ∙ sym (ap (λ (l : Lock). l.key) here) ∙ ap (λ z. (lock_at most z).key) (sym e) ∙ parts.1 in
                 let mine_key : (get_or wants k unused_want).key ≡ (get_or wants j unused_want).key =
                 ap (λ (v : Want). v.key) (sym is) ∙ key in
                 absurd (both_ways (same_key (get_or wants k unused_want).key (get_or wants j unused_want).key)
                 (apart_at wants k j unused_want a.apart lt in_wants)
                 (eq-same_key (get_or wants k unused_want).key (get_or wants j unused_want).key mine_key))
-            | inr ne ↦ lock_other m ne ∙ r.others m ne
+            | inr ne ↦ beside m ne ∙ r.others m ne
           ]
 
       admits : AdmitsFrom (k + 1) most wants
@@ -259,29 +228,3 @@ module _ (store later : Stored) (locks most : List Lock) (p n k : ℕ) (wants : 
                 subst (λ (l : Lock). length l.queue.places < JOBS) (sym same)
                 (was.room m (subst (λ (l : Lock). is_open_for (get_or wants j unused_want).key l ≡ true) same t));
           }
-
-  pub entered_same : p < length store.filed → later ≡ with_filed store p (with_more (filed_at store p) w n)
-      → SameRequests store later p
-  entered_same placed owned = record {
-    order = ap (λ (v : Stored). v.order) owned;
-    mine =
-        let here : filed_at later p ≡ with_more (filed_at store p) w n = place p ∙ rw (eq-eqb p p refl) refl in
-        ap (λ (g : Filed). with_wants g.request []) here;
-    others =
-        λ x ne.
-        let same : filed_at later x ≡ filed_at store x = place x ∙ rw (ne_eqb x p ne) refl in
-        ap (λ (g : Filed). g.request) same;
-    flags =
-        λ x.
-        elim (cases_eq x p) [
-          | inl e ↦
-              let mine : filed_at later p ≡ with_more (filed_at store p) w n = place p ∙ rw (eq-eqb p p refl) refl in
-              subst (λ z. (filed_at later z).granted ≡ (filed_at store z).granted) (sym e) (ap (λ (g : Filed). g.granted) mine)
-          | inr ne ↦
-              let same : filed_at later x ≡ filed_at store x = place x ∙ rw (ne_eqb x p ne) refl in
-              ap (λ (g : Filed). g.granted) same
-        ];
-  }
-    where
-      place : (x : ℕ) → filed_at later x ≡ cond (x == p) (with_more (filed_at store p) w n) (filed_at store x)
-      place x = ap (λ l. filed_at l x) owned ∙ filed_with store p x (with_more (filed_at store p) w n) placed

@@ -1,8 +1,8 @@
 -- What the code of a table finds.
-use Rattle.std.proofs.Common.{◌≡◌, ◌≢◌, ◌<◌, ◌∙◌, sym, ap, subst, ℕ, suc, Bool, true, ◌==◌, cond, List, [], length}
+use Rattle.std.proofs.Common.{◌≡◌, ◌≢◌, ◌<◌, ◌∙◌, sym, ap, subst, ℕ, suc, Bool, true, ◌==◌, List, [], length, set}
 use Rattle.std.proofs.Common.{take, drop, get_or, slice_get, Some, inl, inr, refl, arith}
 use Rattle.std.specs.List.{All, list_all, position_or_len, remove}
-use Rattle.std.proofs.lemmas.Bool.{eq-eqb, ne_eqb, cases_eq, cases_lt, false≢true}
+use Rattle.std.proofs.lemmas.Bool.{cases_eq, false≢true}
 use Rattle.std.proofs.lemmas.List.{get_or_past, get_or-set_same, get_or-set_other, nil_from_length}
 use Rattle.std.proofs.lemmas.Option.{slice_get-get_or}
 use Rattle.lock_queue.specs.declared.key.Key.{Key}
@@ -24,37 +24,53 @@ use Rattle.key_queues.specs.Tables.{is_counted, is_there}
 use Rattle.key_queues.proofs.Keeping.{letting_in_keeps, giving_up_keeps, leaving_keeps}
 use Rattle.key_queues.proofs.Moves.{there_without}
 use Rattle.key_queues.proofs.Places.{split_at, length_take}
-use Rattle.key_queues.proofs.Using.{Next, as_many_queues, lock_with, named_there, position_found, stands_in_queue, there_at, there_removed}
+use Rattle.key_queues.proofs.Using.{Next, as_many_queues, named_there, position_found, stands_in_queue, there_at, there_removed}
+use Rattle.std.proofs.lemmas.Grind.{common_steps}
+
+-- a request is put in its place, and the others stay
+module _ (s t : Stored) (p : ℕ) (f : Filed) (lt : p < length s.filed) (is : t.filed ≡ set s.filed p f) where
+  pub filed_mine : filed_at t p ≡ f
+  filed_mine = ap (λ l. get_or l p unused_filed) is ∙ get_or-set_same s.filed p f unused_filed lt
+
+  pub filed_other : (x : ℕ) → x ≢ p → filed_at t x ≡ filed_at s x
+  filed_other x ne = ap (λ l. get_or l x unused_filed) is ∙ get_or-set_other s.filed p x f unused_filed ne
+
+  pub filed_like : {Y : Type 0} → (g : Filed → Y) → g f ≡ g (filed_at s p) → (x : ℕ) → g (filed_at t x) ≡ g (filed_at s x)
+  filed_like g same x =
+      elim (cases_eq x p) [
+        | inl e ↦ subst (λ y. g (filed_at t y) ≡ g (filed_at s y)) (sym e) (ap g filed_mine ∙ same)
+        | inr ne ↦ ap g (filed_other x ne)
+      ]
+
+-- a lock gets another queue, and the others stay
+module _ (locks more : List Lock) (n : ℕ) (q : KeptQueue) (lt : n < length locks) (is : more ≡ with_queue locks n q) where
+  pub lock_mine : lock_at more n ≡ record (lock_at locks n) { queue = q }
+  lock_mine = ap (λ l. lock_at l n) is ∙ get_or-set_same locks n (record (lock_at locks n) { queue = q }) unused_lock lt
+
+  pub lock_other : (m : ℕ) → m ≢ n → lock_at more m ≡ lock_at locks m
+  lock_other m ne = ap (λ l. lock_at l m) is ∙ get_or-set_other locks n m (record (lock_at locks n) { queue = q }) unused_lock ne
+
+  pub lock_like : {Y : Type 0} → (g : Lock → Y) → g (record (lock_at locks n) { queue = q }) ≡ g (lock_at locks n)
+      → (m : ℕ) → g (lock_at more m) ≡ g (lock_at locks m)
+  lock_like g same m =
+      elim (cases_eq m n) [
+        | inl e ↦ subst (λ k. g (lock_at more k) ≡ g (lock_at locks k)) (sym e) (ap g lock_mine ∙ same)
+        | inr ne ↦ ap g (lock_other m ne)
+      ]
 
 module _ (store : Stored) (locks : List Lock) where
   -- what is used stands within the lists
   pub lock_within : (x n : ℕ) → IsKept (state_of store locks) → Stands (state_of store locks) x n
       → n < length locks
-  lock_within x n kept st =
-      elim (cases_lt n (length locks)) [
-        | inl lt ↦ lt
-        | inr le ↦
-            let there : is_there x (lock_at locks n).queue.places ≡ true = stands_in_queue (state_of store locks) x n kept st in
-            let none : is_there x [] ≡ true =
-            subst (λ (k : Lock). is_there x k.queue.places ≡ true) (get_or_past locks n unused_lock le) there in
-            cc
-      ]
+  lock_within x n kept st = grind (arith, common_steps, stands_in_queue (state_of store locks) x n kept st, get_or_past locks n unused_lock)
 
   pub own_within : (x : ℕ) → IsKept (state_of store locks) → is_there x store.order ≡ true
       → All (λ n. n < length locks) (filed_at store x).queues.items
   own_within x kept present k d lt =
-      let ns : List ℕ = (filed_at store x).queues.items in
-      lock_within x (get_or ns k d) kept (record { present = present; there = there_at ns k d lt })
+      lock_within x (get_or (filed_at store x).queues.items k d) kept (record { present = present; there = there_at (filed_at store x).queues.items k d lt })
 
   pub place_within : (p : ℕ) (key : Key) → names (filed_at store p).request.wants.items key ≡ true → p < length store.filed
-  place_within p key named =
-      elim (cases_lt p (length store.filed)) [
-        | inl lt ↦ lt
-        | inr le ↦
-            let none : names [] key ≡ true =
-            subst (λ (f : Filed). names f.request.wants.items key ≡ true) (get_or_past store.filed p unused_filed le) named in
-            cc
-      ]
+  place_within p key named = grind (arith, common_steps, get_or_past store.filed p unused_filed)
 
   -- a queue that lets its next want in
   pub extended_by : (then : Stored) (more : List Lock) (n p : ℕ) (w : Want) → IsKept (state_of store locks)
@@ -68,22 +84,9 @@ module _ (store : Stored) (locks : List Lock) where
       → Extended (state_of store locks) (state_of then more) n
   extended_by then more n p w kept flags used at next fits is renews =
       let lt : n < length locks = lock_within used.place n kept used.stands in
-      let lock : (m : ℕ) → lock_at more m ≡ cond (m == n) (record (lock_at locks n) { queue = admitted (lock_at locks n).queue w }) (lock_at locks m) =
-      λ m. ap (λ l. lock_at l m) is ∙ lock_with locks n m (admitted (lock_at locks n).queue w) lt in
-      let same : (m : ℕ) → (m ≡ n → ⊥) → lock_at more m ≡ lock_at locks m =
-      λ m ne. lock m ∙ rw (ne_eqb m n ne) refl in
-      let mine : lock_at more n ≡ record (lock_at locks n) { queue = admitted (lock_at locks n).queue w } =
-      lock n ∙ rw (eq-eqb n n refl) refl in
-      let key : (m : ℕ) → (lock_at more m).key ≡ (lock_at locks m).key =
-      λ m. elim (cases_eq m n) [
-        | inl e ↦ subst (λ k. (lock_at more k).key ≡ (lock_at locks k).key) (sym e) (ap (λ (k : Lock). k.key) mine)
-        | inr ne ↦ ap (λ (k : Lock). k.key) (same m ne)
-      ] in
-      let size : (m : ℕ) → (lock_at more m).size ≡ (lock_at locks m).size =
-      λ m. elim (cases_eq m n) [
-        | inl e ↦ subst (λ k. (lock_at more k).size ≡ (lock_at locks k).size) (sym e) (ap (λ (k : Lock). k.size) mine)
-        | inr ne ↦ ap (λ (k : Lock). k.size) (same m ne)
-      ] in
+      let q : KeptQueue = admitted (lock_at locks n).queue w in
+      let key = lock_like locks more n q lt is (λ (k : Lock). k.key) refl in
+      let size = lock_like locks more n q lt is (λ (k : Lock). k.size) refl in
       let step : LetsIn (state_of store locks) (state_of then more) n p w =
       record {
         order = renews.order;
@@ -91,8 +94,8 @@ module _ (store : Stored) (locks : List Lock) where
         own = renews.own;
         key = key;
         size = size;
-        queue = ap (λ (k : Lock). k.queue) mine;
-        others = λ m ne. ap (λ (k : Lock). k.queue) (same m ne);
+        queue = ap (λ (k : Lock). k.queue) (lock_mine locks more n q lt is);
+        others = λ m ne. ap (λ (k : Lock). k.queue) (lock_other locks more n q lt is m ne);
         flags = renews.flags;
         flag = renews.flag;
       } in
@@ -134,24 +137,13 @@ given store locks p k kept present lt =
       place_is = queued.1;
     }
 
--- a request with a want less, and the others
-pub filed_with : (store : Stored) (p x : ℕ) (f : Filed) → p < length store.filed
-    → filed_at (with_filed store p f) x ≡ cond (x == p) f (filed_at store x)
-filed_with store p x f lt =
-    elim (cases_eq x p) [
-      | inl e ↦
-          rw (eq-eqb x p e) (ap (λ k. filed_at (with_filed store p f) k) e ∙ get_or-set_same store.filed p f unused_filed lt)
-      | inr ne ↦ rw (ne_eqb x p ne) (get_or-set_other store.filed p x f unused_filed ne)
-    ]
-
 pub own_within_less : (store : Stored) (locks : List Lock) (p k : ℕ) → IsKept (state_of store locks)
     → is_there p store.order ≡ true
     → p < length store.filed
     → All (λ n. n < length locks) (filed_at (with_filed store p (without_want (filed_at store p) k)) p).queues.items
 own_within_less store locks p k kept present lt =
-    let mine : filed_at (with_filed store p (without_want (filed_at store p) k)) p ≡ without_want (filed_at store p) k =
-    filed_with store p p (without_want (filed_at store p) k) lt ∙ rw (eq-eqb p p refl) refl in
-    subst (λ (f : Filed). All (λ n. n < length locks) f.queues.items) (sym mine)
+    let less : Filed = without_want (filed_at store p) k in
+    subst (λ (f : Filed). All (λ n. n < length locks) f.queues.items) (sym (filed_mine store (with_filed store p less) p less lt refl))
     (λ j d below.
     let ns : List ℕ = remove (filed_at store p).queues.items k in
     let there : is_there (get_or ns j d) (filed_at store p).queues.items ≡ true =
@@ -170,14 +162,10 @@ gives_up_by store middle then locks more p k kept lt g is lock_is renews =
     let s : State = state_of store locks in
     let n : ℕ = own_at store p k in
     let q : KeptQueue = without_place (lock_at locks n).queue p (want_at store p k) in
-    let place : (x : ℕ) → filed_at middle x ≡ cond (x == p) (without_want (filed_at store p) k) (filed_at store x) =
-    λ x. ap (λ l. filed_at l x) is ∙ filed_with store p x (without_want (filed_at store p) k) g.filed_in in
-    let mine : filed_at middle p ≡ without_want (filed_at store p) k = place p ∙ rw (eq-eqb p p refl) refl in
-    let others : (x : ℕ) → (x ≡ p → ⊥) → filed_at middle x ≡ filed_at store x = λ x ne. place x ∙ rw (ne_eqb x p ne) refl in
-    let lock : (m : ℕ) → lock_at more m ≡ cond (m == n) (record (lock_at locks n) { queue = q }) (lock_at locks m) =
-    λ m. ap (λ l. lock_at l m) lock_is ∙ lock_with locks n m q g.lock_in in
-    let lock_same : (m : ℕ) → (m ≡ n → ⊥) → lock_at more m ≡ lock_at locks m = λ m ne. lock m ∙ rw (ne_eqb m n ne) refl in
-    let lock_mine : lock_at more n ≡ record (lock_at locks n) { queue = q } = lock n ∙ rw (eq-eqb n n refl) refl in
+    let less : Filed = without_want (filed_at store p) k in
+    let put = ap (λ (v : Stored). v.filed) is in
+    let mine = filed_mine store middle p less g.filed_in put in
+    let others = filed_other store middle p less g.filed_in put in
     let want : slice_get (s.at p).wants.items k ≡ Some (want_at store p k) =
     slice_get-get_or (s.at p).wants.items k unused_want g.wants_in in
     let own : slice_get (s.own p) k ≡ Some n = slice_get-get_or (s.own p) k 0 lt in
@@ -191,18 +179,10 @@ gives_up_by store middle then locks more p k kept lt g is lock_is renews =
       at = λ x ne. renews.at x ∙ ap (λ (f : Filed). f.request) (others x ne);
       owns = renews.own p ∙ ap (λ (f : Filed). f.queues.items) mine;
       own = λ x ne. renews.own x ∙ ap (λ (f : Filed). f.queues.items) (others x ne);
-      key =
-          λ m. elim (cases_eq m n) [
-            | inl e ↦ subst (λ j. (lock_at more j).key ≡ (lock_at locks j).key) (sym e) (ap (λ (j : Lock). j.key) lock_mine)
-            | inr ne ↦ ap (λ (j : Lock). j.key) (lock_same m ne)
-          ];
-      size =
-          λ m. elim (cases_eq m n) [
-            | inl e ↦ subst (λ j. (lock_at more j).size ≡ (lock_at locks j).size) (sym e) (ap (λ (j : Lock). j.size) lock_mine)
-            | inr ne ↦ ap (λ (j : Lock). j.size) (lock_same m ne)
-          ];
-      queue = ap (λ (j : Lock). j.queue) lock_mine;
-      others = λ m ne. ap (λ (j : Lock). j.queue) (lock_same m ne);
+      key = lock_like locks more n q g.lock_in lock_is (λ (j : Lock). j.key) refl;
+      size = lock_like locks more n q g.lock_in lock_is (λ (j : Lock). j.size) refl;
+      queue = ap (λ (j : Lock). j.queue) (lock_mine locks more n q g.lock_in lock_is);
+      others = λ m ne. ap (λ (j : Lock). j.queue) (lock_other locks more n q g.lock_in lock_is m ne);
       flags = λ x ne. renews.flags x ne ∙ ap (λ (f : Filed). f.granted) (others x ne);
     }
 
@@ -241,29 +221,17 @@ pub renews_by : (store then : Stored) (locks : List Lock) (p : ℕ) (granted : B
     → Renews (state_of store locks) (state_of then locks) p
 renews_by store then locks p granted lt counted is =
     let f : Filed = with_granted (filed_at store p) granted in
-    let place : (x : ℕ) → filed_at then x ≡ cond (x == p) f (filed_at store x) =
-    λ x. ap (λ l. filed_at l x) is ∙ filed_with store p x f lt in
-    let mine : filed_at then p ≡ f = place p ∙ rw (eq-eqb p p refl) refl in
-    let others : (x : ℕ) → (x ≡ p → ⊥) → filed_at then x ≡ filed_at store x = λ x ne. place x ∙ rw (ne_eqb x p ne) refl in
-    let own : (x : ℕ) → (filed_at then x).queues.items ≡ (filed_at store x).queues.items =
-    λ x. elim (cases_eq x p) [
-      | inl e ↦ subst (λ y. (filed_at then y).queues.items ≡ (filed_at store y).queues.items) (sym e) (ap (λ (y : Filed). y.queues.items) mine)
-      | inr ne ↦ ap (λ (y : Filed). y.queues.items) (others x ne)
-    ] in
+    let put = ap (λ (v : Stored). v.filed) is in
+    let own = filed_like store then p f lt put (λ (y : Filed). y.queues.items) refl in
     record {
       order = ap (λ (v : Stored). v.order) is;
-      at =
-          λ x.
-          elim (cases_eq x p) [
-            | inl e ↦ subst (λ y. (filed_at then y).request ≡ (filed_at store y).request) (sym e) (ap (λ (y : Filed). y.request) mine)
-            | inr ne ↦ ap (λ (y : Filed). y.request) (others x ne)
-          ];
+      at = filed_like store then p f lt put (λ (y : Filed). y.request) refl;
       own = own;
       key = λ m. refl;
       size = λ m. refl;
       queue = λ m. refl;
-      flags = λ x ne. ap (λ (y : Filed). y.granted) (others x ne);
-      flag = ap (λ (y : Filed). y.granted) mine ∙ counted ∙ ap (list_all (λ n. is_counted (lock_at locks n).queue p)) (sym (own p));
+      flags = λ x ne. ap (λ (y : Filed). y.granted) (filed_other store then p f lt put x ne);
+      flag = ap (λ (y : Filed). y.granted) (filed_mine store then p f lt put) ∙ counted ∙ ap (list_all (λ n. is_counted (lock_at locks n).queue p)) (sym (own p));
     }
 
 -- a request that has given up all its wants leaves the store
@@ -276,10 +244,7 @@ left_store store locks p table present none lt =
     let i : ℕ = position_or_len (λ m. m == p) store.order in
     let s : State = state_of store locks in
     let t : State = state_of (removed store p) locks in
-    let place : (x : ℕ) → filed_at (removed store p) x ≡ cond (x == p) unused_filed (filed_at store x) =
-    λ x. filed_with store p x unused_filed lt in
-    let mine : filed_at (removed store p) p ≡ unused_filed = place p ∙ rw (eq-eqb p p refl) refl in
-    let others : (x : ℕ) → (x ≡ p → ⊥) → filed_at (removed store p) x ≡ filed_at store x = λ x ne. place x ∙ rw (ne_eqb x p ne) refl in
+    let others = filed_other store (removed store p) p unused_filed lt refl in
     let few : length (s.at p).wants.items ≡ length (s.own p) =
     as_many_queues (λ w n. s.key n ≡ w.key) (s.at p).wants.items (s.own p) (table.kept.queues p present) in
     let step : Leaves s t (take i store.order) (drop (suc i) store.order) p =
@@ -287,7 +252,7 @@ left_store store locks p table present none lt =
       order = split_at store.order i p (position_found p store.order present).1;
       none = nil_from_length (s.at p).wants.items (few ∙ none);
       left = refl;
-      apart = ap (λ (x : Filed). are_apart x.request.wants.items) mine;
+      apart = ap (λ (x : Filed). are_apart x.request.wants.items) (filed_mine store (removed store p) p unused_filed lt refl);
       at = λ x ne. ap (λ (y : Filed). y.request) (others x ne);
       own = λ x ne. ap (λ (y : Filed). y.queues.items) (others x ne);
       key = λ m. refl;

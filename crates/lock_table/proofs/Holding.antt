@@ -1,13 +1,13 @@
 -- What is seen of the parts of a table.
 use Rattle.std.proofs.Common.{◌≡◌, ◌≤◌, ◌∙◌, sym, ap, subst, ℕ, Bool, true, false, ◌&&◌, not, cond, List, [], ◌∷◌}
-use Rattle.std.proofs.Common.{◌++◌, length, map, filter, Option, Some, None, refl, arith}
+use Rattle.std.proofs.Common.{◌++◌, length, map, Option, refl, arith}
 use Rattle.std.specs.List.{list_any}
 use Rattle.std.proofs.Math.Bool.{and_assoc}
 use Rattle.std.proofs.lemmas.List.{length-map}
 use Rattle.lock_queue.specs.declared.call.LockCall.{LockCall}
 use Rattle.lock_queue.specs.declared.call.LockCall.TheVariants.{Enqueue, Modify, DequeueNamed, DequeueAll, DequeueId}
 use Rattle.lock_queue.specs.declared.call.LockReply.{LockReply}
-use Rattle.lock_queue.specs.declared.call.LockReply.TheVariants.{Granted, Queued, Done, Refused}
+use Rattle.lock_queue.specs.declared.call.LockReply.TheVariants.{Done, Refused}
 use Rattle.lock_queue.specs.declared.grant.Grant.{Grant}
 use Rattle.lock_queue.specs.declared.refusal.Refusal.{Refusal}
 use Rattle.lock_queue.specs.declared.refusal.Refusal.TheVariants.{NotPresent}
@@ -34,6 +34,7 @@ use Rattle.lock_table.specs.Raised.{grants_marked}
 use Rattle.lock_table.specs.Turns.{Turned, mark_at}
 use Rattle.lock_table.proofs.Raising.{woken_by_call}
 use Rattle.lock_table.proofs.Wholes.{leaves_by, left_requests, left_where}
+use Rattle.std.proofs.lemmas.Grind.{common_steps}
 
 pub few_requests : (s : Stored) (size : ℕ) → length s.order ≤ size → length (requests_in s) ≤ size
 few_requests s size few = omega (arith, few, length-map s.order (request_at s))
@@ -82,53 +83,26 @@ woken_released s t locks more job before after was is left none turned =
 
 -- a reply that is done
 pub done_is : (reply : LockReply) → is_done reply ≡ true → reply ≡ Done
-done_is Done e = refl
-done_is Granted e = cc
-done_is Queued e = cc
-done_is (Refused f) e = cc
+done_is reply e = grind (arith, common_steps)
+
+refused : (requests : List Request) (o : Option Refusal) (l : List Request) → is_done (unless_refused requests o (outcome l Done)).reply ≡ false
+    → (grants : List Grant)
+    → [] ≡ unless_refused_grants (unless_refused requests o (outcome l Done)).reply grants
+refused requests o l e grants = grind (arith, common_steps)
+
+none_found : (requests l : List Request) (b : Bool) → is_done (cond b (outcome l Done) (outcome requests (Refused NotPresent))).reply ≡ false
+    → (grants : List Grant)
+    → [] ≡ unless_refused_grants (cond b (outcome l Done) (outcome requests (Refused NotPresent))).reply grants
+none_found requests l b e grants = grind (arith, common_steps)
 
 -- another makes no grants that are told
 pub quiet : (size : ℕ) (requests : List Request) (job : ℕ) (call : LockCall) → is_done (outcome_of size requests job call).reply ≡ false
     → [] ≡ woken_by size requests job call
 quiet size requests job (Enqueue asking wants) e = sym (woken-enqueue size requests job asking wants)
-quiet size requests job (Modify wants) e = refused _ _ e (woken (left_of job (Modify wants)) requests)
-  where
-    refused : (o : Option Refusal) (l : List Request) → is_done (unless_refused requests o (outcome l Done)).reply ≡ false
-        → (grants : List Grant)
-        → [] ≡ unless_refused_grants (unless_refused requests o (outcome l Done)).reply grants
-    refused None l e grants = cc
-    refused (Some f) l e grants = refl
-quiet size requests job (DequeueNamed wants) e = refused _ _ e (woken (left_of job (DequeueNamed wants)) requests)
-  where
-    refused : (o : Option Refusal) (l : List Request) → is_done (unless_refused requests o (outcome l Done)).reply ≡ false
-        → (grants : List Grant)
-        → [] ≡ unless_refused_grants (unless_refused requests o (outcome l Done)).reply grants
-    refused None l e grants = cc
-    refused (Some f) l e grants = refl
-quiet size requests job DequeueAll e = where_none (list_any (is_of_job job) requests) e
-  where
-    where_none : (b : Bool)
-        → is_done
-        (cond b (outcome (filter (λ r. not (is_of_job job r)) requests) Done) (outcome requests (Refused NotPresent))).reply
-        ≡ false
-        → []
-        ≡ unless_refused_grants
-        (cond b (outcome (filter (λ r. not (is_of_job job r)) requests) Done) (outcome requests (Refused NotPresent))).reply
-        (woken (left_of job DequeueAll) requests)
-    where_none true e = cc
-    where_none false e = refl
-quiet size requests job (DequeueId id) e = where_none (list_any (has_id job id) requests) e
-  where
-    where_none : (b : Bool)
-        → is_done
-        (cond b (outcome (filter (λ r. not (has_id job id r)) requests) Done) (outcome requests (Refused NotPresent))).reply
-        ≡ false
-        → []
-        ≡ unless_refused_grants
-        (cond b (outcome (filter (λ r. not (has_id job id r)) requests) Done) (outcome requests (Refused NotPresent))).reply
-        (woken (left_of job (DequeueId id)) requests)
-    where_none true e = cc
-    where_none false e = refl
+quiet size requests job (Modify wants) e = refused requests _ _ e (woken (left_of job (Modify wants)) requests)
+quiet size requests job (DequeueNamed wants) e = refused requests _ _ e (woken (left_of job (DequeueNamed wants)) requests)
+quiet size requests job DequeueAll e = none_found requests _ (list_any (is_of_job job) requests) e (woken (left_of job DequeueAll) requests)
+quiet size requests job (DequeueId id) e = none_found requests _ (list_any (has_id job id) requests) e (woken (left_of job (DequeueId id)) requests)
 
 -- what is filled in, where a call was done and where not
 pub woken_if : (size : ℕ) (s t : Stored) (locks more : List Lock) (job : ℕ) (call : LockCall) (before after : List Bool) → IsTable (state_of s locks)

@@ -1,8 +1,8 @@
 -- A request of which its job is told.
-use Rattle.std.proofs.Common.{◌≡◌, ◌≢◌, ◌≤◌, ◌<◌, ◌∙◌, sym, ap, subst, ℕ, Bool, true, false, not, ◌&&◌, ◌==◌, cond, List, []}
-use Rattle.std.proofs.Common.{◌∷◌, ◌++◌, length, map, filter, Some, None, inl, inr, refl, append_assoc}
+use Rattle.std.proofs.Common.{◌≡◌, ◌≤◌, ◌<◌, ◌∙◌, sym, ap, subst, ℕ, Bool, true, not, ◌&&◌, ◌==◌, cond, List, [], arith}
+use Rattle.std.proofs.Common.{◌∷◌, ◌++◌, length, map, filter, Some, None, refl, append_assoc}
 use Rattle.std.specs.List.{find}
-use Rattle.std.proofs.lemmas.Bool.{both_ways, cases_eq, eq-eqb, ne_eqb}
+use Rattle.std.proofs.lemmas.Bool.{ne_eqb}
 use Rattle.lock_queue.specs.declared.key.Key.{Key}
 use Rattle.lock_queue.specs.declared.request.Request.{Request}
 use Rattle.lock_queue.specs.Jobs.{as_told, is_interrupt, is_pending, told_behind, told_of}
@@ -25,8 +25,10 @@ use Rattle.table_reads.specs.Filing.{state_of}
 use Rattle.table_reads.specs.Reads.{is_pending_filed}
 use Rattle.table_reads.specs.Whole.{IsWhole, requests_in, level_at}
 use Rattle.lock_table.specs.Departures.{is_of, request_at}
-use Rattle.lock_table.proofs.Filing.{filed_with}
 use Rattle.lock_table.proofs.Wholes.{whole_by}
+use Rattle.std.proofs.lemmas.List.{map-append}
+use Rattle.lock_table.proofs.Filing.{filed_like}
+use Rattle.std.proofs.lemmas.Grind.{common_steps}
 
 -- a table sees of the requests their wants alone
 module _ (s : State) (at : ℕ → Request) (wants : (x : ℕ) → (at x).wants.items ≡ (s.at x).wants.items) where
@@ -70,31 +72,11 @@ module _ (s t : Stored) (p : ℕ) (lt : p < length s.filed) (is : t ≡ with_fil
   abbrev f : Filed
   f = with_told (filed_at s p)
 
-  place : (x : ℕ) → filed_at t x ≡ cond (x == p) f (filed_at s x)
-  place x = ap (λ v. filed_at v x) is ∙ filed_with s p x f lt
-
-  mine : filed_at t p ≡ f
-  mine = place p ∙ rw (eq-eqb p p refl) refl
-
-  other : (x : ℕ) → x ≢ p → filed_at t x ≡ filed_at s x
-  other x ne = place x ∙ rw (ne_eqb x p ne) refl
-
-  -- what is the same of each
   like : {Y : Type 0} → (g : Filed → Y) → g f ≡ g (filed_at s p) → (x : ℕ) → g (filed_at t x) ≡ g (filed_at s x)
-  like g same x =
-      elim (cases_eq x p) [
-        | inl e ↦ subst (λ y. g (filed_at t y) ≡ g (filed_at s y)) (sym e) (ap g mine ∙ same)
-        | inr ne ↦ ap g (other x ne)
-      ]
+  like = filed_like s t p f lt (ap (λ (v : Stored). v.filed) is)
 
   pub told_order : t.order ≡ s.order
   told_order = ap (λ (v : Stored). v.order) is
-
-  pub told_request : (filed_at t p).request ≡ as_told (filed_at s p).request
-  told_request = ap (λ (g : Filed). g.request) mine
-
-  pub told_others : (x : ℕ) → x ≢ p → (filed_at t x).request ≡ (filed_at s x).request
-  told_others x ne = ap (λ (g : Filed). g.request) (other x ne)
 
   pub told_whole : (size : ℕ) (locks : List Lock) → IsWhole size s locks → IsWhole size t locks
   told_whole size locks w =
@@ -129,66 +111,22 @@ module _ (s t : Stored) (p : ℕ) (lt : p < length s.filed) (is : t ≡ with_fil
 
 find_among : (a t : ℕ → Bool) (xs : List ℕ) → find t (filter a xs) ≡ find (λ x. a x && t x) xs
 find_among a t [] = refl
-find_among a t (x ∷ xs) = go (a x) (find_among a t xs)
-  where
-    go : (b : Bool) → find t (filter a xs) ≡ find (λ y. a y && t y) xs
-        → find t (cond b (x ∷ filter a xs) (filter a xs)) ≡ cond (b && t x) (Some x) (find (λ y. a y && t y) xs)
-    go true h = ap (λ o. cond (t x) (Some x) o) h
-    go false h = h
+find_among a t (x ∷ xs) = grind (arith, common_steps, find_among a t xs)
 
 module _ (test : List Request → Request → Bool) (at : ℕ → Request) (mark : ℕ → Bool) (order : List ℕ)
     (right : (before after : List ℕ) (p : ℕ) → order ≡ before ++ p ∷ after → test (map at before) (at p) ≡ mark p) where
-  map_last : (xs : List ℕ) (x : ℕ) → map at (xs ++ x ∷ []) ≡ map at xs ++ at x ∷ []
-  map_last [] x = refl
-  map_last (y ∷ xs) x = ap (λ l. at y ∷ l) (map_last xs x)
-
-  told_at : (p x : ℕ) → Request
-  told_at p x = cond (x == p) (as_told (at x)) (at x)
-
   pub told_first : (before xs : List ℕ) (p : ℕ) → StandsOnce order → order ≡ before ++ xs → find mark xs ≡ Some p
       → told_behind test (map at before) (map at xs) ≡ map (λ x. cond (x == p) (as_told (at x)) (at x)) xs
   told_first before [] p once is e = cc
-  told_first before (x ∷ xs) p once is e = go (mark x) refl e (told_first (before ++ x ∷ []) xs p once (is ∙ sym (append_assoc before (x ∷ []) xs)))
-    where
-      here : test (map at before) (at x) ≡ mark x
-      here = right before xs x is
-
-      step : (b : Bool) → test (map at before) (at x) ≡ b
-          → told_behind test (map at before) (at x ∷ map at xs)
-          ≡ cond b (as_told (at x) ∷ map at xs) (at x ∷ told_behind test (map at before ++ at x ∷ []) (map at xs))
-      step b h = ap (λ c. cond c (as_told (at x) ∷ map at xs) (at x ∷ told_behind test (map at before ++ at x ∷ []) (map at xs))) h
-
-      go : (b : Bool) → mark x ≡ b → cond b (Some x) (find mark xs) ≡ Some p
-          → (find mark xs ≡ Some p → told_behind test (map at (before ++ x ∷ [])) (map at xs) ≡ map (λ y. cond (y == p) (as_told (at y)) (at y)) xs)
-          → told_behind test (map at before) (at x ∷ map at xs) ≡ map (λ y. cond (y == p) (as_told (at y)) (at y)) (x ∷ xs)
-      go true m found later =
-          let same : x ≡ p = cc in
-          let out : is_there p xs ≡ false = (once before xs p (subst (λ y. order ≡ before ++ y ∷ xs) same is)).1 in
-          let rest : map at xs ≡ map (λ y. cond (y == p) (as_told (at y)) (at y)) xs =
-          map_same at (λ y. cond (y == p) (as_told (at y)) (at y)) p xs out (λ y ne. sym (ap (λ b. cond b (as_told (at y)) (at y)) (ne_eqb y p ne))) in
-          step true (here ∙ m)
-          ∙ ap (λ b. cond b (as_told (at x)) (at x) ∷ map at xs) (sym (eq-eqb x p same))
-          ∙ ap (λ l. cond (x == p) (as_told (at x)) (at x) ∷ l) rest
-      go false m found later =
-          let ne : x ≢ p = λ same. both_ways (mark x) m (ap mark same ∙ find_passes mark xs p found) in
-          step false (here ∙ m)
-          ∙ ap (λ l. at x ∷ told_behind test l (map at xs)) (sym (map_last before x))
-          ∙ ap (λ l. at x ∷ l) (later found)
-          ∙ ap (λ b. cond b (as_told (at x)) (at x) ∷ map (λ y. cond (y == p) (as_told (at y)) (at y)) xs) (sym (ne_eqb x p ne))
+  told_first before (x ∷ xs) p once is e =
+      let here : test (map at before) (at x) ≡ mark x = right before xs x is in
+      let later = told_first (before ++ x ∷ []) xs p once (is ∙ sym (append_assoc before (x ∷ []) xs)) in
+      let rest = map_same at (λ y. cond (y == p) (as_told (at y)) (at y)) p xs in
+      grind (arith, common_steps, here, later, rest, map-append at before (x ∷ []), once before xs x is, find_passes mark xs p, ne_eqb)
 
   pub told_none : (before xs : List ℕ) → order ≡ before ++ xs → find mark xs ≡ None → told_behind test (map at before) (map at xs) ≡ map at xs
   told_none before [] is e = refl
-  told_none before (x ∷ xs) is e = go (mark x) refl e (told_none (before ++ x ∷ []) xs (is ∙ sym (append_assoc before (x ∷ []) xs)))
-    where
-      go : (b : Bool) → mark x ≡ b → cond b (Some x) (find mark xs) ≡ None
-          → (find mark xs ≡ None → told_behind test (map at (before ++ x ∷ [])) (map at xs) ≡ map at xs)
-          → told_behind test (map at before) (at x ∷ map at xs) ≡ at x ∷ map at xs
-      go true m found later = cc
-      go false m found later =
-          let here : test (map at before) (at x) ≡ false = right before xs x is ∙ m in
-          ap (λ c. cond c (as_told (at x) ∷ map at xs) (at x ∷ told_behind test (map at before ++ at x ∷ []) (map at xs))) here
-          ∙ ap (λ l. at x ∷ told_behind test l (map at xs)) (sym (map_last before x))
-          ∙ ap (λ l. at x ∷ l) (later found)
+  told_none before (x ∷ xs) is e = grind (arith, common_steps, right before xs x is, map-append at before (x ∷ []), told_none (before ++ x ∷ []) xs (is ∙ sym (append_assoc before (x ∷ []) xs)))
 
 -- which request of a job is pending
 module _ (s : Stored) (locks : List Lock) (job : ℕ) (table : IsTable (state_of s locks)) where
@@ -196,8 +134,7 @@ module _ (s : Stored) (locks : List Lock) (job : ℕ) (table : IsTable (state_of
   marks x = is_of s job x && is_pending_filed (filed_at s x)
 
   assoc : (a b c d : Bool) → (((a && b) && c) && d) ≡ (a && ((b && c) && d))
-  assoc true b c d = refl
-  assoc false b c d = refl
+  assoc a b c d = grind (arith, common_steps)
 
   marks_right : (before after : List ℕ) (p : ℕ) → s.order ≡ before ++ p ∷ after → is_pending job (map (request_at s) before) (request_at s p) ≡ marks p
   unfolding marks
@@ -213,13 +150,7 @@ module _ (s : Stored) (locks : List Lock) (job : ℕ) (table : IsTable (state_of
       → requests_in t ≡ told_of (requests_in s) job
   unfolding marks
   told_is t p found order mine others =
-      let each : (x : ℕ) → request_at t x ≡ cond (x == p) (as_told (request_at s x)) (request_at s x) =
-      λ x. elim (cases_eq x p) [
-        | inl e ↦
-            subst (λ y. request_at t y ≡ cond (y == p) (as_told (request_at s y)) (request_at s y)) (sym e)
-            (mine ∙ ap (λ b. cond b (as_told (request_at s p)) (request_at s p)) (sym (eq-eqb p p refl)))
-        | inr ne ↦ others x ne ∙ ap (λ b. cond b (as_told (request_at s x)) (request_at s x)) (sym (ne_eqb x p ne))
-      ] in
+      let each : (x : ℕ) → request_at t x ≡ cond (x == p) (as_told (request_at s x)) (request_at s x) = λ x. grind (arith, common_steps, mine, others x) in
       ap (map (request_at t)) order
       ∙ ap (λ (g : ℕ → Request). map g s.order) (λ i x. each x i)
       ∙ sym

@@ -1,11 +1,11 @@
 -- Which changes take a grant, as the queues of their keys tell.
-use Rattle.std.proofs.Common.{◌≡◌, ◌≢◌, ◌∙◌, sym, ap, subst, ℕ, Bool, true, false, ◌&&◌, ◌||◌, ◌==◌, not, cond, List, [], ◌∷◌}
-use Rattle.std.proofs.Common.{◌++◌, length, take, drop, map, filter, nat_lt, Option, None, inl, inr, refl}
+use Rattle.std.proofs.Common.{◌≡◌, ◌≢◌, ◌∙◌, sym, ap, subst, ℕ, Bool, true, false, ◌&&◌, ◌||◌, ◌==◌, not, List, [], ◌∷◌, arith}
+use Rattle.std.proofs.Common.{◌++◌, length, take, drop, map, filter, nat_lt, Option, None, refl}
 use Rattle.std.specs.List.{list_all, list_any}
-use Rattle.std.proofs.lemmas.Bool.{and_parts, both_ways, eq-eqb, false_from_ne_true, not-true, or_cases, or_left, or_right}
+use Rattle.std.proofs.lemmas.Bool.{and_parts, both_ways, eq-eqb, false_from_ne_true, not-true, or_left, or_right, eqb-true}
 use Rattle.std.proofs.lemmas.List.{map-append, take-append-drop}
 use Rattle.std.proofs.lemmas.List.Elements.{filter-append}
-use Rattle.std.proofs.lemmas.List.Folds.{list_any-append}
+use Rattle.std.proofs.lemmas.List.Folds.{list_any-append, list_all-append}
 use Rattle.lock_queue.specs.declared.key.Key.{Key}
 use Rattle.lock_queue.specs.declared.request.Request.{Request}
 use Rattle.lock_queue.specs.declared.want.Want.{Want}
@@ -14,7 +14,7 @@ use Rattle.lock_queue.specs.Keys.{same_key}
 use Rattle.lock_queue.specs.Queue.{all_wants, fits, granted_behind, names, wants_at}
 use Rattle.lock_queue.specs.WellFormed.{are_apart}
 use Rattle.lock_queue.proofs.Fitting.{names-Has, names-found}
-use Rattle.lock_queue.proofs.Lists.{Has, Has-right, Pairs-across, list_all-Has, list_all-each, list_any-Has, list_any-found, list_any-none}
+use Rattle.lock_queue.proofs.Lists.{Has, Pairs-across, list_all-Has, list_all-each, list_any-Has, list_any-found, list_any-none}
 use Rattle.key_queues.specs.Beginnings.{Alike, fitting, is_share_of}
 use Rattle.key_queues.specs.States.{State, IsTable}
 use Rattle.key_queues.specs.Tables.{StandsOnce, is_there, own_wants, places_at}
@@ -28,6 +28,7 @@ use Rattle.key_queues.proofs.Using.{kept_there, queue_of_want, there_kept}
 use Rattle.request_store.proofs.Orders.{stands_filter}
 use Rattle.lock_table.specs.Changing.{changed_once, fitting_then, is_lost_by}
 use Rattle.lock_table.proofs.Altering.{apart_changed, changed_pool, map_twice, named_changed, own_named, own_of_changed, own_unnamed}
+use Rattle.std.proofs.lemmas.Grind.{common_steps}
 
 -- ---- where a want fits
 
@@ -74,13 +75,8 @@ fits_in_order at order before after p size w once apart is h alike =
 
 -- ---- lists
 
-filter_same : (t u : ℕ → Bool) (xs : List ℕ) → ((x : ℕ) → t x ≡ u x) → filter t xs ≡ filter u xs
-filter_same t u [] same = refl
-filter_same t u (x ∷ xs) same =
-    ap (λ b. cond b (x ∷ filter t xs) (filter t xs)) (same x) ∙ ap (λ l. cond (u x) (x ∷ l) l) (filter_same t u xs same)
-
 pub there_Has : (x : ℕ) (xs : List ℕ) → is_there x xs ≡ true → Has xs x
-there_Has x xs h = let split = split_there x xs h in subst (λ l. Has l x) (sym split.2) (Has-right split.0 (x ∷ split.1) x (inl refl))
+there_Has x xs h = let found = list_any-found (λ y. y == x) xs h in subst (Has xs) (eqb-true found.0 x found.2) found.1
 
 -- a place stands among the first or behind them, and not in both
 pub there_parts : (k x : ℕ) (xs : List ℕ) → is_there x xs ≡ (is_there x (take k xs) || is_there x (drop k xs))
@@ -99,33 +95,17 @@ module _ (job : ℕ) (cs : List Want) (at : ℕ → Request) (order : List ℕ) 
 
   pub places_changed : (key : Key) → places_at new order key ≡ places_at at order key
   places_changed key =
-      filter_same (λ x. names (new x).wants.items key) (λ x. names (at x).wants.items key) order (λ x. named_changed job cs (at x) key)
+      ap (λ (t : ℕ → Bool). filter t order) (λ i x. named_changed job cs (at x) key i)
 
   -- wants are of the pools that they were of
   pools_of : (size : Option ℕ) (ws : List Want)
       → list_all (λ w. is_share_of size w.pool) (map (changed_want cs) ws) ≡ list_all (λ w. is_share_of size w.pool) ws
   pools_of size [] = refl
-  pools_of size (w ∷ ws) =
-      ap (λ o. is_share_of size o && list_all (λ w. is_share_of size w.pool) (map (changed_want cs) ws)) (changed_pool cs w)
-      ∙ ap (λ b. is_share_of size w.pool && b) (pools_of size ws)
+  pools_of size (w ∷ ws) = grind (arith, common_steps, changed_pool cs w, pools_of size ws)
 
   pools_own : (size : Option ℕ) (key : Key) (x : ℕ)
       → list_all (λ w. is_share_of size w.pool) (own_wants key (new x)) ≡ list_all (λ w. is_share_of size w.pool) (own_wants key (at x))
-  pools_own size key x = ap (list_all (λ w. is_share_of size w.pool)) (own_of_changed job cs (at x) key) ∙ go ((at x).job == job)
-    where
-      go : (b : Bool)
-          → list_all (λ w. is_share_of size w.pool) (cond b (map (changed_want cs) (own_wants key (at x))) (own_wants key (at x)))
-          ≡ list_all (λ w. is_share_of size w.pool) (own_wants key (at x))
-      go true = pools_of size (own_wants key (at x))
-      go false = refl
-
-all-append : (t : Want → Bool) (a b : List Want) → list_all t (a ++ b) ≡ (list_all t a && list_all t b)
-all-append t [] b = refl
-all-append t (x ∷ a) b = go (t x) (all-append t a b)
-  where
-    go : (v : Bool) → list_all t (a ++ b) ≡ (list_all t a && list_all t b) → (v && list_all t (a ++ b)) ≡ ((v && list_all t a) && list_all t b)
-    go true h = h
-    go false h = refl
+  pools_own size key x = grind (arith, common_steps, own_of_changed job cs (at x) key, pools_of size (own_wants key (at x)))
 
 wants_cons : (at : ℕ → Request) (p : ℕ) (order : List ℕ) (key : Key) → wants_at (map at (p ∷ order)) key ≡ own_wants key (at p) ++ wants_at (map at order) key
 wants_cons at p order key = filter-append (λ w. same_key w.key key) (at p).wants.items (all_wants (map at order))
@@ -136,10 +116,9 @@ pub wants_same_there : (key : Key) (at then : ℕ → Request) (order : List ℕ
     → wants_at (map then order) key ≡ wants_at (map at order) key
 wants_same_there key at then [] same = refl
 wants_same_there key at then (p ∷ order) same =
-    wants_cons then p order key
-    ∙ ap (λ l. l ++ wants_at (map then order) key) (same p (or_left (p == p) (is_there p order) (eq-eqb p p refl)))
-    ∙ ap (λ l. own_wants key (at p) ++ l) (wants_same_there key at then order (λ x h. same x (or_right (p == x) (is_there x order) h)))
-    ∙ sym (wants_cons at p order key)
+    let here = same p (or_left (p == p) (is_there p order) (eq-eqb p p refl)) in
+    let rest = wants_same_there key at then order (λ x h. same x (or_right (p == x) (is_there x order) h)) in
+    grind (arith, common_steps, wants_cons then p order key, wants_cons at p order key, here, rest)
 
 module _ (job : ℕ) (cs : List Want) (at : ℕ → Request) (size : Option ℕ) (key : Key) where
   pub alike_changed : (order : List ℕ)
@@ -147,14 +126,7 @@ module _ (job : ℕ) (cs : List Want) (at : ℕ → Request) (size : Option ℕ)
       ≡ list_all (λ w. is_share_of size w.pool) (wants_at (map at order) key)
   alike_changed [] = refl
   alike_changed (p ∷ order) =
-      ap (list_all test) (wants_cons (λ x. changed job cs (at x)) p order key)
-      ∙ all-append test (own_wants key (changed job cs (at p))) (wants_at (map (λ x. changed job cs (at x)) order) key)
-      ∙ ap (λ b. b && list_all test (wants_at (map (λ x. changed job cs (at x)) order) key)) (pools_own job cs at order size key p)
-      ∙ ap (λ b. list_all test (own_wants key (at p)) && b) (alike_changed order)
-      ∙ sym (ap (list_all test) (wants_cons at p order key) ∙ all-append test (own_wants key (at p)) (wants_at (map at order) key))
-    where
-      test : Want → Bool
-      test w = is_share_of size w.pool
+      grind (arith, common_steps, wants_cons (λ x. changed job cs (at x)) p order key, wants_cons at p order key, list_all-append, pools_own job cs at order size key p, alike_changed order)
 
 -- the wants of each key are alike
 pub alike_of : (s : State) (key : Key) → IsTable s → (size : Option ℕ) × Alike size (wants_at (map s.at s.order) key)
@@ -236,32 +208,16 @@ module _ (s : State) (job : ℕ) (cs : List Want) (t : IsTable s) where
                 let fit : fits (map s.at split.0) of.0 ≡ true = list_all-Has (fits (map s.at split.0)) (s.at p).wants.items of.0 granted of.1 in
                 let within : is_there p (take (fitting (wants_at (map s.at s.order) of.0.key)) (places_at s.at s.order of.0.key)) ≡ true =
                 sym (fits_in_order s.at s.order split.0 split.1 p alike.0 of.0 t.kept.once t.kept.apart split.2 of.1 alike.1) ∙ fit in
-                let at_key : is_there p (take (fitting (wants_at (map s.at s.order) w.key)) (places_at s.at s.order w.key)) ≡ true =
-                subst (λ k. is_there p (take (fitting (wants_at (map s.at s.order) k)) (places_at s.at s.order k)) ≡ true) of.2 within in
-                ap (λ l. is_there p (take (fitting (wants_at (map then s.order) w.key)) l)) (places_changed job cs s.at s.order w.key)
-                ∙ ap (λ l. is_there p (take (fitting l) (places_at s.at s.order w.key)))
-                (wants_same w.key s.at then s.order (λ x. own_unnamed job cs (s.at x) w.key e))
-                ∙ at_key
+                let same = wants_same w.key s.at then s.order (λ x. own_unnamed job cs (s.at x) w.key e) in
+                grind (arith, common_steps, of.2, within, same, places_changed job cs s.at s.order w.key)
             go true e =
                 let of = names-found cs w.key e in
                 let k : ℕ = fitting_then s.at s.order job of.0 in
-                let there_c : is_there p (places_at s.at s.order of.0.key) ≡ true =
-                subst (λ q. is_there p (places_at s.at s.order q) ≡ true) (sym of.2) there in
-                let front : is_there p (take k (places_at s.at s.order of.0.key)) ≡ true =
-                elim
-                (or_cases (is_there p (take k (places_at s.at s.order of.0.key)))
-                (is_there p (drop k (places_at s.at s.order of.0.key)))
-                (sym (there_parts k p (places_at s.at s.order of.0.key)) ∙ there_c)) [
-                  | inl f ↦ f
-                  | inr b ↦
-                      absurd (both_ways (is_lost_by s.at s.flag s.order job of.0) (safe of.0 of.1)
-                      (list_any-Has s.flag (drop k (places_at s.at s.order of.0.key)) p flag (there_Has p (drop k (places_at s.at s.order of.0.key)) b)))
-                ] in
-                let then_c : is_there p (take (fitting (wants_at (map then s.order) of.0.key)) (places_at then s.order of.0.key)) ≡ true =
-                ap (λ l. is_there p (take (fitting (wants_at (map then s.order) of.0.key)) l)) (places_changed job cs s.at s.order of.0.key)
-                ∙ ap (λ n. is_there p (take n (places_at s.at s.order of.0.key))) (sym (same_fitting of.0 of.1))
-                ∙ front in
-                subst (λ q. is_there p (take (fitting (wants_at (map then s.order) q)) (places_at then s.order q)) ≡ true) of.2 then_c
+                let lost = list_any-Has s.flag (drop k (places_at s.at s.order of.0.key)) p flag in
+                let has = there_Has p (drop k (places_at s.at s.order of.0.key)) in
+                let parts = there_parts k p (places_at s.at s.order of.0.key) in
+                let changed = places_changed job cs s.at s.order of.0.key in
+                grind (arith, common_steps, of.2, there, lost, has, parts, changed, safe of.0 of.1, same_fitting of.0 of.1)
 
     -- where a change takes one, one is lost
     some_is_lost : (c : Want) → Has cs c → is_lost_by s.at s.flag s.order job c ≡ true → list_any (λ p. s.flag p && not (stays p)) s.order ≡ true
@@ -270,18 +226,14 @@ module _ (s : State) (job : ℕ) (cs : List Want) (t : IsTable s) where
         let found = list_any-found s.flag (drop k (places_at s.at s.order c.key)) lost in
         let p : ℕ = found.0 in
         let behind : is_there p (drop k (places_at s.at s.order c.key)) ≡ true = Has-there (drop k (places_at s.at s.order c.key)) p found.1 in
-        let there : is_there p (places_at s.at s.order c.key) ≡ true =
-        there_parts k p (places_at s.at s.order c.key)
-        ∙ or_true (is_there p (take k (places_at s.at s.order c.key))) (is_there p (drop k (places_at s.at s.order c.key)))
-        behind in
+        let there : is_there p (places_at s.at s.order c.key) ≡ true = grind (arith, common_steps, there_parts k p (places_at s.at s.order c.key), behind) in
         let both = there_kept (λ x. names (s.at x).wants.items c.key) p s.order there in
         let of = names-found (then p).wants.items c.key (named_changed job cs (s.at p) c.key ∙ both.1) in
         let once : StandsOnce (places_at s.at s.order c.key) = stands_filter (λ x. names (s.at x).wants.items c.key) s.order t.kept.once in
         let out : is_there p (take k (places_at s.at s.order c.key)) ≡ false = not_in_both k p (places_at s.at s.order c.key) once behind in
         let then_c : is_there p (take (fitting (wants_at (map then s.order) c.key)) (places_at then s.order c.key)) ≡ false =
         ap (λ l. is_there p (take (fitting (wants_at (map then s.order) c.key)) l)) (places_changed job cs s.at s.order c.key)
-        ∙ ap (λ n. is_there p (take n (places_at s.at s.order c.key))) (sym (same_fitting c h))
-        ∙ out in
+        ∙ ap (λ n. is_there p (take n (places_at s.at s.order c.key))) (sym (same_fitting c h)) ∙ out in
         let here : is_there p (take (fitting (wants_at (map then s.order) of.0.key)) (places_at then s.order of.0.key)) ≡ false =
         subst (λ q. is_there p (take (fitting (wants_at (map then s.order) q)) (places_at then s.order q)) ≡ false) (sym of.2) then_c in
         let falls : stays p ≡ false =
@@ -290,10 +242,6 @@ module _ (s : State) (job : ℕ) (cs : List Want) (t : IsTable s) where
         (list_all-Has (λ w. is_there p (take (fitting (wants_at (map then s.order) w.key)) (places_at then s.order w.key)))
         (then p).wants.items of.0 all of.1)) in
         list_any-Has (λ p. s.flag p && not (stays p)) s.order p (ap (λ b. b && not (stays p)) found.2 ∙ ap not falls) (there_Has p s.order both.0)
-      where
-        or_true : (a b : Bool) → b ≡ true → (a || b) ≡ true
-        or_true true b e = refl
-        or_true false b e = e
 
     -- so the changes tell
     pub changes_tell : list_any (is_lost_by s.at s.flag s.order job) cs ≡ some_lost (map s.at s.order) (with_changes (map s.at s.order) job cs)

@@ -1,8 +1,8 @@
 -- Wants are found by their keys and leave.
-use Rattle.std.proofs.Common.{◌≡◌, ◌<◌, ◌∙◌, sym, ap, subst, ℕ, zero, suc, Bool, true, false, ◌==◌, ◌||◌, not, List}
-use Rattle.std.proofs.Common.{[], ◌∷◌, length, get_or, filter, slice_get, Some, refl, arith}
+use Rattle.std.proofs.Common.{◌≡◌, ◌<◌, ◌∙◌, sym, ap, subst, ℕ, zero, suc, true, false, ◌==◌, not, List}
+use Rattle.std.proofs.Common.{[], ◌∷◌, length, get_or, filter, slice_get, Some, arith}
 use Rattle.std.specs.List.{list_all, position_or_len, remove}
-use Rattle.std.proofs.lemmas.Bool.{both_ways, false_from_ne_true, false≢true, and_parts, ne_eqb}
+use Rattle.std.proofs.lemmas.Bool.{both_ways, and_parts}
 use Rattle.lock_queue.specs.declared.key.Key.{Key}
 use Rattle.lock_queue.specs.declared.want.Want.{Want}
 use Rattle.lock_queue.specs.Dequeues.{has_wants, with_wants}
@@ -18,18 +18,14 @@ use Rattle.table_reads.specs.Filing.{state_of}
 use Rattle.key_queues.specs.States.{State, Stands, IsTable, IsUsed, LosesWant}
 use Rattle.key_queues.specs.Tables.{is_there, QueuesOf}
 use Rattle.key_queues.proofs.Using.{position_found, queue_of_want, as_many_queues}
-use Rattle.key_queues.proofs.Opening.{used_open}
 use Rattle.lock_table.specs.Departures.{without_key, IsWantOf}
 use Rattle.key_queues.specs.Opened.{is_open_for}
 use Rattle.lock_table.proofs.Entered.{apart_at}
 use Rattle.key_queues.proofs.Finding.{open_parts}
-use Rattle.lock_table.proofs.Readied.{open_for_from}
-
-filter_all : (f : Want → Bool) (ws : List Want) → list_all f ws ≡ true → filter f ws ≡ ws
-filter_all f [] h = refl
-filter_all f (w ∷ ws) h =
-    let parts = and_parts (f w) (list_all f ws) h in
-    rw parts.0 (ap (λ l. w ∷ l) (filter_all f ws parts.1))
+use Rattle.lock_table.proofs.Altering.{filter_each}
+use Rattle.lock_queue.proofs.Lists.{list_all-Has}
+use Rattle.lock_table.proofs.Writing.{open_named}
+use Rattle.std.proofs.lemmas.Grind.{common_steps}
 
 -- without the want of a key, where the keys are apart
 pub remove_key : (ws : List Want) (k : ℕ) (key : Key) → are_apart ws ≡ true → k < length ws → (get_or ws k unused_want).key ≡ key
@@ -37,38 +33,27 @@ pub remove_key : (ws : List Want) (k : ℕ) (key : Key) → are_apart ws ≡ tru
 remove_key [] k key h lt e = absurd (omega arith)
 remove_key (w ∷ ws) zero key h lt e =
     let parts = and_parts (list_all (λ v. not (same_key w.key v.key)) ws) (are_apart ws) h in
-    let mine : same_key key w.key ≡ true = eq-same_key key w.key (sym e) in
-    let rest : filter (λ v. not (same_key key v.key)) ws ≡ ws =
-    filter_all (λ v. not (same_key key v.key)) ws (subst (λ j. list_all (λ v. not (same_key j v.key)) ws ≡ true) e parts.0) in
-    rw mine (sym rest)
+    let rest =
+    filter_each (λ v. not (same_key key v.key)) ws
+    (λ v h. list_all-Has (λ v. not (same_key key v.key)) ws v (subst (λ j. list_all (λ v. not (same_key j v.key)) ws ≡ true) e parts.0) h) in
+    grind (arith, common_steps, eq-same_key key w.key, rest)
 remove_key (w ∷ ws) (suc k) key h lt e =
-    let parts = and_parts (list_all (λ v. not (same_key w.key v.key)) ws) (are_apart ws) h in
-    let within : k < length ws = omega (arith, lt) in
-    let apart : same_key w.key key ≡ false =
-    subst (λ j. same_key w.key j ≡ false) e (apart_at (w ∷ ws) zero (suc k) unused_want h (omega arith) lt) in
-    let other : same_key key w.key ≡ false =
-    false_from_ne_true (same_key key w.key) (λ u. both_ways (same_key w.key key) apart (same_key-swap key w.key u)) in
-    let rest = remove_key ws k key parts.1 within e in
-    rw other (ap (λ l. w ∷ l) rest)
+    grind (arith, common_steps, apart_at (w ∷ ws) zero (suc k) unused_want h (omega arith) lt, same_key-swap key w.key, remove_key ws k key)
 
 -- the k-th want has the key of the k-th queue
 key_at : (key : ℕ → Key) (ws : List Want) (ns : List ℕ) (k n : ℕ) → QueuesOf (λ w m. key m ≡ w.key) ws ns
     → slice_get ns k ≡ Some n
     → (get_or ws k unused_want).key ≡ key n
 key_at key [] [] k n q e = cc
-key_at key (w ∷ ws) (m ∷ ns) zero n q e = let same : m ≡ n = cc in sym q.0 ∙ ap key same
+key_at key (w ∷ ws) (m ∷ ns) zero n q e = grind (arith, common_steps)
 key_at key (w ∷ ws) (m ∷ ns) (suc k) n q e = key_at key ws ns k n q.1 e
 key_at key [] (m ∷ ns) k n q e = absurd q
 key_at key (w ∷ ws) [] k n q e = absurd q
 
-named_first : (b : Bool) → (b || false) ≡ true → b ≡ true
-named_first true h = refl
-named_first false h = absurd (false≢true h)
-
 -- the only want is that of the key which is named
 only_named : (ws : List Want) (key : Key) → names ws key ≡ true → length ws ≡ 1 → (get_or ws 0 unused_want).key ≡ key
-only_named [] key h e = absurd (false≢true h)
-only_named (w ∷ []) key h e = same_key-eq w.key key (named_first (same_key w.key key) h)
+only_named [] key h e = grind (arith, common_steps)
+only_named (w ∷ []) key h e = grind (arith, common_steps, same_key-eq w.key key)
 only_named (w ∷ v ∷ ws) key h e = absurd (omega (arith, e))
 
 module _ (store : Stored) (locks : List Lock) (p : ℕ) (key : Key) where
@@ -116,10 +101,8 @@ module _ (store : Stored) (locks : List Lock) (p : ℕ) (key : Key) where
       → ((n : ℕ) → is_open_for key (lock_at locks n) ≡ false)
       → ⊥
   key_lost table present named none =
-      let s : State = state_of store locks in
-      let m = own_of_key table present named in
-      both_ways (is_open_for key (lock_at locks m.0)) (none m.0)
-      (open_for_from key (lock_at locks m.0) (used_open s p m.0 table.kept m.1) m.2)
+      let m = open_named store locks p key table.kept present named in
+      both_ways _ (none m.0) m.1
 
 -- what is left of a request that gave up the want of a key
 pub key_given : (store later : Stored) (locks more : List Lock) (p k : ℕ) (key : Key)
@@ -141,10 +124,5 @@ pub none_left : (store : Stored) (locks : List Lock) (p : ℕ) → IsTable (stat
     → has_wants (filed_at store p).request ≡ false
     → length (filed_at store p).queues.items ≡ 0
 none_left store locks p table present none =
-    let s : State = state_of store locks in
-    let few = as_many_queues (λ w n. s.key n ≡ w.key) (s.at p).wants.items (s.own p) (table.kept.queues p present) in
-    sym few ∙ go (length (filed_at store p).request.wants.items) none
-  where
-    go : (n : ℕ) → not (n == 0) ≡ false → n ≡ 0
-    go zero e = refl
-    go (suc n) e = absurd (both_ways (not (suc n == 0)) e (ap not (ne_eqb (suc n) 0 (λ z. absurd (omega arith)))))
+    let few = as_many_queues (λ w n. (lock_at locks n).key ≡ w.key) (filed_at store p).request.wants.items (filed_at store p).queues.items (table.kept.queues p present) in
+    grind (arith, common_steps, few)

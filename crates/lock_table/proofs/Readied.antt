@@ -2,7 +2,7 @@
 use Rattle.std.proofs.Common.{◌*◌, ◌≤◌, ◌≡◌, ◌<◌, ◌∙◌, sym, ap, subst, ℕ, Bool, true, false, ◌&&◌, ◌==◌, List, [], ◌∷◌, length}
 use Rattle.std.proofs.Common.{Option, Some, None, inl, inr, refl, arith, length-append}
 use Rattle.std.specs.List.{list_any}
-use Rattle.std.proofs.lemmas.Bool.{both_ways, eq-eqb, cases_eq, or_left, false≢true, not-true, not-false}
+use Rattle.std.proofs.lemmas.Bool.{both_ways, eq-eqb, cases_eq, or_left, false≢true, not-true, not-false, false_from_ne_true}
 use Rattle.std.proofs.lemmas.List.Folds.{list_any-append}
 use Rattle.word36.specs.declared.sizes.TheConstants.{JOBS, LOCKS_A_CALL}
 use Rattle.lock_queue.specs.declared.key.Key.{Key}
@@ -163,17 +163,13 @@ module _ (store : Stored) (locks : List Lock) (p : ℕ) (wants : List Want) (k :
           (open_for_from w.key (lock_at locks m) (used_open s x m a.kept st) e)
 
       none : list_any (λ x. names (s.at x).wants.items w.key) store.order ≡ false
-      none = go (list_any (λ x. names (s.at x).wants.items w.key) store.order) refl
-        where
-          go : (b : Bool) → list_any (λ x. names (s.at x).wants.items w.key) store.order ≡ b → b ≡ false
-          go false e = refl
-          go true e =
-              let found = list_any-found (λ x. names (s.at x).wants.items w.key) store.order e in
-              let x : ℕ = found.0 in
-              let of = names-found (s.at x).wants.items w.key found.2 in
-              let present : is_there x store.order ≡ true = Has-there store.order x found.1 in
-              let m = queue_of_want s.key (s.at x).wants.items (s.own x) of.0 (a.kept.queues x present) of.1 in
-              absurd (nobody x m.0 (record { present = present; there = m.1 }) (m.2 ∙ of.2))
+      none = false_from_ne_true (list_any (λ x. names (s.at x).wants.items w.key) store.order) (λ e.
+          let found = list_any-found (λ x. names (s.at x).wants.items w.key) store.order e in
+          let x : ℕ = found.0 in
+          let of = names-found (s.at x).wants.items w.key found.2 in
+          let present : is_there x store.order ≡ true = Has-there store.order x found.1 in
+          let m = queue_of_want s.key (s.at x).wants.items (s.own x) of.0 (a.kept.queues x present) of.1 in
+          nobody x m.0 (record { present = present; there = m.1 }) (m.2 ∙ of.2))
 
       ready : IsReady t w n
       ready = record {

@@ -1,18 +1,17 @@
 -- The wants of a queue, once a job's is changed.
-use Rattle.std.proofs.Common.{◌≡◌, ◌<◌, ◌∙◌, sym, ap, subst, ℕ, zero, suc, Bool, true, false, ◌&&◌, ◌||◌, ◌==◌, not, cond, List, []}
-use Rattle.std.proofs.Common.{◌∷◌, length, take, drop, get_or, map, filter, Option, Some, None, is_some, refl}
+use Rattle.std.proofs.Common.{◌≡◌, ◌<◌, ◌∙◌, sym, ap, subst, ℕ, zero, suc, Bool, true, false, ◌==◌, cond, List, [], arith}
+use Rattle.std.proofs.Common.{◌∷◌, length, take, drop, get_or, map, filter, Option, None, is_some, refl}
 use Rattle.std.specs.List.{All, list_all, list_any, position_or_len}
-use Rattle.std.proofs.lemmas.Bool.{and_from, and_parts, both_ways, eq-eqb, eqb-true, false_from_ne_true, not-true, or_right}
-use Rattle.std.proofs.lemmas.List.{get_or_read}
+use Rattle.std.proofs.lemmas.Bool.{both_ways, eq-eqb, eqb-true, false_from_ne_true, or_right}
+use Rattle.std.proofs.lemmas.List.{get_or_read, map-id}
 use Rattle.lock_queue.specs.declared.key.Key.{Key}
 use Rattle.lock_queue.specs.declared.request.Request.{Request}
 use Rattle.lock_queue.specs.declared.want.Want.{Want}
-use Rattle.lock_queue.specs.Changes.{changed_group, changed_want}
+use Rattle.lock_queue.specs.Changes.{changed_want}
 use Rattle.lock_queue.specs.Keys.{same_key}
 use Rattle.lock_queue.specs.Pools.{PoolShare}
 use Rattle.lock_queue.specs.Queue.{all_wants, is_pooled, names, requests_of, wants_at}
-use Rattle.lock_queue.specs.Unused.{unused_want}
-use Rattle.lock_queue.specs.WellFormed.{are_apart, are_right_wants, is_in_range, is_well_formed, shares_rightly}
+use Rattle.lock_queue.specs.WellFormed.{shares_rightly}
 use Rattle.lock_queue.proofs.Fitting.{eq-same_key, names-found, same_key-eq}
 use Rattle.lock_queue.proofs.Lists.{Has, filter-Has, Has-filter, Has-flat_map, Has-map, list_all-Has, list_any-Has, list_any-found}
 use Rattle.key_queues.specs.declared.lock.Lock.{Lock}
@@ -31,16 +30,13 @@ use Rattle.table_reads.specs.Filing.{state_of, want_filed}
 use Rattle.table_reads.specs.Reads.{request_at}
 use Rattle.table_reads.specs.Whole.{AreRight, requests_in}
 use Rattle.lock_table.specs.Changing.{IsFreeAt, SparesPools, changed_by, changed_once, fitting_then, loses_by, want_then}
-use Rattle.lock_table.proofs.Altering.{apart_changed, map_each, map_id, named_once, own_of_changed}
+use Rattle.lock_table.proofs.Altering.{apart_changed, map_each, named_once, own_of_changed}
 use Rattle.lock_table.proofs.Losing.{not_in_both, places_changed, there_Has, there_parts, wants_same_there}
+use Rattle.std.proofs.lemmas.Grind.{common_steps}
 
 -- a change keeps the pool
 pub then_pool : (s : Stored) (n job : ℕ) (c : Want) (p : ℕ) → (want_then s n job c p).pool ≡ (want_filed s p n).pool
-then_pool s n job c p = go ((request_at s p).job == job)
-  where
-    go : (b : Bool) → (cond b (changed_by c (want_filed s p n)) (want_filed s p n)).pool ≡ (want_filed s p n).pool
-    go true = refl
-    go false = refl
+then_pool s n job c p = grind (arith, common_steps)
 
 -- the want of a place in a queue that it stands in
 pub record IsWantedAt (s : Stored) (n p : ℕ) (key : Key) : Type 0 where
@@ -106,17 +102,8 @@ module _ (s : Stored) (locks : List Lock) (n : ℕ) (kept : IsKept (state_of s l
     want_is : (p : ℕ) → Has (lock_at locks n).queue.places p → want_of (lock_at locks n).key (changed_once job c (request_at s p)) ≡ want_then s n job c p
     want_is p h =
         let w = wanted_at p (Has-there (lock_at locks n).queue.places p h) in
-        let v : Want = want_filed s p n in
-        ap (λ l. get_or l 0 unused_want) (own_of_changed job (c ∷ []) (request_at s p) (lock_at locks n).key
-        ∙ ap (λ l. cond ((request_at s p).job == job) (map (changed_want (c ∷ [])) l) l) w.one)
-        ∙ go ((request_at s p).job == job)
-        ∙ ap (λ u. cond ((request_at s p).job == job) u v) (named_once c v (w.key_is ∙ key))
-      where
-        go : (b : Bool)
-            → get_or (cond b (changed_want (c ∷ []) (want_filed s p n) ∷ []) (want_filed s p n ∷ [])) 0 unused_want
-            ≡ cond b (changed_want (c ∷ []) (want_filed s p n)) (want_filed s p n)
-        go true = refl
-        go false = refl
+        let own = own_of_changed job (c ∷ []) (request_at s p) (lock_at locks n).key in
+        grind (arith, common_steps, own, w.one, named_once c (want_filed s p n) (w.key_is ∙ key))
 
     pub wants_then : wants_at (map (λ x. changed_once job c (request_at s x)) s.order) c.key ≡ map (want_then s n job c) (lock_at locks n).queue.places
     wants_then =
@@ -139,8 +126,7 @@ module _ (s : Stored) (locks : List Lock) (n : ℕ) (kept : IsKept (state_of s l
         (ap (places_at (request_at s) s.order) (sym key) ∙ sym counts.places)
 
 pub no_size : (o : Option ℕ) → is_some o ≡ false → o ≡ None
-no_size None e = refl
-no_size (Some n) e = cc
+no_size o e = grind (arith, common_steps)
 
 pub drop_none : (k : ℕ) → drop {A = ℕ} k [] ≡ []
 drop_none zero = refl
@@ -148,12 +134,12 @@ drop_none (suc k) = refl
 
 -- ---- pools
 
+pub share_pooled : (size : Option ℕ) (o : Option PoolShare) → is_some size ≡ true → is_share_of size o ≡ true → is_some o ≡ true
+share_pooled size o a b = grind (arith, common_steps)
+
 -- a want that is exclusive stays so
 still_exclusive : (c w : Want) → c.shared ≡ false → w.shared ≡ false → changed_by c w ≡ w
-still_exclusive c w cs ws =
-    ap (λ b. record w { shared = b; group = changed_group b w }) cs
-    ∙ ap (λ b. record w { shared = false; group = cond b 0 w.group }) ws
-    ∙ ap (λ b. record w { shared = b; group = w.group }) (sym ws)
+still_exclusive c w cs ws = grind (arith, common_steps)
 
 module _ (s : Stored) (job : ℕ) (c : Want) (right : AreRight s) (spares : SparesPools s job c) where
   -- a pool's want of the job stays as it is
@@ -167,25 +153,10 @@ module _ (s : Stored) (job : ℕ) (c : Want) (right : AreRight s) (spares : Spar
       let there : Has (wants_at (requests_of (requests_in s) job) c.key) w =
       Has-filter (λ v. same_key v.key c.key) (all_wants (requests_of (requests_in s) job)) w (eq-same_key w.key c.key e)
       (Has-flat_map (λ (q : Request). q.wants.items) (requests_of (requests_in s) job) (request_at s x) w in_rs h) in
-      let some : list_any is_pooled (wants_at (requests_of (requests_in s) job) c.key) ≡ true =
-      list_any-Has is_pooled (wants_at (requests_of (requests_in s) job) c.key) w pooled there in
-      let unshared : c.shared ≡ false =
-      false_from_ne_true c.shared
-      (λ t. both_ways (c.shared && list_any is_pooled (wants_at (requests_of (requests_in s) job) c.key)) spares
-      (and_from c.shared _ t some)) in
-      let rightly : shares_rightly w ≡ true =
-      list_all-Has shares_rightly (request_at s x).wants.items w (parts_of_right (request_at s x) (right x present)) h in
-      let parts = and_parts (not (w.shared && is_pooled w)) (w.shared || w.group == 0) rightly in
-      let exclusive : w.shared ≡ false =
-      false_from_ne_true w.shared
-      (λ t. both_ways (w.shared && is_pooled w) (not-true (w.shared && is_pooled w) parts.0)
-      (and_from w.shared (is_pooled w) t pooled)) in
-      still_exclusive c w unshared exclusive
-    where
-      parts_of_right : (r : Request) → is_well_formed r ≡ true → list_all shares_rightly r.wants.items ≡ true
-      parts_of_right r h =
-          let wants = (and_parts _ (are_right_wants r.wants.items) h).1 in
-          (and_parts (list_all is_in_range r.wants.items) (list_all shares_rightly r.wants.items) (and_parts _ (are_apart r.wants.items) wants).0).1
+      let some = list_any-Has is_pooled (wants_at (requests_of (requests_in s) job) c.key) w pooled there in
+      let rightly : list_all shares_rightly (request_at s x).wants.items ≡ true = grind (arith, common_steps, right x present) in
+      let one = list_all-Has shares_rightly (request_at s x).wants.items w rightly h in
+      grind (arith, common_steps, some, spares, one, pooled, still_exclusive c w)
 
 module _ (s : Stored) (locks : List Lock) (n : ℕ) (job : ℕ) (c : Want) (t : IsTable (state_of s locks)) (right : AreRight s) (spares : SparesPools s job c)
     (used : IsUsed (state_of s locks) n) (key : (lock_at locks n).key ≡ c.key) (pooled : is_some (lock_at locks n).size ≡ true) where
@@ -193,11 +164,6 @@ module _ (s : Stored) (locks : List Lock) (n : ℕ) (job : ℕ) (c : Want) (t : 
   pool_once : (x : ℕ) → is_there x s.order ≡ true → own_wants c.key (changed_once job c (request_at s x)) ≡ own_wants c.key (request_at s x)
   pool_once x present = own_of_changed job (c ∷ []) (request_at s x) c.key ∙ go ((request_at s x).job == job) refl
     where
-      share_pooled : (size : Option ℕ) (o : Option PoolShare) → is_some size ≡ true → is_share_of size o ≡ true → is_some o ≡ true
-      share_pooled (Some k) (Some share) a b = refl
-      share_pooled (Some k) None a b = cc
-      share_pooled None o a b = cc
-
       go : (b : Bool) → ((request_at s x).job == job) ≡ b
           → cond b (map (changed_want (c ∷ [])) (own_wants c.key (request_at s x))) (own_wants c.key (request_at s x))
           ≡ own_wants c.key (request_at s x)
@@ -209,7 +175,7 @@ module _ (s : Stored) (locks : List Lock) (n : ℕ) (job : ℕ) (c : Want) (t : 
           named_once c w at
           ∙ pool_stays s job c right spares x w present (eqb-true (request_at s x).job job e) has.1 at
           (share_pooled (lock_at locks n).size w.pool pooled (pool_of s locks n t.kept used x w present has.1 (at ∙ sym key))))
-          ∙ map_id (own_wants c.key (request_at s x))
+          ∙ map-id (own_wants c.key (request_at s x))
       go false e = refl
 
   pub pool_keeps : loses_by s job c ≡ false

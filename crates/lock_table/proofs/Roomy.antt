@@ -2,12 +2,13 @@
 use Rattle.std.proofs.Common.{◌≡◌, ◌≤◌, ◌<◌, ◌+◌, ◌*◌, ◌∙◌, sym, ap, subst, ℕ, zero, suc, Bool, true, false, ◌==◌, List, []}
 use Rattle.std.proofs.Common.{◌∷◌, ◌++◌, length, get_or, inl, inr, refl, arith, length-append}
 use Rattle.std.specs.List.{list_any}
-use Rattle.std.proofs.lemmas.Bool.{or_parts, or_left, or_right, or_cases, eq-eqb, eqb-true}
+use Rattle.std.proofs.lemmas.Bool.{or_left, or_right, or_cases, eq-eqb, eqb-true}
 use Rattle.std.proofs.lemmas.List.Folds.{list_any-append}
 use Rattle.word36.specs.declared.sizes.TheConstants.{LOCKS_A_CALL}
 use Rattle.key_queues.specs.Tables.{is_there}
 use Rattle.key_queues.proofs.Keeping.{split_there}
 use Rattle.key_queues.proofs.Opening.{there_around}
+use Rattle.std.proofs.lemmas.Grind.{common_steps}
 
 -- a list that has all numbers below a bound is at least so long
 pub covers : (n : ℕ) (xs : List ℕ) → ((k : ℕ) → k < n → is_there k xs ≡ true) → n ≤ length xs
@@ -49,5 +50,5 @@ owned_few own (x ∷ before) p short =
 pub none_at : {X : Type 0} → (t : X → Bool) (xs : List X) (k : ℕ) (d : X) → list_any t xs ≡ false → k < length xs
     → t (get_or xs k d) ≡ false
 none_at t [] k d h lt = absurd (omega arith)
-none_at t (x ∷ xs) zero d h lt = (or_parts (t x) (list_any t xs) h).0
-none_at t (x ∷ xs) (suc k) d h lt = none_at t xs k d (or_parts (t x) (list_any t xs) h).1 (omega arith)
+none_at t (x ∷ xs) zero d h lt = grind (arith, common_steps)
+none_at t (x ∷ xs) (suc k) d h lt = grind (arith, common_steps, none_at t xs k d)

@@ -1,12 +1,9 @@
 -- A job's only request leaves, whose only want is the only one that is named.
-use Rattle.std.proofs.Common.{◌≡◌, ◌≢◌, ◌∙◌, sym, ap, subst, ℕ, true, false, not, ◌||◌, ◌==◌, cond, List, [], ◌∷◌}
-use Rattle.std.proofs.Common.{length, filter, map, None, inl, inr, refl, arith, append-nil}
-use Rattle.std.proofs.lemmas.Bool.{cases_eq, eq-eqb, eqb-true, false_from_ne_true, or_left, or_cases}
+use Rattle.std.proofs.Common.{◌≡◌, ◌≢◌, ◌∙◌, sym, ap, subst, ℕ, true, false, not, ◌==◌, List, [], ◌∷◌}
+use Rattle.std.proofs.Common.{length, filter, map, None, arith, append-nil}
 use Rattle.lock_queue.specs.declared.refusal.Refusal.TheVariants.{NotPresent}
-use Rattle.lock_queue.specs.declared.request.Request.{Request}
 use Rattle.lock_queue.specs.declared.want.Want.{Want}
-use Rattle.lock_queue.specs.Dequeues.{dequeue_fault, has_wants, with_wants}
-use Rattle.lock_queue.specs.Keys.{same_key}
+use Rattle.lock_queue.specs.Dequeues.{dequeue_fault, has_wants}
 use Rattle.lock_queue.specs.Outcomes.{first_refusal, or_else, refuse_if}
 use Rattle.lock_queue.specs.Queue.{all_wants, names, wants_of}
 use Rattle.lock_queue.proofs.Fitting.{same_key-swap}
@@ -19,46 +16,30 @@ use Rattle.table_reads.proofs.Reading.{requests_of_places}
 use Rattle.lock_table.specs.Departures.{IsLeft, IsSoleNamed, left_named, request_at, stays_beside}
 use Rattle.lock_table.proofs.Choosing.{left_next, left_none}
 use Rattle.lock_table.proofs.Named.{some_wants}
+use Rattle.std.proofs.lemmas.Grind.{common_steps}
 
 -- the only want is given up
 none_left : (ws : List Want) (w : Want) → length ws ≡ 1 → names ws w.key ≡ true → filter (λ v. not (names (w ∷ []) v.key)) ws ≡ []
 none_left [] w one h = absurd (omega arith)
-none_left (v ∷ []) w one h =
-    let same : same_key v.key w.key ≡ true = elim (or_cases (same_key v.key w.key) false h) [ inl e ↦ e | inr e ↦ cc ] in
-    ap (λ b. cond (not (b || false)) (v ∷ []) []) (same_key-swap v.key w.key same)
+none_left (v ∷ []) w one h = grind (arith, common_steps, same_key-swap v.key w.key)
 none_left (v ∷ u ∷ ws) w one h = absurd (omega arith)
 
 module _ (s : Stored) (job : ℕ) (named : List Want) (p : ℕ) (is : IsSoleNamed s job named p) where
   both : (is_there p s.order ≡ true) × (((request_at s p).job == job) ≡ true)
-  both =
-      there_kept (λ x. (request_at s x).job == job) p s.order
-      (subst (λ l. is_there p l ≡ true) (sym is.sole.own) (or_left (p == p) false (eq-eqb p p refl)))
+  both = grind (arith, common_steps, is.sole.own, there_kept (λ x. (request_at s x).job == job) p s.order)
 
   pub sole_present : is_there p s.order ≡ true
   sole_present = both.0
 
   -- the others are of other jobs
   others_of : (x : ℕ) → is_there x s.order ≡ true → x ≢ p → ((request_at s x).job == job) ≡ false
-  others_of x there ne =
-      false_from_ne_true ((request_at s x).job == job)
-      (λ h.
-      let here : is_there x (p ∷ []) ≡ true = ap (is_there x) (sym is.sole.own) ∙ kept_there (λ y. (request_at s y).job == job) x s.order there h in
-      elim (or_cases (p == x) false here) [ inl e ↦ ne (sym (eqb-true p x e)) | inr e ↦ absurd cc ])
+  others_of x there ne = grind (arith, common_steps, is.sole.own, kept_there (λ y. (request_at s y).job == job) x s.order there)
 
   mine_left : has_wants (left_named s job named p) ≡ false
-  mine_left =
-      ap (λ l. has_wants (left_named s job l p)) is.named_is
-      ∙ ap
-      (λ b. has_wants
-      (cond b (with_wants (request_at s p) (filter (λ v. not (names (is.want ∷ []) v.key)) (request_at s p).wants.items))
-      (request_at s p))) both.1
-      ∙ ap (λ (l : List Want). not (length l == 0)) (none_left (request_at s p).wants.items is.want is.sole.one is.sole.named)
+  mine_left = grind (arith, common_steps, both, is.named_is, none_left (request_at s p).wants.items is.want is.sole.one is.sole.named)
 
   other_left : (x : ℕ) → is_there x s.order ≡ true → x ≢ p → left_named s job named x ≡ request_at s x
-  other_left x there ne =
-      ap
-      (λ b. cond b (with_wants (request_at s x) (filter (λ v. not (names named v.key)) (request_at s x).wants.items))
-      (request_at s x)) (others_of x there ne)
+  other_left x there ne = grind (arith, common_steps, others_of x there ne)
 
   pub sole_left : (t : Stored) → AreRight s → StandsOnce s.order → t.order ≡ without_place s.order p
       → ((x : ℕ) → (x ≡ p → ⊥) → (filed_at t x).request ≡ (filed_at s x).request)
@@ -75,16 +56,10 @@ module _ (s : Stored) (job : ℕ) (named : List Want) (p : ℕ) (is : IsSoleName
       left = left_next s s t [] p once (left_none s) order once others
 
       beside_not : (x : ℕ) → x ≡ p → stays_beside (p ∷ []) x ≡ true → ⊥
-      beside_not x e h = let out : not ((p == x) || false) ≡ false = ap (λ b. not (b || false)) (eq-eqb p x (sym e)) in absurd (cc)
+      beside_not x e h = grind (arith, common_steps)
 
       stays : (x : ℕ) → is_there x s.order ≡ true → stays_beside (p ∷ []) x ≡ has_wants (left_named s job named x)
-      stays x there =
-          elim (cases_eq x p) [
-            | inl e ↦ ap (λ b. not (b || false)) (eq-eqb p x (sym e)) ∙ sym (ap (λ y. has_wants (left_named s job named y)) e ∙ mine_left)
-            | inr ne ↦
-                let apart : (p == x) ≡ false = false_from_ne_true (p == x) (λ h. ne (sym (eqb-true p x h))) in
-                ap (λ b. not (b || false)) apart ∙ sym (ap (λ (r : Request). has_wants r) (other_left x there ne) ∙ some_wants (request_at s x) (right x there))
-          ]
+      stays x there = grind (arith, common_steps, other_left x there, mine_left, some_wants (request_at s x) (right x there))
 
   -- the call is not refused
   pub sole_passes : first_refusal (dequeue_fault (requests_in s) job) [] named ≡ None

@@ -1,49 +1,44 @@
 -- Changes that are not refused are sound, and stay so while others are made.
-use Rattle.std.proofs.Common.{◌≡◌, ◌∙◌, sym, ap, subst, ℕ, zero, suc, Bool, true, false, ◌&&◌, ◌||◌, ◌==◌, not, cond, List, [], ◌∷◌}
-use Rattle.std.proofs.Common.{◌++◌, drop, map, filter, Option, Some, None, is_some, inl, inr, refl, arith}
+use Rattle.std.proofs.Common.{◌≡◌, ◌∙◌, sym, ap, subst, ℕ, zero, suc, Bool, true, false, ◌&&◌, ◌==◌, not, cond, List, [], ◌∷◌}
+use Rattle.std.proofs.Common.{◌++◌, drop, map, None, is_some, inl, inr, refl, arith}
 use Rattle.std.specs.List.{All, list_all, list_any}
-use Rattle.std.proofs.lemmas.Bool.{and_from, and_parts, both_ways, eq-eqb, eqb-true, false_from_ne_true, not-false, not-true, or_left, or_parts, or_right}
+use Rattle.std.proofs.lemmas.Bool.{and_from, and_parts, both_ways, eqb-true, false_from_ne_true, not-false, not-true, or_left, or_right}
 use Rattle.lock_queue.specs.declared.request.Request.{Request}
 use Rattle.lock_queue.specs.declared.want.Want.{Want}
 use Rattle.lock_queue.specs.Changes.{changed, changed_want, modify_fault}
 use Rattle.lock_queue.specs.Dequeues.{with_wants}
 use Rattle.lock_queue.specs.Keys.{same_key}
 use Rattle.lock_queue.specs.Outcomes.{first_refusal}
-use Rattle.lock_queue.specs.Pools.{PoolShare}
 use Rattle.lock_queue.specs.Queue.{is_pooled, names, requests_of, wants_at, wants_of}
 use Rattle.lock_queue.specs.WellFormed.{are_apart}
-use Rattle.lock_queue.proofs.Fitting.{eq-same_key, names-Has, names-found, same_key-eq, same_key-swap}
-use Rattle.lock_queue.proofs.Lists.{Has, filter-Has, flat_map-Has, list_all-Has, list_all-each, map-Has}
+use Rattle.lock_queue.proofs.Fitting.{eq-same_key, names-found, same_key-eq, same_key-swap}
+use Rattle.lock_queue.proofs.Lists.{Has, list_all-Has, list_all-each}
 use Rattle.lock_queue.proofs.Refusing.{or_else-None, refuse_if-None}
 use Rattle.key_queues.specs.declared.lock.Lock.{Lock}
-use Rattle.key_queues.specs.Beginnings.{fitting, is_share_of}
+use Rattle.key_queues.specs.Beginnings.{fitting}
 use Rattle.key_queues.specs.Locks.{lock_at}
 use Rattle.key_queues.specs.States.{IsTable, IsUsed}
 use Rattle.key_queues.specs.Tables.{is_there, own_wants, places_at}
-use Rattle.key_queues.proofs.Keeping.{Has-there}
 use Rattle.key_queues.proofs.Opening.{used_same}
 use Rattle.request_store.specs.Stores.{Stored, filed_at}
 use Rattle.table_reads.specs.Filing.{state_of}
 use Rattle.table_reads.specs.Reads.{request_at}
 use Rattle.table_reads.specs.Whole.{AreRight, requests_in}
-use Rattle.lock_table.specs.Changing.{Altered, AreSound, IsAltering, IsSound, SparesPools, changed_by, changed_once, fitting_then, is_lost_by, loses_by}
-use Rattle.lock_table.proofs.Altering.{changed_then, job_changed, map_each, map_id, named_changed, named_once, own_of_changed, own_unnamed}
+use Rattle.lock_table.specs.Changing.{Altered, AreSound, IsAltering, IsSound, SparesPools, changed_once, fitting_then, is_lost_by, loses_by}
+use Rattle.lock_table.proofs.Altering.{changed_then, job_changed, map_each, named_changed, named_once, own_of_changed, own_unnamed}
 use Rattle.lock_table.proofs.Losing.{wants_same_there}
-use Rattle.lock_table.proofs.Recounting.{pool_of, pool_stays}
+use Rattle.lock_table.proofs.Recounting.{pool_of, pool_stays, share_pooled}
+use Rattle.std.proofs.lemmas.List.{map-id}
+use Rattle.request_store.proofs.Orders.{filter_same}
+use Rattle.lock_table.proofs.Named.{has_key}
+use Rattle.std.proofs.lemmas.Grind.{common_steps}
+use Rattle.std.proofs.lemmas.List.Folds.{list_any-append}
 
 -- ---- from no refusal
 
 not_before : (c : Want) (later earlier : List Want) (d : Want) → names (earlier ++ c ∷ []) d.key ≡ false
     → (names earlier d.key ≡ false) × (same_key c.key d.key ≡ false)
-not_before c later [] d f = (refl, (or_parts (same_key c.key d.key) false f).0)
-not_before c later (e ∷ earlier) d f =
-    let parts = or_parts (same_key e.key d.key) (names (earlier ++ c ∷ []) d.key) f in
-    let rest = not_before c later earlier d parts.1 in
-    (go (same_key e.key d.key) parts.0 rest.0, rest.1)
-  where
-    go : (b : Bool) → b ≡ false → names earlier d.key ≡ false → (b || names earlier d.key) ≡ false
-    go true x y = cc
-    go false x y = y
+not_before c later earlier d f = grind (arith, common_steps, list_any-append (λ (v : Want). same_key v.key d.key) earlier (c ∷ []))
 
 -- what no refusal says of each change
 record IsPassed (requests : List Request) (job : ℕ) (earlier : List Want) (c : Want) : Type 0 where
@@ -102,26 +97,9 @@ module _ (s : Stored) (locks : List Lock) (job : ℕ) (t : IsTable (state_of s l
   pub is_sound : (c : Want) → names (wants_of (requests_in s) job) c.key ≡ true → SparesPools s job c → loses_by s job c ≡ false
       → IsSound s locks job c
   is_sound c named spares safe =
-      let found = names-found (wants_of (requests_in s) job) c.key named in
-      let in_r = flat_map-Has (λ (r : Request). r.wants.items) (requests_of (requests_in s) job) found.0 found.1 in
-      let r : Request = in_r.0 in
-      let of = filter-Has (λ (q : Request). q.job == job) (requests_in s) r in_r.1 in
-      let from = map-Has (request_at s) s.order r of.1 in
-      let x : ℕ = from.0 in
-      record {
-        place = x;
-        present = Has-there s.order x from.1;
-        mine = ap (λ (q : Request). q.job) from.2 ∙ eqb-true r.job job of.0;
-        named = subst (λ (q : Request). names q.wants.items c.key ≡ true) (sym from.2) (names-Has r.wants.items c.key found.0 in_r.2 found.2);
-        spared = spared;
-        safe = safe;
-      }
+      let has = has_key s job c.key named in
+      record { place = has.place; present = has.present; mine = has.job_is; named = has.named; spared = spared; safe = safe }
     where
-      share_pooled : (size : Option ℕ) (o : Option PoolShare) → is_some size ≡ true → is_share_of size o ≡ true → is_some o ≡ true
-      share_pooled (Some k) (Some share) a b = refl
-      share_pooled (Some k) None a b = cc
-      share_pooled None o a b = cc
-
       spared : (n : ℕ) → (lock_at locks n).key ≡ c.key → is_some (lock_at locks n).size ≡ true → IsUsed (state_of s locks) n
           → (x : ℕ) → is_there x s.order ≡ true → changed_once job c (request_at s x) ≡ request_at s x
       spared n key pooled used x present = go ((request_at s x).job == job) refl
@@ -143,61 +121,28 @@ module _ (s : Stored) (locks : List Lock) (job : ℕ) (t : IsTable (state_of s l
           go true e =
               ap (with_wants (request_at s x))
               (map_each (changed_want (c ∷ [])) (λ w. w) (request_at s x).wants.items (each e)
-              ∙ map_id (request_at s x).wants.items)
+              ∙ map-id (request_at s x).wants.items)
           go false e = refl
 
 -- ---- still sound
 
 -- two changes of two keys, in either order
 swapped : (c d w : Want) → same_key c.key d.key ≡ false → changed_want (c ∷ d ∷ []) w ≡ changed_want (d ∷ c ∷ []) w
-swapped c d w apart = go (same_key w.key c.key) (same_key w.key d.key) refl refl
-  where
-    go : (a b : Bool) → same_key w.key c.key ≡ a → same_key w.key d.key ≡ b
-        → cond a (changed_by c w) (cond b (changed_by d w) w) ≡ cond b (changed_by d w) (cond a (changed_by c w) w)
-    go true true e f = absurd (both_ways (same_key c.key d.key) apart (subst (λ k. same_key k d.key ≡ true) (same_key-eq w.key c.key e) f))
-    go true false e f = refl
-    go false true e f = refl
-    go false false e f = refl
+swapped c d w apart = grind (arith, common_steps, same_key-eq w.key c.key)
 
 twice_swapped : (job : ℕ) (c d : Want) (r : Request) → same_key c.key d.key ≡ false
     → changed_once job d (changed_once job c r) ≡ changed_once job c (changed_once job d r)
 twice_swapped job c d r apart =
-    changed_then job c (d ∷ []) r (named_false d c other)
-    ∙ go (r.job == job)
-    ∙ sym (changed_then job d (c ∷ []) r (named_false c d apart))
-  where
-    other : same_key d.key c.key ≡ false
-    other = false_from_ne_true (same_key d.key c.key) (λ t. both_ways (same_key c.key d.key) apart (same_key-swap d.key c.key t))
-
-    named_false : (a b : Want) → same_key a.key b.key ≡ false → names (a ∷ []) b.key ≡ false
-    named_false a b f = ap (λ v. v || false) f
-
-    go : (b : Bool)
-        → cond b (with_wants r (map (changed_want (c ∷ d ∷ [])) r.wants.items)) r
-        ≡ cond b (with_wants r (map (changed_want (d ∷ c ∷ [])) r.wants.items)) r
-    go true = ap (with_wants r) (map_each (changed_want (c ∷ d ∷ [])) (changed_want (d ∷ c ∷ [])) r.wants.items (λ w h. swapped c d w apart))
-    go false = refl
+    let first = changed_then job c (d ∷ []) r in
+    let second = changed_then job d (c ∷ []) r in
+    let same = map_each (changed_want (c ∷ d ∷ [])) (changed_want (d ∷ c ∷ [])) r.wants.items (λ w h. swapped c d w apart) in
+    grind (arith, common_steps, first, second, same, same_key-swap d.key c.key)
 
 -- the wants of another key
 own_other : (job : ℕ) (c d : Want) (r : Request) → same_key c.key d.key ≡ false
     → own_wants d.key (changed_once job d (changed_once job c r)) ≡ own_wants d.key (changed_once job d r)
 own_other job c d r apart =
-    own_of_changed job (d ∷ []) (changed_once job c r) d.key
-    ∙ ap
-    (λ j. cond (j == job) (map (changed_want (d ∷ [])) (own_wants d.key (changed_once job c r)))
-    (own_wants d.key (changed_once job c r))) (job_changed job (c ∷ []) r)
-    ∙ ap (λ l. cond (r.job == job) (map (changed_want (d ∷ [])) l) l) (own_unnamed job (c ∷ []) r d.key (ap (λ v. v || false) apart))
-    ∙ sym (own_of_changed job (d ∷ []) r d.key)
-
-filter_there : (t u : ℕ → Bool) (xs : List ℕ) → ((x : ℕ) → is_there x xs ≡ true → t x ≡ u x) → filter t xs ≡ filter u xs
-filter_there t u [] same = refl
-filter_there t u (x ∷ xs) same =
-    ap (λ b. cond b (x ∷ filter t xs) (filter t xs)) (same x (or_left (x == x) (is_there x xs) (eq-eqb x x refl)))
-    ∙ ap (λ l. cond (u x) (x ∷ l) l) (filter_there t u xs (λ y h. same y (or_right (x == y) (is_there y xs) h)))
-
-any_each : (f g : ℕ → Bool) (xs : List ℕ) → ((x : ℕ) → f x ≡ g x) → list_any f xs ≡ list_any g xs
-any_each f g [] same = refl
-any_each f g (x ∷ xs) same = ap (λ b. b || list_any f xs) (same x) ∙ ap (λ b. g x || b) (any_each f g xs same)
+    grind (arith, common_steps, own_of_changed job (d ∷ []) (changed_once job c r) d.key, job_changed job (c ∷ []) r, own_unnamed job (c ∷ []) r d.key, own_of_changed job (d ∷ []) r d.key)
 
 module _ (s t : Stored) (locks more : List Lock) (job : ℕ) (c : Want) (a : Altered s t locks more job c) where
   back : (x : ℕ) → is_there x t.order ≡ true → is_there x s.order ≡ true
@@ -206,10 +151,9 @@ module _ (s t : Stored) (locks more : List Lock) (job : ℕ) (c : Want) (a : Alt
   loses_same : (d : Want) → same_key c.key d.key ≡ false → loses_by t job d ≡ loses_by s job d
   loses_same d apart =
       ap (λ l. is_lost_by (request_at t) (λ x. (filed_at t x).granted) l job d) a.order
-      ∙ any_each (λ x. (filed_at t x).granted) (λ x. (filed_at s x).granted)
-      (drop (fitting_then (request_at t) s.order job d) (places_at (request_at t) s.order d.key)) a.flag
+      ∙ ap (λ (f : ℕ → Bool). list_any f (drop (fitting_then (request_at t) s.order job d) (places_at (request_at t) s.order d.key))) (λ i x. a.flag x i)
       ∙ ap (λ l. list_any (λ x. (filed_at s x).granted) (drop (fitting_then (request_at t) s.order job d) l))
-      (filter_there (λ x. names (request_at t x).wants.items d.key) (λ x. names (request_at s x).wants.items d.key) s.order
+      (filter_same (λ x. names (request_at t x).wants.items d.key) (λ x. names (request_at s x).wants.items d.key) s.order
       (λ x h. ap (λ (r : Request). names r.wants.items d.key) (a.at x h) ∙ named_changed job (c ∷ []) (request_at s x) d.key))
       ∙ ap (λ k. list_any (λ x. (filed_at s x).granted) (drop k (places_at (request_at s) s.order d.key)))
       (ap fitting (wants_same_there d.key (λ x. changed_once job d (request_at s x)) (λ x. changed_once job d (request_at t x)) s.order
@@ -241,9 +185,7 @@ module _ (s t : Stored) (locks more : List Lock) (job : ℕ) (c : Want) (a : Alt
         apart = parts.1;
         each =
             all_from_Has (IsSound t more job) later
-            (λ d h.
-            still_sound d (not-true (same_key c.key d.key) (list_all-Has (λ v. not (same_key c.key v.key)) later d parts.0 h))
-            (Has_from_all (IsSound s locks job) (c ∷ later) sound.each d (inr h)));
+            (λ d h. still_sound d (not-true _ (list_all-Has (λ v. not (same_key c.key v.key)) later d parts.0 h)) (Has_from_all (IsSound s locks job) (c ∷ later) sound.each d (inr h)));
       }
 
   -- and one more is made

@@ -1,9 +1,9 @@
 -- One change is made.
-use Rattle.std.proofs.Common.{◌≡◌, ◌≤◌, ◌<◌, ◌∙◌, sym, ap, subst, ℕ, zero, suc, add-one, Bool, true, false, ◌&&◌, ◌==◌, not, cond, List, [], ◌∷◌, ◌++◌}
+use Rattle.std.proofs.Common.{◌≡◌, ◌≤◌, ◌<◌, ◌∙◌, sym, ap, subst, ℕ, zero, suc, add-one, true, false, ◌==◌, not, cond, List, [], ◌∷◌, ◌++◌}
 use Rattle.std.proofs.Common.{length, take, drop, get_or, slice_get, map, sum_by, min, Some, None, inl, inr, refl, arith}
-use Rattle.std.specs.List.{find, list_all, list_any, position_or_len}
+use Rattle.std.specs.List.{find, list_all, position_or_len}
 use Rattle.std.proofs.Math.Nat.{le-min, min-le_left, min-le_right}
-use Rattle.std.proofs.lemmas.Bool.{both_ways, cases_eq, cases_lt, eq-eqb, eqb-true, false_from_ne_true, ne_eqb, or_cases, or_left, or_right}
+use Rattle.std.proofs.lemmas.Bool.{cases_eq, eq-eqb, eqb-true}
 use Rattle.std.proofs.lemmas.List.{length-map}
 use Rattle.std.proofs.lemmas.Option.{slice_get-get_or}
 use Rattle.lock_queue.specs.declared.key.Key.{Key}
@@ -12,9 +12,9 @@ use Rattle.lock_queue.specs.declared.want.Want.{Want}
 use Rattle.lock_queue.specs.Changes.{changed_want}
 use Rattle.lock_queue.specs.Dequeues.{with_wants}
 use Rattle.lock_queue.specs.Keys.{same_key}
-use Rattle.lock_queue.specs.Queue.{amount_in, amount_of, names, wants_at}
+use Rattle.lock_queue.specs.Queue.{amount_of, names, wants_at}
 use Rattle.lock_queue.specs.Unused.{unused_want}
-use Rattle.lock_queue.proofs.Fitting.{eq-same_key, names-Has, names-found, same_key-swap}
+use Rattle.lock_queue.proofs.Fitting.{names-Has, names-found, same_key-swap}
 use Rattle.lock_queue.proofs.ListSteps.{set_split}
 use Rattle.lock_queue.proofs.Lists.{Has, list_any-Has, sum-cons}
 use Rattle.request_store.specs.declared.filed.Filed.{Filed}
@@ -33,51 +33,37 @@ use Rattle.key_queues.proofs.Counting.{no_pool}
 use Rattle.key_queues.proofs.Finding.{find_passes, open_parts, open_within}
 use Rattle.key_queues.proofs.Opening.{used_open, used_same}
 use Rattle.key_queues.proofs.Places.{split_at, take_Has}
-use Rattle.key_queues.proofs.Using.{kept_there, lock_with, queue_of_want}
+use Rattle.key_queues.proofs.Using.{kept_there, queue_of_want}
 use Rattle.table_reads.specs.Filing.{state_of, want_filed}
 use Rattle.table_reads.specs.Reads.{request_at}
 use Rattle.table_reads.specs.Whole.{requests_in}
 use Rattle.table_reads.proofs.Telling.{find_there}
 use Rattle.lock_table.specs.Changing.{Altered, IsBetween, altered_at, changed_by, changed_once, loses_by, want_then}
 use Rattle.lock_table.proofs.Altering.{job_changed, named_changed, set_is_changed, unnamed_wants}
-use Rattle.lock_table.proofs.Filing.{filed_with, place_within}
+use Rattle.lock_table.proofs.Filing.{place_within, filed_mine, filed_other, filed_like, lock_mine, lock_other, lock_like}
 use Rattle.lock_table.proofs.Losing.{alike_changed, there_Has, there_parts, wants_same_there}
 use Rattle.lock_table.proofs.Recounting.{IsWantedAt, counts, lost_is, wanted_at, wants_then}
+use Rattle.lock_table.proofs.Readied.{open_for_from}
+use Rattle.std.proofs.lemmas.Grind.{common_steps}
 
 -- a request without a want of the key stays
 pub unnamed_request : (job : ℕ) (c : Want) (r : Request) → names r.wants.items c.key ≡ false → changed_once job c r ≡ r
-unnamed_request job c r f = go (r.job == job)
+unnamed_request job c r f =
+    grind (arith, common_steps, unnamed_wants (c ∷ []) r.wants.items none)
   where
     none : (w : Want) → Has r.wants.items w → names (c ∷ []) w.key ≡ false
-    none w h =
-        false_from_ne_true (names (c ∷ []) w.key) (λ t.
-        elim (or_cases (same_key c.key w.key) false t) [
-          | inl e ↦
-              both_ways (names r.wants.items c.key) f (list_any-Has (λ v. same_key v.key c.key) r.wants.items w (same_key-swap c.key w.key e) h)
-          | inr e ↦ cc
-        ])
-
-    go : (b : Bool) → cond b (with_wants r (map (changed_want (c ∷ [])) r.wants.items)) r ≡ r
-    go true = ap (with_wants r) (unnamed_wants (c ∷ []) r.wants.items none)
-    go false = refl
+    none w h = grind (arith, common_steps, list_any-Has (λ v. same_key v.key c.key) r.wants.items w, same_key-swap c.key w.key, h)
 
 take_fewer : (j k x : ℕ) (xs : List ℕ) → j ≤ k → is_there x (take j xs) ≡ true → is_there x (take k xs) ≡ true
 take_fewer zero k x xs le h = cc
 take_fewer (suc j) zero x xs le h = absurd (omega arith)
 take_fewer (suc j) (suc k) x [] le h = cc
-take_fewer (suc j) (suc k) x (y ∷ xs) le h =
-    elim (or_cases (y == x) (is_there x (take j xs)) h) [
-      | inl e ↦ or_left (y == x) (is_there x (take k xs)) e
-      | inr rest ↦ or_right (y == x) (is_there x (take k xs)) (take_fewer j k x xs (omega arith) rest)
-    ]
+take_fewer (suc j) (suc k) x (y ∷ xs) le h = grind (arith, common_steps, take_fewer j k x xs (omega arith))
 
 -- wants without a pool take nothing
 none_taken : (ws : List Want) → ((u : Want) → Has ws u → u.pool ≡ None) → sum_by amount_of ws ≡ 0
 none_taken [] f = refl
-none_taken (w ∷ ws) f =
-    let mine : amount_of w ≡ 0 = ap amount_in (f w (inl refl)) in
-    let rest = none_taken ws (λ u h. f u (inr h)) in
-    sum-cons amount_of w ws ∙ omega (arith, mine, rest)
+none_taken (w ∷ ws) f = grind (arith, common_steps, f w (inl refl), none_taken ws (λ u h. f u (inr h)), sum-cons amount_of w ws)
 
 first_mapped : (f : ℕ → Want) (xs : List ℕ) → 0 < length xs → slice_get (map f xs) 0 ≡ Some (f (get_or xs 0 0))
 first_mapped f [] lt = absurd (omega arith)
@@ -138,14 +124,11 @@ module _ (s : Stored) (locks : List Lock) (n p job : ℕ) (c : Want) (b : IsBetw
   within : p < length s.filed
   within = place_within s locks p c.key named_p
 
-  filed_t : (x : ℕ) → filed_at t x ≡ cond (x == p) (with_want (filed_at s p) i (changed_by c w)) (filed_at s x)
-  filed_t x = filed_with s p x (with_want (filed_at s p) i (changed_by c w)) within
-
   filed_p : filed_at t p ≡ with_want (filed_at s p) i (changed_by c w)
-  filed_p = filed_t p ∙ rw (eq-eqb p p refl) refl
+  filed_p = filed_mine s t p (with_want (filed_at s p) i (changed_by c w)) within refl
 
   filed_x : (x : ℕ) → (x ≡ p → ⊥) → filed_at t x ≡ filed_at s x
-  filed_x x ne = filed_t x ∙ rw (ne_eqb x p ne) refl
+  filed_x = filed_other s t p (with_want (filed_at s p) i (changed_by c w)) within refl
 
   at_i : slice_get (request_at s p).wants.items i ≡ Some w
   at_i = slice_get-get_or (request_at s p).wants.items i unused_want wp.within
@@ -162,13 +145,7 @@ module _ (s : Stored) (locks : List Lock) (n p job : ℕ) (c : Want) (b : IsBetw
 
   -- and all others stay
   request_x : (x : ℕ) → is_there x s.order ≡ true → (x ≡ p → ⊥) → request_at s x ≡ changed_once job c (request_at s x)
-  request_x x present ne = go ((request_at s x).job == job) refl
-    where
-      go : (v : Bool) → ((request_at s x).job == job) ≡ v → request_at s x ≡ changed_once job c (request_at s x)
-      go true e =
-          sym (unnamed_request job c (request_at s x) (false_from_ne_true (names (request_at s x).wants.items c.key)
-          (λ named. ne (b.jobs x p c.key present wp.present named named_p (eqb-true (request_at s x).job job e ∙ sym mine)))))
-      go false e = sym (ap (λ v. cond v (with_wants (request_at s x) (map (changed_want (c ∷ [])) (request_at s x).wants.items)) (request_at s x)) e)
+  request_x x present ne = grind (arith, common_steps, unnamed_request job c (request_at s x), eqb-true (request_at s x).job job, b.jobs x p c.key present wp.present, named_p, mine)
 
   request_t : (x : ℕ) → is_there x s.order ≡ true → request_at t x ≡ changed_once job c (request_at s x)
   request_t x present =
@@ -177,49 +154,33 @@ module _ (s : Stored) (locks : List Lock) (n p job : ℕ) (c : Want) (b : IsBetw
         | inr ne ↦ ap (λ (g : Filed). g.request) (filed_x x ne) ∙ request_x x present ne
       ]
 
-  lock_t : (m : ℕ) → lock_at more m ≡ cond (m == n) (record (lock_at locks n) { queue = counting q k (f (get_or q.places 0 0)) }) (lock_at locks m)
-  lock_t m = lock_with locks n m (counting q k (f (get_or q.places 0 0))) (open_within locks n open_is)
+  within_locks : n < length locks
+  within_locks = open_within locks n open_is
 
   lock_n : lock_at more n ≡ record (lock_at locks n) { queue = counting q k (f (get_or q.places 0 0)) }
-  lock_n = lock_t n ∙ rw (eq-eqb n n refl) refl
+  lock_n = lock_mine locks more n (counting q k (f (get_or q.places 0 0))) within_locks refl
 
   lock_m : (m : ℕ) → (m ≡ n → ⊥) → lock_at more m ≡ lock_at locks m
-  lock_m m ne = lock_t m ∙ rw (ne_eqb m n ne) refl
+  lock_m = lock_other locks more n (counting q k (f (get_or q.places 0 0))) within_locks refl
+
+  lock_t : {Y : Type 0} → (g : Lock → Y) → g (record (lock_at locks n) { queue = counting q k (f (get_or q.places 0 0)) }) ≡ g (lock_at locks n)
+      → (m : ℕ) → g (lock_at more m) ≡ g (lock_at locks m)
+  lock_t = lock_like locks more n (counting q k (f (get_or q.places 0 0))) within_locks refl
 
   key_t : (m : ℕ) → (lock_at more m).key ≡ (lock_at locks m).key
-  key_t m =
-      elim (cases_eq m n) [
-        | inl e ↦ subst (λ j. (lock_at more j).key ≡ (lock_at locks j).key) (sym e) (ap (λ (l : Lock). l.key) lock_n)
-        | inr ne ↦ ap (λ (l : Lock). l.key) (lock_m m ne)
-      ]
+  key_t = lock_t (λ (l : Lock). l.key) refl
 
   size_t : (m : ℕ) → (lock_at more m).size ≡ (lock_at locks m).size
-  size_t m =
-      elim (cases_eq m n) [
-        | inl e ↦ subst (λ j. (lock_at more j).size ≡ (lock_at locks j).size) (sym e) (ap (λ (l : Lock). l.size) lock_n)
-        | inr ne ↦ ap (λ (l : Lock). l.size) (lock_m m ne)
-      ]
+  size_t = lock_t (λ (l : Lock). l.size) refl
 
   places_t : (m : ℕ) → (lock_at more m).queue.places ≡ (lock_at locks m).queue.places
-  places_t m =
-      elim (cases_eq m n) [
-        | inl e ↦ subst (λ j. (lock_at more j).queue.places ≡ (lock_at locks j).queue.places) (sym e) (ap (λ (l : Lock). l.queue.places) lock_n)
-        | inr ne ↦ ap (λ (l : Lock). l.queue.places) (lock_m m ne)
-      ]
+  places_t = lock_t (λ (l : Lock). l.queue.places) refl
 
   own_t : (x : ℕ) → (filed_at t x).queues.items ≡ (filed_at s x).queues.items
-  own_t x =
-      elim (cases_eq x p) [
-        | inl e ↦ subst (λ y. (filed_at t y).queues.items ≡ (filed_at s y).queues.items) (sym e) (ap (λ (g : Filed). g.queues.items) filed_p)
-        | inr ne ↦ ap (λ (g : Filed). g.queues.items) (filed_x x ne)
-      ]
+  own_t = filed_like s t p (with_want (filed_at s p) i (changed_by c w)) within refl (λ (g : Filed). g.queues.items) refl
 
   flag_t : (x : ℕ) → (filed_at t x).granted ≡ (filed_at s x).granted
-  flag_t x =
-      elim (cases_eq x p) [
-        | inl e ↦ subst (λ y. (filed_at t y).granted ≡ (filed_at s y).granted) (sym e) (ap (λ (g : Filed). g.granted) filed_p)
-        | inr ne ↦ ap (λ (g : Filed). g.granted) (filed_x x ne)
-      ]
+  flag_t = filed_like s t p (with_want (filed_at s p) i (changed_by c w)) within refl (λ (g : Filed). g.granted) refl
 
   -- the wants of the key after the change
   wants_t : wants_at (map (request_at t) s.order) (lock_at locks n).key ≡ map (want_then s n job c) (lock_at locks n).queue.places
@@ -262,21 +223,12 @@ module _ (s : Stored) (locks : List Lock) (n p job : ℕ) (c : Want) (b : IsBetw
   stays_counted : (x : ℕ) → (filed_at s x).granted ≡ true → is_there x (take (lock_at locks n).queue.fitting (lock_at locks n).queue.places) ≡ true
       → is_there x (take k (lock_at locks n).queue.places) ≡ true
   stays_counted x flag counted =
-      elim (cases_lt fits q.fitting) [
-        | inr le ↦
-            let same : q.fitting ≤ k = le-min le (omega arith) in
-            take_fewer q.fitting k x q.places same counted
-        | inl lt ↦
-            let there : is_there x q.places ≡ true =
-            there_parts q.fitting x q.places ∙ or_left (is_there x (take q.fitting q.places)) (is_there x (drop q.fitting q.places)) counted in
-            let same : fits ≤ k = le-min (omega arith) (omega (arith, lt)) in
-            elim (or_cases (is_there x (take fits q.places)) (is_there x (drop fits q.places)) (sym (there_parts fits x q.places) ∙ there)) [
-              | inl front ↦ take_fewer fits k x q.places same front
-              | inr behind ↦
-                  absurd (both_ways (list_any (λ x. (filed_at s x).granted) (drop fits q.places)) (sym (lost_is s locks n b.kept used job c of_key) ∙ safe)
-                  (list_any-Has (λ x. (filed_at s x).granted) (drop fits q.places) x flag (there_Has x (drop fits q.places) behind)))
-            ]
-      ]
+      let lost = lost_is s locks n b.kept used job c of_key in
+      let has = list_any-Has (λ x. (filed_at s x).granted) (drop fits q.places) x flag in
+      let all = take_fewer q.fitting k x q.places in
+      let front = take_fewer fits k x q.places in
+      let parts = there_parts fits x q.places in
+      grind (arith, common_steps, lost, has, all, front, parts, there_parts q.fitting x q.places, there_Has x (drop fits q.places), le-min, min-le_left)
 
   step : Changes (state_of s locks) (state_of t more) p n (take i (request_at s p).wants.items) (drop (suc i) (request_at s p).wants.items) w (changed_by c w)
   step = record {
@@ -325,11 +277,10 @@ module _ (s : Stored) (locks : List Lock) (n p job : ℕ) (c : Want) (b : IsBetw
     where
       named_back : (x : ℕ) (key : Key) → is_there x s.order ≡ true → names (request_at t x).wants.items key ≡ true
           → names (request_at s x).wants.items key ≡ true
-      named_back x key present h =
-          sym (named_changed job (c ∷ []) (request_at s x) key) ∙ ap (λ (r : Request). names r.wants.items key) (sym (request_t x present)) ∙ h
+      named_back x key present h = grind (arith, common_steps, named_changed job (c ∷ []) (request_at s x) key, request_t x present)
 
       job_back : (x : ℕ) → is_there x s.order ≡ true → (request_at t x).job ≡ (request_at s x).job
-      job_back x present = ap (λ (r : Request). r.job) (request_t x present) ∙ job_changed job (c ∷ []) (request_at s x)
+      job_back x present = grind (arith, common_steps, request_t x present, job_changed job (c ∷ []) (request_at s x))
 
   pub altered_then : Altered s t locks more job c
   altered_then = record {
@@ -361,8 +312,7 @@ pub open_named : (s : Stored) (locks : List Lock) (x : ℕ) (key : Key) → IsKe
 open_named s locks x key kept present named =
     let of = names-found (request_at s x).wants.items key named in
     let m = queue_of_want (λ m. (lock_at locks m).key) (request_at s x).wants.items (filed_at s x).queues.items of.0 (kept.queues x present) of.1 in
-    let some : is_open (lock_at locks m.0).queue ≡ true = used_open (state_of s locks) x m.0 kept (record { present = present; there = m.1 }) in
-    (m.0, ap (λ v. v && same_key (lock_at locks m.0).key key) some ∙ eq-same_key (lock_at locks m.0).key key (m.2 ∙ of.2))
+    (m.0, open_for_from key (lock_at locks m.0) (used_open (state_of s locks) x m.0 kept (record { present = present; there = m.1 })) (m.2 ∙ of.2))
 
 -- it stands among the places of the queue
 pub queued_named : (s : Stored) (locks : List Lock) (n x : ℕ) (key : Key) → IsKept (state_of s locks) → IsUsed (state_of s locks) n

@@ -2,7 +2,7 @@ use Rattle.std.proofs.Common.{sym, subst, arith, lit<}
 use Rattle.std.proofs.lemmas.List.{get_or_read}
 use Rattle.lock_queue.specs.Unused.{unused_want}
 use Rattle.lock_table.specs.Arrivals.{Admits}
-use Rattle.lock_table.proofs.Entered.{entered_one, entered_same}
+use Rattle.lock_table.proofs.Entered.{entered_one}
 use Rattle.lock_table.proofs.Readied.{room_left}
 use Rattle.lock_table.proofs.arrive.enter.Goals as goal
 
@@ -25,8 +25,3 @@ returns-clause-arriving g c =
     let read = get_or_read c.args.wants.now c.args.k w c.requires.more c.index-wants-k.is unused_want in
     entered_one c.args.store.now c.push_want.new.self c.args.keys.now c.enter-n.new.self c.args.p c.enter-n.result c.args.k
     c.args.wants.now w c.requires.arriving c.requires.more read c.push_want.ensures.within c.enter-n.ensures c.push_want.ensures.value
-
-pub returns-clause-same : goal.returns-clause-same
-returns-clause-same g c =
-    entered_same c.args.store.now c.push_want.new.self c.args.keys.now c.enter-n.new.self c.args.p c.enter-n.result c.args.k
-    c.args.wants.now c.index-wants-k.result c.push_want.ensures.within c.push_want.ensures.value

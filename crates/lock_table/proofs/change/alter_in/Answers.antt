@@ -56,29 +56,18 @@ alter_want-requires g c =
     let w = wanted_at s locks n b.kept (b.used n parts.0) c.in-Some.p found.0 in
     (lit< tt, (w.present, w.within))
 
-pub returns-in-Some-clause-between : goal.returns-in-Some-clause-between
-returns-in-Some-clause-between g c =
+pub returns-in-Some : goal.returns-in-Some
+returns-in-Some g c =
     let s = c.args.store.now in
     let locks = c.args.keys.now in
     let n = c.args.n in
     let none = no_size (lock_at locks n).size (sym c.is_pool.ensures ∙ c.if-is_pool.false) in
-    let found =
-    found_of_job s c.args.job (lock_at locks n).queue.places c.in-Some.p (sym c.place_of.ensures ∙ c.in-Some.is) in
-    (written s locks n c.in-Some.p c.args.job c.args.c.now c.requires.between c.requires.lock none
+    let found = found_of_job s c.args.job (lock_at locks n).queue.places c.in-Some.p (sym c.place_of.ensures ∙ c.in-Some.is) in
+    let both =
+    written s locks n c.in-Some.p c.args.job c.args.c.now c.requires.between c.requires.lock none
     found.0 found.1 c.requires.sound.safe c.alter_want.new.store c.recount.new.self c.counted_then-k.result
-    c.first_then-first.result c.alter_want.ensures c.recount.ensures c.counted_then-k.ensures c.first_then-first.ensures).0
-
-pub returns-in-Some-clause-altered : goal.returns-in-Some-clause-altered
-returns-in-Some-clause-altered g c =
-    let s = c.args.store.now in
-    let locks = c.args.keys.now in
-    let n = c.args.n in
-    let none = no_size (lock_at locks n).size (sym c.is_pool.ensures ∙ c.if-is_pool.false) in
-    let found =
-    found_of_job s c.args.job (lock_at locks n).queue.places c.in-Some.p (sym c.place_of.ensures ∙ c.in-Some.is) in
-    (written s locks n c.in-Some.p c.args.job c.args.c.now c.requires.between c.requires.lock none
-    found.0 found.1 c.requires.sound.safe c.alter_want.new.store c.recount.new.self c.counted_then-k.result
-    c.first_then-first.result c.alter_want.ensures c.recount.ensures c.counted_then-k.ensures c.first_then-first.ensures).1
+    c.first_then-first.result c.alter_want.ensures c.recount.ensures c.counted_then-k.ensures c.first_then-first.ensures in
+    record { between = both.0; altered = both.1 }
 
 pub returns-in_default-clause-altered : goal.returns-in_default-clause-altered
 returns-in_default-clause-altered g c =

@@ -30,11 +30,9 @@ fitting_then-k-requires g c =
     let is : c.index-locks-n.result ≡ lock_at locks n =
     read_lock locks c.locks.result.now n c.index-locks-n.result c.locks.ensures (open_within locks n parts.0) c.index-locks-n.is in
     let none : (lock_at locks n).size ≡ None =
-    no_size (lock_at locks n).size (ap (λ (l : Lock). is_some l.size) (sym is) ∙ sym c.is_some.ensures ∙ c.if-is_some.false)
-    in (
-      lit< tt,
-      subst (λ (l : Lock). All (IsFreeAt s n) l.queue.places) (sym is) (all_free s locks n c.requires.table.kept (c.requires.table.used n parts.0) none),
-    )
+    no_size (lock_at locks n).size (ap (λ (l : Lock). is_some l.size) (sym is) ∙ sym c.is_some.ensures ∙ c.if-is_some.false) in
+    let free = all_free s locks n c.requires.table.kept (c.requires.table.used n parts.0) none in
+    (lit< tt, subst (λ (l : Lock). All (IsFreeAt s n) l.queue.places) (sym is) free)
 
 pub is_some_granted-requires : goal.is_some_granted-requires
 is_some_granted-requires g c =
@@ -44,10 +42,9 @@ is_some_granted-requires g c =
     let parts = open_parts c.args.c.now.key (lock_at locks n) c.requires.lock in
     let is : c.index-locks-n.result ≡ lock_at locks n =
     read_lock locks c.locks.result.now n c.index-locks-n.result c.locks.ensures (open_within locks n parts.0) c.index-locks-n.is in
-    let places : c.as_slice.result.now ≡ (lock_at locks n).queue.places = c.as_slice.ensures.value ∙ ap (λ (l : Lock). l.queue.places) is in (
-      lit< tt,
-      subst (All (λ p. is_there p s.order ≡ true)) (sym places) (all_there s locks n c.requires.table.kept (c.requires.table.used n parts.0)),
-    )
+    let places : c.as_slice.result.now ≡ (lock_at locks n).queue.places = c.as_slice.ensures.value ∙ ap (λ (l : Lock). l.queue.places) is in
+    let there = all_there s locks n c.requires.table.kept (c.requires.table.used n parts.0) in
+    (lit< tt, subst (All (λ p. is_there p s.order ≡ true)) (sym places) there)
 
 pub returns : goal.returns
 returns g c =
@@ -60,11 +57,8 @@ returns g c =
     let is : c.index-locks-n.result ≡ lock_at locks n =
     read_lock locks c.locks.result.now n c.index-locks-n.result c.locks.ensures (open_within locks n parts.0) c.index-locks-n.is in
     let places : c.as_slice.result.now ≡ (lock_at locks n).queue.places = c.as_slice.ensures.value ∙ ap (λ (l : Lock). l.queue.places) is in
-    let k : c.fitting_then-k.result ≡ fitting (map (want_then s n job change) (lock_at locks n).queue.places) =
-    c.fitting_then-k.ensures.value ∙ ap (λ (l : Lock). fitting (map (want_then s n job change) l.queue.places)) is in
-    let first : c.is_some_granted.result ≡ list_any (λ p. (filed_at s p).granted) (drop c.fitting_then-k.result (lock_at locks n).queue.places) =
-    c.is_some_granted.ensures ∙ ap (λ (l : List ℕ). list_any (λ p. (filed_at s p).granted) (drop c.fitting_then-k.result l)) places in
-    let second : c.is_some_granted.result
-    ≡ list_any (λ p. (filed_at s p).granted) (drop (fitting (map (want_then s n job change) (lock_at locks n).queue.places)) (lock_at locks n).queue.places) =
-    first ∙ ap (λ (j : ℕ). list_any (λ p. (filed_at s p).granted) (drop j (lock_at locks n).queue.places)) k in
-    second ∙ sym (lost_is s locks n c.requires.table.kept (c.requires.table.used n parts.0) job change parts.1)
+    let k = c.fitting_then-k.ensures.value ∙ ap (λ (l : Lock). fitting (map (want_then s n job change) l.queue.places)) is in
+    c.is_some_granted.ensures
+    ∙ ap (λ (l : List ℕ). list_any (λ p. (filed_at s p).granted) (drop c.fitting_then-k.result l)) places
+    ∙ ap (λ (j : ℕ). list_any (λ p. (filed_at s p).granted) (drop j (lock_at locks n).queue.places)) k
+    ∙ sym (lost_is s locks n c.requires.table.kept (c.requires.table.used n parts.0) job change parts.1)

@@ -1,6 +1,5 @@
 use Rattle.std.proofs.Common.{◌≡◌, ◌==◌, ◌∙◌, sym, ap, subst, ℕ, Bool, true, get_or, arith, lit<}
 use Rattle.std.specs.List.{position_or_len}
-use Rattle.std.proofs.lemmas.Bool.{both_ways, eq-eqb}
 use Rattle.std.proofs.lemmas.Option.{get_or_from_slice_get}
 use Rattle.lock_queue.specs.Queue.{names}
 use Rattle.key_queues.specs.Tables.{is_there}
@@ -9,6 +8,7 @@ use Rattle.request_store.specs.declared.filed.Filed.{Filed}
 use Rattle.table_reads.proofs.Reading.{place_kept}
 use Rattle.lock_table.specs.Departures.{request_at}
 use Rattle.lock_table.proofs.dequeues.place_of_job.Goals as goal
+use Rattle.std.proofs.lemmas.Grind.{common_steps}
 
 pub get-requires : goal.get-requires
 get-requires g c =
@@ -35,5 +35,4 @@ returns g c x present job named =
     let j : ℕ = position_or_len (λ m. m == x) c.places_of-p-items.result.now in
     let at : get_or c.places_of-p-items.result.now j 0 ≡ x = get_or_from_slice_get c.places_of-p-items.result.now j x 0 found.1 in
     let other = c.loop-p.invariant.others j (omega (arith, found.0, c.loop-p-test.false)) in
-    absurd (both_ways ((request_at c.args.store.now (get_or c.places_of-p-items.result.now j 0)).job == c.args.job) other
-    (eq-eqb (request_at c.args.store.now (get_or c.places_of-p-items.result.now j 0)).job c.args.job (ap (λ y. (request_at c.args.store.now y).job) at ∙ job)))
+    absurd (grind (arith, common_steps, other, at, job))

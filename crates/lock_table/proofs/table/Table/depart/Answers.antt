@@ -4,8 +4,6 @@ use Rattle.table_reads.specs.Filing.{own_at, state_of}
 use Rattle.key_queues.specs.States.{State, IsTable, IsUsed, OpenAreUsed, CountsBut}
 use Rattle.key_queues.proofs.Using.{used_after, full_empty, full_extended}
 use Rattle.key_queues.proofs.Opening.{open_given_up, open_extended}
-use Rattle.key_queues.specs.Tables.{is_there}
-use Rattle.lock_table.proofs.Turning.{turned_then}
 use Rattle.lock_table.proofs.table.Table.depart.Goals as goal
 
 pub extend-requires : goal.extend-requires
@@ -13,19 +11,11 @@ extend-requires g c =
     let n : ℕ = own_at c.args.self.now.store c.args.p c.args.k in
     let t : State = state_of c.give_up.new.self.store c.give_up.new.self.keys in
     let some : (length (lock_at c.give_up.new.self.keys n).queue.places == 0) ≡ false =
-    ap (λ m. length (lock_at c.give_up.new.self.keys m).queue.places == 0) (sym c.queue_at-n.ensures) ∙ sym c.is_empty.ensures ∙ c.if-is_empty.false in (
-      lit< tt,
-      (
-        c.give_up.ensures.kept,
-        (
-          c.give_up.ensures.flags,
-          subst (IsUsed t) (sym c.queue_at-n.ensures)
-              (used_after (state_of c.args.self.now.store c.args.self.now.keys) t c.args.p c.args.k c.requires.table.kept
-              c.give_up.ensures.kept c.requires.present c.requires.want c.give_up.ensures.gives c.give_up.ensures.counts
-              some),
-        ),
-      ),
-    )
+    ap (λ m. length (lock_at c.give_up.new.self.keys m).queue.places == 0) (sym c.queue_at-n.ensures) ∙ sym c.is_empty.ensures ∙ c.if-is_empty.false in
+    let used =
+    used_after (state_of c.args.self.now.store c.args.self.now.keys) t c.args.p c.args.k c.requires.table.kept
+    c.give_up.ensures.kept c.requires.present c.requires.want c.give_up.ensures.gives c.give_up.ensures.counts some in
+    (lit< tt, (c.give_up.ensures.kept, (c.give_up.ensures.flags, subst (IsUsed t) (sym c.queue_at-n.ensures) used)))
 
 pub returns-then-is_empty-clause-table : goal.returns-then-is_empty-clause-table
 returns-then-is_empty-clause-table g c =
@@ -62,8 +52,3 @@ returns-else-is_empty-clause-table g c =
           c.extend.ensures.extended c.extend.ensures.full;
       used = open_extended m t c.queue_at-n.result c.extend.ensures.extended used stay;
     }
-
-pub returns-else-is_empty-clause-turns : goal.returns-else-is_empty-clause-turns
-returns-else-is_empty-clause-turns g c =
-    turned_then c.args.self.now.store c.give_up.new.self.store c.extend.new.self.store c.args.self.now.turns c.give_up.new.self.turns c.extend.new.self.turns
-    (λ x h. subst (λ l. is_there x l ≡ true) c.extend.ensures.extended.order h) c.give_up.ensures.turns c.extend.ensures.turns

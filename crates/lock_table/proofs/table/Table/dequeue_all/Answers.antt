@@ -1,24 +1,16 @@
-use Rattle.std.proofs.Common.{◌∙◌, sym, ap, cond, not, filter, refl}
+use Rattle.std.proofs.Common.{◌∙◌, not, refl, arith}
 use Rattle.lock_queue.specs.declared.call.LockCall.TheVariants.{DequeueAll}
-use Rattle.lock_queue.specs.declared.call.LockReply.TheVariants.{Done, Refused}
-use Rattle.lock_queue.specs.declared.refusal.Refusal.TheVariants.{NotPresent}
 use Rattle.lock_queue.specs.Dequeues.{is_of_job}
 use Rattle.lock_queue.specs.Grants.{left_of}
-use Rattle.lock_queue.specs.Outcomes.{outcome}
-use Rattle.table_reads.specs.Whole.{requests_in}
 use Rattle.lock_table.specs.Departures.{request_at}
 use Rattle.lock_table.proofs.Wholes.{leaves_by, left_where}
 use Rattle.lock_table.proofs.table.Table.dequeue_all.Goals as goal
+use Rattle.std.proofs.lemmas.Grind.{common_steps}
 
 pub returns-clause-requests : goal.returns-clause-requests
 returns-clause-requests g c =
     left_where c.args.self.now.store c.release.new.self.store (is_of_job c.args.job) c.release.ensures.left
-    ∙ sym
-    (ap
-    (λ b.
-    (cond b (outcome (filter (λ r. not ((is_of_job c.args.job) r)) (requests_in c.args.self.now.store)) Done)
-    (outcome (requests_in c.args.self.now.store) (Refused NotPresent))).requests)
-    (sym c.has_request.ensures ∙ c.if-not-has_request.false))
+    ∙ grind (arith, common_steps, c.has_request.ensures)
 
 pub returns-clause-left : goal.returns-clause-left
 returns-clause-left g c done =

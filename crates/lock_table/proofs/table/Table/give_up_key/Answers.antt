@@ -1,17 +1,16 @@
-use Rattle.std.proofs.Common.{◌≡◌, ◌∙◌, sym, ap, subst, true, false, cond, refl}
-use Rattle.lock_queue.specs.declared.request.Request.{Request}
+use Rattle.std.proofs.Common.{◌≡◌, ◌∙◌, sym, ap, subst, true, false, arith}
 use Rattle.lock_queue.specs.Dequeues.{has_wants}
 use Rattle.key_queues.specs.States.{IsTable}
 use Rattle.key_queues.specs.Tables.{is_there}
-use Rattle.request_store.specs.Stores.{Stored, filed_at, removed, without_place}
+use Rattle.request_store.specs.Stores.{Stored, filed_at, removed}
 use Rattle.table_reads.specs.Filing.{state_of}
-use Rattle.lock_table.specs.Departures.{without_key}
 use Rattle.lock_table.specs.Turns.{Turned}
 use Rattle.lock_table.proofs.Choosing.{there_beside, turned_removed}
 use Rattle.lock_table.proofs.Filing.{left_store}
 use Rattle.lock_table.proofs.Lost.{key_given, none_left}
 use Rattle.lock_table.proofs.Turning.{turned_then}
 use Rattle.lock_table.proofs.table.Table.give_up_key.Goals as goal
+use Rattle.std.proofs.lemmas.Grind.{common_steps}
 
 pub returns-then-not-has_wants-clause-table : goal.returns-then-not-has_wants-clause-table
 returns-then-not-has_wants-clause-table g c =
@@ -24,9 +23,7 @@ returns-then-not-has_wants-clause-table g c =
 
 pub returns-then-not-has_wants-clause-given : goal.returns-then-not-has_wants-clause-given
 returns-then-not-has_wants-clause-given g c h =
-    let t : Stored = c.depart.new.self.store in
-    let there : is_there c.args.p (without_place t.order c.args.p) ≡ true = ap (λ (v : Stored). is_there c.args.p v.order) (sym c.remove.ensures.value) ∙ h in
-    absurd ((there_beside c.args.p c.args.p t.order c.depart.ensures.table.kept.once there).0 refl)
+    grind (arith, common_steps, there_beside c.args.p c.args.p c.depart.new.self.store.order c.depart.ensures.table.kept.once)
 
 pub returns-then-not-has_wants-clause-turns : goal.returns-then-not-has_wants-clause-turns
 returns-then-not-has_wants-clause-turns g c =
@@ -37,17 +34,6 @@ returns-then-not-has_wants-clause-turns g c =
     (λ x h. (there_beside x c.args.p t.order once h).1)
     c.depart.ensures.turns (turned_removed t c.args.p c.depart.new.self.turns once c.remove.ensures.within))
 
-pub returns-then-not-has_wants-clause-order : goal.returns-then-not-has_wants-clause-order
-returns-then-not-has_wants-clause-order g c =
-    let t : Stored = c.depart.new.self.store in
-    let given : (filed_at t c.args.p).request ≡ without_key c.args.key.now (filed_at c.args.self.now.store c.args.p).request =
-    key_given c.args.self.now.store t c.args.self.now.keys c.depart.new.self.keys c.args.p c.want_of_key-k.result c.args.key.now
-    c.requires.table c.requires.present c.want_of_key-k.ensures c.depart.ensures.left in
-    let none : has_wants (without_key c.args.key.now (filed_at c.args.self.now.store c.args.p).request) ≡ false =
-    ap (λ (r : Request). has_wants r) (sym given) ∙ sym c.has_wants.ensures ∙ c.if-not-has_wants.true in
-    ap (λ (v : Stored). v.order) c.remove.ensures.value ∙ ap (λ l. without_place l c.args.p) c.depart.ensures.left.order
-    ∙ ap (λ b. cond b c.args.self.now.store.order (without_place c.args.self.now.store.order c.args.p)) (sym none)
-
 pub returns-else-not-has_wants-clause-given : goal.returns-else-not-has_wants-clause-given
 returns-else-not-has_wants-clause-given g c h =
     key_given c.args.self.now.store c.depart.new.self.store c.args.self.now.keys c.depart.new.self.keys c.args.p c.want_of_key-k.result
@@ -55,11 +41,7 @@ returns-else-not-has_wants-clause-given g c h =
 
 pub returns-else-not-has_wants-clause-order : goal.returns-else-not-has_wants-clause-order
 returns-else-not-has_wants-clause-order g c =
-    let t : Stored = c.depart.new.self.store in
-    let given : (filed_at t c.args.p).request ≡ without_key c.args.key.now (filed_at c.args.self.now.store c.args.p).request =
-    key_given c.args.self.now.store t c.args.self.now.keys c.depart.new.self.keys c.args.p c.want_of_key-k.result c.args.key.now
+    let given =
+    key_given c.args.self.now.store c.depart.new.self.store c.args.self.now.keys c.depart.new.self.keys c.args.p c.want_of_key-k.result c.args.key.now
     c.requires.table c.requires.present c.want_of_key-k.ensures c.depart.ensures.left in
-    let some : has_wants (without_key c.args.key.now (filed_at c.args.self.now.store c.args.p).request) ≡ true =
-    ap (λ (r : Request). has_wants r) (sym given) ∙ sym c.has_wants.ensures ∙ c.if-not-has_wants.false in
-    c.depart.ensures.left.order
-    ∙ ap (λ b. cond b c.args.self.now.store.order (without_place c.args.self.now.store.order c.args.p)) (sym some)
+    grind (arith, common_steps, given)

@@ -1,14 +1,15 @@
-use Rattle.std.proofs.Common.{◌≡◌, ◌∙◌, sym, ap, subst, length, arith, refl, lit<}
+use Rattle.std.proofs.Common.{◌≡◌, ◌∙◌, sym, ap, subst, length, arith, lit<, ◌<◌}
 use Rattle.std.proofs.lemmas.Bool.{cond-true, cond-false}
 use Rattle.std.proofs.lemmas.List.{length-set}
 use Rattle.std.proofs.lemmas.Option.{slice_get_within}
-use Rattle.key_queues.specs.Locks.{lock_at, uncounted}
+use Rattle.key_queues.specs.Locks.{lock_at}
 use Rattle.key_queues.specs.States.{State, IsFull}
 use Rattle.key_queues.proofs.Using.{next_is, full_at_end, full_where_unfit, one_fewer}
 use Rattle.table_reads.specs.Filing.{state_of, want_filed}
 use Rattle.lock_table.proofs.Filing.{lock_within, own_within, extended_by}
-use Rattle.lock_table.proofs.Turning.{turned_still}
 use Rattle.lock_table.proofs.table.Table.let_in_next.Goals as goal
+use Rattle.std.specs.List.{All}
+use Rattle.request_store.specs.Stores.{filed_at}
 
 pub next_place-requires : goal.next_place-requires
 next_place-requires g c =
@@ -17,9 +18,6 @@ next_place-requires g c =
 pub returns-in_default-clause-full : goal.returns-in_default-clause-full
 returns-in_default-clause-full g c e =
     full_at_end (state_of c.args.self.now.store c.args.self.now.keys) c.args.n c.requires.kept c.requires.used (sym c.next_place.ensures ∙ c.in_default.is)
-
-pub returns-in_default-clause-turns : goal.returns-in_default-clause-turns
-returns-in_default-clause-turns g c = turned_still c.args.self.now.store c.args.self.now.store c.args.self.now.turns (λ x h. refl)
 
 pub let_in_at-requires : goal.let_in_at-requires
 let_in_at-requires g c =
@@ -40,29 +38,15 @@ returns-then-not-let_in_at-clause-full g c e =
     let same : c.let_in_at.new.keys ≡ c.args.self.now.keys = c.let_in_at.ensures.after ∙ cond-false _ _ _ c.if-not-let_in_at.true in
     subst (λ l. IsFull (state_of c.args.self.now.store l) c.args.n) (sym same) full
 
-pub returns-then-not-let_in_at-clause-turns : goal.returns-then-not-let_in_at-clause-turns
-returns-then-not-let_in_at-clause-turns g c = turned_still c.args.self.now.store c.args.self.now.store c.args.self.now.turns (λ x h. refl)
-
 pub renew-requires : goal.renew-requires
 renew-requires g c =
     let s = c.args.self.now.store in
     let locks = c.args.self.now.keys in
     let next = next_is (state_of s locks) c.args.n c.in-Some.p c.requires.kept c.requires.used (sym c.in-Some.ensures) in
-    let long = ap length (c.let_in_at.ensures.after ∙ cond-true _ _ _ c.if-not-let_in_at.false) ∙ length-set locks c.args.n _ in (
-      lit< tt,
-      (
-        lit< tt,
-        (
-          lit< tt,
-          (
-            next.stands.present,
-            λ k d lt.
-                let within = own_within s locks c.in-Some.p c.requires.kept next.stands.present k d lt in
-                omega (arith, within, long),
-          ),
-        ),
-      ),
-    )
+    let long = ap length (c.let_in_at.ensures.after ∙ cond-true _ _ _ c.if-not-let_in_at.false) ∙ length-set locks c.args.n _ in
+    let inside : All (λ n. n < length c.let_in_at.new.keys) (filed_at s c.in-Some.p).queues.items =
+    λ k d lt. let within = own_within s locks c.in-Some.p c.requires.kept next.stands.present k d lt in omega (arith, within, long) in
+    (lit< tt, (lit< tt, (lit< tt, (next.stands.present, inside))))
 
 pub returns-clause-extended : goal.returns-clause-extended
 returns-clause-extended g c =
@@ -72,12 +56,6 @@ returns-clause-extended g c =
     c.requires.kept c.requires.flags c.requires.used (sym c.in-Some.ensures) next
     (sym c.let_in_at.ensures.value ∙ c.if-not-let_in_at.false)
     (c.let_in_at.ensures.after ∙ cond-true _ _ _ c.if-not-let_in_at.false) c.renew.ensures.renews
-
-pub returns-then-not-let_in_at-clause-fewer : goal.returns-then-not-let_in_at-clause-fewer
-returns-then-not-let_in_at-clause-fewer g c =
-    let same : c.let_in_at.new.keys ≡ c.args.self.now.keys = c.let_in_at.ensures.after ∙ cond-false _ _ _ c.if-not-let_in_at.true in
-    let left = ap (λ l. uncounted (lock_at l c.args.n).queue) same in
-    omega (arith, left)
 
 pub returns-clause-fewer : goal.returns-clause-fewer
 returns-clause-fewer g c =
