@@ -3,7 +3,7 @@
 use word36::Word;
 
 /// How words are shown.
-#[derive(Clone, Copy, Debug, PartialEq, Eq)]
+#[derive(Clone, Copy, Debug)]
 pub enum Look {
     /// As an instruction, with symbols: `$S`.
     Symbolic,
@@ -18,7 +18,7 @@ pub enum Look {
 }
 
 /// How the last quantity is shown once more.
-#[derive(Clone, Copy, Debug, PartialEq, Eq)]
+#[derive(Clone, Copy)]
 pub enum Last {
     /// In octal: `=`.
     Octal,
@@ -29,7 +29,7 @@ pub enum Last {
 }
 
 /// What words are searched for.
-#[derive(Clone, Copy, Debug, PartialEq, Eq)]
+#[derive(Clone, Copy)]
 pub enum SearchKind {
     /// Those that are the value under the mask: `$W`.
     Equal,
@@ -40,7 +40,7 @@ pub enum SearchKind {
 }
 
 /// A search.
-#[derive(Clone, Copy, Debug, PartialEq, Eq)]
+#[derive(Clone, Copy)]
 pub struct Search {
     /// What for.
     pub kind: SearchKind,

@@ -1,7 +1,5 @@
 //! What there is, in words.
 
-use std::alloc::AllocError;
-
 /// Each command, and what it does: that stands behind so many characters.
 static COMMANDS: [&str; 39] = [
     "a/               opens a place and shows its word",
@@ -48,25 +46,19 @@ static COMMANDS: [&str; 39] = [
 /// How many characters a line has for its command.
 const COLUMN: usize = 16;
 
-/// Whether a line's command has a text in it, in upper or lower case.
-fn has(line: &str, wanted: &[u8]) -> bool {
-    let bytes = line.as_bytes();
-    bytes[..COLUMN.min(bytes.len())]
-        .windows(wanted.len().max(1))
-        .any(|part| part.eq_ignore_ascii_case(wanted))
+/// What `.HELP` tells: a line on each command, which stands in its first 16 characters.
+pub fn help_lines() -> &'static [&'static str] {
+    &COMMANDS
 }
 
-/// `.HELP` and `.HELP word`: adds what there is, or those commands in which the word stands.
-pub fn help_text(word: &[u8], text: &mut String) -> Result<(), AllocError> {
-    let before = text.len();
-    for line in COMMANDS.iter() {
-        if word.is_empty() || has(line, word) {
-            text.push_str(line)?;
-            text.push('\n')?;
-        }
+/// Whether a word stands in the command that a line of the help is on, in upper or lower case: an empty one
+/// stands in each.
+pub fn is_help_on(line: &str, word: &[u8]) -> bool {
+    if word.is_empty() {
+        return true;
     }
-    if text.len() == before {
-        text.push_str("? no such command: .HELP lists them\n")?;
-    }
-    Ok(())
+    let bytes = line.as_bytes();
+    bytes[..COLUMN.min(bytes.len())]
+        .windows(word.len().max(1))
+        .any(|part| part.eq_ignore_ascii_case(word))
 }

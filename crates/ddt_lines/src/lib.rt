@@ -13,9 +13,9 @@ mod values;
 mod wrong;
 
 pub use commands::{Command, Last, Look, Search, SearchKind};
-pub use help::help_text;
+pub use help::{help_lines, is_help_on};
 pub use lines::read_line;
 pub use numbers::{decimal, octal};
-pub use refusals::{Refusal, refuse};
+pub use refusals::Refusal;
 pub use values::{Scope, Symbol};
 pub use wrong::Wrong;

@@ -1,5 +1,5 @@
 //! Whole lines.
-ghost use Rattle.std.specs.Prelude.{◌≡◌, ◌<◌, length, IfSome};
+ghost use Rattle.std.specs.Prelude.{◌<◌, length, IfSome};
 
 use crate::commands::{Command, Last, Look, Search, SearchKind};
 use crate::numbers::{decimal, octal};
@@ -16,7 +16,7 @@ const BREAKPOINTS: u8 = 8;
 const MOST_TIMES: u64 = 0o10000;
 
 /// A command behind an ESC, as it is written.
-#[derive(Clone, Copy, Debug)]
+#[derive(Clone, Copy)]
 struct Escaped<'a> {
     /// What stands before the ESC.
     before: &'a [u8],
@@ -93,9 +93,9 @@ fn times(text: &[u8]) -> Result<u32, Wrong> {
     if text.is_empty() {
         return Ok(1);
     }
-    let number = match text.strip_suffix(b".".as_slice()) {
-        Some(digits) => decimal(digits),
-        None => octal_count(text),
+    let number = match text {
+        [digits @ .., b'.'] => decimal(digits),
+        _ => octal_count(text),
     };
     match number {
         Some(number) if 1 <= number && number <= MOST_TIMES => Ok(number as u32),
@@ -105,7 +105,7 @@ fn times(text: &[u8]) -> Result<u32, Wrong> {
 
 /// The value and the mask of a search, `value<mask>` or a value alone.
 fn read_search<'a>(text: &[u8], kind: SearchKind, scope: &Scope<'_>) -> Result<Command<'a>, Wrong> {
-    let Some(front) = text.strip_suffix(b">".as_slice()) else {
+    let [front @ .., b'>'] = text else {
         return Ok(Command::Search(Search {
             kind,
             value: value(text, scope)?,
@@ -204,10 +204,8 @@ pub fn read_line<'a>(line: &'a [u8], scope: &Scope<'_>) -> Result<Command<'a>, W
     if let Some(command) = read_short(text) {
         return Ok(command);
     }
-    if let [b'.', rest @ ..] = text {
-        if rest.first().is_some_and(|byte| byte.is_ascii_alphabetic()) {
-            return read_own(rest, scope);
-        }
+    match text {
+        [b'.', first, ..] if first.is_ascii_alphabetic() => read_own(&text[1..], scope),
+        _ => read_value_line(text, scope),
     }
-    read_value_line(text, scope)
 }

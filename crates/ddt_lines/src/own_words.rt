@@ -45,7 +45,10 @@ fn count(text: &[u8], least: u64, most: u64, default: u64) -> Result<u64, Wrong>
 /// A number in decimal that fits in 32 bits.
 fn short_count(text: &[u8], most: u64, default: u64) -> Result<u32, Wrong> {
     let number = count(text, 1, most, default)?;
-    u32::try_from(number).map_err(|_| Wrong::NoCount)
+    match u32::try_from(number) {
+        Ok(number) => Ok(number),
+        Err(_) => Err(Wrong::NoCount),
+    }
 }
 
 /// The number of a job.

@@ -1,8 +1,8 @@
 //! What of a text is still to be read.
-ghost use Rattle.std.specs.Prelude.{◌≡◌, ◌<◌, ◌≤◌, length, IfSome};
+ghost use Rattle.std.specs.Prelude.{◌<◌, length, IfSome};
 
 /// What of a text is still to be read.
-#[derive(Clone, Copy, Debug)]
+#[derive(Clone, Copy)]
 pub struct Reader<'a> {
     /// The bytes.
     pub rest: &'a [u8],

@@ -1,10 +1,9 @@
 //! Why a line that is right does nothing.
 
-use std::alloc::{AllocError, Global};
 use std::fmt;
 
 /// Why a line that is right does nothing.
-#[derive(Clone, Copy, Debug, PartialEq, Eq)]
+#[derive(Clone, Copy)]
 pub enum Refusal {
     /// No place is open.
     NotOpen,
@@ -65,10 +64,4 @@ impl fmt::Display for Refusal {
             _ => write!(f, "? {}", self.text()),
         }
     }
-}
-
-/// Adds a line that says why nothing is done.
-pub fn refuse(alloc: Global, text: &mut String, refusal: Refusal) -> Result<(), AllocError> {
-    let line = format!(in alloc; "{refusal}\n")?;
-    text.push_str(line.as_str())
 }

@@ -3,12 +3,12 @@
 use crate::numbers::{decimal, octal};
 use crate::reader::Reader;
 use crate::wrong::Wrong;
-use arrayvec::ArrayString;
+use arrayvec::{ArrayString, ArrayVec};
 use ka_isa::{Named, named};
 use word36::{Word, sixbit};
 
 /// A symbol and what it stands for.
-#[derive(Clone, Copy, Debug)]
+#[derive(Clone, Copy)]
 pub struct Symbol {
     /// Its six characters in SIXBIT, the first in the highest bits; blanks, of code 0, stand behind a
     /// shorter name.
@@ -18,7 +18,7 @@ pub struct Symbol {
 }
 
 /// What the symbols of a line stand for.
-#[derive(Clone, Copy, Debug)]
+#[derive(Clone, Copy)]
 pub struct Scope<'a> {
     /// The symbols of the program.
     pub symbols: &'a [Symbol],
@@ -31,20 +31,13 @@ pub struct Scope<'a> {
 /// How many characters of a name count.
 const NAME_CHARACTERS: usize = 6;
 
-/// The name of a word of upper case characters, the first six of which count.
+/// The name of a word in upper case characters, the first six of which count.
 fn name_of(word: &[u8]) -> u64 {
-    let mut upper = [0u8; NAME_CHARACTERS];
-    let mut length = 0;
-    for (i, byte) in word.iter().take(NAME_CHARACTERS).enumerate() {
-        if i < NAME_CHARACTERS {
-            upper[i] = byte.to_ascii_uppercase();
-            length = i + 1;
-        }
+    let mut upper = ArrayVec::<u8, NAME_CHARACTERS>::new();
+    for byte in word.iter().take(NAME_CHARACTERS) {
+        let _ = upper.try_push(byte.to_ascii_uppercase());
     }
-    let Some(name) = upper.get(..length) else {
-        return 0;
-    };
-    match sixbit(name) {
+    match sixbit(upper.as_slice()) {
         Some(name) => name.number(),
         None => 0,
     }
@@ -74,7 +67,7 @@ fn word_value(word: &[u8], scope: &Scope<'_>) -> Result<Word, Wrong> {
         let name = name_of(word);
         return scope.value_of(name).ok_or(Wrong::Undefined(name));
     }
-    if let Some(digits) = word.strip_suffix(b".".as_slice()) {
+    if let [digits @ .., b'.'] = word {
         return match decimal(digits) {
             Some(number) => Ok(Word::low_bits(number)),
             None => Err(Wrong::NoDecimal),
@@ -106,17 +99,17 @@ fn less(value: Word, other: Word) -> Word {
 /// A sum of terms with `+` and `-`, a sign before the first allowed.
 fn sum(reader: &mut Reader<'_>, scope: &Scope<'_>) -> Result<Word, Wrong> {
     reader.skip();
-    let mut value = if reader.eat(b'-') {
-        less(Word::new(0), term(reader, scope)?)
-    } else {
-        term(reader, scope)?
-    };
-    for _ in 0..reader.rest.len() {
-        if reader.eat(b'+') {
-            value = value.sum(term(reader, scope)?, false);
-        } else if reader.eat(b'-') {
-            value = less(value, term(reader, scope)?);
+    let mut value = Word::new(0);
+    let mut is_minus = reader.eat(b'-');
+    for _ in 0..reader.rest.len().saturating_add(1) {
+        let term = term(reader, scope)?;
+        value = if is_minus {
+            less(value, term)
         } else {
+            value.sum(term, false)
+        };
+        is_minus = reader.eat(b'-');
+        if !is_minus && !reader.eat(b'+') {
             break;
         }
     }

@@ -3,7 +3,7 @@
 use std::fmt;
 
 /// What is wrong with a line.
-#[derive(Clone, Copy, Debug, PartialEq, Eq, Drop)]
+#[derive(Clone, Copy, Drop)]
 pub enum Wrong {
     /// A symbol is not defined: its characters in SIXBIT, the first in the highest bits.
     Undefined(u64),

@@ -7,7 +7,7 @@ use std::alloc::{AllocError, Global};
 use word36::Word;
 
 /// Why a run stopped.
-#[derive(Clone, Copy, Debug)]
+#[derive(Clone, Copy)]
 pub enum Cause {
     /// The breakpoint of this number, from 1: its job and its place.
     Breakpoint(usize, u8, u32),

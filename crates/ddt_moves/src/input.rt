@@ -17,25 +17,26 @@ pub struct InputLines {
 }
 
 /// A line that was typed.
-#[derive(Clone, Copy, Debug)]
+#[derive(Clone, Copy)]
 struct Typed {
     happened: usize,
     next: usize,
 }
 
-/// The line that begins at a place, without its LF, and where the next begins; `None` at the end.
-fn line_from(text: &[u8], start: usize) -> Option<(&[u8], usize)> {
+/// The line that begins at a place, without its LF and a CR before that, and where the next begins;
+/// `None` at the end.
+pub fn line_from(text: &[u8], start: usize) -> Option<(&[u8], usize)> {
     let rest = text.get(start..)?;
     if rest.is_empty() {
         return None;
     }
-    match rest.iter().position(|byte| *byte == b'\n') {
-        Some(end) => Some((
-            rest.get(..end)?,
-            start.saturating_add(end).saturating_add(1),
-        )),
-        None => Some((rest, text.len())),
-    }
+    let length = rest
+        .iter()
+        .position(|byte| *byte == b'\n')
+        .unwrap_or(rest.len());
+    let line = rest.get(..length)?;
+    let next = start.saturating_add(length).saturating_add(1);
+    Some((line.strip_suffix(b"\r".as_slice()).unwrap_or(line), next))
 }
 
 impl InputLines {
@@ -86,7 +87,7 @@ impl InputLines {
         let Some((line, next)) = line_from(self.text.as_slice(), start) else {
             return Ok(false);
         };
-        let target = target_of(lines, line.strip_suffix(b"\r".as_slice()).unwrap_or(line));
+        let target = target_of(lines, line);
         type_line(timeline, target.line, target.text)?;
         self.forget(happened);
         self.typed.push(Typed { happened, next })?;

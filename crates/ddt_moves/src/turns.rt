@@ -1,6 +1,7 @@
 //! Whose turn a step was.
 
-use ddt_session::{Replay, Timeline};
+use crate::replays::Replay;
+use ddt_session::Timeline;
 use run_machine::Machine;
 use std::alloc::AllocError;
 use word36::{Address, JOBS};
@@ -37,7 +38,7 @@ fn next_turn(replay: &mut Replay<'_>) -> Option<(u8, u32)> {
 
 /// Whose turn the step behind so many was, and where that job stood before it.
 pub fn turn_at(timeline: &Timeline, steps: u64) -> Result<Option<(u8, u32)>, AllocError> {
-    let mut replay = timeline.replay()?;
+    let mut replay = Replay::of(timeline)?;
     replay.skip_to(steps);
     Ok(next_turn(&mut replay))
 }

@@ -1,5 +1,5 @@
 //! The lines of a session, as they come.
-ghost use Rattle.std.specs.Prelude.{◌≡◌, false};
+ghost use Rattle.std.specs.Prelude.{false};
 
 use crate::file_lines::FileLines;
 use crate::files::{read_file, write_file};
@@ -7,8 +7,8 @@ use crate::obey::{Wish, obey_line};
 use crate::session::Session;
 use crate::texts;
 use line_ports::{Answers, Came, Failure, LineReader};
+use run_facts::DONE;
 use script_io::{ByteIn, ByteOut, LINE_LENGTH};
-use std::alloc::AllocError;
 use std::rt::Files;
 use std::str;
 
@@ -17,6 +17,8 @@ use std::str;
 pub struct Dialogue<R: ByteIn + Drop, W: ByteOut + Drop, E: ByteOut + Drop> {
     /// Where lines come from.
     pub input: LineReader<R>,
+    /// The line that came last.
+    pub line: Vec<u8>,
     /// Where answers go.
     pub output: Answers<W>,
     /// Where a person is asked for the next line.
@@ -25,68 +27,54 @@ pub struct Dialogue<R: ByteIn + Drop, W: ByteOut + Drop, E: ByteOut + Drop> {
     pub is_person: bool,
 }
 
+/// How a line begins that says why something is not done.
+const REFUSAL_HEAD: &str = "? ";
+
 impl<R: ByteIn + Drop, W: ByteOut + Drop, E: ByteOut + Drop> Dialogue<R, W, E> {
-    /// Tells a person something, where there is one.
-    fn tell_person(&mut self, text: &str) -> Result<(), Failure> {
+    /// Takes the next line that is typed, for which a person is asked.
+    fn ask(&mut self) -> Result<Came, Failure> {
         if self.is_person {
-            self.errors.write(text.as_bytes())?;
+            self.errors.write(texts::PROMPT.as_bytes())?;
         }
-        Ok(())
+        self.input.next_line(&mut self.line)
     }
 
-    /// Puts the next line that is typed in place of `line`.
-    fn next_line(&mut self, line: &mut Vec<u8>) -> Result<Came, Failure> {
-        self.tell_person(texts::PROMPT)?;
-        self.input.next_line(line)
-    }
-
-    /// Writes the answer.
-    fn write_answer(&mut self, session: &mut Session<'_>) -> Result<(), Failure> {
-        self.output.write(session.text.as_slice())?;
-        session.text.clear();
-        Ok(())
+    /// Takes the next line of the file that is obeyed, which is written before its answer, or else the
+    /// next that is typed.
+    fn take_line(&mut self, session: &mut Session<'_>) -> Result<Came, Failure> {
+        let came = session.file_lines.next_line(&mut self.line)?;
+        if came == Came::End {
+            return self.ask();
+        }
+        session.echo(self.line.as_slice());
+        Ok(came)
     }
 }
 
-/// Serves lines until the session ends.
+/// Serves lines until the session ends, and gives the exit status.
 pub fn serve_lines<F: Files + AllocGlobal, R: ByteIn + Drop, W: ByteOut + Drop, E: ByteOut + Drop>(
     rt: &F,
     session: &mut Session<'_>,
     dialogue: &mut Dialogue<R, W, E>,
-) -> Result<(), Failure> {
-    let mut line = Vec::new(session.alloc);
-    dialogue.tell_person(texts::BANNER)?;
+) -> Result<u8, Failure> {
     for _ in 0..u64::MAX {
-        if !serve_next(rt, session, dialogue, &mut line)? {
-            return Ok(());
+        if !serve_next(rt, session, dialogue)? {
+            break;
         }
     }
-    Ok(())
+    Ok(DONE)
 }
 
-/// Serves the next line, of the file that is obeyed or else that is typed; false where the session ends.
+/// Serves the next line; false where the session ends.
 fn serve_next<F: Files + AllocGlobal, R: ByteIn + Drop, W: ByteOut + Drop, E: ByteOut + Drop>(
     rt: &F,
     session: &mut Session<'_>,
     dialogue: &mut Dialogue<R, W, E>,
-    line: &mut Vec<u8>,
 ) -> Result<bool, Failure> {
-    let came = match next_of_file(session, line)? {
-        Came::End => dialogue.next_line(line)?,
-        came => came,
-    };
-    let goes_on = serve_line(rt, session, came, line.as_slice())?;
-    dialogue.write_answer(session)?;
+    let came = dialogue.take_line(session)?;
+    let goes_on = serve_line(rt, session, came, dialogue.line.as_slice());
+    session.answer.write_to(&mut dialogue.output)?;
     Ok(goes_on)
-}
-
-/// Puts the next line of the file that is obeyed in place of `line`; it is written before its answer.
-fn next_of_file(session: &mut Session<'_>, line: &mut Vec<u8>) -> Result<Came, AllocError> {
-    let came = session.file_lines.next_line(line)?;
-    if came != Came::End {
-        session.echo(line.as_slice())?;
-    }
-    Ok(came)
 }
 
 /// Serves what came; false where the session ends.
@@ -95,94 +83,77 @@ fn serve_line<F: Files + AllocGlobal>(
     session: &mut Session<'_>,
     came: Came,
     line: &[u8],
-) -> Result<bool, AllocError> {
+) -> bool {
     match came {
-        Came::End => Ok(false),
-        Came::TooLong => refuse_length(session),
+        Came::End => false,
+        Came::TooLong => {
+            refuse_length(session);
+            true
+        }
         Came::Line => obey(rt, session, line),
     }
 }
 
-/// Says that a line is too long; the session goes on.
-fn refuse_length(session: &mut Session<'_>) -> Result<bool, AllocError> {
-    let text = format!(in session.alloc; "? a line has at most {LINE_LENGTH} characters\n")?;
-    session.say(text.as_str())?;
-    Ok(true)
+/// Says that a line is too long.
+fn refuse_length(session: &mut Session<'_>) {
+    let text = format!(in session.alloc; "? a line has at most {LINE_LENGTH} characters\n");
+    session.say_made(text);
 }
 
 /// Obeys a line; false where it ends the session.
-fn obey<F: Files + AllocGlobal>(
-    rt: &F,
-    session: &mut Session<'_>,
-    line: &[u8],
-) -> Result<bool, AllocError> {
-    match obey_line(session, line)? {
-        Wish::Nothing => session.keep(line)?,
-        Wish::Quit => return Ok(false),
-        Wish::Save(file) => save(rt, session, file)?,
-        Wish::Do(file) => obey_file(rt, session, file)?,
+fn obey<F: Files + AllocGlobal>(rt: &F, session: &mut Session<'_>, line: &[u8]) -> bool {
+    match obey_line(session, line) {
+        Wish::Nothing => session.keep(line),
+        Wish::Quit => return false,
+        Wish::Save(file) => save(rt, session, file),
+        Wish::Do(file) => obey_file(rt, session, file),
     }
-    Ok(true)
-}
-
-/// Says why something is not done with a file: a line that names it.
-fn refuse(session: &mut Session<'_>, line: &str) -> Result<(), AllocError> {
-    session.say("? ")?;
-    session.say(line)
+    true
 }
 
 /// The name of a file, or says that it is none.
-fn name_in<'a>(session: &mut Session<'_>, file: &'a [u8]) -> Result<Option<&'a str>, AllocError> {
+fn name_in<'a>(session: &mut Session<'_>, file: &'a [u8]) -> Option<&'a str> {
     let name = str::from_utf8(file).ok();
     if name.is_none() {
-        refuse(session, ": the name of a file is no text\n")?;
+        session.say("? : the name of a file is no text\n");
     }
-    Ok(name)
+    name
 }
 
 /// Writes the lines that were obeyed to a file.
-fn save<F: Files + AllocGlobal>(
-    rt: &F,
-    session: &mut Session<'_>,
-    file: &[u8],
-) -> Result<(), AllocError> {
-    let Some(file) = name_in(session, file)? else {
-        return Ok(());
-    };
-    match write_file(rt, file, session.kept.as_slice())? {
-        Some(reason) => refuse(session, reason.as_str()),
-        None => Ok(()),
+fn save<F: Files + AllocGlobal>(rt: &F, session: &mut Session<'_>, file: &[u8]) {
+    if let Some(file) = name_in(session, file) {
+        let lines = session.kept.as_slice();
+        write_file(rt, REFUSAL_HEAD, file, lines, &mut session.answer);
     }
 }
 
 /// Says that a file of lines names another, where one is obeyed; whether one is.
-fn refuse_nested(session: &mut Session<'_>) -> Result<bool, AllocError> {
+fn refuse_nested(session: &mut Session<'_>) -> bool {
     let Some(file) = session.file_lines.file() else {
-        return Ok(false);
+        return false;
     };
-    let line = format!(in session.alloc; "{file}: a file of lines obeys no other file\n")?;
-    refuse(session, line.as_str())?;
-    Ok(true)
+    let line = format!(in session.alloc; "? {file}: a file of lines obeys no other file\n");
+    session.say_made(line);
+    true
 }
 
-/// The lines of a file are obeyed next.
-fn obey_file<F: Files + AllocGlobal>(
-    rt: &F,
-    session: &mut Session<'_>,
-    file: &[u8],
-) -> Result<(), AllocError> {
-    if refuse_nested(session)? {
-        return Ok(());
+/// The lines of a file are obeyed next, unless they are named by a line of such a file.
+fn obey_file<F: Files + AllocGlobal>(rt: &F, session: &mut Session<'_>, file: &[u8]) {
+    if refuse_nested(session) {
+        return;
     }
-    let Some(file) = name_in(session, file)? else {
-        return Ok(());
-    };
-    match read_file(rt, file)? {
-        Ok(text) => {
-            let name = format!(in session.alloc; "{file}")?;
-            session.file_lines = FileLines::new(name, text);
-            Ok(())
+    if let Some(file) = name_in(session, file) {
+        if let Some(text) = read_file(rt, REFUSAL_HEAD, file, &mut session.answer) {
+            begin_file(session, file, text);
         }
-        Err(reason) => refuse(session, reason.as_str()),
+    }
+}
+
+/// The lines of this text of a file are obeyed next.
+fn begin_file(session: &mut Session<'_>, file: &str, text: Vec<u8>) {
+    match format!(in session.alloc; "{file}") {
+        Ok(name) => session.file_lines = FileLines::new(name, text),
+        Err(_) => session.fail(),
     }
 }

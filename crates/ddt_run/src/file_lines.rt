@@ -1,5 +1,6 @@
 //! The lines of a file that is obeyed.
 
+use ddt_moves::line_from;
 use line_ports::Came;
 use script_io::LINE_LENGTH;
 use std::alloc::{AllocError, Global};
@@ -41,28 +42,14 @@ impl FileLines {
         }
     }
 
-    /// The next line, without its LF and a CR before that; `None` at the end.
-    fn take_next(&mut self) -> Option<&[u8]> {
-        let rest = self.text.as_slice().get(self.next..)?;
-        if rest.is_empty() {
-            return None;
-        }
-        let length = rest
-            .iter()
-            .position(|byte| *byte == b'\n')
-            .unwrap_or(rest.len());
-        self.next = self.next.saturating_add(length).saturating_add(1);
-        let line = rest.get(..length)?;
-        Some(line.strip_suffix(b"\r".as_slice()).unwrap_or(line))
-    }
-
     /// Puts the next line in place of `line`. At the end no file is obeyed any longer.
     pub fn next_line(&mut self, line: &mut Vec<u8>) -> Result<Came, AllocError> {
         line.clear();
-        let Some(next) = self.take_next() else {
+        let Some((next, behind)) = line_from(self.text.as_slice(), self.next) else {
             self.file = None;
             return Ok(Came::End);
         };
+        self.next = behind;
         line.extend_from_slice(next)?;
         if line.len() > LINE_LENGTH {
             return Ok(Came::TooLong);

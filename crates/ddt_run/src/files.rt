@@ -1,33 +1,40 @@
 //! Files that are read and written.
 
-use std::alloc::{AllocError, Global};
+use crate::answer_text::AnswerText;
+use std::alloc::Global;
 use std::rt::Files;
 use std::{fs, io};
 
-/// The line that says why a file cannot be read or written.
-fn reason_of(alloc: Global, file: &str, error: io::Error) -> Result<String, AllocError> {
-    format!(in alloc; "{file}: {error}\n")
+/// Tells why a file cannot be read or written, in a line that begins with `head`.
+fn tell_error(alloc: Global, head: &str, file: &str, error: io::Error, told: &mut AnswerText) {
+    told.say_made(format!(in alloc; "{head}{file}: {error}\n"));
 }
 
-/// The bytes of a file, or the line that says why it cannot be read.
+/// The bytes of a file; where it cannot be read, a line that begins with `head` tells why.
 pub fn read_file<F: Files + AllocGlobal>(
     rt: &F,
+    head: &str,
     file: &str,
-) -> Result<Result<Vec<u8>, String>, AllocError> {
+    told: &mut AnswerText,
+) -> Option<Vec<u8>> {
     match fs::read(rt, file) {
-        Ok(text) => Ok(Ok(text)),
-        Err(error) => Ok(Err(reason_of(rt.alloc(), file, error)?)),
+        Ok(text) => Some(text),
+        Err(error) => {
+            tell_error(rt.alloc(), head, file, error, told);
+            None
+        }
     }
 }
 
-/// Writes bytes to a file; or gives the line that says why it cannot be written.
+/// Writes bytes to a file; where it cannot be written, a line that begins with `head` tells why.
 pub fn write_file<F: Files + AllocGlobal>(
     rt: &F,
+    head: &str,
     file: &str,
     bytes: &[u8],
-) -> Result<Option<String>, AllocError> {
-    match fs::write(rt, file, bytes) {
-        Ok(()) => Ok(None),
-        Err(error) => Ok(Some(reason_of(rt.alloc(), file, error)?)),
+    told: &mut AnswerText,
+) {
+    if let Err(error) = fs::write(rt, file, bytes) {
+        tell_error(rt.alloc(), head, file, error, told);
     }
 }

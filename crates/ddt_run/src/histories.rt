@@ -1,11 +1,12 @@
 //! The last turns of a job.
 
+use crate::answer_text::AnswerText;
 use crate::session::Session;
 use ddt_lines::{Look, Refusal};
-use ddt_session::{Replay, last_turns};
+use ddt_moves::{Replay, last_turns};
 use ddt_show::{ShownJob, place_line};
 use run_machine::Machine;
-use std::alloc::{AllocError, Global};
+use std::alloc::Global;
 use word36::Word;
 
 /// The place where a job stands, and the word there.
@@ -18,56 +19,44 @@ fn next_of(machine: &Machine, number: u8) -> Option<(u32, Word)> {
 
 /// Adds the lines of the turns of a job that are still to be made once more: the place and the
 /// instruction before each.
-fn add_turns(
-    alloc: Global,
-    replay: &mut Replay<'_>,
-    job: &ShownJob,
-    lines: &mut String,
-) -> Result<(), AllocError> {
+fn say_turns(alloc: Global, replay: &mut Replay<'_>, job: &ShownJob, answer: &mut AnswerText) {
     for _ in 0..u64::MAX {
         if !replay.go_before_step() {
-            return Ok(());
+            return;
         }
         let next = next_of(replay.machine(), job.number);
         let ran = replay.step();
         if ran == Some(job.number) {
             if let Some((place, word)) = next {
-                let line = place_line(alloc, job, place, word, Look::Symbolic)?;
-                lines.push_str(line.as_str())?;
-                lines.push_str("\n")?;
+                answer.say_made(place_line(alloc, job, place, word, Look::Symbolic));
+                answer.say("\n");
             }
         }
     }
-    Ok(())
 }
 
-/// The lines of the turns of the open job that were made behind so many steps.
-fn lines_from(session: &Session<'_>, steps: u64) -> Result<String, AllocError> {
-    let mut lines = String::new(session.alloc);
-    if let Some(job) = session.open_job() {
-        add_turns_from(session, &job.shown, steps, &mut lines)?;
+/// Adds the lines of the turns of the open job that were made behind so many steps.
+fn say_turns_from(session: &mut Session<'_>, steps: u64) {
+    let at = usize::from(session.open).saturating_sub(1);
+    let Some(job) = session.jobs.as_slice().get(at) else {
+        return;
+    };
+    match Replay::of(&session.timeline) {
+        Ok(mut replay) => {
+            replay.skip_to(steps);
+            say_turns(session.alloc, &mut replay, &job.shown, &mut session.answer);
+        }
+        Err(_) => session.answer.fail(),
     }
-    Ok(lines)
-}
-
-/// Adds the lines of the turns of a job that were made behind so many steps.
-fn add_turns_from(
-    session: &Session<'_>,
-    job: &ShownJob,
-    steps: u64,
-    lines: &mut String,
-) -> Result<(), AllocError> {
-    let mut replay = session.timeline.replay()?;
-    replay.skip_to(steps);
-    add_turns(session.alloc, &mut replay, job, lines)
 }
 
 /// `.HISTORY n`: tells the last turns of the open job, so many at most.
-pub fn tell_history(session: &mut Session<'_>, most: u32) -> Result<(), AllocError> {
-    let turns = last_turns(&session.timeline, session.open, most as usize)?;
-    let Some(first) = turns.first() else {
-        return session.refuse(Refusal::NoTurns);
-    };
-    let lines = lines_from(session, first)?;
-    session.say(lines.as_str())
+pub fn tell_history(session: &mut Session<'_>, most: u32) {
+    match last_turns(&session.timeline, session.open, most as usize) {
+        Ok(turns) => match turns.first() {
+            Some(first) => say_turns_from(session, first),
+            None => session.refuse(Refusal::NoTurns),
+        },
+        Err(_) => session.fail(),
+    }
 }

@@ -1,6 +1,7 @@
 //! The debugger: a session on a machine, driven by lines in the manner of DDT, over any ports.
 #![tactic(auto)]
 
+mod answer_text;
 mod asked;
 mod changes;
 mod dialogue;
@@ -21,6 +22,7 @@ mod texts;
 mod told;
 mod words;
 
+pub use answer_text::AnswerText;
 pub use asked::Asked;
 pub use obey::{Wish, obey_line};
 pub use program::{Ports, ddt, unread_words};

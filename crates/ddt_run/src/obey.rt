@@ -13,11 +13,9 @@ use crate::stop_commands::{
     set, stop_at_circles, stop_at_grants, stop_at_lock, tell_stops, unset, watch,
 };
 use crate::tables::{open_job, tell_jobs, tell_locks, tell_registers, tell_waits};
-use ddt_lines::{Command, Wrong, help_text, read_line};
-use std::alloc::AllocError;
+use ddt_lines::{Command, Wrong, help_lines, is_help_on, read_line};
 
 /// What a line asks of the program, beside its answer.
-#[derive(Clone, Copy, Debug, PartialEq, Eq)]
 pub enum Wish<'a> {
     /// Nothing.
     Nothing,
@@ -29,37 +27,39 @@ pub enum Wish<'a> {
     Quit,
 }
 
-/// Obeys a line, and adds the answer to `text`. A wrong line is answered by what is wrong with it, and
-/// changes nothing.
-pub fn obey_line<'a>(session: &mut Session<'_>, line: &'a [u8]) -> Result<Wish<'a>, AllocError> {
+/// Obeys a line, and adds to the answer. A wrong line is answered by what is wrong with it, and changes
+/// nothing.
+pub fn obey_line<'a>(session: &mut Session<'_>, line: &'a [u8]) -> Wish<'a> {
     let read = read_line(line, &session.scope());
-    let done = match &read {
-        Ok(command) => obey(session, command),
-        Err(wrong) => tell_wrong(session, *wrong),
-    };
-    let wish = wish_of(&read);
-    done?;
-    Ok(wish)
+    match read {
+        Ok(command) => {
+            obey(session, &command);
+            wish_of(&command)
+        }
+        Err(wrong) => {
+            tell_wrong(session, wrong);
+            Wish::Nothing
+        }
+    }
 }
 
 /// Says what is wrong with a line.
-fn tell_wrong(session: &mut Session<'_>, wrong: Wrong) -> Result<(), AllocError> {
-    let line = format!(in session.alloc; "{wrong}\n")?;
-    session.say(line.as_str())
+fn tell_wrong(session: &mut Session<'_>, wrong: Wrong) {
+    session.say_made(format!(in session.alloc; "{wrong}\n"));
 }
 
-/// What a line that was read asks of the program.
-fn wish_of<'a>(read: &Result<Command<'a>, Wrong>) -> Wish<'a> {
-    match *read {
-        Ok(Command::Save(file)) => Wish::Save(file),
-        Ok(Command::Do(file)) => Wish::Do(file),
-        Ok(Command::Quit) => Wish::Quit,
+/// What a command asks of the program.
+fn wish_of<'a>(command: &Command<'a>) -> Wish<'a> {
+    match *command {
+        Command::Save(file) => Wish::Save(file),
+        Command::Do(file) => Wish::Do(file),
+        Command::Quit => Wish::Quit,
         _ => Wish::Nothing,
     }
 }
 
 /// Does what a command asks of the session.
-fn obey(session: &mut Session<'_>, command: &Command<'_>) -> Result<(), AllocError> {
+fn obey(session: &mut Session<'_>, command: &Command<'_>) {
     match *command {
         Command::Next => open_next(session),
         Command::Before => open_before(session),
@@ -98,13 +98,21 @@ fn obey(session: &mut Session<'_>, command: &Command<'_>) -> Result<(), AllocErr
         Command::Registers => tell_registers(session),
         Command::History(count) => tell_history(session, count),
         Command::Help(word) => tell_help(session, word),
-        Command::Remark | Command::Save(_) | Command::Do(_) | Command::Quit => Ok(()),
+        Command::Remark | Command::Save(_) | Command::Do(_) | Command::Quit => {}
     }
 }
 
-/// `.HELP` and `.HELP word`.
-fn tell_help(session: &mut Session<'_>, word: &[u8]) -> Result<(), AllocError> {
-    let mut text = String::new(session.alloc);
-    help_text(word, &mut text)?;
-    session.say(text.as_str())
+/// `.HELP` and `.HELP word`: tells of all commands, or of those in which the word stands.
+fn tell_help(session: &mut Session<'_>, word: &[u8]) {
+    let mut is_any = false;
+    for line in help_lines() {
+        if is_help_on(line, word) {
+            session.say(line);
+            session.say("\n");
+            is_any = true;
+        }
+    }
+    if !is_any {
+        tell_wrong(session, Wrong::NoCommand);
+    }
 }

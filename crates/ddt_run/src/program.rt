@@ -4,16 +4,18 @@ ghost use Rattle.std.specs.Prelude.{◌≡◌, ◌≢◌, false};
 use crate::asked::Asked;
 use crate::dialogue::{Dialogue, serve_lines};
 use crate::files::read_file;
-use crate::loading::{begin, new_session};
+use crate::loading::begin;
 use crate::session::Session;
+use crate::texts;
 use crate::words::read_words;
 use ddt_moves::InputLines;
+use ddt_session::Timeline;
 use line_ports::{Answers, Failure, LineReader};
 use run_facts::{DONE, FAILED, REFUSED, USAGE};
 use run_words::Refusal;
 use script_io::{ByteIn, ByteOut};
 use source_labels::Source;
-use std::alloc::{AllocError, Global};
+use std::alloc::Global;
 use std::io::ErrorKind;
 use std::rt::Files;
 
@@ -30,36 +32,23 @@ pub struct Ports<R: ByteIn + Drop, W: ByteOut + Drop, E: ByteOut + Drop> {
     pub is_person: bool,
 }
 
-/// Reads a file; or adds why it cannot be read to what is told.
-fn read_or_tell<F: Files + AllocGlobal>(
-    rt: &F,
-    file: &str,
-    told: &mut Vec<u8>,
-) -> Result<Option<Vec<u8>>, AllocError> {
-    match read_file(rt, file)? {
-        Ok(text) => Ok(Some(text)),
-        Err(reason) => {
-            told.extend_from_slice(b"ddt: ")?;
-            told.extend_from_slice(reason.as_str().as_bytes())?;
-            Ok(None)
-        }
-    }
-}
+/// How a line begins that tells of a file which cannot be read.
+const ERROR_HEAD: &str = "ddt: ";
 
 /// Reads all sources, or tells of the first that cannot be read.
 fn read_sources<'a, F: Files + AllocGlobal>(
     rt: &F,
     files: &[&'a str],
-    told: &mut Vec<u8>,
-) -> Result<Option<Vec<Source<'a>>>, AllocError> {
+    session: &mut Session<'_>,
+) -> Option<Vec<Source<'a>>> {
     let mut sources = Vec::new(rt.alloc());
     for file in files {
-        match read_or_tell(rt, file, told)? {
-            Some(text) => sources.push(Source { file, text })?,
-            None => return Ok(None),
+        let text = read_file(rt, ERROR_HEAD, file, &mut session.answer)?;
+        if sources.push(Source { file, text }).is_err() {
+            session.fail();
         }
     }
-    Ok(Some(sources))
+    Some(sources)
 }
 
 /// Reads the lines that are typed where a job waits, if a file of them is named; false where it cannot be
@@ -68,24 +57,23 @@ fn read_input<F: Files + AllocGlobal>(
     rt: &F,
     asked: &Asked<'_>,
     session: &mut Session<'_>,
-    told: &mut Vec<u8>,
-) -> Result<bool, AllocError> {
+) -> bool {
     let Some(file) = asked.input else {
-        return Ok(true);
+        return true;
     };
-    match read_or_tell(rt, file, told)? {
+    match read_file(rt, ERROR_HEAD, file, &mut session.answer) {
         Some(text) => {
             session.input = InputLines::new(session.alloc, text);
-            Ok(true)
+            true
         }
-        None => Ok(false),
+        None => false,
     }
 }
 
 /// Says why the words were refused, or on `writer` the help or the version that they asked for.
 fn tell_refusal<W: ByteOut + Drop, E: ByteOut + Drop>(
     alloc: Global,
-    refusal: Refusal,
+    refusal: &Refusal,
     writer: &mut Answers<W>,
     errors: &mut Answers<E>,
 ) -> Result<u8, Failure> {
@@ -114,24 +102,23 @@ fn tell_failure<E: ByteOut + Drop>(alloc: Global, failure: Failure, errors: &mut
 }
 
 /// Reads what is asked for, and logs a job in for each source; gives the exit status where that fails.
-/// What is wrong, and warnings, are added to what is told.
+/// What is wrong, and warnings, are the answer.
 fn load<'a, F: Files + AllocGlobal>(
     rt: &F,
     asked: &Asked<'a>,
     session: &mut Session<'a>,
-    told: &mut Vec<u8>,
-) -> Result<Option<u8>, AllocError> {
-    let Some(sources) = read_sources(rt, asked.files.as_slice(), told)? else {
-        return Ok(Some(FAILED));
-    };
-    if !read_input(rt, asked, session, told)? {
-        return Ok(Some(FAILED));
+) -> Option<u8> {
+    match read_sources(rt, asked.files.as_slice(), session) {
+        Some(sources) if read_input(rt, asked, session) => {
+            let is_right = begin(session, sources.as_slice());
+            (!is_right).then_some(REFUSED)
+        }
+        _ => Some(FAILED),
     }
-    let is_right = begin(session, sources.as_slice(), told)?;
-    Ok((!is_right).then_some(REFUSED))
 }
 
-/// Serves a session that has no jobs yet, and gives the exit status.
+/// Serves a session that has no jobs yet, and gives the exit status. What is told before the first line is
+/// read goes where a person is told what is wrong.
 fn serve_session<
     'a,
     F: Files + AllocGlobal,
@@ -144,14 +131,15 @@ fn serve_session<
     session: &mut Session<'a>,
     dialogue: &mut Dialogue<R, W, E>,
 ) -> Result<u8, Failure> {
-    let mut told = Vec::new(session.alloc);
-    let ended = load(rt, asked, session, &mut told)?;
-    dialogue.errors.write(told.as_slice())?;
-    if let Some(status) = ended {
-        return Ok(status);
+    let ended = load(rt, asked, session);
+    if dialogue.is_person && ended.is_none() {
+        session.say(texts::BANNER);
     }
-    serve_lines(rt, session, dialogue)?;
-    Ok(DONE)
+    session.answer.write_to(&mut dialogue.errors)?;
+    match ended {
+        Some(status) => Ok(status),
+        None => serve_lines(rt, session, dialogue),
+    }
 }
 
 /// Serves what is asked for, and gives the exit status.
@@ -160,10 +148,11 @@ fn serve_asked<F: Files + AllocGlobal, R: ByteIn + Drop, W: ByteOut + Drop, E: B
     asked: &Asked<'_>,
     dialogue: &mut Dialogue<R, W, E>,
 ) -> Result<u8, Failure> {
-    match new_session(rt.alloc(), asked.config) {
-        Ok(mut session) => serve_session(rt, asked, &mut session, dialogue),
-        Err(_) => Err(Failure::Memory),
-    }
+    let timeline = Timeline::new(rt.alloc(), asked.config)?;
+    let mut session = Session::new(rt.alloc(), timeline);
+    let served = serve_session(rt, asked, &mut session, dialogue);
+    session.end();
+    served
 }
 
 /// The program, but for what is said of a failure.
@@ -175,7 +164,7 @@ fn serve<F: Files + AllocGlobal, R: ByteIn + Drop, W: ByteOut + Drop, E: ByteOut
     let alloc = rt.alloc();
     match read_words(alloc, words) {
         Ok(asked) => serve_asked(rt, &asked, dialogue),
-        Err(refusal) => tell_refusal(alloc, refusal, &mut dialogue.output, &mut dialogue.errors),
+        Err(refusal) => tell_refusal(alloc, &refusal, &mut dialogue.output, &mut dialogue.errors),
     }
 }
 
@@ -203,6 +192,7 @@ pub fn ddt<F: Files + AllocGlobal, R: ByteIn + Drop, W: ByteOut + Drop, E: ByteO
     };
     let mut dialogue = Dialogue {
         input,
+        line: Vec::new(rt.alloc()),
         output: Answers::new(writer),
         errors,
         is_person,

@@ -9,7 +9,7 @@ use ddt_moves::{
 };
 use ddt_session::{Stop, some_go_on};
 use std::alloc::AllocError;
-use word36::{JOBS, Word};
+use word36::{Address, JOBS, Word};
 
 /// The most steps that a run makes of itself.
 const MOST_STEPS: u32 = 1_000_000_000;
@@ -34,21 +34,44 @@ fn type_next(session: &mut Session<'_>) -> Result<bool, AllocError> {
 /// characters, the next line of the input is typed.
 fn run(session: &mut Session<'_>, own: &[Stop], most: u32) -> Result<Ended, AllocError> {
     let stops = stops_for(session, own)?;
+    run_with_input(session, &stops, most)
+}
+
+/// Makes steps as `run` does, up to these stops.
+fn run_with_input(
+    session: &mut Session<'_>,
+    stops: &Stops,
+    most: u32,
+) -> Result<Ended, AllocError> {
     let mut left = most;
     for _ in 0..most {
         let before = session.timeline.steps();
-        let ended = run_to(&mut session.timeline, &stops, &session.list, left)?;
+        let ended = run_to(&mut session.timeline, stops, &session.list, left)?;
         let made = session.timeline.steps().saturating_sub(before);
         left = left.saturating_sub(made.min(u64::from(most)) as u32);
-        let is_asked = matches!(ended.cause, Some(Cause::Input)) || ended.cause.is_none();
-        if !is_asked || ended.is_cut {
-            return Ok(ended);
-        }
-        if !type_next(session)? && !some_go_on(session.machine()) {
+        if !goes_on(session, &ended)? {
             return Ok(ended);
         }
     }
     Ok(Ended::at_once(&session.timeline, None))
+}
+
+/// Whether a run that ended so goes on: it came to where characters are waited for, or to where no job
+/// goes on, and the next line of the input is typed, or some job goes on behind its last one.
+fn goes_on(session: &mut Session<'_>, ended: &Ended) -> Result<bool, AllocError> {
+    let is_asked = matches!(ended.cause, Some(Cause::Input)) || ended.cause.is_none();
+    if !is_asked || ended.is_cut {
+        return Ok(false);
+    }
+    Ok(type_next(session)? || some_go_on(session.machine()))
+}
+
+/// Tells why a run ended, which could make so many steps.
+fn tell_run(session: &mut Session<'_>, ran: Result<Ended, AllocError>, most: u32) {
+    match ran {
+        Ok(ended) => tell_end(session, &ended, most),
+        Err(_) => session.fail(),
+    }
 }
 
 /// Starts the jobs that were not started, or the open one where all were; false where it is not stopped.
@@ -69,25 +92,27 @@ fn start_jobs(session: &mut Session<'_>) -> Result<bool, AllocError> {
 }
 
 /// `$G`: starts jobs, and runs.
-pub fn go(session: &mut Session<'_>) -> Result<(), AllocError> {
-    if !start_jobs(session)? {
-        return session.refuse(Refusal::NotStopped);
+pub fn go(session: &mut Session<'_>) {
+    match start_jobs(session) {
+        Ok(true) => run_from_start(session),
+        Ok(false) => session.refuse(Refusal::NotStopped),
+        Err(_) => session.fail(),
     }
-    run_from_start(session)
 }
 
 /// Runs where jobs were started just now: one that stands where runs stop stops the run before it begins.
-pub fn run_from_start(session: &mut Session<'_>) -> Result<(), AllocError> {
-    match cause_at_start(session)? {
-        Some(cause) => stop_at_once(session, cause),
-        None => proceed(session, 1),
+pub fn run_from_start(session: &mut Session<'_>) {
+    match cause_at_start(session) {
+        Ok(Some(cause)) => stop_at_once(session, cause),
+        Ok(None) => proceed(session, 1),
+        Err(_) => session.fail(),
     }
 }
 
 /// A run that ends before it begins.
-fn stop_at_once(session: &mut Session<'_>, cause: Cause) -> Result<(), AllocError> {
+fn stop_at_once(session: &mut Session<'_>, cause: Cause) {
     let ended = Ended::at_once(&session.timeline, Some(cause));
-    tell_end(session, &ended, MOST_STEPS)
+    tell_end(session, &ended, MOST_STEPS);
 }
 
 /// Why no step is made where jobs were started just now: one stands at a breakpoint, or before a call on
@@ -117,32 +142,22 @@ fn call_of(session: &Session<'_>, numbers: &[u8]) -> Result<Option<Cause>, Alloc
     Ok(None)
 }
 
-/// `n$P`: the jobs go on, until so many breakpoints were come to.
-pub fn proceed(session: &mut Session<'_>, times: u32) -> Result<(), AllocError> {
+/// The jobs go on, and pass so many breakpoints.
+fn go_past(session: &mut Session<'_>, passed: u32) -> Result<Ended, AllocError> {
     go_on(&mut session.timeline, session.open)?;
-    for time in 0..times {
+    for _ in 0..passed {
         let ended = run(session, &[], MOST_STEPS)?;
-        let is_passed = matches!(ended.cause, Some(Cause::Breakpoint(_, _, _)));
-        if !is_passed || time + 1 == times {
-            return tell_end(session, &ended, MOST_STEPS);
+        if !matches!(ended.cause, Some(Cause::Breakpoint(_, _, _))) {
+            return Ok(ended);
         }
     }
-    Ok(())
+    run(session, &[], MOST_STEPS)
 }
 
-/// `n$X`: so many instructions of the open job, behind each of which the next is told.
-pub fn execute(session: &mut Session<'_>, count: u32) -> Result<(), AllocError> {
-    let number = session.open;
-    begin(session, number)?;
-    for _ in 0..count {
-        let ended = run(session, &[Stop::Turn(number)], MOST_STEPS)?;
-        let is_own = matches!(ended.cause, Some(Cause::Own));
-        tell_end(session, &ended, MOST_STEPS)?;
-        if !is_own || is_stopped(session.machine(), number) {
-            return Ok(());
-        }
-    }
-    Ok(())
+/// `n$P`: the jobs go on, until so many breakpoints were come to.
+pub fn proceed(session: &mut Session<'_>, times: u32) {
+    let ran = go_past(session, times.saturating_sub(1));
+    tell_run(session, ran, MOST_STEPS);
 }
 
 /// Starts a job that was not started, or lets one go on that CTRL-C or EXIT 1 stopped.
@@ -154,29 +169,66 @@ fn begin(session: &mut Session<'_>, number: u8) -> Result<(), AllocError> {
     }
 }
 
-/// `$$X`: until the open job comes to the place behind its instruction, or the one behind that.
-pub fn execute_call(session: &mut Session<'_>) -> Result<(), AllocError> {
+/// An instruction of the open job, behind which the next is told; whether another may follow.
+fn execute_one(session: &mut Session<'_>) -> Result<bool, AllocError> {
     let number = session.open;
-    begin(session, number)?;
-    let Some(place) = session.place() else {
-        return session.tell_job(number);
-    };
+    let ended = run(session, &[Stop::Turn(number)], MOST_STEPS)?;
+    tell_end(session, &ended, MOST_STEPS);
+    let is_own = matches!(ended.cause, Some(Cause::Own));
+    Ok(is_own && !is_stopped(session.machine(), number))
+}
+
+/// So many instructions of the open job, or fewer where one is the last that it can execute now.
+fn execute_some(session: &mut Session<'_>, count: u32) -> Result<(), AllocError> {
+    begin(session, session.open)?;
+    for _ in 0..count {
+        if !execute_one(session)? {
+            break;
+        }
+    }
+    Ok(())
+}
+
+/// `n$X`: so many instructions of the open job, behind each of which the next is told.
+pub fn execute(session: &mut Session<'_>, count: u32) {
+    if execute_some(session, count).is_err() {
+        session.fail();
+    }
+}
+
+/// A run to one of the two places behind an instruction of a job.
+fn run_behind(session: &mut Session<'_>, number: u8, place: Address) -> Result<Ended, AllocError> {
     // A stop may hold a word, of which these have none: the prover wants its type to be named.
     let _word: Option<Word> = None;
     let own = [
         Stop::Place(number, place.plus(1)),
         Stop::Place(number, place.plus(2)),
     ];
-    let ended = run(session, &own, MOST_STEPS)?;
-    tell_end(session, &ended, MOST_STEPS)
+    run(session, &own, MOST_STEPS)
+}
+
+/// `$$X`: until the open job comes to the place behind its instruction, or the one behind that.
+pub fn execute_call(session: &mut Session<'_>) {
+    let number = session.open;
+    if begin(session, number).is_err() {
+        return session.fail();
+    }
+    match session.place() {
+        Some(place) => {
+            let ran = run_behind(session, number, place);
+            tell_run(session, ran, MOST_STEPS);
+        }
+        None => session.tell_job(number),
+    }
 }
 
 /// `.STEP n`: so many steps of the machine.
-pub fn step(session: &mut Session<'_>, count: u32) -> Result<(), AllocError> {
-    let ended = run(session, &[], count)?;
-    if ended.is_cut {
-        session.is_open = false;
-        return session.show_next();
+pub fn step(session: &mut Session<'_>, count: u32) {
+    match run(session, &[], count) {
+        Ok(Ended { is_cut: true, .. }) => {
+            session.is_open = false;
+            session.show_next();
+        }
+        ran => tell_run(session, ran, count),
     }
-    tell_end(session, &ended, count)
 }

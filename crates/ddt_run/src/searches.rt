@@ -4,7 +4,6 @@ use crate::session::Session;
 use ddt_lines::{Search, SearchKind};
 use run_machine::Machine;
 use run_notes::effective_address;
-use std::alloc::AllocError;
 use word36::{BLOCK_WORDS, Word};
 
 /// Whether a word of a job is one that is searched for.
@@ -22,7 +21,7 @@ fn is_found(machine: &Machine, number: u8, search: &Search, word: Word) -> bool 
 }
 
 /// Shows the words of the open job's core that are searched for.
-pub fn search(session: &mut Session<'_>, search: &Search) -> Result<(), AllocError> {
+pub fn search(session: &mut Session<'_>, search: &Search) {
     let number = session.open;
     let Some(view) = session.machine().job(number) else {
         return session.tell_job(number);
@@ -32,9 +31,8 @@ pub fn search(session: &mut Session<'_>, search: &Search) -> Result<(), AllocErr
             break;
         };
         if is_found(session.machine(), number, search, word) {
-            session.show_place(place)?;
+            session.show_place(place);
             session.here = place;
         }
     }
-    Ok(())
 }

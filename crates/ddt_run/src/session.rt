@@ -1,7 +1,8 @@
 //! A session: the machine with its jobs, and what is looked at.
 
+use crate::answer_text::AnswerText;
 use crate::file_lines::FileLines;
-use ddt_lines::{Look, Refusal, Scope, Symbol, refuse};
+use ddt_lines::{Look, Refusal, Scope, Symbol};
 use ddt_moves::{InputLines, StopList};
 use ddt_session::Timeline;
 use ddt_show::{ShownJob, job_line, place_line, place_text};
@@ -49,42 +50,71 @@ pub struct Session<'a> {
     /// Behind how many entries the first word was deposited.
     pub edited: Option<usize>,
     /// The answer that is not written yet.
-    pub text: Vec<u8>,
+    pub answer: AnswerText,
     /// The lines that were obeyed, with their ends.
     pub kept: Vec<u8>,
     /// The lines of the file that is obeyed.
     pub file_lines: FileLines,
 }
 
-/// What stands before a line of a file that is obeyed.
-const ECHO: &[u8] = b"* ";
+impl<'a> Session<'a> {
+    /// A session without jobs, whose first will be open, and where nothing was looked at.
+    pub fn new(alloc: Global, timeline: Timeline) -> Self {
+        Session {
+            alloc,
+            timeline,
+            jobs: Vec::new(alloc),
+            open: 1,
+            look: Look::Symbolic,
+            here: 0,
+            is_open: false,
+            last: Word::new(0),
+            list: StopList::new(),
+            input: InputLines::none(alloc),
+            edited: None,
+            answer: AnswerText::new(alloc),
+            kept: Vec::new(alloc),
+            file_lines: FileLines::none(alloc),
+        }
+    }
+}
 
 impl Session<'_> {
+    /// Ends the session, and gives back the memory that it has.
+    pub fn end(self) {}
+
     /// Adds to the answer.
-    pub fn say(&mut self, text: &str) -> Result<(), AllocError> {
-        self.text.extend_from_slice(text.as_bytes())
+    pub fn say(&mut self, text: &str) {
+        self.answer.say(text);
+    }
+
+    /// Adds a text that was just made to the answer, if there was memory for it.
+    pub fn say_made(&mut self, made: Result<String, AllocError>) {
+        self.answer.say_made(made);
+    }
+
+    /// There was no memory for what a line asks for: in place of its answer the session ends.
+    pub fn fail(&mut self) {
+        self.answer.fail();
     }
 
     /// Adds a line of a file, which stands before its answer.
-    pub fn echo(&mut self, line: &[u8]) -> Result<(), AllocError> {
-        self.text.extend_from_slice(ECHO)?;
-        self.text.extend_from_slice(line)?;
-        self.text.push(b'\n')?;
-        Ok(())
+    pub fn echo(&mut self, line: &[u8]) {
+        self.say("* ");
+        self.answer.add(line);
+        self.say("\n");
     }
 
     /// Keeps a line that was obeyed.
-    pub fn keep(&mut self, line: &[u8]) -> Result<(), AllocError> {
-        self.kept.extend_from_slice(line)?;
-        self.kept.push(b'\n')?;
-        Ok(())
+    pub fn keep(&mut self, line: &[u8]) {
+        if self.kept.extend_from_slice(line).is_err() || self.kept.push(b'\n').is_err() {
+            self.fail();
+        }
     }
 
     /// Adds a line that says why nothing is done.
-    pub fn refuse(&mut self, refusal: Refusal) -> Result<(), AllocError> {
-        let mut line = String::new(self.alloc);
-        refuse(self.alloc, &mut line, refusal)?;
-        self.say(line.as_str())
+    pub fn refuse(&mut self, refusal: Refusal) {
+        self.say_made(format!(in self.alloc; "{refusal}\n"));
     }
 
     /// The machine.
@@ -92,11 +122,16 @@ impl Session<'_> {
         self.timeline.machine()
     }
 
-    /// The job that is open.
-    pub fn open_job(&self) -> Option<&SessionJob<'_>> {
+    /// The job of a number.
+    fn job(&self, number: u8) -> Option<&SessionJob<'_>> {
         self.jobs
             .as_slice()
-            .get(usize::from(self.open).saturating_sub(1))
+            .get(usize::from(number).saturating_sub(1))
+    }
+
+    /// The job that is open.
+    pub fn open_job(&self) -> Option<&SessionJob<'_>> {
+        self.job(self.open)
     }
 
     /// The PC of the job that is open; `None` where it is gone.
@@ -120,43 +155,34 @@ impl Session<'_> {
 
     /// A place of a job: `LOOP+3`.
     fn spot(&self, job: u8, place: u32) -> Result<String, AllocError> {
-        let at = usize::from(job).saturating_sub(1);
-        match self.jobs.as_slice().get(at) {
+        match self.job(job) {
             Some(job) => place_text(self.alloc, &job.shown, place),
             None => format!(in self.alloc; "{place:o}"),
         }
     }
 
     /// Adds a place of a job.
-    pub fn say_spot(&mut self, job: u8, place: u32) -> Result<(), AllocError> {
-        let spot = self.spot(job, place)?;
-        self.say(spot.as_str())
-    }
-
-    /// Adds a number in decimal.
-    pub fn say_number(&mut self, number: u64) -> Result<(), AllocError> {
-        let number = format!(in self.alloc; "{number}")?;
-        self.say(number.as_str())
+    pub fn say_spot(&mut self, job: u8, place: u32) {
+        self.say_made(self.spot(job, place));
     }
 
     /// Adds a place of the open job and its word, as words are shown, without the end of the line.
-    fn add_place(&mut self, place: u32, word: Word) -> Result<(), AllocError> {
-        let line = match self.open_job() {
-            Some(job) => place_line(self.alloc, &job.shown, place, word, self.look)?,
-            None => return Ok(()),
-        };
-        self.say(line.as_str())
+    fn say_place(&mut self, place: u32, word: Word) {
+        if let Some(job) = self.open_job() {
+            let line = place_line(self.alloc, &job.shown, place, word, self.look);
+            self.say_made(line);
+        }
     }
 
     /// Adds the line of a place of the open job; false where it has no word there.
-    pub fn show_place(&mut self, place: u32) -> Result<bool, AllocError> {
+    pub fn show_place(&mut self, place: u32) -> bool {
         let Some(word) = self.machine().peek(self.open, place) else {
-            return Ok(false);
+            return false;
         };
-        self.add_place(place, word)?;
-        self.say("\n")?;
+        self.say_place(place, word);
+        self.say("\n");
         self.last = word;
-        Ok(true)
+        true
     }
 
     /// Whether the open job runs: it is not stopped and waits for nothing.
@@ -168,32 +194,28 @@ impl Session<'_> {
     }
 
     /// Adds the line of what the open job executes next, or how it stands where it does not run.
-    pub fn show_next(&mut self) -> Result<(), AllocError> {
+    pub fn show_next(&mut self) {
         if let Some(place) = self.place() {
             self.here = place.number();
         }
-        if !self.is_running() || !self.show_place(self.here)? {
-            return self.tell_job(self.open);
+        if !self.is_running() || !self.show_place(self.here) {
+            self.tell_job(self.open);
         }
-        Ok(())
     }
 
     /// Adds the line on how a job stands.
-    pub fn tell_job(&mut self, number: u8) -> Result<(), AllocError> {
-        let place = usize::from(number).saturating_sub(1);
-        let line = match self.jobs.as_slice().get(place) {
-            Some(job) => job_line(self.alloc, self.timeline.machine(), &job.shown, job.file)?,
-            None => return Ok(()),
-        };
-        self.say(line.as_str())
+    pub fn tell_job(&mut self, number: u8) {
+        if let Some(job) = self.job(number) {
+            let line = job_line(self.alloc, self.machine(), &job.shown, job.file);
+            self.say_made(line);
+        }
     }
 
     /// Adds the lines on how all jobs stand.
-    pub fn tell_jobs(&mut self) -> Result<(), AllocError> {
+    pub fn tell_jobs(&mut self) {
         for number in 1..self.jobs.len().saturating_add(1) {
-            self.tell_job(number.min(usize::from(JOBS)) as u8)?;
+            self.tell_job(number.min(usize::from(JOBS)) as u8);
         }
-        Ok(())
     }
 
     /// Whether words were deposited before this.

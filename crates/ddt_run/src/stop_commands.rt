@@ -6,66 +6,44 @@ use ddt_moves::{BREAKPOINTS, Breakpoint, StopList, WatchedWord};
 use lock_queue::Name;
 use queue_script::CallRoom;
 use script_io::Parts;
-use std::alloc::AllocError;
 use word36::Address;
 
 /// Sets a breakpoint of the open job.
-pub fn set(session: &mut Session<'_>, place: u32, number: Option<u8>) -> Result<(), AllocError> {
-    let Some(address) = Address::try_new(place) else {
+pub fn set(session: &mut Session<'_>, place: u32, number: Option<u8>) {
+    let Some(place) = Address::try_new(place) else {
         return session.refuse(Refusal::NoWord);
     };
-    match session.list.set(session.open, address, number) {
-        Some(number) => {
-            let breakpoint = Breakpoint {
-                job: session.open,
-                place: address,
-            };
-            tell_breakpoint(session, number, breakpoint)
-        }
+    let job = session.open;
+    match session.list.set(job, place, number) {
+        Some(number) => tell_breakpoint(session, number, Breakpoint { job, place }),
         None => session.refuse(Refusal::NoBreakpointFree),
     }
 }
 
 /// Takes a breakpoint away.
-pub fn unset(session: &mut Session<'_>, number: u8) -> Result<(), AllocError> {
+pub fn unset(session: &mut Session<'_>, number: u8) {
     if !session.list.unset(number) {
-        return session.refuse(Refusal::NotSet);
+        session.refuse(Refusal::NotSet);
     }
-    Ok(())
 }
 
-/// The line on a place of a job where runs stop.
-fn say_stop(session: &mut Session<'_>, head: &str, job: u8, place: u32) -> Result<(), AllocError> {
-    session.say(head)?;
-    session.say(" job ")?;
-    session.say_number(u64::from(job))?;
-    session.say(" ")?;
-    session.say_spot(job, place)?;
-    session.say("\n")
+/// Adds the place of a job where runs stop, with which the line ends: ` job 1 LOOP+3`.
+fn say_stop(session: &mut Session<'_>, job: u8, place: u32) {
+    session.say_made(format!(in session.alloc; " job {job} "));
+    session.say_spot(job, place);
+    session.say("\n");
 }
 
 /// The line on a breakpoint: `$1B job 1 LOOP+3`.
-fn tell_breakpoint(
-    session: &mut Session<'_>,
-    number: usize,
-    breakpoint: Breakpoint,
-) -> Result<(), AllocError> {
-    let head = format!(in session.alloc; "${number}B")?;
-    say_stop(
-        session,
-        head.as_str(),
-        breakpoint.job,
-        breakpoint.place.number(),
-    )
+fn tell_breakpoint(session: &mut Session<'_>, number: usize, breakpoint: Breakpoint) {
+    session.say_made(format!(in session.alloc; "${number}B"));
+    say_stop(session, breakpoint.job, breakpoint.place.number());
 }
 
 /// The line on a watched word: `watched job 1 COUNT`.
-fn tell_watched(
-    session: &mut Session<'_>,
-    head: &str,
-    word: WatchedWord,
-) -> Result<(), AllocError> {
-    say_stop(session, head, word.job, word.place)
+fn tell_watched(session: &mut Session<'_>, head: &str, word: WatchedWord) {
+    session.say(head);
+    say_stop(session, word.job, word.place);
 }
 
 /// The breakpoint at a place of the list, if one is set there.
@@ -76,32 +54,41 @@ fn breakpoint_at(list: &StopList, at: usize) -> Option<Breakpoint> {
     }
 }
 
-/// Tells the breakpoints, and what else runs stop at.
-pub fn tell_stops(session: &mut Session<'_>) -> Result<(), AllocError> {
+/// Tells the breakpoints.
+fn tell_breakpoints(session: &mut Session<'_>) {
     for at in 0..BREAKPOINTS {
         if let Some(breakpoint) = breakpoint_at(&session.list, at) {
-            tell_breakpoint(session, at.saturating_add(1), breakpoint)?;
+            tell_breakpoint(session, at.saturating_add(1), breakpoint);
         }
     }
+}
+
+/// Tells the words that are watched.
+fn tell_words(session: &mut Session<'_>) {
     for i in 0..session.list.words.len() {
         if let Some(word) = session.list.words.as_slice().get(i).copied() {
-            tell_watched(session, "watched", word)?;
+            tell_watched(session, "watched", word);
         }
     }
+}
+
+/// Tells the breakpoints, and what else runs stop at.
+pub fn tell_stops(session: &mut Session<'_>) {
+    tell_breakpoints(session);
+    tell_words(session);
     if session.list.circles {
-        session.say("circles\n")?;
+        session.say("circles\n");
     }
     if session.list.lock.is_some() {
-        session.say("calls on a lock\n")?;
+        session.say("calls on a lock\n");
     }
     if session.list.grants {
-        session.say("grants\n")?;
+        session.say("grants\n");
     }
-    Ok(())
 }
 
 /// Watches a word of the open job, or no longer.
-pub fn watch(session: &mut Session<'_>, place: u32) -> Result<(), AllocError> {
+pub fn watch(session: &mut Session<'_>, place: u32) {
     let job = session.open;
     if session.machine().peek(job, place).is_none() {
         return session.refuse(Refusal::NoWord);
@@ -115,23 +102,23 @@ pub fn watch(session: &mut Session<'_>, place: u32) -> Result<(), AllocError> {
 }
 
 /// Runs stop at circles of waits, or no longer.
-pub fn stop_at_circles(session: &mut Session<'_>) -> Result<(), AllocError> {
+pub fn stop_at_circles(session: &mut Session<'_>) {
     session.list.circles = !session.list.circles;
-    if session.list.circles {
-        session.say("runs stop at circles\n")
+    session.say(if session.list.circles {
+        "runs stop at circles\n"
     } else {
-        session.say("runs no longer stop at circles\n")
-    }
+        "runs no longer stop at circles\n"
+    });
 }
 
 /// Runs stop where a request is granted, or no longer.
-pub fn stop_at_grants(session: &mut Session<'_>) -> Result<(), AllocError> {
+pub fn stop_at_grants(session: &mut Session<'_>) {
     session.list.grants = !session.list.grants;
-    if session.list.grants {
-        session.say("runs stop at grants\n")
+    session.say(if session.list.grants {
+        "runs stop at grants\n"
     } else {
-        session.say("runs no longer stop at grants\n")
-    }
+        "runs no longer stop at grants\n"
+    });
 }
 
 /// The name of a lock that is written as in a queue script, where it is one.
@@ -146,19 +133,24 @@ fn lock_name(job: u8, text: &[u8]) -> Option<Name> {
     }
 }
 
+/// Whether runs stop before calls on a lock.
+fn stops_at(list: &StopList, name: &Name) -> bool {
+    match &list.lock {
+        Some(lock) => lock.is_same(name),
+        None => false,
+    }
+}
+
 /// Runs stop before calls on a lock, or no longer where they do.
-pub fn stop_at_lock(session: &mut Session<'_>, text: &[u8]) -> Result<(), AllocError> {
+pub fn stop_at_lock(session: &mut Session<'_>, text: &[u8]) {
     let Some(name) = lock_name(session.open, text) else {
         return session.refuse(Refusal::NoLock);
     };
-    let is_set = match &session.list.lock {
-        Some(lock) => lock.is_same(&name),
-        None => false,
-    };
-    if is_set {
+    if stops_at(&session.list, &name) {
         session.list.lock = None;
-        return session.say("runs no longer stop before calls on that lock\n");
+        session.say("runs no longer stop before calls on that lock\n");
+    } else {
+        session.list.lock = Some(name);
+        session.say("runs stop before calls on that lock\n");
     }
-    session.list.lock = Some(name);
-    session.say("runs stop before calls on that lock\n")
 }

@@ -6,53 +6,54 @@ use ddt_show::{lock_lines, register_lines, wait_lines};
 use std::alloc::AllocError;
 
 /// Opens a job.
-pub fn open_job(session: &mut Session<'_>, number: u8) -> Result<(), AllocError> {
+pub fn open_job(session: &mut Session<'_>, number: u8) {
     if usize::from(number) > session.jobs.len() || number == 0 {
         return session.refuse(Refusal::NoJob);
     }
     session.open = number;
     session.is_open = false;
-    session.tell_job(number)
+    session.tell_job(number);
 }
 
 /// Tells how all jobs stand, how many steps were made, and whether words were deposited.
-pub fn tell_jobs(session: &mut Session<'_>) -> Result<(), AllocError> {
-    session.tell_jobs()?;
+pub fn tell_jobs(session: &mut Session<'_>) {
+    session.tell_jobs();
     let (steps, ticks) = (session.timeline.steps(), session.timeline.ticks());
-    let edited = if session.is_edited() {
-        ", edited: words were deposited"
-    } else {
-        ""
-    };
-    let line = format!(in session.alloc; "steps {steps}, ticks {ticks}{edited}\n")?;
-    session.say(line.as_str())
+    session.say_made(format!(in session.alloc; "steps {steps}, ticks {ticks}"));
+    if session.is_edited() {
+        session.say(", edited: words were deposited");
+    }
+    session.say("\n");
 }
 
-/// Adds lines, or that there is none.
-fn say_lines(session: &mut Session<'_>, lines: &[u8], none: &str) -> Result<(), AllocError> {
+/// Adds lines that were just made, or that there is none.
+fn say_lines(session: &mut Session<'_>, made: Result<Vec<u8>, AllocError>, none: &str) {
+    let Ok(lines) = made else {
+        return session.fail();
+    };
     if lines.is_empty() {
-        return session.say(none);
+        session.say(none);
+    } else {
+        session.answer.add(lines.as_slice());
     }
-    session.text.extend_from_slice(lines)
 }
 
 /// Tells the requests for locks.
-pub fn tell_locks(session: &mut Session<'_>) -> Result<(), AllocError> {
-    let lines = lock_lines(session.alloc, session.machine())?;
-    say_lines(session, lines.as_slice(), "no requests\n")
+pub fn tell_locks(session: &mut Session<'_>) {
+    let lines = lock_lines(session.alloc, session.machine());
+    say_lines(session, lines, "no requests\n");
 }
 
 /// Tells who waits for whom.
-pub fn tell_waits(session: &mut Session<'_>) -> Result<(), AllocError> {
-    let lines = wait_lines(session.alloc, session.machine())?;
-    say_lines(session, lines.as_slice(), "no job waits for another\n")
+pub fn tell_waits(session: &mut Session<'_>) {
+    let lines = wait_lines(session.alloc, session.machine());
+    say_lines(session, lines, "no job waits for another\n");
 }
 
 /// Tells the registers of the open job.
-pub fn tell_registers(session: &mut Session<'_>) -> Result<(), AllocError> {
-    let lines = match session.open_job() {
-        Some(job) => register_lines(session.alloc, session.machine(), &job.shown)?,
-        None => return Ok(()),
-    };
-    session.say(lines.as_str())
+pub fn tell_registers(session: &mut Session<'_>) {
+    if let Some(job) = session.open_job() {
+        let lines = register_lines(session.alloc, session.machine(), &job.shown);
+        session.say_made(lines);
+    }
 }

@@ -3,28 +3,20 @@
 use crate::session::Session;
 use crate::tables::tell_waits;
 use ddt_moves::{Cause, Ended, turn_at};
-use std::alloc::AllocError;
 use word36::Word;
 
 /// A run ended at a breakpoint, whose job is open from here on.
-fn tell_breakpoint(
-    session: &mut Session<'_>,
-    number: usize,
-    job: u8,
-    place: u32,
-) -> Result<(), AllocError> {
+fn tell_breakpoint(session: &mut Session<'_>, number: usize, job: u8, place: u32) {
     session.open = job;
     session.here = place;
-    let head = format!(in session.alloc; "${number}B>> ")?;
-    session.say(head.as_str())?;
-    if !session.show_place(place)? {
-        return session.tell_job(job);
+    session.say_made(format!(in session.alloc; "${number}B>> "));
+    if !session.show_place(place) {
+        session.tell_job(job);
     }
-    Ok(())
 }
 
 /// Adds a word in octal.
-fn say_word(session: &mut Session<'_>, word: Option<Word>) -> Result<(), AllocError> {
+fn say_word(session: &mut Session<'_>, word: Option<Word>) {
     match word {
         Some(word) => session.say(word.octal().as_str()),
         None => session.say("no word"),
@@ -32,79 +24,71 @@ fn say_word(session: &mut Session<'_>, word: Option<Word>) -> Result<(), AllocEr
 }
 
 /// Adds by whom a word was changed in the last step that was made: ` by job 1 at LOOP+3`.
-fn say_writer(session: &mut Session<'_>) -> Result<(), AllocError> {
+fn say_writer(session: &mut Session<'_>) {
     let steps = session.timeline.steps().saturating_sub(1);
-    match turn_at(&session.timeline, steps)? {
-        Some((job, place)) => {
-            session.say(" by ")?;
-            say_turn(session, job, place)
+    match turn_at(&session.timeline, steps) {
+        Ok(Some((job, place))) => {
+            session.say(" by ");
+            say_turn(session, job, place);
         }
-        None => Ok(()),
+        Ok(None) => {}
+        Err(_) => session.fail(),
     }
 }
 
 /// Adds where a job stood: `job 1 at LOOP+3`.
-pub fn say_turn(session: &mut Session<'_>, job: u8, place: u32) -> Result<(), AllocError> {
-    session.say("job ")?;
-    session.say_number(u64::from(job))?;
-    session.say(" at ")?;
-    session.say_spot(job, place)
+pub fn say_turn(session: &mut Session<'_>, job: u8, place: u32) {
+    session.say_made(format!(in session.alloc; "job {job} at "));
+    session.say_spot(job, place);
 }
 
 /// A run ended since a word of a job changed, which is open from here on.
-fn tell_change(
-    session: &mut Session<'_>,
-    job: u8,
-    place: u32,
-    was: Option<Word>,
-) -> Result<(), AllocError> {
+fn tell_change(session: &mut Session<'_>, job: u8, place: u32, was: Option<Word>) {
     session.open = job;
-    session.say_spot(job, place)?;
-    session.say(" was ")?;
-    say_word(session, was)?;
-    session.say(", is ")?;
-    say_word(session, session.machine().peek(job, place))?;
-    session.say(", changed")?;
-    say_writer(session)?;
-    session.say("\n")?;
-    session.show_next()
+    session.say_spot(job, place);
+    session.say(" was ");
+    say_word(session, was);
+    session.say(", is ");
+    say_word(session, session.machine().peek(job, place));
+    session.say(", changed");
+    say_writer(session);
+    session.say("\n");
+    session.show_next();
 }
 
 /// Jobs wait in a circle.
-fn tell_circle(session: &mut Session<'_>) -> Result<(), AllocError> {
-    session.say("jobs wait in a circle\n")?;
-    tell_waits(session)
+fn tell_circle(session: &mut Session<'_>) {
+    session.say("jobs wait in a circle\n");
+    tell_waits(session);
 }
 
 /// A job is before a call on the lock that is looked at, and is open from here on.
-fn tell_call(session: &mut Session<'_>, job: u8) -> Result<(), AllocError> {
+fn tell_call(session: &mut Session<'_>, job: u8) {
     session.open = job;
-    let line = format!(in session.alloc; "job {job} is before a call on the lock\n")?;
-    session.say(line.as_str())?;
-    session.show_next()
+    session.say_made(format!(in session.alloc; "job {job} is before a call on the lock\n"));
+    session.show_next();
 }
 
 /// Requests were granted.
-fn tell_grants(session: &mut Session<'_>, grants: &str) -> Result<(), AllocError> {
-    session.say(grants)?;
-    session.show_next()
+fn tell_grants(session: &mut Session<'_>, grants: &str) {
+    session.say(grants);
+    session.show_next();
 }
 
 /// As many steps were made as a run may have.
-fn tell_cut(session: &mut Session<'_>, most: u32) -> Result<(), AllocError> {
-    let line = format!(in session.alloc; "{most} steps were made: $P goes on\n")?;
-    session.say(line.as_str())?;
-    session.show_next()
+fn tell_cut(session: &mut Session<'_>, most: u32) {
+    session.say_made(format!(in session.alloc; "{most} steps were made: $P goes on\n"));
+    session.show_next();
 }
 
 /// No job goes on.
-fn tell_rest(session: &mut Session<'_>) -> Result<(), AllocError> {
-    session.say("no job goes on\n")?;
-    session.tell_jobs()
+fn tell_rest(session: &mut Session<'_>) {
+    session.say("no job goes on\n");
+    session.tell_jobs();
 }
 
 /// Says why a run ended, which could make so many steps.
-fn tell_cause(session: &mut Session<'_>, ended: &Ended, most: u32) -> Result<(), AllocError> {
+fn tell_cause(session: &mut Session<'_>, ended: &Ended, most: u32) {
     // A cause may hold a word: the prover wants its type to be named.
     let _word: Option<Word> = None;
     let cause = ended.cause;
@@ -121,16 +105,15 @@ fn tell_cause(session: &mut Session<'_>, ended: &Ended, most: u32) -> Result<(),
 }
 
 /// Says why a run ended, which could make so many steps, and whether the session was edited.
-pub fn tell_end(session: &mut Session<'_>, ended: &Ended, most: u32) -> Result<(), AllocError> {
+pub fn tell_end(session: &mut Session<'_>, ended: &Ended, most: u32) {
     session.is_open = false;
-    tell_cause(session, ended, most)?;
-    tell_edited(session)
+    tell_cause(session, ended, most);
+    tell_edited(session);
 }
 
 /// Says that words were deposited, if any were.
-fn tell_edited(session: &mut Session<'_>) -> Result<(), AllocError> {
+fn tell_edited(session: &mut Session<'_>) {
     if session.is_edited() {
-        session.say("edited: words were deposited\n")?;
+        session.say("edited: words were deposited\n");
     }
-    Ok(())
 }

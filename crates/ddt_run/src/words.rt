@@ -10,14 +10,22 @@ use std::alloc::{AllocError, Global};
 
 /// What the words, which begin with the program's name, ask for.
 pub fn read_words<'a>(alloc: Global, words: &'a [String]) -> Result<Asked<'a>, Refusal> {
-    let mut command = match ddt_command(alloc) {
-        Ok(command) => command,
-        Err(_) => return Err(Refusal::Memory),
-    };
-    let matches = matches_of(&mut command, words)?;
+    match ddt_command(alloc) {
+        Ok(mut command) => read_by(alloc, &mut command, words),
+        Err(_) => Err(Refusal::Memory),
+    }
+}
+
+/// What the words ask for by a command line.
+fn read_by<'a>(
+    alloc: Global,
+    command: &mut Command<'a>,
+    words: &'a [String],
+) -> Result<Asked<'a>, Refusal> {
+    let matches = matches_of(command, words)?;
     match read(alloc, &matches) {
         Ok(asked) => Ok(asked),
-        Err(wrong) => Err(refused(alloc, &mut command, wrong)),
+        Err(wrong) => Err(refused(alloc, command, wrong)),
     }
 }
 

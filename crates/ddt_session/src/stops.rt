@@ -15,7 +15,7 @@ use run_machine::Machine;
 use word36::{Address, Image, JOBS, Word};
 
 /// Where a run stops.
-#[derive(Clone, Copy, Debug)]
+#[derive(Clone, Copy)]
 pub enum Stop {
     /// A job came to a place: it stands there, and had its turn or stood elsewhere before, as where a time
     /// limit ends and a tick puts its PC to the error return.
@@ -31,7 +31,7 @@ pub enum Stop {
 }
 
 /// A stop that a run is looked at for.
-#[derive(Clone, Copy, Debug)]
+#[derive(Clone, Copy)]
 pub struct LookedAt {
     /// The stop.
     pub stop: Stop,
@@ -49,7 +49,7 @@ pub trait Watch {
 }
 
 /// Nothing else.
-#[derive(Clone, Copy, Debug)]
+#[derive(Clone, Copy)]
 pub struct NoWatch;
 
 impl Watch for NoWatch {
@@ -65,7 +65,7 @@ impl Watch for NoWatch {
 }
 
 /// A run that was made.
-#[derive(Clone, Copy, Debug)]
+#[derive(Clone, Copy)]
 pub struct Ran {
     /// How many steps, each with a tick behind it.
     pub made: u32,

@@ -1,12 +1,10 @@
 //! A machine with all that has happened to it, so that it can be put back to any of its steps.
-ghost use Rattle.std.specs.Prelude.{◌≡◌, ◌+◌, ◌-◌, ◌≤◌, ◌<◌, ℕ, None, OnOk, OnSome, IfOk, IfSome, take, length, true};
+ghost use Rattle.std.specs.Prelude.{◌≡◌, ◌+◌, ◌-◌, ◌≤◌, ◌<◌, None, OnOk, IfOk, IfSome, take, length, true};
 ghost use Rattle.word36.specs.declared.sizes.TheConstants.{MOST_REQUESTS};
-ghost use Rattle.machine.specs.Machine.{after, at_boot};
-ghost use Rattle.machine.specs.Rounds.{rounds};
+ghost use Rattle.machine.specs.Machine.{at_boot};
 ghost use Rattle.ddt_session.specs.Timelines.{made, reached, steps_in, steps_of};
 
 use crate::entries::{Entry, perform, play};
-use crate::replays::Replay;
 use crate::stops::{LookedAt, Ran, Stop, Watch, run_until};
 use monitor::{Answer, Config};
 use run_machine::Machine;
@@ -156,11 +154,19 @@ impl Timeline {
         self.whole
     }
 
-    /// A second machine, to which what has happened happens once more.
-    pub fn replay(&self) -> Result<Replay<'_>, AllocError> {
-        let machine = Machine::boot(self.alloc, self.config)?;
-        let entries = beginning(&self.entries, self.whole);
-        Ok(Replay::new(machine, entries, self.part))
+    /// A second machine, to which nothing has happened.
+    pub fn boot(&self) -> Result<Machine, AllocError> {
+        Machine::boot(self.alloc, self.config)
+    }
+
+    /// The whole entries that have happened.
+    pub fn entries(&self) -> &[Entry] {
+        beginning(&self.entries, self.whole)
+    }
+
+    /// How many steps were made behind those.
+    pub fn part(&self) -> u32 {
+        self.part
     }
 
     /// Makes an entry of the steps behind the last one.

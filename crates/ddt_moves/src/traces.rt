@@ -1,14 +1,14 @@
 //! Steps that were made, looked for by what they did.
 
 use crate::replays::Replay;
-use crate::timeline::Timeline;
+use ddt_session::Timeline;
 use run_machine::Machine;
 use std::alloc::AllocError;
 
 /// How many steps were made before the last one, of those made so far, before which a job stood at a
 /// place; `None` where there is none.
 pub fn last_at(timeline: &Timeline, job: u8, place: u32) -> Result<Option<u64>, AllocError> {
-    let mut replay = timeline.replay()?;
+    let mut replay = Replay::of(timeline)?;
     Ok(last_step_at(&mut replay, job, place))
 }
 
@@ -38,7 +38,7 @@ fn stands_at(machine: &Machine, job: u8, place: u32) -> bool {
 /// How many steps were made before the last one, of those made so far, that changed a word of a job;
 /// `None` where none did.
 pub fn last_write(timeline: &Timeline, job: u8, place: u32) -> Result<Option<u64>, AllocError> {
-    let mut replay = timeline.replay()?;
+    let mut replay = Replay::of(timeline)?;
     Ok(last_step_writing(&mut replay, job, place))
 }
 
@@ -95,7 +95,7 @@ pub fn last_turns(timeline: &Timeline, job: u8, most: usize) -> Result<Turns, Al
         steps: Vec::new(timeline.alloc()),
         oldest: 0,
     };
-    let mut replay = timeline.replay()?;
+    let mut replay = Replay::of(timeline)?;
     keep_turns(&mut replay, job, most, &mut turns)?;
     Ok(turns)
 }

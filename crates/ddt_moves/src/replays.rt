@@ -1,9 +1,8 @@
 //! What has happened to a machine, once more and step by step.
 
-use crate::entries::{Entry, perform};
-use crate::stops::round;
-use crate::timeline::ticks_of;
+use ddt_session::{Entry, Timeline, perform, round, ticks_of};
 use run_machine::Machine;
+use std::alloc::AllocError;
 
 /// A second machine, to which what has happened to another happens once more.
 #[derive(Drop)]
@@ -19,16 +18,16 @@ pub struct Replay<'a> {
 }
 
 impl<'a> Replay<'a> {
-    /// Some entries and so many steps behind them are to happen to a machine.
-    pub fn new(machine: Machine, entries: &'a [Entry], part: u32) -> Self {
-        Replay {
-            machine,
-            entries,
-            part,
+    /// A machine at boot, to which what has happened to another is to happen.
+    pub fn of(timeline: &'a Timeline) -> Result<Self, AllocError> {
+        Ok(Replay {
+            machine: timeline.boot()?,
+            entries: timeline.entries(),
+            part: timeline.part(),
             left: 0,
             ticks: 0,
             steps: 0,
-        }
+        })
     }
 
     /// The machine.

@@ -1,0 +1,66 @@
+//! Text that is put together piece by piece.
+
+use line_ports::{Answers, Failure};
+use script_io::ByteOut;
+use std::alloc::{AllocError, Global};
+
+/// The text of an answer, which is put together piece by piece and written as a whole or not at all.
+///
+/// What adds a piece need not look whether there was memory for it: where there was none, that is kept,
+/// nothing more is added, and in place of writing there is a failure.
+#[derive(Drop)]
+pub struct AnswerText {
+    bytes: Vec<u8>,
+    /// Whether there was memory for all that belongs to it.
+    is_whole: bool,
+}
+
+impl AnswerText {
+    /// An answer that says nothing yet.
+    pub fn new(alloc: Global) -> Self {
+        AnswerText {
+            bytes: Vec::new(alloc),
+            is_whole: true,
+        }
+    }
+
+    /// Adds bytes.
+    pub fn add(&mut self, bytes: &[u8]) {
+        if self.is_whole {
+            self.is_whole = self.bytes.extend_from_slice(bytes).is_ok();
+        }
+    }
+
+    /// Adds a text.
+    pub fn say(&mut self, text: &str) {
+        self.add(text.as_bytes());
+    }
+
+    /// Adds a text that was just made, if there was memory for it.
+    pub fn say_made(&mut self, made: Result<String, AllocError>) {
+        match made {
+            Ok(text) => self.say(text.as_str()),
+            Err(_) => self.fail(),
+        }
+    }
+
+    /// There was no memory for something that belongs to the answer.
+    pub fn fail(&mut self) {
+        self.is_whole = false;
+    }
+
+    /// How many bytes it has so far.
+    pub fn len(&self) -> usize {
+        self.bytes.len()
+    }
+
+    /// Writes all of it to a port, and begins anew; fails where there was no memory for all of it.
+    pub fn write_to<W: ByteOut + Drop>(&mut self, port: &mut Answers<W>) -> Result<(), Failure> {
+        if !self.is_whole {
+            return Err(Failure::Memory);
+        }
+        port.write(self.bytes.as_slice())?;
+        self.bytes.clear();
+        Ok(())
+    }
+}
