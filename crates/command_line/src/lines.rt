@@ -1,5 +1,5 @@
 //! The lines of an input that may still be at fault.
-ghost use Rattle.std.specs.Prelude.{◌≡◌, ◌++◌, []};
+ghost use Rattle.std.specs.Prelude.{◌≡◌, ◌≤◌, ◌++◌, [], drop, length};
 ghost use Rattle.command_line.specs.Keeping.{IsEndOf};
 
 use memchr::{memchr, memrchr};
@@ -88,8 +88,8 @@ impl Lines {
             return;
         }
         let finished = finished(self.language, self.bytes.as_slice());
-        let length = finished.length.min(self.bytes.len());
-        let _ = self.bytes.drain(..length);
+        let count = finished.length.min(self.bytes.len());
+        drop_front(&mut self.bytes, count);
         self.dropped = self.dropped.saturating_add(finished.lines);
         self.limit = self.bytes.len().saturating_mul(2).max(KEPT);
     }
@@ -99,6 +99,16 @@ impl Lines {
         let bytes = self.bytes.as_slice();
         line_at(bytes, number.checked_sub(u128::from(self.dropped))?)
     }
+}
+
+/// Drops so many bytes of the front. Those behind them, mostly a part of one line, move up.
+fn drop_front(bytes: &mut Vec<u8>, count: usize)
+    requires { count ≤ length bytes.old.items }
+    ensures { bytes.new.items ≡ drop count bytes.old.items }
+{
+    let left = bytes.len() - count;
+    bytes.copy_within(count.., 0);
+    bytes.truncate(left);
 }
 
 /// A place between two lines.
