@@ -1,6 +1,7 @@
 -- What is found by a key's hash, and how that is kept.
-use Rattle.std.proofs.Common.{◌≡◌, ◌<◌, ℕ, Bool, true, false, ◌==◌, List, [], ◌∷◌, length, get_or, set, take, drop, suc, Some, None, arith}
+use Rattle.std.proofs.Common.{◌≡◌, ◌≢◌, ◌<◌, ◌+◌, ◌||◌, ap, inl, inr, ℕ, Bool, true, false, ◌==◌, List, [], ◌∷◌, length, get_or, set, take, drop, suc, Option, Some, None, IfSome, refl, subst, arith}
 use Rattle.std.specs.List.{All, find, list_any, position_or_len, remove}
+use Rattle.std.proofs.lemmas.Bool.{cases_eq, ne_eqb}
 use Rattle.std.proofs.lemmas.Grind.{common_steps}
 use Rattle.std.proofs.lemmas.List.{set-set}
 use Rattle.std.proofs.lemmas.List.Elements.{All-append, All-take, All-drop}
@@ -14,10 +15,9 @@ use Rattle.key_queues.specs.States.{is_open}
 use Rattle.key_queues.specs.Tables.{is_there}
 use Rattle.key_queues.specs.declared.hash.TheConstants.{HASHES}
 use Rattle.key_queues.specs.declared.buckets.Bucket.{Bucket}
-use Rattle.key_queues.specs.Found.{bucket_at, numbered, without_number, Holds, IsEntered, IsIndex, IsKeyed, IsSpare}
+use Rattle.key_queues.specs.Found.{bucket_at, numbered, without_number, Holds, IsEntered, IsFound, IsIndex, IsKeyed, IsSpare}
 use Rattle.key_queues.specs.Hashes.{hash_of}
 use Rattle.key_queues.specs.Opened.{fresh_lock, is_closed, is_open_for}
-use Rattle.key_queues.proofs.Closing.{there_less}
 
 -- what is found passes
 pub find_passes : (t : ℕ → Bool) (xs : List ℕ) (n : ℕ) → find t xs ≡ Some n → t n ≡ true
@@ -29,11 +29,11 @@ pub find_misses : (t : ℕ → Bool) (xs : List ℕ) (n : ℕ) → find t xs ≡
 find_misses t [] n e h = cc
 find_misses t (x ∷ xs) n e h = grind (arith, common_steps, find_misses t xs n)
 
--- the first that passes
-pub first_passes : {X : Type 0} → (t : X → Bool) (xs : List X) (d : X) → list_any t xs ≡ true
-    → (position_or_len t xs < length xs) × (t (get_or xs (position_or_len t xs) d) ≡ true)
-first_passes t [] d h = cc
-first_passes t (x ∷ xs) d h = grind (arith, common_steps, first_passes t xs d)
+-- the first lock that is not open
+pub closed_found : (locks : List Lock) → list_any is_closed locks ≡ true
+    → (position_or_len is_closed locks < length locks) × (is_closed (lock_at locks (position_or_len is_closed locks)) ≡ true)
+closed_found [] h = cc
+closed_found (l ∷ locks) h = grind (arith, common_steps, closed_found locks)
 
 -- an open lock is there
 pub open_within : (locks : List Lock) (n : ℕ) → is_open (lock_at locks n).queue ≡ true → n < length locks
@@ -43,23 +43,29 @@ open_within locks n some = grind (arith, common_steps)
 pub open_parts : (key : Key) (l : Lock) → is_open_for key l ≡ true → (is_open l.queue ≡ true) × (l.key ≡ key)
 open_parts key l t = grind (arith, common_steps, same_key-eq)
 
+-- the lock of a number that was found
+pub found_open : (locks : List Lock) (key : Key) (number : Option ℕ) (n : ℕ) → IsFound locks key number → number ≡ Some n
+    → is_open_for key (lock_at locks n) ≡ true
+found_open locks key number n found is = subst (λ o. IfSome o (λ m. is_open_for key (lock_at locks m) ≡ true)) is found.found
+
 -- what is read at a hash is the bucket there
-pub bucket_read : (buckets : List Bucket) (locks : List Lock) (key : Key) (h : ℕ) (b : Bucket) → IsIndex buckets locks
-    → h ≡ hash_of key
-    → b ≡ get_or buckets h b
+pub bucket_read : (buckets : List Bucket) (h : ℕ) (b : Bucket) → length buckets ≡ HASHES → h < HASHES → b ≡ get_or buckets h b
     → b ≡ bucket_at buckets h
-bucket_read buckets locks key h b index hash read = grind (arith, common_steps)
+bucket_read buckets h b long below read = grind (arith, common_steps)
+
+-- the numbers there are those of locks
+pub number_within : (buckets : List Bucket) (locks : List Lock) (h i : ℕ) (b : Bucket) → IsIndex buckets locks → h < HASHES
+    → b ≡ get_or buckets h b
+    → i < length b.numbers.items
+    → get_or b.numbers.items i 0 < length locks
+number_within buckets locks h i b index below read lt = grind (arith, common_steps, bucket_read, index.within h i 0)
 
 -- where a bucket that is not crowded has no number of the key, none has
-pub none_found : (buckets : List Bucket) (locks : List Lock) (key : Key) (h : ℕ) (b : Bucket) → IsIndex buckets locks
-    → h ≡ hash_of key
-    → b ≡ get_or buckets h b
-    → find (λ n. is_open_for key (lock_at locks n)) b.numbers.items ≡ None
-    → b.crowded ≡ false
+pub none_found : (buckets : List Bucket) (locks : List Lock) (key : Key) → IsIndex buckets locks
+    → find (λ n. is_open_for key (lock_at locks n)) (bucket_at buckets (hash_of key)).numbers.items ≡ None
+    → (bucket_at buckets (hash_of key)).crowded ≡ false
     → (n : ℕ) → is_open_for key (lock_at locks n) ≡ false
-none_found buckets locks key h b index hash read missed plain n =
-    let is = bucket_read buckets locks key h b index hash read in
-    grind (arith, common_steps, find_misses, open_parts, index.holds n)
+none_found buckets locks key index missed plain n = grind (arith, common_steps, find_misses, open_parts, index.holds n)
 
 -- an open lock whose queue is changed
 pub keyed_queue : (size : ℕ) (locks : List Lock) (most : ℕ) (buckets : List Bucket) (n : ℕ) (l : Lock) (q : KeptQueue) → IsKeyed size locks most buckets
@@ -84,25 +90,32 @@ index_set : (buckets : List Bucket) (locks : List Lock) (h : ℕ) (b : Bucket) �
     → IsIndex (set buckets h b) locks
 index_set buckets locks h b index below within keeps = grind (arith, common_steps)
 
+-- other numbers stay
+there_less : (m n : ℕ) (xs : List ℕ) → m ≢ n → is_there m (remove xs (position_or_len (λ x. x == n) xs)) ≡ is_there m xs
+there_less m n [] ne = refl
+there_less m n (x ∷ xs) ne =
+    let one : 1 + position_or_len (λ y. y == n) xs ≡ suc (position_or_len (λ y. y == n) xs) = omega arith in
+    elim (cases_eq x n) [
+      | inl e ↦ grind (arith, common_steps)
+      | inr other ↦ rw (ne_eqb x n other, one) (ap (λ b. x == m || b) (there_less m n xs ne))
+    ]
+
 all_less : (P : ℕ → Type 0) (xs : List ℕ) (i : ℕ) → All P xs → All P (remove xs i)
 all_less P xs i all = All-append P (take i xs) (drop (suc i) xs) (All-take P i xs all) (All-drop P (suc i) xs all)
 
 -- a number that is taken out, of a lock that is not open
-pub keyed_closed : (size : ℕ) (locks : List Lock) (most : ℕ) (buckets : List Bucket) (n h : ℕ) (l : Lock) (b then : Bucket) → IsKeyed size locks most buckets
+pub keyed_closed : (size : ℕ) (locks : List Lock) (most : ℕ) (buckets : List Bucket) (n h : ℕ) → IsKeyed size locks most buckets
     → n < length locks
-    → l ≡ get_or locks n l
-    → is_closed l ≡ true
+    → is_closed (lock_at locks n) ≡ true
     → h < HASHES
-    → b ≡ get_or buckets h b
-    → then ≡ without_number b n
-    → IsKeyed size locks most (set buckets h then)
-keyed_closed size locks most buckets n h l b then k lt read_l shut below read put =
-    let is : b ≡ bucket_at buckets h = grind (arith, common_steps) in
-    let within : All (λ m. m < length locks) then.numbers.items =
-    rw (put, is) (all_less (λ m. m < length locks) (bucket_at buckets h).numbers.items (position_or_len (λ m. m == n) (bucket_at buckets h).numbers.items) (k.index.within h)) in
-    let keeps : (m : ℕ) → is_open (lock_at locks m).queue ≡ true → Holds (bucket_at buckets h) m → Holds then m =
+    → IsKeyed size locks most (set buckets h (without_number (bucket_at buckets h) n))
+keyed_closed size locks most buckets n h k lt shut below =
+    let b : Bucket = bucket_at buckets h in
+    let within : All (λ m. m < length locks) (without_number b n).numbers.items =
+    all_less (λ m. m < length locks) b.numbers.items (position_or_len (λ m. m == n) b.numbers.items) (k.index.within h) in
+    let keeps : (m : ℕ) → is_open (lock_at locks m).queue ≡ true → Holds b m → Holds (without_number b n) m =
     λ m some held plain. grind (arith, common_steps, there_less m n b.numbers.items) in
-    record { small = k.small; reserved = k.reserved; index = index_set buckets locks h then k.index below within keeps }
+    record { small = k.small; reserved = k.reserved; index = index_set buckets locks h (without_number b n) k.index below within keeps }
 
 -- a want that comes last in the queue of a lock that is begun for its key
 pub entered_begun : (locks mid : List Lock) (p : ℕ) (w : Want) (n : ℕ) → IsSpare locks mid n

@@ -1,4 +1,4 @@
-pub mod Places
+pub mod Lists
 pub mod Beginnings
 pub mod Standing
 pub mod Coming
@@ -14,4 +14,6 @@ pub mod Room
 pub mod Opening
 pub mod Waking
 pub mod Finding
-pub mod Closing
+pub mod Slots
+pub mod Orders
+pub mod Keeps

@@ -1,6 +1,6 @@
 -- Open queues stay used.
 use Rattle.std.proofs.lemmas.Grind.{common_steps}
-use Rattle.std.proofs.Common.{◌≡◌, ◌≢◌, ◌<◌, sym, subst, ℕ, true, ◌==◌, List, ◌∷◌, ◌++◌, length, get_or, inl, inr, arith}
+use Rattle.std.proofs.Common.{◌≡◌, ◌≢◌, ◌<◌, ℕ, true, List, ◌∷◌, ◌++◌, length, get_or, inl, inr, arith}
 use Rattle.std.proofs.lemmas.Bool.{cases_eq, not-true}
 use Rattle.std.proofs.lemmas.List.Folds.{list_any-append}
 use Rattle.key_queues.specs.Kept.{KeptQueue}
@@ -19,27 +19,12 @@ pub open_given_up : (s t : State) (p k : ℕ) → IsKept s → IsKept t → is_t
     → OpenAreUsed t
 open_given_up s t p k kept_s kept_t present lt gives counted used m some =
     elim (cases_eq m (get_or (s.own p) k 0)) [
-      | inl e ↦
-          subst (IsUsed t) (sym e)
-          (used_after s t p k kept_s kept_t present lt gives counted
-          (not-true (length (t.queue (get_or (s.own p) k 0)).places == 0) (subst (λ j. is_open (t.queue j) ≡ true) e some)))
+      | inl e ↦ rw e (used_after s t p k kept_s kept_t present lt gives counted (not-true _ (rw e at some)))
       | inr ne ↦
-          let u : IsUsed s m = used m (subst (λ (q : KeptQueue). is_open q ≡ true) (gives.others m ne) some) in
+          let u : IsUsed s m = used m (rw (gives.others m ne) at some) in
           record {
             place = u.place;
-            stands = record {
-              present = subst (λ l. is_there u.place l ≡ true) (sym gives.order) u.stands.present;
-              there =
-                  elim (cases_eq u.place p) [
-                    | inl e ↦
-                        let mine : is_there m (s.own p) ≡ true = subst (λ z. is_there m (s.own z) ≡ true) e u.stands.there in
-                        let left : is_there m (t.own p) ≡ true =
-                        subst (λ l. is_there m l ≡ true) (sym gives.owns)
-                        (there_around m _ _ _ ne (subst (λ l. is_there m l ≡ true) gives.owned mine)) in
-                        subst (λ z. is_there m (t.own z) ≡ true) (sym e) left
-                    | inr other ↦ subst (λ l. is_there m l ≡ true) (sym (gives.own u.place other)) u.stands.there
-                  ];
-            };
+            stands = grind (arith, common_steps, cases_eq u.place p, gives.own u.place, there_around);
           }
     ]
 

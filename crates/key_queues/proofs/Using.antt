@@ -1,16 +1,14 @@
 -- What is found of queues that are used.
 use Rattle.std.proofs.lemmas.Grind.{common_steps}
-use Rattle.std.proofs.Common.{◌≡◌, ◌≤◌, ◌<◌, ◌+◌, ◌∙◌, sym, ap, subst, ℕ, zero, suc, Bool, true, false, ◌||◌, ◌==◌, not, cond, List, [], ◌∷◌}
-use Rattle.std.proofs.Common.{length, get_or, map, filter, slice_get, Some, None, option_map, inl, inr, refl, arith}
+use Rattle.std.proofs.Common.{◌≡◌, ◌≤◌, ◌<◌, ◌+◌, ◌∙◌, ap, subst, ℕ, zero, suc, Bool, true, false, ◌==◌, cond, List, [], ◌∷◌}
+use Rattle.std.proofs.Common.{length, get_or, map, filter, slice_get, Some, None, inl, inr, refl, arith}
 use Rattle.std.specs.List.{position_or_len, remove}
-use Rattle.std.proofs.lemmas.Bool.{or_left, or_right, or_cases, eq-eqb, eqb-true, eqb-false}
+use Rattle.std.proofs.lemmas.Bool.{eqb-false}
 use Rattle.std.proofs.lemmas.List.{get_or-set_same, get_or-set_other, nil_from_length}
 use Rattle.std.proofs.lemmas.Option.{slice_get-map}
 use Rattle.lock_queue.specs.declared.key.Key.{Key}
 use Rattle.lock_queue.specs.declared.want.Want.{Want}
-use Rattle.lock_queue.specs.Keys.{same_key}
 use Rattle.lock_queue.specs.Queue.{wants_at, names}
-use Rattle.lock_queue.specs.Unused.{unused_want}
 use Rattle.lock_queue.proofs.Fitting.{eq-same_key, names-found}
 use Rattle.lock_queue.proofs.Lists.{Has}
 use Rattle.key_queues.specs.declared.lock.Lock.{Lock}
@@ -19,75 +17,47 @@ use Rattle.key_queues.specs.Kept.{KeptQueue, fits_next, admitted}
 use Rattle.key_queues.specs.States.{State, Stands, IsKept, CountsAll, CountsBut, IsCounted, GivesUpAt, IsUsed, IsFull, Extended}
 use Rattle.key_queues.specs.Tables.{is_there, places_at, QueuesOf}
 use Rattle.key_queues.proofs.Counted.{want_of, wants_by_places}
-use Rattle.key_queues.proofs.Counting.{counts_all, counts_to_end}
+use Rattle.key_queues.proofs.Counting.{counts_all}
+use Rattle.key_queues.proofs.Beginnings.{fitting_most}
 use Rattle.key_queues.proofs.Keeping.{found_there}
-use Rattle.key_queues.proofs.Places.{past_none, found_within}
+use Rattle.key_queues.proofs.Lists.{past_none, found_within}
 use Rattle.key_queues.proofs.Standing.{one_of_key}
 
 -- a place that passes is kept by a filter
 pub kept_there : (t : ℕ → Bool) (x : ℕ) (xs : List ℕ) → is_there x xs ≡ true → t x ≡ true → is_there x (filter t xs) ≡ true
 kept_there t x [] h is = cc
-kept_there t x (y ∷ xs) h is =
-    elim (or_cases (y == x) (is_there x xs) h) [
-      | inl e ↦
-          let same : t y ≡ true = ap t (eqb-true y x e) ∙ is in
-          rw same (or_left (y == x) (is_there x (filter t xs)) e)
-      | inr rest ↦
-          let later = kept_there t x xs rest is in
-          elim (t y) as (λ b. is_there x (cond b (y ∷ filter t xs) (filter t xs)) ≡ true) [
-            | true ↦ or_right (y == x) (is_there x (filter t xs)) later
-            | false ↦ later
-          ]
-    ]
+kept_there t x (y ∷ xs) h is = grind (arith, common_steps, kept_there t x xs)
 
 -- and what is kept was there, and passes
 pub there_kept : (t : ℕ → Bool) (x : ℕ) (xs : List ℕ) → is_there x (filter t xs) ≡ true
     → (is_there x xs ≡ true) × (t x ≡ true)
 there_kept t x [] h = cc
-there_kept t x (y ∷ xs) h = go (t y) refl (there_kept t x xs) h
-  where
-    go : (b : Bool) → t y ≡ b → (is_there x (filter t xs) ≡ true → (is_there x xs ≡ true) × (t x ≡ true))
-        → is_there x (cond b (y ∷ filter t xs) (filter t xs)) ≡ true
-        → (is_there x (y ∷ xs) ≡ true) × (t x ≡ true)
-    go true is later k =
-        elim (or_cases (y == x) (is_there x (filter t xs)) k) [
-          | inl e ↦ (or_left (y == x) (is_there x xs) e, ap t (sym (eqb-true y x e)) ∙ is)
-          | inr rest ↦ let found = later rest in (or_right (y == x) (is_there x xs) found.0, found.1)
-        ]
-    go false is later k = let found = later k in (or_right (y == x) (is_there x xs) found.0, found.1)
+there_kept t x (y ∷ xs) h = grind (arith, common_steps, there_kept t x xs)
 
 -- a request names the key of each of its queues
 pub named_there : (key : ℕ → Key) (ws : List Want) (ns : List ℕ) (n : ℕ) → QueuesOf (λ w m. key m ≡ w.key) ws ns
     → is_there n ns ≡ true
     → names ws (key n) ≡ true
 named_there key [] [] n q h = cc
-named_there key (w ∷ ws) (m ∷ ns) n q h =
-    elim (or_cases (m == n) (is_there n ns) h) [
-      | inl e ↦
-          let same : w.key ≡ key n = sym q.0 ∙ ap key (eqb-true m n e) in
-          or_left (same_key w.key (key n)) (names ws (key n)) (eq-same_key w.key (key n) same)
-      | inr rest ↦ or_right (same_key w.key (key n)) (names ws (key n)) (named_there key ws ns n q.1 rest)
-    ]
+named_there key (w ∷ ws) (m ∷ ns) n q h = grind (arith, common_steps, named_there key ws ns n, eq-same_key w.key (key n))
 named_there key [] (m ∷ ns) n q h = absurd q
 named_there key (w ∷ ws) [] n q h = absurd q
 
 -- a queue that is used has the place
 pub stands_in_queue : (s : State) (x n : ℕ) → IsKept s → Stands s x n → is_there x (s.queue n).places ≡ true
 stands_in_queue s x n kept st =
-    let named : names (s.at x).wants.items (s.key n) ≡ true =
-    named_there s.key (s.at x).wants.items (s.own x) n (kept.queues x st.present) st.there in
-    subst (λ l. is_there x l ≡ true) (sym (kept.counts x n st).places)
-    (kept_there (λ p. names (s.at p).wants.items (s.key n)) x s.order st.present named)
+    let queues = kept.queues x st.present in
+    let c = kept.counts x n st in
+    grind (arith, common_steps, named_there s.key (s.at x).wants.items (s.own x) n, kept_there)
 
 -- each want has a queue
 pub queue_of_want : (key : ℕ → Key) (ws : List Want) (ns : List ℕ) (w : Want) → QueuesOf (λ w m. key m ≡ w.key) ws ns
     → Has ws w
     → (m : ℕ) × (is_there m ns ≡ true) × (key m ≡ w.key)
-queue_of_want key [] [] w q h = absurd h
-queue_of_want key (v ∷ ws) (m ∷ ns) w q (inl e) = (m, or_left (m == m) (is_there m ns) (eq-eqb m m refl), q.0 ∙ ap (λ (u : Want). u.key) e)
+queue_of_want key (v ∷ ws) (m ∷ ns) w q (inl e) = (m, grind (arith, common_steps), q.0 ∙ ap (λ (u : Want). u.key) e)
 queue_of_want key (v ∷ ws) (m ∷ ns) w q (inr h) =
-    let found = queue_of_want key ws ns w q.1 h in (found.0, or_right (m == found.0) (is_there found.0 ns) found.1, found.2)
-queue_of_want key [] (m ∷ ns) w q h = absurd q
+    let found = queue_of_want key ws ns w q.1 h in (found.0, grind (arith, common_steps), found.2)
+queue_of_want key [] ns w q h = absurd h
 queue_of_want key (v ∷ ws) [] w q h = absurd q
 
 -- and the want of a queue stands where the queue does
@@ -95,28 +65,14 @@ pub want_at_queue : (key : ℕ → Key) (ws : List Want) (ns : List ℕ) (n : �
     → is_there n ns ≡ true
     → (position_or_len (λ m. m == n) ns < length ws) × Has ws (want_in ns ws n) × ((want_in ns ws n).key ≡ key n)
 want_at_queue key [] [] n q h = cc
-want_at_queue key (v ∷ ws) (m ∷ ns) n q h = go (m == n) refl (want_at_queue key ws ns n q.1)
-  where
-    rest : ℕ
-    rest = position_or_len (λ m. m == n) ns
-
-    go : (b : Bool) → (m == n) ≡ b
-        → (is_there n ns ≡ true → (rest < length ws) × Has ws (want_in ns ws n) × ((want_in ns ws n).key ≡ key n))
-        → (cond (not b) (1 + rest) 0 < suc (length ws)) × Has (v ∷ ws) (get_or (v ∷ ws) (cond (not b) (1 + rest) 0) unused_want)
-        × ((get_or (v ∷ ws) (cond (not b) (1 + rest) 0) unused_want).key ≡ key n)
-    go true e later = (omega arith, inl refl, sym q.0 ∙ ap key (eqb-true m n e))
-    go false e later =
-        let there : is_there n ns ≡ true = sym (ap (λ b. b || is_there n ns) e) ∙ h in
-        let found = later there in
-        let one : 1 + rest ≡ suc rest = omega arith in
-        rw one (omega (arith, found.0), inr found.1, found.2)
+want_at_queue key (v ∷ ws) (m ∷ ns) n q h = grind (arith, common_steps, want_at_queue key ws ns n q.1)
 want_at_queue key [] (m ∷ ns) n q h = absurd q
 want_at_queue key (v ∷ ws) [] n q h = absurd q
 
 pub there_at : (ns : List ℕ) (k d : ℕ) → k < length ns → is_there (get_or ns k d) ns ≡ true
 there_at [] k d lt = absurd (omega arith)
-there_at (n ∷ ns) zero d lt = or_left (n == n) (is_there n ns) (eq-eqb n n refl)
-there_at (n ∷ ns) (suc k) d lt = or_right (n == get_or ns k d) (is_there (get_or ns k d) ns) (there_at ns k d (omega arith))
+there_at (n ∷ ns) zero d lt = grind (arith, common_steps)
+there_at (n ∷ ns) (suc k) d lt = grind (arith, common_steps, there_at ns k d)
 
 -- the place of the first want of a queue that is not counted
 pub record Next (s : State) (n p : ℕ) (w : Want) : Type 0 where
@@ -130,32 +86,25 @@ pub next_is : (s : State) (n p : ℕ) → IsKept s → IsUsed s n → slice_get 
     → Next s n p (want_in (s.own p) (s.at p).wants.items n)
 next_is s n p kept used e =
     let c = kept.counts used.place n used.stands in
-    let queued : is_there p (places_at s.at s.order (s.key n)) ≡ true =
-    subst (λ l. is_there p l ≡ true) c.places (found_there p (s.queue n).fitting (s.queue n).places e) in
+    let ws : List Want = (s.at p).wants.items in
+    let queued : is_there p (places_at s.at s.order (s.key n)) ≡ true = rw c.places at (found_there p (s.queue n).fitting (s.queue n).places e) in
     let both = there_kept (λ x. names (s.at x).wants.items (s.key n)) p s.order queued in
-    let present : is_there p s.order ≡ true = both.0 in
-    let named : names (s.at p).wants.items (s.key n) ≡ true = both.1 in
-    let of = names-found (s.at p).wants.items (s.key n) named in
-    let queues = kept.queues p present in
-    let m = queue_of_want s.key (s.at p).wants.items (s.own p) of.0 queues of.1 in
+    let of = names-found ws (s.key n) both.1 in
+    let queues = kept.queues p both.0 in
+    let m = queue_of_want s.key ws (s.own p) of.0 queues of.1 in
     let same : m.0 ≡ n =
-    kept.one p m.0 used.place n (record { present = present; there = m.1 }) used.stands (m.2 ∙ of.2) in
-    let there : is_there n (s.own p) ≡ true = subst (λ k. is_there k (s.own p) ≡ true) same m.1 in
-    let at = want_at_queue s.key (s.at p).wants.items (s.own p) n queues there in
-    let w : Want = want_in (s.own p) (s.at p).wants.items n in
-    let one : filter (λ v. same_key v.key (s.key n)) (s.at p).wants.items ≡ w ∷ [] =
-    subst (λ k. filter (λ v. same_key v.key k) (s.at p).wants.items ≡ w ∷ []) at.2 (one_of_key (s.at p).wants.items w (kept.apart p) at.1) in
-    let mine : want_of (s.key n) (s.at p) ≡ w = ap (λ l. get_or l 0 unused_want) one in
+    kept.one p m.0 used.place n (record { present = both.0; there = m.1 }) used.stands (m.2 ∙ of.2) in
+    let there : is_there n (s.own p) ≡ true = rw same at m.1 in
+    let at = want_at_queue s.key ws (s.own p) n queues there in
+    let mine : want_of (s.key n) (s.at p) ≡ want_in (s.own p) ws n =
+    rw (← at.2, one_of_key ws (want_in (s.own p) ws n) (kept.apart p) at.1) refl in
     record {
-      stands = record { present = present; there = there };
-      named = named;
+      stands = record { present = both.0; there = there };
+      named = both.1;
       within = at.0;
       want = refl;
       found =
-          ap (λ l. slice_get l (s.queue n).fitting) (wants_by_places s.at kept.apart s.order (s.key n))
-          ∙ slice_get-map (λ x. want_of (s.key n) (s.at x)) (places_at s.at s.order (s.key n)) (s.queue n).fitting
-          ∙ ap (option_map (λ x. want_of (s.key n) (s.at x))) (sym (ap (λ l. slice_get l (s.queue n).fitting) c.places) ∙ e)
-          ∙ ap Some mine;
+          rw (wants_by_places s.at kept.apart s.order (s.key n), slice_get-map (λ x. want_of (s.key n) (s.at x)), ← c.places, e, mine) refl;
     }
 
 -- where there is none, or it does not fit, all that fit are counted
@@ -163,15 +112,13 @@ pub full_at_end : (s : State) (n : ℕ) → IsKept s → IsUsed s n → slice_ge
     → IsFull s n
 full_at_end s n kept used e =
     let c = kept.counts used.place n used.stands in
-    (counts_to_end (s.size n) (wants_at (map s.at s.order) (s.key n)) (s.queue n) c.counts
-    (omega (arith, past_none (s.queue n).places (s.queue n).fitting e, c.counts.places))).all
+    grind (arith, common_steps, fitting_most, past_none (s.queue n).places (s.queue n).fitting e)
 
 pub full_where_unfit : (s : State) (n p : ℕ) (w : Want) → IsKept s → IsUsed s n → Next s n p w
     → fits_next (s.queue n) w w.pool ≡ false
     → IsFull s n
 full_where_unfit s n p w kept used next f =
-    let c = kept.counts used.place n used.stands in
-    (counts_all (s.size n) (wants_at (map s.at s.order) (s.key n)) (s.queue n) w c.counts next.found f).all
+    (counts_all (s.size n) (wants_at (map s.at s.order) (s.key n)) (s.queue n) w (kept.counts used.place n used.stands).counts next.found f).all
 
 -- a lock with its queue changed, and the others
 pub lock_with : (locks : List Lock) (n m : ℕ) (q : KeptQueue) → n < length locks
@@ -189,29 +136,13 @@ one_fewer locks more n w lt next is = grind (arith, common_steps, lock_with)
 pub position_found : (p : ℕ) (xs : List ℕ) → is_there p xs ≡ true
     → (position_or_len (λ m. m == p) xs < length xs) × (slice_get xs (position_or_len (λ m. m == p) xs) ≡ Some p)
 position_found p [] h = cc
-position_found p (x ∷ xs) h = go (x == p) refl (position_found p xs)
-  where
-    rest : ℕ
-    rest = position_or_len (λ m. m == p) xs
-
-    go : (b : Bool) → (x == p) ≡ b
-        → (is_there p xs ≡ true → (rest < length xs) × (slice_get xs rest ≡ Some p))
-        → (cond (not b) (1 + rest) 0 < suc (length xs)) × (slice_get (x ∷ xs) (cond (not b) (1 + rest) 0) ≡ Some p)
-    go true e later = (omega arith, ap Some (eqb-true x p e))
-    go false e later =
-        let found = later (sym (ap (λ b. b || is_there p xs) e) ∙ h) in
-        let one : 1 + rest ≡ suc rest = omega arith in
-        rw one (omega (arith, found.0), found.1)
+position_found p (x ∷ xs) h = grind (arith, common_steps, position_found p xs)
 
 pub there_removed : (m k : ℕ) (ns : List ℕ) → is_there m (remove ns k) ≡ true → is_there m ns ≡ true
 there_removed m zero [] h = h
 there_removed m (suc k) [] h = h
-there_removed m zero (n ∷ ns) h = or_right (n == m) (is_there m ns) h
-there_removed m (suc k) (n ∷ ns) h =
-    elim (or_cases (n == m) (is_there m (remove ns k)) h) [
-      | inl e ↦ or_left (n == m) (is_there m ns) e
-      | inr r ↦ or_right (n == m) (is_there m ns) (there_removed m k ns r)
-    ]
+there_removed m zero (n ∷ ns) h = grind (arith, common_steps)
+there_removed m (suc k) (n ∷ ns) h = grind (arith, common_steps, there_removed m k ns)
 
 pub as_many_queues : (R : Want → ℕ → Type 0) (ws : List Want) (ns : List ℕ) → QueuesOf R ws ns → length ws ≡ length ns
 as_many_queues R [] [] q = refl
@@ -223,22 +154,6 @@ as_many_queues R (w ∷ ws) [] q = absurd q
 pub owned_before : (s t : State) (p k x m : ℕ) → GivesUpAt s t p k → is_there m (t.own x) ≡ true → is_there m (s.own x) ≡ true
 owned_before s t p k x m gives there = grind (arith, common_steps, there_removed)
 
--- a queue of the key of the one that was given up is that one
-pub same_queue : (s t : State) (p k x m : ℕ) (key : Key) → IsKept s → is_there p s.order ≡ true → k < length (s.own p) → GivesUpAt s t p k
-    → is_there x t.order ≡ true
-    → is_there m (t.own x) ≡ true
-    → t.key m ≡ key
-    → key ≡ t.key (get_or (s.own p) k 0)
-    → m ≡ get_or (s.own p) k 0
-same_queue s t p k x m key kept present lt gives here there e f =
-    kept.one x m p (get_or (s.own p) k 0)
-    (record { present = subst (λ l. is_there x l ≡ true) gives.order here; there = owned_before s t p k x m gives there })
-    (record { present = present; there = there_at (s.own p) k 0 lt })
-    (sym (gives.key m) ∙ e ∙ f ∙ gives.key (get_or (s.own p) k 0))
-
-pub there_as : (m n : ℕ) (ns : List ℕ) → m ≡ n → is_there m ns ≡ true → is_there n ns ≡ true
-there_as m n ns e h = subst (λ j. is_there j ns ≡ true) e h
-
 -- a queue that is not empty after that is used
 pub used_after : (s t : State) (p k : ℕ) → IsKept s → IsKept t → is_there p s.order ≡ true → k < length (s.own p)
     → GivesUpAt s t p k
@@ -247,17 +162,19 @@ pub used_after : (s t : State) (p k : ℕ) → IsKept s → IsKept t → is_ther
     → IsUsed t (get_or (s.own p) k 0)
 used_after s t p k kept_s kept_t present lt gives counted some =
     let n : ℕ = get_or (s.own p) k 0 in
-    let places : List ℕ = (t.queue n).places in
-    let any : (x : ℕ) × (slice_get places 0 ≡ Some x) =
-    found_within places 0 (omega (arith, eqb-false (length places) 0 some)) in
+    let any = found_within (t.queue n).places 0 (omega (arith, eqb-false (length (t.queue n).places) 0 some)) in
     let x : ℕ = any.0 in
-    let both =
-    there_kept (λ y. names (t.at y).wants.items (t.key n)) x t.order
-    (subst (λ l. is_there x l ≡ true) counted.places (found_there x 0 places any.1)) in
+    let queued : is_there x (places_at t.at t.order (t.key n)) ≡ true =
+    subst (λ l. is_there x l ≡ true) counted.places (found_there x 0 (t.queue n).places any.1) in
+    let both = there_kept (λ y. names (t.at y).wants.items (t.key n)) x t.order queued in
     let of = names-found (t.at x).wants.items (t.key n) both.1 in
     let m = queue_of_want t.key (t.at x).wants.items (t.own x) of.0 (kept_t.queues x both.0) of.1 in
-    let same : m.0 ≡ n = same_queue s t p k x m.0 of.0.key kept_s present lt gives both.0 m.1 m.2 of.2 in
-    record { place = x; stands = record { present = both.0; there = there_as m.0 n (t.own x) same m.1 } }
+    let same : m.0 ≡ n =
+    kept_s.one x m.0 p n
+    (record { present = rw gives.order at both.0; there = owned_before s t p k x m.0 gives m.1 })
+    (record { present = present; there = there_at (s.own p) k 0 lt })
+    (cc (gives.key m.0, gives.key n, m.2, of.2)) in
+    record { place = x; stands = record { present = both.0; there = rw same at m.1 } }
 
 -- all queues are full again where the one that was not is, or is empty
 pub full_extended : (s t : State) (n : ℕ) → CountsBut n s → Extended s t n → IsFull t n → CountsAll t

@@ -1,7 +1,9 @@
 -- Where the number of a key's lock is found (this project's profile).
-use Rattle.std.specs.Prelude.{◌≡◌, ◌≤◌, ◌<◌, ◌*◌, ◌^◌, ◌⊎◌, ◌==◌, ℕ, true, false, List, [], ◌∷◌, ◌++◌, length, if◌then◌else◌, slice_index_or}
+use Rattle.std.specs.Prelude.{◌≡◌, ◌≤◌, ◌<◌, ◌*◌, ◌^◌, ◌⊎◌, ◌==◌, ℕ, true, false, List, [], ◌∷◌, ◌++◌, length, if◌then◌else◌}
+use Rattle.std.specs.Prelude.{Option, None, IfSome, slice_index_or}
 use Rattle.std.specs.List.{All, position_or_len, remove}
 use Rattle.word36.specs.declared.sizes.TheConstants.{LOCKS_A_CALL, MOST_REQUESTS}
+use Rattle.lock_queue.specs.declared.key.Key.{Key}
 use Rattle.lock_queue.specs.declared.want.Want.{Want}
 use Rattle.key_queues.specs.declared.lock.Lock.{Lock}
 use Rattle.key_queues.specs.Kept.{appended}
@@ -48,6 +50,11 @@ pub record IsKeyed (size : ℕ) (locks : List Lock) (most : ℕ) (buckets : List
   pub small : size ≤ MOST_REQUESTS
   pub reserved : LOCKS_A_CALL * size ≤ most
   pub index : IsIndex buckets locks
+
+-- the number of the open lock of a key, if there is one
+pub record IsFound (locks : List Lock) (key : Key) (number : Option ℕ) : Type 0 where
+  pub found : IfSome number (λ n. is_open_for key (lock_at locks n) ≡ true)
+  pub none : number ≡ None → (n : ℕ) → is_open_for key (lock_at locks n) ≡ false
 
 -- a lock that is not open, of locks to which others that are not open may have come
 pub record IsSpare (locks more : List Lock) (n : ℕ) : Type 0 where

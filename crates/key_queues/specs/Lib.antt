@@ -8,3 +8,7 @@ pub mod Waking
 pub mod Hashes
 pub mod Opened
 pub mod Found
+pub mod Filing
+pub mod Lends
+pub mod Shelves
+pub mod Stores

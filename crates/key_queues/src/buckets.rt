@@ -1,5 +1,5 @@
 //! Numbers of open locks, by hashes of their keys.
-ghost use Rattle.std.specs.Prelude.{IfOk, ◌≡◌, ◌<◌, ℕ, length, slice_set};
+ghost use Rattle.std.specs.Prelude.{IfOk, ◌≡◌, ◌<◌, ℕ, length};
 ghost use Rattle.key_queues.specs.Found.{bucket_at, no_bucket, numbered, without_number};
 
 use crate::index_of;

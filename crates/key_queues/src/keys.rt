@@ -1,8 +1,8 @@
 //! The locks of a table, which are found by hashes of their keys.
-ghost use Rattle.std.specs.Prelude.{IfOk, IfSome, ◌≡◌, ◌<◌, ◌≤◌, ◌*◌, ◌==◌, [], ℕ, true, false, if◌then◌else◌, length, slice_get};
+ghost use Rattle.std.specs.Prelude.{IfOk, IfSome, ◌≡◌, ◌<◌, ◌≤◌, ◌*◌, ◌^◌, ◌==◌, [], ℕ, true, false, if◌then◌else◌, length, slice_get};
 ghost use Rattle.std.specs.List.{All, list_all, list_any, position_or_len};
 ghost use Rattle.word36.specs.declared.sizes.TheConstants.{JOBS, LOCKS_A_CALL, MOST_REQUESTS};
-ghost use Rattle.key_queues.specs.Found.{IsEntered, IsSpare};
+ghost use Rattle.key_queues.specs.Found.{IsEntered, IsFound, IsSpare};
 ghost use Rattle.key_queues.specs.Hashes.{hash_of};
 ghost use Rattle.key_queues.specs.Kept.{admitted, counting, fits_next};
 ghost use Rattle.key_queues.specs.Locks.{lock_at, with_queue, without_place};
@@ -12,7 +12,6 @@ ghost use Rattle.key_queues.specs.Tables.{is_counted};
 use crate::Lock;
 use crate::buckets::{Bucket, no_buckets};
 use crate::hash::{HASHES, hash_of};
-use crate::locks::{find_in, find_open, first_closed};
 use lock_queue::{Key, Want};
 use std::alloc::{AllocError, Global};
 use std::marker::Model;
@@ -39,11 +38,31 @@ impl<const REQS: usize> Model for Keys<REQS> {
     ghost invariant = { λ k. IsKeyed REQS k.locks.items (vec_capacity k.locks) k.buckets.items };
 }
 
-/// A number comes last, where there is memory for it.
-fn push_if_room(free: &mut Vec<u16>, n: u16) {
-    if free.len() < free.capacity() {
-        let _ = free.push(n);
+/// The number of the open lock of a key.
+#[cold]
+fn find_open(locks: &[Lock], key: &Key) -> Option<u16>
+    requires { length locks.now ≤ 2 ^ 16 }
+    ensures found { IfSome result (λ n. is_open_for key.now (lock_at locks.now n) ≡ true) }
+    ensures none { result ≡ None → list_any (is_open_for key.now) locks.now ≡ false }
+{
+    for (i, lock) in locks.iter().enumerate() {
+        if lock.is_open_for(key) {
+            return Some(i as u16);
+        }
     }
+    None
+}
+
+/// The first lock that is not open.
+fn first_closed(locks: &[Lock]) -> usize
+    ensures { result ≡ position_or_len is_closed locks.now }
+{
+    for (i, lock) in locks.iter().enumerate() {
+        if lock.is_closed() {
+            return i;
+        }
+    }
+    locks.len()
 }
 
 impl<const REQS: usize> Keys<REQS> {
@@ -72,19 +91,11 @@ impl<const REQS: usize> Keys<REQS> {
         ensures found { IfSome result (λ n. is_open_for key.now (lock_at self.now n) ≡ true) }
         ensures none { result ≡ None → (n : ℕ) → is_open_for key.now (lock_at self.now n) ≡ false }
     {
-        self.find_at(key, hash_of(key))
-    }
-
-    /// The number of the open lock of a key that has this hash.
-    #[inline(always)]
-    fn find_at(&self, key: &Key, hash: u16) -> Option<u16>
-        requires { hash ≡ hash_of key.now }
-        ensures found { IfSome result (λ n. is_open_for key.now (lock_at self.now n) ≡ true) }
-        ensures none { result ≡ None → (n : ℕ) → is_open_for key.now (lock_at self.now n) ≡ false }
-    {
-        let bucket = &self.buckets[hash as usize];
-        if let Some(n) = find_in(bucket.numbers.as_slice(), self.locks.as_slice(), key) {
-            return Some(n);
+        let bucket = &self.buckets[hash_of(key) as usize];
+        for n in bucket.numbers.as_slice() {
+            if self.locks[*n as usize].is_open_for(key) {
+                return Some(*n);
+            }
         }
         if !bucket.crowded {
             return None;
@@ -92,24 +103,9 @@ impl<const REQS: usize> Keys<REQS> {
         find_open(self.locks.as_slice(), key)
     }
 
-    /// The number of a lock that is not open: of one more, as long as there is memory for it, and then of
-    /// the first.
-    #[cold]
-    fn unopened(&mut self) -> u16
-        requires { LOCKS_A_CALL * REQS ≤ length self.old → list_any is_closed self.old ≡ true }
-        ensures { IsSpare self.old self.new result }
-    {
-        if self.locks.len() < LOCKS_A_CALL * REQS {
-            let n = self.locks.len();
-            self.locks.push_reserved(Lock::unused());
-            n as u16
-        } else {
-            first_closed(self.locks.as_slice()) as u16
-        }
-    }
-
-    /// The number of a lock that is not open. A number that is popped may be that of an open one, and is
-    /// looked at.
+    /// The number of a lock that is not open: one that was kept, which may be that of an open one by now
+    /// and is looked at; or of one more lock, as long as there is memory for it; or of the first.
+    #[tactic(auto, using(crate::proofs::Finding::closed_found))]
     fn take_free(&mut self) -> u16
         requires { LOCKS_A_CALL * REQS ≤ length self.old → list_any is_closed self.old ≡ true }
         ensures { IsSpare self.old self.new result }
@@ -119,25 +115,32 @@ impl<const REQS: usize> Keys<REQS> {
                 return n;
             }
         }
-        self.unopened()
+        let n = self.locks.len();
+        if n < LOCKS_A_CALL * REQS {
+            self.locks.push_reserved(Lock::unused());
+            n as u16
+        } else {
+            first_closed(self.locks.as_slice()) as u16
+        }
     }
 
-    /// The want of the request at a place comes last in the queue of its key, which has room for it. The
-    /// number of the key's lock: of the open one, or where none is, of one that was not open and now is
-    /// of that key. Where all locks are made, one of them is not open.
-    pub fn enter(&mut self, p: u16, w: &Want) -> u16
+    /// The want of the request at a place comes last in the queue of its key, which has room for it; `find`
+    /// gave the number of the open lock of that key. The number of the key's lock: of the open one, or where
+    /// none is, of one that was not open and now is of that key. Where all locks are made, one of them is not
+    /// open.
+    pub fn enter(&mut self, p: u16, w: &Want, number: Option<u16>) -> u16
+        requires number { IsFound self.old w.now.key number }
         requires room { LOCKS_A_CALL * REQS ≤ length self.old → list_any is_closed self.old ≡ true }
         requires few { (n : ℕ) → is_open_for w.now.key (lock_at self.old n) ≡ true → length (lock_at self.old n).queue.places < JOBS }
         ensures { IsEntered self.old self.new p w.now result }
     {
-        let hash = hash_of(&w.key);
-        if let Some(n) = self.find_at(&w.key, hash) {
+        if let Some(n) = number {
             self.locks[n as usize].queue.append(p, w);
             return n;
         }
         let n = self.take_free();
         self.locks[n as usize].begin(p, w);
-        self.buckets[hash as usize].put(n);
+        self.buckets[hash_of(&w.key) as usize].put(n);
         n
     }
 
@@ -170,9 +173,7 @@ impl<const REQS: usize> Keys<REQS> {
             < length (lock_at self.old n).queue.places }
         ensures { self.new ≡ with_queue self.old n (without_place (lock_at self.old n).queue p w.now) }
     {
-        let queue = &mut self.locks[n as usize].queue;
-        let i = queue.index_of(p);
-        queue.give_up(i, w);
+        self.locks[n as usize].queue.give_up(p, w);
     }
 
     /// Closes a lock where no want stands in its queue: it is looked for no longer, and its number may be
@@ -181,10 +182,12 @@ impl<const REQS: usize> Keys<REQS> {
         requires { n < length self.old }
         ensures { self.new ≡ self.old }
     {
-        let lock = &self.locks[n as usize];
-        if lock.is_closed() {
-            self.buckets[hash_of(&lock.key) as usize].take_out(n);
-            push_if_room(&mut self.free, n);
+        let shut = &self.locks[n as usize];
+        if shut.is_closed() {
+            self.buckets[hash_of(&shut.key) as usize].take_out(n);
+            if self.free.len() < self.free.capacity() {
+                let _ = self.free.push(n);
+            }
         }
     }
 
@@ -208,12 +211,7 @@ impl<const REQS: usize> Keys<REQS> {
         ensures { result ≡ slice_get (lock_at self.now n).queue.places (lock_at self.now n).queue.fitting }
     {
         let queue = &self.locks[n as usize].queue;
-        let next = queue.fitting();
-        if next < queue.len() {
-            Some(queue.place(next))
-        } else {
-            None
-        }
+        queue.as_slice().get(queue.fitting()).copied()
     }
 
     /// Whether no want stands in a queue.
@@ -221,6 +219,6 @@ impl<const REQS: usize> Keys<REQS> {
         requires { n < length self.now }
         ensures { result ≡ (length (lock_at self.now n).queue.places == 0) }
     {
-        self.locks[n as usize].queue.len() == 0
+        self.locks[n as usize].is_closed()
     }
 }

@@ -1,15 +1,20 @@
-//! The queues of keys: how many wants from the front of a key's queue on fit, what follows for grants, and
-//! how the queue of a key is found by a hash of the key.
+//! What a lock table keeps: the requests, in the boxes of a slab, and for each key the queue of the places at
+//! which it is wanted, found by a hash of the key. How many wants from a queue's front on fit tells who is
+//! granted.
 #![tactic(auto)]
 
 mod buckets;
+mod filed;
 mod hash;
 mod keys;
 mod laws;
 mod lock;
-mod locks;
+mod places;
 mod queue;
+mod shelf;
+mod store;
 
+pub use filed::Filed;
 pub use keys::Keys;
 pub use laws::{
     flags_tell_who_rises, marks_tell, queues_have_room, steps_keep_the_table, wants_come_and_leave,
@@ -17,3 +22,4 @@ pub use laws::{
 };
 pub use lock::Lock;
 pub use queue::{Queue, index_of, want_in};
+pub use store::Store;

@@ -2,10 +2,10 @@
 ghost use Rattle.std.specs.Prelude.{◌≡◌};
 ghost use Rattle.key_queues.specs.Kept.{appended, no_queue};
 ghost use Rattle.key_queues.specs.Locks.{unused_lock};
-ghost use Rattle.key_queues.specs.Opened.{fresh_lock, is_closed, is_open_for, size_of};
+ghost use Rattle.key_queues.specs.Opened.{fresh_lock, is_closed, is_open_for};
 
 use crate::Queue;
-use lock_queue::{Key, Name, Pool, Scope, UserCode, Want};
+use lock_queue::{Key, Name, Scope, UserCode, Want};
 
 /// A key, the size of its pool, if it is one, and its queue.
 #[derive(Drop)]
@@ -13,16 +13,6 @@ pub struct Lock {
     pub key: Key,
     pub size: Option<u32>,
     pub queue: Queue,
-}
-
-/// The size of a pool.
-fn size_of(pool: &Option<Pool>) -> Option<u32>
-    ensures { result ≡ size_of pool.now }
-{
-    match pool {
-        Some(pool) => Some(pool.size()),
-        None => None,
-    }
 }
 
 impl Lock {
@@ -44,14 +34,14 @@ impl Lock {
     pub(crate) fn is_open_for(&self, key: &Key) -> bool
         ensures { result ≡ is_open_for key.now self.now }
     {
-        self.queue.len() != 0 && self.key.is_same(key)
+        !self.is_closed() && self.key.is_same(key)
     }
 
     /// Whether it is not open.
     pub(crate) fn is_closed(&self) -> bool
         ensures { result ≡ is_closed self.now }
     {
-        self.queue.len() == 0
+        self.queue.as_slice().is_empty()
     }
 
     /// Becomes that of a want's key. The want alone stands in its queue, of the request at this place.
@@ -59,7 +49,10 @@ impl Lock {
         ensures { self.new ≡ record (fresh_lock w.now) { queue = appended no_queue p w.now } }
     {
         self.key = w.key.copied();
-        self.size = size_of(&w.pool);
+        self.size = match &w.pool {
+            Some(pool) => Some(pool.size()),
+            None => None,
+        };
         self.queue.clear();
         self.queue.append(p, w);
     }

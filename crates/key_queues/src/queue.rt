@@ -4,8 +4,8 @@ ghost use Rattle.std.specs.List.{position_or_len, remove};
 ghost use Rattle.word36.specs.declared.sizes.TheConstants.{JOBS};
 ghost use Rattle.lock_queue.specs.Queue.{amount_of};
 ghost use Rattle.key_queues.specs.Tables.{is_counted};
-ghost use Rattle.key_queues.specs.Locks.{want_in};
-ghost use Rattle.key_queues.specs.Kept.{Counts, IsQueueOf, admitted, appended, counting, fits_last, fits_next, no_queue, with_place, without};
+ghost use Rattle.key_queues.specs.Locks.{want_in, without_place};
+ghost use Rattle.key_queues.specs.Kept.{IsQueueOf, admitted, appended, counting, fits_next, no_queue};
 
 use arrayvec::ArrayVec;
 use lock_queue::{Group, Want};
@@ -71,23 +71,15 @@ pub fn want_in<'a>(queues: &[u16], wants: &'a [Want], n: u16) -> &'a Want
     &wants[index_of(queues, n)]
 }
 
-/// Moves the numbers behind the i-th one place up, over it. The last stays behind them.
-fn move_up(list: &mut [u16], i: usize)
-    requires { i < length list.old }
-    ensures long { length list.new ≡ length list.old }
-    ensures front { take (length list.old - 1) list.new ≡ remove list.old i }
-{
-    for k in i..list.len() - 1 {
-        list[k] = list[k + 1];
-    }
-}
-
-/// Takes the i-th number out of a list.
+/// Takes the i-th number out of a list: those behind it move one place up.
 pub fn remove_at<const N: usize>(list: &mut ArrayVec<u16, N>, i: usize)
     requires { i < length list.old.items }
     ensures { list.new.items ≡ remove list.old.items i }
 {
-    move_up(list.as_mut_slice(), i);
+    let numbers = list.as_mut_slice();
+    for k in i..numbers.len() - 1 {
+        numbers[k] = numbers[k + 1];
+    }
     let _ = list.pop();
 }
 
@@ -117,13 +109,6 @@ impl Queue {
         self.group = Group::new(0);
     }
 
-    /// How many wants there are.
-    pub fn len(&self) -> usize
-        ensures { result ≡ length self.now.places }
-    {
-        self.places.len()
-    }
-
     /// The places.
     pub fn as_slice(&self) -> &[u16]
         ensures value { result.now ≡ self.now.places }
@@ -148,13 +133,6 @@ impl Queue {
         self.places[i]
     }
 
-    /// Where a place stands.
-    pub fn index_of(&self, place: u16) -> usize
-        ensures { result ≡ position_or_len (λ m. m == place) self.now.places }
-    {
-        index_of(self.places.as_slice(), place)
-    }
-
     /// Whether the want of a place is counted.
     pub fn counts(&self, place: u16) -> bool
         ensures { result ≡ is_counted self.now place }
@@ -173,50 +151,25 @@ impl Queue {
         }
     }
 
-    /// Counts the next want too, which fits.
-    fn admit(&mut self, w: &Want)
-        requires next { self.old.fitting < length self.old.places }
-        requires room { self.old.taken + amount_of w.now < 2 ^ 18 }
-        ensures { self.new ≡ admitted self.old w.now }
-    {
-        self.fitting += 1;
-        self.taken += amount(w);
-        self.shared = w.shared;
-        self.group = w.group;
-    }
-    /// Whether a want of the key fits behind all.
-    pub fn fits_last(&self, w: &Want) -> bool
-        ensures value { result ≡ fits_last self.now w.now }
-        ensures room { result ≡ true → self.now.taken + amount_of w.now < 2 ^ 18 }
-    {
-        self.fitting == self.places.len() && self.fits_next(w)
-    }
-
     /// A want of the key comes last, of the request at this place.
     pub fn append(&mut self, place: u16, w: &Want)
         requires { length self.old.places < JOBS }
         ensures { self.new ≡ appended self.old place w.now }
     {
-        let fits = self.fits_last(w);
-        self.enter(place);
-        if fits {
-            self.admit(w);
+        let all_fit = self.fitting == self.places.len();
+        self.places.push(place);
+        if all_fit {
+            self.let_in(w);
         }
     }
 
-    /// Puts a place last, which is not counted.
-    fn enter(&mut self, place: u16)
-        requires { length self.old.places < JOBS }
-        ensures { self.new ≡ with_place self.old place }
+    /// The want of a place, which stands there, leaves. What may fit for that is not yet counted: `let_in`
+    /// does so.
+    pub fn give_up(&mut self, place: u16, w: &Want)
+        requires { position_or_len (λ m. m == place) self.old.places < length self.old.places }
+        ensures { self.new ≡ without_place self.old place w.now }
     {
-        self.places.push(place);
-    }
-
-    /// The i-th want leaves. What may fit for that is not yet counted: `let_in` does so.
-    pub fn give_up(&mut self, i: usize, w: &Want)
-        requires { i < length self.old.places }
-        ensures { self.new ≡ without self.old i w.now }
-    {
+        let i = index_of(self.places.as_slice(), place);
         remove_at(&mut self.places, i);
         if i < self.fitting {
             self.fitting -= 1;
@@ -229,14 +182,17 @@ impl Queue {
         requires { self.old.fitting < length self.old.places }
         ensures value { result ≡ fits_next self.old w.now w.now.pool }
         ensures after { self.new ≡ (if result then admitted self.old w.now else self.old) }
-        ensures places { self.new.places ≡ self.old.places }
     {
         let fits = self.fits_next(w);
         if fits {
-            self.admit(w);
+            self.fitting += 1;
+            self.taken += amount(w);
+            self.shared = w.shared;
+            self.group = w.group;
         }
         fits
     }
+
     /// Counts k wants of the front, of the party of the first.
     pub fn recount(&mut self, k: usize, first: &Want)
         requires { k ≤ self.old.fitting }
@@ -245,19 +201,5 @@ impl Queue {
         self.fitting = k;
         self.shared = first.shared;
         self.group = first.group;
-    }
-
-    /// Counts those wants of the queue that fit, from the first that is not counted on.
-    pub fn extend(&mut self, wants: &[Want])
-        requires { length self.old.places ≡ length wants.now }
-        ensures places { self.new.places ≡ self.old.places }
-        ensures queue { (size : Option ℕ) → Counts size wants.now self.old → IsQueueOf size wants.now self.new }
-    {
-        while self.fitting() < self.len() {
-            let next = self.fitting();
-            if !self.let_in(&wants[next]) {
-                return;
-            }
-        }
     }
 }

@@ -1,8 +1,8 @@
--- A request that is not refused can come.
-use Rattle.std.proofs.Common.{◌≡◌, ◌≢◌, ◌≤◌, ◌<◌, ◌∙◌, sym, ap, subst, ℕ, Bool, true, false, not, ◌==◌, cond, List, [], ◌∷◌}
-use Rattle.std.proofs.Common.{◌++◌, length, map, take, get_or, Option, None, inl, inr, refl, arith, nat_le}
+-- A request is let come.
+use Rattle.std.proofs.Common.{◌≡◌, ◌≢◌, ◌≤◌, ◌<◌, ◌∙◌, sym, ap, subst, ℕ, Bool, true, false, not, ◌==◌, List, [], ◌∷◌, ◌++◌, length, map, take}
+use Rattle.std.proofs.Common.{get_or, Option, None, inl, inr, refl, arith, nat_le, filter, Some, append-nil}
 use Rattle.std.specs.List.{list_all}
-use Rattle.std.proofs.lemmas.Bool.{both_ways, eq-eqb, not-false, or_parts}
+use Rattle.std.proofs.lemmas.Bool.{both_ways, eq-eqb, not-false, or_parts, and_parts, eqb-true}
 use Rattle.std.proofs.lemmas.List.{map-append}
 use Rattle.std.proofs.lemmas.List.Folds.{list_all-append}
 use Rattle.word36.specs.declared.sizes.TheConstants.{JOBS, LOCKS_A_CALL}
@@ -11,16 +11,16 @@ use Rattle.lock_queue.specs.declared.request.Request.{Request}
 use Rattle.lock_queue.specs.declared.want.Want.{Want}
 use Rattle.arrayvec.specs.ArrayVec.{ArrayVec}
 use Rattle.lock_queue.specs.declared.call.Asking.{Asking}
-use Rattle.lock_queue.specs.Enqueues.{are_alike, arrival, enqueue_fault, not_granted, request_of, same_pool_size, with_arrival}
+use Rattle.lock_queue.specs.Enqueues.{are_alike, enqueue, enqueue_fault, enqueue_refusal, not_granted, request_of, same_pool_size, with_arrival}
 use Rattle.lock_queue.specs.declared.call.LockReply.TheVariants.{Granted}
-use Rattle.lock_queue.specs.Jobs.{as_told, is_interrupt}
+use Rattle.lock_queue.specs.Jobs.{is_interrupt}
 use Rattle.lock_queue.specs.Outcomes.{first_refusal, outcome}
 use Rattle.lock_queue.specs.Pools.{PoolShare}
-use Rattle.lock_queue.specs.Queue.{granted, names, requests_of, wants_at, wants_of}
+use Rattle.lock_queue.specs.Queue.{granted, names, requests_of, wants_at, wants_of, all_wants}
 use Rattle.lock_queue.specs.Unused.{unused_want}
 use Rattle.lock_queue.specs.WellFormed.{are_apart, are_well_formed, is_in_range, is_job, is_well_formed, shares_rightly}
-use Rattle.lock_queue.proofs.Fitting.{names-Has, names-found}
-use Rattle.lock_queue.proofs.Lists.{Has, Has-filter, Has-flat_map, Has-map}
+use Rattle.lock_queue.proofs.Fitting.{names-Has, names-found, eq-same_key}
+use Rattle.lock_queue.proofs.Lists.{Has, Has-filter, Has-flat_map, Has-map, list_all-Has}
 use Rattle.lock_queue.proofs.Refusing.{or_else-None, refuse_if-None}
 use Rattle.lock_queue.proofs.WellKept.{job_number, right_job, well-arrival}
 use Rattle.key_queues.specs.declared.lock.Lock.{Lock}
@@ -32,16 +32,23 @@ use Rattle.key_queues.proofs.Finding.{open_parts}
 use Rattle.key_queues.proofs.Moves.{map_same}
 use Rattle.key_queues.proofs.Room.{room_for_one_more}
 use Rattle.key_queues.proofs.Using.{as_many_queues, there_kept}
-use Rattle.request_store.specs.Stores.{Stored, filed_at}
-use Rattle.table_reads.specs.Filing.{state_of}
-use Rattle.table_reads.specs.Whole.{AreRight, IsWhole, JobsAreApart, requests_in}
+use Rattle.key_queues.specs.Stores.{Stored, filed_at}
+use Rattle.lock_table.specs.Filing.{state_of}
+use Rattle.lock_table.specs.Whole.{AreRight, IsWhole, JobsAreApart, requests_in, LevelsAgree, level_at}
+use Rattle.lock_table.specs.Reads.{request_at}
 use Rattle.lock_table.specs.Arrivals.{Admits, AdmitsFrom, AreShort}
-use Rattle.lock_table.specs.Departures.{request_at}
 use Rattle.lock_table.proofs.Named.{passes_at}
 use Rattle.lock_table.proofs.Wholes.{well_from_right}
-use Rattle.lock_table.proofs.Losing.{there_Has}
-use Rattle.lock_table.proofs.Choosing.{there_before}
+use Rattle.lock_table.proofs.Altering.{there_Has, named_changed, own_changed}
+use Rattle.lock_table.proofs.Filing.{there_before}
 use Rattle.std.proofs.lemmas.Grind.{common_steps}
+use Rattle.lock_queue.specs.Changes.{changed, changed_want}
+use Rattle.lock_queue.specs.Keys.{same_key}
+use Rattle.lock_queue.specs.StatusWords.{first_level}
+use Rattle.lock_table.proofs.Levels.{level_of_want}
+use Rattle.lock_table.specs.Changing.{IsChanged}
+
+-- ---- a request that is not refused can come
 
 -- a job's request with a want of a key is found among the job's wants
 pub had_key : (s : Stored) (job : ℕ) (key : Key) (x : ℕ) → is_there x s.order ≡ true → (request_at s x).job ≡ job
@@ -178,16 +185,63 @@ module _ (s : Stored) (job : ℕ) (asking : Asking) (wants : ArrayVec Want) wher
   apart_after well =
       grind (arith, common_steps, list_all-append is_well_formed (requests_in s) (request_of job asking false wants ∷ []))
 
--- what an arrival leaves and answers
-module _ (rs : List Request) (job : ℕ) (asking : Asking) (wants : ArrayVec Want) where
+-- what an arrival that is not refused leaves and answers
+module _ (size : ℕ) (rs : List Request) (job : ℕ) (asking : Asking) (wants : ArrayVec Want)
+    (passed : enqueue_refusal size rs job asking wants.items ≡ None) where
   pub arrives_granted : granted (with_arrival rs job asking false wants) (length rs) ≡ true
-      → arrival rs job asking wants ≡ outcome (with_arrival rs job asking (is_interrupt asking.kind) wants) Granted
-  arrives_granted h = grind (arith, common_steps)
+      → enqueue size rs job asking wants ≡ outcome (with_arrival rs job asking (is_interrupt asking.kind) wants) Granted
+  arrives_granted h = grind (arith, common_steps, passed)
 
   pub arrives_waiting : granted (with_arrival rs job asking false wants) (length rs) ≡ false
-      → arrival rs job asking wants ≡ not_granted rs (with_arrival rs job asking false wants) asking.kind
-  arrives_waiting h = grind (arith, common_steps)
+      → enqueue size rs job asking wants ≡ not_granted rs (with_arrival rs job asking false wants) asking.kind
+  arrives_waiting h = grind (arith, common_steps, passed)
 
-pub knows : (job : ℕ) (asking : Asking) (wants : ArrayVec Want) (r : Request) → r ≡ request_of job asking false wants
-    → cond (is_interrupt asking.kind) (as_told r) r ≡ request_of job asking (is_interrupt asking.kind) wants
-knows job asking wants r is = grind (arith, common_steps)
+-- ---- a key is still wanted at one level where a request comes, and where wants are changed
+
+-- a request that comes is of the levels of the present wants
+module _ (s t : Stored) (p job : ℕ) (r : Request) (apart : (x : ℕ) → are_apart (request_at s x).wants.items ≡ true) where
+  like_present : are_apart r.wants.items ≡ true → first_refusal (enqueue_fault (requests_in s) job) [] r.wants.items ≡ None
+      → (y : ℕ) (key : Key) → is_there y s.order ≡ true → names r.wants.items key ≡ true → names (request_at s y).wants.items key ≡ true
+      → level_at r key ≡ level_at (request_at s y) key
+  like_present own passed y key here nr ny =
+      let v = names-found r.wants.items key nr in
+      let u = names-found (request_at s y).wants.items key ny in
+      let among : Has (all_wants (requests_in s)) u.0 =
+      Has-flat_map (λ (q : Request). q.wants.items) (requests_in s) (request_at s y) u.0 (Has-map (request_at s) s.order y (there_Has y s.order here)) u.1 in
+      let at_key : Has (wants_at (requests_in s) v.0.key) u.0 =
+      Has-filter (λ w. same_key w.key v.0.key) (all_wants (requests_in s)) u.0 (eq-same_key u.0.key v.0.key (u.2 ∙ sym v.2)) among in
+      let alike : are_alike u.0 v.0 ≡ true =
+      list_all-Has (λ w. are_alike w v.0) (wants_at (requests_in s) v.0.key) u.0 (passed_of s job [] r.wants.items v.0 passed v.1).alike at_key in
+      let same : u.0.level ≡ v.0.level = eqb-true u.0.level v.0.level (and_parts (u.0.level == v.0.level) (same_pool_size u.0.pool v.0.pool) alike).0 in
+      level_of_want r key v.0 own v.1 v.2 ∙ sym same ∙ sym (level_of_want (request_at s y) key u.0 (apart y) u.1 u.2)
+
+  pub levels_after : LevelsAgree s → t.order ≡ s.order ++ p ∷ [] → (filed_at t p).request ≡ r
+      → ((x : ℕ) → (x ≡ p → ⊥) → (filed_at t x).request ≡ (filed_at s x).request)
+      → are_apart r.wants.items ≡ true
+      → first_refusal (enqueue_fault (requests_in s) job) [] r.wants.items ≡ None
+      → LevelsAgree t
+  levels_after agree order mine others own passed x y key hx hy nx ny =
+      grind (arith, common_steps, mine, others x, others y, was x, was y, like_present own passed y key, like_present own passed x key, agree x y key)
+    where
+      was : (z : ℕ) → z ≢ p → is_there z t.order ≡ true → is_there z s.order ≡ true
+      was z ne h = there_before z p s.order (sym (ap (is_there z) order) ∙ h) ne
+
+-- a change keeps the level
+changed_level : (cs : List Want) (w : Want) → (changed_want cs w).level ≡ w.level
+changed_level [] w = refl
+changed_level (c ∷ cs) w = grind (arith, common_steps, changed_level cs w)
+
+level_changed : (job : ℕ) (cs : List Want) (r : Request) (key : Key) → level_at (changed job cs r) key ≡ level_at r key
+level_changed job cs r key = grind (arith, common_steps, append-nil, own_changed cs r.wants.items key, first (filter (λ v. same_key v.key key) r.wants.items))
+  where
+    first : (ws : List Want) → first_level (map (changed_want cs) ws) ≡ first_level ws
+    first [] = refl
+    first (w ∷ ws) = ap (λ (l : ℕ). Some l) (changed_level cs w)
+
+pub levels_changed : (s t : Stored) (job : ℕ) (changes : List Want) → LevelsAgree s → IsChanged s t job changes → LevelsAgree t
+levels_changed s t job changes agree is x y key hx hy nx ny =
+    let at_x = level_changed job changes (request_at s x) key in
+    let at_y = level_changed job changes (request_at s y) key in
+    let named_x = named_changed job changes (request_at s x) key in
+    let named_y = named_changed job changes (request_at s y) key in
+    grind (arith, common_steps, is.order, is.at x, is.at y, at_x, at_y, named_x, named_y, agree x y key)

@@ -1,9 +1,9 @@
--- What the code of a table finds.
-use Rattle.std.proofs.Common.{◌≡◌, ◌≢◌, ◌<◌, ◌∙◌, sym, ap, subst, ℕ, suc, Bool, true, ◌==◌, List, [], length, set}
-use Rattle.std.proofs.Common.{take, drop, get_or, slice_get, Some, inl, inr, refl, arith}
-use Rattle.std.specs.List.{All, list_all, position_or_len, remove}
-use Rattle.std.proofs.lemmas.Bool.{cases_eq, false≢true}
-use Rattle.std.proofs.lemmas.List.{get_or_past, get_or-set_same, get_or-set_other, nil_from_length}
+-- What the code of a table finds and leaves.
+use Rattle.std.proofs.Common.{◌≡◌, ◌≢◌, ◌<◌, ◌∙◌, sym, ap, subst, ℕ, suc, Bool, true, ◌==◌, List, [], length, set, take, drop, get_or, slice_get}
+use Rattle.std.proofs.Common.{Some, inl, inr, refl, arith, false, ◌∷◌, ◌++◌, filter, not, ◌+◌, cond, ◌≤◌, ◌&&◌}
+use Rattle.std.specs.List.{All, list_all, position_or_len, remove, list_any}
+use Rattle.std.proofs.lemmas.Bool.{cases_eq, false_from_ne_true, both_ways, or_parts, eq-eqb, ne_eqb}
+use Rattle.std.proofs.lemmas.List.{get_or_past, get_or-set_same, get_or-set_other, nil_from_length, length-append}
 use Rattle.std.proofs.lemmas.Option.{slice_get-get_or}
 use Rattle.lock_queue.specs.declared.key.Key.{Key}
 use Rattle.lock_queue.specs.declared.request.Request.{Request}
@@ -11,21 +11,42 @@ use Rattle.lock_queue.specs.declared.want.Want.{Want}
 use Rattle.lock_queue.specs.Queue.{names}
 use Rattle.lock_queue.specs.Unused.{unused_want}
 use Rattle.lock_queue.specs.WellFormed.{are_apart}
-use Rattle.request_store.specs.declared.filed.Filed.{Filed}
+use Rattle.key_queues.specs.declared.filed.Filed.{Filed}
 use Rattle.key_queues.specs.declared.lock.Lock.{Lock}
 use Rattle.key_queues.specs.Locks.{unused_lock, lock_at, with_queue, without_place}
-use Rattle.request_store.specs.Stores.{Stored, filed_at, removed, with_filed}
-use Rattle.request_store.specs.Filing.{unused_filed, with_granted, without_want}
-use Rattle.table_reads.specs.Filing.{own_at, want_at, state_of}
+use Rattle.key_queues.specs.Stores.{Stored, filed_at, removed, with_filed, without_place as order_without, is_blocked}
+use Rattle.key_queues.specs.Filing.{unused_filed, without_want}
+use Rattle.lock_table.specs.Filing.{own_at, want_at, state_of}
 use Rattle.key_queues.specs.Kept.{KeptQueue, fits_next, admitted}
-use Rattle.key_queues.specs.States.{State, Stands, all_count, IsKept, FlagsAll, CountsAll, CountsBut, IsCounted, Renews}
-use Rattle.key_queues.specs.States.{LetsIn, GivesUpAt, IsUsed, IsTable, Leaves, Extended, OpenAreUsed}
-use Rattle.key_queues.specs.Tables.{is_counted, is_there}
-use Rattle.key_queues.proofs.Keeping.{letting_in_keeps, giving_up_keeps, leaving_keeps}
+use Rattle.key_queues.specs.States.{State, Stands, all_count, IsKept, FlagsAll, CountsAll, CountsBut, IsCounted, Renews, LetsIn, GivesUpAt, IsUsed}
+use Rattle.key_queues.specs.States.{IsTable, Leaves, Extended, OpenAreUsed}
+use Rattle.key_queues.specs.Tables.{is_counted, is_there, QueuesOf, StandsOnce}
+use Rattle.key_queues.proofs.Keeping.{letting_in_keeps, giving_up_keeps, leaving_keeps, queues_at, queues_without}
 use Rattle.key_queues.proofs.Moves.{there_without}
-use Rattle.key_queues.proofs.Places.{split_at, length_take}
-use Rattle.key_queues.proofs.Using.{Next, as_many_queues, named_there, position_found, stands_in_queue, there_at, there_removed}
+use Rattle.key_queues.proofs.Lists.{split_at, length_take}
+use Rattle.key_queues.proofs.Using.{Next, as_many_queues, named_there, position_found, stands_in_queue, there_at, there_removed, kept_there}
+use Rattle.key_queues.proofs.Using.{there_kept}
 use Rattle.std.proofs.lemmas.Grind.{common_steps}
+use Rattle.std.proofs.lemmas.List.Elements.{filter-append}
+use Rattle.std.proofs.lemmas.List.Folds.{list_all-append}
+use Rattle.lock_queue.specs.Keys.{same_key}
+use Rattle.lock_queue.proofs.Fitting.{eq-same_key}
+use Rattle.lock_queue.proofs.Lists.{Has-right}
+use Rattle.key_queues.proofs.Standing.{one_of_key}
+use Rattle.std.specs.Bool.{beq}
+use Rattle.lock_table.specs.Turns.{Turned, mark_at, turned_if}
+use Rattle.lock_queue.specs.Dequeues.{has_wants}
+use Rattle.lock_table.specs.Reads.{request_at}
+use Rattle.lock_table.specs.Departures.{stays_beside, IsLeft, is_chosen, is_leaver_at, is_of, may_be_leavers}
+use Rattle.key_queues.proofs.Orders.{filter_same as same_where, without_gone, without_other, without_kept, without_left, there_last, filter_short}
+use Rattle.lock_table.proofs.Altering.{filter_each}
+use Rattle.lock_table.proofs.Reading.{kept_present}
+use Rattle.lock_table.specs.declared.leaving.Leavers.{Leavers}
+use Rattle.lock_table.specs.declared.leaving.Leavers.TheVariants.{All as Everyone, Job, Id, Waiter, Waiters}
+
+-- ---- what the code of a table finds
+
+-- ---- what the code of a table finds
 
 -- a request is put in its place, and the others stay
 module _ (s t : Stored) (p : ℕ) (f : Filed) (lt : p < length s.filed) (is : t.filed ≡ set s.filed p f) where
@@ -214,25 +235,9 @@ given_up store middle then locks more p k kept flags present lt is lock_is renew
       both.3,
     )
 
--- the flag of a request is set right
-pub renews_by : (store then : Stored) (locks : List Lock) (p : ℕ) (granted : Bool) → p < length store.filed
-    → granted ≡ list_all (λ n. is_counted (lock_at locks n).queue p) (filed_at store p).queues.items
-    → then ≡ with_filed store p (with_granted (filed_at store p) granted)
-    → Renews (state_of store locks) (state_of then locks) p
-renews_by store then locks p granted lt counted is =
-    let f : Filed = with_granted (filed_at store p) granted in
-    let put = ap (λ (v : Stored). v.filed) is in
-    let own = filed_like store then p f lt put (λ (y : Filed). y.queues.items) refl in
-    record {
-      order = ap (λ (v : Stored). v.order) is;
-      at = filed_like store then p f lt put (λ (y : Filed). y.request) refl;
-      own = own;
-      key = λ m. refl;
-      size = λ m. refl;
-      queue = λ m. refl;
-      flags = λ x ne. ap (λ (y : Filed). y.granted) (filed_other store then p f lt put x ne);
-      flag = ap (λ (y : Filed). y.granted) (filed_mine store then p f lt put) ∙ counted ∙ ap (list_all (λ n. is_counted (lock_at locks n).queue p)) (sym (own p));
-    }
+-- a queue stays used where those stand in it that did
+pub used_where : (s t : State) (m : ℕ) → ((x : ℕ) → Stands s x m → Stands t x m) → IsUsed s m → IsUsed t m
+used_where s t m still u = record { place = u.place; stands = still u.place u.stands }
 
 -- a request that has given up all its wants leaves the store
 pub left_store : (store : Stored) (locks : List Lock) (p : ℕ) → IsTable (state_of store locks)
@@ -261,19 +266,246 @@ left_store store locks p table present none lt =
       flags = λ x ne. ap (λ (y : Filed). y.granted) (others x ne);
     } in
     let all = leaving_keeps s t (take i store.order) (drop (suc i) store.order) p table.kept step in
-    let used : OpenAreUsed t =
-    λ m some.
-    let u : IsUsed s m = table.used m some in
-    let other : u.place ≢ p =
-    λ e.
-    let held : is_there m (s.own p) ≡ true = subst (λ z. is_there m (s.own z) ≡ true) e u.stands.there in
-    let nobody : is_there m [] ≡ true = subst (λ l. is_there m l ≡ true) (nil_from_length (s.own p) none) held in
-    false≢true nobody in
+    let still : (m x : ℕ) → Stands s x m → Stands t x m =
+    λ m x st.
+    let other : x ≢ p = λ e. grind (arith, common_steps, e, st.there, nil_from_length (s.own p) none) in
     record {
-      place = u.place;
-      stands = record {
-        present = there_without u.place p i store.order (position_found p store.order present).1 other ∙ u.stands.present;
-        there = subst (λ (f : Filed). is_there m f.queues.items ≡ true) (sym (others u.place other)) u.stands.there;
-      };
+      present = there_without x p i store.order (position_found p store.order present).1 other ∙ st.present;
+      there = ap (λ (f : Filed). is_there m f.queues.items) (others x other) ∙ st.there;
     } in
+    let used : OpenAreUsed t = λ m some. used_where s t m (still m) (table.used m some) in
     record { kept = all.0; flags = all.1 (λ x here ne. table.flags x here); full = all.2 table.full; used = used }
+
+-- ---- a request that is taken for granted and gives up a want is still to be taken so
+
+-- a test answers the same of all but one that is not there
+all_same : (f g : ℕ → Bool) (n : ℕ) (xs : List ℕ) → is_there n xs ≡ false → ((m : ℕ) → (m ≡ n → ⊥) → f m ≡ g m)
+    → list_all f xs ≡ list_all g xs
+all_same f g n [] out same = refl
+all_same f g n (x ∷ xs) out same = grind (arith, common_steps, same x, all_same f g n xs)
+
+-- where it answers so of all, so it does of all but one
+all_less : (f : ℕ → Bool) (n : ℕ) (na nb : List ℕ) → list_all f (na ++ n ∷ nb) ≡ true → list_all f (na ++ nb) ≡ true
+all_less f n na nb all = grind (arith, common_steps, list_all-append f na (n ∷ nb), list_all-append f na nb)
+
+-- where none is chosen, none is named
+none_named : (test : Want → Bool) (ws : List Want) → filter test ws ≡ [] → list_any test ws ≡ false
+none_named test [] e = refl
+none_named test (w ∷ ws) e = grind (arith, common_steps, none_named test ws)
+
+-- the wants that are left are of other keys
+not_named : (a b : List Want) (w : Want) → are_apart (a ++ w ∷ b) ≡ true → names (a ++ b) w.key ≡ false
+not_named a b w apart =
+    let test : Want → Bool = λ v. same_key v.key w.key in
+    let one : filter test (a ++ w ∷ b) ≡ w ∷ [] = one_of_key (a ++ w ∷ b) w apart (Has-right a (w ∷ b) w (inl refl)) in
+    let both = filter-append test a (w ∷ b) in
+    let count = length-append (filter test a) (w ∷ filter test b) in
+    none_named test (a ++ b) (grind (arith, common_steps, one, both, count, filter-append test a b, eq-same_key w.key w.key, nil_from_length (filter test a), nil_from_length (filter test b)))
+
+still_counted : (s : State) (queue : ℕ → KeptQueue) (p n : ℕ) (a b : List Want) (w : Want) (na nb : List ℕ) → IsKept s → is_there p s.order ≡ true
+    → (s.at p).wants.items ≡ a ++ w ∷ b
+    → s.own p ≡ na ++ n ∷ nb
+    → length a ≡ length na
+    → ((m : ℕ) → (m ≡ n → ⊥) → queue m ≡ s.queue m)
+    → all_count s p ≡ true
+    → list_all (λ m. is_counted (queue m) p) (na ++ nb) ≡ true
+still_counted s queue p n a b w na nb kept present wants owned same others all =
+    let queues : QueuesOf (λ v m. s.key m ≡ v.key) (a ++ w ∷ b) (na ++ n ∷ nb) =
+    subst (λ l. QueuesOf (λ v m. s.key m ≡ v.key) (a ++ w ∷ b) l) owned
+    (subst (λ l. QueuesOf (λ v m. s.key m ≡ v.key) l (s.own p)) wants (kept.queues p present)) in
+    let of : s.key n ≡ w.key = queues_at (λ v m. s.key m ≡ v.key) a b w na nb n same queues in
+    let left : QueuesOf (λ v m. s.key m ≡ v.key) (a ++ b) (na ++ nb) = queues_without (λ v m. s.key m ≡ v.key) a b w na nb n same queues in
+    let apart : are_apart (a ++ w ∷ b) ≡ true = subst (λ l. are_apart l ≡ true) wants (kept.apart p) in
+    let gone : names (a ++ b) (s.key n) ≡ false = ap (names (a ++ b)) of ∙ not_named a b w apart in
+    let out : is_there n (na ++ nb) ≡ false =
+    false_from_ne_true (is_there n (na ++ nb)) (λ e. both_ways _ gone (named_there s.key (a ++ b) (na ++ nb) n left e)) in
+    all_same (λ m. is_counted (queue m) p) (λ m. is_counted (s.queue m) p) n (na ++ nb) out (λ m ne. ap (λ q. is_counted q p) (others m ne))
+    ∙ all_less (λ m. is_counted (s.queue m) p) n na nb (subst (λ l. list_all (λ m. is_counted (s.queue m) p) l ≡ true) owned all)
+
+pub still_granted : (store middle : Stored) (locks more : List Lock) (p k : ℕ)
+    → IsKept (state_of store locks)
+    → FlagsAll (state_of store locks)
+    → is_there p store.order ≡ true
+    → k < length (filed_at store p).queues.items
+    → Given store locks p k
+    → middle ≡ with_filed store p (without_want (filed_at store p) k)
+    → more ≡ with_queue locks (own_at store p k) (without_place (lock_at locks (own_at store p k)).queue p (want_at store p k))
+    → (filed_at middle p).granted ≡ true
+    → all_count (state_of middle more) p ≡ true
+still_granted store middle locks more p k kept flags present lt g is lock_is granted =
+    let s : State = state_of store locks in
+    let n : ℕ = own_at store p k in
+    let mine = filed_mine store middle p (without_want (filed_at store p) k) g.filed_in (ap (λ (v : Stored). v.filed) is) in
+    let all : all_count s p ≡ true = sym (flags p present) ∙ sym (ap (λ (f : Filed). f.granted) mine) ∙ granted in
+    let want = slice_get-get_or (s.at p).wants.items k unused_want g.wants_in in
+    let own = slice_get-get_or (s.own p) k 0 lt in
+    let others = lock_other locks more n (without_place (lock_at locks n).queue p (want_at store p k)) g.lock_in lock_is in
+    ap (λ (f : Filed). list_all (λ m. is_counted (lock_at more m).queue p) f.queues.items) mine
+    ∙ still_counted s (λ m. (lock_at more m).queue) p n (take k (s.at p).wants.items) (drop (suc k) (s.at p).wants.items) (want_at store p k)
+    (take k (s.own p)) (drop (suc k) (s.own p)) kept present (split_at (s.at p).wants.items k (want_at store p k) want) (split_at (s.own p) k n own)
+    (length_take (s.at p).wants.items k (want_at store p k) want ∙ sym (length_take (s.own p) k n own))
+    (λ m ne. ap (λ (l : Lock). l.queue) (others m ne)) all
+
+-- ---- some requests leave
+
+-- ---- marks tell whose flags turned
+
+-- what turns twice is as it was
+twice : (a b c k : Bool) → turned_if (not (beq b c)) (turned_if (not (beq a b)) k) ≡ turned_if (not (beq a c)) k
+twice a b c k = grind (arith, common_steps)
+
+still : (a k : Bool) → k ≡ turned_if (not (beq a a)) k
+still a k = grind (arith, common_steps)
+
+pub turned_then : (s t u : Stored) (l m n : List Bool) → ((x : ℕ) → is_there x u.order ≡ true → is_there x t.order ≡ true)
+    → Turned s t l m
+    → Turned t u m n
+    → Turned s u l n
+turned_then s t u l m n stay first second x h =
+    grind (arith, common_steps, second x h, first x (stay x h), twice (filed_at s x).granted (filed_at t x).granted (filed_at u x).granted (mark_at l x))
+
+pub turned_still : (s t : Stored) (m : List Bool) → ((x : ℕ) → is_there x t.order ≡ true → (filed_at t x).granted ≡ (filed_at s x).granted)
+    → Turned s t m m
+turned_still s t m same x h =
+    subst (λ b. mark_at m x ≡ turned_if (not (beq (filed_at s x).granted b)) (mark_at m x)) (sym (same x h)) (still (filed_at s x).granted (mark_at m x))
+
+-- ---- some requests give up some keys
+
+pub has_where_named : (r : Request) (key : Key) → names r.wants.items key ≡ true → has_wants r ≡ true
+has_where_named r key h = go r.wants.items h
+  where
+    go : (ws : List Want) → names ws key ≡ true → not (length ws == 0) ≡ true
+    go [] h = cc
+    go (w ∷ ws) h = ap not (ne_eqb (suc (length ws)) 0 (λ e. absurd (omega arith)))
+
+-- who is still there was there, and is another
+pub there_beside : (x p : ℕ) (xs : List ℕ) → StandsOnce xs → is_there x (order_without xs p) ≡ true → (x ≢ p) × (is_there x xs ≡ true)
+there_beside x p xs once h =
+    let ne : x ≢ p = λ e. grind (arith, common_steps, without_gone p xs once, e) in
+    (ne, sym (without_other p xs x ne) ∙ h)
+
+-- who is there before one more place is another
+pub there_before : (x p : ℕ) (xs : List ℕ) → is_there x (xs ++ p ∷ []) ≡ true → x ≢ p → is_there x xs ≡ true
+there_before x p xs h ne = grind (arith, common_steps, there_last x p xs)
+
+-- a place leaves those that a test keeps
+remove_filter : (t u : ℕ → Bool) (p : ℕ) (xs : List ℕ) → StandsOnce xs → t p ≡ true → u p ≡ false → ((x : ℕ) → (x ≡ p → ⊥) → t x ≡ u x)
+    → order_without (filter t xs) p ≡ filter u xs
+remove_filter t u p xs once keeps drops same =
+    sym (without_kept p xs t keeps) ∙ same_where t u (order_without xs p) (λ x h. same x (there_beside x p xs once h).0) ∙ without_left p xs u drops
+
+-- the order, where those that have wants left stay
+pub order_step : (t u : ℕ → Bool) (p : ℕ) (first order then : List ℕ) → StandsOnce first → order ≡ filter t first
+    → then ≡ cond (u p) order (remove order (position_or_len (λ m. m == p) order))
+    → t p ≡ true
+    → ((x : ℕ) → (x ≡ p → ⊥) → t x ≡ u x)
+    → then ≡ filter u first
+order_step t u p first order then once was is keeps same = go (u p) refl is
+  where
+    go : (b : Bool) → u p ≡ b → then ≡ cond b order (remove order (position_or_len (λ m. m == p) order)) → then ≡ filter u first
+    go true e now = now ∙ was ∙ ap (λ (v : ℕ → Bool). filter v first) (λ i x. each x i)
+      where
+        each : (x : ℕ) → t x ≡ u x
+        each x = grind (arith, common_steps, same x)
+    go false e now = now ∙ ap (λ l. remove l (position_or_len (λ m. m == p) l)) was ∙ remove_filter t u p first once keeps e same
+
+-- a place that is not there cannot be taken out
+pub absent : (q : ℕ) (ys : List ℕ) → is_there q ys ≡ false → order_without ys q ≡ ys
+absent q [] f = refl
+absent q (y ∷ ys) f = grind (arith, common_steps, absent q ys)
+
+-- who stays beside one place fewer
+pub beside_next : (before : List ℕ) (p : ℕ) (first order then : List ℕ) → StandsOnce first → order ≡ filter (stays_beside before) first
+    → then ≡ order_without order p
+    → then ≡ filter (stays_beside (before ++ p ∷ [])) first
+beside_next before p first order then once was is = go (is_there p order) refl
+  where
+    next : (x : ℕ) → x ≢ p → stays_beside before x ≡ stays_beside (before ++ p ∷ []) x
+    next x ne = grind (arith, common_steps, there_last x p before, ne)
+
+    last : stays_beside (before ++ p ∷ []) p ≡ false
+    last = grind (arith, common_steps, there_last p p before)
+
+    go : (b : Bool) → is_there p order ≡ b → then ≡ filter (stays_beside (before ++ p ∷ [])) first
+    go true here =
+        let keeps = (there_kept (stays_beside before) p first (subst (λ l. is_there p l ≡ true) was here)).1 in
+        is ∙ ap (λ l. order_without l p) was ∙ remove_filter (stays_beside before) (stays_beside (before ++ p ∷ [])) p first once keeps last next
+    go false out =
+        is ∙ absent p order out ∙ was
+        ∙ same_where (stays_beside before) (stays_beside (before ++ p ∷ [])) first
+        (λ x h. grind (arith, common_steps, there_last x p before, kept_there (stays_beside before) x first h, was, out))
+
+-- a request that has given up all its wants leaves
+pub gone : (s t u : Stored) (locks : List Lock) (p : ℕ) (l m : List Bool) → IsTable (state_of t locks) → is_there p t.order ≡ true
+    → length (filed_at t p).queues.items ≡ 0
+    → Turned s t l m
+    → p < length t.filed
+    → u ≡ removed t p
+    → IsTable (state_of u locks) × Turned s u l m
+gone s t u locks p l m table present none turned lt is =
+    let beside : (x : ℕ) → is_there x (order_without t.order p) ≡ true → (x ≢ p) × (is_there x t.order ≡ true) =
+    λ x h. there_beside x p t.order table.kept.once h in
+    let still =
+    turned_still t (removed t p) m
+    (λ x h. ap (λ (f : Filed). f.granted) (filed_other t (removed t p) p unused_filed lt refl x (beside x h).0)) in
+    subst (λ (v : Stored). IsTable (state_of v locks) × Turned s v l m) (sym is)
+    (left_store t locks p table present none lt, turned_then s t (removed t p) l m m (λ x h. (beside x h).1) turned still)
+
+-- of the requests that stay, each is as it was
+pub left_next : (s t u : Stored) (before : List ℕ) (p : ℕ) → StandsOnce s.order → IsLeft s t (request_at s) (stays_beside before)
+    → u.order ≡ order_without t.order p
+    → StandsOnce t.order
+    → ((x : ℕ) → (x ≡ p → ⊥) → (filed_at u x).request ≡ (filed_at t x).request)
+    → IsLeft s u (request_at s) (stays_beside (before ++ p ∷ []))
+left_next s t u before p once was order once_t others = record {
+  order = beside_next before p s.order t.order u.order once was.order order;
+  left =
+      λ x h.
+      let both = there_beside x p t.order once_t (subst (λ l. is_there x l ≡ true) order h) in
+      others x both.0 ∙ was.left x both.1;
+}
+
+pub left_none : (s : Stored) → IsLeft s s (request_at s) (stays_beside [])
+left_none s = record { order = sym (filter_each (stays_beside []) s.order (λ x h. refl)); left = λ x h. refl }
+
+-- who is there after a place stays or leaves was there
+pub stays_in : (b : Bool) (x p : ℕ) (xs then : List ℕ) → StandsOnce xs → then ≡ cond b xs (order_without xs p) → is_there x then ≡ true
+    → is_there x xs ≡ true
+stays_in b x p xs then once is h = grind (arith, common_steps, there_beside x p xs once)
+
+-- a place that came last and leaves again
+pub without_new : (xs : List ℕ) (p : ℕ) → is_there p xs ≡ false → order_without (xs ++ p ∷ []) p ≡ xs
+without_new [] p out = rw (eq-eqb p p refl) refl
+without_new (x ∷ xs) p out =
+    let parts = or_parts (x == p) (is_there p xs) out in
+    let one : 1 + position_or_len (λ y. y == p) (xs ++ p ∷ []) ≡ suc (position_or_len (λ y. y == p) (xs ++ p ∷ [])) = omega arith in
+    rw parts.0 (rw one (ap (λ l. x ∷ l) (without_new xs p parts.1)))
+
+-- ---- the requests that leave as a whole are all among those that may (Everyone is Leavers::All)
+
+-- those that two tests choose, one behind the other
+filter_twice : (a t : ℕ → Bool) (xs : List ℕ) → filter t (filter a xs) ≡ filter (λ x. a x && t x) xs
+filter_twice a t [] = refl
+filter_twice a t (x ∷ xs) = grind (arith, common_steps, filter_twice a t xs)
+
+pub leavers_among : (s : Stored) (who : Leavers)
+    → filter (λ x. is_chosen who (filed_at s x)) (may_be_leavers s who) ≡ filter (is_leaver_at s who) s.order
+leavers_among s Everyone = refl
+leavers_among s (Job job) = filter_each (λ x. true) (filter (is_of s job) s.order) (λ x h. refl)
+leavers_among s (Id job id) = filter_twice (is_of s job) (λ x. (filed_at s x).request.id == id) s.order
+leavers_among s (Waiter job) = filter_twice (is_of s job) (λ x. is_blocked (filed_at s x)) s.order
+leavers_among s (Waiters jobs) = refl
+
+pub leavers_present : (s : Stored) (who : Leavers) → All (λ x. is_there x s.order ≡ true) (may_be_leavers s who)
+leavers_present s Everyone = λ k d lt. there_at s.order k d lt
+leavers_present s (Job job) = kept_present (is_of s job) s.order
+leavers_present s (Id job id) = kept_present (is_of s job) s.order
+leavers_present s (Waiter job) = kept_present (is_of s job) s.order
+leavers_present s (Waiters jobs) = λ k d lt. there_at s.order k d lt
+
+pub leavers_few : (s : Stored) (who : Leavers) → length (may_be_leavers s who) ≤ length s.order
+leavers_few s Everyone = omega arith
+leavers_few s (Job job) = filter_short (is_of s job) s.order
+leavers_few s (Id job id) = filter_short (is_of s job) s.order
+leavers_few s (Waiter job) = filter_short (is_of s job) s.order
+leavers_few s (Waiters jobs) = omega arith

@@ -1,33 +1,139 @@
 -- A job gives up keys.
-use Rattle.std.proofs.Common.{◌≡◌, ◌≢◌, ◌<◌, ◌+◌, ◌∙◌, sym, ap, subst, ℕ, zero, suc, Bool, true, false, not, ◌&&◌, ◌==◌, cond, List, [], ◌∷◌, ◌++◌}
-use Rattle.std.proofs.Common.{length, filter, take, get_or, Option, None, inl, inr, refl, arith, append_assoc, append-nil}
-use Rattle.std.proofs.lemmas.Bool.{both_ways, cases_eq, eqb-true, false_from_ne_true, not-false}
-use Rattle.std.proofs.lemmas.List.Folds.{list_any-append}
-use Rattle.std.proofs.lemmas.Option.{slice_get-get_or}
+use Rattle.std.proofs.Common.{◌≡◌, ◌<◌, ◌∙◌, sym, ap, subst, ℕ, zero, suc, true, false, ◌==◌, not, List, [], ◌∷◌, length, get_or, filter, slice_get}
+use Rattle.std.proofs.Common.{Some, arith, ◌≢◌, ◌+◌, Bool, ◌&&◌, cond, ◌++◌, take, Option, None, inl, inr, refl, append_assoc, append-nil, map}
+use Rattle.std.specs.List.{list_all, position_or_len, remove, All, find}
+use Rattle.std.proofs.lemmas.Bool.{both_ways, and_parts, cases_eq, eq-eqb, eqb-true, false_from_ne_true, not-false}
 use Rattle.lock_queue.specs.declared.key.Key.{Key}
+use Rattle.lock_queue.specs.declared.want.Want.{Want}
+use Rattle.lock_queue.specs.Dequeues.{has_wants, with_wants, dequeue_fault}
+use Rattle.lock_queue.specs.Keys.{same_key}
+use Rattle.lock_queue.specs.Queue.{names, requests_of, wants_of, all_wants}
+use Rattle.lock_queue.specs.Unused.{unused_want}
+use Rattle.lock_queue.specs.WellFormed.{are_apart, is_well_formed}
+use Rattle.lock_queue.proofs.Fitting.{eq-same_key, names-found, same_key-eq, same_key-swap, names-Has}
+use Rattle.key_queues.specs.declared.lock.Lock.{Lock}
+use Rattle.key_queues.specs.Locks.{lock_at}
+use Rattle.key_queues.specs.Stores.{Stored, filed_at, without_place}
+use Rattle.lock_table.specs.Filing.{state_of}
+use Rattle.key_queues.specs.States.{State, IsTable, IsUsed, LosesWant}
+use Rattle.key_queues.specs.Tables.{is_there, QueuesOf, StandsOnce, places_at}
+use Rattle.key_queues.proofs.Using.{position_found, as_many_queues, kept_there, there_at, there_kept}
+use Rattle.lock_table.specs.Reads.{request_at}
+use Rattle.lock_table.specs.Departures.{without_key, IsWantOf, IsLeft, left_named, IsSoleNamed, stays_beside}
+use Rattle.key_queues.specs.Opened.{is_open_for}
+use Rattle.lock_table.proofs.Arriving.{apart_at}
+use Rattle.key_queues.proofs.Finding.{open_parts, find_misses}
+use Rattle.lock_table.proofs.Altering.{queue_of_key, filter_each, open_named, found_of_job}
+use Rattle.lock_queue.proofs.Lists.{list_all-Has, Has-filter, filter-Has, flat_map-Has, map-Has}
+use Rattle.std.proofs.lemmas.Grind.{common_steps}
+use Rattle.std.proofs.lemmas.List.Folds.{list_any-append}
+use Rattle.std.proofs.lemmas.List.{get_or_read}
+use Rattle.std.proofs.lemmas.Option.{slice_get-get_or}
 use Rattle.lock_queue.specs.declared.refusal.Refusal.{Refusal}
 use Rattle.lock_queue.specs.declared.request.Request.{Request}
-use Rattle.lock_queue.specs.declared.want.Want.{Want}
-use Rattle.lock_queue.specs.Dequeues.{dequeue_fault, has_wants}
-use Rattle.lock_queue.specs.Keys.{same_key}
-use Rattle.lock_queue.specs.Outcomes.{first_refusal}
-use Rattle.lock_queue.specs.Queue.{names, requests_of, wants_of}
-use Rattle.lock_queue.specs.WellFormed.{is_well_formed}
-use Rattle.lock_queue.specs.Unused.{unused_want}
-use Rattle.lock_queue.proofs.Fitting.{names-Has, names-found, same_key-eq}
-use Rattle.lock_queue.proofs.Lists.{Has-filter, filter-Has, flat_map-Has, map-Has}
+use Rattle.lock_queue.specs.Outcomes.{first_refusal, or_else, refuse_if}
 use Rattle.key_queues.proofs.Keeping.{Has-there}
 use Rattle.lock_queue.proofs.Refusing.{or_else-None, refuse_if-None}
-use Rattle.key_queues.specs.Tables.{StandsOnce, is_there}
-use Rattle.key_queues.proofs.Places.{take_next}
-use Rattle.key_queues.proofs.Using.{kept_there, there_kept}
-use Rattle.request_store.specs.Stores.{Stored, filed_at, without_place}
-use Rattle.request_store.proofs.Orders.{filter_same}
-use Rattle.table_reads.specs.Whole.{AreRight, JobsAreApart, level_at, requests_in}
-use Rattle.lock_table.specs.Departures.{IsLeft, left_named, request_at, without_key}
-use Rattle.lock_table.proofs.Choosing.{has_where_named, order_step}
-use Rattle.lock_table.proofs.Altering.{filter_each}
-use Rattle.std.proofs.lemmas.Grind.{common_steps}
+use Rattle.key_queues.proofs.Lists.{take_next}
+use Rattle.key_queues.proofs.Orders.{filter_same}
+use Rattle.lock_table.specs.Whole.{AreRight, JobsAreApart, level_at, requests_in}
+use Rattle.lock_table.proofs.Filing.{has_where_named, order_step, left_next, left_none}
+use Rattle.lock_queue.specs.declared.refusal.Refusal.TheVariants.{NotPresent}
+use Rattle.lock_table.proofs.Reading.{requests_of_places}
+
+-- ---- wants are found by their keys and leave
+
+-- without the want of a key, where the keys are apart
+pub remove_key : (ws : List Want) (k : ℕ) (key : Key) → are_apart ws ≡ true → k < length ws → (get_or ws k unused_want).key ≡ key
+    → remove ws k ≡ filter (λ v. not (same_key key v.key)) ws
+remove_key [] k key h lt e = absurd (omega arith)
+remove_key (w ∷ ws) zero key h lt e =
+    let parts = and_parts (list_all (λ v. not (same_key w.key v.key)) ws) (are_apart ws) h in
+    let rest =
+    filter_each (λ v. not (same_key key v.key)) ws
+    (λ v h. list_all-Has (λ v. not (same_key key v.key)) ws v (subst (λ j. list_all (λ v. not (same_key j v.key)) ws ≡ true) e parts.0) h) in
+    grind (arith, common_steps, eq-same_key key w.key, rest)
+remove_key (w ∷ ws) (suc k) key h lt e =
+    grind (arith, common_steps, apart_at (w ∷ ws) zero (suc k) unused_want h (omega arith) lt, same_key-swap key w.key, remove_key ws k key)
+
+-- the k-th want has the key of the k-th queue
+key_at : (key : ℕ → Key) (ws : List Want) (ns : List ℕ) (k n : ℕ) → QueuesOf (λ w m. key m ≡ w.key) ws ns
+    → slice_get ns k ≡ Some n
+    → (get_or ws k unused_want).key ≡ key n
+key_at key [] [] k n q e = cc
+key_at key (w ∷ ws) (m ∷ ns) zero n q e = grind (arith, common_steps)
+key_at key (w ∷ ws) (m ∷ ns) (suc k) n q e = key_at key ws ns k n q.1 e
+key_at key [] (m ∷ ns) k n q e = absurd q
+key_at key (w ∷ ws) [] k n q e = absurd q
+
+-- the only want is that of the key which is named
+only_named : (ws : List Want) (key : Key) → names ws key ≡ true → length ws ≡ 1 → (get_or ws 0 unused_want).key ≡ key
+only_named [] key h e = grind (arith, common_steps)
+only_named (w ∷ []) key h e = grind (arith, common_steps, same_key-eq w.key key)
+only_named (w ∷ v ∷ ws) key h e = absurd (omega (arith, e))
+
+module _ (store : Stored) (locks : List Lock) (p : ℕ) (key : Key) where
+  pub key_found : (n : ℕ) → IsTable (state_of store locks) → is_there p store.order ≡ true
+      → names (filed_at store p).request.wants.items key ≡ true
+      → is_open_for key (lock_at locks n) ≡ true
+      → IsWantOf store p key (position_or_len (λ m. m == n) (filed_at store p).queues.items)
+  key_found n table present named t =
+      let s : State = state_of store locks in
+      let m = queue_of_key s p key table.kept present named in
+      let parts = open_parts key (lock_at locks n) t in
+      let u : IsUsed s n = table.used n parts.0 in
+      let same : m.0 ≡ n = table.kept.one p m.0 u.place n m.1 u.stands (m.2 ∙ sym parts.1) in
+      let there : is_there n (s.own p) ≡ true = subst (λ j. is_there j (s.own p) ≡ true) same m.1.there in
+      let found = position_found n (s.own p) there in
+      record {
+        within = found.0;
+        of = key_at s.key (s.at p).wants.items (s.own p) (position_or_len (λ j. j == n) (s.own p)) n (table.kept.queues p present) found.1 ∙ parts.1;
+      }
+
+  pub only_want : IsTable (state_of store locks) → is_there p store.order ≡ true
+      → names (filed_at store p).request.wants.items key ≡ true
+      → length (filed_at store p).queues.items ≡ 1
+      → IsWantOf store p key 0
+  only_want table present named one =
+      let s : State = state_of store locks in
+      let few = as_many_queues (λ w n. s.key n ≡ w.key) (s.at p).wants.items (s.own p) (table.kept.queues p present) in
+      record {
+        within = omega (arith, one);
+        of = only_named (filed_at store p).request.wants.items key named (few ∙ one);
+      }
+
+  pub key_lost : IsTable (state_of store locks) → is_there p store.order ≡ true
+      → names (filed_at store p).request.wants.items key ≡ true
+      → ((n : ℕ) → is_open_for key (lock_at locks n) ≡ false)
+      → ⊥
+  key_lost table present named none =
+      let m = open_named store locks p key table.kept present named in
+      both_ways _ (none m.0) m.1
+
+-- what is left of a request that gave up the want of a key
+pub key_given : (store later : Stored) (locks more : List Lock) (p k : ℕ) (key : Key)
+    → IsTable (state_of store locks)
+    → is_there p store.order ≡ true
+    → IsWantOf store p key k
+    → LosesWant (state_of store locks) (state_of later more) p k
+    → (filed_at later p).request ≡ without_key key (filed_at store p).request
+key_given store later locks more p k key table present want lost =
+    let s : State = state_of store locks in
+    let few = as_many_queues (λ w n. s.key n ≡ w.key) (s.at p).wants.items (s.own p) (table.kept.queues p present) in
+    lost.left
+    ∙ ap (with_wants (filed_at store p).request)
+    (remove_key (filed_at store p).request.wants.items k key (table.kept.apart p) (omega (arith, want.within, few)) want.of)
+
+-- a request without wants has no queues
+pub none_left : (store : Stored) (locks : List Lock) (p : ℕ) → IsTable (state_of store locks)
+    → is_there p store.order ≡ true
+    → has_wants (filed_at store p).request ≡ false
+    → length (filed_at store p).queues.items ≡ 0
+none_left store locks p table present none =
+    let few = as_many_queues (λ w n. (lock_at locks n).key ≡ w.key) (filed_at store p).request.wants.items (filed_at store p).queues.items (table.kept.queues p present) in
+    grind (arith, common_steps, few)
+
+-- ---- a job gives up keys
 
 -- what holds of each want where none is refused
 pub passes_at : (fault : List Want → Want → Option Refusal) (e ws : List Want) (i : ℕ) → first_refusal fault e ws ≡ None → i < length ws
@@ -58,27 +164,44 @@ has_key s job key h =
       named = subst (λ (r : Request). names r.wants.items key ≡ true) (sym place.2) (names-Has request.0.wants.items key want.0 request.2 want.2);
     }
 
--- the place that is the only one of such a request
-pub found_place : (s : Stored) (job p : ℕ) (key : Key) → HasKey s job key
-    → ((x : ℕ) → is_there x s.order ≡ true → (request_at s x).job ≡ job → names (request_at s x).wants.items key ≡ true → p ≡ x)
-    → (is_there p s.order ≡ true) × ((request_at s p).job ≡ job) × (names (request_at s p).wants.items key ≡ true)
-found_place s job p key h only =
-    subst (λ y. (is_there y s.order ≡ true) × ((request_at s y).job ≡ job) × (names (request_at s y).wants.items key ≡ true))
-    (sym (only h.place h.present h.job_is h.named)) (h.present, h.job_is, h.named)
+-- the first place of a job's request among those of a key
+module _ (s : Stored) (job : ℕ) (key : Key) (places : List ℕ) (of : places ≡ places_at (request_at s) s.order key) where
+  pub key_there : All (λ x. is_there x s.order ≡ true) places
+  key_there k d lt =
+      let x : ℕ = get_or places k d in
+      (there_kept (λ y. names (request_at s y).wants.items key) x s.order (subst (λ l. is_there x l ≡ true) of (there_at places k d lt))).0
+
+  pub found_place : (p : ℕ) → find (λ q. (request_at s q).job == job) places ≡ Some p
+      → (is_there p s.order ≡ true) × ((request_at s p).job ≡ job) × (names (request_at s p).wants.items key ≡ true)
+  found_place p at =
+      let found = found_of_job s job places p at in
+      let both = there_kept (λ y. names (request_at s y).wants.items key) p s.order (subst (λ l. is_there p l ≡ true) of found.0) in
+      (both.0, found.1, both.1)
+
+  pub not_missed : HasKey s job key → find (λ q. (request_at s q).job == job) places ≡ None → ⊥
+  not_missed h none =
+      let there = ap (is_there h.place) of ∙ kept_there (λ y. names (request_at s y).wants.items key) h.place s.order h.present h.named in
+      both_ways ((request_at s h.place).job == job) (find_misses (λ q. (request_at s q).job == job) places h.place none there)
+      (eq-eqb (request_at s h.place).job job h.job_is)
 
 -- a key that is given up is of a request of the job, and was not given up before
-pub record IsNext (s : Stored) (job : ℕ) (named : List Want) (i : ℕ) : Type 0 where
-  pub has : HasKey s job (get_or named i unused_want).key
-  pub new : names (take i named) (get_or named i unused_want).key ≡ false
+pub record IsNext (s : Stored) (job : ℕ) (named : List Want) (i : ℕ) (w : Want) : Type 0 where
+  pub has : HasKey s job w.key
+  pub new : names (take i named) w.key ≡ false
+  pub more : take (i + 1) named ≡ take i named ++ w ∷ []
 
-pub is_next : (s : Stored) (job : ℕ) (named : List Want) (i : ℕ) → first_refusal (dequeue_fault (requests_in s) job) [] named ≡ None → i < length named
-    → IsNext s job named i
-is_next s job named i passed lt =
+pub is_next : (s : Stored) (job : ℕ) (named : List Want) (i : ℕ) (w : Want) → first_refusal (dequeue_fault (requests_in s) job) [] named ≡ None
+    → i < length named
+    → w ≡ get_or named i w
+    → IsNext s job named i w
+is_next s job named i w passed lt at =
     let both = or_else-None _ _ (passes_at (dequeue_fault (requests_in s) job) [] named i passed lt) in
-    record {
+    subst (IsNext s job named i) (sym (get_or_read named i w lt at unused_want))
+    (record {
       has = has_key s job (get_or named i unused_want).key (not-false _ (refuse_if-None _ _ both.1));
       new = refuse_if-None _ _ both.0;
-    }
+      more = take_next named i (get_or named i unused_want) (slice_get-get_or named i unused_want lt);
+    })
 
 -- wants of other keys stay
 names_left : (ws named : List Want) (key : Key) → names ws key ≡ true → names named key ≡ false
@@ -143,29 +266,26 @@ module _ (s : Stored) (job : ℕ) (named : List Want) (w : Want) (p : ℕ) where
   left_other apart here mine has x there ne = left_more s job named w x ∙ grind (arith, common_steps, apart x p w.key there here, fewer_named s job named x w.key, filter_none w.key (left_named s job named x).wants.items, eqb-true (request_at s x).job job)
 
 -- one step of the loop
-module _ (s t u : Stored) (job i : ℕ) (named : List Want) (p : ℕ) where
-  pub next_present : StandsOnce s.order → IsNext s job named i
-      → IsLeft s t (left_named s job (take i named)) (λ x. has_wants (left_named s job (take i named) x))
-      → HasKey t job (get_or named i unused_want).key
-  next_present once next left =
+module _ (s t u : Stored) (job i : ℕ) (named : List Want) (w : Want) (next : IsNext s job named i w) (once : StandsOnce s.order)
+    (left : IsLeft s t (left_named s job (take i named)) (λ x. has_wants (left_named s job (take i named) x))) where
+  pub next_present : HasKey t job w.key
+  next_present =
       let h = next.has in
-      let still = still_named s job (take i named) h.place (get_or named i unused_want).key h.named next.new in
-      let stays = has_where_named (left_named s job (take i named) h.place) (get_or named i unused_want).key still in
+      let still = still_named s job (take i named) h.place w.key h.named next.new in
+      let stays = has_where_named (left_named s job (take i named) h.place) w.key still in
       let present : is_there h.place t.order ≡ true =
       ap (is_there h.place) left.order ∙ kept_there (λ x. has_wants (left_named s job (take i named) x)) h.place s.order h.present stays in
       let is = left.left h.place present in
       record { place = h.place; present = present; job_is = grind (arith, common_steps, is, job_named s job (take i named) h.place, h.job_is); named = grind (arith, common_steps, is, still) }
 
-  pub next_left : StandsOnce s.order → JobsAreApart s → IsNext s job named i → i < length named
-      → IsLeft s t (left_named s job (take i named)) (λ x. has_wants (left_named s job (take i named) x))
-      → is_there p t.order ≡ true
+  pub next_left : (p : ℕ) → JobsAreApart s → is_there p t.order ≡ true
       → (request_at t p).job ≡ job
-      → names (request_at t p).wants.items (get_or named i unused_want).key ≡ true
-      → (is_there p u.order ≡ true → (filed_at u p).request ≡ without_key (get_or named i unused_want).key (filed_at t p).request)
+      → names (request_at t p).wants.items w.key ≡ true
+      → (is_there p u.order ≡ true → (filed_at u p).request ≡ without_key w.key (filed_at t p).request)
       → ((x : ℕ) → (x ≡ p → ⊥) → (filed_at u x).request ≡ (filed_at t x).request)
-      → u.order ≡ cond (has_wants (without_key (get_or named i unused_want).key (filed_at t p).request)) t.order (without_place t.order p)
+      → u.order ≡ cond (has_wants (without_key w.key (filed_at t p).request)) t.order (without_place t.order p)
       → IsLeft s u (left_named s job (take (i + 1) named)) (λ x. has_wants (left_named s job (take (i + 1) named) x))
-  next_left once apart next lt left present mine has given others order = record {
+  next_left p apart present mine has given others order = record {
     order = new_order;
     left =
         λ x h.
@@ -182,9 +302,6 @@ module _ (s t u : Stored) (job i : ℕ) (named : List Want) (p : ℕ) where
         ];
   }
     where
-      w : Want
-      w = get_or named i unused_want
-
       f1 : ℕ → Request
       f1 = left_named s job (take i named)
 
@@ -197,9 +314,6 @@ module _ (s t u : Stored) (job i : ℕ) (named : List Want) (p : ℕ) where
       u2 : ℕ → Bool
       u2 x = has_wants (f2 x)
 
-      more : take (i + 1) named ≡ take i named ++ w ∷ []
-      more = take_next named i w (slice_get-get_or named i unused_want lt)
-
       there : (is_there p s.order ≡ true) × (t1 p ≡ true)
       there = there_kept t1 p s.order (subst (λ l. is_there p l ≡ true) left.order present)
 
@@ -210,10 +324,10 @@ module _ (s t u : Stored) (job i : ℕ) (named : List Want) (p : ℕ) where
       has_s = fewer_named s job (take i named) p w.key (subst (λ (r : Request). names r.wants.items w.key ≡ true) (left.left p present) has)
 
       at_p : f2 p ≡ without_key w.key (f1 p)
-      at_p = ap (λ l. left_named s job l p) more ∙ left_mine s job (take i named) w p mine_s
+      at_p = ap (λ l. left_named s job l p) next.more ∙ left_mine s job (take i named) w p mine_s
 
       other : (x : ℕ) → is_there x s.order ≡ true → x ≢ p → f2 x ≡ f1 x
-      other x h ne = ap (λ l. left_named s job l x) more ∙ left_other s job (take i named) w p apart there.0 mine_s has_s x h ne
+      other x h ne = ap (λ l. left_named s job l x) next.more ∙ left_other s job (take i named) w p apart there.0 mine_s has_s x h ne
 
       -- the tests, of the places that are there
       t3 : ℕ → Bool
@@ -255,3 +369,56 @@ left_start s job right = record {
   where
     same : (x : ℕ) → left_named s job [] x ≡ request_at s x
     same x = grind (arith, common_steps, filter_each (λ w. not (names [] w.key)) (request_at s x).wants.items (λ w h. refl))
+
+-- ---- a job's only request leaves, whose only want is the only one that is named
+
+-- the only want is given up
+only_given : (ws : List Want) (w : Want) → length ws ≡ 1 → names ws w.key ≡ true → filter (λ v. not (names (w ∷ []) v.key)) ws ≡ []
+only_given [] w one h = absurd (omega arith)
+only_given (v ∷ []) w one h = grind (arith, common_steps, same_key-swap v.key w.key)
+only_given (v ∷ u ∷ ws) w one h = absurd (omega arith)
+
+module _ (s : Stored) (job : ℕ) (named : List Want) (p : ℕ) (is : IsSoleNamed s job named p) where
+  both : (is_there p s.order ≡ true) × (((request_at s p).job == job) ≡ true)
+  both = grind (arith, common_steps, is.sole.own, there_kept (λ x. (request_at s x).job == job) p s.order)
+
+  -- the others are of other jobs
+  others_of : (x : ℕ) → is_there x s.order ≡ true → x ≢ p → ((request_at s x).job == job) ≡ false
+  others_of x there ne = grind (arith, common_steps, is.sole.own, kept_there (λ y. (request_at s y).job == job) x s.order there)
+
+  mine_left : has_wants (left_named s job named p) ≡ false
+  mine_left = grind (arith, common_steps, both, is.named_is, only_given (request_at s p).wants.items is.want is.sole.one is.sole.named)
+
+  other_left : (x : ℕ) → is_there x s.order ≡ true → x ≢ p → left_named s job named x ≡ request_at s x
+  other_left x there ne = grind (arith, common_steps, others_of x there ne)
+
+  pub sole_left : (t : Stored) → AreRight s → StandsOnce s.order → t.order ≡ without_place s.order p
+      → ((x : ℕ) → (x ≡ p → ⊥) → (filed_at t x).request ≡ (filed_at s x).request)
+      → IsLeft s t (left_named s job named) (λ x. has_wants (left_named s job named x))
+  sole_left t right once order others = record {
+    order = left.order ∙ filter_same (stays_beside (p ∷ [])) (λ x. has_wants (left_named s job named x)) s.order stays;
+    left =
+        λ x h.
+        let kept = there_kept (stays_beside (p ∷ [])) x s.order (subst (λ l. is_there x l ≡ true) left.order h) in
+        left.left x h ∙ sym (other_left x kept.0 (λ e. beside_not x e kept.1));
+  }
+    where
+      left : IsLeft s t (request_at s) (stays_beside (p ∷ []))
+      left = left_next s s t [] p once (left_none s) order once others
+
+      beside_not : (x : ℕ) → x ≡ p → stays_beside (p ∷ []) x ≡ true → ⊥
+      beside_not x e h = grind (arith, common_steps)
+
+      stays : (x : ℕ) → is_there x s.order ≡ true → stays_beside (p ∷ []) x ≡ has_wants (left_named s job named x)
+      stays x there = grind (arith, common_steps, other_left x there, mine_left, some_wants (request_at s x) (right x there))
+
+  -- the call is not refused
+  pub sole_passes : first_refusal (dequeue_fault (requests_in s) job) [] named ≡ None
+  sole_passes =
+      ap (first_refusal (dequeue_fault (requests_in s) job) []) is.named_is
+      ∙ ap (λ b. or_else (refuse_if (not b) NotPresent) None) has
+    where
+      has : names (wants_of (requests_in s) job) is.want.key ≡ true
+      has =
+          ap (λ l. names (all_wants l) is.want.key) (requests_of_places (request_at s) s.order job ∙ ap (map (request_at s)) is.sole.own)
+          ∙ ap (λ l. names l is.want.key) (append-nil (request_at s p).wants.items) ∙ is.sole.named

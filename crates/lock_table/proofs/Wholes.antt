@@ -1,35 +1,66 @@
--- What holds between two calls still holds after a departure.
-use Rattle.std.proofs.Common.{◌≡◌, ◌≤◌, ◌∙◌, sym, ap, subst, ℕ, Bool, true, false, not, List, [], None}
-use Rattle.std.proofs.Common.{◌∷◌, length, map, filter, Option, Some, refl, arith}
+-- What holds between two calls, and what is seen of it.
+use Rattle.std.proofs.Common.{◌≡◌, ◌≤◌, ◌∙◌, sym, ap, subst, ℕ, Bool, true, false, not, List, [], None, ◌∷◌, length, map, filter, Option, Some, refl}
+use Rattle.std.proofs.Common.{arith, ◌&&◌, ◌==◌, cond, ◌++◌, IsTrue, ◌<◌, append_assoc}
 use Rattle.lock_queue.specs.declared.request.Request.{Request}
 use Rattle.lock_queue.specs.declared.key.Key.{Key}
-use Rattle.lock_queue.specs.Queue.{names}
-use Rattle.lock_queue.specs.WellFormed.{are_well_formed, is_well_formed}
+use Rattle.lock_queue.specs.Queue.{names, all_wants, wants_at}
+use Rattle.lock_queue.specs.WellFormed.{are_well_formed, is_well_formed, are_apart}
 use Rattle.key_queues.specs.declared.lock.Lock.{Lock}
-use Rattle.key_queues.specs.States.{IsTable}
-use Rattle.key_queues.specs.Tables.{is_there}
+use Rattle.key_queues.specs.States.{IsTable, State, IsUsed, Stands}
+use Rattle.key_queues.specs.Tables.{is_there, StandsOnce, QueuesOf, places_at}
 use Rattle.key_queues.proofs.Using.{kept_there, there_kept}
-use Rattle.request_store.specs.Stores.{Stored}
-use Rattle.request_store.proofs.Orders.{filter_same, filter_short}
-use Rattle.table_reads.specs.Filing.{state_of}
-use Rattle.table_reads.specs.Whole.{AreRight, IsWhole, JobsAreApart, LevelsAgree, level_at, requests_in}
+use Rattle.key_queues.specs.Stores.{Stored, filed_at, places_of, with_filed}
+use Rattle.key_queues.proofs.Orders.{filter_same, filter_short}
+use Rattle.lock_table.specs.Filing.{state_of}
+use Rattle.lock_table.specs.Whole.{AreRight, IsWhole, JobsAreApart, LevelsAgree, level_at, requests_in}
 use Rattle.lock_queue.specs.declared.want.Want.{Want}
-use Rattle.lock_queue.specs.Dequeues.{has_wants, without_keys_of, without_named, dequeue_fault, dequeue_named}
+use Rattle.lock_queue.specs.Dequeues.{has_wants, without_keys_of, without_named, dequeue_fault, dequeue_named, has_id, is_of_job}
 use Rattle.arrayvec.specs.ArrayVec.{ArrayVec}
-use Rattle.lock_queue.specs.declared.call.LockCall.TheVariants.{Modify, DequeueNamed}
-use Rattle.lock_queue.specs.Grants.{left_of, staying_if}
+use Rattle.lock_queue.specs.declared.call.LockCall.TheVariants.{Modify, DequeueNamed, Enqueue, DequeueAll, DequeueId}
+use Rattle.lock_queue.specs.Grants.{left_of, staying_if, grant_of, is_told_of, woken, unless_refused_grants, woken_by, woken_by_release}
 use Rattle.lock_table.specs.Changing.{IsChanged}
-use Rattle.table_reads.proofs.Reading.{filter_mapped}
-use Rattle.lock_table.specs.Departures.{IsLeft, LeavesBy, LeavesWhere, left_named, request_at, stays_beside}
+use Rattle.lock_table.proofs.Reading.{filter_mapped}
+use Rattle.lock_table.specs.Departures.{IsLeft, LeavesBy, LeavesWhere, left_named, stays_beside, is_blocking_at, is_of}
 use Rattle.lock_queue.proofs.Lists.{Has-map, list_all-Has, list_all-each, map-Has}
-use Rattle.key_queues.proofs.Keeping.{Has-there}
-use Rattle.lock_table.proofs.Altering.{filter_each, map_each, map_twice}
-use Rattle.lock_table.proofs.Losing.{there_Has}
+use Rattle.key_queues.proofs.Keeping.{Has-there, there_split, flags_tell_grants}
+use Rattle.lock_table.proofs.Altering.{filter_each, map_each, map_twice, there_Has}
 use Rattle.std.proofs.lemmas.Grind.{common_steps}
 use Rattle.lock_table.proofs.Named.{fewer_named, job_named, level_named}
-use Rattle.lock_queue.specs.declared.call.LockReply.TheVariants.{Done}
+use Rattle.lock_queue.specs.declared.call.LockReply.TheVariants.{Done, Refused}
 use Rattle.lock_queue.specs.Outcomes.{Outcome, first_refusal, outcome, unless_refused}
 use Rattle.lock_queue.proofs.WellKept.{well-named}
+use Rattle.std.specs.Bool.{beq}
+use Rattle.std.proofs.lemmas.Bool.{eq-eqb, or_left, or_parts, or_right, ne_eqb}
+use Rattle.lock_queue.specs.declared.call.LockCall.{LockCall}
+use Rattle.lock_queue.proofs.GrantLaws.{left-labels, woken-enqueue}
+use Rattle.key_queues.specs.Waking.{rises}
+use Rattle.key_queues.proofs.Waking.{flags_tell_who_rises}
+use Rattle.lock_table.specs.Reads.{request_at, requests_at, MarksGrants, is_pending_filed}
+use Rattle.lock_table.specs.Raised.{grants_marked, is_raised}
+use Rattle.lock_table.specs.Turns.{Turned, mark_at, turned_if}
+use Rattle.std.specs.List.{list_any, find}
+use Rattle.std.proofs.Math.Bool.{and_assoc}
+use Rattle.std.proofs.lemmas.List.{length-map, map-append}
+use Rattle.lock_queue.specs.declared.grant.Grant.{Grant}
+use Rattle.lock_queue.specs.declared.refusal.Refusal.{Refusal}
+use Rattle.lock_queue.specs.declared.refusal.Refusal.TheVariants.{NotPresent}
+use Rattle.lock_queue.specs.Calls.{outcome_of}
+use Rattle.lock_queue.specs.Jobs.{is_blocking, is_not_blocked_where, released, withdrawn_where, as_told, is_interrupt, is_pending, told_behind}
+use Rattle.lock_queue.specs.Jobs.{told_of}
+use Rattle.word36.specs.declared.sizes.TheConstants.{MOST_REQUESTS}
+use Rattle.key_queues.proofs.Marks.{marks_choose}
+use Rattle.lock_table.proofs.Telling.{before_is}
+use Rattle.lock_queue.specs.Keys.{same_key}
+use Rattle.key_queues.specs.Beginnings.{fitting}
+use Rattle.key_queues.specs.Kept.{Counts}
+use Rattle.key_queues.specs.Locks.{lock_at}
+use Rattle.key_queues.proofs.Finding.{find_passes}
+use Rattle.key_queues.proofs.Moves.{map_same}
+use Rattle.key_queues.specs.declared.filed.Filed.{Filed}
+use Rattle.key_queues.specs.Filing.{with_told}
+use Rattle.lock_table.proofs.Filing.{filed_like}
+
+-- ---- what holds between two calls still holds after a departure
 
 -- right requests are well-formed
 pub well_from_right : (s : Stored) → AreRight s → are_well_formed (requests_in s) ≡ true
@@ -58,33 +89,20 @@ pub levels_left : (s t : Stored) (then : ℕ → Request) (stays : ℕ → Bool)
 levels_left s t then stays agree left fewer same x y key hx hy nx ny =
     grind (arith, common_steps, left.order, left.left, there_kept stays x s.order, there_kept stays y s.order, fewer x key, fewer y key, same x key, same y key, agree x y key)
 
-pub whole_by : (size : ℕ) (s t : Stored) (locks more : List Lock) → IsWhole size s locks
-    → IsTable (state_of t more)
-    → AreRight t
-    → JobsAreApart t
-    → LevelsAgree t
-    → length t.order ≤ size
-    → IsWhole size t more
-whole_by size s t locks more w table right jobs levels few = record {
-  table = table;
-  right = right;
-  jobs = jobs;
-  levels = levels;
-  few = few;
-}
-
 pub whole_left : (size : ℕ) (s t : Stored) (locks more : List Lock) (stays : ℕ → Bool) → IsWhole size s locks
     → IsTable (state_of t more)
     → IsLeft s t (request_at s) stays
     → IsWhole size t more
-whole_left size s t locks more stays w table left =
-    whole_by size s t locks more w table
-    (λ x h.
-    let was = there_kept stays x s.order (subst (λ l. is_there x l ≡ true) left.order h) in
-    subst (λ (r : Request). is_well_formed r ≡ true) (sym (left.left x h)) (w.right x was.0))
-    (jobs_left s t (request_at s) stays w.jobs left (λ x key h. h) (λ x. refl))
-    (levels_left s t (request_at s) stays w.levels left (λ x key h. h) (λ x key h. refl))
-    (omega (arith, ap length left.order, filter_short stays s.order, w.few))
+whole_left size s t locks more stays w table left = record {
+  table = table;
+  right =
+      λ x h.
+      let was = there_kept stays x s.order (subst (λ l. is_there x l ≡ true) left.order h) in
+      subst (λ (r : Request). is_well_formed r ≡ true) (sym (left.left x h)) (w.right x was.0);
+  jobs = jobs_left s t (request_at s) stays w.jobs left (λ x key h. h) (λ x. refl);
+  levels = levels_left s t (request_at s) stays w.levels left (λ x key h. h) (λ x key h. refl);
+  few = omega (arith, ap length left.order, filter_short stays s.order, w.few);
+}
 
 -- who stays beside those that a test chooses
 pub beside_chosen : (test : ℕ → Bool) (xs places : List ℕ) (x : ℕ) → places ≡ filter test xs → is_there x xs ≡ true
@@ -138,11 +156,13 @@ pub named_gone : (size : ℕ) (s t : Stored) (locks more : List Lock) (job : ℕ
     → IsWhole size t more × (requests_in t ≡ (dequeue_named (requests_in s) job named.items).requests)
     × (Done ≡ (dequeue_named (requests_in s) job named.items).reply) × LeavesBy (left_of job (DequeueNamed named)) s t
 named_gone size s t locks more job named w table left passed = (
-  whole_by size s t locks more w table
-      (right_from_well t (subst (λ l. are_well_formed l ≡ true) (sym after) (well-named size (requests_in s) job (well_from_right s w.right) named)))
-      (jobs_left s t then stays w.jobs left (fewer_named s job named.items) (job_named s job named.items))
-      (levels_left s t then stays w.levels left (fewer_named s job named.items) (level_named s job named.items))
-      (omega (arith, ap length left.order, filter_short stays s.order, w.few)),
+  record {
+    table = table;
+    right = right_from_well t (subst (λ l. are_well_formed l ≡ true) (sym after) (well-named size (requests_in s) job (well_from_right s w.right) named));
+    jobs = jobs_left s t then stays w.jobs left (fewer_named s job named.items) (job_named s job named.items);
+    levels = levels_left s t then stays w.levels left (fewer_named s job named.items) (level_named s job named.items);
+    few = omega (arith, ap length left.order, filter_short stays s.order, w.few);
+  },
   after,
   sym (ap (λ (o : Outcome). o.reply) done),
   leaves_by (left_of job (DequeueNamed named)) s t then stays left (λ x. refl),
@@ -167,3 +187,279 @@ changed_leaves s t job changes is = record {
   order = is.order ∙ sym (filter_each (λ x. true) s.order (λ x h. refl));
   left_is = λ x h. ap (λ (r : Request). Some r) (sym (is.at x h));
 }
+
+-- ---- the grants that a call makes, and what is seen of a table
+
+-- ---- what is left keeps its kind
+
+pub left_kind : (job : ℕ) (call : LockCall) (r s : Request) → left_of job call r ≡ Some s → s.kind ≡ r.kind
+left_kind job (Enqueue asking wants) r s e = grind (arith, common_steps)
+left_kind job (Modify changes) r s e = grind (arith, common_steps)
+left_kind job (DequeueNamed named) r s e = grind (arith, common_steps)
+left_kind job DequeueAll r s e = grind (arith, common_steps)
+left_kind job (DequeueId id) r s e = grind (arith, common_steps)
+
+-- ---- who rises
+
+same_test : (was is told : Bool) → ((turned_if (not (beq was is)) false && is) && told) ≡ ((told && not was) && (true && is))
+same_test was is told = grind (arith, common_steps)
+
+module _ (s t : Stored) (locks more : List Lock) (left : Request → Option Request) (before after : List Bool)
+    (labels : (r q : Request) → left r ≡ Some q → grant_of q ≡ grant_of r) (kinds : (r q : Request) → left r ≡ Some q → q.kind ≡ r.kind)
+    (leaves : LeavesBy left s t) (none : (x : ℕ) → mark_at before x ≡ false) (turned : Turned s t before after) where
+  raised_is : (x : ℕ) → is_there x s.order ≡ true → leaves.stays x ≡ true
+      → is_raised t after x ≡ rises (state_of s locks) (state_of t more) leaves.stays x
+  raised_is x present stay =
+      let there : is_there x t.order ≡ true = ap (is_there x) leaves.order ∙ kept_there leaves.stays x s.order present stay in
+      let same = same_test (filed_at s x).granted (filed_at t x).granted (is_told_of (request_at s x).kind) in
+      grind (arith, common_steps, turned x there, none x, leaves.left_is x present, kinds (request_at s x) (request_at t x), same)
+
+  raised_all : (xs : List ℕ) → ((x : ℕ) → is_there x xs ≡ true → is_there x s.order ≡ true)
+      → map grant_of (requests_at t (filter (is_raised t after) (filter leaves.stays xs)))
+      ≡ map grant_of (requests_at s (filter (rises (state_of s locks) (state_of t more) leaves.stays) xs))
+  raised_all [] sub = refl
+  raised_all (x ∷ xs) sub =
+      let present : is_there x s.order ≡ true = sub x (or_left (x == x) (is_there x xs) (eq-eqb x x refl)) in
+      let rest = raised_all xs (λ y h. sub y (or_right (x == y) (is_there y xs) h)) in
+      grind (arith, common_steps, rest, raised_is x present, leaves.left_is x present, labels (request_at s x) (request_at t x))
+
+  pub woken_marked : IsTable (state_of s locks) → IsTable (state_of t more) → grants_marked t after ≡ woken left (requests_in s)
+  woken_marked was is =
+      ap (λ l. map grant_of (requests_at t (filter (is_raised t after) l))) leaves.order
+      ∙ raised_all s.order (λ x h. h)
+      ∙ sym (flags_tell_who_rises (state_of s locks) (state_of t more) left leaves.stays was is leaves.left_is leaves.order)
+
+module _ (s t : Stored) (locks more : List Lock) (job : ℕ) (before after : List Bool) (was : IsTable (state_of s locks)) (is : IsTable (state_of t more))
+    (none : (x : ℕ) → mark_at before x ≡ false) (turned : Turned s t before after) where
+  -- the grants that a call makes by what it leaves
+  woken_by_call : (call : LockCall) → LeavesBy (left_of job call) s t → grants_marked t after ≡ woken (left_of job call) (requests_in s)
+  woken_by_call call leaves =
+      woken_marked s t locks more (left_of job call) before after (left-labels job call) (left_kind job call) leaves none turned was is
+
+  -- where it is done
+  pub woken_done : (size : ℕ) (call : LockCall) → LeavesBy (left_of job call) s t → (outcome_of size (requests_in s) job call).reply ≡ Done
+      → grants_marked t after ≡ woken_by size (requests_in s) job call
+  woken_done size call leaves done =
+      woken_by_call call leaves ∙ sym (ap (λ reply. unless_refused_grants reply (woken (left_of job call) (requests_in s))) done)
+
+  pub woken_released : LeavesWhere s t (is_of s job) → grants_marked t after ≡ woken_by_release (requests_in s) job
+  woken_released left =
+      woken_by_call DequeueAll (leaves_by (left_of job DequeueAll) s t (request_at s) (λ x. not (is_of s job x)) left (λ x. refl))
+
+-- ---- where one place at most is marked
+
+-- a test that only one place passes keeps that place, where it is there
+only_kept : (t : ℕ → Bool) (p : ℕ) (xs : List ℕ) → ((x : ℕ) → (x ≡ p → ⊥) → t x ≡ false) → StandsOnce xs
+    → filter t xs ≡ cond (is_there p xs && t p) (p ∷ []) []
+only_kept t p [] only once = refl
+only_kept t p (x ∷ xs) only once =
+    let rest =
+    only_kept t p xs only
+    (λ before after q is. let parts = once (x ∷ before) after q (ap (λ l. x ∷ l) is) in
+    ((or_parts (x == q) (is_there q before) parts.0).1, parts.1)) in
+    grind (arith, common_steps, only x, rest, (once [] xs x refl).1)
+
+unmarked : (s : Stored) (marks : List Bool) (x : ℕ) → mark_at marks x ≡ false → is_raised s marks x ≡ false
+unmarked s marks x e = grind (arith, common_steps)
+
+pub none_raised : (s : Stored) (marks : List Bool) (xs : List ℕ) → ((x : ℕ) → mark_at marks x ≡ false) → filter (is_raised s marks) xs ≡ []
+none_raised s marks xs none = ap (λ (t : ℕ → Bool). filter t xs) (λ i x. unmarked s marks x (none x) i) ∙ none_stay xs
+
+pub only_raised : (s : Stored) (marks : List Bool) (p : ℕ) → ((x : ℕ) → (x ≡ p → ⊥) → mark_at marks x ≡ false) → StandsOnce s.order
+    → filter (is_raised s marks) s.order ≡ cond (is_there p s.order && is_raised s marks p) (p ∷ []) []
+only_raised s marks p only once = only_kept (is_raised s marks) p s.order (λ x ne. unmarked s marks x (only x ne)) once
+
+-- the grants, where it is known whether the place is there and is raised
+pub only_grants : (s : Stored) (marks : List Bool) (p : ℕ) (there raised : Bool) → ((x : ℕ) → (x ≡ p → ⊥) → mark_at marks x ≡ false)
+    → StandsOnce s.order
+    → is_there p s.order ≡ there
+    → is_raised s marks p ≡ raised
+    → grants_marked s marks ≡ cond (there && raised) (grant_of (request_at s p) ∷ []) []
+only_grants s marks p there raised only once a b = grind (arith, common_steps, only_raised s marks p only once)
+
+-- ---- what is seen of the parts of a table
+
+-- what a caller may rely on
+pub seen_whole : (size : ℕ) (s : Stored) (locks : List Lock) → (1 ≤ size) × (size ≤ MOST_REQUESTS) → IsWhole size s locks
+    → ((1 ≤ size) × (size ≤ MOST_REQUESTS))
+    × ((length (requests_in s) ≤ size) × (IsTrue (are_well_formed (requests_in s)) × Unit {0}))
+seen_whole size s locks sized whole =
+    (sized, (omega (arith, whole.few, length-map s.order (request_at s)), (well_from_right s whole.right, tt)))
+
+-- all requests of a job leave
+pub released_is : (s t : Stored) (job : ℕ) → LeavesWhere s t (is_of s job) → requests_in t ≡ released (requests_in s) job
+released_is s t job left = left_where s t (is_of_job job) left
+
+-- the requests by which some jobs wait leave
+pub withdrawn_is : (s t : Stored) (waiters : ℕ → Bool) → MarksGrants s → LeavesWhere s t (is_blocking_at s waiters)
+    → requests_in t ≡ withdrawn_where (requests_in s) waiters
+withdrawn_is s t waiters m left =
+    left_requests s t (request_at s) (λ x. not (is_blocking_at s waiters x)) left
+    ∙ sym (marks_choose (is_not_blocked_where waiters) (request_at s) (λ x. not (is_blocking_at s waiters x)) s.order right).0
+  where
+    right : (before after : List ℕ) (p : ℕ) → s.order ≡ before ++ p ∷ after
+        → is_not_blocked_where waiters (map (request_at s) before) (request_at s p) ≡ not (is_blocking_at s waiters p)
+    right before after p is =
+        let present : is_there p s.order ≡ true = subst (λ l. is_there p l ≡ true) (sym is) (there_split p before after) in
+        ap (λ l. is_not_blocked_where waiters (map (request_at s) l) (request_at s p)) (sym (before_is s.order before after p m.once is))
+        ∙ ap (λ b. not ((waiters (request_at s p).job && is_blocking (request_at s p).kind) && not b)) (sym (m.marks p present))
+        ∙ ap not (and_assoc (waiters (request_at s p).job) (is_blocking (request_at s p).kind) (not (filed_at s p).granted))
+
+refused : (requests l : List Request) (o : Option Refusal) (grants : List Grant)
+    → ((unless_refused requests o (outcome l Done)).reply ≡ Done → ⊥)
+    → [] ≡ unless_refused_grants (unless_refused requests o (outcome l Done)).reply grants
+refused requests l None grants ne = absurd (ne refl)
+refused requests l (Some refusal) grants ne = refl
+
+none_found : (requests l : List Request) (b : Bool) (grants : List Grant)
+    → ((cond b (outcome l Done) (outcome requests (Refused NotPresent))).reply ≡ Done → ⊥)
+    → [] ≡ unless_refused_grants (cond b (outcome l Done) (outcome requests (Refused NotPresent))).reply grants
+none_found requests l true grants ne = absurd (ne refl)
+none_found requests l false grants ne = refl
+
+-- another makes no grants that are told
+pub quiet : (size : ℕ) (requests : List Request) (job : ℕ) (call : LockCall) → ((outcome_of size requests job call).reply ≡ Done → ⊥)
+    → [] ≡ woken_by size requests job call
+quiet size requests job (Enqueue asking wants) ne = sym (woken-enqueue size requests job asking wants)
+quiet size requests job (Modify wants) ne = refused requests _ _ (woken (left_of job (Modify wants)) requests) ne
+quiet size requests job (DequeueNamed wants) ne = refused requests _ _ (woken (left_of job (DequeueNamed wants)) requests) ne
+quiet size requests job DequeueAll ne = none_found requests _ (list_any (is_of_job job) requests) (woken (left_of job DequeueAll) requests) ne
+quiet size requests job (DequeueId id) ne = none_found requests _ (list_any (has_id job id) requests) (woken (left_of job (DequeueId id)) requests) ne
+
+-- ---- a request of which its job is told
+
+-- a table sees of the requests their wants alone
+module _ (s : State) (at : ℕ → Request) (wants : (x : ℕ) → (at x).wants.items ≡ (s.at x).wants.items) where
+  all_same : (xs : List ℕ) → all_wants (map at xs) ≡ all_wants (map s.at xs)
+  all_same [] = refl
+  all_same (x ∷ xs) = ap (λ l. l ++ all_wants (map at xs)) (wants x) ∙ ap (λ l. (s.at x).wants.items ++ l) (all_same xs)
+
+  wants_same : (key : Key) → wants_at (map at s.order) key ≡ wants_at (map s.at s.order) key
+  wants_same key = ap (filter (λ w. same_key w.key key)) (all_same s.order)
+
+  places_same : (key : Key) → places_at at s.order key ≡ places_at s.at s.order key
+  places_same key = ap (λ (t : ℕ → Bool). filter t s.order) (λ i x. names (wants x i) key)
+
+  pub table_same : IsTable s → IsTable (record s { at = at })
+  table_same table = record {
+    kept = record {
+      once = table.kept.once;
+      apart = λ x. ap are_apart (wants x) ∙ table.kept.apart x;
+      queues = λ x h. subst (λ l. QueuesOf (λ w n. s.key n ≡ w.key) l (s.own x)) (sym (wants x)) (table.kept.queues x h);
+      one = λ x n y m st su e. table.kept.one x n y m (was x n st) (was y m su) e;
+      counts =
+          λ x n st.
+          let c = table.kept.counts x n (was x n st) in
+          record {
+            places = c.places ∙ sym (places_same (s.key n));
+            counts = subst (λ l. Counts (s.size n) l (s.queue n)) (sym (wants_same (s.key n))) c.counts;
+          };
+    };
+    flags = table.flags;
+    full = λ x n st. table.full x n (was x n st) ∙ ap fitting (sym (wants_same (s.key n)));
+    used =
+        λ n some.
+        let u : IsUsed s n = table.used n some in
+        record { place = u.place; stands = record { present = u.stands.present; there = u.stands.there } };
+  }
+    where
+      was : (x n : ℕ) → Stands (record s { at = at }) x n → Stands s x n
+      was x n st = record { present = st.present; there = st.there }
+
+module _ (s t : Stored) (p : ℕ) (lt : p < length s.filed) (is : t ≡ with_filed s p (with_told (filed_at s p))) where
+  abbrev f : Filed
+  f = with_told (filed_at s p)
+
+  like : {Y : Type 0} → (g : Filed → Y) → g f ≡ g (filed_at s p) → (x : ℕ) → g (filed_at t x) ≡ g (filed_at s x)
+  like = filed_like s t p f lt (ap (λ (v : Stored). v.filed) is)
+
+  pub told_order : t.order ≡ s.order
+  told_order = ap (λ (v : Stored). v.order) is
+
+  pub told_whole : (size : ℕ) (locks : List Lock) → IsWhole size s locks → IsWhole size t locks
+  told_whole size locks w = record {
+    table = subst IsTable (sym same_state) (table_same (state_of s locks) (request_at t) wants_like w.table);
+    right = λ x h. like (λ (g : Filed). is_well_formed g.request) refl x ∙ w.right x (subst (λ l. is_there x l ≡ true) told_order h);
+    jobs = λ x y key hx hy nx ny e. grind (arith, common_steps, told_order, wants_like x, wants_like y, job_like x, job_like y, w.jobs x y key);
+    levels =
+        λ x y key hx hy nx ny.
+        grind (arith, common_steps, told_order, wants_like x, wants_like y, level_like key x, level_like key y, w.levels x y key);
+    few = subst (λ l. length l ≤ size) (sym told_order) w.few;
+  }
+    where
+      wants_like : (x : ℕ) → (request_at t x).wants.items ≡ (request_at s x).wants.items
+      wants_like = like (λ (g : Filed). g.request.wants.items) refl
+
+      job_like : (x : ℕ) → (request_at t x).job ≡ (request_at s x).job
+      job_like = like (λ (g : Filed). g.request.job) refl
+
+      level_like : (key : Key) (x : ℕ) → level_at (request_at t x) key ≡ level_at (request_at s x) key
+      level_like key = like (λ (g : Filed). level_at g.request key) refl
+
+      same_state : state_of t locks ≡ record (state_of s locks) { at = request_at t }
+      same_state = λ i. record {
+        order = told_order i;
+        at = request_at t;
+        own = λ x. like (λ (g : Filed). g.queues.items) refl x i;
+        flag = λ x. like (λ (g : Filed). g.granted) refl x i;
+        key = λ n. (lock_at locks n).key;
+        size = λ n. (lock_at locks n).size;
+        queue = λ n. (lock_at locks n).queue;
+      }
+
+-- ---- the first for which a test holds is told
+
+find_among : (a t : ℕ → Bool) (xs : List ℕ) → find t (filter a xs) ≡ find (λ x. a x && t x) xs
+find_among a t [] = refl
+find_among a t (x ∷ xs) = grind (arith, common_steps, find_among a t xs)
+
+module _ (test : List Request → Request → Bool) (at : ℕ → Request) (mark : ℕ → Bool) (order : List ℕ)
+    (right : (before after : List ℕ) (p : ℕ) → order ≡ before ++ p ∷ after → test (map at before) (at p) ≡ mark p) where
+  pub told_first : (before xs : List ℕ) (p : ℕ) → StandsOnce order → order ≡ before ++ xs → find mark xs ≡ Some p
+      → told_behind test (map at before) (map at xs) ≡ map (λ x. cond (x == p) (as_told (at x)) (at x)) xs
+  told_first before [] p once is e = cc
+  told_first before (x ∷ xs) p once is e =
+      let here : test (map at before) (at x) ≡ mark x = right before xs x is in
+      let later = told_first (before ++ x ∷ []) xs p once (is ∙ sym (append_assoc before (x ∷ []) xs)) in
+      let rest = map_same at (λ y. cond (y == p) (as_told (at y)) (at y)) p xs in
+      grind (arith, common_steps, here, later, rest, map-append at before (x ∷ []), once before xs x is, find_passes mark xs p, ne_eqb)
+
+  pub told_none : (before xs : List ℕ) → order ≡ before ++ xs → find mark xs ≡ None → told_behind test (map at before) (map at xs) ≡ map at xs
+  told_none before [] is e = refl
+  told_none before (x ∷ xs) is e = grind (arith, common_steps, right before xs x is, map-append at before (x ∷ []), told_none (before ++ x ∷ []) xs (is ∙ sym (append_assoc before (x ∷ []) xs)))
+
+-- which request of a job is pending
+module _ (s : Stored) (locks : List Lock) (job : ℕ) (table : IsTable (state_of s locks)) where
+  marks : ℕ → Bool
+  marks x = is_of s job x && is_pending_filed (filed_at s x)
+
+  assoc : (a b c d : Bool) → (((a && b) && c) && d) ≡ (a && ((b && c) && d))
+  assoc a b c d = grind (arith, common_steps)
+
+  marks_right : (before after : List ℕ) (p : ℕ) → s.order ≡ before ++ p ∷ after → is_pending job (map (request_at s) before) (request_at s p) ≡ marks p
+  unfolding marks
+  marks_right before after p is =
+      ap (λ b. (((request_at s p).job == job && is_interrupt (request_at s p).kind) && not (request_at s p).told) && b)
+      (sym (flags_tell_grants (state_of s locks) table.kept table.full table.flags before after p is))
+      ∙ assoc ((request_at s p).job == job) (is_interrupt (request_at s p).kind) (not (request_at s p).told) (filed_at s p).granted
+
+  pub told_is : (t : Stored) (p : ℕ) → find (λ x. is_pending_filed (filed_at s x)) (places_of s job) ≡ Some p
+      → t.order ≡ s.order
+      → (filed_at t p).request ≡ as_told (filed_at s p).request
+      → ((x : ℕ) → (x ≡ p → ⊥) → (filed_at t x).request ≡ (filed_at s x).request)
+      → requests_in t ≡ told_of (requests_in s) job
+  unfolding marks
+  told_is t p found order mine others =
+      let each : (x : ℕ) → request_at t x ≡ cond (x == p) (as_told (request_at s x)) (request_at s x) = λ x. grind (arith, common_steps, mine, others x) in
+      ap (map (request_at t)) order
+      ∙ ap (λ (g : ℕ → Request). map g s.order) (λ i x. each x i)
+      ∙ sym
+      (told_first (is_pending job) (request_at s) marks s.order marks_right [] s.order p table.kept.once refl
+      (sym (find_among (is_of s job) (λ x. is_pending_filed (filed_at s x)) s.order) ∙ found))
+
+  pub none_told : find (λ x. is_pending_filed (filed_at s x)) (places_of s job) ≡ None → requests_in s ≡ told_of (requests_in s) job
+  unfolding marks
+  none_told found =
+      sym
+      (told_none (is_pending job) (request_at s) marks s.order marks_right [] s.order refl
+      (sym (find_among (is_of s job) (λ x. is_pending_filed (filed_at s x)) s.order) ∙ found))

@@ -1,5 +1,5 @@
 -- A request comes, and its wants are entered one by one (this project's profile).
-use Rattle.std.specs.Prelude.{◌≡◌, ◌≤◌, ◌<◌, ℕ, List, [], ◌∷◌, ◌++◌, length, slice_index_or, take, true}
+use Rattle.std.specs.Prelude.{◌≡◌, ◌≤◌, ◌<◌, ℕ, List, [], ◌∷◌, ◌++◌, Option, None, length, slice_index_or, take, true}
 use Rattle.word36.specs.declared.sizes.TheConstants.{JOBS, LOCKS_A_CALL}
 use Rattle.lock_queue.specs.declared.want.Want.{Want}
 use Rattle.lock_queue.specs.Dequeues.{with_wants}
@@ -7,12 +7,13 @@ use Rattle.lock_queue.specs.Unused.{unused_want}
 use Rattle.lock_queue.specs.WellFormed.{are_apart}
 use Rattle.key_queues.specs.declared.lock.Lock.{Lock}
 use Rattle.key_queues.specs.Beginnings.{is_share_of}
+use Rattle.key_queues.specs.Found.{IsFound}
 use Rattle.key_queues.specs.Locks.{lock_at}
 use Rattle.key_queues.specs.Opened.{is_open_for}
 use Rattle.key_queues.specs.States.{IsKept, CountsAll, FlagsBut, OpenAreUsed}
 use Rattle.key_queues.specs.Tables.{is_there}
-use Rattle.request_store.specs.Stores.{Stored, filed_at}
-use Rattle.table_reads.specs.Filing.{state_of}
+use Rattle.key_queues.specs.Stores.{Stored, filed_at}
+use Rattle.lock_table.specs.Filing.{state_of}
 
 -- a place stands last
 abbrev pub IsLast : ℕ → List ℕ → Type 0
@@ -26,6 +27,11 @@ pub record Admits (locks : List Lock) (w : Want) : Type 0 where
 -- the open locks of wants take them, from the k-th want on
 abbrev pub AdmitsFrom : ℕ → List Lock → List Want → Type 0
 AdmitsFrom k locks wants = (j : ℕ) → k ≤ j → j < length wants → Admits locks (slice_index_or wants j unused_want)
+
+-- the numbers of the open locks of wants, if there are any, from the k-th on
+abbrev pub AreFound : ℕ → List Lock → List Want → List (Option ℕ) → Type 0
+AreFound k locks wants numbers =
+    (j : ℕ) → k ≤ j → j < length wants → IsFound locks (slice_index_or wants j unused_want).key (slice_index_or numbers j None)
 
 -- no request has more queues than a call names locks
 abbrev pub AreShort : Stored → Type 0

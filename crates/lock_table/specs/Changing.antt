@@ -12,11 +12,11 @@ use Rattle.key_queues.specs.Beginnings.{fitting, is_share_of}
 use Rattle.key_queues.specs.Locks.{lock_at}
 use Rattle.key_queues.specs.States.{FlagsAll, IsKept, IsUsed, OpenAreUsed, IsFull, Stands}
 use Rattle.key_queues.specs.Tables.{is_there, places_at}
-use Rattle.request_store.specs.Filing.{with_want}
-use Rattle.request_store.specs.Stores.{Stored, filed_at, with_filed}
-use Rattle.table_reads.specs.Filing.{state_of, want_filed}
-use Rattle.table_reads.specs.Reads.{request_at}
-use Rattle.table_reads.specs.Whole.{JobsAreApart, requests_in}
+use Rattle.key_queues.specs.Filing.{with_want}
+use Rattle.key_queues.specs.Stores.{Stored, filed_at, with_filed}
+use Rattle.lock_table.specs.Filing.{state_of, want_filed}
+use Rattle.lock_table.specs.Reads.{request_at}
+use Rattle.lock_table.specs.Whole.{JobsAreApart, requests_in}
 
 -- a want made shared or exclusive
 abbrev pub changed_by : Want → Want → Want
@@ -99,16 +99,6 @@ pub record IsAltering (s t : Stored) (locks more : List Lock) (job : ℕ) (chang
   pub size : (m : ℕ) → (lock_at more m).size ≡ (lock_at locks m).size
   pub others : (m : ℕ) → names changes (lock_at locks m).key ≡ false → (lock_at more m).queue ≡ (lock_at locks m).queue
   pub named : (key : Key) → names later key ≡ true → names changes key ≡ true
-
--- more wants are counted, of one key
-pub record ExtendedAt (s t : Stored) (locks more : List Lock) (key : Key) : Type 0 where
-  pub order : t.order ≡ s.order
-  pub at : (x : ℕ) → request_at t x ≡ request_at s x
-  pub own : (x : ℕ) → (filed_at t x).queues.items ≡ (filed_at s x).queues.items
-  pub keys : (m : ℕ) → (lock_at more m).key ≡ (lock_at locks m).key
-  pub size : (m : ℕ) → (lock_at more m).size ≡ (lock_at locks m).size
-  pub full : (x m : ℕ) → Stands (state_of t more) x m → (lock_at more m).key ≡ key → IsFull (state_of t more) m
-  pub others : (m : ℕ) → ((lock_at locks m).key ≡ key → ⊥) → (lock_at more m).queue ≡ (lock_at locks m).queue
 
 -- all wants that fit are counted, but for those of some keys
 abbrev pub IsFullBut : Stored → List Lock → List Want → Type 0

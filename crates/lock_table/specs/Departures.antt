@@ -8,10 +8,10 @@ use Rattle.lock_queue.specs.Grants.{staying_if}
 use Rattle.lock_queue.specs.Keys.{same_key}
 use Rattle.key_queues.specs.Tables.{is_there}
 use Rattle.lock_queue.specs.Jobs.{is_among}
-use Rattle.request_store.specs.declared.filed.Filed.{Filed}
-use Rattle.request_store.specs.Stores.{Stored, filed_at, is_blocked, places_of}
-use Rattle.table_reads.specs.Filing.{want_at}
-use Rattle.table_reads.specs.Reads.{IsSole}
+use Rattle.key_queues.specs.declared.filed.Filed.{Filed}
+use Rattle.key_queues.specs.Stores.{Stored, filed_at, is_blocked, places_of}
+use Rattle.lock_table.specs.Filing.{want_at}
+use Rattle.lock_table.specs.Reads.{IsSole, request_at}
 use Rattle.lock_table.specs.declared.leaving.Leavers.{Leavers}
 use Rattle.lock_table.specs.declared.leaving.Leavers.TheVariants.{All, Job, Id, Waiter, Waiters}
 
@@ -33,9 +33,6 @@ pub record IsLeft (s t : Stored) (then : ℕ → Request) (stays : ℕ → Bool)
 abbrev pub stays_beside : List ℕ → ℕ → Bool
 stays_beside places x = not (is_there x places)
 
-abbrev pub request_at : Stored → ℕ → Request
-request_at s x = (filed_at s x).request
-
 -- what a call leaves of each request stands at its place after it, and those that stay do so in order
 pub record LeavesBy (left : Request → Option Request) (s t : Stored) : Type 0 where
   pub stays : ℕ → Bool
@@ -55,9 +52,6 @@ pub record IsSoleNamed (s : Stored) (job : ℕ) (named : List Want) (p : ℕ) : 
 -- which requests are a job's, have an id besides, or block one of some jobs
 abbrev pub is_of : Stored → ℕ → ℕ → Bool
 is_of s job x = (filed_at s x).request.job == job
-
-abbrev pub has_id_at : Stored → ℕ → ℕ → ℕ → Bool
-has_id_at s job id x = is_of s job x && (filed_at s x).request.id == id
 
 abbrev pub is_blocking_at : Stored → (ℕ → Bool) → ℕ → Bool
 is_blocking_at s waiters x = waiters (filed_at s x).request.job && is_blocked (filed_at s x)

@@ -4,3 +4,7 @@ pub mod Departures
 pub mod Changing
 pub mod Raised
 pub mod Tables
+pub mod Seen
+pub mod Filing
+pub mod Whole
+pub mod Reads

@@ -2,8 +2,8 @@
 use Rattle.std.specs.Prelude.{◌≡◌, ℕ, Bool, false, ◌&&◌, List, filter, map}
 use Rattle.lock_queue.specs.declared.grant.Grant.{Grant}
 use Rattle.lock_queue.specs.Grants.{grant_of, is_told_of}
-use Rattle.request_store.specs.Stores.{Stored, filed_at}
-use Rattle.table_reads.specs.Reads.{requests_at}
+use Rattle.key_queues.specs.Stores.{Stored, filed_at}
+use Rattle.lock_table.specs.Reads.{requests_at}
 use Rattle.lock_table.specs.Turns.{mark_at}
 
 -- how many marks were turned, and which last: where none was, none is set, and where one was, no other is

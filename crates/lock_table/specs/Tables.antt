@@ -1,12 +1,9 @@
 -- What a table holds between two steps of a call (this project's profile).
-use Rattle.std.specs.Prelude.{◌≤◌, ℕ, Bool, true, false, List}
-use Rattle.word36.specs.declared.sizes.TheConstants.{MOST_REQUESTS}
-use Rattle.lock_queue.specs.declared.call.LockReply.{LockReply}
-use Rattle.lock_queue.specs.declared.call.LockReply.TheVariants.{Granted, Queued, Done, Refused}
+use Rattle.std.specs.Prelude.{ℕ, List}
 use Rattle.lock_queue.specs.declared.request.Request.{Request}
 use Rattle.key_queues.specs.States.{State}
-use Rattle.table_reads.specs.Filing.{state_of}
-use Rattle.table_reads.specs.Whole.{IsWhole, requests_in}
+use Rattle.lock_table.specs.Filing.{state_of}
+use Rattle.lock_table.specs.Whole.{IsWhole, requests_in}
 use Rattle.lock_table.specs.declared.table.Table.{Table}
 use Rattle.lock_table.specs.Turns.{Turned}
 
@@ -25,15 +22,3 @@ IsRight size t = IsWhole size t.store t.keys
 -- the mark of each request that is present turned where its flag did
 abbrev pub AreTurned : {n : ℕ} → Table n → Table n → Type 0
 AreTurned s t = Turned s.store t.store s.turns t.turns
-
--- a table of a size that can be
-pub record IsHeld {n : ℕ} (size : ℕ) (t : Table n) : Type 0 where
-  pub least : 1 ≤ size
-  pub small : size ≤ MOST_REQUESTS
-  pub whole : IsRight size t
-
-abbrev pub is_done : LockReply → Bool
-is_done Granted = false
-is_done Queued = false
-is_done Done = true
-is_done (Refused refusal) = false

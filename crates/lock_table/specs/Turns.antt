@@ -2,7 +2,7 @@
 use Rattle.std.specs.Prelude.{◌≡◌, ℕ, Bool, true, false, not, if◌then◌else◌, List, slice_index_or}
 use Rattle.std.specs.Bool.{beq}
 use Rattle.key_queues.specs.Tables.{is_there}
-use Rattle.request_store.specs.Stores.{Stored, filed_at}
+use Rattle.key_queues.specs.Stores.{Stored, filed_at}
 
 -- the mark of a place
 abbrev pub mark_at : List Bool → ℕ → Bool

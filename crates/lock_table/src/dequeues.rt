@@ -1,46 +1,24 @@
 //! Keys are given up.
-ghost use Rattle.std.specs.Prelude.{◌≡◌, ◌≤◌, ℕ, IfSome, true, [], None};
+ghost use Rattle.std.specs.Prelude.{◌≡◌, ◌≤◌, IfSome, [], None};
 ghost use Rattle.word36.specs.declared.sizes.TheConstants.{MOST_REQUESTS};
 ghost use Rattle.lock_queue.specs.declared.call.LockCall.TheVariants.{DequeueAll, DequeueId, DequeueNamed};
 ghost use Rattle.lock_queue.specs.declared.call.LockReply.TheVariants.{Done};
 ghost use Rattle.lock_queue.specs.Grants.{left_of};
 ghost use Rattle.lock_queue.specs.Dequeues.{dequeue_all, dequeue_fault, dequeue_id, dequeue_named, has_wants};
 ghost use Rattle.lock_queue.specs.Outcomes.{first_refusal};
-ghost use Rattle.lock_queue.specs.Queue.{names};
 ghost use Rattle.key_queues.specs.States.{IsTable};
-ghost use Rattle.key_queues.specs.Tables.{is_there};
-ghost use Rattle.request_store.specs.Stores.{filed_at};
-ghost use Rattle.table_reads.specs.Filing.{state_of};
-ghost use Rattle.table_reads.specs.Whole.{AreRight, JobsAreApart};
+ghost use Rattle.lock_table.specs.Whole.{AreRight};
 ghost use Rattle.lock_table.specs.Departures.{IsLeft, IsSoleNamed, LeavesBy, left_named};
 ghost use Rattle.lock_table.specs.Tables.{AreTurned, IsRight, requests, state};
 
 use crate::leaving::{Leavers, Leaving};
+use crate::queues::places_of;
+use crate::readings::{has_request, has_request_id, sole_of};
+use crate::refusals::refusal_of_dequeue;
+use crate::steps::place_of;
 use crate::table::Table;
-use key_queues::Keys;
-use lock_queue::{Key, LockReply, Refusal, RequestId, Want, Wants};
-use request_store::Store;
-use table_reads::{has_request, has_request_id, places_of, refusal_of_dequeue, sole_of};
-
-/// The place of a job's request with a want of a key, where it has one.
-fn place_of_job<const REQS: usize>(
-    store: &Store<REQS>,
-    keys: &Keys<REQS>,
-    job: u8,
-    key: &Key,
-) -> u16
-    requires table { IsTable (state_of store.now keys.now) }
-    requires jobs { JobsAreApart store.now }
-    ensures { (x : ℕ) → is_there x store.now.order ≡ true → (filed_at store.now x).request.job ≡ job
-        → names (filed_at store.now x).request.wants.items key.now ≡ true → result ≡ x }
-{
-    for p in places_of(keys, key) {
-        if store.get(*p).request.job == job {
-            return *p;
-        }
-    }
-    0
-}
+use key_queues::Store;
+use lock_queue::{LockReply, Refusal, RequestId, Want, Wants};
 
 /// The place of a job's only request, where its only want is the only one that is named. Nothing is looked
 /// up for it.
@@ -64,29 +42,17 @@ impl<const REQS: usize> Table<REQS> {
             (λ x. has_wants (left_named self.old.store job named.now x)) }
         ensures turns { AreTurned self.old self.new }
     {
-        for i in 0..named.len() {
-            let p = place_of_job(&self.store, &self.keys, job, &named[i].key);
-            self.give_up_key(p, &named[i].key);
+        for w in named {
+            let places = places_of(&self.keys, &w.key);
+            let Some(p) = place_of(&self.store, places, job) else {
+                continue;
+            };
+            self.give_up_key(p, &w.key);
         }
-    }
-
-    /// A job gives up the wants of named keys, whichever requests have them.
-    fn dequeue_some(&mut self, job: u8, named: &Wants) -> LockReply
-        requires { IsRight REQS self.old }
-        ensures whole { IsRight REQS self.new }
-        ensures requests { requests self.new ≡ (dequeue_named (requests self.old) job named.now.items).requests }
-        ensures reply { result ≡ (dequeue_named (requests self.old) job named.now.items).reply }
-        ensures left { result ≡ Done → LeavesBy (left_of job (DequeueNamed named.now)) self.old.store self.new.store }
-        ensures turns { result ≡ Done → AreTurned self.old self.new }
-    {
-        if let Some(refusal) = refusal_of_dequeue(&self.store, &self.keys, job, named.as_slice()) {
-            return LockReply::Refused(refusal);
-        }
-        self.give_up_named(job, named.as_slice());
-        LockReply::Done
     }
 
     /// A job gives up the wants of named keys.
+    #[inline(always)]
     pub fn dequeue_named(&mut self, job: u8, named: &Wants) -> LockReply
         requires { IsRight REQS self.old }
         ensures whole { IsRight REQS self.new }
@@ -95,10 +61,14 @@ impl<const REQS: usize> Table<REQS> {
         ensures left { result ≡ Done → LeavesBy (left_of job (DequeueNamed named.now)) self.old.store self.new.store }
         ensures turns { result ≡ Done → AreTurned self.old self.new }
     {
-        let Some(p) = sole_named(&self.store, job, named.as_slice()) else {
-            return self.dequeue_some(job, named);
-        };
-        self.leave(p);
+        if let Some(p) = sole_named(&self.store, job, named.as_slice()) {
+            self.leave(p);
+            return LockReply::Done;
+        }
+        if let Some(refusal) = refusal_of_dequeue(&self.store, &self.keys, job, named.as_slice()) {
+            return LockReply::Refused(refusal);
+        }
+        self.give_up_named(job, named.as_slice());
         LockReply::Done
     }
 

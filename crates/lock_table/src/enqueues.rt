@@ -1,116 +1,93 @@
-//! A request is taken in.
-ghost use Rattle.std.specs.Prelude.{◌≡◌, ◌≤◌, ◌<◌, ◌++◌, ◌∷◌, if◌then◌else◌, List, ℕ, true, false, [], None, IsTrue, length, nat_le};
+//! A request comes.
+ghost use Rattle.std.specs.Prelude.{◌≡◌, ◌≤◌, ◌<◌, ◌+◌, ◌++◌, ◌∷◌, ℕ, true, false, [], None, IsTrue, length, nat_le};
 ghost use Rattle.std.specs.List.{list_all};
 ghost use Rattle.word36.specs.declared.sizes.TheConstants.{JOBS};
-ghost use Rattle.lock_queue.specs.Enqueues.{arrival, enqueue, enqueue_fault, request_of, with_arrival};
+ghost use Rattle.lock_queue.specs.Enqueues.{enqueue, enqueue_fault, request_of, with_arrival};
 ghost use Rattle.lock_queue.specs.Outcomes.{first_refusal};
 ghost use Rattle.lock_queue.specs.Queue.{granted};
 ghost use Rattle.lock_queue.specs.WellFormed.{is_in_range, shares_rightly};
 ghost use Rattle.key_queues.specs.Tables.{is_there};
-ghost use Rattle.key_queues.specs.declared.lock.Lock.{Lock as LockView};
-ghost use Rattle.request_store.specs.Stores.{filed_at};
-ghost use Rattle.table_reads.specs.Whole.{IsWhole, requests_in};
-ghost use Rattle.lock_queue.specs.Jobs.{as_told, is_interrupt};
+ghost use Rattle.key_queues.specs.Stores.{filed_at};
+ghost use Rattle.lock_table.specs.Arrivals.{AreFound, IsArriving, SameRequests};
 ghost use Rattle.lock_table.specs.Tables.{IsRight, requests};
 
-use crate::arrive::arrive;
+use crate::refusals::{Numbers, refusal_of_enqueue};
+use crate::steps::renew;
 use crate::table::Table;
 use crate::told::mark_told;
-use key_queues::Keys;
+use key_queues::{Keys, Store};
 use lock_queue::{Asking, EnqueueKind, LockReply, Refusal, Want, Wants};
-use request_store::Store;
-use table_reads::refusal_of_enqueue;
 
-/// A want is in range, whatever it is.
-fn is_in_range(w: &Want)
-    ensures { IsTrue (is_in_range w.now) }
-{
-    let _ = w.level.copied();
-    if let Some(pool) = &w.pool {
-        let _ = pool.copied();
-    }
-}
-
-/// So are all wants.
+/// All wants are in range, whatever they are.
 fn are_in_range(wants: &[Want])
     ensures { IsTrue (list_all is_in_range wants.now) }
 {
     for w in wants {
-        is_in_range(w);
+        let _ = w.level.copied();
+        if let Some(pool) = &w.pool {
+            let _ = pool.copied();
+        }
     }
 }
 
-/// A request comes last, which is not refused.
-fn come<const REQS: usize>(
+/// Enters the wants of the request that came last, one by one.
+fn enter_all<const REQS: usize>(
     store: &mut Store<REQS>,
     keys: &mut Keys<REQS>,
-    job: u8,
-    asking: &Asking,
-    wants: &Wants,
-) -> u16
-    requires whole { IsWhole REQS store.old keys.old }
-    requires job { (1 ≤ job) × (job ≤ JOBS) }
-    requires some { IsTrue (nat_le 1 (length wants.now.items)) }
-    requires unshared { IsTrue (list_all shares_rightly wants.now.items) }
-    requires passed { first_refusal (enqueue_fault (requests_in store.old) job) [] wants.now.items ≡ None }
-    requires few { length store.old.order < REQS }
-    ensures whole { IsWhole REQS store.new keys.new }
-    ensures requests { requests_in store.new ≡ with_arrival (requests_in store.old) job asking.now false wants.now }
-    ensures granted { (filed_at store.new result).granted
-        ≡ granted (with_arrival (requests_in store.old) job asking.now false wants.now) (length (requests_in store.old)) }
-    ensures present { is_there result store.new.order ≡ true }
-    ensures out { is_there result store.old.order ≡ false }
-    ensures order { store.new.order ≡ store.old.order ++ result ∷ [] }
-    ensures request { (filed_at store.new result).request ≡ request_of job asking.now false wants.now }
-    ensures others { (x : ℕ) → (x ≡ result → ⊥) → (filed_at store.new x).request ≡ (filed_at store.old x).request }
+    p: u16,
+    wants: &[Want],
+    numbers: &[Option<u16>],
+)
+    requires arriving { IsArriving store.old keys.old p wants.now 0 }
+    requires long { length numbers.now ≡ length wants.now }
+    requires numbers { AreFound 0 keys.old wants.now numbers.now }
+    requires few { length store.old.order ≤ REQS }
+    ensures arriving { IsArriving store.new keys.new p wants.now (length wants.now) }
+    ensures same { SameRequests store.old store.new p }
 {
-    are_in_range(wants.as_slice());
-    arrive(store, keys, job, asking, wants)
-}
-
-/// A request that came was granted: its job need not be told by an interrupt any more.
-fn know<const REQS: usize>(store: &mut Store<REQS>, p: u16, kind: EnqueueKind)
-    requires { is_there p store.old.order ≡ true }
-    ensures whole { (size : ℕ) (locks : List LockView) → IsWhole size store.old locks → IsWhole size store.new locks }
-    ensures order { store.new.order ≡ store.old.order }
-    ensures request { (filed_at store.new p).request
-        ≡ (if is_interrupt kind then as_told (filed_at store.old p).request else (filed_at store.old p).request) }
-    ensures others { (x : ℕ) → (x ≡ p → ⊥) → (filed_at store.new x).request ≡ (filed_at store.old x).request }
-{
-    if let EnqueueKind::Interrupt = kind {
-        mark_told(store, p);
+    for k in 0..wants.len() {
+        let w = &wants[k];
+        let n = keys.enter(p, w, numbers[k]);
+        store.push_want(p, w, n);
     }
 }
 
 impl<const REQS: usize> Table<REQS> {
-    /// Takes in a request that is not refused.
-    fn take_in(&mut self, job: u8, asking: &Asking, wants: &Wants) -> LockReply
+    /// A request comes last, which is not refused. Its wants stand last in the queues of their keys, and it is
+    /// granted where all of them fit behind the requests before it.
+    fn arrive(&mut self, job: u8, asking: &Asking, wants: &Wants, numbers: &[Option<u16>]) -> u16
         requires whole { IsRight REQS self.old }
         requires job { (1 ≤ job) × (job ≤ JOBS) }
         requires some { IsTrue (nat_le 1 (length wants.now.items)) }
         requires unshared { IsTrue (list_all shares_rightly wants.now.items) }
         requires passed { first_refusal (enqueue_fault (requests self.old) job) [] wants.now.items ≡ None }
         requires few { length self.old.store.order < REQS }
+        requires long { length numbers.now ≡ length wants.now.items }
+        requires numbers { AreFound 0 self.old.keys wants.now.items numbers.now }
         ensures whole { IsRight REQS self.new }
-        ensures requests { requests self.new ≡ (arrival (requests self.old) job asking.now wants.now).requests }
-        ensures reply { result ≡ (arrival (requests self.old) job asking.now wants.now).reply }
+        ensures requests { requests self.new ≡ with_arrival (requests self.old) job asking.now false wants.now }
+        ensures granted { (filed_at self.new.store result).granted
+            ≡ granted (with_arrival (requests self.old) job asking.now false wants.now) (length (requests self.old)) }
+        ensures out { is_there result self.old.store.order ≡ false }
+        ensures order { self.new.store.order ≡ self.old.store.order ++ result ∷ [] }
+        ensures request { (filed_at self.new.store result).request ≡ request_of job asking.now false wants.now }
+        ensures others { (x : ℕ) → (x ≡ result → ⊥) → (filed_at self.new.store x).request ≡ (filed_at self.old.store x).request }
     {
-        let p = come(&mut self.store, &mut self.keys, job, asking, wants);
-        if self.store.get(p).granted {
-            know(&mut self.store, p, asking.kind);
-            return LockReply::Granted;
-        }
-        match asking.kind {
-            EnqueueKind::Blocking => LockReply::Queued,
-            EnqueueKind::AtOnce => {
-                self.leave(p);
-                LockReply::Refused(Refusal::NotGranted)
-            }
-            EnqueueKind::Interrupt => LockReply::Refused(Refusal::NotGranted),
-        }
+        are_in_range(wants.as_slice());
+        let p = self.store.insert(job, asking, false);
+        enter_all(
+            &mut self.store,
+            &mut self.keys,
+            p,
+            wants.as_slice(),
+            numbers,
+        );
+        renew(&mut self.store, &mut self.turns, &self.keys, p);
+        p
     }
 
-    /// A job asks for locks.
+    /// A job asks for locks. Where they are granted at once, it need not be told by an interrupt any more.
+    #[inline(always)]
     pub fn enqueue(&mut self, job: u8, asking: &Asking, wants: &Wants) -> LockReply
         requires whole { IsRight REQS self.old }
         requires job { (1 ≤ job) × (job ≤ JOBS) }
@@ -120,9 +97,30 @@ impl<const REQS: usize> Table<REQS> {
         ensures requests { requests self.new ≡ (enqueue REQS (requests self.old) job asking.now wants.now).requests }
         ensures reply { result ≡ (enqueue REQS (requests self.old) job asking.now wants.now).reply }
     {
-        match refusal_of_enqueue(&self.store, &self.keys, job, asking, wants.as_slice()) {
-            Some(refusal) => LockReply::Refused(refusal),
-            None => self.take_in(job, asking, wants),
+        let mut numbers = Numbers::new();
+        if let Some(refusal) = refusal_of_enqueue(
+            &self.store,
+            &self.keys,
+            job,
+            asking,
+            wants.as_slice(),
+            &mut numbers,
+        ) {
+            return LockReply::Refused(refusal);
+        }
+        let p = self.arrive(job, asking, wants, numbers.as_slice());
+        match (self.store.get(p).granted, asking.kind) {
+            (true, EnqueueKind::Interrupt) => {
+                mark_told(&mut self.store, p);
+                LockReply::Granted
+            }
+            (true, _) => LockReply::Granted,
+            (false, EnqueueKind::Blocking) => LockReply::Queued,
+            (false, EnqueueKind::AtOnce) => {
+                self.leave(p);
+                LockReply::Refused(Refusal::NotGranted)
+            }
+            (false, EnqueueKind::Interrupt) => LockReply::Refused(Refusal::NotGranted),
         }
     }
 }

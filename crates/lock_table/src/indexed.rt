@@ -2,19 +2,42 @@
 ghost use Rattle.std.specs.Prelude.{◌≤◌, IsTrue, length};
 ghost use Rattle.word36.specs.declared.sizes.TheConstants.{MOST_REQUESTS};
 ghost use Rattle.lock_queue.specs.WellFormed.{are_well_formed};
+ghost use Rattle.lock_table.specs.Tables.{requests};
 
-use crate::parts::Parts;
+use crate::leaving::{Leavers, Leaving};
+use crate::readings::{is_granted, is_waiting, pending_of, request_of, waits_for};
+use crate::standing::status_of;
+use crate::table::Table;
+use crate::told::tell;
+use crate::turns::Turns;
+use crate::waking::fill_woken;
+use arrayvec::ArrayVec;
+use key_queues::{Keys, Store};
 use lock_queue::{Key, LockCall, LockReply, LockTable, Request, RequestId, Status, Woken};
 use std::alloc::{AllocError, Global};
+use std::marker::Model;
 
 /// A table with its requests in a slab, a queue for each key, a list for each job, and whether each request
 /// is granted.
 #[derive(Drop)]
 pub struct IndexedTable<const REQS: usize> {
-    parts: Parts<REQS>,
+    table: Table<REQS>,
+    /// Where the requests that leave as a whole are written.
+    leaving: Leaving,
     ghost sized: { (1 ≤ REQS) × (REQS ≤ MOST_REQUESTS) },
-    ghost few: { length parts ≤ REQS },
-    ghost well: { IsTrue (are_well_formed parts) },
+    ghost few: { length (requests table) ≤ REQS },
+    ghost well: { IsTrue (are_well_formed (requests table)) },
+}
+
+impl<const REQS: usize> Model for IndexedTable<REQS> {
+    ghost use Rattle.lock_table.specs.Seen.{Seen};
+    ghost use Rattle.lock_table.specs.Tables.{IsRight, requests};
+
+    ghost Value = { Seen REQS };
+
+    ghost view = { λ t. record { requests = requests t.table; sized = t.sized; few = t.few; well = t.well } };
+
+    ghost invariant = { λ t. IsRight REQS t.table };
 }
 
 impl<const REQS: usize> LockTable for IndexedTable<REQS> {
@@ -22,7 +45,7 @@ impl<const REQS: usize> LockTable for IndexedTable<REQS> {
 
     const REQS: usize = REQS;
 
-    ghost requests = { λ t. t.parts };
+    ghost requests = { λ t. t.requests };
 
     ghost sized = { λ t. t.sized };
 
@@ -32,67 +55,81 @@ impl<const REQS: usize> LockTable for IndexedTable<REQS> {
 
     fn new(alloc: Global) -> Result<Self, AllocError> {
         Ok(IndexedTable {
-            parts: Parts::new(alloc)?,
+            table: Table {
+                store: Store::new(alloc)?,
+                keys: Keys::new(alloc)?,
+                turns: Turns::new(alloc)?,
+            },
+            leaving: ArrayVec::new(),
         })
     }
 
     fn call(&mut self, job: u8, call: &LockCall) -> LockReply {
-        self.parts.call(job, call)
+        self.table.make(&mut self.leaving, job, call)
     }
 
     fn call_waking(&mut self, job: u8, call: &LockCall, woken: &mut Woken) -> LockReply {
-        self.parts.call_waking(job, call, woken)
+        self.table.turns.clear();
+        let reply = self.table.make(&mut self.leaving, job, call);
+        match reply {
+            LockReply::Done => fill_woken(&self.table.store, &self.table.turns, woken),
+            _ => woken.clear(),
+        }
+        reply
     }
 
     fn release(&mut self, job: u8) {
-        self.parts.release(job);
+        self.table.release(&mut self.leaving, &Leavers::Job(job));
     }
 
     fn release_waking(&mut self, job: u8, woken: &mut Woken) {
-        self.parts.release_waking(job, woken);
+        self.table.turns.clear();
+        self.table.release(&mut self.leaving, &Leavers::Job(job));
+        fill_woken(&self.table.store, &self.table.turns, woken);
     }
 
     fn withdraw(&mut self, job: u8) {
-        self.parts.withdraw(job);
+        self.table.release(&mut self.leaving, &Leavers::Waiter(job));
     }
 
     fn withdraw_all(&mut self, jobs: u64) {
-        self.parts.withdraw_all(jobs);
+        self.table
+            .release(&mut self.leaving, &Leavers::Waiters(jobs));
     }
 
     fn waiting(&self, job: u8) -> bool {
-        self.parts.waiting(job)
+        is_waiting(&self.table.store, job)
     }
 
     fn pending(&self, job: u8) -> Option<RequestId> {
-        self.parts.pending(job)
+        pending_of(&self.table.store, job)
     }
 
     fn told(&mut self, job: u8) {
-        self.parts.told(job);
+        tell(&mut self.table.store, job);
     }
 
     fn status(&self, key: &Key, job: u8) -> Status {
-        self.parts.status(key, job)
+        status_of(&self.table.store, &self.table.keys, key, job)
     }
 
     fn len(&self) -> usize {
-        self.parts.len()
+        self.table.store.len()
     }
 
     fn request(&self, i: usize) -> &Request {
-        self.parts.request(i)
+        request_of(&self.table.store, i)
     }
 
     fn granted(&self, i: usize) -> bool {
-        self.parts.granted(i)
+        is_granted(&self.table.store, i)
     }
 
     fn waits_for(&self, job: u8, other: u8) -> bool {
-        self.parts.waits_for(job, other)
+        waits_for(&self.table.store, &self.table.keys, job, other)
     }
 
     fn clear(&mut self) {
-        self.parts.clear();
+        self.table.release(&mut self.leaving, &Leavers::All);
     }
 }

@@ -1,16 +1,16 @@
 //! Which requests leave as a whole.
 ghost use Rattle.std.specs.Prelude.{◌≡◌, ◌≤◌, filter, length};
 ghost use Rattle.word36.specs.declared.sizes.TheConstants.{MOST_REQUESTS};
-ghost use Rattle.table_reads.specs.Whole.{AreRight};
+ghost use Rattle.lock_table.specs.Whole.{AreRight};
 ghost use Rattle.lock_table.specs.Departures.{LeavesWhere, is_chosen, is_leaver_at, may_be_leavers};
 ghost use Rattle.lock_table.specs.Tables.{AreTurned, IsRight};
 
+use crate::readings::own_places;
 use crate::table::Table;
 use arrayvec::ArrayVec;
+use key_queues::{Filed, Store};
 use lock_queue::RequestId;
 use lock_queue::steps::is_among;
-use request_store::{Filed, Store};
-use table_reads::own_places;
 use word36::MOST_REQUESTS;
 
 /// The places of requests that leave.

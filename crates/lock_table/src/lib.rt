@@ -1,7 +1,6 @@
 //! A lock table with the requests in a slab and a queue for each key.
 #![tactic(auto)]
 
-mod arrive;
 mod calls;
 mod change;
 mod depart;
@@ -9,7 +8,10 @@ mod dequeues;
 mod enqueues;
 mod indexed;
 mod leaving;
-mod parts;
+mod queues;
+mod readings;
+mod refusals;
+mod standing;
 mod steps;
 mod table;
 mod told;

@@ -1,44 +1,48 @@
 //! The steps of a table.
 ghost use Rattle.std.specs.Prelude.{◌≡◌, ◌<◌, ◌≤◌, ◌+◌, ◌==◌, true, false, if◌then◌else◌, length};
-ghost use Rattle.std.specs.List.{All, position_or_len};
-ghost use Rattle.key_queues.specs.Kept.{admitted, fits_next};
+ghost use Rattle.std.specs.List.{All, find, position_or_len};
 ghost use Rattle.key_queues.specs.Locks.{lock_at, uncounted, with_queue, without_place};
 ghost use Rattle.key_queues.specs.States.{CountsAll, CountsBut, all_count, Extended, FlagsAll, GivesUpAt, IsCounted, IsFull};
 ghost use Rattle.key_queues.specs.States.{IsKept, IsTable, IsUsed, LosesWant, Renews};
 ghost use Rattle.key_queues.specs.Tables.{is_there};
-ghost use Rattle.request_store.specs.Filing.{without_want};
-ghost use Rattle.request_store.specs.Stores.{filed_at};
-ghost use Rattle.table_reads.specs.Filing.{own_at, state_of, want_at, want_filed};
+ghost use Rattle.key_queues.specs.Filing.{without_want};
+ghost use Rattle.key_queues.specs.Stores.{filed_at};
+ghost use Rattle.lock_table.specs.Filing.{own_at, state_of, want_at, want_filed};
+ghost use Rattle.lock_table.specs.Reads.{request_at};
 ghost use Rattle.lock_table.specs.Tables.{AreTurned, state};
 ghost use Rattle.lock_table.specs.Turns.{Turned};
 
 use crate::table::Table;
 use crate::turns::Turns;
-use key_queues::{Keys, want_in};
-use request_store::Store;
+use key_queues::{Keys, Store, want_in};
+use lock_queue::Want;
 
-/// Sets the flag of a request right.
-#[inline(always)]
-fn renew<const REQS: usize>(
-    store: &mut Store<REQS>,
-    turns: &mut Turns<REQS>,
-    keys: &Keys<REQS>,
-    p: u16,
-)
-    requires present { is_there p store.old.order ≡ true }
-    requires queues { All (λ n. n < length keys.now) (filed_at store.old p).queues.items }
-    ensures renews { Renews (state_of store.old keys.now) (state_of store.new keys.now) p }
-    ensures turns { Turned store.old store.new turns.old turns.new }
+/// The first of some places whose request is a job's.
+pub fn place_of<const REQS: usize>(store: &Store<REQS>, places: &[u16], job: u8) -> Option<u16>
+    requires { All (λ p. is_there p store.now.order ≡ true) places.now }
+    ensures { result ≡ find (λ p. (request_at store.now p).job == job) places.now }
 {
-    let f = store.get(p);
-    let was = f.granted;
-    let granted = keys.all_count(f.queues.as_slice(), p);
-    store.set_granted(p, granted);
-    turns.turn_if(p, was != granted);
+    for p in places {
+        if store.get(*p).request.job == job {
+            return Some(*p);
+        }
+    }
+    None
 }
 
-/// Sets the flag of a request right that gave up a want: where it was granted, it still is.
-fn renew_less<const REQS: usize>(
+/// The want of a place that stands in a queue.
+pub fn want_filed<const REQS: usize>(store: &Store<REQS>, p: u16, n: u16) -> &Want
+    requires present { is_there p store.now.order ≡ true }
+    requires within { position_or_len (λ m. m == n) (filed_at store.now p).queues.items < length (request_at store.now p).wants.items }
+    ensures { result.now ≡ want_filed store.now p n }
+{
+    let f = store.get(p);
+    want_in(f.queues.as_slice(), f.request.wants.as_slice(), n)
+}
+
+/// Sets the flag of a request right: where it is granted, it stays so.
+#[inline(always)]
+pub fn renew<const REQS: usize>(
     store: &mut Store<REQS>,
     turns: &mut Turns<REQS>,
     keys: &Keys<REQS>,
@@ -50,50 +54,36 @@ fn renew_less<const REQS: usize>(
     ensures renews { Renews (state_of store.old keys.now) (state_of store.new keys.now) p }
     ensures turns { Turned store.old store.new turns.old turns.new }
 {
-    if !store.get(p).granted {
-        renew(store, turns, keys, p);
-    }
-}
-
-/// Counts the want of a place, which is the first of the queue that is not counted, where it fits.
-fn let_in_at<const REQS: usize>(store: &Store<REQS>, keys: &mut Keys<REQS>, n: u16, p: u16) -> bool
-    requires lock { n < length keys.old }
-    requires present { is_there p store.now.order ≡ true }
-    requires next { (lock_at keys.old n).queue.fitting < length (lock_at keys.old n).queue.places }
-    requires want { position_or_len (λ m. m == n) (filed_at store.now p).queues.items
-        < length (filed_at store.now p).request.wants.items }
-    ensures value { result ≡ fits_next (lock_at keys.old n).queue (want_filed store.now p n) (want_filed store.now p n).pool }
-    ensures after { keys.new ≡ (if result
-        then with_queue keys.old n (admitted (lock_at keys.old n).queue (want_filed store.now p n))
-        else keys.old) }
-{
     let f = store.get(p);
-    let w = want_in(f.queues.as_slice(), f.request.wants.as_slice(), n);
-    keys.let_in(n, w)
+    if f.granted {
+        return;
+    }
+    let granted = keys.all_count(f.queues.as_slice(), p);
+    store.set_granted(p, granted);
+    turns.turn_if(p, granted);
 }
 
-/// Takes the k-th want of a request out of its queue.
-fn leave_queue_of<const REQS: usize>(store: &Store<REQS>, keys: &mut Keys<REQS>, p: u16, k: usize)
+/// Takes the k-th want of a request out of its queue, whose number is the result.
+fn leave_queue_of<const REQS: usize>(
+    store: &Store<REQS>,
+    keys: &mut Keys<REQS>,
+    p: u16,
+    k: usize,
+) -> u16
     requires present { is_there p store.now.order ≡ true }
     requires queues { k < length (filed_at store.now p).queues.items }
     requires wants { k < length (filed_at store.now p).request.wants.items }
     requires lock { own_at store.now p k < length keys.old }
     requires place { position_or_len (λ m. m == p) (lock_at keys.old (own_at store.now p k)).queue.places
         < length (lock_at keys.old (own_at store.now p k)).queue.places }
-    ensures { keys.new ≡ with_queue keys.old (own_at store.now p k)
+    ensures number { result ≡ own_at store.now p k }
+    ensures after { keys.new ≡ with_queue keys.old (own_at store.now p k)
         (without_place (lock_at keys.old (own_at store.now p k)).queue p (want_at store.now p k)) }
 {
     let f = store.get(p);
-    keys.leave_queue(f.queues.as_slice()[k], p, &f.request.wants.as_slice()[k]);
-}
-
-/// The k-th queue of a request.
-fn queue_at<const REQS: usize>(store: &Store<REQS>, p: u16, k: usize) -> u16
-    requires present { is_there p store.now.order ≡ true }
-    requires want { k < length (filed_at store.now p).queues.items }
-    ensures { result ≡ own_at store.now p k }
-{
-    store.get(p).queues.as_slice()[k]
+    let n = f.queues.as_slice()[k];
+    keys.leave_queue(n, p, &f.request.wants.as_slice()[k]);
+    n
 }
 
 impl<const REQS: usize> Table<REQS> {
@@ -112,7 +102,7 @@ impl<const REQS: usize> Table<REQS> {
         let Some(p) = self.keys.next_place(n) else {
             return false;
         };
-        if !let_in_at(&self.store, &mut self.keys, n, p) {
+        if !self.keys.let_in(n, want_filed(&self.store, p, n)) {
             return false;
         }
         renew(&mut self.store, &mut self.turns, &self.keys, p);
@@ -135,12 +125,13 @@ impl<const REQS: usize> Table<REQS> {
     }
 
     /// A request gives up its k-th want, which leaves its queue; and its flag is set right. What that
-    /// queue may let in then is left to `extend`.
-    fn give_up(&mut self, p: u16, k: usize)
+    /// queue, whose number is the result, may let in then is left to `extend`.
+    fn give_up(&mut self, p: u16, k: usize) -> u16
         requires kept { IsKept (state self.old) }
         requires flags { FlagsAll (state self.old) }
         requires present { is_there p self.old.store.order ≡ true }
         requires want { k < length (filed_at self.old.store p).queues.items }
+        ensures number { result ≡ own_at self.old.store p k }
         ensures kept { IsKept (state self.new) }
         ensures flags { FlagsAll (state self.new) }
         ensures gives { GivesUpAt (state self.old) (state self.new) p k }
@@ -150,13 +141,15 @@ impl<const REQS: usize> Table<REQS> {
         ensures request { (filed_at self.new.store p).request ≡ (without_want (filed_at self.old.store p) k).request }
         ensures turns { AreTurned self.old self.new }
     {
-        leave_queue_of(&self.store, &mut self.keys, p, k);
+        let n = leave_queue_of(&self.store, &mut self.keys, p, k);
         self.store.take_want(p, k);
-        renew_less(&mut self.store, &mut self.turns, &self.keys, p);
+        renew(&mut self.store, &mut self.turns, &self.keys, p);
+        n
     }
 
     /// A request gives up its k-th want, and what that lets in is counted; or the lock is closed, where no
     /// want is left in its queue. All that leaves does so by this.
+    #[inline(always)]
     pub fn depart(&mut self, p: u16, k: usize)
         requires table { IsTable (state self.old) }
         requires present { is_there p self.old.store.order ≡ true }
@@ -165,8 +158,7 @@ impl<const REQS: usize> Table<REQS> {
         ensures left { LosesWant (state self.old) (state self.new) p k }
         ensures turns { AreTurned self.old self.new }
     {
-        let n = queue_at(&self.store, p, k);
-        self.give_up(p, k);
+        let n = self.give_up(p, k);
         if self.keys.is_empty(n) {
             self.keys.close_if_shut(n);
         } else {

@@ -4,12 +4,12 @@ ghost use Rattle.lock_queue.specs.Jobs.{as_told, told_of};
 ghost use Rattle.key_queues.specs.States.{IsTable};
 ghost use Rattle.key_queues.specs.Tables.{is_there};
 ghost use Rattle.key_queues.specs.declared.lock.Lock.{Lock as LockView};
-ghost use Rattle.request_store.specs.Stores.{filed_at};
-ghost use Rattle.table_reads.specs.Filing.{state_of};
-ghost use Rattle.table_reads.specs.Whole.{AreRight, IsWhole, requests_in};
+ghost use Rattle.key_queues.specs.Stores.{filed_at};
+ghost use Rattle.lock_table.specs.Filing.{state_of};
+ghost use Rattle.lock_table.specs.Whole.{AreRight, IsWhole, requests_in};
 
-use request_store::Store;
-use table_reads::first_pending;
+use crate::readings::first_pending;
+use key_queues::Store;
 
 /// The job of a request knows of its grant.
 pub fn mark_told<const REQS: usize>(store: &mut Store<REQS>, p: u16)

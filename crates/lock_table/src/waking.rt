@@ -1,15 +1,14 @@
 //! The grants that a call made.
-ghost use Rattle.std.specs.Prelude.{◌≡◌, ◌≤◌, length, true, false, ℕ};
+ghost use Rattle.std.specs.Prelude.{◌≡◌, ◌≤◌, length, true, false};
 ghost use Rattle.word36.specs.declared.sizes.TheConstants.{MOST_REQUESTS};
 ghost use Rattle.key_queues.specs.Tables.{StandsOnce, is_there};
 ghost use Rattle.lock_queue.specs.Grants.{grant_of};
 ghost use Rattle.lock_table.specs.Raised.{grants_marked, is_raised};
-ghost use Rattle.lock_table.specs.Turns.{mark_at};
 
 use crate::turns::Turns;
+use key_queues::Store;
 use lock_queue::Woken;
 use lock_queue::steps::{grant_of, is_told_of};
-use request_store::Store;
 
 /// Whether the grant of a place turned, and its request is granted now and its job told of it.
 fn is_raised<const REQS: usize>(store: &Store<REQS>, turns: &Turns<REQS>, p: u16) -> bool
@@ -23,47 +22,26 @@ fn is_raised<const REQS: usize>(store: &Store<REQS>, turns: &Turns<REQS>, p: u16
     f.granted && is_told_of(f.request.kind)
 }
 
-/// Fills in those of all requests, in order of arrival.
-fn fill_from_order<const REQS: usize>(store: &Store<REQS>, turns: &Turns<REQS>, woken: &mut Woken)
-    requires { length store.now.order ≤ MOST_REQUESTS }
-    ensures { woken.new.items ≡ grants_marked store.now turns.now }
-{
-    woken.clear();
-    for p in store.order() {
-        if is_raised(store, turns, *p) {
-            woken.push(grant_of(&store.get(*p).request));
-        }
-    }
-}
-
-/// Fills in that of the only place that may be marked.
-fn fill_only<const REQS: usize>(store: &Store<REQS>, turns: &Turns<REQS>, p: u16, woken: &mut Woken)
-    requires only { (x : ℕ) → (x ≡ p → ⊥) → mark_at turns.now x ≡ false }
-    requires once { StandsOnce store.now.order }
-    ensures { woken.new.items ≡ grants_marked store.now turns.now }
-{
-    woken.clear();
-    if !store.contains(p) {
-        return;
-    }
-    if !is_raised(store, turns, p) {
-        return;
-    }
-    woken.push(grant_of(&store.get(p).request));
-}
-
-/// Fills in the grants of the marked places whose jobs are told, in order of arrival.
+/// Fills in the grants of the marked places whose jobs are told, in order of arrival. Where none is marked, or
+/// one at most, no walk is made.
 pub fn fill_woken<const REQS: usize>(store: &Store<REQS>, turns: &Turns<REQS>, woken: &mut Woken)
     requires few { length store.now.order ≤ MOST_REQUESTS }
     requires once { StandsOnce store.now.order }
     ensures { woken.new.items ≡ grants_marked store.now turns.now }
 {
+    woken.clear();
     if turns.none() {
-        woken.clear();
         return;
     }
-    match turns.only() {
-        Some(p) => fill_only(store, turns, p, woken),
-        None => fill_from_order(store, turns, woken),
+    if let Some(p) = turns.only() {
+        if store.contains(p) && is_raised(store, turns, p) {
+            woken.push(grant_of(&store.get(p).request));
+        }
+        return;
+    }
+    for p in store.order() {
+        if is_raised(store, turns, *p) {
+            woken.push(grant_of(&store.get(*p).request));
+        }
     }
 }

@@ -1,8 +1,7 @@
 use Rattle.std.proofs.Common.{◌≡◌, ◌<◌, ◌+◌, subst, ◌∷◌, drop, length, List, arith, lit<}
 use Rattle.lock_queue.specs.declared.want.Want.{Want}
 use Rattle.lock_table.specs.Changing.{AreSound, IsAltering}
-use Rattle.lock_table.proofs.Finishing.{rest_is}
-use Rattle.lock_table.proofs.Sounding.{altering_more, later_sound}
+use Rattle.lock_table.proofs.Writing.{rest_is, altering_more, later_sound}
 use Rattle.lock_table.proofs.change.alter_all.Goals as goal
 
 pub alter-requires : goal.alter-requires

@@ -1,6 +1,6 @@
 use Rattle.std.proofs.Common.{◌≡◌, drop}
 use Rattle.std.specs.List.{list_any}
-use Rattle.request_store.specs.Stores.{filed_at}
+use Rattle.key_queues.specs.Stores.{filed_at}
 use Rattle.lock_table.proofs.change.is_some_granted.Given as goal
 
 abbrev pub invariant-loop-i : goal.invariant-loop-i

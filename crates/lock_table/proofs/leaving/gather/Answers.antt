@@ -2,9 +2,9 @@ use Rattle.std.proofs.Common.{ℕ, Bool, ◌≡◌, ◌++◌, ◌∙◌, sym, ap
 use Rattle.std.proofs.lemmas.List.{drop_all}
 use Rattle.std.specs.List.{All}
 use Rattle.key_queues.specs.Tables.{is_there}
-use Rattle.request_store.specs.Stores.{filed_at}
+use Rattle.key_queues.specs.Stores.{filed_at}
 use Rattle.lock_table.specs.Departures.{is_chosen}
-use Rattle.lock_table.proofs.Gathering.{leavers_among, leavers_few, leavers_present}
+use Rattle.lock_table.proofs.Filing.{leavers_among, leavers_few, leavers_present}
 use Rattle.lock_table.proofs.leaving.gather.Goals as goal
 
 pub loop-p-init : goal.loop-p-init

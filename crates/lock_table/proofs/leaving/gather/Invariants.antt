@@ -2,7 +2,7 @@ use Rattle.std.proofs.Common.{◌≡◌, ◌≤◌, ◌++◌, drop, filter, leng
 use Rattle.std.specs.List.{All}
 use Rattle.word36.specs.declared.sizes.TheConstants.{MOST_REQUESTS}
 use Rattle.key_queues.specs.Tables.{is_there}
-use Rattle.request_store.specs.Stores.{filed_at}
+use Rattle.key_queues.specs.Stores.{filed_at}
 use Rattle.lock_table.specs.Departures.{is_chosen}
 use Rattle.lock_table.proofs.leaving.gather.Given as goal
 

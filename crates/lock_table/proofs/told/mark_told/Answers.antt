@@ -1,4 +1,4 @@
-use Rattle.lock_table.proofs.Knowing.{told_whole}
+use Rattle.lock_table.proofs.Wholes.{told_whole}
 use Rattle.lock_table.proofs.told.mark_told.Goals as goal
 
 pub returns-clause-whole : goal.returns-clause-whole

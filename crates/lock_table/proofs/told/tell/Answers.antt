@@ -1,10 +1,10 @@
 use Rattle.std.proofs.Common.{◌∙◌, sym, lit<}
 use Rattle.key_queues.proofs.Using.{there_kept}
-use Rattle.table_reads.proofs.Telling.{find_there}
-use Rattle.request_store.specs.Stores.{filed_at, places_of}
-use Rattle.table_reads.specs.Reads.{is_pending_filed}
+use Rattle.lock_table.proofs.Telling.{find_there}
+use Rattle.key_queues.specs.Stores.{filed_at, places_of}
+use Rattle.lock_table.specs.Reads.{is_pending_filed}
 use Rattle.lock_table.specs.Departures.{is_of}
-use Rattle.lock_table.proofs.Knowing.{none_told, told_is}
+use Rattle.lock_table.proofs.Wholes.{none_told, told_is}
 use Rattle.lock_table.proofs.told.tell.Goals as goal
 
 pub mark_told-requires : goal.mark_told-requires

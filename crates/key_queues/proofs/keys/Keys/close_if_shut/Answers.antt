@@ -1,8 +1,14 @@
-use Rattle.std.proofs.Common.{rules}
-use Rattle.key_queues.proofs.Finding.{keyed_closed}
+use Rattle.std.proofs.Common.{arith}
+use Rattle.std.proofs.lemmas.Grind.{common_steps}
+use Rattle.key_queues.proofs.Finding.{bucket_read, keyed_closed}
 use Rattle.key_queues.proofs.keys.Keys.close_if_shut.Goals as goal
 
 pub invariant_of-self : goal.invariant_of-self
 invariant_of-self g c =
-    keyed_closed _ _ _ _ c.args.n c.hash_of.result c.index-lock.result.now _ _ c.self.invariant (rw c.self.view_is c.requires) c.index-lock.ensures (search rules)
-    c.hash_of.ensures.below c.index_mut.ensures.value c.take_out.ensures
+    rw (c.take_out.ensures, bucket_read _ _ _ c.self.invariant.index.long c.hash_of.ensures.below c.index_mut.ensures.value)
+    (keyed_closed _ _ _ _ c.args.n c.hash_of.result c.self.invariant (rw c.self.view_is c.requires) (grind (arith, common_steps)) c.hash_of.ensures.below)
+
+pub invariant_of-self-else-len-capacity : goal.invariant_of-self-else-len-capacity
+invariant_of-self-else-len-capacity g c =
+    rw (c.take_out.ensures, bucket_read _ _ _ c.self.invariant.index.long c.hash_of.ensures.below c.index_mut.ensures.value)
+    (keyed_closed _ _ _ _ c.args.n c.hash_of.result c.self.invariant (rw c.self.view_is c.requires) (grind (arith, common_steps)) c.hash_of.ensures.below)

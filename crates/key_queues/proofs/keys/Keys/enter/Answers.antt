@@ -1,22 +1,24 @@
-use Rattle.std.proofs.Common.{refl}
 use Rattle.key_queues.specs.Kept.{appended, no_queue}
 use Rattle.key_queues.specs.Locks.{lock_at}
 use Rattle.key_queues.specs.Opened.{fresh_lock}
-use Rattle.key_queues.proofs.Finding.{entered_begun, keyed_lock, keyed_queue, open_parts}
+use Rattle.key_queues.proofs.Finding.{entered_begun, found_open, keyed_lock, keyed_queue, open_parts}
 use Rattle.key_queues.proofs.keys.Keys.enter.Goals as goal
 
 pub invariant_of-self : goal.invariant_of-self
 invariant_of-self g c =
-    let open_for = open_parts c.args.w.now.key (lock_at c.self.inside.locks.items c.in-Some.n) (rw c.self.view_is c.in-Some.ensures.found) in
+    let key = c.args.w.now.key in
+    let found = found_open c.args.self.now key c.args.number c.in-Some.n c.requires.number c.in-Some.is in
+    let open_for = open_parts key (lock_at c.self.inside.locks.items c.in-Some.n) (rw c.self.view_is found) in
     keyed_queue _ _ _ _ c.in-Some.n _ c.append.new.self c.self.invariant open_for.0 c.index_mut.ensures.value
 
 pub invariant_of-self-2 : goal.invariant_of-self-2
 invariant_of-self-2 g c =
     rw c.begin.ensures
-    (keyed_lock _ _ _ _ c.take_free-n.result c.hash_of-hash.result (record (fresh_lock c.args.w.now) { queue = appended no_queue c.args.p c.args.w.now }) _ _
-    c.self-2.invariant (rw c.self-2.view_is c.take_free-n.ensures.within) c.hash_of-hash.ensures.value c.index_mut-3.ensures.value c.put.ensures)
+    (keyed_lock _ _ _ _ c.take_free-n.result c.hash_of.result (record (fresh_lock c.args.w.now) { queue = appended no_queue c.args.p c.args.w.now }) _ _
+    c.self-2.invariant (rw c.self-2.view_is c.take_free-n.ensures.within) c.hash_of.ensures.value c.index_mut-3.ensures.value c.put.ensures)
 
 pub returns : goal.returns
 returns g c =
     rw (c.begin.ensures, c.self-2.view_is)
-    (entered_begun c.args.self.now c.take_free-n.new.self c.args.p c.args.w.now c.take_free-n.result c.take_free-n.ensures (c.in_default.ensures.none refl))
+    (entered_begun c.args.self.now c.take_free-n.new.self c.args.p c.args.w.now c.take_free-n.result c.take_free-n.ensures
+    (c.requires.number.none c.in_default.is))

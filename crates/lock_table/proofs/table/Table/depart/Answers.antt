@@ -1,6 +1,6 @@
 use Rattle.std.proofs.Common.{◌≡◌, ◌==◌, ◌∙◌, sym, ap, subst, ℕ, true, false, not, length, lit<}
 use Rattle.key_queues.specs.Locks.{lock_at}
-use Rattle.table_reads.specs.Filing.{own_at, state_of}
+use Rattle.lock_table.specs.Filing.{own_at, state_of}
 use Rattle.key_queues.specs.States.{State, IsTable, IsUsed, OpenAreUsed, CountsBut}
 use Rattle.key_queues.proofs.Using.{used_after, full_empty, full_extended}
 use Rattle.key_queues.proofs.Opening.{open_given_up, open_extended}
@@ -9,46 +9,46 @@ use Rattle.lock_table.proofs.table.Table.depart.Goals as goal
 pub extend-requires : goal.extend-requires
 extend-requires g c =
     let n : ℕ = own_at c.args.self.now.store c.args.p c.args.k in
-    let t : State = state_of c.give_up.new.self.store c.give_up.new.self.keys in
-    let some : (length (lock_at c.give_up.new.self.keys n).queue.places == 0) ≡ false =
-    ap (λ m. length (lock_at c.give_up.new.self.keys m).queue.places == 0) (sym c.queue_at-n.ensures) ∙ sym c.is_empty.ensures ∙ c.if-is_empty.false in
+    let t : State = state_of c.give_up-n.new.self.store c.give_up-n.new.self.keys in
+    let some : (length (lock_at c.give_up-n.new.self.keys n).queue.places == 0) ≡ false =
+    ap (λ m. length (lock_at c.give_up-n.new.self.keys m).queue.places == 0) (sym c.give_up-n.ensures.number) ∙ sym c.is_empty.ensures ∙ c.if-is_empty.false in
     let used =
     used_after (state_of c.args.self.now.store c.args.self.now.keys) t c.args.p c.args.k c.requires.table.kept
-    c.give_up.ensures.kept c.requires.present c.requires.want c.give_up.ensures.gives c.give_up.ensures.counts some in
-    (lit< tt, (c.give_up.ensures.kept, (c.give_up.ensures.flags, subst (IsUsed t) (sym c.queue_at-n.ensures) used)))
+    c.give_up-n.ensures.kept c.requires.present c.requires.want c.give_up-n.ensures.gives c.give_up-n.ensures.counts some in
+    (lit< tt, (c.give_up-n.ensures.kept, (c.give_up-n.ensures.flags, subst (IsUsed t) (sym c.give_up-n.ensures.number) used)))
 
 pub returns-then-is_empty-clause-table : goal.returns-then-is_empty-clause-table
 returns-then-is_empty-clause-table g c =
     let n : ℕ = own_at c.args.self.now.store c.args.p c.args.k in
-    let none : (length (lock_at c.give_up.new.self.keys n).queue.places == 0) ≡ true =
-    ap (λ m. length (lock_at c.give_up.new.self.keys m).queue.places == 0) (sym c.queue_at-n.ensures) ∙ sym c.is_empty.ensures ∙ c.if-is_empty.true in
-    subst (λ l. IsTable (state_of c.give_up.new.self.store l)) (sym c.close_if_shut.ensures)
+    let none : (length (lock_at c.give_up-n.new.self.keys n).queue.places == 0) ≡ true =
+    ap (λ m. length (lock_at c.give_up-n.new.self.keys m).queue.places == 0) (sym c.give_up-n.ensures.number) ∙ sym c.is_empty.ensures ∙ c.if-is_empty.true in
+    subst (λ l. IsTable (state_of c.give_up-n.new.self.store l)) (sym c.close_if_shut.ensures)
     (record {
-      kept = c.give_up.ensures.kept;
-      flags = c.give_up.ensures.flags;
-      full = full_empty (state_of c.give_up.new.self.store c.give_up.new.self.keys) n c.give_up.ensures.kept (c.give_up.ensures.full c.requires.table.full) none;
+      kept = c.give_up-n.ensures.kept;
+      flags = c.give_up-n.ensures.flags;
+      full = full_empty (state_of c.give_up-n.new.self.store c.give_up-n.new.self.keys) n c.give_up-n.ensures.kept (c.give_up-n.ensures.full c.requires.table.full) none;
       used =
-          open_given_up (state_of c.args.self.now.store c.args.self.now.keys) (state_of c.give_up.new.self.store c.give_up.new.self.keys) c.args.p
-          c.args.k c.requires.table.kept c.give_up.ensures.kept c.requires.present c.requires.want c.give_up.ensures.gives
-          c.give_up.ensures.counts c.requires.table.used;
+          open_given_up (state_of c.args.self.now.store c.args.self.now.keys) (state_of c.give_up-n.new.self.store c.give_up-n.new.self.keys) c.args.p
+          c.args.k c.requires.table.kept c.give_up-n.ensures.kept c.requires.present c.requires.want c.give_up-n.ensures.gives
+          c.give_up-n.ensures.counts c.requires.table.used;
     })
 
 pub returns-else-is_empty-clause-table : goal.returns-else-is_empty-clause-table
 returns-else-is_empty-clause-table g c =
     let s : State = state_of c.args.self.now.store c.args.self.now.keys in
-    let m : State = state_of c.give_up.new.self.store c.give_up.new.self.keys in
+    let m : State = state_of c.give_up-n.new.self.store c.give_up-n.new.self.keys in
     let t : State = state_of c.extend.new.self.store c.extend.new.self.keys in
-    let some : (length (lock_at c.give_up.new.self.keys c.queue_at-n.result).queue.places == 0) ≡ false = sym c.is_empty.ensures ∙ c.if-is_empty.false in
+    let some : (length (lock_at c.give_up-n.new.self.keys c.give_up-n.result).queue.places == 0) ≡ false = sym c.is_empty.ensures ∙ c.if-is_empty.false in
     let stay : OpenAreUsed m =
-    open_given_up s m c.args.p c.args.k c.requires.table.kept c.give_up.ensures.kept c.requires.present c.requires.want
-    c.give_up.ensures.gives c.give_up.ensures.counts c.requires.table.used in
-    let used : IsUsed m c.queue_at-n.result = stay c.queue_at-n.result (ap not some) in
+    open_given_up s m c.args.p c.args.k c.requires.table.kept c.give_up-n.ensures.kept c.requires.present c.requires.want
+    c.give_up-n.ensures.gives c.give_up-n.ensures.counts c.requires.table.used in
+    let used : IsUsed m c.give_up-n.result = stay c.give_up-n.result (ap not some) in
     record {
       kept = c.extend.ensures.extended.kept;
       flags = c.extend.ensures.extended.flags;
       full =
-          full_extended m t c.queue_at-n.result
-          (subst (λ j. CountsBut j m) (sym c.queue_at-n.ensures) (c.give_up.ensures.full c.requires.table.full))
+          full_extended m t c.give_up-n.result
+          (subst (λ j. CountsBut j m) (sym c.give_up-n.ensures.number) (c.give_up-n.ensures.full c.requires.table.full))
           c.extend.ensures.extended c.extend.ensures.full;
-      used = open_extended m t c.queue_at-n.result c.extend.ensures.extended used stay;
+      used = open_extended m t c.give_up-n.result c.extend.ensures.extended used stay;
     }

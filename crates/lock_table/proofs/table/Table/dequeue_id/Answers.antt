@@ -1,8 +1,8 @@
 use Rattle.std.proofs.Common.{◌∙◌, not, refl, arith}
 use Rattle.lock_queue.specs.declared.call.LockCall.TheVariants.{DequeueId}
 use Rattle.lock_queue.specs.Dequeues.{has_id}
+use Rattle.lock_table.specs.Reads.{request_at}
 use Rattle.lock_queue.specs.Grants.{left_of}
-use Rattle.lock_table.specs.Departures.{request_at}
 use Rattle.lock_table.proofs.Wholes.{leaves_by, left_where}
 use Rattle.lock_table.proofs.table.Table.dequeue_id.Goals as goal
 use Rattle.std.proofs.lemmas.Grind.{common_steps}

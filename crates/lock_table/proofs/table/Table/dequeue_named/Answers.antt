@@ -1,15 +1,13 @@
-use Rattle.std.proofs.Common.{lit<}
-use Rattle.lock_table.proofs.Sole.{sole_left, sole_passes, sole_present}
+use Rattle.std.proofs.Common.{◌∙◌, sym, ap, []}
+use Rattle.lock_queue.specs.Dequeues.{dequeue_fault}
+use Rattle.lock_queue.specs.Outcomes.{first_refusal}
+use Rattle.lock_table.specs.Whole.{requests_in}
+use Rattle.lock_table.proofs.Named.{sole_left, sole_passes}
 use Rattle.lock_table.proofs.Wholes.{named_gone}
 use Rattle.lock_table.proofs.table.Table.dequeue_named.Goals as goal
 
-pub leave-requires : goal.leave-requires
-leave-requires g c =
-    let sole = rw c.as_slice.ensures.value at c.in-Some.ensures in
-    (lit< tt, (c.requires.table, sole_present c.args.self.now.store c.args.job c.args.named.now.items c.in-Some.p sole))
-
-pub returns : goal.returns
-returns g c =
+pub returns-in-Some : goal.returns-in-Some
+returns-in-Some g c =
     let s = c.args.self.now.store in
     let named = c.args.named.now.items in
     let sole = rw c.as_slice.ensures.value at c.in-Some.ensures in
@@ -20,3 +18,13 @@ returns g c =
     named_gone g.row.REQS s c.leave.new.self.store c.args.self.now.keys c.leave.new.self.keys c.args.job c.args.named.now
     c.requires c.leave.ensures.table left (sole_passes s c.args.job named c.in-Some.p sole) in
     record { whole = all.0; requests = all.1; reply = all.2; left = λ done. all.3; turns = λ done. c.leave.ensures.turns }
+
+pub returns : goal.returns
+returns g c =
+    let s = c.args.self.now.store in
+    let left = rw c.as_slice-3.ensures.value at c.give_up_named.ensures.left in
+    let none = ap (first_refusal (dequeue_fault (requests_in s) c.args.job) []) (sym c.as_slice-2.ensures.value) ∙ sym c.refusal_of_dequeue.ensures ∙ c.in_default-refusal_of_dequeue.is in
+    let all =
+    named_gone g.row.REQS s c.give_up_named.new.self.store c.args.self.now.keys c.give_up_named.new.self.keys c.args.job
+    c.args.named.now c.requires c.give_up_named.ensures.table left none in
+    record { whole = all.0; requests = all.1; reply = all.2; left = λ done. all.3; turns = λ done. c.give_up_named.ensures.turns }

@@ -1,6 +1,6 @@
 use Rattle.std.proofs.Common.{◌≡◌, ◌∙◌, subst, true}
 use Rattle.key_queues.specs.Tables.{is_there}
-use Rattle.lock_table.proofs.Turning.{turned_then}
+use Rattle.lock_table.proofs.Filing.{turned_then}
 use Rattle.lock_table.proofs.table.Table.extend.Goals as goal
 
 pub loop-more-preserved : goal.loop-more-preserved

@@ -1,7 +1,7 @@
 use Rattle.std.proofs.Common.{◌≡◌, ◌+◌, cond, false}
 use Rattle.key_queues.specs.Locks.{lock_at, uncounted}
 use Rattle.key_queues.specs.States.{Extended, IsFull}
-use Rattle.table_reads.specs.Filing.{state_of}
+use Rattle.lock_table.specs.Filing.{state_of}
 use Rattle.lock_table.specs.Turns.{Turned}
 use Rattle.lock_table.proofs.table.Table.extend.Given as goal
 

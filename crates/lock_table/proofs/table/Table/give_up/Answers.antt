@@ -2,15 +2,13 @@ use Rattle.std.proofs.Common.{◌≡◌, true, ◌<◌, ◌∙◌, sym, ap, subs
 use Rattle.std.proofs.lemmas.List.{length-set}
 use Rattle.std.specs.List.{All}
 use Rattle.key_queues.specs.Tables.{is_there}
-use Rattle.request_store.specs.Filing.{without_want}
-use Rattle.request_store.specs.Stores.{Stored, filed_at}
-use Rattle.table_reads.specs.Filing.{own_at}
-use Rattle.lock_table.proofs.Filing.{given, own_within_less, gives_up_by, given_up}
-use Rattle.lock_table.proofs.Less.{still_granted}
+use Rattle.key_queues.specs.Stores.{Stored, filed_at}
+use Rattle.lock_table.specs.Filing.{own_at}
+use Rattle.lock_table.proofs.Filing.{given, own_within_less, gives_up_by, given_up, still_granted}
 use Rattle.lock_table.proofs.table.Table.give_up.Goals as goal
 
-pub leave_queue_of-requires : goal.leave_queue_of-requires
-leave_queue_of-requires g c =
+pub leave_queue_of-n-requires : goal.leave_queue_of-n-requires
+leave_queue_of-n-requires g c =
     let all = given c.args.self.now.store c.args.self.now.keys c.args.p c.args.k c.requires.kept c.requires.present c.requires.want in
     (lit< tt, (lit< tt, (c.requires.present, (c.requires.want, (all.wants_in, (all.lock_in, all.place_in))))))
 
@@ -19,24 +17,21 @@ take_want-requires g c =
     let all = given c.args.self.now.store c.args.self.now.keys c.args.p c.args.k c.requires.kept c.requires.present c.requires.want in
     (lit< tt, (c.requires.present, (all.wants_in, c.requires.want)))
 
-pub renew_less-requires : goal.renew_less-requires
-renew_less-requires g c =
+pub renew-requires : goal.renew-requires
+renew-requires g c =
     let s = c.args.self.now.store in
     let locks = c.args.self.now.keys in
     let p = c.args.p in
     let a = given s locks p c.args.k c.requires.kept c.requires.present c.requires.want in
-    let less = without_want (filed_at s p) c.args.k in
     let all : All (λ n. n < length locks) (filed_at c.take_want.new.self p).queues.items =
     subst (λ l. All (λ n. n < length locks) (filed_at l p).queues.items) (sym c.take_want.ensures.value)
     (own_within_less s locks p c.args.k c.requires.kept c.requires.present a.filed_in) in
-    let same = ap (λ (v : Stored). length v.filed) c.take_want.ensures.value ∙ length-set s.filed p less in
-    let within : p < length c.take_want.new.self.filed = omega (arith, a.filed_in, same) in
-    let long = ap length c.leave_queue_of.ensures ∙ length-set locks (own_at s p c.args.k) _ in
+    let long = ap length c.leave_queue_of-n.ensures.after ∙ length-set locks (own_at s p c.args.k) _ in
     let still =
-    still_granted s c.take_want.new.self locks c.leave_queue_of.new.keys p c.args.k
-    c.requires.kept c.requires.flags c.requires.present c.requires.want a c.take_want.ensures.value c.leave_queue_of.ensures within in
+    still_granted s c.take_want.new.self locks c.leave_queue_of-n.new.keys p c.args.k
+    c.requires.kept c.requires.flags c.requires.present c.requires.want a c.take_want.ensures.value c.leave_queue_of-n.ensures.after in
     let present = subst (λ (v : Stored). is_there p v.order ≡ true) (sym c.take_want.ensures.value) c.requires.present in
-    let inside : All (λ n. n < length c.leave_queue_of.new.keys) (filed_at c.take_want.new.self p).queues.items =
+    let inside : All (λ n. n < length c.leave_queue_of-n.new.keys) (filed_at c.take_want.new.self p).queues.items =
     λ j d lt. omega (arith, all j d lt, long) in
     (lit< tt, (lit< tt, (lit< tt, (present, (inside, still)))))
 
@@ -46,18 +41,19 @@ returns g c =
     let locks = c.args.self.now.keys in
     let a = given s locks c.args.p c.args.k c.requires.kept c.requires.present c.requires.want in
     let all =
-    given_up s c.take_want.new.self c.renew_less.new.store locks c.leave_queue_of.new.keys c.args.p
+    given_up s c.take_want.new.self c.renew.new.store locks c.leave_queue_of-n.new.keys c.args.p
     c.args.k c.requires.kept c.requires.flags c.requires.present c.requires.want c.take_want.ensures.value
-    c.leave_queue_of.ensures c.renew_less.ensures.renews in
+    c.leave_queue_of-n.ensures.after c.renew.ensures.renews in
     record {
+      number = c.leave_queue_of-n.ensures.number;
       kept = all.0;
       flags = all.1;
       gives =
-          gives_up_by s c.take_want.new.self c.renew_less.new.store locks c.leave_queue_of.new.keys c.args.p
-          c.args.k c.requires.kept c.requires.want a c.take_want.ensures.value c.leave_queue_of.ensures c.renew_less.ensures.renews;
+          gives_up_by s c.take_want.new.self c.renew.new.store locks c.leave_queue_of-n.new.keys c.args.p
+          c.args.k c.requires.kept c.requires.want a c.take_want.ensures.value c.leave_queue_of-n.ensures.after c.renew.ensures.renews;
       full = all.2;
       counts = all.3;
-      lock = omega (arith, a.lock_in, ap length c.leave_queue_of.ensures ∙ length-set locks (own_at s c.args.p c.args.k) _);
+      lock = omega (arith, a.lock_in, ap length c.leave_queue_of-n.ensures.after ∙ length-set locks (own_at s c.args.p c.args.k) _);
       request = search rules;
       turns = search rules;
     }

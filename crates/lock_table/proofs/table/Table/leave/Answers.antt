@@ -1,25 +1,40 @@
-use Rattle.std.proofs.Common.{◌≡◌, ◌∙◌, sym, ap, subst, true}
-use Rattle.key_queues.specs.States.{IsTable}
+use Rattle.std.proofs.Common.{◌≡◌, ◌<◌, ◌-◌, ◌∙◌, sym, ap, subst, true, length, arith}
+use Rattle.std.proofs.lemmas.List.Edits.{length-remove}
 use Rattle.key_queues.specs.Tables.{is_there}
-use Rattle.request_store.specs.Stores.{Stored, removed}
-use Rattle.table_reads.specs.Filing.{state_of}
-use Rattle.lock_table.specs.Turns.{Turned}
-use Rattle.lock_table.proofs.Choosing.{there_beside, turned_removed}
-use Rattle.lock_table.proofs.Filing.{left_store}
-use Rattle.lock_table.proofs.Turning.{turned_then}
+use Rattle.key_queues.specs.Stores.{filed_at}
+use Rattle.lock_table.proofs.Filing.{absent, gone, turned_then}
 use Rattle.lock_table.proofs.table.Table.leave.Goals as goal
+
+pub loop-left-preserved : goal.loop-left-preserved
+loop-left-preserved g c =
+    let was = c.loop-left.invariant in
+    let left = c.depart.ensures.left in
+    let queues = (filed_at c.loop-left.self.store c.args.p).queues.items in
+    let lt : c.loop-left.left - 1 < length queues = omega (arith, was.left, c.loop-left-test.true) in
+    let fewer = ap length left.owns in
+    record {
+      table = c.depart.ensures.table;
+      left = omega (arith, was.left, fewer, length-remove queues (c.loop-left.left - 1) lt, c.loop-left-test.true);
+      order = left.order ∙ was.order;
+      others = λ x ne. left.others x ne ∙ was.others x ne;
+      turns =
+          turned_then c.args.self.now.store c.loop-left.self.store c.depart.new.self.store c.args.self.now.turns c.loop-left.self.turns
+          c.depart.new.self.turns (λ x h. subst (λ l. is_there x l ≡ true) left.order h) was.turns c.depart.ensures.turns;
+    }
+
+pub returns-then-not-contains-clause-order : goal.returns-then-not-contains-clause-order
+returns-then-not-contains-clause-order g c = sym (absent c.args.p c.args.self.now.store.order (sym c.contains.ensures ∙ c.if-not-contains.true))
 
 pub returns-clause-table : goal.returns-clause-table
 returns-clause-table g c =
-    let present : is_there c.args.p c.give_all_up.new.self.store.order ≡ true = ap (is_there c.args.p) c.give_all_up.ensures.order ∙ c.requires.present in
-    subst (λ (v : Stored). IsTable (state_of v c.give_all_up.new.self.keys)) (sym c.remove.ensures.value)
-    (left_store c.give_all_up.new.self.store c.give_all_up.new.self.keys c.args.p c.give_all_up.ensures.table present c.give_all_up.ensures.none c.remove.ensures.within)
+    let inv = c.loop-left.invariant in
+    let present = ap (is_there c.args.p) inv.order ∙ sym c.contains.ensures ∙ c.if-not-contains.false in
+    (gone c.args.self.now.store c.loop-left.self.store c.remove.new.self c.loop-left.self.keys c.args.p c.args.self.now.turns c.loop-left.self.turns
+    inv.table present (omega (arith, inv.left, c.loop-left-test.false)) inv.turns c.remove.ensures.within c.remove.ensures.value).0
 
 pub returns-clause-turns : goal.returns-clause-turns
 returns-clause-turns g c =
-    let t : Stored = c.give_all_up.new.self.store in
-    let once = c.give_all_up.ensures.table.kept.once in
-    subst (λ (v : Stored). Turned c.args.self.now.store v c.args.self.now.turns c.give_all_up.new.self.turns) (sym c.remove.ensures.value)
-    (turned_then c.args.self.now.store t (removed t c.args.p) c.args.self.now.turns c.give_all_up.new.self.turns c.give_all_up.new.self.turns
-    (λ x h. (there_beside x c.args.p t.order once h).1)
-    c.give_all_up.ensures.turns (turned_removed t c.args.p c.give_all_up.new.self.turns once c.remove.ensures.within))
+    let inv = c.loop-left.invariant in
+    let present = ap (is_there c.args.p) inv.order ∙ sym c.contains.ensures ∙ c.if-not-contains.false in
+    (gone c.args.self.now.store c.loop-left.self.store c.remove.new.self c.loop-left.self.keys c.args.p c.args.self.now.turns c.loop-left.self.turns
+    inv.table present (omega (arith, inv.left, c.loop-left-test.false)) inv.turns c.remove.ensures.within c.remove.ensures.value).1

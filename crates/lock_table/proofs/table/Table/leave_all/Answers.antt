@@ -1,10 +1,10 @@
 use Rattle.std.proofs.Common.{◌≡◌, ◌+◌, true, sym, subst, ℕ, ◌∷◌, [], ◌++◌, get_or, take, refl}
 use Rattle.std.proofs.lemmas.Option.{slice_get-get_or}
 use Rattle.key_queues.specs.Tables.{is_there}
-use Rattle.key_queues.proofs.Places.{take_next}
-use Rattle.lock_table.specs.Departures.{IsLeft, request_at, stays_beside}
-use Rattle.lock_table.proofs.Choosing.{left_next, left_none, there_beside}
-use Rattle.lock_table.proofs.Turning.{turned_then, turned_still}
+use Rattle.key_queues.proofs.Lists.{take_next}
+use Rattle.lock_table.specs.Reads.{request_at}
+use Rattle.lock_table.specs.Departures.{IsLeft, stays_beside}
+use Rattle.lock_table.proofs.Filing.{left_next, left_none, there_beside, turned_then, turned_still}
 use Rattle.lock_table.proofs.table.Table.leave_all.Goals as goal
 
 pub loop-i-init : goal.loop-i-init
@@ -22,13 +22,13 @@ loop-i-preserved g c =
     let next : take (i + 1) c.args.places.now ≡ take i c.args.places.now ++ p ∷ [] =
     take_next c.args.places.now i p (slice_get-get_or c.args.places.now i 0 c.loop-i-test.true) in
     record {
-      table = c.leave_place.ensures.table;
+      table = c.leave.ensures.table;
       left =
-          subst (λ l. IsLeft c.args.self.now.store c.leave_place.new.self.store (request_at c.args.self.now.store) (stays_beside l)) (sym next)
-          (left_next c.args.self.now.store c.loop-i.self.store c.leave_place.new.self.store (take i c.args.places.now) p
-          c.requires.table.kept.once inv.left c.leave_place.ensures.order inv.table.kept.once c.leave_place.ensures.others);
+          subst (λ l. IsLeft c.args.self.now.store c.leave.new.self.store (request_at c.args.self.now.store) (stays_beside l)) (sym next)
+          (left_next c.args.self.now.store c.loop-i.self.store c.leave.new.self.store (take i c.args.places.now) p
+          c.requires.table.kept.once inv.left c.leave.ensures.order inv.table.kept.once c.leave.ensures.others);
       turns =
-          turned_then c.args.self.now.store c.loop-i.self.store c.leave_place.new.self.store c.args.self.now.turns c.loop-i.self.turns c.leave_place.new.self.turns
-          (λ x h. (there_beside x p c.loop-i.self.store.order inv.table.kept.once (subst (λ l. is_there x l ≡ true) c.leave_place.ensures.order h)).1)
-          inv.turns c.leave_place.ensures.turns;
+          turned_then c.args.self.now.store c.loop-i.self.store c.leave.new.self.store c.args.self.now.turns c.loop-i.self.turns c.leave.new.self.turns
+          (λ x h. (there_beside x p c.loop-i.self.store.order inv.table.kept.once (subst (λ l. is_there x l ≡ true) c.leave.ensures.order h)).1)
+          inv.turns c.leave.ensures.turns;
     }

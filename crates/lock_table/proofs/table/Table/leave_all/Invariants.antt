@@ -1,7 +1,8 @@
 use Rattle.std.proofs.Common.{take}
 use Rattle.key_queues.specs.States.{IsTable}
-use Rattle.table_reads.specs.Filing.{state_of}
-use Rattle.lock_table.specs.Departures.{IsLeft, request_at, stays_beside}
+use Rattle.lock_table.specs.Filing.{state_of}
+use Rattle.lock_table.specs.Reads.{request_at}
+use Rattle.lock_table.specs.Departures.{IsLeft, stays_beside}
 use Rattle.lock_table.specs.Turns.{Turned}
 use Rattle.lock_table.proofs.table.Table.leave_all.Given as goal
 

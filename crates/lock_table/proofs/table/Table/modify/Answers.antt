@@ -1,48 +1,44 @@
-use Rattle.std.proofs.Common.{◌≡◌, ◌∙◌, sym, ap, subst, [], None, true, false, length, arith, refl, lit<, rules}
-use Rattle.std.specs.List.{list_any}
-use Rattle.lock_queue.specs.Changes.{modify_fault, some_lost, with_changes}
-use Rattle.lock_queue.specs.Outcomes.{Outcome, first_refusal}
+use Rattle.std.proofs.Common.{◌≡◌, ◌∙◌, sym, ap, subst, true, length, arith, refl, lit<, rules}
+use Rattle.std.proofs.lemmas.Grind.{common_steps}
+use Rattle.lock_queue.specs.Outcomes.{Outcome}
 use Rattle.lock_queue.specs.WellFormed.{are_well_formed}
-use Rattle.lock_queue.proofs.Lists.{list_any-none}
 use Rattle.lock_queue.proofs.WellKept.{well-modify}
-use Rattle.table_reads.specs.Filing.{state_of}
-use Rattle.table_reads.specs.Whole.{requests_in}
-use Rattle.lock_table.specs.Changing.{AreSound, IsChanged, SparesPools, loses_by}
-use Rattle.lock_table.proofs.Agreeing.{levels_changed}
-use Rattle.lock_table.proofs.Finishing.{changed_all, full_but_changed, modified, requests_changed}
-use Rattle.lock_table.proofs.Losing.{changes_tell}
-use Rattle.lock_table.proofs.Sounding.{all_from_Has, changes_apart, changes_named, changes_spare, is_sound}
+use Rattle.lock_table.specs.Whole.{requests_in}
+use Rattle.lock_table.specs.Changing.{IsChanged}
+use Rattle.lock_table.proofs.Admitting.{levels_changed}
+use Rattle.lock_table.proofs.Writing.{changed_all, full_but_changed, modified, requests_changed, all_spare, are_sound, tells_lost}
 use Rattle.lock_table.proofs.table.Table.modify.Goals as goal
 use Rattle.lock_table.proofs.Wholes.{right_from_well, well_from_right}
 
-pub is_some_lost-requires : goal.is_some_lost-requires
-is_some_lost-requires g c =
-    let s = c.args.self.now.store in
-    let locks = c.args.self.now.keys in
-    let changes = c.args.changes.now in
-    let whole = c.requires.whole in
-    let none : first_refusal (modify_fault (requests_in s) c.args.job) [] changes ≡ None = sym c.refusal_of_modify.ensures ∙ c.in_default.is in
-    let spare = all_from_Has (SparesPools s c.args.job) changes (changes_spare (requests_in s) c.args.job changes none) in
-    (lit< tt, (lit< tt, (whole.table, (whole.right, (spare, changes_apart (requests_in s) c.args.job changes none)))))
+pub some_loses-requires : goal.some_loses-requires
+some_loses-requires g c =
+    let w = c.requires.whole in
+    let spare =
+    all_spare c.args.self.now.store c.args.self.now.keys c.args.job w.table w.right c.args.changes.now
+    (sym c.refusal_of_modify.ensures ∙ c.in_default.is) in
+    (lit< tt, (lit< tt, (w.table, (w.right, spare))))
+
+pub returns-then-some_loses-clause-requests : goal.returns-then-some_loses-clause-requests
+returns-then-some_loses-clause-requests g c =
+    let none = sym c.refusal_of_modify.ensures ∙ c.in_default.is in
+    let w = c.requires.whole in
+    let tells = tells_lost c.args.self.now.store c.args.self.now.keys c.args.job w.table w.right c.args.changes.now none in
+    grind (arith, common_steps, none, tells, c.some_loses.ensures, c.if-some_loses.true)
+
+pub returns-then-some_loses-clause-reply : goal.returns-then-some_loses-clause-reply
+returns-then-some_loses-clause-reply g c =
+    let none = sym c.refusal_of_modify.ensures ∙ c.in_default.is in
+    let w = c.requires.whole in
+    let tells = tells_lost c.args.self.now.store c.args.self.now.keys c.args.job w.table w.right c.args.changes.now none in
+    grind (arith, common_steps, none, tells, c.some_loses.ensures, c.if-some_loses.true)
 
 pub alter_all-requires : goal.alter_all-requires
 alter_all-requires g c =
-    let s = c.args.self.now.store in
-    let locks = c.args.self.now.keys in
-    let changes = c.args.changes.now in
-    let whole = c.requires.whole in
-    let none : first_refusal (modify_fault (requests_in s) c.args.job) [] changes ≡ None = sym c.refusal_of_modify.ensures ∙ c.in_default.is in
-    let safe : some_lost (requests_in s) (with_changes (requests_in s) c.args.job changes) ≡ false = sym c.is_some_lost.ensures ∙ c.if-is_some_lost.false in
-    let apart = changes_apart (requests_in s) c.args.job changes none in
-    let some : list_any (loses_by s c.args.job) changes ≡ false = changes_tell (state_of s locks) c.args.job changes whole.table apart ∙ safe in
-    let sound : AreSound s locks c.args.job changes = record {
-      apart = apart;
-      each =
-          all_from_Has _ changes
-          (λ d h. is_sound s locks c.args.job whole.table whole.right d (changes_named (requests_in s) c.args.job changes none d h)
-          (changes_spare (requests_in s) c.args.job changes none d h) (list_any-none (loses_by s c.args.job) changes d some h));
-    } in
-    (lit< tt, (lit< tt, (record { kept = whole.table.kept; flags = whole.table.flags; used = whole.table.used; jobs = whole.jobs }, sound)))
+    let w = c.requires.whole in
+    let sound =
+    are_sound c.args.self.now.store c.args.self.now.keys c.args.job w.table w.right c.args.changes.now
+    (sym c.refusal_of_modify.ensures ∙ c.in_default.is) (sym c.some_loses.ensures ∙ c.if-some_loses.false) in
+    (lit< tt, (lit< tt, (record { kept = w.table.kept; flags = w.table.flags; used = w.table.used; jobs = w.jobs }, sound)))
 
 pub extend_all-requires : goal.extend_all-requires
 extend_all-requires g c =
@@ -57,8 +53,8 @@ returns g c =
     let locks = c.args.self.now.keys in
     let changes = c.args.changes.now in
     let whole = c.requires.whole in
-    let none : first_refusal (modify_fault (requests_in s) c.args.job) [] changes ≡ None = sym c.refusal_of_modify.ensures ∙ c.in_default.is in
-    let safe : some_lost (requests_in s) (with_changes (requests_in s) c.args.job changes) ≡ false = sym c.is_some_lost.ensures ∙ c.if-is_some_lost.false in
+    let none = sym c.refusal_of_modify.ensures ∙ c.in_default.is in
+    let safe = sym (tells_lost s locks c.args.job whole.table whole.right changes none) ∙ sym c.some_loses.ensures ∙ c.if-some_loses.false in
     let t = c.extend_all.new.self.store in
     let b = c.extend_all.ensures.between in
     let is : IsChanged s t c.args.job changes =

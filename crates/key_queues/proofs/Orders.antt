@@ -1,0 +1,224 @@
+-- Lists of places.
+use Rattle.std.proofs.Common.{◌≡◌, ◌≢◌, ◌≤◌, ◌<◌, ◌+◌, ◌-◌, ◌∙◌, sym, ap, subst, ℕ, zero, suc, Bool, true, false, not, ◌||◌, ◌==◌, cond}
+use Rattle.std.proofs.Common.{List, [], ◌∷◌, ◌++◌, length, take, drop, filter, get_or, inl, inr, refl, arith}
+use Rattle.std.specs.List.{position_or_len, remove}
+use Rattle.std.proofs.lemmas.Bool.{both_ways, cases_eq, ne_eqb, or_from, or_parts}
+use Rattle.std.proofs.lemmas.Bool.{or_right}
+use Rattle.std.proofs.lemmas.List.{nil_from_length, length-append, drop-drop, length-drop}
+use Rattle.std.proofs.lemmas.List.Folds.{list_any-append}
+use Rattle.std.proofs.lemmas.List.Elements.{filter-append}
+use Rattle.lock_queue.proofs.Lists.{Sub-length, Sub-filter}
+use Rattle.std.proofs.lemmas.Grind.{common_steps}
+use Rattle.key_queues.specs.Stores.{one_if, is_there, StandsOnce, without_place}
+
+-- one more place at the end
+pub there_last : (q p : ℕ) (xs : List ℕ) → is_there q (xs ++ p ∷ []) ≡ (is_there q xs || (p == q))
+there_last q p xs = grind (arith, common_steps, list_any-append (λ x. x == q) xs (p ∷ []))
+
+pub filter_last : (t : ℕ → Bool) (xs : List ℕ) (p : ℕ) → filter t (xs ++ p ∷ []) ≡ filter t xs ++ cond (t p) (p ∷ []) []
+filter_last t xs p = filter-append t xs (p ∷ [])
+
+pub filter_same : (t u : ℕ → Bool) (xs : List ℕ) → ((x : ℕ) → is_there x xs ≡ true → t x ≡ u x) → filter t xs ≡ filter u xs
+filter_same t u [] same = refl
+filter_same t u (x ∷ xs) same =
+    let rest = filter_same t u xs (λ y h. same y (or_right (x == y) (is_there y xs) h)) in
+    grind (arith, common_steps, same x, rest)
+
+pub filter_short : (t : ℕ → Bool) (xs : List ℕ) → length (filter t xs) ≤ length xs
+filter_short t xs = Sub-length (Sub-filter t xs)
+
+pub filter_there : (t : ℕ → Bool) (x : ℕ) (xs : List ℕ) → is_there x xs ≡ true → t x ≡ true → is_there x (filter t xs) ≡ true
+filter_there t x [] h is = cc
+filter_there t x (y ∷ xs) h is = grind (arith, common_steps, filter_there t x xs)
+
+pub there_filter : (t : ℕ → Bool) (x : ℕ) (xs : List ℕ) → is_there x (filter t xs) ≡ true → is_there x xs ≡ true
+there_filter t x [] h = cc
+there_filter t x (y ∷ xs) h = grind (arith, common_steps, there_filter t x xs)
+
+there_at : (xs : List ℕ) (i d : ℕ) → i < length xs → is_there (get_or xs i d) xs ≡ true
+there_at [] i d lt = absurd (omega arith)
+there_at (x ∷ xs) zero d lt = grind (arith, common_steps)
+there_at (x ∷ xs) (suc i) d lt = grind (arith, common_steps, there_at xs i d)
+
+pub there_within : (p : ℕ) (xs : List ℕ) → is_there p xs ≡ true → position_or_len (λ x. x == p) xs < length xs
+there_within p [] h = cc
+there_within p (x ∷ xs) h = grind (arith, common_steps, there_within p xs)
+
+-- a list without the first that is a place, by recursion
+drop_first : ℕ → List ℕ → List ℕ
+drop_first p [] = []
+drop_first p (x ∷ xs) = cond (x == p) xs (x ∷ drop_first p xs)
+
+without_is : (p : ℕ) (xs : List ℕ) → without_place xs p ≡ drop_first p xs
+unfolding drop_first
+without_is p [] = refl
+without_is p (x ∷ xs) = go (x == p) (without_is p xs)
+  where
+    rest : ℕ
+    rest = position_or_len (λ y. y == p) xs
+
+    go : (b : Bool) → remove xs rest ≡ drop_first p xs → remove (x ∷ xs) (cond (not b) (1 + rest) 0) ≡ cond b xs (x ∷ drop_first p xs)
+    go true later = refl
+    go false later = let one : 1 + rest ≡ suc rest = omega arith in rw one (ap (λ l. x ∷ l) later)
+
+-- each place once, by recursion
+Once : List ℕ → Type 0
+Once [] = Unit {0}
+Once (x ∷ xs) = (is_there x xs ≡ false) × Once xs
+
+once_to : (xs : List ℕ) → StandsOnce xs → Once xs
+unfolding Once
+once_to [] once = tt
+once_to (x ∷ xs) once = (
+  (once [] xs x refl).1,
+  once_to xs (λ before after p is.
+      let both = once (x ∷ before) after p (ap (λ l. x ∷ l) is) in ((or_parts (x == p) (is_there p before) both.0).1, both.1)),
+)
+
+there_split : (p : ℕ) (before after : List ℕ) → is_there p (before ++ p ∷ after) ≡ true
+there_split p before after = grind (arith, common_steps, list_any-append (λ x. x == p) before (p ∷ after))
+
+once_from : (xs : List ℕ) → Once xs → StandsOnce xs
+unfolding Once
+once_from [] once [] after p is = cc
+once_from [] once (y ∷ before) after p is = cc
+once_from (x ∷ xs) once [] after p is =
+    let head : x ≡ p = cc in
+    let tail : xs ≡ after = cc in
+    (refl, subst (λ l. is_there p l ≡ false) tail (subst (λ q. is_there q xs ≡ false) head once.0))
+once_from (x ∷ xs) once (y ∷ before) after p is =
+    let head : x ≡ y = cc in
+    let tail : xs ≡ before ++ p ∷ after = cc in
+    let both = once_from xs once.1 before after p tail in
+    let other : (y == p) ≡ false = ne_eqb y p (λ e.
+    both_ways (is_there x xs) once.0
+    (subst (λ l. is_there x l ≡ true) (sym tail)
+    (subst (λ q. is_there q (before ++ p ∷ after) ≡ true) (sym (head ∙ e)) (there_split p before after)))) in
+    (or_from (y == p) (is_there p before) other both.0, both.1)
+
+-- one more that is not there
+once_last : (xs : List ℕ) (p : ℕ) → is_there p xs ≡ false → Once xs → Once (xs ++ p ∷ [])
+unfolding Once
+once_last [] p out once = (refl, tt)
+once_last (x ∷ xs) p out once = grind (arith, common_steps, once_last xs p, there_last x p xs, once)
+
+pub stands_last : (xs : List ℕ) (p : ℕ) → is_there p xs ≡ false → StandsOnce xs → StandsOnce (xs ++ p ∷ [])
+stands_last xs p out once = once_from (xs ++ p ∷ []) (once_last xs p out (once_to xs once))
+
+-- what is there when one has gone
+drop_other : (p q : ℕ) (xs : List ℕ) → q ≢ p → is_there q (drop_first p xs) ≡ is_there q xs
+unfolding drop_first
+drop_other p q [] ne = refl
+drop_other p q (x ∷ xs) ne = grind (arith, common_steps, drop_other p q xs)
+
+drop_gone : (p : ℕ) (xs : List ℕ) → Once xs → is_there p (drop_first p xs) ≡ false
+unfolding drop_first Once
+drop_gone p [] once = refl
+drop_gone p (x ∷ xs) once = grind (arith, common_steps, drop_gone p xs, once)
+
+drop_once : (p : ℕ) (xs : List ℕ) → Once xs → Once (drop_first p xs)
+unfolding drop_first Once
+drop_once p [] once = tt
+drop_once p (x ∷ xs) once = grind (arith, common_steps, drop_once p xs, drop_other p x xs, once)
+
+drop_length : (p : ℕ) (xs : List ℕ) → is_there p xs ≡ true → length (drop_first p xs) + 1 ≡ length xs
+unfolding drop_first
+drop_length p [] h = cc
+drop_length p (x ∷ xs) h = grind (arith, common_steps, drop_length p xs)
+
+-- what a filter keeps when one has gone
+drop_kept : (t : ℕ → Bool) (p : ℕ) (xs : List ℕ) → t p ≡ true → filter t (drop_first p xs) ≡ drop_first p (filter t xs)
+unfolding drop_first
+drop_kept t p [] is = refl
+drop_kept t p (x ∷ xs) is = grind (arith, common_steps, drop_kept t p xs)
+
+drop_left : (t : ℕ → Bool) (p : ℕ) (xs : List ℕ) → t p ≡ false → filter t (drop_first p xs) ≡ filter t xs
+unfolding drop_first
+drop_left t p [] isnt = refl
+drop_left t p (x ∷ xs) isnt = grind (arith, common_steps, drop_left t p xs)
+
+-- the same of the list without a place
+module _ (p : ℕ) (xs : List ℕ) where
+  pub without_other : (q : ℕ) → q ≢ p → is_there q (without_place xs p) ≡ is_there q xs
+  without_other q ne = ap (is_there q) (without_is p xs) ∙ drop_other p q xs ne
+
+  pub without_gone : StandsOnce xs → is_there p (without_place xs p) ≡ false
+  without_gone once = ap (is_there p) (without_is p xs) ∙ drop_gone p xs (once_to xs once)
+
+  pub without_once : StandsOnce xs → StandsOnce (without_place xs p)
+  without_once once =
+      subst StandsOnce (sym (without_is p xs)) (once_from (drop_first p xs) (drop_once p xs (once_to xs once)))
+
+  pub without_length : is_there p xs ≡ true → length (without_place xs p) + 1 ≡ length xs
+  without_length h = ap (λ l. length l + 1) (without_is p xs) ∙ drop_length p xs h
+
+  pub without_kept : (t : ℕ → Bool) → t p ≡ true → filter t (without_place xs p) ≡ without_place (filter t xs) p
+  without_kept t is = ap (filter t) (without_is p xs) ∙ drop_kept t p xs is ∙ sym (without_is p (filter t xs))
+
+  pub without_left : (t : ℕ → Bool) → t p ≡ false → filter t (without_place xs p) ≡ filter t xs
+  without_left t isnt = ap (filter t) (without_is p xs) ∙ drop_left t p xs isnt
+
+-- a list that begins with places that are not the one
+pub position_past : (p k : ℕ) (xs : List ℕ) → k ≤ length xs → is_there p (take k xs) ≡ false
+    → position_or_len (λ x. x == p) xs ≡ k + position_or_len (λ x. x == p) (drop k xs)
+position_past p zero xs le h = omega arith
+position_past p (suc k) [] le h = absurd (omega arith)
+position_past p (suc k) (x ∷ xs) le h = grind (arith, common_steps, position_past p k xs)
+
+-- the last place, where each stands once
+last_dropped : (p n d : ℕ) (xs : List ℕ) → Once xs → n + 1 ≡ length xs → get_or xs n d ≡ p → drop_first p xs ≡ take n xs
+unfolding drop_first Once
+last_dropped p n d [] once long is = absurd (omega arith)
+last_dropped p zero d (x ∷ xs) once long is = grind (arith, common_steps, nil_from_length xs)
+last_dropped p (suc n) d (x ∷ xs) once long is = grind (arith, common_steps, last_dropped p n d xs once.1, there_at xs n d, once)
+
+pub without_last : (p n d : ℕ) (xs : List ℕ) → StandsOnce xs → n + 1 ≡ length xs → get_or xs n d ≡ p → without_place xs p ≡ take n xs
+without_last p n d xs once long is = without_is p xs ∙ last_dropped p n d xs (once_to xs once) long is
+
+-- what a filter keeps stands once
+filter_once : (t : ℕ → Bool) (xs : List ℕ) → Once xs → Once (filter t xs)
+unfolding Once
+filter_once t [] once = tt
+filter_once t (x ∷ xs) once = grind (arith, common_steps, filter_once t xs, there_filter t x xs, once)
+
+pub stands_filter : (t : ℕ → Bool) (xs : List ℕ) → StandsOnce xs → StandsOnce (filter t xs)
+stands_filter t xs once = once_from (filter t xs) (filter_once t xs (once_to xs once))
+
+pub passed_on : (p from k : ℕ) (xs : List ℕ) → from + k ≤ length xs → is_there p (take (from + k - from) (drop from xs)) ≡ false
+    → from + position_or_len (λ x. x == p) (drop from xs) ≡ position_or_len (λ x. x == p) xs
+    → from + k + position_or_len (λ x. x == p) (drop (from + k) xs) ≡ position_or_len (λ x. x == p) xs
+passed_on p from k xs le out is =
+    let size : from + k - from ≡ k = omega arith in
+    let past = position_past p k (drop from xs) (omega (arith, length-drop from xs)) (rw size at out) in
+    let again : drop k (drop from xs) ≡ drop (from + k) xs = drop-drop k from xs in
+    let after = ap (position_or_len (λ x. x == p)) (sym again) in
+    omega (arith, past, is, after)
+
+-- how many of a list pass
+pub count_changed : (t u : ℕ → Bool) (p : ℕ) (xs : List ℕ) → StandsOnce xs → is_there p xs ≡ true → ((x : ℕ) → x ≢ p → t x ≡ u x)
+    → length (filter u xs) + one_if (t p) ≡ length (filter t xs) + one_if (u p)
+unfolding Once
+count_changed t u p xs once h same = go xs (once_to xs once) h
+  where
+    go : (ys : List ℕ) → Once ys → is_there p ys ≡ true → length (filter u ys) + one_if (t p) ≡ length (filter t ys) + one_if (u p)
+    go [] o k = cc
+    go (y ∷ ys) o k =
+        elim (cases_eq y p) [
+          | inl e ↦
+              let rest : filter t ys ≡ filter u ys =
+              filter_same t u ys (λ x q. same x (λ s. both_ways (is_there y ys) o.0 (subst (λ z. is_there z ys ≡ true) (s ∙ sym e) q))) in
+              grind (arith, common_steps, rest)
+          | inr ne ↦ grind (arith, common_steps, go ys o.1, same y ne)
+        ]
+
+pub count_without : (t : ℕ → Bool) (p : ℕ) (xs : List ℕ) → is_there p xs ≡ true
+    → length (filter t (without_place xs p)) + one_if (t p) ≡ length (filter t xs)
+count_without t p xs h =
+    grind (arith, common_steps, without_kept p xs t, without_left p xs t, without_length p (filter t xs), filter_there t p xs)
+
+pub count_last : (t : ℕ → Bool) (xs : List ℕ) (p : ℕ) → length (filter t (xs ++ p ∷ [])) ≡ length (filter t xs) + one_if (t p)
+count_last t xs p = grind (arith, common_steps, filter_last t xs p, length-append)
+
+pub filter_passes : (t : ℕ → Bool) (x : ℕ) (xs : List ℕ) → is_there x (filter t xs) ≡ true → t x ≡ true
+filter_passes t x [] h = cc
+filter_passes t x (y ∷ xs) h = grind (arith, common_steps, filter_passes t x xs)

@@ -1,0 +1,12 @@
+use Rattle.std.proofs.Common.{◌∙◌, refl}
+use Rattle.std.specs.Box.{with_value}
+use Rattle.key_queues.proofs.Slots.{was, written}
+use Rattle.key_queues.proofs.shelf.Shelf.get_mut.Goals as goal
+
+pub returns : goal.returns
+returns g c =
+    let view = c.self.view_is in
+    let box = c.index_mut.result.now in (
+      (refl, λ w. written g.row.REQS c.self.inside.slab _ view c.args.p c.requires (with_value box w)),
+      record { writes_back = tt; value = c.deref_mut.ensures.value ∙ was g.row.REQS c.self.inside.slab _ view c.args.p c.requires box c.index_mut.ensures.value },
+    )

@@ -1,0 +1,28 @@
+use Rattle.std.proofs.Common.{Some, [], ◌∷◌, ◌++◌, ◌<◌, ◌∙◌, sym, ap, arith, length, lit<}
+use Rattle.lock_queue.specs.Jobs.{is_blocking}
+use Rattle.key_queues.specs.Filing.{arrived}
+use Rattle.key_queues.specs.Stores.{Stored}
+use Rattle.key_queues.proofs.Keeps.{and_true, insert_keeps, list_read, list_room, seen_then}
+use Rattle.key_queues.proofs.store.Store.insert.Goals as goal
+
+pub push-requires-2 : goal.push-requires-2
+push-requires-2 g c =
+    let k = c.self.invariant in
+    let is = list_read _ _ _ _ _ _ k 0 c.args.job c.index_mut.result.now c.requires.job c.index_mut.ensures.value in
+    let room : length c.self.inside.order < g.row.REQS = omega (arith, ap (λ (s : Stored). length s.order) c.self.view_is, c.requires.room) in
+    (lit< tt, omega (arith, ap length is, list_room _ _ _ _ _ _ k 0 c.args.job c.requires.job room))
+
+pub invariant_of-self : goal.invariant_of-self
+invariant_of-self g c =
+    let k = c.self.invariant in
+    let room : length c.self.inside.order < g.row.REQS = omega (arith, ap (λ (s : Stored). length s.order) c.self.view_is, c.requires.room) in
+    let list = list_read _ _ _ _ _ _ k 0 c.args.job c.index_mut.result.now c.requires.job c.index_mut.ensures.value in
+    let is = c.is_blocking-is.ensures ∙ sym (and_true (is_blocking c.args.asking.now.kind)) in
+    rw (c.insert-place.ensures.slots, c.insert-place.ensures.len, c.push.ensures, c.push-2.ensures, list, c.recount.ensures, is)
+    (insert_keeps _ _ _ _ _ _ k c.insert-place.result (arrived c.args.job c.args.asking.now c.args.told)
+    c.insert-place.ensures.free c.insert-place.ensures.within room c.requires.job)
+
+pub returns-clause-value : goal.returns-clause-value
+returns-clause-value g c =
+    seen_then _ _ c.args.self.now c.insert-place.result c.self.view_is _ _ (Some (arrived c.args.job c.args.asking.now c.args.told))
+    (λ l. l ++ c.insert-place.result ∷ []) c.insert-place.ensures.slots c.push.ensures

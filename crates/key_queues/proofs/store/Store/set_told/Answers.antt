@@ -1,0 +1,13 @@
+use Rattle.std.proofs.Common.{refl}
+use Rattle.key_queues.specs.declared.filed.Filed.{Filed}
+use Rattle.key_queues.specs.Filing.{with_told}
+use Rattle.key_queues.proofs.Keeps.{change_kept, seen_change}
+use Rattle.key_queues.proofs.store.Store.set_told.Goals as goal
+
+pub invariant_of-self : goal.invariant_of-self
+invariant_of-self g c =
+    change_kept _ _ _ _ _ _ c.self.invariant _ c.args.p c.self.view_is c.requires _ _ c.get_mut.ensures.value refl refl
+
+pub returns-clause-value : goal.returns-clause-value
+returns-clause-value g c =
+    seen_change _ _ _ c.args.p c.self.view_is (λ (f : Filed). with_told f) _ _ c.get_mut.ensures.value refl

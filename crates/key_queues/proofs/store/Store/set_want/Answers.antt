@@ -1,0 +1,18 @@
+use Rattle.std.proofs.Common.{◌∙◌, ap, refl, slice_set, List}
+use Rattle.lock_queue.specs.declared.want.Want.{Want}
+use Rattle.key_queues.specs.declared.filed.Filed.{Filed}
+use Rattle.key_queues.specs.Filing.{with_want, with_wants}
+use Rattle.key_queues.proofs.Keeps.{change_kept, seen_change, written_in}
+use Rattle.key_queues.proofs.store.Store.set_want.Goals as goal
+
+pub invariant_of-self : goal.invariant_of-self
+invariant_of-self g c =
+    change_kept _ _ _ _ _ _ c.self.invariant _ c.args.p c.self.view_is c.requires.present _ _ c.get_mut.ensures.value refl refl
+
+pub returns-clause-value : goal.returns-clause-value
+returns-clause-value g c =
+    let was = c.get_mut.result.now in
+    seen_change _ _ _ c.args.p c.self.view_is (λ (f : Filed). with_want f c.args.k c.args.w.now) _ _ c.get_mut.ensures.value
+    (ap (λ (ws : List Want). with_wants was ws was.queues.items)
+    (written_in was.request.wants.items c.deref_mut.result.now c.args.k c.copied.result c.deref_mut.ensures.value
+    ∙ ap (slice_set was.request.wants.items c.args.k) c.copied.ensures.value))

@@ -1,0 +1,64 @@
+-- The numbers of wants' locks stay what they are while a want of another key is entered.
+use Rattle.std.proofs.Common.{◌≡◌, ◌∙◌, sym, ap, ℕ, true, false, List, Option, Some, None, inl, inr, arith, IfSome}
+use Rattle.std.proofs.lemmas.Bool.{cases_eq}
+use Rattle.std.proofs.lemmas.Grind.{common_steps}
+use Rattle.lock_queue.specs.declared.key.Key.{Key}
+use Rattle.lock_queue.specs.declared.want.Want.{Want}
+use Rattle.lock_queue.specs.Keys.{same_key}
+use Rattle.key_queues.specs.declared.lock.Lock.{Lock}
+use Rattle.key_queues.specs.Found.{IsEntered, IsFound}
+use Rattle.key_queues.specs.Kept.{appended}
+use Rattle.key_queues.specs.Locks.{lock_at}
+use Rattle.key_queues.specs.Opened.{is_closed, is_open_for}
+use Rattle.key_queues.proofs.Finding.{open_parts}
+use Rattle.lock_table.proofs.Filing.{lock_mine, lock_other}
+
+-- a lock of another key is not open for this one, and neither is one that is not open
+other_key : (w : Want) (key : Key) (l : Lock) → same_key w.key key ≡ false → l.key ≡ w.key → is_open_for key l ≡ false
+other_key w key l other is = grind (arith, common_steps)
+
+not_open : (key : Key) (l : Lock) → is_closed l ≡ true → is_open_for key l ≡ false
+not_open key l closed = grind (arith, common_steps)
+
+-- what is found by one test is found by another that says the same
+same_found : (locks most : List Lock) (key : Key) (o : Option ℕ) → ((m : ℕ) → is_open_for key (lock_at most m) ≡ is_open_for key (lock_at locks m))
+    → IfSome o (λ n. is_open_for key (lock_at locks n) ≡ true)
+    → IfSome o (λ n. is_open_for key (lock_at most n) ≡ true)
+same_found locks most key None same found = tt
+same_found locks most key (Some n) same found = same n ∙ found
+
+module _ (locks most : List Lock) (p n : ℕ) (w : Want) (key : Key) (e : IsEntered locks most p w n) (other : same_key w.key key ≡ false) where
+  -- the lock of the want that is entered
+  entered_key : (lock_at e.middle n).key ≡ w.key
+  entered_key =
+      elim e.ready.mine [
+        | inl was ↦ ap (λ (l : Lock). l.key) was.same ∙ (open_parts w.key (lock_at locks n) was.open_for).1
+        | inr begun ↦ ap (λ (l : Lock). l.key) begun.fresh
+      ]
+
+  was_not : is_open_for key (lock_at locks n) ≡ false
+  was_not =
+      elim e.ready.mine [
+        | inl was ↦ other_key w key (lock_at locks n) other (open_parts w.key (lock_at locks n) was.open_for).1
+        | inr begun ↦ not_open key (lock_at locks n) begun.closed
+      ]
+
+  open_as_before : (m : ℕ) → is_open_for key (lock_at most m) ≡ is_open_for key (lock_at locks m)
+  open_as_before m =
+      elim (cases_eq m n) [
+        | inl is ↦
+            let here = lock_mine e.middle most n (appended (lock_at e.middle n).queue p w) e.ready.within e.after in
+            ap (λ z. is_open_for key (lock_at most z)) is
+            ∙ other_key w key (lock_at most n) other (ap (λ (l : Lock). l.key) here ∙ entered_key)
+            ∙ sym was_not
+            ∙ ap (λ z. is_open_for key (lock_at locks z)) (sym is)
+        | inr ne ↦
+            ap (is_open_for key)
+            (lock_other e.middle most n (appended (lock_at e.middle n).queue p w) e.ready.within e.after m ne ∙ e.ready.others m ne)
+      ]
+
+  pub found_later : (o : Option ℕ) → IsFound locks key o → IsFound most key o
+  found_later o f = record {
+    found = same_found locks most key o open_as_before f.found;
+    none = λ is m. open_as_before m ∙ f.none is m;
+  }

@@ -1,0 +1,13 @@
+use Rattle.std.proofs.Common.{arith, lit<}
+use Rattle.lock_queue.specs.Queue.{names}
+use Rattle.lock_table.specs.Reads.{request_at}
+use Rattle.lock_table.proofs.Reading.{place_kept}
+use Rattle.lock_table.proofs.standing.status_of.Goals as goal
+
+pub get-f-requires : goal.get-f-requires
+get-f-requires g c =
+    let s = c.args.store.now in (
+      lit< tt,
+      place_kept (λ p. names (request_at s p).wants.items c.args.key.now) s.order _ _ (c.places_of-places.ensures.places s c.requires.table)
+          (omega (arith, c.loop-i-test.true, c.loop-i.invariant.there)),
+    )

@@ -1,0 +1,196 @@
+//! What is told of requests, and of the jobs that wait by them.
+ghost use Rattle.std.specs.Prelude.{◌≡◌, ◌<◌, IfSome, Some, length, slice_get, true};
+ghost use Rattle.std.specs.List.{All, find, list_any};
+ghost use Rattle.key_queues.specs.States.{IsTable};
+ghost use Rattle.lock_queue.specs.Dequeues.{has_id, is_of_job};
+ghost use Rattle.lock_queue.specs.Jobs.{is_in_the_way, is_kept_by, is_waiting_job, pending, waits_for};
+ghost use Rattle.lock_queue.specs.Queue.{granted, requests_of, wants_at};
+ghost use Rattle.key_queues.specs.Stores.{filed_at, is_there, places_of};
+ghost use Rattle.lock_table.specs.Filing.{state_of, want_at};
+ghost use Rattle.lock_table.specs.Reads.{IsSole, MarksGrants, before_of, is_kept_from, is_pending_filed, request_at, requests_at};
+ghost use Rattle.lock_table.specs.Whole.{AreRight, requests_in};
+
+use crate::queues::lock_of;
+use key_queues::{Keys, Store, index_of};
+use lock_queue::steps::some_in_the_way;
+use lock_queue::{EnqueueKind, Key, Request, RequestId, Want};
+use word36::JOBS;
+
+/// The places of a job's requests, in order of arrival.
+#[tactic(auto, using(crate::proofs::Telling::no_job))]
+pub fn own_places<const REQS: usize>(store: &Store<REQS>, job: u8) -> &[u16]
+    requires { AreRight store.now }
+    ensures { result.now ≡ places_of store.now job }
+{
+    if job <= JOBS { store.of_job(job) } else { &[] }
+}
+
+/// Whether a job waits by one of its requests.
+#[tactic(auto, using(crate::proofs::Telling::any_some, crate::proofs::Telling::no_job, crate::proofs::Telling::waiting_is))]
+pub fn is_waiting<const REQS: usize>(store: &Store<REQS>, job: u8) -> bool
+    requires right { AreRight store.now }
+    requires marks { MarksGrants store.now }
+    ensures { result ≡ is_waiting_job (requests_in store.now) job }
+{
+    job <= JOBS && store.blocked(job) != 0
+}
+
+/// The place of a job's first granted interrupt request of which it was not told.
+#[tactic(auto, using(crate::proofs::Reading::own_there))]
+pub fn first_pending<const REQS: usize>(store: &Store<REQS>, job: u8) -> Option<u16>
+    requires { AreRight store.now }
+    ensures { result ≡ find (λ p. is_pending_filed (filed_at store.now p)) (places_of store.now job) }
+{
+    for p in own_places(store, job) {
+        let f = store.get(*p);
+        if matches!(f.request.kind, EnqueueKind::Interrupt) && !f.request.told && f.granted {
+            return Some(*p);
+        }
+    }
+    None
+}
+
+/// The id of that request.
+#[tactic(auto, using(crate::proofs::Telling::pending_is))]
+pub fn pending_of<const REQS: usize>(store: &Store<REQS>, job: u8) -> Option<RequestId>
+    requires right { AreRight store.now }
+    requires marks { MarksGrants store.now }
+    ensures { result ≡ pending (requests_in store.now) job }
+{
+    let p = first_pending(store, job)?;
+    Some(store.get(p).request.id)
+}
+
+/// The request at a place of the list.
+pub fn request_of<const REQS: usize>(store: &Store<REQS>, i: usize) -> &Request
+    requires { i < length store.now.order }
+    ensures { slice_get (requests_in store.now) i ≡ Some result.now }
+{
+    &store.get(store.order()[i]).request
+}
+
+/// Whether that request is granted.
+#[tactic(auto, using(crate::proofs::Telling::granted_is))]
+pub fn is_granted<const REQS: usize>(store: &Store<REQS>, i: usize) -> bool
+    requires within { i < length store.now.order }
+    requires marks { MarksGrants store.now }
+    ensures { result ≡ granted (requests_in store.now) i }
+{
+    store.get(store.order()[i]).granted
+}
+
+/// Whether there is a request of the job.
+#[tactic(auto, using(crate::proofs::Telling::has_request_is))]
+pub fn has_request<const REQS: usize>(store: &Store<REQS>, job: u8) -> bool
+    requires { AreRight store.now }
+    ensures { result ≡ list_any (is_of_job job) (requests_in store.now) }
+{
+    !own_places(store, job).is_empty()
+}
+
+/// Whether there is a request of the job with that id.
+#[tactic(auto, using(crate::proofs::Reading::own_there, crate::proofs::Telling::has_id_is))]
+pub fn has_request_id<const REQS: usize>(store: &Store<REQS>, job: u8, id: RequestId) -> bool
+    requires { AreRight store.now }
+    ensures { result ≡ list_any (has_id job id) (requests_in store.now) }
+{
+    for p in own_places(store, job) {
+        if store.get(*p).request.id == id {
+            return true;
+        }
+    }
+    false
+}
+
+/// The place of a job's only request, where its only want is of a key.
+#[tactic(auto, using(crate::proofs::Reading::own_there))]
+pub fn sole_of<const REQS: usize>(store: &Store<REQS>, job: u8, key: &Key) -> Option<u16>
+    requires { AreRight store.now }
+    ensures { IfSome result (IsSole store.now job key.now) }
+{
+    let [p] = own_places(store, job) else {
+        return None;
+    };
+    match store.get(*p).request.wants.as_slice() {
+        [w] if w.key.is_same(key) => Some(*p),
+        _ => None,
+    }
+}
+
+/// Whether a want of a job of a want's key at one of these places stands in its way.
+fn is_in_the_way_at<const REQS: usize>(
+    store: &Store<REQS>,
+    places: &[u16],
+    w: &Want,
+    job: u8,
+) -> bool
+    requires { All (λ p. is_there p store.now.order ≡ true) places.now }
+    ensures { result ≡ list_any (λ v. is_in_the_way v w.now)
+        (wants_at (requests_of (requests_at store.now places.now) job) w.now.key) }
+{
+    for p in places {
+        let r = &store.get(*p).request;
+        if r.job == job && some_in_the_way(r.wants.as_slice(), w) {
+            return true;
+        }
+    }
+    false
+}
+
+/// Whether the k-th want of a request does not fit, and an earlier want of a job stands in its way.
+#[tactic(auto, using(crate::proofs::Keepers::kept_is, crate::proofs::Keepers::lock_open))]
+fn is_kept_at<const REQS: usize>(
+    store: &Store<REQS>,
+    keys: &Keys<REQS>,
+    p: u16,
+    k: usize,
+    job: u8,
+) -> bool
+    requires table { IsTable (state_of store.now keys.now) }
+    requires present { is_there p store.now.order ≡ true }
+    requires want { k < length (request_at store.now p).wants.items }
+    requires queue { k < length (filed_at store.now p).queues.items }
+    ensures { result ≡ is_kept_by job (requests_at store.now (before_of store.now.order p)) (want_at store.now p k) }
+{
+    let f = store.get(p);
+    let queue = &lock_of(keys, f.queues.as_slice()[k]).queue;
+    let places = queue.as_slice();
+    let before = &places[..index_of(places, p)];
+    !queue.counts(p) && is_in_the_way_at(store, before, &f.request.wants.as_slice()[k], job)
+}
+
+/// Whether a job keeps a request from one of its wants.
+fn is_kept_from<const REQS: usize>(store: &Store<REQS>, keys: &Keys<REQS>, p: u16, job: u8) -> bool
+    requires table { IsTable (state_of store.now keys.now) }
+    requires present { is_there p store.now.order ≡ true }
+    ensures { result ≡ is_kept_from store.now job p }
+{
+    for k in 0..store.get(p).request.wants.len() {
+        if is_kept_at(store, keys, p, k, job) {
+            return true;
+        }
+    }
+    false
+}
+
+/// Whether the first job waits for the second: whether one of its requests blocks it, and the second
+/// keeps that from a want.
+#[tactic(auto, using(crate::proofs::Reading::own_there, crate::proofs::Telling::waits_is))]
+pub fn waits_for<const REQS: usize>(
+    store: &Store<REQS>,
+    keys: &Keys<REQS>,
+    job: u8,
+    other: u8,
+) -> bool
+    requires right { AreRight store.now }
+    requires marks { MarksGrants store.now }
+    requires table { IsTable (state_of store.now keys.now) }
+    ensures { result ≡ waits_for (requests_in store.now) job other }
+{
+    for p in own_places(store, job) {
+        if store.get(*p).is_blocked() && is_kept_from(store, keys, *p, other) {
+            return true;
+        }
+    }
+    false
+}

@@ -1,0 +1,262 @@
+//! Why calls are refused.
+ghost use Rattle.std.specs.Prelude.{◌≡◌, ◌≤◌, [], IfSome, is_some, length, nat_le, true};
+ghost use Rattle.std.specs.List.{All, list_any};
+ghost use Rattle.word36.specs.declared.sizes.TheConstants.{JOBS, LOCKS_A_CALL};
+ghost use Rattle.key_queues.specs.Found.{IsFound};
+ghost use Rattle.key_queues.specs.Locks.{lock_at};
+ghost use Rattle.key_queues.specs.States.{IsTable, is_open};
+ghost use Rattle.lock_queue.specs.Changes.{modify_fault};
+ghost use Rattle.lock_queue.specs.Dequeues.{dequeue_fault};
+ghost use Rattle.lock_queue.specs.Enqueues.{enqueue_fault, enqueue_refusal, some_too_low};
+ghost use Rattle.lock_queue.specs.Outcomes.{first_refusal};
+ghost use Rattle.lock_queue.specs.Queue.{all_wants, is_pooled, names, requests_of, wants_at, wants_of};
+ghost use Rattle.key_queues.specs.Stores.{is_there};
+ghost use Rattle.lock_table.specs.Arrivals.{AreFound};
+ghost use Rattle.lock_table.specs.Filing.{state_of};
+ghost use Rattle.lock_table.specs.Reads.{requests_at, stands_of};
+ghost use Rattle.lock_table.specs.Whole.{LevelsAgree, requests_in};
+
+use crate::queues::{first_want, lock_of};
+use arrayvec::ArrayVec;
+use key_queues::{Keys, Lock, Store};
+use lock_queue::steps::{is_alike, names_key, reach_level};
+use lock_queue::{Asking, EnqueueKind, Key, Level, Refusal, Want};
+use word36::LOCKS_A_CALL;
+
+/// The numbers of the open locks of a call's keys, where there are any.
+pub type Numbers = ArrayVec<Option<u16>, LOCKS_A_CALL>;
+
+/// Whether a job's request at one of these places stands in a queue.
+fn stands_in<const REQS: usize>(store: &Store<REQS>, places: &[u16], job: u8, n: u16) -> bool
+    requires { All (λ p. is_there p store.now.order ≡ true) places.now }
+    ensures { result ≡ list_any (stands_of store.now job n) places.now }
+{
+    for p in places {
+        let f = store.get(*p);
+        if f.request.job == job && f.queues.as_slice().contains(&n) {
+            return true;
+        }
+    }
+    false
+}
+
+/// Whether a job has a want of the key of an open lock, looked for in the shorter of two lists: that of the queue's
+/// places, and that of the job's.
+#[tactic(auto, using(crate::proofs::Queued::all_present, crate::proofs::Reading::present_at, crate::proofs::Queued::wanted_at_places, crate::proofs::Queued::wanted_of_job))]
+fn is_wanted_already<const REQS: usize>(
+    store: &Store<REQS>,
+    keys: &Keys<REQS>,
+    job: u8,
+    n: u16,
+) -> bool
+    requires table { IsTable (state_of store.now keys.now) }
+    requires open { is_open (lock_at keys.now n).queue ≡ true }
+    requires job { job ≤ JOBS }
+    ensures { result ≡ names (wants_of (requests_in store.now) job) (lock_at keys.now n).key }
+{
+    let places = lock_of(keys, n).queue.as_slice();
+    let own = store.of_job(job);
+    if own.len() < places.len() {
+        stands_in(store, own, job, n)
+    } else {
+        stands_in(store, places, job, n)
+    }
+}
+
+/// The open lock of a key of which a job has a want.
+#[tactic(auto, using(key_queues::proofs::Finding::open_parts, crate::proofs::Queued::all_present, crate::proofs::Queued::wanted_at_places, crate::proofs::Queued::pooled_is))]
+fn lock_wanted<'a, const REQS: usize>(
+    store: &Store<REQS>,
+    keys: &'a Keys<REQS>,
+    job: u8,
+    key: &Key,
+) -> Option<&'a Lock>
+    requires { IsTable (state_of store.now keys.now) }
+    ensures wanted { is_some result ≡ names (wants_of (requests_in store.now) job) key.now }
+    ensures pooled { IfSome result (λ l. is_some l.now.size
+        ≡ list_any is_pooled (wants_at (requests_of (requests_in store.now) job) key.now)) }
+{
+    let n = keys.find(key)?;
+    let lock = lock_of(keys, n);
+    if stands_in(store, lock.queue.as_slice(), job, n) {
+        Some(lock)
+    } else {
+        None
+    }
+}
+
+/// Why a want is refused beside the present ones of its key. These are alike, so the first is looked at.
+#[tactic(auto, using(key_queues::proofs::Finding::found_open, key_queues::proofs::Finding::open_parts, crate::proofs::Levels::first_alike))]
+fn fault_beside<const REQS: usize>(
+    store: &Store<REQS>,
+    keys: &Keys<REQS>,
+    job: u8,
+    w: &Want,
+    number: Option<u16>,
+) -> Option<Refusal>
+    requires table { IsTable (state_of store.now keys.now) }
+    requires levels { LevelsAgree store.now }
+    requires job { job ≤ JOBS }
+    requires number { IsFound keys.now w.now.key number }
+    ensures { result ≡ enqueue_fault (requests_in store.now) job [] w.now }
+{
+    let n = number?;
+    if !is_alike(first_want(store, keys, n), w) {
+        Some(Refusal::Differs)
+    } else if is_wanted_already(store, keys, job, n) {
+        Some(Refusal::NamedAlready)
+    } else {
+        None
+    }
+}
+
+/// Why the first refused want of a call is refused, if there is one; else the numbers of the wants' locks are
+/// filled in.
+fn first_enqueue_fault<const REQS: usize>(
+    store: &Store<REQS>,
+    keys: &Keys<REQS>,
+    job: u8,
+    wants: &[Want],
+    numbers: &mut Numbers,
+) -> Option<Refusal>
+    requires table { IsTable (state_of store.now keys.now) }
+    requires levels { LevelsAgree store.now }
+    requires job { job ≤ JOBS }
+    requires few { length wants.now ≤ LOCKS_A_CALL }
+    requires none { numbers.old.items ≡ [] }
+    ensures fault { result ≡ first_refusal (enqueue_fault (requests_in store.now) job) [] wants.now }
+    ensures long { result ≡ None → length numbers.new.items ≡ length wants.now }
+    ensures numbers { result ≡ None → AreFound 0 keys.now wants.now numbers.new.items }
+{
+    for (i, w) in wants.iter().enumerate() {
+        let n = keys.find(&w.key);
+        numbers.push(n);
+        let fault = fault_beside(store, keys, job, w, n);
+        if fault.is_some() {
+            return fault;
+        }
+        if names_key(&wants[..i], &w.key) {
+            return Some(Refusal::NamedAlready);
+        }
+    }
+    None
+}
+
+/// Whether a want at one of these places has a level or a higher one.
+fn reach_level_at<const REQS: usize>(store: &Store<REQS>, places: &[u16], level: Level) -> bool
+    requires { All (λ p. is_there p store.now.order ≡ true) places.now }
+    ensures { result ≡ list_any (λ v. nat_le level v.level) (all_wants (requests_at store.now places.now)) }
+{
+    for p in places {
+        if reach_level(store.get(*p).request.wants.as_slice(), level) {
+            return true;
+        }
+    }
+    false
+}
+
+/// Whether a want without bypass has a level that is not above those of the call's wants before it
+/// and of all present wants of the job.
+#[tactic(auto, using(crate::proofs::Reading::present_at))]
+fn is_some_too_low<const REQS: usize>(store: &Store<REQS>, job: u8, wants: &[Want]) -> bool
+    requires { job ≤ JOBS }
+    ensures { result ≡ some_too_low (wants_of (requests_in store.now) job) wants.now }
+{
+    let own = store.of_job(job);
+    for (i, w) in wants.iter().enumerate() {
+        if !w.bypass && (reach_level_at(store, own, w.level) || reach_level(&wants[..i], w.level)) {
+            return true;
+        }
+    }
+    false
+}
+
+/// How many requests the job has.
+#[tactic(auto, using(crate::proofs::Reading::count_is))]
+fn count_of<const REQS: usize>(store: &Store<REQS>, job: u8) -> usize
+    requires { job ≤ JOBS }
+    ensures { result ≡ length (requests_of (requests_in store.now) job) }
+{
+    store.of_job(job).len()
+}
+
+/// Why a request is not taken in, if it is not: first lock by lock, then by its levels, then for want
+/// of a vector, then where the job has as many requests as it may have, then for want of room. Where it is,
+/// the numbers of its wants' locks are filled in.
+pub fn refusal_of_enqueue<const REQS: usize>(
+    store: &Store<REQS>,
+    keys: &Keys<REQS>,
+    job: u8,
+    asking: &Asking,
+    wants: &[Want],
+    numbers: &mut Numbers,
+) -> Option<Refusal>
+    requires table { IsTable (state_of store.now keys.now) }
+    requires levels { LevelsAgree store.now }
+    requires job { job ≤ JOBS }
+    requires few { length wants.now ≤ LOCKS_A_CALL }
+    requires none { numbers.old.items ≡ [] }
+    ensures refusal { result ≡ enqueue_refusal REQS (requests_in store.now) job asking.now wants.now }
+    ensures long { result ≡ None → length numbers.new.items ≡ length wants.now }
+    ensures numbers { result ≡ None → AreFound 0 keys.now wants.now numbers.new.items }
+{
+    let fault = first_enqueue_fault(store, keys, job, wants, numbers);
+    if fault.is_some() {
+        fault
+    } else if is_some_too_low(store, job, wants) {
+        Some(Refusal::LevelOrder)
+    } else if matches!(asking.kind, EnqueueKind::Interrupt) && !asking.armed {
+        Some(Refusal::NoVector)
+    } else if count_of(store, job) >= asking.quota as usize {
+        Some(Refusal::OverQuota)
+    } else if store.len() >= REQS {
+        Some(Refusal::QueueFull)
+    } else {
+        None
+    }
+}
+
+/// Why the named wants are not given up, if they are not.
+pub fn refusal_of_dequeue<const REQS: usize>(
+    store: &Store<REQS>,
+    keys: &Keys<REQS>,
+    job: u8,
+    named: &[Want],
+) -> Option<Refusal>
+    requires table { IsTable (state_of store.now keys.now) }
+    ensures { result ≡ first_refusal (dequeue_fault (requests_in store.now) job) [] named.now }
+{
+    for (i, w) in named.iter().enumerate() {
+        if names_key(&named[..i], &w.key) {
+            return Some(Refusal::NamedAlready);
+        }
+        if lock_wanted(store, keys, job, &w.key).is_none() {
+            return Some(Refusal::NotPresent);
+        }
+    }
+    None
+}
+
+/// Why wants are not changed, lock by lock, whatever would become of the grants.
+pub fn refusal_of_modify<const REQS: usize>(
+    store: &Store<REQS>,
+    keys: &Keys<REQS>,
+    job: u8,
+    changes: &[Want],
+) -> Option<Refusal>
+    requires table { IsTable (state_of store.now keys.now) }
+    ensures { result ≡ first_refusal (modify_fault (requests_in store.now) job) [] changes.now }
+{
+    for (i, c) in changes.iter().enumerate() {
+        if names_key(&changes[..i], &c.key) {
+            return Some(Refusal::NamedAlready);
+        }
+        let Some(lock) = lock_wanted(store, keys, job, &c.key) else {
+            return Some(Refusal::NotPresent);
+        };
+        if c.shared && lock.size.is_some() {
+            return Some(Refusal::BadPool);
+        }
+    }
+    None
+}

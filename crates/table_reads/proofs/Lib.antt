@@ -1,4 +1,0 @@
-pub mod Reading
-pub mod Telling
-pub mod Keepers
-pub mod Levels

@@ -1,3 +1,0 @@
-pub mod Filing
-pub mod Whole
-pub mod Reads
