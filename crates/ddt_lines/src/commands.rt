@@ -3,7 +3,7 @@
 use word36::Word;
 
 /// How words are shown.
-#[derive(Clone, Copy, Debug)]
+#[derive(Clone, Copy)]
 pub enum Look {
     /// As an instruction, with symbols: `$S`.
     Symbolic,

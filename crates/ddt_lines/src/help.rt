@@ -58,7 +58,11 @@ pub fn is_help_on(line: &str, word: &[u8]) -> bool {
         return true;
     }
     let bytes = line.as_bytes();
-    bytes[..COLUMN.min(bytes.len())]
-        .windows(word.len().max(1))
-        .any(|part| part.eq_ignore_ascii_case(word))
+    let column = &bytes[..COLUMN.min(bytes.len())];
+    for part in column.windows(word.len().max(1)) {
+        if part.eq_ignore_ascii_case(word) {
+            return true;
+        }
+    }
+    false
 }

@@ -4,7 +4,7 @@ ghost use Rattle.std.specs.Prelude.{◌<◌, length, IfSome};
 use crate::commands::{Command, Last, Look, Search, SearchKind};
 use crate::numbers::{decimal, octal};
 use crate::own_words::read_own;
-use crate::reader::trimmed;
+use crate::reader::{cut_at, trimmed};
 use crate::values::{Scope, address, value};
 use crate::wrong::Wrong;
 use word36::Word;
@@ -106,20 +106,15 @@ fn times(text: &[u8]) -> Result<u32, Wrong> {
 /// The value and the mask of a search, `value<mask>` or a value alone.
 fn read_search<'a>(text: &[u8], kind: SearchKind, scope: &Scope<'_>) -> Result<Command<'a>, Wrong> {
     let [front @ .., b'>'] = text else {
-        return Ok(Command::Search(Search {
-            kind,
-            value: value(text, scope)?,
-            mask: Word::new(0).not(),
-        }));
+        let (value, mask) = (value(text, scope)?, Word::new(0).not());
+        return Ok(Command::Search(Search { kind, value, mask }));
     };
-    for (i, byte) in front.iter().enumerate() {
-        if *byte == b'<' {
-            let mask = value(&front[i + 1..], scope)?;
-            let value = value(&front[..i], scope)?;
-            return Ok(Command::Search(Search { kind, value, mask }));
-        }
-    }
-    Err(Wrong::NoMask)
+    let Some((before, mask)) = cut_at(front, b'<') else {
+        return Err(Wrong::NoMask);
+    };
+    let mask = value(mask, scope)?;
+    let value = value(before, scope)?;
+    Ok(Command::Search(Search { kind, value, mask }))
 }
 
 /// `$nR`: the radix is written in decimal.
@@ -175,20 +170,23 @@ fn read_short<'a>(text: &[u8]) -> Option<Command<'a>> {
     }
 }
 
-/// A line that neither begins with a point and a letter nor is short.
-fn read_value_line<'a>(text: &[u8], scope: &Scope<'_>) -> Result<Command<'a>, Wrong> {
-    if let Some(place) = text.strip_suffix(b"/".as_slice()) {
-        return Ok(Command::Open(address(place, scope)?));
-    }
-    if let Some(front) = text.strip_suffix(b"=".as_slice()) {
-        return Ok(Command::Tell(value(front, scope)?));
-    }
+/// A command behind an ESC, or a value.
+fn read_other<'a>(text: &[u8], scope: &Scope<'_>) -> Result<Command<'a>, Wrong> {
     if let Some(line) = behind_escape(text) {
         if let Some(command) = read_escaped(line, scope) {
             return command;
         }
     }
     Ok(Command::Deposit(value(text, scope)?))
+}
+
+/// A line that neither begins with a point and a letter nor is short.
+fn read_value_line<'a>(text: &[u8], scope: &Scope<'_>) -> Result<Command<'a>, Wrong> {
+    match text {
+        [place @ .., b'/'] => Ok(Command::Open(address(place, scope)?)),
+        [front @ .., b'='] => Ok(Command::Tell(value(front, scope)?)),
+        _ => read_other(text, scope),
+    }
 }
 
 /// What a line asks for, or what is wrong with it. Numbers are octal, and decimal with a point behind

@@ -37,7 +37,7 @@ pub fn decimal(text: &[u8]) -> Option<u64>
             return None;
         }
         let digit = u64::from(*byte - b'0');
-        value = value.checked_mul(10)?.checked_add(digit)?;
+        value = value.saturating_mul(10).saturating_add(digit);
     }
     if value < COUNTS { Some(value) } else { None }
 }

@@ -2,7 +2,7 @@
 
 use crate::commands::Command;
 use crate::numbers::decimal;
-use crate::reader::trimmed;
+use crate::reader::{cut_at, trimmed};
 use crate::values::{Scope, address};
 use crate::wrong::Wrong;
 use word36::{JOBS, LINES};
@@ -15,6 +15,63 @@ const MOST_STEPS: u64 = 1_000_000_000;
 
 /// The most steps of a history.
 const MOST_HISTORY: u64 = 1000;
+
+/// The word behind the point.
+#[derive(Clone, Copy)]
+enum OwnWord {
+    Back,
+    Break,
+    Do,
+    Ex,
+    Forward,
+    Help,
+    History,
+    Job,
+    Jobs,
+    Locks,
+    Quit,
+    Regs,
+    Save,
+    Step,
+    Take,
+    Tick,
+    Type,
+    Waits,
+    Watch,
+}
+
+/// The words behind the point.
+static WORDS: [(&str, OwnWord); 19] = [
+    ("BACK", OwnWord::Back),
+    ("BREAK", OwnWord::Break),
+    ("DO", OwnWord::Do),
+    ("EX", OwnWord::Ex),
+    ("FORWARD", OwnWord::Forward),
+    ("HELP", OwnWord::Help),
+    ("HISTORY", OwnWord::History),
+    ("JOB", OwnWord::Job),
+    ("JOBS", OwnWord::Jobs),
+    ("LOCKS", OwnWord::Locks),
+    ("QUIT", OwnWord::Quit),
+    ("REGS", OwnWord::Regs),
+    ("SAVE", OwnWord::Save),
+    ("STEP", OwnWord::Step),
+    ("TAKE", OwnWord::Take),
+    ("TICK", OwnWord::Tick),
+    ("TYPE", OwnWord::Type),
+    ("WAITS", OwnWord::Waits),
+    ("WATCH", OwnWord::Watch),
+];
+
+/// The word that a text is, in upper or lower case.
+fn own_word(text: &[u8]) -> Option<OwnWord> {
+    for (name, word) in &WORDS {
+        if is_word(text, name.as_bytes()) {
+            return Some(*word);
+        }
+    }
+    None
+}
 
 /// A text up to its first blank, and what stands behind the blanks.
 fn cut_word(text: &[u8]) -> (&[u8], &[u8]) {
@@ -72,12 +129,12 @@ fn read_type(text: &[u8]) -> Result<Command<'_>, Wrong> {
 fn read_back<'a>(text: &'a [u8], scope: &Scope<'_>) -> Result<Command<'a>, Wrong> {
     let (word, place) = cut_word(text);
     if is_word(word, b"TO") {
-        return Ok(Command::BackTo(address(place, scope)?));
+        Ok(Command::BackTo(address(place, scope)?))
+    } else if is_word(word, b"WRITE") {
+        Ok(Command::BackWrite(address(place, scope)?))
+    } else {
+        Ok(Command::Back(count(text, 0, 1 << 39, 1)?))
     }
-    if is_word(word, b"WRITE") {
-        return Ok(Command::BackWrite(address(place, scope)?));
-    }
-    Ok(Command::Back(count(text, 0, 1 << 39, 1)?))
 }
 
 /// `.BREAK a`, `.BREAK GRANT` and `.BREAK CIRCLE`.
@@ -100,94 +157,38 @@ fn read_break<'a>(text: &'a [u8], scope: &Scope<'_>) -> Result<Command<'a>, Wron
 }
 
 /// `.EX a-b` and `.EX a`.
-fn read_examine<'a>(text: &'a [u8], scope: &Scope<'_>) -> Result<Command<'a>, Wrong> {
-    for (i, byte) in text.iter().enumerate() {
-        if *byte == b'-' {
-            let first = address(&text[..i], scope)?;
-            let last = address(&text[i + 1..], scope)?;
-            return Ok(Command::Examine(first, last));
-        }
-    }
-    let place = address(text, scope)?;
-    Ok(Command::Examine(place, place))
-}
-
-/// The name of a file.
-fn file_name(text: &[u8]) -> Result<&[u8], Wrong> {
-    if text.is_empty() {
-        return Err(Wrong::NoFile);
-    }
-    Ok(text)
-}
-
-/// A command that changes or moves.
-fn read_moving<'a>(word: &[u8], text: &'a [u8], scope: &Scope<'_>) -> Result<Command<'a>, Wrong> {
-    if is_word(word, b"BACK") {
-        return read_back(text, scope);
-    }
-    if is_word(word, b"BREAK") {
-        return read_break(text, scope);
-    }
-    if is_word(word, b"WATCH") {
-        return Ok(Command::Watch(address(text, scope)?));
-    }
-    if is_word(word, b"STEP") {
-        return Ok(Command::Step(short_count(text, MOST_STEPS, 1)?));
-    }
-    if is_word(word, b"TICK") {
-        return Ok(Command::Tick(short_count(text, MOST_TICKS, 1)?));
-    }
-    if is_word(word, b"TYPE") {
-        return read_type(text);
-    }
-    if is_word(word, b"SAVE") {
-        return Ok(Command::Save(file_name(text)?));
-    }
-    if is_word(word, b"DO") {
-        return Ok(Command::Do(file_name(text)?));
-    }
-    Err(Wrong::NoCommand)
+fn read_examine<'a>(text: &[u8], scope: &Scope<'_>) -> Result<Command<'a>, Wrong> {
+    let (first, last) = cut_at(text, b'-').unwrap_or((text, text));
+    Ok(Command::Examine(address(first, scope)?, address(last, scope)?))
 }
 
 /// The command behind the point, which begins with a letter.
 pub fn read_own<'a>(text: &'a [u8], scope: &Scope<'_>) -> Result<Command<'a>, Wrong> {
     let (word, rest) = cut_word(text);
-    if is_word(word, b"JOB") {
-        return Ok(Command::Job(job_number(rest)?));
-    }
-    if is_word(word, b"EX") {
-        return read_examine(rest, scope);
-    }
-    if is_word(word, b"HISTORY") {
-        return Ok(Command::History(short_count(rest, MOST_HISTORY, 10)?));
-    }
-    if is_word(word, b"HELP") {
-        return Ok(Command::Help(rest));
-    }
-    match telling(word) {
-        Some(_) if !rest.is_empty() => Err(Wrong::BehindCommand),
-        Some(command) => Ok(command),
-        None => read_moving(word, rest, scope),
-    }
-}
-
-/// A command of one word.
-fn telling(word: &[u8]) -> Option<Command<'static>> {
-    if is_word(word, b"JOBS") {
-        Some(Command::Jobs)
-    } else if is_word(word, b"LOCKS") {
-        Some(Command::Locks)
-    } else if is_word(word, b"WAITS") {
-        Some(Command::Waits)
-    } else if is_word(word, b"REGS") {
-        Some(Command::Registers)
-    } else if is_word(word, b"TAKE") {
-        Some(Command::Take)
-    } else if is_word(word, b"FORWARD") {
-        Some(Command::Forward)
-    } else if is_word(word, b"QUIT") {
-        Some(Command::Quit)
-    } else {
-        None
+    let Some(own) = own_word(word) else {
+        return Err(Wrong::NoCommand);
+    };
+    match own {
+        OwnWord::Back => read_back(rest, scope),
+        OwnWord::Break => read_break(rest, scope),
+        OwnWord::Do | OwnWord::Save if rest.is_empty() => Err(Wrong::NoFile),
+        OwnWord::Do => Ok(Command::Do(rest)),
+        OwnWord::Ex => read_examine(rest, scope),
+        OwnWord::Help => Ok(Command::Help(rest)),
+        OwnWord::History => Ok(Command::History(short_count(rest, MOST_HISTORY, 10)?)),
+        OwnWord::Job => Ok(Command::Job(job_number(rest)?)),
+        OwnWord::Save => Ok(Command::Save(rest)),
+        OwnWord::Step => Ok(Command::Step(short_count(rest, MOST_STEPS, 1)?)),
+        OwnWord::Tick => Ok(Command::Tick(short_count(rest, MOST_TICKS, 1)?)),
+        OwnWord::Type => read_type(rest),
+        OwnWord::Watch => Ok(Command::Watch(address(rest, scope)?)),
+        _ if !rest.is_empty() => Err(Wrong::BehindCommand),
+        OwnWord::Forward => Ok(Command::Forward),
+        OwnWord::Jobs => Ok(Command::Jobs),
+        OwnWord::Locks => Ok(Command::Locks),
+        OwnWord::Quit => Ok(Command::Quit),
+        OwnWord::Regs => Ok(Command::Registers),
+        OwnWord::Take => Ok(Command::Take),
+        OwnWord::Waits => Ok(Command::Waits),
     }
 }

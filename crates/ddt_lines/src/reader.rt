@@ -25,6 +25,16 @@ pub fn trimmed(text: &[u8]) -> &[u8] {
     text.trim_ascii()
 }
 
+/// What stands before the first byte of this kind, and what behind it.
+pub fn cut_at(text: &[u8], byte: u8) -> Option<(&[u8], &[u8])> {
+    for (i, one) in text.iter().enumerate() {
+        if *one == byte {
+            return Some((&text[..i], &text[i + 1..]));
+        }
+    }
+    None
+}
+
 impl<'a> Reader<'a> {
     /// Passes blanks.
     pub fn skip(&mut self) {

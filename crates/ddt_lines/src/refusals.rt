@@ -39,29 +39,30 @@ impl Refusal {
     /// What a person is told; nothing of numbers.
     fn text(self) -> &'static str {
         match self {
-            Refusal::NotOpen => "no place is open: a/ opens one",
-            Refusal::NoLock => "a lock is named as in .BREAK LOCK A, or by its code as #17",
-            Refusal::NoWord => "the job has no word there",
-            Refusal::NoJob => "there is no such job: .JOBS lists them",
-            Refusal::NoBreakpointFree => "all 8 breakpoints are set",
-            Refusal::NotSet => "that breakpoint is not set",
-            Refusal::NoWatchFree => "8 words are watched already",
-            Refusal::NotStopped => "no job can be started: the open one is not stopped",
-            Refusal::FewSteps(_) => "so many steps were made: ",
-            Refusal::NeverWritten => "no step has changed that word",
-            Refusal::NeverThere => "the job did not stand there before any step",
-            Refusal::LineFull => "the terminal line has no room for more",
-            Refusal::WrongOrder => "the first place is behind the last",
-            Refusal::NoTurns => "the job has had no turn",
+            Refusal::NotOpen => "? no place is open: a/ opens one",
+            Refusal::NoLock => "? a lock is named as in .BREAK LOCK A, or by its code as #17",
+            Refusal::NoWord => "? the job has no word there",
+            Refusal::NoJob => "? there is no such job: .JOBS lists them",
+            Refusal::NoBreakpointFree => "? all 8 breakpoints are set",
+            Refusal::NotSet => "? that breakpoint is not set",
+            Refusal::NoWatchFree => "? 8 words are watched already",
+            Refusal::NotStopped => "? no job can be started: the open one is not stopped",
+            Refusal::FewSteps(_) => "? so many steps were made: ",
+            Refusal::NeverWritten => "? no step has changed that word",
+            Refusal::NeverThere => "? the job did not stand there before any step",
+            Refusal::LineFull => "? the terminal line has no room for more",
+            Refusal::WrongOrder => "? the first place is behind the last",
+            Refusal::NoTurns => "? the job has had no turn",
         }
     }
 }
 
 impl fmt::Display for Refusal {
     fn fmt<W: fmt::Write>(&self, f: &mut fmt::Formatter<W>) -> fmt::Result {
+        f.write_str(self.text())?;
         match *self {
-            Refusal::FewSteps(steps) => write!(f, "? {}{steps}", self.text()),
-            _ => write!(f, "? {}", self.text()),
+            Refusal::FewSteps(steps) => write!(f, "{steps}"),
+            _ => Ok(()),
         }
     }
 }

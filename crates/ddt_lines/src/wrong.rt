@@ -52,41 +52,46 @@ impl Wrong {
     fn text(self) -> &'static str {
         match self {
             Wrong::Undefined(_) => "",
-            Wrong::NoValue => "a value is wanted",
-            Wrong::NoDecimal => "no number in decimal below 2^40",
-            Wrong::NoOctal => "no number in octal",
-            Wrong::NoEscape => "behind $ no such command",
-            Wrong::NoParenthesis => "a closing parenthesis is wanted",
-            Wrong::Behind => "something stands behind the value",
-            Wrong::LargeAddress => "an address is at most 777777",
-            Wrong::NoCount => "no number in decimal of those that are allowed here",
-            Wrong::NoJob => "a job has a number from 1 to 63",
-            Wrong::NoLine => "a terminal line has a number from 0 to 63",
-            Wrong::NoLock => "a lock is named as in .BREAK LOCK A, or by its code as #17",
-            Wrong::NoFile => "the name of a file is wanted",
-            Wrong::NoCommand => "no such command: .HELP lists them",
-            Wrong::NoBreakpoint => "a breakpoint has a number from 1 to 8",
-            Wrong::NoPlace => "a place is wanted before $",
-            Wrong::NoTimes => "before $ no number, in octal, of those that are allowed here",
-            Wrong::NoMask => "before > a mask behind < is wanted",
-            Wrong::NoRadix => "a radix is from 2 to 16, in decimal",
-            Wrong::BehindCommand => "nothing may stand behind this command",
+            Wrong::NoValue => "? a value is wanted",
+            Wrong::NoDecimal => "? no number in decimal below 2^40",
+            Wrong::NoOctal => "? no number in octal",
+            Wrong::NoEscape => "? behind $ no such command",
+            Wrong::NoParenthesis => "? a closing parenthesis is wanted",
+            Wrong::Behind => "? something stands behind the value",
+            Wrong::LargeAddress => "? an address is at most 777777",
+            Wrong::NoCount => "? no number in decimal of those that are allowed here",
+            Wrong::NoJob => "? a job has a number from 1 to 63",
+            Wrong::NoLine => "? a terminal line has a number from 0 to 63",
+            Wrong::NoLock => "? a lock is named as in .BREAK LOCK A, or by its code as #17",
+            Wrong::NoFile => "? the name of a file is wanted",
+            Wrong::NoCommand => "? no such command: .HELP lists them",
+            Wrong::NoBreakpoint => "? a breakpoint has a number from 1 to 8",
+            Wrong::NoPlace => "? a place is wanted before $",
+            Wrong::NoTimes => "? before $ no number, in octal, of those that are allowed here",
+            Wrong::NoMask => "? before > a mask behind < is wanted",
+            Wrong::NoRadix => "? a radix is from 2 to 16, in decimal",
+            Wrong::BehindCommand => "? nothing may stand behind this command",
         }
     }
 }
 
+/// Writes the name of a symbol that is not defined.
+fn write_undefined<W: fmt::Write>(name: u64, f: &mut fmt::Formatter<W>) -> fmt::Result {
+    f.write_str("U ")?;
+    for place in 0..6u32 {
+        let code = (name >> (30 - 6 * place) & 0o77) as u8;
+        if code != 0 {
+            f.write_char(char::from(code + 0o40))?;
+        }
+    }
+    Ok(())
+}
+
 impl fmt::Display for Wrong {
     fn fmt<W: fmt::Write>(&self, f: &mut fmt::Formatter<W>) -> fmt::Result {
-        let Wrong::Undefined(name) = *self else {
-            return write!(f, "? {}", self.text());
-        };
-        f.write_str("U ")?;
-        for shift in [30u32, 24, 18, 12, 6, 0] {
-            let code = (name >> shift & 0o77) as u8;
-            if code != 0 {
-                f.write_char(char::from(code + 0o40))?;
-            }
+        match *self {
+            Wrong::Undefined(name) => write_undefined(name, f),
+            wrong => f.write_str(wrong.text()),
         }
-        Ok(())
     }
 }

@@ -23,6 +23,16 @@ struct Typed {
     next: usize,
 }
 
+/// How many bytes stand before the first LF.
+fn line_length(text: &[u8]) -> usize {
+    for (i, byte) in text.iter().enumerate() {
+        if *byte == b'\n' {
+            return i;
+        }
+    }
+    text.len()
+}
+
 /// The line that begins at a place, without its LF and a CR before that, and where the next begins;
 /// `None` at the end.
 pub fn line_from(text: &[u8], start: usize) -> Option<(&[u8], usize)> {
@@ -30,13 +40,12 @@ pub fn line_from(text: &[u8], start: usize) -> Option<(&[u8], usize)> {
     if rest.is_empty() {
         return None;
     }
-    let length = rest
-        .iter()
-        .position(|byte| *byte == b'\n')
-        .unwrap_or(rest.len());
-    let line = rest.get(..length)?;
-    let next = start.saturating_add(length).saturating_add(1);
-    Some((line.strip_suffix(b"\r".as_slice()).unwrap_or(line), next))
+    let line = rest.get(..line_length(rest))?;
+    let next = start.saturating_add(line.len()).saturating_add(1);
+    match line {
+        [front @ .., b'\r'] => Some((front, next)),
+        _ => Some((line, next)),
+    }
 }
 
 impl InputLines {
@@ -71,12 +80,12 @@ impl InputLines {
 
     /// Forgets the lines that were typed behind so many entries and were taken back.
     fn forget(&mut self, happened: usize) {
-        let kept = self
-            .typed
-            .as_slice()
-            .iter()
-            .take_while(|typed| typed.happened < happened)
-            .count();
+        let mut kept = 0usize;
+        for typed in self.typed.as_slice() {
+            if typed.happened < happened {
+                kept = kept.saturating_add(1);
+            }
+        }
         self.typed.truncate(kept);
     }
 

@@ -37,8 +37,10 @@ pub fn stands_at_call(
         return Ok(false);
     };
     let snapshot = snapshot_of(machine, number, view.pc);
-    let look = CallLook::of(alloc, machine, number, &snapshot)?;
-    Ok(look.is_some_and(|call| call.is_on(machine, number, name)))
+    match CallLook::of(alloc, machine, number, &snapshot)? {
+        Some(call) => Ok(call.is_on(machine, number, name)),
+        None => Ok(false),
+    }
 }
 
 /// The first job that came to a call on a lock of this name in a round in which a job ran, where the jobs
@@ -63,7 +65,12 @@ fn first_caller(
 
 /// Whether one of some requests is granted and was not granted before, when these others were present.
 fn has_new_grant(before: &[Request], requests: &[Request]) -> bool {
-    (0..requests.len()).any(|place| is_new_grant(before, requests, place))
+    for place in 0..requests.len() {
+        if is_new_grant(before, requests, place) {
+            return true;
+        }
+    }
+    false
 }
 
 impl<'a> LockWatch<'a> {
@@ -114,7 +121,10 @@ impl<'a> LockWatch<'a> {
         let places = places_of(machine);
         let caller = self.caller(machine, &places, ran)?;
         self.places = places;
-        Ok(caller.map(|number| Cause::Call(number)))
+        match caller {
+            Some(number) => Ok(Some(Cause::Call(number))),
+            None => Ok(None),
+        }
     }
 }
 

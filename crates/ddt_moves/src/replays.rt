@@ -30,6 +30,9 @@ impl<'a> Replay<'a> {
         })
     }
 
+    /// Ends it, and gives back the memory that it has.
+    pub fn end(self) {}
+
     /// The machine.
     pub fn machine(&self) -> &Machine {
         &self.machine

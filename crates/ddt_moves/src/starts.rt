@@ -2,6 +2,7 @@
 
 use crate::causes::Cause;
 use crate::stop_lists::StopList;
+use crate::traces::stands_at;
 use ddt_session::{Entry, Timeline};
 use job_sched::Stop;
 use run_machine::Machine;
@@ -45,18 +46,13 @@ pub fn go_on(timeline: &mut Timeline, number: u8) -> Result<(), AllocError> {
     Ok(())
 }
 
-/// The first breakpoint where one of some jobs stands.
-pub fn breakpoint_of(machine: &Machine, list: &StopList, jobs: &[u8]) -> Option<Cause> {
+/// The first breakpoint where its job stands.
+pub fn breakpoint_of(machine: &Machine, list: &StopList) -> Option<Cause> {
     for (i, breakpoint) in list.breakpoints.iter().enumerate() {
         if let Some(breakpoint) = breakpoint {
-            let stands_there = match machine.job(breakpoint.job) {
-                Some(view) => view.pc == breakpoint.place,
-                None => false,
-            };
-            if stands_there && jobs.contains(&breakpoint.job) {
-                let number = i.saturating_add(1);
-                let place = breakpoint.place.number();
-                return Some(Cause::Breakpoint(number, breakpoint.job, place));
+            let (job, place) = (breakpoint.job, breakpoint.place.number());
+            if stands_at(machine, job, place) {
+                return Some(Cause::Breakpoint(i.saturating_add(1), job, place));
             }
         }
     }

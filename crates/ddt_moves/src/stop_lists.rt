@@ -8,7 +8,7 @@ use word36::Address;
 pub const BREAKPOINTS: usize = 8;
 
 /// A place where a job stops.
-#[derive(Clone, Copy, Debug, PartialEq, Eq)]
+#[derive(Clone, Copy)]
 pub struct Breakpoint {
     /// The job.
     pub job: u8,
@@ -17,7 +17,7 @@ pub struct Breakpoint {
 }
 
 /// A word of a job that is watched.
-#[derive(Clone, Copy, Debug, PartialEq, Eq, Default)]
+#[derive(Clone, Copy, PartialEq, Eq, Default)]
 pub struct WatchedWord {
     /// The job.
     pub job: u8,
@@ -59,14 +59,15 @@ impl StopList {
 
     /// The place among the breakpoints of one that stands there already, or of one that is free.
     fn free(&self, job: u8, place: Address) -> Option<usize> {
-        let same = self.breakpoints.iter().position(|one| match one {
-            Some(one) => one.job == job && one.place == place,
-            None => false,
-        });
-        match same {
-            Some(at) => Some(at),
-            None => self.breakpoints.iter().position(|one| one.is_none()),
+        let mut free = None;
+        for (i, slot) in self.breakpoints.iter().enumerate() {
+            match slot {
+                Some(one) if one.job == job && one.place == place => return Some(i),
+                None if free.is_none() => free = Some(i),
+                _ => {}
+            }
         }
+        free
     }
 
     /// Sets a breakpoint of a job: that of a number from 1, or one that is free. Gives its number, if
@@ -96,23 +97,17 @@ impl StopList {
 
     /// Watches a word, or no longer where it is watched: whether it is now. `None` where no more can be.
     pub fn watch(&mut self, word: WatchedWord) -> Option<bool> {
-        match self.words.as_slice().iter().position(|one| *one == word) {
-            Some(place) => {
-                let mut kept = ArrayVec::new();
-                for (i, one) in self.words.as_slice().iter().enumerate() {
-                    if i != place {
-                        let _ = kept.try_push(*one);
-                    }
-                }
-                self.words = kept;
-                Some(false)
-            }
-            None => {
-                if self.words.try_push(word).is_err() {
-                    return None;
-                }
-                Some(true)
+        let mut words = ArrayVec::new();
+        for one in self.words.as_slice() {
+            if *one != word {
+                let _ = words.try_push(*one);
             }
         }
+        let was_watched = words.len() < self.words.len();
+        if !was_watched && words.try_push(word).is_err() {
+            return None;
+        }
+        self.words = words;
+        Some(!was_watched)
     }
 }

@@ -3,13 +3,15 @@
 use crate::replays::Replay;
 use ddt_session::Timeline;
 use run_machine::Machine;
-use std::alloc::AllocError;
+use std::alloc::{AllocError, Global};
 
 /// How many steps were made before the last one, of those made so far, before which a job stood at a
 /// place; `None` where there is none.
 pub fn last_at(timeline: &Timeline, job: u8, place: u32) -> Result<Option<u64>, AllocError> {
     let mut replay = Replay::of(timeline)?;
-    Ok(last_step_at(&mut replay, job, place))
+    let last = last_step_at(&mut replay, job, place);
+    replay.end();
+    Ok(last)
 }
 
 /// The last step of those still to be made once more before which a job stands at a place.
@@ -28,7 +30,7 @@ fn last_step_at(replay: &mut Replay<'_>, job: u8, place: u32) -> Option<u64> {
 }
 
 /// Whether a job stands at a place.
-fn stands_at(machine: &Machine, job: u8, place: u32) -> bool {
+pub(crate) fn stands_at(machine: &Machine, job: u8, place: u32) -> bool {
     match machine.job(job) {
         Some(view) => view.pc.number() == place,
         None => false,
@@ -39,7 +41,9 @@ fn stands_at(machine: &Machine, job: u8, place: u32) -> bool {
 /// `None` where none did.
 pub fn last_write(timeline: &Timeline, job: u8, place: u32) -> Result<Option<u64>, AllocError> {
     let mut replay = Replay::of(timeline)?;
-    Ok(last_step_writing(&mut replay, job, place))
+    let last = last_step_writing(&mut replay, job, place);
+    replay.end();
+    Ok(last)
 }
 
 /// The last step of those still to be made once more that changes a word of a job.
@@ -91,22 +95,23 @@ impl Turns {
 
 /// The last turns of a job, so many at most.
 pub fn last_turns(timeline: &Timeline, job: u8, most: usize) -> Result<Turns, AllocError> {
-    let mut turns = Turns {
-        steps: Vec::new(timeline.alloc()),
-        oldest: 0,
-    };
     let mut replay = Replay::of(timeline)?;
-    keep_turns(&mut replay, job, most, &mut turns)?;
-    Ok(turns)
+    let turns = turns_of(timeline.alloc(), &mut replay, job, most);
+    replay.end();
+    turns
 }
 
-/// Keeps the last turns of a job, so many at most, of the steps still to be made once more.
-fn keep_turns(
+/// The last turns of a job, so many at most, of the steps still to be made once more.
+fn turns_of(
+    alloc: Global,
     replay: &mut Replay<'_>,
     job: u8,
     most: usize,
-    turns: &mut Turns,
-) -> Result<(), AllocError> {
+) -> Result<Turns, AllocError> {
+    let mut turns = Turns {
+        steps: Vec::new(alloc),
+        oldest: 0,
+    };
     for _ in 0..u64::MAX {
         if !replay.go_before_step() {
             break;
@@ -116,5 +121,5 @@ fn keep_turns(
             turns.keep(most, steps)?;
         }
     }
-    Ok(())
+    Ok(turns)
 }

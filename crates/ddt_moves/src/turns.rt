@@ -40,5 +40,7 @@ fn next_turn(replay: &mut Replay<'_>) -> Option<(u8, u32)> {
 pub fn turn_at(timeline: &Timeline, steps: u64) -> Result<Option<(u8, u32)>, AllocError> {
     let mut replay = Replay::of(timeline)?;
     replay.skip_to(steps);
-    Ok(next_turn(&mut replay))
+    let turn = next_turn(&mut replay);
+    replay.end();
+    Ok(turn)
 }

@@ -82,11 +82,8 @@ fn take_of(session: &mut Session<'_>, line: u8) {
 /// `.TAKE`: tells what jobs have typed out.
 pub fn take(session: &mut Session<'_>) {
     let before = session.answer.len();
-    for i in 0..session.jobs.len() {
-        if let Some(job) = session.jobs.as_slice().get(i) {
-            let line = job.line;
-            take_of(session, line);
-        }
+    for line in 0..session.lines() {
+        take_of(session, line);
     }
     if session.answer.len() == before {
         session.say("nothing was typed out\n");

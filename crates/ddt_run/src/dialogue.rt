@@ -58,23 +58,14 @@ pub fn serve_lines<F: Files + AllocGlobal, R: ByteIn + Drop, W: ByteOut + Drop, 
     dialogue: &mut Dialogue<R, W, E>,
 ) -> Result<u8, Failure> {
     for _ in 0..u64::MAX {
-        if !serve_next(rt, session, dialogue)? {
+        let came = dialogue.take_line(session)?;
+        let goes_on = serve_line(rt, session, came, dialogue.line.as_slice());
+        session.answer.write_to(&mut dialogue.output)?;
+        if !goes_on {
             break;
         }
     }
     Ok(DONE)
-}
-
-/// Serves the next line; false where the session ends.
-fn serve_next<F: Files + AllocGlobal, R: ByteIn + Drop, W: ByteOut + Drop, E: ByteOut + Drop>(
-    rt: &F,
-    session: &mut Session<'_>,
-    dialogue: &mut Dialogue<R, W, E>,
-) -> Result<bool, Failure> {
-    let came = dialogue.take_line(session)?;
-    let goes_on = serve_line(rt, session, came, dialogue.line.as_slice());
-    session.answer.write_to(&mut dialogue.output)?;
-    Ok(goes_on)
 }
 
 /// Serves what came; false where the session ends.
@@ -87,17 +78,12 @@ fn serve_line<F: Files + AllocGlobal>(
     match came {
         Came::End => false,
         Came::TooLong => {
-            refuse_length(session);
+            let text = format!(in session.alloc; "? a line has at most {LINE_LENGTH} characters\n");
+            session.say_made(text);
             true
         }
         Came::Line => obey(rt, session, line),
     }
-}
-
-/// Says that a line is too long.
-fn refuse_length(session: &mut Session<'_>) {
-    let text = format!(in session.alloc; "? a line has at most {LINE_LENGTH} characters\n");
-    session.say_made(text);
 }
 
 /// Obeys a line; false where it ends the session.

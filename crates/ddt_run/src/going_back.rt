@@ -5,18 +5,15 @@ use crate::told::say_turn;
 use ddt_lines::Refusal;
 use ddt_moves::{last_at, last_write, turn_at};
 
-/// Says that no more steps were made than that.
-fn refuse_steps(session: &mut Session<'_>) {
-    let made = session.timeline.steps();
-    session.refuse(Refusal::FewSteps(made));
-}
-
 /// Puts the machine where so many steps were made, and shows what the open job executes there.
 fn put_back(session: &mut Session<'_>, steps: u64) {
     session.is_open = false;
     match session.timeline.put_back(steps) {
         Ok(true) => session.show_next(),
-        Ok(false) => refuse_steps(session),
+        Ok(false) => {
+            let made = session.timeline.steps();
+            session.refuse(Refusal::FewSteps(made));
+        }
         Err(_) => session.fail(),
     }
 }
@@ -25,7 +22,7 @@ fn put_back(session: &mut Session<'_>, steps: u64) {
 pub fn back(session: &mut Session<'_>, steps: u64) {
     let made = session.timeline.steps();
     if steps > made {
-        return refuse_steps(session);
+        return session.refuse(Refusal::FewSteps(made));
     }
     put_back(session, made - steps);
 }

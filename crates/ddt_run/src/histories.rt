@@ -45,6 +45,7 @@ fn say_turns_from(session: &mut Session<'_>, steps: u64) {
         Ok(mut replay) => {
             replay.skip_to(steps);
             say_turns(session.alloc, &mut replay, &job.shown, &mut session.answer);
+            replay.end();
         }
         Err(_) => session.answer.fail(),
     }

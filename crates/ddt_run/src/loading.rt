@@ -7,19 +7,14 @@ use ddt_show::ShownJob;
 use monitor::{Answer, RefusedEvent};
 use source_labels::{Assembled, Places, Program, Source, assemble_source, warnings_of};
 use std::alloc::{AllocError, Global};
-use word36::{JOBS, Word};
-
-/// Tells the warnings of a program.
-fn tell_warnings(session: &mut Session<'_>, program: &Program<'_>) {
-    let (image, places) = (&program.image, &program.places);
-    session.say_made(warnings_of(session.alloc, program.file, image, places));
-}
+use word36::Word;
 
 /// Assembles a source. What is wrong with it, or warnings, are told.
 fn assemble<'a>(session: &mut Session<'_>, source: &Source<'a>) -> Option<Program<'a>> {
     match assemble_source(session.alloc, source) {
         Ok(Assembled::Program(program)) => {
-            tell_warnings(session, &program);
+            let (image, places) = (&program.image, &program.places);
+            session.say_made(warnings_of(session.alloc, program.file, image, places));
             Some(program)
         }
         Ok(Assembled::Refused(text)) => {
@@ -59,20 +54,18 @@ fn symbols_of(alloc: Global, places: &Places) -> Result<Vec<Symbol>, AllocError>
 }
 
 /// Adds a job that was logged in.
-fn add_job<'a>(
-    session: &mut Session<'a>,
-    line: u8,
-    file: &'a str,
-    shown: ShownJob,
-) -> Result<(), AllocError> {
-    let symbols = symbols_of(session.alloc, &shown.places)?;
-    session.jobs.push(SessionJob {
+fn add_job<'a>(session: &mut Session<'a>, file: &'a str, shown: ShownJob) {
+    let Ok(symbols) = symbols_of(session.alloc, &shown.places) else {
+        return session.fail();
+    };
+    let job = SessionJob {
         shown,
         file,
-        line,
         symbols,
-    })?;
-    Ok(())
+    };
+    if session.jobs.push(job).is_err() {
+        session.fail();
+    }
 }
 
 /// Why a program is not logged in, which was answered so.
@@ -91,58 +84,47 @@ fn tell_refusal(session: &mut Session<'_>, file: &str, answer: &Answer) {
 }
 
 /// Logs a program in at the next line, and adds its job; false where it is refused, which is told.
-fn log_in<'a>(session: &mut Session<'a>, program: Program<'a>) -> Result<bool, AllocError> {
-    let line = session.jobs.len().min(usize::from(JOBS)) as u8;
+fn log_in<'a>(session: &mut Session<'a>, program: Program<'a>) -> bool {
+    let line = session.lines();
     let Program {
         file,
         image,
         places,
     } = program;
-    match session.timeline.make(Entry::Login(line, image))? {
-        Answer::JobNumber(number) => {
-            add_job(session, line, file, ShownJob { number, places })?;
-            Ok(true)
+    match session.timeline.make(Entry::Login(line, image)) {
+        Ok(Answer::JobNumber(number)) => {
+            add_job(session, file, ShownJob { number, places });
+            true
         }
-        answer => {
+        Ok(answer) => {
             tell_refusal(session, file, &answer);
-            Ok(false)
+            false
+        }
+        Err(_) => {
+            session.fail();
+            false
         }
     }
 }
 
 /// Logs programs in at lines from 0 on, none of which is started; false where one is refused.
-fn log_in_all<'a>(
-    session: &mut Session<'a>,
-    programs: Vec<Program<'a>>,
-) -> Result<bool, AllocError> {
+fn log_in_all<'a>(session: &mut Session<'a>, programs: Vec<Program<'a>>) -> bool {
     for program in programs {
-        if !log_in(session, program)? {
-            return Ok(false);
+        if !log_in(session, program) {
+            return false;
         }
     }
-    session.here = place_of_first(session);
-    Ok(true)
-}
-
-/// Where the first job stands.
-fn place_of_first(session: &Session<'_>) -> u32 {
-    match session.machine().job(1) {
-        Some(view) => view.pc.number(),
-        None => 0,
+    if let Some(view) = session.machine().job(1) {
+        session.here = view.pc.number();
     }
+    true
 }
 
 /// Assembles sources, and logs their programs in where all are right; false where one of them or of the
 /// programs is refused. What is told of that, and warnings, are the answer.
 pub fn begin<'a>(session: &mut Session<'a>, sources: &[Source<'a>]) -> bool {
-    let Some(programs) = assemble_all(session, sources) else {
-        return false;
-    };
-    match log_in_all(session, programs) {
-        Ok(is_right) => is_right,
-        Err(_) => {
-            session.fail();
-            false
-        }
+    match assemble_all(session, sources) {
+        Some(programs) => log_in_all(session, programs),
+        None => false,
     }
 }

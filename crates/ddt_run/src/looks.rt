@@ -36,11 +36,6 @@ pub fn open_addressed(session: &mut Session<'_>) {
     open(session, session.last.right());
 }
 
-/// Shows words so from here on.
-pub fn show_as(session: &mut Session<'_>, look: Look) {
-    session.look = look;
-}
-
 /// Tells the last quantity, shown so.
 fn tell_as(session: &mut Session<'_>, look: Look) {
     if let Some(job) = session.open_job() {

@@ -3,9 +3,7 @@
 use crate::changes::{deposit, start_at, take, tick, type_at};
 use crate::going_back::{back, back_to, back_to_write, forward};
 use crate::histories::tell_history;
-use crate::looks::{
-    examine, open, open_addressed, open_before, open_next, show_as, tell_last, tell_value,
-};
+use crate::looks::{examine, open, open_addressed, open_before, open_next, tell_last, tell_value};
 use crate::runs::{execute, execute_call, go, proceed, step};
 use crate::searches::search;
 use crate::session::Session;
@@ -58,7 +56,7 @@ fn wish_of<'a>(command: &Command<'a>) -> Wish<'a> {
     }
 }
 
-/// Does what a command asks of the session.
+/// Does what a command asks of the session: looks at places, and sets stops.
 fn obey(session: &mut Session<'_>, command: &Command<'_>) {
     match *command {
         Command::Next => open_next(session),
@@ -67,7 +65,7 @@ fn obey(session: &mut Session<'_>, command: &Command<'_>) {
         Command::Open(place) => open(session, place),
         Command::Deposit(word) => deposit(session, word),
         Command::Tell(word) => tell_value(session, word),
-        Command::Show(look) => show_as(session, look),
+        Command::Show(look) => session.look = look,
         Command::Last(last) => tell_last(session, last),
         Command::Examine(first, last) => examine(session, first, last),
         Command::Search(wanted) => search(session, &wanted),
@@ -78,6 +76,13 @@ fn obey(session: &mut Session<'_>, command: &Command<'_>) {
         Command::BreakLock(name) => stop_at_lock(session, name),
         Command::BreakGrant => stop_at_grants(session),
         Command::BreakCircle => stop_at_circles(session),
+        _ => obey_move(session, command),
+    }
+}
+
+/// Does what a command asks of the machine: goes on, and back.
+fn obey_move(session: &mut Session<'_>, command: &Command<'_>) {
+    match *command {
         Command::Go => go(session),
         Command::GoAt(place) => start_at(session, place),
         Command::Proceed(times) => proceed(session, times),
@@ -86,11 +91,18 @@ fn obey(session: &mut Session<'_>, command: &Command<'_>) {
         Command::Step(count) => step(session, count),
         Command::Tick(count) => tick(session, count),
         Command::Type(line, text) => type_at(session, line, text),
-        Command::Take => take(session),
         Command::Back(steps) => back(session, steps),
         Command::BackTo(place) => back_to(session, place),
         Command::BackWrite(place) => back_to_write(session, place),
         Command::Forward => forward(session),
+        _ => obey_question(session, command),
+    }
+}
+
+/// Tells what a command asks for of the jobs.
+fn obey_question(session: &mut Session<'_>, command: &Command<'_>) {
+    match *command {
+        Command::Take => take(session),
         Command::Job(number) => open_job(session, number),
         Command::Jobs => tell_jobs(session),
         Command::Locks => tell_locks(session),
@@ -98,7 +110,7 @@ fn obey(session: &mut Session<'_>, command: &Command<'_>) {
         Command::Registers => tell_registers(session),
         Command::History(count) => tell_history(session, count),
         Command::Help(word) => tell_help(session, word),
-        Command::Remark | Command::Save(_) | Command::Do(_) | Command::Quit => {}
+        _ => {}
     }
 }
 

@@ -35,20 +35,22 @@ pub struct Ports<R: ByteIn + Drop, W: ByteOut + Drop, E: ByteOut + Drop> {
 /// How a line begins that tells of a file which cannot be read.
 const ERROR_HEAD: &str = "ddt: ";
 
-/// Reads all sources, or tells of the first that cannot be read.
+/// Reads all sources; false where one cannot be read, which is told of the first.
 fn read_sources<'a, F: Files + AllocGlobal>(
     rt: &F,
     files: &[&'a str],
     session: &mut Session<'_>,
-) -> Option<Vec<Source<'a>>> {
-    let mut sources = Vec::new(rt.alloc());
+    sources: &mut Vec<Source<'a>>,
+) -> bool {
     for file in files {
-        let text = read_file(rt, ERROR_HEAD, file, &mut session.answer)?;
+        let Some(text) = read_file(rt, ERROR_HEAD, file, &mut session.answer) else {
+            return false;
+        };
         if sources.push(Source { file, text }).is_err() {
             session.fail();
         }
     }
-    Some(sources)
+    true
 }
 
 /// Reads the lines that are typed where a job waits, if a file of them is named; false where it cannot be
@@ -108,13 +110,14 @@ fn load<'a, F: Files + AllocGlobal>(
     asked: &Asked<'a>,
     session: &mut Session<'a>,
 ) -> Option<u8> {
-    match read_sources(rt, asked.files.as_slice(), session) {
-        Some(sources) if read_input(rt, asked, session) => {
-            let is_right = begin(session, sources.as_slice());
-            (!is_right).then_some(REFUSED)
-        }
-        _ => Some(FAILED),
+    let mut sources = Vec::new(session.alloc);
+    if !read_sources(rt, asked.files.as_slice(), session, &mut sources)
+        || !read_input(rt, asked, session)
+    {
+        return Some(FAILED);
     }
+    let is_right = begin(session, sources.as_slice());
+    (!is_right).then_some(REFUSED)
 }
 
 /// Serves a session that has no jobs yet, and gives the exit status. What is told before the first line is

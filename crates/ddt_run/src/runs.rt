@@ -9,7 +9,7 @@ use ddt_moves::{
 };
 use ddt_session::{Stop, some_go_on};
 use std::alloc::AllocError;
-use word36::{Address, JOBS, Word};
+use word36::{Address, Word};
 
 /// The most steps that a run makes of itself.
 const MOST_STEPS: u32 = 1_000_000_000;
@@ -22,12 +22,6 @@ fn stops_for(session: &Session<'_>, own: &[Stop]) -> Result<Stops, AllocError> {
         stops.add(Stop::Input, 0)?;
     }
     Ok(stops)
-}
-
-/// Types the next line of the input; false where none is left.
-fn type_next(session: &mut Session<'_>) -> Result<bool, AllocError> {
-    let lines = session.jobs.len().min(usize::from(JOBS)) as u8;
-    session.input.type_next(&mut session.timeline, lines)
 }
 
 /// Makes steps until a stop holds, no job can go on, or so many are made. Where a job waits for
@@ -63,7 +57,9 @@ fn goes_on(session: &mut Session<'_>, ended: &Ended) -> Result<bool, AllocError>
     if !is_asked || ended.is_cut {
         return Ok(false);
     }
-    Ok(type_next(session)? || some_go_on(session.machine()))
+    let lines = session.lines();
+    let is_typed = session.input.type_next(&mut session.timeline, lines)?;
+    Ok(is_typed || some_go_on(session.machine()))
 }
 
 /// Tells why a run ended, which could make so many steps.
@@ -77,8 +73,7 @@ fn tell_run(session: &mut Session<'_>, ran: Result<Ended, AllocError>, most: u32
 /// Starts the jobs that were not started, or the open one where all were; false where it is not stopped.
 fn start_jobs(session: &mut Session<'_>) -> Result<bool, AllocError> {
     let mut any = false;
-    for number in 1..session.jobs.len().saturating_add(1) {
-        let number = number.min(usize::from(JOBS)) as u8;
+    for number in 1..session.lines().saturating_add(1) {
         if is_loaded(session.machine(), number) {
             start(&mut session.timeline, number)?;
             any = true;
@@ -103,40 +98,32 @@ pub fn go(session: &mut Session<'_>) {
 /// Runs where jobs were started just now: one that stands where runs stop stops the run before it begins.
 pub fn run_from_start(session: &mut Session<'_>) {
     match cause_at_start(session) {
-        Ok(Some(cause)) => stop_at_once(session, cause),
+        Ok(Some(cause)) => {
+            let ended = Ended::at_once(&session.timeline, Some(cause));
+            tell_end(session, &ended, MOST_STEPS);
+        }
         Ok(None) => proceed(session, 1),
         Err(_) => session.fail(),
     }
 }
 
-/// A run that ends before it begins.
-fn stop_at_once(session: &mut Session<'_>, cause: Cause) {
-    let ended = Ended::at_once(&session.timeline, Some(cause));
-    tell_end(session, &ended, MOST_STEPS);
-}
-
 /// Why no step is made where jobs were started just now: one stands at a breakpoint, or before a call on
 /// the lock at which runs stop.
 fn cause_at_start(session: &Session<'_>) -> Result<Option<Cause>, AllocError> {
-    let mut numbers = Vec::new(session.alloc);
-    for job in session.jobs.as_slice() {
-        numbers.push(job.shown.number)?;
+    match breakpoint_of(session.machine(), &session.list) {
+        Some(cause) => Ok(Some(cause)),
+        None => call_of(session),
     }
-    let breakpoint = breakpoint_of(session.machine(), &session.list, numbers.as_slice());
-    if breakpoint.is_some() {
-        return Ok(breakpoint);
-    }
-    call_of(session, numbers.as_slice())
 }
 
-/// The first of some jobs that stands before a call on the lock at which runs stop.
-fn call_of(session: &Session<'_>, numbers: &[u8]) -> Result<Option<Cause>, AllocError> {
+/// The first job that stands before a call on the lock at which runs stop.
+fn call_of(session: &Session<'_>) -> Result<Option<Cause>, AllocError> {
     let Some(name) = &session.list.lock else {
         return Ok(None);
     };
-    for number in numbers {
-        if stands_at_call(session.alloc, session.machine(), *number, name)? {
-            return Ok(Some(Cause::Call(*number)));
+    for number in 1..session.lines().saturating_add(1) {
+        if stands_at_call(session.alloc, session.machine(), number, name)? {
+            return Ok(Some(Cause::Call(number)));
         }
     }
     Ok(None)

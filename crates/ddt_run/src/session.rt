@@ -18,8 +18,6 @@ pub struct SessionJob<'a> {
     pub shown: ShownJob,
     /// The name of its source's file.
     pub file: &'a str,
-    /// Its terminal line.
-    pub line: u8,
     /// Its labels.
     pub symbols: Vec<Symbol>,
 }
@@ -31,7 +29,7 @@ pub struct Session<'a> {
     pub alloc: Global,
     /// The machine, with all that has happened to it.
     pub timeline: Timeline,
-    /// The jobs, by number from 1 on.
+    /// The jobs, by number from 1 on, each at the terminal line behind that of the one before.
     pub jobs: Vec<SessionJob<'a>>,
     /// The number of the job that is open.
     pub open: u8,
@@ -122,6 +120,11 @@ impl Session<'_> {
         self.timeline.machine()
     }
 
+    /// How many terminal lines have jobs: line 0 job 1, line 1 job 2, and so on.
+    pub fn lines(&self) -> u8 {
+        self.jobs.len().min(usize::from(JOBS)) as u8
+    }
+
     /// The job of a number.
     fn job(&self, number: u8) -> Option<&SessionJob<'_>> {
         self.jobs
@@ -153,33 +156,25 @@ impl Session<'_> {
         }
     }
 
-    /// A place of a job: `LOOP+3`.
-    fn spot(&self, job: u8, place: u32) -> Result<String, AllocError> {
-        match self.job(job) {
+    /// Adds a place of a job: `LOOP+3`.
+    pub fn say_spot(&mut self, job: u8, place: u32) {
+        let text = match self.job(job) {
             Some(job) => place_text(self.alloc, &job.shown, place),
             None => format!(in self.alloc; "{place:o}"),
-        }
+        };
+        self.say_made(text);
     }
 
-    /// Adds a place of a job.
-    pub fn say_spot(&mut self, job: u8, place: u32) {
-        self.say_made(self.spot(job, place));
-    }
-
-    /// Adds a place of the open job and its word, as words are shown, without the end of the line.
-    fn say_place(&mut self, place: u32, word: Word) {
-        if let Some(job) = self.open_job() {
-            let line = place_line(self.alloc, &job.shown, place, word, self.look);
-            self.say_made(line);
-        }
-    }
-
-    /// Adds the line of a place of the open job; false where it has no word there.
+    /// Adds the line of a place of the open job and its word, as words are shown; false where it has no
+    /// word there.
     pub fn show_place(&mut self, place: u32) -> bool {
         let Some(word) = self.machine().peek(self.open, place) else {
             return false;
         };
-        self.say_place(place, word);
+        if let Some(job) = self.open_job() {
+            let line = place_line(self.alloc, &job.shown, place, word, self.look);
+            self.say_made(line);
+        }
         self.say("\n");
         self.last = word;
         true
@@ -213,8 +208,8 @@ impl Session<'_> {
 
     /// Adds the lines on how all jobs stand.
     pub fn tell_jobs(&mut self) {
-        for number in 1..self.jobs.len().saturating_add(1) {
-            self.tell_job(number.min(usize::from(JOBS)) as u8);
+        for number in 1..self.lines().saturating_add(1) {
+            self.tell_job(number);
         }
     }
 

@@ -56,12 +56,6 @@ fn tell_change(session: &mut Session<'_>, job: u8, place: u32, was: Option<Word>
     session.show_next();
 }
 
-/// Jobs wait in a circle.
-fn tell_circle(session: &mut Session<'_>) {
-    session.say("jobs wait in a circle\n");
-    tell_waits(session);
-}
-
 /// A job is before a call on the lock that is looked at, and is open from here on.
 fn tell_call(session: &mut Session<'_>, job: u8) {
     session.open = job;
@@ -69,22 +63,10 @@ fn tell_call(session: &mut Session<'_>, job: u8) {
     session.show_next();
 }
 
-/// Requests were granted.
-fn tell_grants(session: &mut Session<'_>, grants: &str) {
-    session.say(grants);
-    session.show_next();
-}
-
 /// As many steps were made as a run may have.
 fn tell_cut(session: &mut Session<'_>, most: u32) {
     session.say_made(format!(in session.alloc; "{most} steps were made: $P goes on\n"));
     session.show_next();
-}
-
-/// No job goes on.
-fn tell_rest(session: &mut Session<'_>) {
-    session.say("no job goes on\n");
-    session.tell_jobs();
 }
 
 /// Says why a run ended, which could make so many steps.
@@ -95,12 +77,21 @@ fn tell_cause(session: &mut Session<'_>, ended: &Ended, most: u32) {
     match cause {
         Some(Cause::Breakpoint(number, job, place)) => tell_breakpoint(session, number, job, place),
         Some(Cause::Word(job, place, was)) => tell_change(session, job, place, was),
-        Some(Cause::Circle) => tell_circle(session),
+        Some(Cause::Circle) => {
+            session.say("jobs wait in a circle\n");
+            tell_waits(session);
+        }
         Some(Cause::Call(job)) => tell_call(session, job),
-        Some(Cause::Grant) => tell_grants(session, ended.grants.as_str()),
+        Some(Cause::Grant) => {
+            session.say(ended.grants.as_str());
+            session.show_next();
+        }
         Some(Cause::Own | Cause::Input) => session.show_next(),
         None if ended.is_cut => tell_cut(session, most),
-        None => tell_rest(session),
+        None => {
+            session.say("no job goes on\n");
+            session.tell_jobs();
+        }
     }
 }
 
@@ -108,11 +99,6 @@ fn tell_cause(session: &mut Session<'_>, ended: &Ended, most: u32) {
 pub fn tell_end(session: &mut Session<'_>, ended: &Ended, most: u32) {
     session.is_open = false;
     tell_cause(session, ended, most);
-    tell_edited(session);
-}
-
-/// Says that words were deposited, if any were.
-fn tell_edited(session: &mut Session<'_>) {
     if session.is_edited() {
         session.say("edited: words were deposited\n");
     }

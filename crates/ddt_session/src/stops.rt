@@ -183,8 +183,14 @@ fn is_met(machine: &Machine, ran: Option<u8>, stop: &Stop, stood: bool) -> bool
         }
         Stop::Turn(job) => ran == Some(job),
         Stop::Word(job, place, word) => !is_word(machine.peek(job, place), word),
-        Stop::Circle => ran.is_some_and(|job| waits_in_circle(machine, job)),
-        Stop::Input => ran.is_some_and(|job| waits_for_input(machine, job)),
+        Stop::Circle => match ran {
+            Some(job) => waits_in_circle(machine, job),
+            None => false,
+        },
+        Stop::Input => match ran {
+            Some(job) => waits_for_input(machine, job),
+            None => false,
+        },
     }
 }
 
@@ -216,21 +222,20 @@ fn goes_on(machine: &Machine, number: u8) -> bool {
 /// Whether any job can.
 #[inline(never)]
 pub fn some_go_on(machine: &Machine) -> bool {
-    (1..JOBS + 1).any(|number| goes_on(machine, number))
+    for number in 1..JOBS + 1 {
+        if goes_on(machine, number) {
+            return true;
+        }
+    }
+    false
 }
 
 /// Whether the job that ran can go on at once.
 #[inline(always)]
 fn runs_on(machine: &Machine, ran: Option<u8>) -> bool {
-    match ran {
-        Some(number) => computes(machine, number),
-        None => false,
-    }
-}
-
-/// Whether a job can go on at once.
-#[inline(always)]
-fn computes(machine: &Machine, number: u8) -> bool {
+    let Some(number) = ran else {
+        return false;
+    };
     match machine.job(number) {
         Some(view) => view.stop.is_none() && matches!(view.wait, Wait::None),
         None => false,

@@ -134,7 +134,7 @@ impl Timeline {
     /// How many steps were made.
     pub fn steps(&self) -> u64 {
         let mut steps = u64::from(self.part);
-        for entry in self.entries.as_slice().iter().take(self.whole) {
+        for entry in self.entries() {
             steps = steps.saturating_add(u64::from(steps_of(entry)));
         }
         steps
@@ -143,7 +143,7 @@ impl Timeline {
     /// How many ticks went by.
     pub fn ticks(&self) -> u64 {
         let mut ticks = u64::from(self.part);
-        for entry in self.entries.as_slice().iter().take(self.whole) {
+        for entry in self.entries() {
             ticks = ticks.saturating_add(u64::from(ticks_of(entry)));
         }
         ticks
@@ -225,17 +225,25 @@ impl Timeline {
         Ok(ran)
     }
 
+    /// A second machine, to which so many whole entries have happened, and so many steps more.
+    #[tactic(auto, using(crate::proofs::RunLemmas::replayed))]
+    fn replayed(&self, whole: usize, part: u32) -> Result<Machine, AllocError>
+        requires { whole ≤ length self.now.entries.items }
+        ensures { IfOk result (λ machine. machine ≡ reached self.now.entries.items whole part (at_boot MOST_REQUESTS self.now.config.blocks self.now.config.quantum)) }
+    {
+        let mut machine = Machine::boot(self.alloc, self.config)?;
+        play(&mut machine, beginning(&self.entries, whole));
+        machine.steps(part, true);
+        Ok(machine)
+    }
+
     /// Puts the machine where so many whole entries have happened, and so many steps more.
     fn go_to(&mut self, whole: usize, part: u32) -> Result<(), AllocError>
         requires { whole ≤ length self.old.entries.items }
         ensures entries { self.new.entries.items ≡ self.old.entries.items }
         ensures there { OnOk result ((self.new.whole ≡ whole) × (self.new.part ≡ part)) }
     {
-        let mut machine = Machine::boot(self.alloc, self.config)?;
-        let entries = beginning(&self.entries, whole);
-        play(&mut machine, entries);
-        machine.steps(part, true);
-        self.machine = machine;
+        self.machine = self.replayed(whole, part)?;
         self.whole = whole;
         self.part = part;
         Ok(())

@@ -11,7 +11,7 @@ use word36::Word;
 
 /// A word as it is shown: as an instruction with labels, in octal, as text, as two halves, or as a signed
 /// number of a radix.
-#[derive(Clone, Copy, Debug)]
+#[derive(Clone, Copy)]
 pub struct WordText<'a> {
     /// Where the labels and the literals of the program stand.
     pub places: &'a Places,
