@@ -52,7 +52,6 @@ impl<const REQS: usize> Table<REQS> {
     }
 
     /// A job gives up the wants of named keys.
-    #[inline(always)]
     pub fn dequeue_named(&mut self, job: u8, named: &Wants) -> LockReply
         requires { IsRight REQS self.old }
         ensures whole { IsRight REQS self.new }

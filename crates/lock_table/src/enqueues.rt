@@ -87,7 +87,6 @@ impl<const REQS: usize> Table<REQS> {
     }
 
     /// A job asks for locks. Where they are granted at once, it need not be told by an interrupt any more.
-    #[inline(always)]
     pub fn enqueue(&mut self, job: u8, asking: &Asking, wants: &Wants) -> LockReply
         requires whole { IsRight REQS self.old }
         requires job { (1 ≤ job) × (job ≤ JOBS) }

@@ -149,7 +149,6 @@ impl<const REQS: usize> Table<REQS> {
 
     /// A request gives up its k-th want, and what that lets in is counted; or the lock is closed, where no
     /// want is left in its queue. All that leaves does so by this.
-    #[inline(always)]
     pub fn depart(&mut self, p: u16, k: usize)
         requires table { IsTable (state self.old) }
         requires present { is_there p self.old.store.order ≡ true }
