@@ -229,7 +229,8 @@ impl Timeline {
     #[tactic(auto, using(crate::proofs::RunLemmas::replayed))]
     fn replayed(&self, whole: usize, part: u32) -> Result<Machine, AllocError>
         requires { whole ≤ length self.now.entries.items }
-        ensures { IfOk result (λ machine. machine ≡ reached self.now.entries.items whole part (at_boot MOST_REQUESTS self.now.config.blocks self.now.config.quantum)) }
+        ensures { IfOk result (λ machine. machine
+            ≡ reached self.now.entries.items whole part (at_boot MOST_REQUESTS self.now.config.blocks self.now.config.quantum)) }
     {
         let mut machine = Machine::boot(self.alloc, self.config)?;
         play(&mut machine, beginning(&self.entries, whole));

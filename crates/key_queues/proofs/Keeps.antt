@@ -8,7 +8,8 @@ use Rattle.word36.specs.declared.sizes.TheConstants.{JOBS, MOST_REQUESTS}
 use Rattle.key_queues.specs.declared.filed.Filed.{Filed}
 use Rattle.key_queues.specs.Filing.{unused_filed}
 use Rattle.key_queues.specs.Shelves.{slot, is_filled, with_slot}
-use Rattle.key_queues.specs.Stores.{one_if, is_there, StandsOnce, without_place, Stored, filed_at, with_filed, filed_or, job_at}
+use Rattle.key_queues.specs.Stores.{one_if, without_place, Stored, filed_at, with_filed, filed_or, job_at}
+use Rattle.key_queues.specs.Tables.{is_there, StandsOnce}
 use Rattle.key_queues.specs.Stores.{list_of, IsStored, blocked_at, blocked_of, is_blocked, places_of, number_of, recounted}
 use Rattle.key_queues.proofs.Orders.{there_filter, filter_passes, count_changed, count_last, count_without, there_last, stands_filter}
 use Rattle.key_queues.proofs.Orders.{filter_last, filter_same, filter_short, filter_there, stands_last, without_other, without_gone}

@@ -9,7 +9,8 @@ use Rattle.std.proofs.lemmas.List.Folds.{list_any-append}
 use Rattle.std.proofs.lemmas.List.Elements.{filter-append}
 use Rattle.lock_queue.proofs.Lists.{Sub-length, Sub-filter}
 use Rattle.std.proofs.lemmas.Grind.{common_steps}
-use Rattle.key_queues.specs.Stores.{one_if, is_there, StandsOnce, without_place}
+use Rattle.key_queues.specs.Stores.{one_if, without_place}
+use Rattle.key_queues.specs.Tables.{is_there, StandsOnce}
 
 -- one more place at the end
 pub there_last : (q p : ℕ) (xs : List ℕ) → is_there q (xs ++ p ∷ []) ≡ (is_there q xs || (p == q))

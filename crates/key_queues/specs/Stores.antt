@@ -6,17 +6,8 @@ use Rattle.word36.specs.declared.sizes.TheConstants.{JOBS, MOST_REQUESTS}
 use Rattle.lock_queue.specs.Jobs.{is_blocking}
 use Rattle.key_queues.specs.declared.filed.Filed.{Filed}
 use Rattle.key_queues.specs.Filing.{unused_filed}
+use Rattle.key_queues.specs.Tables.{is_there, StandsOnce}
 use Rattle.key_queues.specs.Shelves.{slot, is_filled}
-
--- whether a place is among some
-abbrev pub is_there : ℕ → List ℕ → Bool
-is_there p places = list_any (λ x. x == p) places
-
--- each place stands in a list once
-abbrev pub StandsOnce : List ℕ → Type 0
-StandsOnce order =
-    (before after : List ℕ) (p : ℕ) → order ≡ before ++ p ∷ after
-    → (is_there p before ≡ false) × (is_there p after ≡ false)
 
 -- a list without the first that is the place
 abbrev pub without_place : List ℕ → ℕ → List ℕ

@@ -2,7 +2,8 @@
 ghost use Rattle.std.specs.Prelude.{ℕ, ◌≡◌, ◌==◌, ◌<◌, ◌≤◌, ◌+◌, ◌-◌, [], ◌∷◌, ◌++◌, length, slice_set, take, IfOk};
 ghost use Rattle.std.specs.List.{position_or_len, remove};
 ghost use Rattle.word36.specs.declared.sizes.TheConstants.{MOST_REQUESTS};
-ghost use Rattle.key_queues.specs.Stores.{StandsOnce, is_there, list_of, number_of, recounted, without_place};
+ghost use Rattle.key_queues.specs.Stores.{list_of, number_of, recounted, without_place};
+ghost use Rattle.key_queues.specs.Tables.{StandsOnce, is_there};
 
 use std::alloc::{AllocError, Global};
 use std::marker::Model;

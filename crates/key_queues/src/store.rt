@@ -2,7 +2,8 @@
 ghost use Rattle.std.specs.Prelude.{ℕ, ◌≡◌, ◌<◌, ◌≤◌, [], length, true, false, IfOk};
 ghost use Rattle.word36.specs.declared.sizes.TheConstants.{JOBS, LOCKS_A_CALL};
 ghost use Rattle.key_queues.specs.Filing.{arrived, unused_filed, with_granted, with_more, with_told, with_want, without_want};
-ghost use Rattle.key_queues.specs.Stores.{StandsOnce, blocked_of, filed_at, inserted, is_there, places_of, removed, with_filed};
+ghost use Rattle.key_queues.specs.Stores.{blocked_of, filed_at, inserted, places_of, removed, with_filed};
+ghost use Rattle.key_queues.specs.Tables.{StandsOnce, is_there};
 
 use crate::filed::{Filed, is_blocking, take_out};
 use crate::places::{Places, no_counts, no_lists, recount};

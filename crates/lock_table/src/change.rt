@@ -15,8 +15,9 @@ ghost use Rattle.lock_table.specs.Tables.{AreTurned, IsRight, requests};
 ghost use Rattle.lock_table.specs.Changing.{Altered, AreSound, IsAltering, IsBetween, IsChanged, IsExtending, IsFreeAt};
 ghost use Rattle.lock_table.specs.Changing.{IsFullBut, IsSound, SparesPools, altered_at, changed_by, loses_by, want_then};
 
+use crate::queues::want_filed;
 use crate::refusals::refusal_of_modify;
-use crate::steps::{place_of, want_filed};
+use crate::steps::place_of;
 use crate::table::Table;
 use key_queues::{Keys, Queue, Store, index_of};
 use lock_queue::steps::changed_group;

@@ -5,7 +5,8 @@ ghost use Rattle.word36.specs.declared.sizes.TheConstants.{JOBS};
 ghost use Rattle.key_queues.specs.Locks.{lock_at};
 ghost use Rattle.key_queues.specs.States.{IsTable, is_open};
 ghost use Rattle.key_queues.specs.Tables.{places_at};
-ghost use Rattle.key_queues.specs.Stores.{Stored, filed_at, is_there};
+ghost use Rattle.key_queues.specs.Stores.{Stored, filed_at};
+ghost use Rattle.key_queues.specs.Tables.{is_there};
 ghost use Rattle.lock_table.specs.Filing.{state_of, want_filed};
 ghost use Rattle.lock_table.specs.Reads.{request_at};
 

@@ -10,7 +10,7 @@ ghost use Rattle.lock_queue.specs.Dequeues.{dequeue_fault};
 ghost use Rattle.lock_queue.specs.Enqueues.{enqueue_fault, enqueue_refusal, some_too_low};
 ghost use Rattle.lock_queue.specs.Outcomes.{first_refusal};
 ghost use Rattle.lock_queue.specs.Queue.{all_wants, is_pooled, names, requests_of, wants_at, wants_of};
-ghost use Rattle.key_queues.specs.Stores.{is_there};
+ghost use Rattle.key_queues.specs.Tables.{is_there};
 ghost use Rattle.lock_table.specs.Arrivals.{AreFound};
 ghost use Rattle.lock_table.specs.Filing.{state_of};
 ghost use Rattle.lock_table.specs.Reads.{requests_at, stands_of};

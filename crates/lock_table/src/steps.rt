@@ -12,9 +12,10 @@ ghost use Rattle.lock_table.specs.Reads.{request_at};
 ghost use Rattle.lock_table.specs.Tables.{AreTurned, state};
 ghost use Rattle.lock_table.specs.Turns.{Turned};
 
+use crate::queues::want_filed;
 use crate::table::Table;
 use crate::turns::Turns;
-use key_queues::{Keys, Store, want_in};
+use key_queues::{Keys, Store};
 use lock_queue::Want;
 
 /// The first of some places whose request is a job's.
@@ -28,16 +29,6 @@ pub fn place_of<const REQS: usize>(store: &Store<REQS>, places: &[u16], job: u8)
         }
     }
     None
-}
-
-/// The want of a place that stands in a queue.
-pub fn want_filed<const REQS: usize>(store: &Store<REQS>, p: u16, n: u16) -> &Want
-    requires present { is_there p store.now.order ≡ true }
-    requires within { position_or_len (λ m. m == n) (filed_at store.now p).queues.items < length (request_at store.now p).wants.items }
-    ensures { result.now ≡ want_filed store.now p n }
-{
-    let f = store.get(p);
-    want_in(f.queues.as_slice(), f.request.wants.as_slice(), n)
 }
 
 /// Sets the flag of a request right: where it is granted, it stays so.

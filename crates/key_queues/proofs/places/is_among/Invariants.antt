@@ -1,5 +1,5 @@
 use Rattle.std.proofs.Common.{◌≡◌, take}
-use Rattle.key_queues.specs.Stores.{is_there}
+use Rattle.key_queues.specs.Tables.{is_there}
 use Rattle.key_queues.proofs.places.is_among.Given as goal
 
 abbrev pub invariant-loop-x : goal.invariant-loop-x

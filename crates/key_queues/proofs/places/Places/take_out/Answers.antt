@@ -1,5 +1,6 @@
 use Rattle.std.proofs.Common.{◌≡◌, ◌+◌, ◌-◌, ◌∙◌, sym, ap, subst, arith, get_or, length, vec_len}
-use Rattle.key_queues.specs.Stores.{StandsOnce, without_place}
+use Rattle.key_queues.specs.Stores.{without_place}
+use Rattle.key_queues.specs.Tables.{StandsOnce}
 use Rattle.key_queues.proofs.Orders.{without_last}
 use Rattle.key_queues.proofs.places.Places.take_out.Goals as goal
 
