@@ -126,7 +126,7 @@ fn lock_name(job: u8, text: &[u8]) -> Option<Name> {
     let mut room = CallRoom::new();
     match room.keys(job, Parts::of(text, b' ')) {
         Some(Ok(wants)) => match wants.as_slice() {
-            [want] => Some(want.key.name.copied()),
+            [want] => Some(want.key.name),
             _ => None,
         },
         _ => None,

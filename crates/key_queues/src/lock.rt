@@ -48,7 +48,7 @@ impl Lock {
     pub(crate) fn begin(&mut self, p: u16, w: &Want)
         ensures { self.new ≡ record (fresh_lock w.now) { queue = appended no_queue p w.now } }
     {
-        self.key = w.key.copied();
+        self.key = w.key;
         self.size = match &w.pool {
             Some(pool) => Some(pool.size()),
             None => None,

@@ -170,7 +170,7 @@ impl<const REQS: usize> Store<REQS> {
         ensures within { p < length self.old.filed }
     {
         let filed = self.shelf.get_mut(p);
-        filed.request.wants.push(w.copied());
+        filed.request.wants.push(*w);
         filed.queues.push(n);
     }
 
@@ -196,6 +196,6 @@ impl<const REQS: usize> Store<REQS> {
         ensures value { self.new ≡ with_filed self.old p (with_want (filed_at self.old p) k w.now) }
         ensures within { p < length self.old.filed }
     {
-        self.shelf.get_mut(p).request.wants[k] = w.copied();
+        self.shelf.get_mut(p).request.wants[k] = *w;
     }
 }

@@ -40,7 +40,7 @@ impl Hold {
     {
         Hold {
             job,
-            key: want.key.copied(),
+            key: want.key,
             shared: want.shared,
             group: want.group,
             amount: amount_of(want),
@@ -66,7 +66,7 @@ impl Hold {
     {
         Hold {
             job: self.job,
-            key: self.key.copied(),
+            key: self.key,
             shared: self.shared,
             group: self.group,
             amount: self.amount,

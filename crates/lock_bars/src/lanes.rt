@@ -43,7 +43,7 @@ fn push_lanes_of(
         let label = format!(in alloc; "{name}")?;
         lanes.push(Lane {
             job,
-            key: bar.hold.key.copied(),
+            key: bar.hold.key,
             label,
         })?;
     }

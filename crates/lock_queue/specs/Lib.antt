@@ -1,5 +1,6 @@
 pub mod Keys
 pub mod Names
+pub mod GivenBack
 pub mod Pools
 pub mod Refusals
 pub mod Uses

@@ -14,7 +14,7 @@ pub enum Scope {
 }
 
 /// What is locked: a name within a scope.
-#[derive(Drop, PartialEq, Eq)]
+#[derive(Clone, Copy, PartialEq, Eq)]
 pub struct Key {
     /// Among whom the name is told apart.
     pub scope: Scope,
@@ -28,15 +28,5 @@ impl Key {
         ensures { result ≡ same_key self.now other.now }
     {
         self == other
-    }
-
-    /// A copy of the key.
-    pub fn copied(&self) -> Key
-        ensures { result ≡ self.now }
-    {
-        Key {
-            scope: self.scope,
-            name: self.name.copied(),
-        }
     }
 }

@@ -63,13 +63,13 @@ fn changed_want(changes: &[Want], w: &Want) -> Want
 {
     for c in changes {
         if w.key == c.key {
-            let mut changed = w.copied();
+            let mut changed = *w;
             changed.group = changed_group(c.shared, w);
             changed.shared = c.shared;
             return changed;
         }
     }
-    w.copied()
+    *w
 }
 
 /// The wants, each shared or exclusive as the change of its key says, if there is one.

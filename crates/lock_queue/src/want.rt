@@ -101,7 +101,7 @@ impl Group {
 }
 
 /// One lock of a request.
-#[derive(Drop)]
+#[derive(Clone, Copy)]
 pub struct Want {
     /// What is locked.
     pub key: Key,
@@ -131,12 +131,9 @@ impl Want {
             None => None,
         };
         Want {
-            key: self.key.copied(),
-            shared: self.shared,
-            group: self.group,
-            bypass: self.bypass,
             level: self.level.copied(),
             pool,
+            ..*self
         }
     }
 }

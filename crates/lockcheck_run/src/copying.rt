@@ -8,7 +8,7 @@ fn copied_wants(wants: &Wants) -> Wants
 {
     let mut copy = Wants::new();
     for want in wants.as_slice() {
-        copy.push(want.copied());
+        copy.push(*want);
     }
     copy
 }

@@ -54,7 +54,7 @@ fn row_of<'r>(
         Some(place) => place,
         None => {
             rows.push(LockRow {
-                key: key.copied(),
+                key: *key,
                 requests: 0,
                 waited: 0,
                 longest: 0,

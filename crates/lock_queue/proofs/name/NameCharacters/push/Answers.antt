@@ -5,7 +5,7 @@ use Rattle.lock_queue.proofs.name.NameCharacters.push.Goals as goal
 
 pub invariant_of-self : goal.invariant_of-self
 invariant_of-self c =
-    let n = c.self.inside.length in
+    let n = c.self.inside.len in
     let bytes = c.self.inside.bytes in
     let all : length bytes ≡ 32 = c.self.told in
     let count = length-take-le n bytes (omega (arith, c.self.invariant.0, all)) in
