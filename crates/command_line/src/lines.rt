@@ -9,6 +9,10 @@ use std::marker::Model;
 /// So many bytes are kept before finished lines are dropped.
 const KEPT: usize = 65536;
 
+/// Room for so many is taken at first: for those that are kept and the next that are read, so that it need not
+/// grow while a script runs.
+const ROOM: usize = KEPT + KEPT / 2;
+
 /// So many bytes are looked at together for line feeds: few enough that their number fits a byte, so
 /// that many are counted in one step.
 const COUNTED: usize = 128;
@@ -46,13 +50,17 @@ impl Model for Lines {
 }
 
 impl Lines {
-    /// No line.
+    /// No line. Where there is no memory for them at first, it is asked for again when lines come.
     pub fn new(alloc: Global, language: Language) -> Self
         ensures { result ≡ [] }
     {
+        let bytes = match Vec::with_capacity(alloc, ROOM) {
+            Ok(bytes) => bytes,
+            Err(_) => Vec::new(alloc),
+        };
         Lines {
             language,
-            bytes: Vec::new(alloc),
+            bytes,
             dropped: 0,
             limit: KEPT,
             is_lost: false,

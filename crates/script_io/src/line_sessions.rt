@@ -121,13 +121,8 @@ impl<S: LineService + Drop> LineSession<S> {
             ≡ after out.new.items (⟦<LineSession<S> as Session>⟧.follow self.new more)) }
     {
         self.number += 1;
-        let told = self
-            .service
-            .take_line(self.number, without_return(line), out)?;
-        if let Some(ending) = told {
-            self.ending = Some(ending);
-        }
-        Ok(())
+        let line = without_return(line);
+        hand_over(&mut self.service, self.number, line, out, &mut self.ending)
     }
 
     /// The line that was kept is whole.
@@ -142,11 +137,8 @@ impl<S: LineService + Drop> LineSession<S> {
         self.number += 1;
         let buffer = &self.line;
         let line = without_return(buffer.bytes.as_slice());
-        let told = self.service.take_line(self.number, line, out)?;
+        hand_over(&mut self.service, self.number, line, out, &mut self.ending)?;
         self.line.clear();
-        if let Some(ending) = told {
-            self.ending = Some(ending);
-        }
         Ok(())
     }
 
@@ -245,17 +237,37 @@ impl<S: LineService + Drop> Session for LineSession<S> {
         }
         self.number += 1;
         let buffer = &self.line;
-        match self
-            .service
-            .take_line(self.number, buffer.bytes.as_slice(), out)
-        {
-            Ok(None) => self.service.end_lines(self.number, out),
-            Ok(Some(ending)) => Ok(ending),
-            Err(error) => Err(error),
+        let line = buffer.bytes.as_slice();
+        hand_over(&mut self.service, self.number, line, out, &mut self.ending)?;
+        match self.ending {
+            None => self.service.end_lines(self.number, out),
+            Some(ending) => Ok(ending),
         }
     }
 
     ghost ends = { λ s a b h. unless_ended-same s.ending _ _ h };
+}
+
+/// A service takes the line of this number, and how the script ends is noted, where it ends there. What a
+/// service answers to a line is read here alone, so that it need not pass through memory.
+#[inline(never)]
+fn hand_over<S: LineService>(
+    service: &mut S,
+    number: u128,
+    line: &[u8],
+    out: &mut Vec<u8>,
+    ending: &mut Option<S::Ending>,
+) -> Result<(), AllocError>
+    requires number { 0 < number }
+    requires goes_on { ending.old ≡ None }
+    ensures { OnOk result ((more : List (List ℕ)) →
+        after out.old.items (S.follow_lines service.old (number - 1) (line.now ∷ more))
+        ≡ after out.new.items (unless_ended ending.new (S.follow_lines service.new number more))) }
+{
+    if let Some(told) = service.take_line(number, line, out)? {
+        *ending = Some(told);
+    }
+    Ok(())
 }
 
 /// The place of the first LF.
