@@ -6,3 +6,4 @@ pub mod ShownLemmas
 pub mod Asking
 pub mod PairLemmas
 pub mod LongLines
+pub mod AsciiLines

@@ -11,7 +11,7 @@ use crate::call_room::CallRoom;
 use crate::locks::read_lock;
 use crate::options::MOST_HALF;
 use lock_queue::{EnqueueKind, LockCall, Refusal, RequestId, Wants};
-use script_io::{Parts, is_allowed, is_silent};
+use script_io::{LINE_LENGTH, Parts, is_allowed, is_silent};
 use word36::JOBS;
 
 /// What a line asks for. The locks that it names stand in the room that it was read into.
@@ -211,16 +211,21 @@ fn read_words<'a>(room: &'a mut CallRoom, line: &[u8]) -> Option<Command<'a>>
 }
 
 /// What a line asks for, if it is in the grammar. The locks that it names stand in the room, whatever
-/// stood there before.
+/// stood there before. Only a line that does nothing is asked whether it is ASCII, since whatever spells
+/// a command is.
 #[tactic(auto, unfolding(crate::specs::Commands::command_of))]
 pub fn read_command<'a>(room: &'a mut CallRoom, line: &[u8]) -> Option<Command<'a>>
     ensures { asked_by_line result ≡ command_of line.now }
 {
-    if !is_allowed(line) {
-        return None;
-    }
     if is_silent(line) {
-        return Some(Command::Nothing);
+        return if is_allowed(line) {
+            Some(Command::Nothing)
+        } else {
+            None
+        };
+    }
+    if line.len() > LINE_LENGTH {
+        return None;
     }
     read_words(room, line)
 }
