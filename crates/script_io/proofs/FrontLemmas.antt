@@ -84,12 +84,6 @@ first-known separator text i before here =
 digit-tested : (c : ℕ) → 48 ≤ c → c - 48 < 10 → is_digit 10 c ≡ true
 digit-tested c least most = grind (arith, nat_tests)
 
-other-small : (c : ℕ) → c < 48 → is_digit 10 c ≡ false
-other-small c below = grind (arith, nat_tests)
-
-other-large : (c : ℕ) → 10 ≤ c - 48 → is_digit 10 c ≡ false
-other-large c large = grind (arith, nat_tests)
-
 onto-next : (most separator : ℕ) (text : List ℕ) (i v : ℕ) → i < length text → (get_or text i 0 == separator) ≡ false → is_digit 10 (get_or text i 0) ≡ true
     → onto_front most v (parts separator (drop i text)) ≡ onto_front most 0 (parts separator text)
     → onto_front most (10 * v + (get_or text i 0 - 48)) (parts separator (drop (i + 1) text)) ≡ onto_front most 0 (parts separator text)
@@ -130,17 +124,6 @@ not_front-other most separator text i v f within differs other =
     front-none most (parts separator text)
     (sym f.number ∙ ap (onto_front most v) (at-other separator text i within differs)
     ∙ onto-other most v (get_or text i 0) (parts separator (drop (i + 1) text)) other)
-
-pub not_front-small : (most separator : ℕ) (text : List ℕ) (i v : ℕ) → Follows most separator text i v → i < length text
-    → (get_or text i 0 == separator) ≡ false
-    → get_or text i 0 < 48 → front (number 10 most) (parts separator text) ≡ None
-not_front-small most separator text i v f within differs below = not_front-other most separator text i v f within differs (other-small (get_or text i 0) below)
-
-pub not_front-beyond : (most separator : ℕ) (text : List ℕ) (i v d : ℕ) → Follows most separator text i v → i < length text
-    → (get_or text i 0 == separator) ≡ false
-    → d ≡ get_or text i 0 - 48 → 10 ≤ d → front (number 10 most) (parts separator text) ≡ None
-not_front-beyond most separator text i v d f within differs is large =
-    not_front-other most separator text i v f within differs (other-large (get_or text i 0) (omega arith))
 
 pub not_front-large : (most separator : ℕ) (text : List ℕ) (i v d : ℕ) → Follows most separator text i v → i < length text
     → (get_or text i 0 == separator) ≡ false

@@ -131,20 +131,17 @@ fn split_number(most: u64, text: &[u8], separator: u8) -> Option<(u64, Option<&[
     }
     let mut value = 0;
     for (i, byte) in text.iter().enumerate() {
-        if *byte == separator {
+        let digit = byte.wrapping_sub(b'0');
+        if digit >= 10 || *byte == separator {
+            if *byte != separator {
+                return None;
+            }
             if i == 0 {
                 return None;
             }
             return Some((value, Some(&text[i + 1..])));
         }
-        if *byte < b'0' {
-            return None;
-        }
-        let digit = u64::from(*byte - b'0');
-        if digit >= 10 {
-            return None;
-        }
-        value = 10 * value + digit;
+        value = 10 * value + u64::from(digit);
         if value > most {
             return None;
         }
