@@ -1,5 +1,6 @@
 -- Ends of what came.
-use Rattle.std.proofs.Common.{◌≡◌, ◌≤◌, ◌+◌, ◌∙◌, ℕ, List, [], ◌++◌, length, drop, Result, Ok, Err, is_ok, is_err, cond, false, refl, sym, ap, arith, inl, inr}
+use Rattle.std.proofs.Common.{◌≡◌, ◌≤◌, ◌+◌, ◌∙◌, ℕ, List, [], ◌++◌, length, drop, Result, Ok, Err, is_err, false, sym, ap, arith, inl, inr}
+use Rattle.std.specs.Prelude.{OnOk}
 use Rattle.std.proofs.lemmas.Bool.{cases_lt}
 use Rattle.std.proofs.lemmas.List.{drop_all, drop-append-le}
 use Rattle.command_line.specs.Keeping.{IsEndOf}
@@ -19,7 +20,7 @@ end_longer old mid more new end is = elim (cases_lt (length old) end.0) [
   | inr h ↦ (end.0, is ∙ ap (λ l. l ++ more) end.1 ∙ sym (drop-append-le end.0 old more h))
 ]
 
--- what stands where a call was not refused
-pub not_refused : {A E X : Type 0} (r : Result A E) (x y : X) → is_err r ≡ false → cond (is_ok r) x y ≡ x
-not_refused (Ok a) x y h = refl
-not_refused (Err e) x y h = cc
+-- what a call that was not refused promises
+pub not_refused : {A E P : Type 0} (r : Result A E) → is_err r ≡ false → OnOk r P → P
+not_refused (Ok a) h p = p
+not_refused (Err e) h p = cc

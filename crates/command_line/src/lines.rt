@@ -1,9 +1,9 @@
 //! The lines of an input that may still be at fault.
-ghost use Rattle.std.specs.Prelude.{◌≡◌, ◌≤◌, ◌++◌, [], drop, length};
+ghost use Rattle.std.specs.Prelude.{◌≡◌, ◌≤◌, ◌++◌, [], drop, length, OnOk};
 ghost use Rattle.command_line.specs.Keeping.{IsEndOf};
 
 use memchr::{memchr, memrchr};
-use std::alloc::Global;
+use std::alloc::{AllocError, Global};
 use std::marker::Model;
 
 /// So many bytes are kept before finished lines are dropped.
@@ -12,6 +12,10 @@ const KEPT: usize = 65536;
 /// Room for so many is taken at first: for those that are kept and the next that are read, so that it need not
 /// grow while a script runs.
 const ROOM: usize = KEPT + KEPT / 2;
+
+/// So many bytes are copied at once: few enough that the C library takes vector instructions. What is longer it
+/// copies by one string instruction, which counts as one for each byte where instructions are counted.
+const COPIED: usize = 1024;
 
 /// So many bytes are looked at together for line feeds: few enough that their number fits a byte, so
 /// that many are counted in one step.
@@ -82,7 +86,7 @@ impl Lines {
         ensures { IsEndOf (self.old ++ bytes.now) self.new }
     {
         self.drop_finished();
-        if self.is_lost || self.bytes.extend_from_slice(bytes).is_err() {
+        if self.is_lost || append(&mut self.bytes, bytes).is_err() {
             self.is_lost = true;
             self.bytes.clear();
         }
@@ -107,6 +111,19 @@ impl Lines {
         let bytes = self.bytes.as_slice();
         line_at(bytes, number.checked_sub(u128::from(self.dropped))?)
     }
+}
+
+/// Adds bytes, some at a time.
+fn append(bytes: &mut Vec<u8>, more: &[u8]) -> Result<(), AllocError>
+    ensures { OnOk result (bytes.new.items ≡ bytes.old.items ++ more.now) }
+{
+    let mut rest = more;
+    while !rest.is_empty() {
+        let count = rest.len().min(COPIED);
+        bytes.extend_from_slice(&rest[..count])?;
+        rest = &rest[count..];
+    }
+    Ok(())
 }
 
 /// Drops so many bytes of the front. Those behind them, mostly a part of one line, move up.

@@ -8,4 +8,4 @@ returns-then-self c = end_nothing _ _ c.clear.ensures.items
 pub returns-else-is_err : goal.returns-else-is_err
 returns-else-is_err c =
     end_longer _ _ c.args.bytes.now _ c.drop_finished.ensures
-    (c.extend_from_slice.ensures.items ∙ not_refused _ _ _ (sym c.if-is_err.ensures.value) ∙ ap (λ l. l ++ c.args.bytes.now) c.self.view_is)
+    (not_refused c.append.result (sym c.if-is_err.ensures.value) c.append.ensures ∙ ap (λ l. l ++ c.args.bytes.now) c.self.view_is)
