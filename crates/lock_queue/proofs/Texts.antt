@@ -5,7 +5,8 @@ use Rattle.std.proofs.Math.Logic.{∥∥₁_map}
 use Rattle.std.proofs.lemmas.Grind.{merely}
 use Rattle.std.proofs.lemmas.Str.{IsUtf8-append, IsUtf8-from_ascii}
 use Rattle.std.proofs.lemmas.Str.Ascii.{IsAscii-cons}
-use Rattle.std.proofs.lemmas.List.{append_assoc, drop-replicate, length_push, length-take-le, set-append_right, take-append-le, take_all, take_more_set}
+use Rattle.std.proofs.Math.Seq.{drop-append-add}
+use Rattle.std.proofs.lemmas.List.{append_assoc, drop-drop, drop-replicate, length_push, length-take-le, set-append_right, take-append-drop, take-append-le, take_all, take_more_set}
 use Rattle.lock_queue.specs.Names.{filled_up}
 
 -- a text over the zero bytes
@@ -23,6 +24,26 @@ filled-written text front is =
 
 pub written-utf8 : (text front : List ℕ) → front ≡ text → IsUtf8 text → ∥ IsUtf8 (take (length text) (written text front)) ∥₁
 written-utf8 text front is h = merely (subst IsUtf8 (sym (ap (λ l. take (length text) (written text l)) is ∙ front-written text)) h)
+
+-- a text over others by two copies that lap: its first n bytes, and then its last n
+pub lapped : (text bytes first last : List ℕ) (n a k : ℕ) → a + n ≡ length text → a ≤ n → k ≡ n → first ≡ take n text → last ≡ drop a text
+    → take a (first ++ drop n bytes) ++ (last ++ drop k (drop a (first ++ drop n bytes))) ≡ text ++ drop (length text) bytes
+lapped text bytes first last n a k all lap same is-first is-last =
+    let rest = drop n bytes in
+    let count : length first ≡ n = ap length is-first ∙ length-take-le n text (omega (arith, all)) in
+    let front : take a (first ++ rest) ≡ take a text =
+    take-append-le a first rest (omega (arith, count, lap)) ∙ ap (take a) is-first
+    ∙ sym (take-append-le a (take n text) (drop n text) (omega (arith, length-take-le n text (omega (arith, all)), lap)))
+    ∙ ap (take a) (take-append-drop n text) in
+    let there : a + k ≡ length first + a = omega (arith, count, same) in
+    let behind : drop k (drop a (first ++ rest)) ≡ drop (length text) bytes =
+    drop-drop k a (first ++ rest) ∙ ap (λ m. drop m (first ++ rest)) there ∙ drop-append-add first rest a
+    ∙ drop-drop a n bytes ∙ ap (λ m. drop m bytes) (omega (arith, all)) in
+    ap (λ l. l ++ (last ++ drop k (drop a (first ++ rest)))) front
+    ∙ ap (λ l. take a text ++ (l ++ drop k (drop a (first ++ rest)))) is-last
+    ∙ ap (λ l. take a text ++ (drop a text ++ l)) behind
+    ∙ sym (append_assoc (take a text) (drop a text) (drop (length text) bytes))
+    ∙ ap (λ l. l ++ drop (length text) bytes) (take-append-drop a text)
 
 -- one character more, where the zero bytes begin: the bytes are the text with it, and zero bytes again
 pushed-is : (bytes : List ℕ) (n c : ℕ) → n < length bytes → length bytes ≡ 32 → bytes ≡ filled_up (take n bytes)
