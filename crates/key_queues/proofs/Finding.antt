@@ -1,16 +1,18 @@
 -- What is found by a key's hash, and how that is kept.
-use Rattle.std.proofs.Common.{◌≡◌, ◌≢◌, ◌<◌, ◌+◌, ◌||◌, ap, inl, inr, ℕ, Bool, true, false, ◌==◌, List, [], ◌∷◌, length, get_or, set, take, drop, suc, Option, Some, None, IfSome, refl, subst, arith}
+use Rattle.std.proofs.Common.{◌≡◌, ◌≢◌, ◌<◌, ◌+◌, ◌*◌, ◌++◌, ◌||◌, ap, inl, inr, ℕ, Bool, true, false, ◌==◌, List, [], ◌∷◌, length, get_or, set, take, drop, suc, zero, Some, None, IfSome, refl, subst, arith}
 use Rattle.std.specs.List.{All, find, list_any, position_or_len, remove}
 use Rattle.std.proofs.lemmas.Bool.{cases_eq, ne_eqb}
 use Rattle.std.proofs.lemmas.Grind.{common_steps}
 use Rattle.std.proofs.lemmas.List.{set-set}
 use Rattle.std.proofs.lemmas.List.Elements.{All-append, All-take, All-drop}
+use Rattle.word36.specs.declared.sizes.TheConstants.{LOCKS_A_CALL}
 use Rattle.lock_queue.specs.declared.key.Key.{Key}
 use Rattle.lock_queue.specs.declared.want.Want.{Want}
 use Rattle.lock_queue.proofs.Fitting.{same_key-eq}
+use Rattle.key_queues.specs.declared.found.Found.{Found}
 use Rattle.key_queues.specs.declared.lock.Lock.{Lock}
 use Rattle.key_queues.specs.Kept.{KeptQueue, appended, no_queue}
-use Rattle.key_queues.specs.Locks.{lock_at}
+use Rattle.key_queues.specs.Locks.{lock_at, unused_lock}
 use Rattle.key_queues.specs.States.{is_open}
 use Rattle.key_queues.specs.Tables.{is_there}
 use Rattle.key_queues.specs.declared.hash.TheConstants.{HASHES}
@@ -44,9 +46,9 @@ pub open_parts : (key : Key) (l : Lock) → is_open_for key l ≡ true → (is_o
 open_parts key l t = grind (arith, common_steps, same_key-eq)
 
 -- the lock of a number that was found
-pub found_open : (locks : List Lock) (key : Key) (number : Option ℕ) (n : ℕ) → IsFound locks key number → number ≡ Some n
+pub found_open : (locks : List Lock) (key : Key) (seen : Found) (n : ℕ) → IsFound locks key seen → seen.number ≡ Some n
     → is_open_for key (lock_at locks n) ≡ true
-found_open locks key number n found is = subst (λ o. IfSome o (λ m. is_open_for key (lock_at locks m) ≡ true)) is found.found
+found_open locks key seen n found is = subst (λ o. IfSome o (λ m. is_open_for key (lock_at locks m) ≡ true)) is found.found
 
 -- what is read at a hash is the bucket there
 pub bucket_read : (buckets : List Bucket) (h : ℕ) (b : Bucket) → length buckets ≡ HASHES → h < HASHES → b ≡ get_or buckets h b
@@ -65,7 +67,7 @@ pub none_found : (buckets : List Bucket) (locks : List Lock) (key : Key) → IsI
     → find (λ n. is_open_for key (lock_at locks n)) (bucket_at buckets (hash_of key)).numbers.items ≡ None
     → (bucket_at buckets (hash_of key)).crowded ≡ false
     → (n : ℕ) → is_open_for key (lock_at locks n) ≡ false
-none_found buckets locks key index missed plain n = grind (arith, common_steps, find_misses, open_parts, index.holds n)
+none_found buckets locks key index missed plain n = grind (arith, common_steps, find_misses, open_parts, index.hashes n, index.holds n)
 
 -- an open lock whose queue is changed
 pub keyed_queue : (size : ℕ) (locks : List Lock) (most : ℕ) (buckets : List Bucket) (n : ℕ) (l : Lock) (q : KeptQueue) → IsKeyed size locks most buckets
@@ -74,14 +76,27 @@ pub keyed_queue : (size : ℕ) (locks : List Lock) (most : ℕ) (buckets : List 
     → IsKeyed size (set locks n (record l { queue = q })) most buckets
 keyed_queue size locks most buckets n l q k some read = grind (arith, common_steps, open_within locks n some)
 
+-- one lock more that is not open
+same_more : (locks : List Lock) (n : ℕ) → lock_at (locks ++ unused_lock ∷ []) n ≡ lock_at locks n
+same_more [] zero = refl
+same_more [] (suc n) = refl
+same_more (l ∷ locks) zero = refl
+same_more (l ∷ locks) (suc n) = same_more locks n
+
+pub keyed_more : (size : ℕ) (locks : List Lock) (most : ℕ) (buckets : List Bucket) → IsKeyed size locks most buckets
+    → length locks < LOCKS_A_CALL * size
+    → IsKeyed size (locks ++ unused_lock ∷ []) most buckets
+keyed_more size locks most buckets k room = grind (arith, common_steps, same_more locks, k.index.hashes, k.index.holds)
+
 -- a lock that becomes that of another key, whose number is put at the hash of that
 pub keyed_lock : (size : ℕ) (locks : List Lock) (most : ℕ) (buckets : List Bucket) (n h : ℕ) (l : Lock) (b then : Bucket) → IsKeyed size locks most buckets
     → n < length locks
-    → h ≡ hash_of l.key
+    → l.hash ≡ hash_of l.key
+    → h ≡ l.hash
     → b ≡ get_or buckets h b
     → then ≡ numbered b n
     → IsKeyed size (set locks n l) most (set buckets h then)
-keyed_lock size locks most buckets n h l b then k lt hash read put = grind (arith, common_steps)
+keyed_lock size locks most buckets n h l b then k lt hash is read put = grind (arith, common_steps)
 
 -- a bucket that is changed, and has no fewer numbers of open locks
 index_set : (buckets : List Bucket) (locks : List Lock) (h : ℕ) (b : Bucket) → IsIndex buckets locks → h < HASHES

@@ -1,10 +1,11 @@
 -- Where the number of a key's lock is found (this project's profile).
 use Rattle.std.specs.Prelude.{◌≡◌, ◌≤◌, ◌<◌, ◌*◌, ◌^◌, ◌⊎◌, ◌==◌, ℕ, true, false, List, [], ◌∷◌, ◌++◌, length, if◌then◌else◌}
-use Rattle.std.specs.Prelude.{Option, None, IfSome, slice_index_or}
+use Rattle.std.specs.Prelude.{None, IfSome, slice_index_or}
 use Rattle.std.specs.List.{All, position_or_len, remove}
 use Rattle.word36.specs.declared.sizes.TheConstants.{LOCKS_A_CALL, MOST_REQUESTS}
 use Rattle.lock_queue.specs.declared.key.Key.{Key}
 use Rattle.lock_queue.specs.declared.want.Want.{Want}
+use Rattle.key_queues.specs.declared.found.Found.{Found}
 use Rattle.key_queues.specs.declared.lock.Lock.{Lock}
 use Rattle.key_queues.specs.Kept.{appended}
 use Rattle.key_queues.specs.Locks.{lock_at, with_queue}
@@ -38,12 +39,13 @@ without_number b n =
 abbrev pub Holds : Bucket → ℕ → Type 0
 Holds b n = b.crowded ≡ false → is_there n b.numbers.items ≡ true
 
--- the number of each open lock is held at the hash of its key
+-- each lock has the hash of its key, at which the number of an open one is held
 pub record IsIndex (buckets : List Bucket) (locks : List Lock) : Type 0 where
   pub long : length buckets ≡ HASHES
   pub few : length locks ≤ 2 ^ 16
   pub within : (h : ℕ) → All (λ n. n < length locks) (bucket_at buckets h).numbers.items
-  pub holds : (n : ℕ) → is_open (lock_at locks n).queue ≡ true → Holds (bucket_at buckets (hash_of (lock_at locks n).key)) n
+  pub hashes : (n : ℕ) → (lock_at locks n).hash ≡ hash_of (lock_at locks n).key
+  pub holds : (n : ℕ) → is_open (lock_at locks n).queue ≡ true → Holds (bucket_at buckets (lock_at locks n).hash) n
 
 -- the locks of a table of so many requests, with memory for so many, each open one in the index
 pub record IsKeyed (size : ℕ) (locks : List Lock) (most : ℕ) (buckets : List Bucket) : Type 0 where
@@ -51,10 +53,11 @@ pub record IsKeyed (size : ℕ) (locks : List Lock) (most : ℕ) (buckets : List
   pub reserved : LOCKS_A_CALL * size ≤ most
   pub index : IsIndex buckets locks
 
--- the number of the open lock of a key, if there is one
-pub record IsFound (locks : List Lock) (key : Key) (number : Option ℕ) : Type 0 where
-  pub found : IfSome number (λ n. is_open_for key (lock_at locks n) ≡ true)
-  pub none : number ≡ None → (n : ℕ) → is_open_for key (lock_at locks n) ≡ false
+-- the hash of a key, and the number of its open lock, if there is one
+pub record IsFound (locks : List Lock) (key : Key) (seen : Found) : Type 0 where
+  pub hash : seen.hash ≡ hash_of key
+  pub found : IfSome seen.number (λ n. is_open_for key (lock_at locks n) ≡ true)
+  pub none : seen.number ≡ None → (n : ℕ) → is_open_for key (lock_at locks n) ≡ false
 
 -- a lock that is not open, of locks to which others that are not open may have come
 pub record IsSpare (locks more : List Lock) (n : ℕ) : Type 0 where

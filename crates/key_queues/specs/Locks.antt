@@ -7,7 +7,7 @@ use Rattle.key_queues.specs.declared.lock.Lock.{Lock}
 use Rattle.key_queues.specs.Kept.{KeptQueue, no_queue, without}
 
 abbrev pub unused_lock : Lock
-unused_lock = record { key = unused_want.key; size = None; queue = no_queue }
+unused_lock = record { key = unused_want.key; hash = 0; size = None; queue = no_queue }
 
 abbrev pub lock_at : List Lock → ℕ → Lock
 lock_at locks n = slice_index_or locks n unused_lock

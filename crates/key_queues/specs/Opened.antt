@@ -5,6 +5,7 @@ use Rattle.lock_queue.specs.declared.want.Want.{Want}
 use Rattle.lock_queue.specs.Keys.{same_key}
 use Rattle.lock_queue.specs.Pools.{PoolShare}
 use Rattle.key_queues.specs.declared.lock.Lock.{Lock}
+use Rattle.key_queues.specs.Hashes.{hash_of}
 use Rattle.key_queues.specs.Kept.{no_queue}
 use Rattle.key_queues.specs.States.{is_open}
 
@@ -21,4 +22,4 @@ size_of None = None
 
 -- the lock of a want's key, in which no want stands
 abbrev pub fresh_lock : Want → Lock
-fresh_lock w = record { key = w.key; size = size_of w.pool; queue = no_queue }
+fresh_lock w = record { key = w.key; hash = hash_of w.key; size = size_of w.pool; queue = no_queue }

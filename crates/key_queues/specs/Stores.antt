@@ -1,7 +1,7 @@
 -- The requests of a table by their places, in order of arrival (this project's profile).
-use Rattle.std.specs.Prelude.{Bool, List, None, Option, Some, [], false, filter, if◌then◌else◌, length, not}
+use Rattle.std.specs.Prelude.{Bool, List, None, Option, Some, [], filter, if◌then◌else◌, length, not}
 use Rattle.std.specs.Prelude.{slice_index_or, slice_set, ℕ, ◌&&◌, ◌++◌, ◌+◌, ◌-◌, ◌==◌, ◌∷◌, ◌≡◌, ◌≤◌}
-use Rattle.std.specs.List.{list_any, position_or_len, remove}
+use Rattle.std.specs.List.{position_or_len, remove}
 use Rattle.word36.specs.declared.sizes.TheConstants.{JOBS, MOST_REQUESTS}
 use Rattle.lock_queue.specs.Jobs.{is_blocking}
 use Rattle.key_queues.specs.declared.filed.Filed.{Filed}

@@ -9,9 +9,9 @@ ghost use Rattle.key_queues.specs.Locks.{lock_at, with_queue, without_place};
 ghost use Rattle.key_queues.specs.Opened.{is_closed, is_open_for};
 ghost use Rattle.key_queues.specs.Tables.{is_counted};
 
-use crate::Lock;
 use crate::buckets::{Bucket, no_buckets};
 use crate::hash::{HASHES, hash_of};
+use crate::{Found, Lock};
 use lock_queue::{Key, Want};
 use std::alloc::{AllocError, Global};
 use std::marker::Model;
@@ -85,13 +85,35 @@ impl<const REQS: usize> Keys<REQS> {
         self.locks.as_slice()
     }
 
+    /// The hash of a key, and the number of its open lock.
+    #[inline(always)]
+    pub fn look_up(&self, key: &Key) -> Found
+        ensures { IsFound self.now key.now result }
+    {
+        let hash = hash_of(key);
+        Found {
+            hash,
+            number: self.find_at(hash, key),
+        }
+    }
+
     /// The number of the open lock of a key.
     #[inline(always)]
     pub fn find(&self, key: &Key) -> Option<u16>
         ensures found { IfSome result (λ n. is_open_for key.now (lock_at self.now n) ≡ true) }
         ensures none { result ≡ None → (n : ℕ) → is_open_for key.now (lock_at self.now n) ≡ false }
     {
-        let bucket = &self.buckets[hash_of(key) as usize];
+        self.look_up(key).number
+    }
+
+    /// The number of the open lock of a key with this hash.
+    #[inline(always)]
+    fn find_at(&self, hash: u16, key: &Key) -> Option<u16>
+        requires { hash ≡ hash_of key.now }
+        ensures found { IfSome result (λ n. is_open_for key.now (lock_at self.now n) ≡ true) }
+        ensures none { result ≡ None → (n : ℕ) → is_open_for key.now (lock_at self.now n) ≡ false }
+    {
+        let bucket = &self.buckets[hash as usize];
         for n in bucket.numbers.as_slice() {
             if self.locks[*n as usize].is_open_for(key) {
                 return Some(*n);
@@ -124,23 +146,23 @@ impl<const REQS: usize> Keys<REQS> {
         }
     }
 
-    /// The want of the request at a place comes last in the queue of its key, which has room for it; `find`
-    /// gave the number of the open lock of that key. The number of the key's lock: of the open one, or where
+    /// The want of the request at a place comes last in the queue of its key, which has room for it; `look_up`
+    /// found that key. The number of the key's lock: of the open one, or where
     /// none is, of one that was not open and now is of that key. Where all locks are made, one of them is not
     /// open.
-    pub fn enter(&mut self, p: u16, w: &Want, number: Option<u16>) -> u16
-        requires number { IsFound self.old w.now.key number }
+    pub fn enter(&mut self, p: u16, w: &Want, found: Found) -> u16
+        requires number { IsFound self.old w.now.key found }
         requires room { LOCKS_A_CALL * REQS ≤ length self.old → list_any is_closed self.old ≡ true }
         requires few { (n : ℕ) → is_open_for w.now.key (lock_at self.old n) ≡ true → length (lock_at self.old n).queue.places < JOBS }
         ensures { IsEntered self.old self.new p w.now result }
     {
-        if let Some(n) = number {
+        if let Some(n) = found.number {
             self.locks[n as usize].queue.append(p, w);
             return n;
         }
         let n = self.take_free();
-        self.locks[n as usize].begin(p, w);
-        self.buckets[hash_of(&w.key) as usize].put(n);
+        self.locks[n as usize].begin(p, w, found.hash);
+        self.buckets[found.hash as usize].put(n);
         n
     }
 
@@ -184,7 +206,7 @@ impl<const REQS: usize> Keys<REQS> {
     {
         let shut = &self.locks[n as usize];
         if shut.is_closed() {
-            self.buckets[hash_of(&shut.key) as usize].take_out(n);
+            self.buckets[shut.hash as usize].take_out(n);
             if self.free.len() < self.free.capacity() {
                 let _ = self.free.push(n);
             }

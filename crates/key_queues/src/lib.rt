@@ -5,6 +5,7 @@
 
 mod buckets;
 mod filed;
+mod found;
 mod hash;
 mod keys;
 mod laws;
@@ -15,6 +16,7 @@ mod shelf;
 mod store;
 
 pub use filed::Filed;
+pub use found::Found;
 pub use keys::Keys;
 pub use laws::{
     flags_tell_who_rises, marks_tell, queues_have_room, steps_keep_the_table, wants_come_and_leave,

@@ -1,3 +1,4 @@
+use Rattle.std.proofs.Common.{refl}
 use Rattle.key_queues.specs.Kept.{appended, no_queue}
 use Rattle.key_queues.specs.Locks.{lock_at}
 use Rattle.key_queues.specs.Opened.{fresh_lock}
@@ -7,15 +8,15 @@ use Rattle.key_queues.proofs.keys.Keys.enter.Goals as goal
 pub invariant_of-self : goal.invariant_of-self
 invariant_of-self g c =
     let key = c.args.w.now.key in
-    let found = found_open c.args.self.now key c.args.number c.in-Some.n c.requires.number c.in-Some.is in
+    let found = found_open c.args.self.now key c.args.found c.in-Some.n c.requires.number c.in-Some.is in
     let open_for = open_parts key (lock_at c.self.inside.locks.items c.in-Some.n) (rw c.self.view_is found) in
     keyed_queue _ _ _ _ c.in-Some.n _ c.append.new.self c.self.invariant open_for.0 c.index_mut.ensures.value
 
 pub invariant_of-self-2 : goal.invariant_of-self-2
 invariant_of-self-2 g c =
     rw c.begin.ensures
-    (keyed_lock _ _ _ _ c.take_free-n.result c.hash_of.result (record (fresh_lock c.args.w.now) { queue = appended no_queue c.args.p c.args.w.now }) _ _
-    c.self-2.invariant (rw c.self-2.view_is c.take_free-n.ensures.within) c.hash_of.ensures.value c.index_mut-3.ensures.value c.put.ensures)
+    (keyed_lock _ _ _ _ c.take_free-n.result c.args.found.hash (record (fresh_lock c.args.w.now) { queue = appended no_queue c.args.p c.args.w.now }) _ _
+    c.self-2.invariant (rw c.self-2.view_is c.take_free-n.ensures.within) refl c.requires.number.hash c.index_mut-3.ensures.value c.put.ensures)
 
 pub returns : goal.returns
 returns g c =

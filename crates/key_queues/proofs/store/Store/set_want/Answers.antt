@@ -1,4 +1,4 @@
-use Rattle.std.proofs.Common.{◌∙◌, ap, refl, slice_set, List}
+use Rattle.std.proofs.Common.{ap, refl, List}
 use Rattle.lock_queue.specs.declared.want.Want.{Want}
 use Rattle.key_queues.specs.declared.filed.Filed.{Filed}
 use Rattle.key_queues.specs.Filing.{with_want, with_wants}
@@ -14,5 +14,4 @@ returns-clause-value g c =
     let was = c.get_mut.result.now in
     seen_change _ _ _ c.args.p c.self.view_is (λ (f : Filed). with_want f c.args.k c.args.w.now) _ _ c.get_mut.ensures.value
     (ap (λ (ws : List Want). with_wants was ws was.queues.items)
-    (written_in was.request.wants.items c.deref_mut.result.now c.args.k c.copied.result c.deref_mut.ensures.value
-    ∙ ap (slice_set was.request.wants.items c.args.k) c.copied.ensures.value))
+    (written_in was.request.wants.items c.deref_mut.result.now c.args.k c.args.w.now c.deref_mut.ensures.value))

@@ -2,7 +2,7 @@ use Rattle.std.proofs.Common.{◌≡◌, drop}
 use Rattle.std.specs.List.{find}
 use Rattle.key_queues.specs.Locks.{lock_at}
 use Rattle.key_queues.specs.Opened.{is_open_for}
-use Rattle.key_queues.proofs.keys.Keys.find.Given as goal
+use Rattle.key_queues.proofs.keys.Keys.find_at.Given as goal
 
 abbrev pub invariant-loop-n : goal.invariant-loop-n
 invariant-loop-n g l =
