@@ -1,5 +1,5 @@
 -- Lists of places.
-use Rattle.std.proofs.Common.{◌≡◌, ◌≢◌, ◌≤◌, ◌<◌, ◌+◌, ◌-◌, ◌∙◌, sym, ap, subst, ℕ, zero, suc, Bool, true, false, not, ◌||◌, ◌==◌, cond}
+use Rattle.std.proofs.Common.{nat_lt, ◌≡◌, ◌≢◌, ◌≤◌, ◌<◌, ◌+◌, ◌-◌, ◌∙◌, sym, ap, subst, ℕ, zero, suc, Bool, true, false, not, ◌||◌, ◌==◌, cond}
 use Rattle.std.proofs.Common.{List, [], ◌∷◌, ◌++◌, length, take, drop, filter, get_or, inl, inr, refl, arith}
 use Rattle.std.specs.List.{position_or_len, remove}
 use Rattle.std.proofs.lemmas.Bool.{both_ways, cases_eq, ne_eqb, or_from, or_parts}
@@ -44,6 +44,11 @@ there_at (x ∷ xs) (suc i) d lt = grind (arith, common_steps, there_at xs i d)
 pub there_within : (p : ℕ) (xs : List ℕ) → is_there p xs ≡ true → position_or_len (λ x. x == p) xs < length xs
 there_within p [] h = cc
 there_within p (x ∷ xs) h = grind (arith, common_steps, there_within p xs)
+
+-- a place is there where it has an index
+pub there_by_index : (p : ℕ) (xs : List ℕ) → nat_lt (position_or_len (λ x. x == p) xs) (length xs) ≡ is_there p xs
+there_by_index p [] = refl
+there_by_index p (x ∷ xs) = grind (arith, common_steps, there_by_index p xs)
 
 -- a list without the first that is a place, by recursion
 drop_first : ℕ → List ℕ → List ℕ

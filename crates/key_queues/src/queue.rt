@@ -134,10 +134,11 @@ impl Queue {
     }
 
     /// Whether the want of a place is counted.
+    #[inline(always)]
     pub fn counts(&self, place: u16) -> bool
         ensures { result ≡ is_counted self.now place }
     {
-        self.places.as_slice()[..self.fitting].contains(&place)
+        index_of(&self.places.as_slice()[..self.fitting], place) < self.fitting
     }
 
     /// Whether a want of the key fits behind those that are counted.
