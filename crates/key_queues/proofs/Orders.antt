@@ -50,6 +50,14 @@ pub there_by_index : (p : ℕ) (xs : List ℕ) → nat_lt (position_or_len (λ x
 there_by_index p [] = refl
 there_by_index p (x ∷ xs) = grind (arith, common_steps, there_by_index p xs)
 
+-- a list whose end is turned left by one, without its last
+pub turned_out : (xs : List ℕ) (i n : ℕ) → n + 1 ≡ length xs → i ≤ n
+    → take n (take i xs ++ drop 1 (drop i xs) ++ take 1 (drop i xs)) ≡ remove xs i
+turned_out [] i n long le = absurd (omega arith)
+turned_out (x ∷ xs) zero n long le = grind (arith, common_steps)
+turned_out (x ∷ xs) (suc i) zero long le = absurd (omega arith)
+turned_out (x ∷ xs) (suc i) (suc n) long le = ap (λ l. x ∷ l) (turned_out xs i n (omega arith) (omega arith))
+
 -- a list without the first that is a place, by recursion
 drop_first : ℕ → List ℕ → List ℕ
 drop_first p [] = []

@@ -38,29 +38,19 @@ fn is_among(list: &[u16], p: u16) -> bool
     any
 }
 
-/// Where a place stands in a list, or the list's length. What it is not among is passed over together.
+/// Where a place stands in a list, in which it is. What it is not among is passed over together.
 fn index_of(list: &[u16], p: u16) -> usize
+    requires { position_or_len (λ x. x == p) list.now < length list.now }
     ensures { result ≡ position_or_len (λ x. x == p) list.now }
 {
     let mut i = 0;
     while list.len() - i >= TOGETHER && !is_among(&list[i..i + TOGETHER], p) {
         i += TOGETHER;
     }
-    while i < list.len() && list[i] != p {
+    while list[i] != p {
         i += 1;
     }
     i
-}
-
-/// Moves the places behind the i-th one up, over it. The last stays behind them.
-fn move_up(list: &mut [u16], i: usize)
-    requires { i < length list.old }
-    ensures long { length list.new ≡ length list.old }
-    ensures front { take (length list.old - 1) list.new ≡ remove list.old i }
-{
-    for k in i..list.len() - 1 {
-        list[k] = list[k + 1];
-    }
 }
 
 impl<const REQS: usize> Places<REQS> {
@@ -109,7 +99,7 @@ impl<const REQS: usize> Places<REQS> {
         ensures { self.new ≡ without_place self.old p }
     {
         let i = index_of(self.places.as_slice(), p);
-        move_up(self.places.as_mut_slice(), i);
+        self.places.as_mut_slice()[i..].rotate_left(1);
         let _ = self.places.pop();
     }
 }
