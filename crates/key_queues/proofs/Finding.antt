@@ -1,7 +1,6 @@
 -- What is found by a key's hash, and how that is kept.
-use Rattle.std.proofs.Common.{◌≡◌, ◌≢◌, ◌<◌, ◌+◌, ◌*◌, ◌++◌, ◌||◌, ap, inl, inr, ℕ, Bool, true, false, ◌==◌, List, [], ◌∷◌, length, get_or, set, take, drop, suc, zero, Some, None, IfSome, refl, subst, arith}
+use Rattle.std.proofs.Common.{◌≡◌, ◌<◌, ◌*◌, ◌++◌, ℕ, Bool, true, false, ◌==◌, List, [], ◌∷◌, length, get_or, set, take, drop, suc, Some, None, IfSome, subst, arith}
 use Rattle.std.specs.List.{All, find, list_any, position_or_len, remove}
-use Rattle.std.proofs.lemmas.Bool.{cases_eq, ne_eqb}
 use Rattle.std.proofs.lemmas.Grind.{common_steps}
 use Rattle.std.proofs.lemmas.List.{set-set}
 use Rattle.std.proofs.lemmas.List.Elements.{All-append, All-take, All-drop}
@@ -20,6 +19,7 @@ use Rattle.key_queues.specs.declared.buckets.Bucket.{Bucket}
 use Rattle.key_queues.specs.Found.{bucket_at, numbered, without_number, Holds, IsEntered, IsFound, IsIndex, IsKeyed, IsSpare}
 use Rattle.key_queues.specs.Hashes.{hash_of}
 use Rattle.key_queues.specs.Opened.{fresh_lock, is_closed, is_open_for}
+use Rattle.key_queues.proofs.Orders.{without_other}
 
 -- what is found passes
 pub find_passes : (t : ℕ → Bool) (xs : List ℕ) (n : ℕ) → find t xs ≡ Some n → t n ≡ true
@@ -78,10 +78,7 @@ keyed_queue size locks most buckets n l q k some read = grind (arith, common_ste
 
 -- one lock more that is not open
 same_more : (locks : List Lock) (n : ℕ) → lock_at (locks ++ unused_lock ∷ []) n ≡ lock_at locks n
-same_more [] zero = refl
-same_more [] (suc n) = refl
-same_more (l ∷ locks) zero = refl
-same_more (l ∷ locks) (suc n) = same_more locks n
+same_more locks n = grind (arith, common_steps)
 
 pub keyed_more : (size : ℕ) (locks : List Lock) (most : ℕ) (buckets : List Bucket) → IsKeyed size locks most buckets
     → length locks < LOCKS_A_CALL * size
@@ -105,16 +102,6 @@ index_set : (buckets : List Bucket) (locks : List Lock) (h : ℕ) (b : Bucket) �
     → IsIndex (set buckets h b) locks
 index_set buckets locks h b index below within keeps = grind (arith, common_steps)
 
--- other numbers stay
-there_less : (m n : ℕ) (xs : List ℕ) → m ≢ n → is_there m (remove xs (position_or_len (λ x. x == n) xs)) ≡ is_there m xs
-there_less m n [] ne = refl
-there_less m n (x ∷ xs) ne =
-    let one : 1 + position_or_len (λ y. y == n) xs ≡ suc (position_or_len (λ y. y == n) xs) = omega arith in
-    elim (cases_eq x n) [
-      | inl e ↦ grind (arith, common_steps)
-      | inr other ↦ rw (ne_eqb x n other, one) (ap (λ b. x == m || b) (there_less m n xs ne))
-    ]
-
 all_less : (P : ℕ → Type 0) (xs : List ℕ) (i : ℕ) → All P xs → All P (remove xs i)
 all_less P xs i all = All-append P (take i xs) (drop (suc i) xs) (All-take P i xs all) (All-drop P (suc i) xs all)
 
@@ -129,7 +116,7 @@ keyed_closed size locks most buckets n h k lt shut below =
     let within : All (λ m. m < length locks) (without_number b n).numbers.items =
     all_less (λ m. m < length locks) b.numbers.items (position_or_len (λ m. m == n) b.numbers.items) (k.index.within h) in
     let keeps : (m : ℕ) → is_open (lock_at locks m).queue ≡ true → Holds b m → Holds (without_number b n) m =
-    λ m some held plain. grind (arith, common_steps, there_less m n b.numbers.items) in
+    λ m some held plain. grind (arith, common_steps, without_other n b.numbers.items m) in
     record { small = k.small; reserved = k.reserved; index = index_set buckets locks h (without_number b n) k.index below within keeps }
 
 -- a want that comes last in the queue of a lock that is begun for its key

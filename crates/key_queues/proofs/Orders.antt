@@ -1,8 +1,8 @@
 -- Lists of places.
 use Rattle.std.proofs.Common.{nat_lt, ◌≡◌, ◌≢◌, ◌≤◌, ◌<◌, ◌+◌, ◌-◌, ◌∙◌, sym, ap, subst, ℕ, zero, suc, Bool, true, false, not, ◌||◌, ◌==◌, cond}
-use Rattle.std.proofs.Common.{List, [], ◌∷◌, ◌++◌, length, take, drop, filter, get_or, inl, inr, refl, arith}
+use Rattle.std.proofs.Common.{List, [], ◌∷◌, ◌++◌, length, take, drop, filter, get_or, refl, arith}
 use Rattle.std.specs.List.{position_or_len, remove}
-use Rattle.std.proofs.lemmas.Bool.{both_ways, cases_eq, ne_eqb, or_from, or_parts}
+use Rattle.std.proofs.lemmas.Bool.{or_parts}
 use Rattle.std.proofs.lemmas.Bool.{or_right}
 use Rattle.std.proofs.lemmas.List.{nil_from_length, length-append, drop-drop, length-drop}
 use Rattle.std.proofs.lemmas.List.Folds.{list_any-append}
@@ -89,26 +89,16 @@ once_to (x ∷ xs) once = (
       let both = once (x ∷ before) after p (ap (λ l. x ∷ l) is) in ((or_parts (x == p) (is_there p before) both.0).1, both.1)),
 )
 
-there_split : (p : ℕ) (before after : List ℕ) → is_there p (before ++ p ∷ after) ≡ true
+pub there_split : (p : ℕ) (before after : List ℕ) → is_there p (before ++ p ∷ after) ≡ true
 there_split p before after = grind (arith, common_steps, list_any-append (λ x. x == p) before (p ∷ after))
 
 once_from : (xs : List ℕ) → Once xs → StandsOnce xs
 unfolding Once
 once_from [] once [] after p is = cc
 once_from [] once (y ∷ before) after p is = cc
-once_from (x ∷ xs) once [] after p is =
-    let head : x ≡ p = cc in
-    let tail : xs ≡ after = cc in
-    (refl, subst (λ l. is_there p l ≡ false) tail (subst (λ q. is_there q xs ≡ false) head once.0))
+once_from (x ∷ xs) once [] after p is = grind (arith, common_steps, once)
 once_from (x ∷ xs) once (y ∷ before) after p is =
-    let head : x ≡ y = cc in
-    let tail : xs ≡ before ++ p ∷ after = cc in
-    let both = once_from xs once.1 before after p tail in
-    let other : (y == p) ≡ false = ne_eqb y p (λ e.
-    both_ways (is_there x xs) once.0
-    (subst (λ l. is_there x l ≡ true) (sym tail)
-    (subst (λ q. is_there q (before ++ p ∷ after) ≡ true) (sym (head ∙ e)) (there_split p before after)))) in
-    (or_from (y == p) (is_there p before) other both.0, both.1)
+    grind (arith, common_steps, once_from xs once.1 before after p, there_split p before after, once)
 
 -- one more that is not there
 once_last : (xs : List ℕ) (p : ℕ) → is_there p xs ≡ false → Once xs → Once (xs ++ p ∷ [])
@@ -202,11 +192,7 @@ pub passed_on : (p from k : ℕ) (xs : List ℕ) → from + k ≤ length xs → 
     → from + position_or_len (λ x. x == p) (drop from xs) ≡ position_or_len (λ x. x == p) xs
     → from + k + position_or_len (λ x. x == p) (drop (from + k) xs) ≡ position_or_len (λ x. x == p) xs
 passed_on p from k xs le out is =
-    let size : from + k - from ≡ k = omega arith in
-    let past = position_past p k (drop from xs) (omega (arith, length-drop from xs)) (rw size at out) in
-    let again : drop k (drop from xs) ≡ drop (from + k) xs = drop-drop k from xs in
-    let after = ap (position_or_len (λ x. x == p)) (sym again) in
-    omega (arith, past, is, after)
+    grind (arith, common_steps, position_past p k (drop from xs), drop-drop k from xs, length-drop from xs)
 
 -- how many of a list pass
 pub count_changed : (t u : ℕ → Bool) (p : ℕ) (xs : List ℕ) → StandsOnce xs → is_there p xs ≡ true → ((x : ℕ) → x ≢ p → t x ≡ u x)
@@ -216,14 +202,7 @@ count_changed t u p xs once h same = go xs (once_to xs once) h
   where
     go : (ys : List ℕ) → Once ys → is_there p ys ≡ true → length (filter u ys) + one_if (t p) ≡ length (filter t ys) + one_if (u p)
     go [] o k = cc
-    go (y ∷ ys) o k =
-        elim (cases_eq y p) [
-          | inl e ↦
-              let rest : filter t ys ≡ filter u ys =
-              filter_same t u ys (λ x q. same x (λ s. both_ways (is_there y ys) o.0 (subst (λ z. is_there z ys ≡ true) (s ∙ sym e) q))) in
-              grind (arith, common_steps, rest)
-          | inr ne ↦ grind (arith, common_steps, go ys o.1, same y ne)
-        ]
+    go (y ∷ ys) o k = grind (arith, common_steps, go ys o.1, same y, filter_same t u ys, same, o)
 
 pub count_without : (t : ℕ → Bool) (p : ℕ) (xs : List ℕ) → is_there p xs ≡ true
     → length (filter t (without_place xs p)) + one_if (t p) ≡ length (filter t xs)

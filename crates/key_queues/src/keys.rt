@@ -108,6 +108,7 @@ impl<const REQS: usize> Keys<REQS> {
 
     /// The number of the open lock of a key with this hash.
     #[inline(always)]
+    #[tactic(auto, using(crate::proofs::Finding::number_within))]
     fn find_at(&self, hash: u16, key: &Key) -> Option<u16>
         requires { hash ≡ hash_of key.now }
         ensures found { IfSome result (λ n. is_open_for key.now (lock_at self.now n) ≡ true) }
