@@ -1,6 +1,6 @@
 //! Places in order, with room for all.
-ghost use Rattle.std.specs.Prelude.{ℕ, ◌≡◌, ◌==◌, ◌<◌, ◌≤◌, ◌+◌, ◌-◌, [], ◌∷◌, ◌++◌, length, slice_set, take, IfOk};
-ghost use Rattle.std.specs.List.{position_or_len, remove};
+ghost use Rattle.std.specs.Prelude.{ℕ, ◌≡◌, ◌==◌, ◌<◌, ◌≤◌, [], ◌∷◌, ◌++◌, length, slice_set, IfOk};
+ghost use Rattle.std.specs.List.{position_or_len};
 ghost use Rattle.word36.specs.declared.sizes.TheConstants.{MOST_REQUESTS};
 ghost use Rattle.key_queues.specs.Stores.{list_of, number_of, recounted, without_place};
 ghost use Rattle.key_queues.specs.Tables.{StandsOnce, is_there};
