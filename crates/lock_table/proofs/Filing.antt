@@ -1,8 +1,8 @@
 -- What the code of a table finds and leaves.
 use Rattle.std.proofs.Common.{◌≡◌, ◌≢◌, ◌<◌, ◌∙◌, sym, ap, subst, ℕ, suc, Bool, true, ◌==◌, List, [], length, set, take, drop, get_or, slice_get}
-use Rattle.std.proofs.Common.{Some, inl, inr, refl, arith, false, ◌∷◌, ◌++◌, filter, not, ◌+◌, cond, ◌≤◌, ◌&&◌}
+use Rattle.std.proofs.Common.{Some, zero, inl, inr, refl, arith, false, ◌∷◌, ◌++◌, filter, not, ◌+◌, cond, ◌≤◌, ◌&&◌}
 use Rattle.std.specs.List.{All, list_all, position_or_len, remove, list_any}
-use Rattle.std.proofs.lemmas.Bool.{cases_eq, false_from_ne_true, both_ways, or_parts, eq-eqb, ne_eqb}
+use Rattle.std.proofs.lemmas.Bool.{and_parts, cases_eq, false_from_ne_true, both_ways, or_parts, eq-eqb, ne_eqb}
 use Rattle.std.proofs.lemmas.List.{get_or_past, get_or-set_same, get_or-set_other, nil_from_length, length-append}
 use Rattle.std.proofs.lemmas.Option.{slice_get-get_or}
 use Rattle.lock_queue.specs.declared.key.Key.{Key}
@@ -19,7 +19,7 @@ use Rattle.key_queues.specs.Filing.{unused_filed, without_want}
 use Rattle.lock_table.specs.Filing.{own_at, want_at, state_of}
 use Rattle.key_queues.specs.Kept.{KeptQueue, fits_next, admitted}
 use Rattle.key_queues.specs.States.{State, Stands, all_count, IsKept, FlagsAll, CountsAll, CountsBut, IsCounted, Renews, LetsIn, GivesUpAt, IsUsed}
-use Rattle.key_queues.specs.States.{IsTable, Leaves, Extended, OpenAreUsed}
+use Rattle.key_queues.specs.States.{IsTable, Leaves, LosesWant, Extended, OpenAreUsed}
 use Rattle.key_queues.specs.Tables.{is_counted, is_there, QueuesOf, StandsOnce}
 use Rattle.key_queues.proofs.Keeping.{letting_in_keeps, giving_up_keeps, leaving_keeps, queues_at, queues_without}
 use Rattle.key_queues.proofs.Moves.{there_without}
@@ -34,10 +34,10 @@ use Rattle.lock_queue.proofs.Fitting.{eq-same_key}
 use Rattle.lock_queue.proofs.Lists.{Has-right}
 use Rattle.key_queues.proofs.Standing.{one_of_key}
 use Rattle.std.specs.Bool.{beq}
-use Rattle.lock_table.specs.Turns.{Turned, mark_at, turned_if}
-use Rattle.lock_queue.specs.Dequeues.{has_wants}
+use Rattle.lock_table.specs.Turns.{Turned, is_wanting, mark_at, turned_if}
+use Rattle.lock_queue.specs.Dequeues.{has_wants, with_wants}
 use Rattle.lock_table.specs.Reads.{request_at}
-use Rattle.lock_table.specs.Departures.{stays_beside, IsLeft, is_chosen, is_leaver_at, is_of, may_be_leavers}
+use Rattle.lock_table.specs.Departures.{stays_beside, without_key, IsLeft, is_chosen, is_leaver_at, is_of, may_be_leavers}
 use Rattle.key_queues.proofs.Orders.{filter_same as same_where, without_gone, without_other, without_kept, without_left, there_last, filter_short}
 use Rattle.lock_table.proofs.Altering.{filter_each}
 use Rattle.lock_table.proofs.Reading.{kept_present}
@@ -357,14 +357,65 @@ twice a b c k = grind (arith, common_steps)
 still : (a k : Bool) → k ≡ turned_if (not (beq a a)) k
 still a k = grind (arith, common_steps)
 
-pub turned_then : (s t u : Stored) (l m n : List Bool) → ((x : ℕ) → is_there x u.order ≡ true → is_there x t.order ≡ true)
+-- a request that is present and has wants was and had before: where the same are present with the same wants, and where one gave
+-- up a want
+pub wanting_before : (t u : Stored) (x : ℕ)
+    → (is_there x u.order ≡ true → (is_there x t.order ≡ true) × ((filed_at u x).request ≡ (filed_at t x).request))
+    → is_wanting u x ≡ true
+    → is_wanting t x ≡ true
+wanting_before t u x same h =
+    let both = and_parts (is_there x u.order) (has_wants (filed_at u x).request) h in
+    grind (arith, common_steps, both.0, both.1, same both.0)
+
+some_wants : (w : Want) (ws : List Want) → not (length (w ∷ ws) == 0) ≡ true
+some_wants w ws = ap not (ne_eqb (suc (length ws)) 0 (λ e. absurd (omega arith)))
+
+some_before : (ws : List Want) (k : ℕ) → not (length (remove ws k) == 0) ≡ true → not (length ws == 0) ≡ true
+some_before [] zero h = h
+some_before [] (suc k) h = h
+some_before (w ∷ ws) k h = some_wants w ws
+
+pub wanting_less : (s t : Stored) (locks more : List Lock) (p k x : ℕ) → LosesWant (state_of s locks) (state_of t more) p k → is_wanting t x ≡ true
+    → is_wanting s x ≡ true
+wanting_less s t locks more p k x less h =
+    elim (cases_eq x p) [
+      | inl is ↦
+          let both = and_parts (is_there x t.order) (has_wants (filed_at t x).request) h in
+          let left : (filed_at t x).request ≡ with_wants (filed_at s x).request (remove (filed_at s x).request.wants.items k) =
+          subst (λ y. (filed_at t y).request ≡ with_wants (filed_at s y).request (remove (filed_at s y).request.wants.items k)) (sym is) less.left in
+          let some = some_before (filed_at s x).request.wants.items k (subst (λ (r : Request). has_wants r ≡ true) left both.1) in
+          grind (arith, common_steps, both.0, some, less.order)
+      | inr ne ↦ wanting_before s t x (λ present. (subst (λ l. is_there x l ≡ true) less.order present, less.others x ne)) h
+    ]
+
+some_kept : (test : Want → Bool) (ws : List Want) → not (length (filter test ws) == 0) ≡ true → not (length ws == 0) ≡ true
+some_kept test [] h = h
+some_kept test (w ∷ ws) h = some_wants w ws
+
+pub wanting_given : (t u : Stored) (p x : ℕ) (key : Key) → (is_there x u.order ≡ true → is_there x t.order ≡ true)
+    → (is_there p u.order ≡ true → (filed_at u p).request ≡ without_key key (filed_at t p).request)
+    → ((y : ℕ) → (y ≡ p → ⊥) → (filed_at u y).request ≡ (filed_at t y).request)
+    → is_wanting u x ≡ true
+    → is_wanting t x ≡ true
+wanting_given t u p x key stays given others h =
+    elim (cases_eq x p) [
+      | inl is ↦
+          let both = and_parts (is_there x u.order) (has_wants (filed_at u x).request) h in
+          let left : (filed_at u x).request ≡ without_key key (filed_at t x).request =
+          subst (λ y. is_there y u.order ≡ true → (filed_at u y).request ≡ without_key key (filed_at t y).request) (sym is) given both.0 in
+          let some = some_kept (λ v. not (same_key key v.key)) (filed_at t x).request.wants.items (subst (λ (r : Request). has_wants r ≡ true) left both.1) in
+          grind (arith, common_steps, some, stays both.0)
+      | inr ne ↦ wanting_before t u x (λ there. (stays there, others x ne)) h
+    ]
+
+pub turned_then : (s t u : Stored) (l m n : List Bool) → ((x : ℕ) → is_wanting u x ≡ true → is_wanting t x ≡ true)
     → Turned s t l m
     → Turned t u m n
     → Turned s u l n
 turned_then s t u l m n stay first second x h =
     grind (arith, common_steps, second x h, first x (stay x h), twice (filed_at s x).granted (filed_at t x).granted (filed_at u x).granted (mark_at l x))
 
-pub turned_still : (s t : Stored) (m : List Bool) → ((x : ℕ) → is_there x t.order ≡ true → (filed_at t x).granted ≡ (filed_at s x).granted)
+pub turned_still : (s t : Stored) (m : List Bool) → ((x : ℕ) → is_wanting t x ≡ true → (filed_at t x).granted ≡ (filed_at s x).granted)
     → Turned s t m m
 turned_still s t m same x h =
     subst (λ b. mark_at m x ≡ turned_if (not (beq (filed_at s x).granted b)) (mark_at m x)) (sym (same x h)) (still (filed_at s x).granted (mark_at m x))
@@ -376,7 +427,7 @@ has_where_named r key h = go r.wants.items h
   where
     go : (ws : List Want) → names ws key ≡ true → not (length ws == 0) ≡ true
     go [] h = cc
-    go (w ∷ ws) h = ap not (ne_eqb (suc (length ws)) 0 (λ e. absurd (omega arith)))
+    go (w ∷ ws) h = some_wants w ws
 
 -- who is still there was there, and is another
 pub there_beside : (x p : ℕ) (xs : List ℕ) → StandsOnce xs → is_there x (order_without xs p) ≡ true → (x ≢ p) × (is_there x xs ≡ true)
@@ -445,11 +496,16 @@ pub gone : (s t u : Stored) (locks : List Lock) (p : ℕ) (l m : List Bool) → 
 gone s t u locks p l m table present none turned lt is =
     let beside : (x : ℕ) → is_there x (order_without t.order p) ≡ true → (x ≢ p) × (is_there x t.order ≡ true) =
     λ x h. there_beside x p t.order table.kept.once h in
+    let other : (x : ℕ) → is_there x (order_without t.order p) ≡ true → filed_at (removed t p) x ≡ filed_at t x =
+    λ x h. filed_other t (removed t p) p unused_filed lt refl x (beside x h).0 in
     let still =
     turned_still t (removed t p) m
-    (λ x h. ap (λ (f : Filed). f.granted) (filed_other t (removed t p) p unused_filed lt refl x (beside x h).0)) in
-    subst (λ (v : Stored). IsTable (state_of v locks) × Turned s v l m) (sym is)
-    (left_store t locks p table present none lt, turned_then s t (removed t p) l m m (λ x h. (beside x h).1) turned still)
+    (λ x h. ap (λ (f : Filed). f.granted) (other x (and_parts _ (has_wants (filed_at (removed t p) x).request) h).0)) in
+    subst (λ (v : Stored). IsTable (state_of v locks) × Turned s v l m) (sym is) (
+      left_store t locks p table present none lt,
+      turned_then s t (removed t p) l m m
+          (λ x h. wanting_before t (removed t p) x (λ there. ((beside x there).1, ap (λ (f : Filed). f.request) (other x there))) h) turned still,
+    )
 
 -- of the requests that stay, each is as it was
 pub left_next : (s t u : Stored) (before : List ℕ) (p : ℕ) → StandsOnce s.order → IsLeft s t (request_at s) (stays_beside before)

@@ -25,7 +25,7 @@ use Rattle.lock_queue.proofs.Lists.{Has-map, list_all-Has, list_all-each, map-Ha
 use Rattle.key_queues.proofs.Keeping.{Has-there, there_split, flags_tell_grants}
 use Rattle.lock_table.proofs.Altering.{filter_each, map_each, map_twice, there_Has}
 use Rattle.std.proofs.lemmas.Grind.{common_steps}
-use Rattle.lock_table.proofs.Named.{fewer_named, job_named, level_named}
+use Rattle.lock_table.proofs.Named.{fewer_named, job_named, level_named, some_wants}
 use Rattle.lock_queue.specs.declared.call.LockReply.TheVariants.{Done, Refused}
 use Rattle.lock_queue.specs.Outcomes.{Outcome, first_refusal, outcome, unless_refused}
 use Rattle.lock_queue.proofs.WellKept.{well-named}
@@ -204,9 +204,17 @@ left_kind job (DequeueId id) r s e = grind (arith, common_steps)
 same_test : (was is told : Bool) → ((turned_if (not (beq was is)) false && is) && told) ≡ ((told && not was) && (true && is))
 same_test was is told = grind (arith, common_steps)
 
+-- each request of a table that is right has wants
+turned_all : (s t : Stored) (before after : List Bool) → AreRight t → Turned s t before after
+    → (x : ℕ) → is_there x t.order ≡ true
+    → mark_at after x ≡ turned_if (not (beq (filed_at s x).granted (filed_at t x).granted)) (mark_at before x)
+turned_all s t before after right turned x there = turned x (grind (arith, common_steps, there, some_wants (request_at t x) (right x there)))
+
 module _ (s t : Stored) (locks more : List Lock) (left : Request → Option Request) (before after : List Bool)
     (labels : (r q : Request) → left r ≡ Some q → grant_of q ≡ grant_of r) (kinds : (r q : Request) → left r ≡ Some q → q.kind ≡ r.kind)
-    (leaves : LeavesBy left s t) (none : (x : ℕ) → mark_at before x ≡ false) (turned : Turned s t before after) where
+    (leaves : LeavesBy left s t) (none : (x : ℕ) → mark_at before x ≡ false)
+    (turned : (x : ℕ) → is_there x t.order ≡ true
+    → mark_at after x ≡ turned_if (not (beq (filed_at s x).granted (filed_at t x).granted)) (mark_at before x)) where
   raised_is : (x : ℕ) → is_there x s.order ≡ true → leaves.stays x ≡ true
       → is_raised t after x ≡ rises (state_of s locks) (state_of t more) leaves.stays x
   raised_is x present stay =
@@ -230,11 +238,11 @@ module _ (s t : Stored) (locks more : List Lock) (left : Request → Option Requ
       ∙ sym (flags_tell_who_rises (state_of s locks) (state_of t more) left leaves.stays was is leaves.left_is leaves.order)
 
 module _ (s t : Stored) (locks more : List Lock) (job : ℕ) (before after : List Bool) (was : IsTable (state_of s locks)) (is : IsTable (state_of t more))
-    (none : (x : ℕ) → mark_at before x ≡ false) (turned : Turned s t before after) where
+    (none : (x : ℕ) → mark_at before x ≡ false) (turned : Turned s t before after) (right : AreRight t) where
   -- the grants that a call makes by what it leaves
   woken_by_call : (call : LockCall) → LeavesBy (left_of job call) s t → grants_marked t after ≡ woken (left_of job call) (requests_in s)
   woken_by_call call leaves =
-      woken_marked s t locks more (left_of job call) before after (left-labels job call) (left_kind job call) leaves none turned was is
+      woken_marked s t locks more (left_of job call) before after (left-labels job call) (left_kind job call) leaves none (turned_all s t before after right turned) was is
 
   -- where it is done
   pub woken_done : (size : ℕ) (call : LockCall) → LeavesBy (left_of job call) s t → (outcome_of size (requests_in s) job call).reply ≡ Done

@@ -19,6 +19,6 @@ requests t = requests_in t.store
 abbrev pub IsRight : {n : ℕ} → ℕ → Table n → Type 0
 IsRight size t = IsWhole size t.store t.keys
 
--- the mark of each request that is present turned where its flag did
+-- the mark of each request that is present and has wants turned where its flag did
 abbrev pub AreTurned : {n : ℕ} → Table n → Table n → Type 0
 AreTurned s t = Turned s.store t.store s.turns t.turns

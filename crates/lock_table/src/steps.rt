@@ -31,7 +31,8 @@ pub fn place_of<const REQS: usize>(store: &Store<REQS>, places: &[u16], job: u8)
     None
 }
 
-/// Sets the flag of a request right: where it is granted, it stays so.
+/// Sets the flag of a request right: where it is granted, it stays so. Its mark turns with it, but for that of a
+/// request without wants, which is on its way out.
 #[inline(always)]
 pub fn renew<const REQS: usize>(
     store: &mut Store<REQS>,
@@ -50,8 +51,9 @@ pub fn renew<const REQS: usize>(
         return;
     }
     let granted = keys.all_count(f.queues.as_slice(), p);
+    let stays = !f.request.wants.is_empty();
     store.set_granted(p, granted);
-    turns.turn_if(p, granted);
+    turns.turn_if(p, granted && stays);
 }
 
 /// Takes the k-th want of a request out of its queue, whose number is the result.

@@ -81,12 +81,10 @@ impl<const REQS: usize> Turns<REQS> {
 
     /// Whether a place is marked.
     pub fn is_marked(&self, p: u16) -> bool
+        requires { p < REQS }
         ensures { result ≡ mark_at self.now p }
     {
-        match self.marks.get(p as usize) {
-            Some(mark) => *mark,
-            None => false,
-        }
+        self.marks[p as usize]
     }
 
     /// Whether no mark was turned.

@@ -15,11 +15,8 @@ fn is_raised<const REQS: usize>(store: &Store<REQS>, turns: &Turns<REQS>, p: u16
     requires { is_there p store.now.order ≡ true }
     ensures { result ≡ is_raised store.now turns.now p }
 {
-    if !turns.is_marked(p) {
-        return false;
-    }
     let f = store.get(p);
-    f.granted && is_told_of(f.request.kind)
+    turns.is_marked(p) && f.granted && is_told_of(f.request.kind)
 }
 
 /// Fills in the grants of the marked places whose jobs are told, in order of arrival. Where none is marked, or

@@ -1,6 +1,6 @@
 use Rattle.std.proofs.Common.{◌≡◌, ◌∙◌, subst, true}
 use Rattle.key_queues.specs.Tables.{is_there}
-use Rattle.lock_table.proofs.Filing.{turned_then}
+use Rattle.lock_table.proofs.Filing.{turned_then, wanting_before}
 use Rattle.lock_table.proofs.table.Table.extend.Goals as goal
 
 pub loop-more-preserved : goal.loop-more-preserved
@@ -21,5 +21,7 @@ loop-more-preserved g c =
       full = c.let_in_next-more.ensures.full;
       turns =
           turned_then c.args.self.now.store c.loop-more.self.store c.let_in_next-more.new.self.store c.args.self.now.turns c.loop-more.self.turns
-          c.let_in_next-more.new.self.turns (λ x h. subst (λ l. is_there x l ≡ true) e.order h) was.turns c.let_in_next-more.ensures.turns;
+          c.let_in_next-more.new.self.turns
+          (λ x h. wanting_before c.loop-more.self.store c.let_in_next-more.new.self.store x (λ there. (subst (λ l. is_there x l ≡ true) e.order there, e.at x)) h)
+          was.turns c.let_in_next-more.ensures.turns;
     }

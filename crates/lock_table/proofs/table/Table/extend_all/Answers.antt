@@ -3,7 +3,7 @@ use Rattle.lock_queue.specs.declared.want.Want.{Want}
 use Rattle.key_queues.specs.Tables.{is_there}
 use Rattle.lock_table.specs.Changing.{IsExtending}
 use Rattle.lock_table.proofs.Writing.{extending_more, extending_none, rest_is}
-use Rattle.lock_table.proofs.Filing.{turned_then}
+use Rattle.lock_table.proofs.Filing.{turned_then, wanting_before}
 use Rattle.lock_table.proofs.table.Table.extend_all.Goals as goal
 
 pub loop-c-preserved-in_default : goal.loop-c-preserved-in_default
@@ -34,6 +34,7 @@ loop-c-preserved g c =
       between = both.0;
       extended = both.1;
       turns =
-          turned_then s.store t.store u.store s.turns t.turns u.turns (λ x h. subst (λ l. is_there x l ≡ true) c.extend.ensures.extended.order h)
+          turned_then s.store t.store u.store s.turns t.turns u.turns
+          (λ x h. wanting_before t.store u.store x (λ there. (subst (λ l. is_there x l ≡ true) c.extend.ensures.extended.order there, c.extend.ensures.extended.at x)) h)
           c.loop-c.invariant.turns c.extend.ensures.turns;
     }

@@ -2,7 +2,7 @@ use Rattle.std.proofs.Common.{◌∙◌, sym, refl, lit<}
 use Rattle.lock_queue.specs.Dequeues.{has_wants}
 use Rattle.lock_table.specs.Reads.{request_at}
 use Rattle.lock_table.specs.Departures.{without_key}
-use Rattle.lock_table.proofs.Filing.{stays_in, turned_still, turned_then}
+use Rattle.lock_table.proofs.Filing.{stays_in, turned_still, turned_then, wanting_given}
 use Rattle.lock_table.proofs.Named.{found_place, is_next, key_there, left_start, next_left, next_present, not_missed}
 use Rattle.lock_table.proofs.table.Table.give_up_named.Goals as goal
 
@@ -56,6 +56,9 @@ loop-w-preserved g c =
           at.0 at.1 at.2 gives.given gives.others gives.order;
       turns =
           turned_then s t u c.args.self.now.turns c.loop-w.self.turns c.give_up_key.new.self.turns
-          (λ x h. stays_in (has_wants (without_key w.key (request_at t p))) x p t.order u.order inv.table.kept.once gives.order h)
+          (λ x h.
+          wanting_given t u p x w.key
+          (stays_in (has_wants (without_key w.key (request_at t p))) x p t.order u.order inv.table.kept.once gives.order) gives.given gives.others
+          h)
           inv.turns gives.turns;
     }

@@ -2,7 +2,7 @@ use Rattle.std.proofs.Common.{◌≡◌, ◌<◌, ◌-◌, ◌∙◌, sym, ap, s
 use Rattle.std.proofs.lemmas.List.Edits.{length-remove}
 use Rattle.key_queues.specs.Tables.{is_there}
 use Rattle.key_queues.specs.Stores.{filed_at}
-use Rattle.lock_table.proofs.Filing.{absent, gone, turned_then}
+use Rattle.lock_table.proofs.Filing.{absent, gone, turned_then, wanting_less}
 use Rattle.lock_table.proofs.table.Table.leave.Goals as goal
 
 pub loop-left-preserved : goal.loop-left-preserved
@@ -19,7 +19,9 @@ loop-left-preserved g c =
       others = λ x ne. left.others x ne ∙ was.others x ne;
       turns =
           turned_then c.args.self.now.store c.loop-left.self.store c.depart.new.self.store c.args.self.now.turns c.loop-left.self.turns
-          c.depart.new.self.turns (λ x h. subst (λ l. is_there x l ≡ true) left.order h) was.turns c.depart.ensures.turns;
+          c.depart.new.self.turns
+          (λ x h. wanting_less c.loop-left.self.store c.depart.new.self.store c.loop-left.self.keys c.depart.new.self.keys c.args.p (c.loop-left.left - 1) x left h)
+          was.turns c.depart.ensures.turns;
     }
 
 pub returns-then-not-contains-clause-order : goal.returns-then-not-contains-clause-order

@@ -4,7 +4,7 @@ use Rattle.key_queues.specs.Tables.{is_there}
 use Rattle.key_queues.proofs.Lists.{take_next}
 use Rattle.lock_table.specs.Reads.{request_at}
 use Rattle.lock_table.specs.Departures.{IsLeft, stays_beside}
-use Rattle.lock_table.proofs.Filing.{left_next, left_none, there_beside, turned_then, turned_still}
+use Rattle.lock_table.proofs.Filing.{left_next, left_none, there_beside, turned_then, turned_still, wanting_before}
 use Rattle.lock_table.proofs.table.Table.leave_all.Goals as goal
 
 pub loop-i-init : goal.loop-i-init
@@ -29,6 +29,11 @@ loop-i-preserved g c =
           c.requires.table.kept.once inv.left c.leave.ensures.order inv.table.kept.once c.leave.ensures.others);
       turns =
           turned_then c.args.self.now.store c.loop-i.self.store c.leave.new.self.store c.args.self.now.turns c.loop-i.self.turns c.leave.new.self.turns
-          (λ x h. (there_beside x p c.loop-i.self.store.order inv.table.kept.once (subst (λ l. is_there x l ≡ true) c.leave.ensures.order h)).1)
+          (λ x h.
+          wanting_before c.loop-i.self.store c.leave.new.self.store x
+          (λ there.
+          let both = there_beside x p c.loop-i.self.store.order inv.table.kept.once (subst (λ l. is_there x l ≡ true) c.leave.ensures.order there) in
+          (both.1, c.leave.ensures.others x both.0))
+          h)
           inv.turns c.leave.ensures.turns;
     }
