@@ -14,8 +14,8 @@ use Rattle.lock_queue.proofs.Fitting.{eq-same_key, names-found, same_key-eq, sam
 use Rattle.key_queues.specs.declared.lock.Lock.{Lock}
 use Rattle.key_queues.specs.Locks.{lock_at}
 use Rattle.key_queues.specs.Stores.{Stored, filed_at, without_place}
-use Rattle.lock_table.specs.Filing.{state_of}
-use Rattle.key_queues.specs.States.{State, IsTable, IsUsed, LosesWant}
+use Rattle.lock_table.specs.Filing.{own_at, state_of}
+use Rattle.key_queues.specs.States.{State, IsTable, LosesWant, is_open}
 use Rattle.key_queues.specs.Tables.{is_there, QueuesOf, StandsOnce, places_at}
 use Rattle.key_queues.proofs.Using.{position_found, as_many_queues, kept_there, there_at, there_kept}
 use Rattle.lock_table.specs.Reads.{request_at}
@@ -23,11 +23,10 @@ use Rattle.lock_table.specs.Departures.{without_key, IsWantOf, IsLeft, left_name
 use Rattle.key_queues.specs.Opened.{is_open_for}
 use Rattle.lock_table.proofs.Arriving.{apart_at}
 use Rattle.key_queues.proofs.Finding.{open_parts, find_misses}
-use Rattle.lock_table.proofs.Altering.{queue_of_key, filter_each, open_named, found_of_job}
+use Rattle.lock_table.proofs.Altering.{filter_each, open_named, found_of_job}
 use Rattle.lock_queue.proofs.Lists.{list_all-Has, Has-filter, filter-Has, flat_map-Has, map-Has}
 use Rattle.std.proofs.lemmas.Grind.{common_steps}
 use Rattle.std.proofs.lemmas.List.Folds.{list_any-append}
-use Rattle.std.proofs.lemmas.List.{get_or_read}
 use Rattle.std.proofs.lemmas.Option.{slice_get-get_or}
 use Rattle.lock_queue.specs.declared.refusal.Refusal.{Refusal}
 use Rattle.lock_queue.specs.declared.request.Request.{Request}
@@ -39,6 +38,7 @@ use Rattle.key_queues.proofs.Orders.{filter_same}
 use Rattle.lock_table.specs.Whole.{AreRight, JobsAreApart, level_at, requests_in}
 use Rattle.lock_table.proofs.Filing.{has_where_named, order_step, left_next, left_none}
 use Rattle.lock_queue.specs.declared.refusal.Refusal.TheVariants.{NotPresent}
+use Rattle.lock_table.proofs.Queued.{queue_is, queued_is}
 use Rattle.lock_table.proofs.Reading.{requests_of_places}
 
 -- ---- wants are found by their keys and leave
@@ -66,42 +66,30 @@ key_at key (w ∷ ws) (m ∷ ns) (suc k) n q e = key_at key ws ns k n q.1 e
 key_at key [] (m ∷ ns) k n q e = absurd q
 key_at key (w ∷ ws) [] k n q e = absurd q
 
--- the only want is that of the key which is named
-only_named : (ws : List Want) (key : Key) → names ws key ≡ true → length ws ≡ 1 → (get_or ws 0 unused_want).key ≡ key
-only_named [] key h e = grind (arith, common_steps)
-only_named (w ∷ []) key h e = grind (arith, common_steps, same_key-eq w.key key)
-only_named (w ∷ v ∷ ws) key h e = absurd (omega (arith, e))
+-- which of a request's wants stands in a queue
+pub record StandsAt (s : Stored) (locks : List Lock) (p n k : ℕ) : Type 0 where
+  pub want : IsWantOf s p (lock_at locks n).key k
+  pub own : own_at s p k ≡ n
+
+pub stands_at : (s : Stored) (locks : List Lock) (p n k : ℕ) → IsTable (state_of s locks) → is_there p s.order ≡ true
+    → is_open (lock_at locks n).queue ≡ true
+    → names (filed_at s p).request.wants.items (lock_at locks n).key ≡ true
+    → k ≡ position_or_len (λ m. m == n) (filed_at s p).queues.items
+    → StandsAt s locks p n k
+stands_at s locks p n k table present open_is named at =
+    let own = (filed_at s p).queues.items in
+    let found = position_found n own (queued_is s locks n table open_is p present ∙ named) in
+    let some = slice_get-get_or own (position_or_len (λ m. m == n) own) 0 found.0 in
+    subst (StandsAt s locks p n) (sym at)
+    (record {
+      want = record {
+        within = found.0;
+        of = key_at (λ m. (lock_at locks m).key) (filed_at s p).request.wants.items own (position_or_len (λ m. m == n) own) n (table.kept.queues p present) found.1;
+      };
+      own = cc (some, found.1);
+    })
 
 module _ (store : Stored) (locks : List Lock) (p : ℕ) (key : Key) where
-  pub key_found : (n : ℕ) → IsTable (state_of store locks) → is_there p store.order ≡ true
-      → names (filed_at store p).request.wants.items key ≡ true
-      → is_open_for key (lock_at locks n) ≡ true
-      → IsWantOf store p key (position_or_len (λ m. m == n) (filed_at store p).queues.items)
-  key_found n table present named t =
-      let s : State = state_of store locks in
-      let m = queue_of_key s p key table.kept present named in
-      let parts = open_parts key (lock_at locks n) t in
-      let u : IsUsed s n = table.used n parts.0 in
-      let same : m.0 ≡ n = table.kept.one p m.0 u.place n m.1 u.stands (m.2 ∙ sym parts.1) in
-      let there : is_there n (s.own p) ≡ true = subst (λ j. is_there j (s.own p) ≡ true) same m.1.there in
-      let found = position_found n (s.own p) there in
-      record {
-        within = found.0;
-        of = key_at s.key (s.at p).wants.items (s.own p) (position_or_len (λ j. j == n) (s.own p)) n (table.kept.queues p present) found.1 ∙ parts.1;
-      }
-
-  pub only_want : IsTable (state_of store locks) → is_there p store.order ≡ true
-      → names (filed_at store p).request.wants.items key ≡ true
-      → length (filed_at store p).queues.items ≡ 1
-      → IsWantOf store p key 0
-  only_want table present named one =
-      let s : State = state_of store locks in
-      let few = as_many_queues (λ w n. s.key n ≡ w.key) (s.at p).wants.items (s.own p) (table.kept.queues p present) in
-      record {
-        within = omega (arith, one);
-        of = only_named (filed_at store p).request.wants.items key named (few ∙ one);
-      }
-
   pub key_lost : IsTable (state_of store locks) → is_there p store.order ≡ true
       → names (filed_at store p).request.wants.items key ≡ true
       → ((n : ℕ) → is_open_for key (lock_at locks n) ≡ false)
@@ -190,18 +178,24 @@ pub record IsNext (s : Stored) (job : ℕ) (named : List Want) (i : ℕ) (w : Wa
   pub new : names (take i named) w.key ≡ false
   pub more : take (i + 1) named ≡ take i named ++ w ∷ []
 
-pub is_next : (s : Stored) (job : ℕ) (named : List Want) (i : ℕ) (w : Want) → first_refusal (dequeue_fault (requests_in s) job) [] named ≡ None
+pub is_next : (s : Stored) (job : ℕ) (named : List Want) (i : ℕ) → first_refusal (dequeue_fault (requests_in s) job) [] named ≡ None
     → i < length named
-    → w ≡ get_or named i w
-    → IsNext s job named i w
-is_next s job named i w passed lt at =
+    → IsNext s job named i (get_or named i unused_want)
+is_next s job named i passed lt =
     let both = or_else-None _ _ (passes_at (dequeue_fault (requests_in s) job) [] named i passed lt) in
-    subst (IsNext s job named i) (sym (get_or_read named i w lt at unused_want))
-    (record {
+    record {
       has = has_key s job (get_or named i unused_want).key (not-false _ (refuse_if-None _ _ both.1));
       new = refuse_if-None _ _ both.0;
       more = take_next named i (get_or named i unused_want) (slice_get-get_or named i unused_want lt);
-    })
+    }
+
+-- it is none of the keys that come later
+pub named_apart : (named : List Want) (i j : ℕ) → i < j → j < length named → (key : Key) → names (take j named) key ≡ false
+    → same_key (get_or named i unused_want).key key ≡ false
+named_apart [] i j lt within key new = absurd (omega arith)
+named_apart (w ∷ named) i zero lt within key new = absurd (omega arith)
+named_apart (w ∷ named) zero (suc j) lt within key new = grind (arith, common_steps, new)
+named_apart (w ∷ named) (suc i) (suc j) lt within key new = grind (arith, common_steps, new, named_apart named i j)
 
 -- wants of other keys stay
 names_left : (ws named : List Want) (key : Key) → names ws key ≡ true → names named key ≡ false
@@ -422,3 +416,33 @@ module _ (s : Stored) (job : ℕ) (named : List Want) (p : ℕ) (is : IsSoleName
       has =
           ap (λ l. names (all_wants l) is.want.key) (requests_of_places (request_at s) s.order job ∙ ap (map (request_at s)) is.sole.own)
           ∙ ap (λ l. names l is.want.key) (append-nil (request_at s p).wants.items) ∙ is.sole.named
+
+-- what is known of a key that is given up next: the lock that was found for it, and the places of its queue
+pub record GivesUpNamed (s t : Stored) (locks : List Lock) (job i : ℕ) (named : List Want) (n : ℕ) (places : List ℕ) : Type 0 where
+  pub open_is : is_open (lock_at locks n).queue ≡ true
+  pub key_is : (lock_at locks n).key ≡ (get_or named i unused_want).key
+  pub next : IsNext s job named i (get_or named i unused_want)
+  pub has : HasKey t job (get_or named i unused_want).key
+  pub places_are : places ≡ places_at (request_at t) t.order (get_or named i unused_want).key
+
+pub gives_up_named : (s t : Stored) (locks more : List Lock) (job i : ℕ) (named : List Want) (n : ℕ) (places : List ℕ)
+    → IsTable (state_of s locks)
+    → IsTable (state_of t more)
+    → IsLeft s t (left_named s job (take i named)) (λ x. has_wants (left_named s job (take i named) x))
+    → first_refusal (dequeue_fault (requests_in s) job) [] named ≡ None
+    → i < length named
+    → is_open_for (get_or named i unused_want).key (lock_at more n) ≡ true
+    → places ≡ (lock_at more n).queue.places
+    → GivesUpNamed s t more job i named n places
+gives_up_named s t locks more job i named n places was table left passed lt open_for is =
+    let key : Key = (get_or named i unused_want).key in
+    let parts = open_parts key (lock_at more n) open_for in
+    let next = is_next s job named i passed lt in
+    record {
+      open_is = parts.0;
+      key_is = parts.1;
+      next = next;
+      has = next_present s t t job i named (get_or named i unused_want) next was.kept.once left;
+      places_are =
+          is ∙ (queue_is t more n table parts.0).places ∙ ap (λ (k : Key). places_at (request_at t) t.order k) parts.1;
+    }

@@ -1,17 +1,29 @@
--- The numbers of wants' locks stay what they are while a want of another key is entered.
-use Rattle.std.proofs.Common.{◌≡◌, ◌∙◌, sym, ap, ℕ, true, false, List, Option, Some, None, inl, inr, arith, IfSome}
-use Rattle.std.proofs.lemmas.Bool.{cases_eq}
+-- What was found of wants' keys stays so while a want of another key is entered, or given up.
+use Rattle.std.proofs.Common.{◌≡◌, ◌∙◌, ◌<◌, ◌≤◌, ◌+◌, sym, ap, ℕ, true, false, List, Option, Some, None, inl, inr, arith, IfSome, get_or, length, subst, [], ◌∷◌, ◌++◌}
+use Rattle.std.proofs.lemmas.Bool.{both_ways, cases_eq, false_from_ne_true}
+use Rattle.std.proofs.Math.Seq.{get_or-append_seam}
 use Rattle.std.proofs.lemmas.Grind.{common_steps}
+use Rattle.std.proofs.lemmas.List.{get_or_append_left, get_or_read}
 use Rattle.lock_queue.specs.declared.key.Key.{Key}
 use Rattle.lock_queue.specs.declared.want.Want.{Want}
 use Rattle.lock_queue.specs.Keys.{same_key}
+use Rattle.lock_queue.proofs.Fitting.{eq-same_key, same_key-eq}
+use Rattle.key_queues.specs.declared.found.Found.{Found}
 use Rattle.key_queues.specs.declared.lock.Lock.{Lock}
+use Rattle.key_queues.specs.Hashes.{hash_of}
 use Rattle.key_queues.specs.Found.{IsEntered, IsFound}
 use Rattle.key_queues.specs.Kept.{appended}
 use Rattle.key_queues.specs.Locks.{lock_at}
 use Rattle.key_queues.specs.Opened.{is_closed, is_open_for}
 use Rattle.key_queues.proofs.Finding.{open_parts}
+use Rattle.lock_queue.specs.Unused.{unused_want}
+use Rattle.lock_table.specs.Arrivals.{no_found}
+use Rattle.lock_table.specs.Departures.{KeepsLocks}
 use Rattle.lock_table.proofs.Filing.{lock_mine, lock_other}
+
+-- keys with different hashes are different
+pub other_hash : (a b : Key) → (hash_of a ≡ hash_of b → ⊥) → same_key a b ≡ false
+other_hash a b ne = false_from_ne_true (same_key a b) (λ t. ne (ap hash_of (same_key-eq a b t)))
 
 -- a lock of another key is not open for this one, and neither is one that is not open
 other_key : (w : Want) (key : Key) (l : Lock) → same_key w.key key ≡ false → l.key ≡ w.key → is_open_for key l ≡ false
@@ -26,6 +38,26 @@ same_found : (locks most : List Lock) (key : Key) (o : Option ℕ) → ((m : ℕ
     → IfSome o (λ n. is_open_for key (lock_at most n) ≡ true)
 same_found locks most key None same found = tt
 same_found locks most key (Some n) same found = same n ∙ found
+
+-- what one more look-up gave
+pub found_more : (locks : List Lock) (wants : List Want) (found : List Found) (i : ℕ) (w : Want) (seen : Found) → length found ≡ i → i < length wants
+    → w ≡ get_or wants i w
+    → IsFound locks w.key seen
+    → ((j : ℕ) → j < i → IsFound locks (get_or wants j unused_want).key (get_or found j no_found))
+    → (j : ℕ) → j < i + 1
+    → IsFound locks (get_or wants j unused_want).key (get_or (found ++ seen ∷ []) j no_found)
+found_more locks wants found i w seen long lt read here was j below =
+    elim (cases_eq j i) [
+      | inl is ↦
+          let last : get_or (found ++ seen ∷ []) i no_found ≡ seen =
+          subst (λ k. get_or (found ++ seen ∷ []) k no_found ≡ seen) long (get_or-append_seam found seen [] no_found) in
+          subst (λ k. IsFound locks (get_or wants k unused_want).key (get_or (found ++ seen ∷ []) k no_found)) (sym is)
+          (subst (IsFound locks (get_or wants i unused_want).key) (sym last)
+          (subst (λ (v : Want). IsFound locks v.key seen) (get_or_read wants i w lt read unused_want) here))
+      | inr ne ↦
+          subst (IsFound locks (get_or wants j unused_want).key) (sym (get_or_append_left found (seen ∷ []) no_found j (omega (arith, below, ne, long))))
+          (was j (omega (arith, below, ne)))
+    ]
 
 module _ (locks most : List Lock) (p n : ℕ) (w : Want) (key : Key) (e : IsEntered locks most p w n) (other : same_key w.key key ≡ false) where
   -- the lock of the want that is entered
@@ -57,8 +89,37 @@ module _ (locks most : List Lock) (p n : ℕ) (w : Want) (key : Key) (e : IsEnte
             (lock_other e.middle most n (appended (lock_at e.middle n).queue p w) e.ready.within e.after m ne ∙ e.ready.others m ne)
       ]
 
-  pub found_later : (o : Option ℕ) → IsFound locks key o → IsFound most key o
-  found_later o f = record {
-    found = same_found locks most key o open_as_before f.found;
+  pub found_later : (seen : Found) → IsFound locks key seen → IsFound most key seen
+  found_later seen f = record {
+    hash = f.hash;
+    found = same_found locks most key seen.number open_as_before f.found;
     none = λ is m. open_as_before m ∙ f.none is m;
   }
+
+-- a lock that is open stays so where its key and its queue do
+pub still_open : (locks more : List Lock) (n m : ℕ) (key : Key) → KeepsLocks locks more n → (m ≡ n → ⊥) → is_open_for key (lock_at locks m) ≡ true
+    → is_open_for key (lock_at more m) ≡ true
+still_open locks more n m key keeps ne open_for = grind (arith, common_steps, keeps.keys m, keeps.queues m ne, open_for)
+
+-- and so do the locks of the keys that are named later
+pub later_open : (locks more : List Lock) (n i : ℕ) (named : List Want) (found : List Found) → KeepsLocks locks more n
+    → (lock_at locks n).key ≡ (get_or named i unused_want).key
+    → ((j : ℕ) → i < j → j < length named → same_key (get_or named i unused_want).key (get_or named j unused_want).key ≡ false)
+    → ((j : ℕ) → i ≤ j → j < length named
+    → IfSome (get_or found j no_found).number (λ m. is_open_for (get_or named j unused_want).key (lock_at locks m) ≡ true))
+    → (j : ℕ) → i + 1 ≤ j → j < length named
+    → IfSome (get_or found j no_found).number (λ m. is_open_for (get_or named j unused_want).key (lock_at more m) ≡ true)
+later_open locks more n i named found keeps is apart was j above within = go (get_or found j no_found).number (was j (omega (arith, above)) within)
+  where
+    key : Key
+    key = (get_or named j unused_want).key
+
+    go : (o : Option ℕ) → IfSome o (λ m. is_open_for key (lock_at locks m) ≡ true) → IfSome o (λ m. is_open_for key (lock_at more m) ≡ true)
+    go None h = tt
+    go (Some m) h =
+        let other : m ≡ n → ⊥ =
+        λ e.
+        both_ways (same_key (get_or named i unused_want).key key) (apart j (omega (arith, above)) within)
+        (eq-same_key (get_or named i unused_want).key key
+        (sym is ∙ ap (λ z. (lock_at locks z).key) (sym e) ∙ (open_parts key (lock_at locks m) h).1)) in
+        still_open locks more n m key keeps other h

@@ -1,7 +1,7 @@
 -- The wants of a key stand in the queue of its open lock.
 use Rattle.std.proofs.Common.{◌≡◌, ◌<◌, ◌∙◌, sym, ap, subst, ℕ, Bool, true, false, ◌&&◌, ◌==◌, List, [], ◌∷◌, length, get_or, filter, map}
 use Rattle.std.proofs.Common.{is_some, refl, arith}
-use Rattle.std.specs.List.{All, list_all, list_any, position_or_len}
+use Rattle.std.specs.List.{All, find, list_all, list_any, position_or_len}
 use Rattle.std.proofs.lemmas.Bool.{or_right}
 use Rattle.std.proofs.lemmas.Grind.{common_steps}
 use Rattle.std.proofs.lemmas.List.Folds.{list_any-append}
@@ -36,6 +36,17 @@ any_filter f g t [] same within = refl
 any_filter f g t (x ∷ xs) same within =
     let rest = any_filter f g t xs (λ y h. same y (or_right (x == y) (is_there y xs) h)) within in
     grind (arith, common_steps, rest, same x, within x)
+
+-- what two tests find that say the same, and what is found by one
+any_each : (f g : ℕ → Bool) (xs : List ℕ) → ((x : ℕ) → is_there x xs ≡ true → f x ≡ g x) → list_any f xs ≡ list_any g xs
+any_each f g [] same = refl
+any_each f g (x ∷ xs) same =
+    let rest = any_each f g xs (λ y h. same y (or_right (x == y) (is_there y xs) h)) in
+    grind (arith, common_steps, rest, same x)
+
+found_any : (t : ℕ → Bool) (xs : List ℕ) → is_some (find t xs) ≡ list_any t xs
+found_any t [] = refl
+found_any t (x ∷ xs) = grind (arith, common_steps, found_any t xs)
 
 -- whether a job has a want of a key, request by request
 names_by : (at : ℕ → Request) (order : List ℕ) (job : ℕ) (key : Key)
@@ -151,6 +162,14 @@ module _ (s : Stored) (locks : List Lock) (n : ℕ) (t : IsTable (state_of s loc
     wanted_at_places =
         ap (list_any (stands_of s job n)) queue_is.places
         ∙ wanted_among (λ p. names (request_at s p).wants.items key) (λ p h. grind (arith, common_steps, h))
+
+    -- which is where one of the queue's places is the job's
+    pub wanted_by_place : is_some (find (λ p. (request_at s p).job == job) (lock_at locks n).queue.places) ≡ names (wants_of (requests_in s) job) key
+    wanted_by_place =
+        found_any (λ p. (request_at s p).job == job) (lock_at locks n).queue.places
+        ∙ any_each (λ p. (request_at s p).job == job) (stands_of s job n) (lock_at locks n).queue.places
+        (λ p h. let parts = there_parts p h in grind (arith, common_steps, there_is p parts.0 parts.1))
+        ∙ wanted_at_places
 
     pub wanted_of_job : list_any (stands_of s job n) (places_of s job) ≡ names (wants_of (requests_in s) job) key
     wanted_of_job = wanted_among (λ p. (filed_at s p).request.job == job) (λ p h. grind (arith, common_steps, h))

@@ -1,10 +1,11 @@
 -- A request comes, and its wants are entered one by one (this project's profile).
-use Rattle.std.specs.Prelude.{◌≡◌, ◌≤◌, ◌<◌, ℕ, List, [], ◌∷◌, ◌++◌, Option, None, length, slice_index_or, take, true}
+use Rattle.std.specs.Prelude.{◌≡◌, ◌≤◌, ◌<◌, ℕ, List, [], ◌∷◌, ◌++◌, None, length, slice_index_or, take, true}
 use Rattle.word36.specs.declared.sizes.TheConstants.{JOBS, LOCKS_A_CALL}
 use Rattle.lock_queue.specs.declared.want.Want.{Want}
 use Rattle.lock_queue.specs.Dequeues.{with_wants}
 use Rattle.lock_queue.specs.Unused.{unused_want}
 use Rattle.lock_queue.specs.WellFormed.{are_apart}
+use Rattle.key_queues.specs.declared.found.Found.{Found}
 use Rattle.key_queues.specs.declared.lock.Lock.{Lock}
 use Rattle.key_queues.specs.Beginnings.{is_share_of}
 use Rattle.key_queues.specs.Found.{IsFound}
@@ -28,10 +29,14 @@ pub record Admits (locks : List Lock) (w : Want) : Type 0 where
 abbrev pub AdmitsFrom : ℕ → List Lock → List Want → Type 0
 AdmitsFrom k locks wants = (j : ℕ) → k ≤ j → j < length wants → Admits locks (slice_index_or wants j unused_want)
 
--- the numbers of the open locks of wants, if there are any, from the k-th on
-abbrev pub AreFound : ℕ → List Lock → List Want → List (Option ℕ) → Type 0
-AreFound k locks wants numbers =
-    (j : ℕ) → k ≤ j → j < length wants → IsFound locks (slice_index_or wants j unused_want).key (slice_index_or numbers j None)
+-- what stands for a look-up that was not made
+abbrev pub no_found : Found
+no_found = record { hash = 0; number = None }
+
+-- what the look-ups of the keys of wants gave, from the k-th on
+abbrev pub AreFound : ℕ → List Lock → List Want → List Found → Type 0
+AreFound k locks wants found =
+    (j : ℕ) → k ≤ j → j < length wants → IsFound locks (slice_index_or wants j unused_want).key (slice_index_or found j no_found)
 
 -- no request has more queues than a call names locks
 abbrev pub AreShort : Stored → Type 0

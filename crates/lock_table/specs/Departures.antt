@@ -7,6 +7,8 @@ use Rattle.lock_queue.specs.Dequeues.{with_wants, without_keys_of}
 use Rattle.lock_queue.specs.Grants.{staying_if}
 use Rattle.lock_queue.specs.Keys.{same_key}
 use Rattle.key_queues.specs.Tables.{is_there}
+use Rattle.key_queues.specs.declared.lock.Lock.{Lock}
+use Rattle.key_queues.specs.Locks.{lock_at}
 use Rattle.lock_queue.specs.Jobs.{is_among}
 use Rattle.key_queues.specs.declared.filed.Filed.{Filed}
 use Rattle.key_queues.specs.Stores.{Stored, filed_at, is_blocked, places_of}
@@ -18,6 +20,11 @@ use Rattle.lock_table.specs.declared.leaving.Leavers.TheVariants.{All, Job, Id, 
 -- a request without its want of a key
 abbrev pub without_key : Key → Request → Request
 without_key key r = with_wants r (filter (λ v. not (same_key key v.key)) r.wants.items)
+
+-- each lock keeps its key, and each but one its queue
+pub record KeepsLocks (locks more : List Lock) (n : ℕ) : Type 0 where
+  pub keys : (m : ℕ) → (lock_at more m).key ≡ (lock_at locks m).key
+  pub queues : (m : ℕ) → (m ≡ n → ⊥) → (lock_at more m).queue ≡ (lock_at locks m).queue
 
 -- the k-th want of a request is that of a key
 pub record IsWantOf (s : Stored) (p : ℕ) (key : Key) (k : ℕ) : Type 0 where

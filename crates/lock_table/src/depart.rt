@@ -2,39 +2,16 @@
 ghost use Rattle.std.specs.Prelude.{◌≡◌, ◌==◌, ℕ, true, if◌then◌else◌};
 ghost use Rattle.lock_queue.specs.Dequeues.{has_wants};
 ghost use Rattle.lock_queue.specs.Queue.{names};
-ghost use Rattle.key_queues.specs.States.{IsTable};
+ghost use Rattle.key_queues.specs.Locks.{lock_at};
+ghost use Rattle.key_queues.specs.States.{IsTable, is_open};
 ghost use Rattle.key_queues.specs.Tables.{is_there};
 ghost use Rattle.key_queues.specs.Stores.{filed_at, without_place};
-ghost use Rattle.lock_table.specs.Filing.{state_of};
 ghost use Rattle.lock_table.specs.Reads.{request_at};
-ghost use Rattle.lock_table.specs.Departures.{IsLeft, IsWantOf, stays_beside, without_key};
+ghost use Rattle.lock_table.specs.Departures.{IsLeft, KeepsLocks, stays_beside, without_key};
 ghost use Rattle.lock_table.specs.Tables.{AreTurned, state};
 
 use crate::table::Table;
-use key_queues::{Keys, Store, index_of};
-use lock_queue::Key;
-
-/// Which want of a request is that of a key. Where it has only one, nothing is looked up.
-fn want_of_key<const REQS: usize>(
-    store: &Store<REQS>,
-    keys: &Keys<REQS>,
-    p: u16,
-    key: &Key,
-) -> usize
-    requires table { IsTable (state_of store.now keys.now) }
-    requires present { is_there p store.now.order ≡ true }
-    requires named { names (filed_at store.now p).request.wants.items key.now ≡ true }
-    ensures { IsWantOf store.now p key.now result }
-{
-    let queues = store.get(p).queues.as_slice();
-    if queues.len() == 1 {
-        return 0;
-    }
-    match keys.find(key) {
-        Some(n) => index_of(queues, n),
-        None => 0,
-    }
-}
+use key_queues::index_of;
 
 impl<const REQS: usize> Table<REQS> {
     /// The request of a place, if there is one, gives up all of its wants, from the last to the first, and
@@ -69,21 +46,24 @@ impl<const REQS: usize> Table<REQS> {
         }
     }
 
-    /// A request gives up its want of a key, and leaves where it has no other.
-    pub fn give_up_key(&mut self, p: u16, key: &Key)
+    /// A request gives up its want that stands in a queue, and leaves where it has no other.
+    pub fn give_up_in(&mut self, p: u16, n: u16)
         requires table { IsTable (state self.old) }
         requires present { is_there p self.old.store.order ≡ true }
-        requires named { names (filed_at self.old.store p).request.wants.items key.now ≡ true }
+        requires open { is_open (lock_at self.old.keys n).queue ≡ true }
+        requires named { names (filed_at self.old.store p).request.wants.items (lock_at self.old.keys n).key ≡ true }
         ensures table { IsTable (state self.new) }
+        ensures locks { KeepsLocks self.old.keys self.new.keys n }
         ensures given { is_there p self.new.store.order ≡ true
-            → (filed_at self.new.store p).request ≡ without_key key.now (filed_at self.old.store p).request }
+            → (filed_at self.new.store p).request ≡ without_key (lock_at self.old.keys n).key (filed_at self.old.store p).request }
         ensures others { (x : ℕ) → (x ≡ p → ⊥) → (filed_at self.new.store x).request ≡ (filed_at self.old.store x).request }
-        ensures order { self.new.store.order ≡ (if has_wants (without_key key.now (filed_at self.old.store p).request)
+        ensures order { self.new.store.order
+            ≡ (if has_wants (without_key (lock_at self.old.keys n).key (filed_at self.old.store p).request)
             then self.old.store.order
             else without_place self.old.store.order p) }
         ensures turns { AreTurned self.old self.new }
     {
-        let k = want_of_key(&self.store, &self.keys, p, key);
+        let k = index_of(self.store.get(p).queues.as_slice(), n);
         self.depart(p, k);
         if self.store.get(p).request.wants.is_empty() {
             self.store.remove(p);

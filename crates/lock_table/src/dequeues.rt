@@ -1,23 +1,25 @@
 //! Keys are given up.
-ghost use Rattle.std.specs.Prelude.{◌≡◌, ◌≤◌, IfSome, [], None};
-ghost use Rattle.word36.specs.declared.sizes.TheConstants.{MOST_REQUESTS};
+ghost use Rattle.std.specs.Prelude.{◌≡◌, ◌≤◌, IfSome, [], None, length};
+ghost use Rattle.word36.specs.declared.sizes.TheConstants.{JOBS, MOST_REQUESTS};
 ghost use Rattle.lock_queue.specs.declared.call.LockCall.TheVariants.{DequeueAll, DequeueId, DequeueNamed};
 ghost use Rattle.lock_queue.specs.declared.call.LockReply.TheVariants.{Done};
 ghost use Rattle.lock_queue.specs.Grants.{left_of};
 ghost use Rattle.lock_queue.specs.Dequeues.{dequeue_all, dequeue_fault, dequeue_id, dequeue_named, has_wants};
 ghost use Rattle.lock_queue.specs.Outcomes.{first_refusal};
 ghost use Rattle.key_queues.specs.States.{IsTable};
+ghost use Rattle.lock_table.specs.Arrivals.{AreFound};
 ghost use Rattle.lock_table.specs.Whole.{AreRight};
 ghost use Rattle.lock_table.specs.Departures.{IsLeft, IsSoleNamed, LeavesBy, left_named};
 ghost use Rattle.lock_table.specs.Tables.{AreTurned, IsRight, requests, state};
 
+use crate::found::FoundKeys;
 use crate::leaving::{Leavers, Leaving};
-use crate::queues::places_of;
+use crate::queues::lock_of;
 use crate::readings::{has_request, has_request_id, sole_of};
 use crate::refusals::refusal_of_dequeue;
 use crate::steps::place_of;
 use crate::table::Table;
-use key_queues::Store;
+use key_queues::{Found, Store};
 use lock_queue::{LockReply, Refusal, RequestId, Want, Wants};
 
 /// The place of a job's only request, where its only want is the only one that is named. Nothing is looked
@@ -33,27 +35,34 @@ fn sole_named<const REQS: usize>(store: &Store<REQS>, job: u8, named: &[Want]) -
 }
 
 impl<const REQS: usize> Table<REQS> {
-    /// A job gives up the wants of some keys, each of which it has, in turn.
-    fn give_up_named(&mut self, job: u8, named: &[Want])
+    /// A job gives up the wants of some keys, each of which it has, in turn. What is given up first keeps the locks of
+    /// the later keys as they are.
+    fn give_up_named(&mut self, job: u8, named: &[Want], found: &[Found])
         requires whole { IsRight REQS self.old }
+        requires long { length found.now ≡ length named.now }
+        requires found { AreFound 0 self.old.keys named.now found.now }
         requires passed { first_refusal (dequeue_fault (requests self.old) job) [] named.now ≡ None }
         ensures table { IsTable (state self.new) }
         ensures left { IsLeft self.old.store self.new.store (left_named self.old.store job named.now)
             (λ x. has_wants (left_named self.old.store job named.now x)) }
         ensures turns { AreTurned self.old self.new }
     {
-        for w in named {
-            let places = places_of(&self.keys, &w.key);
+        for i in 0..named.len() {
+            let Some(n) = found[i].number else {
+                continue;
+            };
+            let places = lock_of(&self.keys, n).queue.as_slice();
             let Some(p) = place_of(&self.store, places, job) else {
                 continue;
             };
-            self.give_up_key(p, &w.key);
+            self.give_up_in(p, n);
         }
     }
 
     /// A job gives up the wants of named keys.
     pub fn dequeue_named(&mut self, job: u8, named: &Wants) -> LockReply
-        requires { IsRight REQS self.old }
+        requires whole { IsRight REQS self.old }
+        requires job { job ≤ JOBS }
         ensures whole { IsRight REQS self.new }
         ensures requests { requests self.new ≡ (dequeue_named (requests self.old) job named.now.items).requests }
         ensures reply { result ≡ (dequeue_named (requests self.old) job named.now.items).reply }
@@ -64,10 +73,17 @@ impl<const REQS: usize> Table<REQS> {
             self.leave(p);
             return LockReply::Done;
         }
-        if let Some(refusal) = refusal_of_dequeue(&self.store, &self.keys, job, named.as_slice()) {
+        let mut found = FoundKeys::new();
+        if let Some(refusal) = refusal_of_dequeue(
+            &self.store,
+            &self.keys,
+            job,
+            named.as_slice(),
+            &mut found,
+        ) {
             return LockReply::Refused(refusal);
         }
-        self.give_up_named(job, named.as_slice());
+        self.give_up_named(job, named.as_slice(), found.as_slice());
         LockReply::Done
     }
 

@@ -11,11 +11,12 @@ ghost use Rattle.key_queues.specs.Stores.{filed_at};
 ghost use Rattle.lock_table.specs.Arrivals.{AreFound, IsArriving, SameRequests};
 ghost use Rattle.lock_table.specs.Tables.{IsRight, requests};
 
-use crate::refusals::{Numbers, refusal_of_enqueue};
+use crate::found::FoundKeys;
+use crate::refusals::refusal_of_enqueue;
 use crate::steps::renew;
 use crate::table::Table;
 use crate::told::mark_told;
-use key_queues::{Keys, Store};
+use key_queues::{Found, Keys, Store};
 use lock_queue::{Asking, EnqueueKind, LockReply, Refusal, Want, Wants};
 
 /// All wants are in range, whatever they are.
@@ -36,18 +37,18 @@ fn enter_all<const REQS: usize>(
     keys: &mut Keys<REQS>,
     p: u16,
     wants: &[Want],
-    numbers: &[Option<u16>],
+    found: &[Found],
 )
     requires arriving { IsArriving store.old keys.old p wants.now 0 }
-    requires long { length numbers.now ≡ length wants.now }
-    requires numbers { AreFound 0 keys.old wants.now numbers.now }
+    requires long { length found.now ≡ length wants.now }
+    requires found { AreFound 0 keys.old wants.now found.now }
     requires few { length store.old.order ≤ REQS }
     ensures arriving { IsArriving store.new keys.new p wants.now (length wants.now) }
     ensures same { SameRequests store.old store.new p }
 {
     for k in 0..wants.len() {
         let w = &wants[k];
-        let n = keys.enter(p, w, numbers[k]);
+        let n = keys.enter(p, w, found[k]);
         store.push_want(p, w, n);
     }
 }
@@ -55,15 +56,15 @@ fn enter_all<const REQS: usize>(
 impl<const REQS: usize> Table<REQS> {
     /// A request comes last, which is not refused. Its wants stand last in the queues of their keys, and it is
     /// granted where all of them fit behind the requests before it.
-    fn arrive(&mut self, job: u8, asking: &Asking, wants: &Wants, numbers: &[Option<u16>]) -> u16
+    fn arrive(&mut self, job: u8, asking: &Asking, wants: &Wants, found: &[Found]) -> u16
         requires whole { IsRight REQS self.old }
         requires job { (1 ≤ job) × (job ≤ JOBS) }
         requires some { IsTrue (nat_le 1 (length wants.now.items)) }
         requires unshared { IsTrue (list_all shares_rightly wants.now.items) }
         requires passed { first_refusal (enqueue_fault (requests self.old) job) [] wants.now.items ≡ None }
         requires few { length self.old.store.order < REQS }
-        requires long { length numbers.now ≡ length wants.now.items }
-        requires numbers { AreFound 0 self.old.keys wants.now.items numbers.now }
+        requires long { length found.now ≡ length wants.now.items }
+        requires found { AreFound 0 self.old.keys wants.now.items found.now }
         ensures whole { IsRight REQS self.new }
         ensures requests { requests self.new ≡ with_arrival (requests self.old) job asking.now false wants.now }
         ensures granted { (filed_at self.new.store result).granted
@@ -75,13 +76,7 @@ impl<const REQS: usize> Table<REQS> {
     {
         are_in_range(wants.as_slice());
         let p = self.store.insert(job, asking, false);
-        enter_all(
-            &mut self.store,
-            &mut self.keys,
-            p,
-            wants.as_slice(),
-            numbers,
-        );
+        enter_all(&mut self.store, &mut self.keys, p, wants.as_slice(), found);
         renew(&mut self.store, &mut self.turns, &self.keys, p);
         p
     }
@@ -96,18 +91,18 @@ impl<const REQS: usize> Table<REQS> {
         ensures requests { requests self.new ≡ (enqueue REQS (requests self.old) job asking.now wants.now).requests }
         ensures reply { result ≡ (enqueue REQS (requests self.old) job asking.now wants.now).reply }
     {
-        let mut numbers = Numbers::new();
+        let mut found = FoundKeys::new();
         if let Some(refusal) = refusal_of_enqueue(
             &self.store,
             &self.keys,
             job,
             asking,
             wants.as_slice(),
-            &mut numbers,
+            &mut found,
         ) {
             return LockReply::Refused(refusal);
         }
-        let p = self.arrive(job, asking, wants, numbers.as_slice());
+        let p = self.arrive(job, asking, wants, found.as_slice());
         match (self.store.get(p).granted, asking.kind) {
             (true, EnqueueKind::Interrupt) => {
                 mark_told(&mut self.store, p);

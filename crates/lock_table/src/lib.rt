@@ -6,6 +6,7 @@ mod change;
 mod depart;
 mod dequeues;
 mod enqueues;
+mod found;
 mod indexed;
 mod leaving;
 mod queues;

@@ -16,15 +16,12 @@ ghost use Rattle.lock_table.specs.Filing.{state_of};
 ghost use Rattle.lock_table.specs.Reads.{requests_at, stands_of};
 ghost use Rattle.lock_table.specs.Whole.{LevelsAgree, requests_in};
 
+use crate::found::{FoundKeys, is_named};
 use crate::queues::{first_want, lock_of};
-use arrayvec::ArrayVec;
-use key_queues::{Keys, Lock, Store};
+use crate::steps::place_of;
+use key_queues::{Found, Keys, Lock, Store};
 use lock_queue::steps::{is_alike, names_key, reach_level};
 use lock_queue::{Asking, EnqueueKind, Key, Level, Refusal, Want};
-use word36::LOCKS_A_CALL;
-
-/// The numbers of the open locks of a call's keys, where there are any.
-pub type Numbers = ArrayVec<Option<u16>, LOCKS_A_CALL>;
 
 /// Whether a job's request at one of these places stands in a queue.
 fn stands_in<const REQS: usize>(store: &Store<REQS>, places: &[u16], job: u8, n: u16) -> bool
@@ -42,13 +39,8 @@ fn stands_in<const REQS: usize>(store: &Store<REQS>, places: &[u16], job: u8, n:
 
 /// Whether a job has a want of the key of an open lock, looked for in the shorter of two lists: that of the queue's
 /// places, and that of the job's.
-#[tactic(auto, using(crate::proofs::Queued::all_present, crate::proofs::Reading::present_at, crate::proofs::Queued::wanted_at_places, crate::proofs::Queued::wanted_of_job))]
-fn is_wanted_already<const REQS: usize>(
-    store: &Store<REQS>,
-    keys: &Keys<REQS>,
-    job: u8,
-    n: u16,
-) -> bool
+#[tactic(auto, using(crate::proofs::Queued::all_present, crate::proofs::Reading::present_at, crate::proofs::Queued::wanted_of_job))]
+fn is_wanted_by<const REQS: usize>(store: &Store<REQS>, keys: &Keys<REQS>, job: u8, n: u16) -> bool
     requires table { IsTable (state_of store.now keys.now) }
     requires open { is_open (lock_at keys.now n).queue ≡ true }
     requires job { job ≤ JOBS }
@@ -59,7 +51,7 @@ fn is_wanted_already<const REQS: usize>(
     if own.len() < places.len() {
         stands_in(store, own, job, n)
     } else {
-        stands_in(store, places, job, n)
+        place_of(store, places, job).is_some()
     }
 }
 
@@ -92,52 +84,52 @@ fn fault_beside<const REQS: usize>(
     keys: &Keys<REQS>,
     job: u8,
     w: &Want,
-    number: Option<u16>,
+    found: Found,
 ) -> Option<Refusal>
     requires table { IsTable (state_of store.now keys.now) }
     requires levels { LevelsAgree store.now }
     requires job { job ≤ JOBS }
-    requires number { IsFound keys.now w.now.key number }
+    requires found { IsFound keys.now w.now.key found }
     ensures { result ≡ enqueue_fault (requests_in store.now) job [] w.now }
 {
-    let n = number?;
+    let n = found.number?;
     if !is_alike(first_want(store, keys, n), w) {
         Some(Refusal::Differs)
-    } else if is_wanted_already(store, keys, job, n) {
+    } else if is_wanted_by(store, keys, job, n) {
         Some(Refusal::NamedAlready)
     } else {
         None
     }
 }
 
-/// Why the first refused want of a call is refused, if there is one; else the numbers of the wants' locks are
-/// filled in.
+/// Why the first refused want of a call is refused, if there is one; else what the look-ups of the wants' keys gave
+/// is filled in.
 fn first_enqueue_fault<const REQS: usize>(
     store: &Store<REQS>,
     keys: &Keys<REQS>,
     job: u8,
     wants: &[Want],
-    numbers: &mut Numbers,
+    found: &mut FoundKeys,
 ) -> Option<Refusal>
     requires table { IsTable (state_of store.now keys.now) }
     requires levels { LevelsAgree store.now }
     requires job { job ≤ JOBS }
     requires few { length wants.now ≤ LOCKS_A_CALL }
-    requires none { numbers.old.items ≡ [] }
+    requires none { found.old.items ≡ [] }
     ensures fault { result ≡ first_refusal (enqueue_fault (requests_in store.now) job) [] wants.now }
-    ensures long { result ≡ None → length numbers.new.items ≡ length wants.now }
-    ensures numbers { result ≡ None → AreFound 0 keys.now wants.now numbers.new.items }
+    ensures long { result ≡ None → length found.new.items ≡ length wants.now }
+    ensures found { result ≡ None → AreFound 0 keys.now wants.now found.new.items }
 {
     for (i, w) in wants.iter().enumerate() {
-        let n = keys.find(&w.key);
-        numbers.push(n);
-        let fault = fault_beside(store, keys, job, w, n);
+        let seen = keys.look_up(&w.key);
+        let fault = fault_beside(store, keys, job, w, seen);
         if fault.is_some() {
             return fault;
         }
-        if names_key(&wants[..i], &w.key) {
+        if is_named(&wants[..i], found.as_slice(), &w.key, seen.hash) {
             return Some(Refusal::NamedAlready);
         }
+        found.push(seen);
     }
     None
 }
@@ -182,25 +174,25 @@ fn count_of<const REQS: usize>(store: &Store<REQS>, job: u8) -> usize
 
 /// Why a request is not taken in, if it is not: first lock by lock, then by its levels, then for want
 /// of a vector, then where the job has as many requests as it may have, then for want of room. Where it is,
-/// the numbers of its wants' locks are filled in.
+/// what the look-ups of its keys gave is filled in.
 pub fn refusal_of_enqueue<const REQS: usize>(
     store: &Store<REQS>,
     keys: &Keys<REQS>,
     job: u8,
     asking: &Asking,
     wants: &[Want],
-    numbers: &mut Numbers,
+    found: &mut FoundKeys,
 ) -> Option<Refusal>
     requires table { IsTable (state_of store.now keys.now) }
     requires levels { LevelsAgree store.now }
     requires job { job ≤ JOBS }
     requires few { length wants.now ≤ LOCKS_A_CALL }
-    requires none { numbers.old.items ≡ [] }
+    requires none { found.old.items ≡ [] }
     ensures refusal { result ≡ enqueue_refusal REQS (requests_in store.now) job asking.now wants.now }
-    ensures long { result ≡ None → length numbers.new.items ≡ length wants.now }
-    ensures numbers { result ≡ None → AreFound 0 keys.now wants.now numbers.new.items }
+    ensures long { result ≡ None → length found.new.items ≡ length wants.now }
+    ensures found { result ≡ None → AreFound 0 keys.now wants.now found.new.items }
 {
-    let fault = first_enqueue_fault(store, keys, job, wants, numbers);
+    let fault = first_enqueue_fault(store, keys, job, wants, found);
     if fault.is_some() {
         fault
     } else if is_some_too_low(store, job, wants) {
@@ -216,23 +208,34 @@ pub fn refusal_of_enqueue<const REQS: usize>(
     }
 }
 
-/// Why the named wants are not given up, if they are not.
+/// Why the named wants are not given up, if they are not; else what the look-ups of their keys gave is filled in.
 pub fn refusal_of_dequeue<const REQS: usize>(
     store: &Store<REQS>,
     keys: &Keys<REQS>,
     job: u8,
     named: &[Want],
+    found: &mut FoundKeys,
 ) -> Option<Refusal>
     requires table { IsTable (state_of store.now keys.now) }
-    ensures { result ≡ first_refusal (dequeue_fault (requests_in store.now) job) [] named.now }
+    requires job { job ≤ JOBS }
+    requires few { length named.now ≤ LOCKS_A_CALL }
+    requires none { found.old.items ≡ [] }
+    ensures refusal { result ≡ first_refusal (dequeue_fault (requests_in store.now) job) [] named.now }
+    ensures long { result ≡ None → length found.new.items ≡ length named.now }
+    ensures found { result ≡ None → AreFound 0 keys.now named.now found.new.items }
 {
     for (i, w) in named.iter().enumerate() {
-        if names_key(&named[..i], &w.key) {
+        let seen = keys.look_up(&w.key);
+        if is_named(&named[..i], found.as_slice(), &w.key, seen.hash) {
             return Some(Refusal::NamedAlready);
         }
-        if lock_wanted(store, keys, job, &w.key).is_none() {
+        let Some(n) = seen.number else {
+            return Some(Refusal::NotPresent);
+        };
+        if !is_wanted_by(store, keys, job, n) {
             return Some(Refusal::NotPresent);
         }
+        found.push(seen);
     }
     None
 }

@@ -7,6 +7,7 @@ ghost use Rattle.key_queues.specs.States.{IsKept, IsTable, IsUsed, LosesWant, Re
 ghost use Rattle.key_queues.specs.Tables.{is_there};
 ghost use Rattle.key_queues.specs.Filing.{without_want};
 ghost use Rattle.key_queues.specs.Stores.{filed_at};
+ghost use Rattle.lock_table.specs.Departures.{KeepsLocks};
 ghost use Rattle.lock_table.specs.Filing.{own_at, state_of, want_at, want_filed};
 ghost use Rattle.lock_table.specs.Reads.{request_at};
 ghost use Rattle.lock_table.specs.Tables.{AreTurned, state};
@@ -148,6 +149,7 @@ impl<const REQS: usize> Table<REQS> {
         requires want { k < length (filed_at self.old.store p).queues.items }
         ensures table { IsTable (state self.new) }
         ensures left { LosesWant (state self.old) (state self.new) p k }
+        ensures locks { KeepsLocks self.old.keys self.new.keys (own_at self.old.store p k) }
         ensures turns { AreTurned self.old self.new }
     {
         let n = self.give_up(p, k);

@@ -6,6 +6,6 @@ abbrev pub invariant-loop-k : goal.invariant-loop-k
 invariant-loop-k g l = record {
   arriving : IsArriving l.store l.keys l.p l.wants l.k;
   few : length l.store.order ≤ g.row.REQS;
-  found : AreFound l.k l.keys l.wants l.numbers;
+  found : AreFound l.k l.keys l.wants l.found;
   same : SameRequests l.fn.store l.store l.p;
 }

@@ -5,7 +5,7 @@ use Rattle.lock_table.proofs.refusals.fault_beside.Goals as goal
 pub returns-in_err-n : goal.returns-in_err-n
 returns-in_err-n g c =
     let s = c.args.store.now in
-    let none = c.requires.number.none c.in_err-n.was in
+    let none = c.requires.found.none c.in_err-n.was in
     rw (
       c.from_residual.ensures,
       unwanted_at s c.args.keys.now c.args.w.now.key c.requires.table none,

@@ -1,8 +1,9 @@
-use Rattle.std.proofs.Common.{◌≡◌, ◌<◌, ℕ, [], None, get_or, length, take, drop}
+use Rattle.std.proofs.Common.{◌≡◌, ◌<◌, ℕ, [], get_or, length, take, drop}
 use Rattle.lock_queue.specs.Enqueues.{enqueue_fault}
 use Rattle.lock_queue.specs.Outcomes.{first_refusal}
 use Rattle.lock_queue.specs.Unused.{unused_want}
 use Rattle.key_queues.specs.Found.{IsFound}
+use Rattle.lock_table.specs.Arrivals.{no_found}
 use Rattle.lock_table.specs.Whole.{requests_in}
 use Rattle.lock_table.proofs.refusals.first_enqueue_fault.Given as goal
 
@@ -10,6 +11,6 @@ abbrev pub invariant-loop-i : goal.invariant-loop-i
 invariant-loop-i g l = record {
   fault : first_refusal (enqueue_fault (requests_in l.store) l.job) (take l.i l.wants) (drop l.i l.wants)
       ≡ first_refusal (enqueue_fault (requests_in l.store) l.job) [] l.wants;
-  long : length l.numbers.items ≡ l.i;
-  found : (j : ℕ) → j < l.i → IsFound l.keys (get_or l.wants j unused_want).key (get_or l.numbers.items j None);
+  long : length l.found.items ≡ l.i;
+  found : (j : ℕ) → j < l.i → IsFound l.keys (get_or l.wants j unused_want).key (get_or l.found.items j no_found);
 }

@@ -38,9 +38,9 @@ enter_all-requires g c =
     let order = ap (λ (v : Stored). length v.order) c.insert-p.ensures.value in
     let long = length-append s.order (c.insert-p.result ∷ []) in
     let seen = sym c.as_slice-2.ensures.value in
-    let numbers = subst (λ l. AreFound 0 locks l c.args.numbers.now) seen c.requires.numbers in (
+    let found = subst (λ l. AreFound 0 locks l c.args.found.now) seen c.requires.found in (
       lit< tt,
-      (lit< tt, (arriving, (c.requires.long ∙ ap length seen, (numbers, omega (arith, c.requires.few, order, long))))),
+      (lit< tt, (arriving, (c.requires.long ∙ ap length seen, (found, omega (arith, c.requires.few, order, long))))),
     )
 
 pub renew-requires : goal.renew-requires

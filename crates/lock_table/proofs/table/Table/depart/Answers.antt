@@ -1,5 +1,6 @@
 use Rattle.std.proofs.Common.{◌≡◌, ◌==◌, ◌∙◌, sym, ap, subst, ℕ, true, false, not, length, lit<}
 use Rattle.key_queues.specs.Locks.{lock_at}
+use Rattle.lock_table.specs.Departures.{KeepsLocks}
 use Rattle.lock_table.specs.Filing.{own_at, state_of}
 use Rattle.key_queues.specs.States.{State, IsTable, IsUsed, OpenAreUsed, CountsBut}
 use Rattle.key_queues.proofs.Using.{used_after, full_empty, full_extended}
@@ -51,4 +52,19 @@ returns-else-is_empty-clause-table g c =
           (subst (λ j. CountsBut j m) (sym c.give_up-n.ensures.number) (c.give_up-n.ensures.full c.requires.table.full))
           c.extend.ensures.extended c.extend.ensures.full;
       used = open_extended m t c.give_up-n.result c.extend.ensures.extended used stay;
+    }
+
+pub returns-then-is_empty-clause-locks : goal.returns-then-is_empty-clause-locks
+returns-then-is_empty-clause-locks g c =
+    let gives = c.give_up-n.ensures.gives in
+    subst (λ l. KeepsLocks c.args.self.now.keys l (own_at c.args.self.now.store c.args.p c.args.k)) (sym c.close_if_shut.ensures)
+    (record { keys = gives.key; queues = gives.others })
+
+pub returns-else-is_empty-clause-locks : goal.returns-else-is_empty-clause-locks
+returns-else-is_empty-clause-locks g c =
+    let gives = c.give_up-n.ensures.gives in
+    let more = c.extend.ensures.extended in
+    record {
+      keys = λ m. more.key m ∙ gives.key m;
+      queues = λ m ne. more.others m (λ e. ne (e ∙ c.give_up-n.ensures.number)) ∙ gives.others m ne;
     }

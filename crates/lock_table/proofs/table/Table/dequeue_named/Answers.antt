@@ -12,19 +12,19 @@ returns-in-Some g c =
     let named = c.args.named.now.items in
     let sole = rw c.as_slice.ensures.value at c.in-Some.ensures in
     let left =
-    sole_left s c.args.job named c.in-Some.p sole c.leave.new.self.store c.requires.right c.requires.table.kept.once
+    sole_left s c.args.job named c.in-Some.p sole c.leave.new.self.store c.requires.whole.right c.requires.whole.table.kept.once
     c.leave.ensures.order c.leave.ensures.others in
     let all =
     named_gone g.row.REQS s c.leave.new.self.store c.args.self.now.keys c.leave.new.self.keys c.args.job c.args.named.now
-    c.requires c.leave.ensures.table left (sole_passes s c.args.job named c.in-Some.p sole) in
+    c.requires.whole c.leave.ensures.table left (sole_passes s c.args.job named c.in-Some.p sole) in
     record { whole = all.0; requests = all.1; reply = all.2; left = λ done. all.3; turns = λ done. c.leave.ensures.turns }
 
 pub returns : goal.returns
 returns g c =
     let s = c.args.self.now.store in
     let left = rw c.as_slice-3.ensures.value at c.give_up_named.ensures.left in
-    let none = ap (first_refusal (dequeue_fault (requests_in s) c.args.job) []) (sym c.as_slice-2.ensures.value) ∙ sym c.refusal_of_dequeue.ensures ∙ c.in_default-refusal_of_dequeue.is in
+    let none = ap (first_refusal (dequeue_fault (requests_in s) c.args.job) []) (sym c.as_slice-2.ensures.value) ∙ sym c.refusal_of_dequeue.ensures.refusal ∙ c.in_default-refusal_of_dequeue.is in
     let all =
     named_gone g.row.REQS s c.give_up_named.new.self.store c.args.self.now.keys c.give_up_named.new.self.keys c.args.job
-    c.args.named.now c.requires c.give_up_named.ensures.table left none in
+    c.args.named.now c.requires.whole c.give_up_named.ensures.table left none in
     record { whole = all.0; requests = all.1; reply = all.2; left = λ done. all.3; turns = λ done. c.give_up_named.ensures.turns }

@@ -1,64 +1,119 @@
-use Rattle.std.proofs.Common.{◌∙◌, sym, refl, lit<}
+use Rattle.std.proofs.Common.{◌≡◌, ◌∙◌, sym, ap, subst, refl, arith, true, get_or, lit<, IfSome}
+use Rattle.lock_queue.specs.declared.key.Key.{Key}
 use Rattle.lock_queue.specs.Dequeues.{has_wants}
+use Rattle.lock_queue.specs.Queue.{names}
+use Rattle.lock_queue.specs.Unused.{unused_want}
+use Rattle.key_queues.specs.declared.lock.Lock.{Lock}
+use Rattle.key_queues.specs.Locks.{lock_at}
+use Rattle.key_queues.specs.Opened.{is_open_for}
 use Rattle.lock_table.specs.Reads.{request_at}
 use Rattle.lock_table.specs.Departures.{without_key}
 use Rattle.lock_table.proofs.Filing.{stays_in, turned_still, turned_then, wanting_given}
-use Rattle.lock_table.proofs.Named.{found_place, is_next, key_there, left_start, next_left, next_present, not_missed}
+use Rattle.lock_table.proofs.Named.{found_place, gives_up_named, is_next, key_lost, key_there, left_start, named_apart, next_left, not_missed}
+use Rattle.lock_table.proofs.Numbers.{later_open}
 use Rattle.lock_table.proofs.table.Table.give_up_named.Goals as goal
 
-pub loop-w-init : goal.loop-w-init
-loop-w-init g c = record {
+pub loop-i-init : goal.loop-i-init
+loop-i-init g c = record {
   table = c.requires.whole.table;
   left = left_start c.args.self.now.store c.args.job c.requires.whole.right;
   turns = turned_still c.args.self.now.store c.args.self.now.store c.args.self.now.turns (λ x h. refl);
+  open_still = λ j above within. (c.requires.found j above within).found;
 }
+
+pub loop-i-preserved-in_default : goal.loop-i-preserved-in_default
+loop-i-preserved-in_default g c =
+    let s = c.args.self.now.store in
+    let i = c.loop-i.i in
+    let next = is_next s c.args.job c.args.named.now i c.requires.passed c.loop-i-test.true in
+    absurd
+    (key_lost s c.args.self.now.keys next.has.place (get_or c.args.named.now i unused_want).key c.requires.whole.table next.has.present next.has.named
+    ((c.requires.found i (omega arith) c.loop-i-test.true).none c.in_default.is))
 
 pub place_of-requires : goal.place_of-requires
 place_of-requires g c =
-    let t = c.loop-w.self.store in
-    (lit< tt, key_there t c.args.job c.w-item.result.key c.places_of-places.result.now (c.places_of-places.ensures.places t c.loop-w.invariant.table))
-
-pub loop-w-preserved-in_default : goal.loop-w-preserved-in_default
-loop-w-preserved-in_default g c =
     let s = c.args.self.now.store in
-    let t = c.loop-w.self.store in
-    let next = is_next s c.args.job c.args.named.now c.loop-w.w-index c.w-item.result c.requires.passed c.loop-w-test.true c.w-item.is in
-    let has = next_present s t t c.args.job c.loop-w.w-index c.args.named.now c.w-item.result next c.requires.whole.table.kept.once c.loop-w.invariant.left in
+    let t = c.loop-i.self.store in
+    let i = c.loop-i.i in
+    let named = c.args.named.now in
+    let inv = c.loop-i.invariant in
+    let open_for : is_open_for (get_or named i unused_want).key (lock_at c.loop-i.self.keys c.in-Some.n) ≡ true =
+    subst (λ o. IfSome o (λ m. is_open_for (get_or named i unused_want).key (lock_at c.loop-i.self.keys m) ≡ true)) c.in-Some.is
+    (inv.open_still i (omega arith) c.loop-i-test.true) in
+    let up =
+    gives_up_named s t c.args.self.now.keys c.loop-i.self.keys c.args.job i named c.in-Some.n c.as_slice-places.result.now c.requires.whole.table inv.table
+    inv.left c.requires.passed c.loop-i-test.true open_for (c.as_slice-places.ensures.value ∙ ap (λ (l : Lock). l.queue.places) c.lock_of.ensures) in
+    (lit< tt, key_there t c.args.job (get_or named i unused_want).key c.as_slice-places.result.now up.places_are)
+
+pub loop-i-preserved-in_default-place_of : goal.loop-i-preserved-in_default-place_of
+loop-i-preserved-in_default-place_of g c =
+    let s = c.args.self.now.store in
+    let t = c.loop-i.self.store in
+    let i = c.loop-i.i in
+    let named = c.args.named.now in
+    let inv = c.loop-i.invariant in
+    let open_for : is_open_for (get_or named i unused_want).key (lock_at c.loop-i.self.keys c.in-Some.n) ≡ true =
+    subst (λ o. IfSome o (λ m. is_open_for (get_or named i unused_want).key (lock_at c.loop-i.self.keys m) ≡ true)) c.in-Some.is
+    (inv.open_still i (omega arith) c.loop-i-test.true) in
+    let up =
+    gives_up_named s t c.args.self.now.keys c.loop-i.self.keys c.args.job i named c.in-Some.n c.as_slice-places.result.now c.requires.whole.table inv.table
+    inv.left c.requires.passed c.loop-i-test.true open_for (c.as_slice-places.ensures.value ∙ ap (λ (l : Lock). l.queue.places) c.lock_of.ensures) in
     absurd
-    (not_missed t c.args.job c.w-item.result.key c.places_of-places.result.now (c.places_of-places.ensures.places t c.loop-w.invariant.table) has
-    (sym c.place_of.ensures ∙ c.in_default.is))
+    (not_missed t c.args.job (get_or named i unused_want).key c.as_slice-places.result.now up.places_are up.has
+    (sym c.place_of.ensures ∙ c.in_default-place_of.is))
 
-pub give_up_key-requires : goal.give_up_key-requires
-give_up_key-requires g c =
-    let t = c.loop-w.self.store in
-    let at =
-    found_place t c.args.job c.w-item.result.key c.places_of-places.result.now (c.places_of-places.ensures.places t c.loop-w.invariant.table)
-    c.in-Some.p (sym c.place_of.ensures ∙ c.in-Some.is) in
-    (lit< tt, (c.loop-w.invariant.table, (at.0, at.2)))
-
-pub loop-w-preserved : goal.loop-w-preserved
-loop-w-preserved g c =
+pub give_up_in-requires : goal.give_up_in-requires
+give_up_in-requires g c =
     let s = c.args.self.now.store in
-    let t = c.loop-w.self.store in
-    let u = c.give_up_key.new.self.store in
-    let w = c.w-item.result in
-    let p = c.in-Some.p in
-    let inv = c.loop-w.invariant in
-    let gives = c.give_up_key.ensures in
-    let next = is_next s c.args.job c.args.named.now c.loop-w.w-index w c.requires.passed c.loop-w-test.true c.w-item.is in
+    let t = c.loop-i.self.store in
+    let i = c.loop-i.i in
+    let named = c.args.named.now in
+    let inv = c.loop-i.invariant in
+    let open_for : is_open_for (get_or named i unused_want).key (lock_at c.loop-i.self.keys c.in-Some.n) ≡ true =
+    subst (λ o. IfSome o (λ m. is_open_for (get_or named i unused_want).key (lock_at c.loop-i.self.keys m) ≡ true)) c.in-Some.is
+    (inv.open_still i (omega arith) c.loop-i-test.true) in
+    let up =
+    gives_up_named s t c.args.self.now.keys c.loop-i.self.keys c.args.job i named c.in-Some.n c.as_slice-places.result.now c.requires.whole.table inv.table
+    inv.left c.requires.passed c.loop-i-test.true open_for (c.as_slice-places.ensures.value ∙ ap (λ (l : Lock). l.queue.places) c.lock_of.ensures) in
     let at =
-    found_place t c.args.job w.key c.places_of-places.result.now (c.places_of-places.ensures.places t inv.table) p
-    (sym c.place_of.ensures ∙ c.in-Some.is) in
+    found_place t c.args.job (get_or named i unused_want).key c.as_slice-places.result.now up.places_are c.in-Some-place_of.p
+    (sym c.place_of.ensures ∙ c.in-Some-place_of.is) in
+    let has : names (request_at t c.in-Some-place_of.p).wants.items (lock_at c.loop-i.self.keys c.in-Some.n).key ≡ true =
+    subst (λ (k : Key). names (request_at t c.in-Some-place_of.p).wants.items k ≡ true) (sym up.key_is) at.2 in
+    (lit< tt, (inv.table, (at.0, (up.open_is, has))))
+
+pub loop-i-preserved : goal.loop-i-preserved
+loop-i-preserved g c =
+    let s = c.args.self.now.store in
+    let t = c.loop-i.self.store in
+    let i = c.loop-i.i in
+    let named = c.args.named.now in
+    let inv = c.loop-i.invariant in
+    let open_for : is_open_for (get_or named i unused_want).key (lock_at c.loop-i.self.keys c.in-Some.n) ≡ true =
+    subst (λ o. IfSome o (λ m. is_open_for (get_or named i unused_want).key (lock_at c.loop-i.self.keys m) ≡ true)) c.in-Some.is
+    (inv.open_still i (omega arith) c.loop-i-test.true) in
+    let up =
+    gives_up_named s t c.args.self.now.keys c.loop-i.self.keys c.args.job i named c.in-Some.n c.as_slice-places.result.now c.requires.whole.table inv.table
+    inv.left c.requires.passed c.loop-i-test.true open_for (c.as_slice-places.ensures.value ∙ ap (λ (l : Lock). l.queue.places) c.lock_of.ensures) in
+    let u = c.give_up_in.new.self.store in
+    let p = c.in-Some-place_of.p in
+    let w = get_or named i unused_want in
+    let gives = c.give_up_in.ensures in
+    let at =
+    found_place t c.args.job w.key c.as_slice-places.result.now up.places_are p (sym c.place_of.ensures ∙ c.in-Some-place_of.is) in
+    let given = rw up.key_is at gives.given in
+    let order = rw up.key_is at gives.order in
     record {
       table = gives.table;
-      left =
-          next_left s t u c.args.job c.loop-w.w-index c.args.named.now w next c.requires.whole.table.kept.once inv.left p c.requires.whole.jobs
-          at.0 at.1 at.2 gives.given gives.others gives.order;
+      left = next_left s t u c.args.job i named w up.next c.requires.whole.table.kept.once inv.left p c.requires.whole.jobs at.0 at.1 at.2 given gives.others order;
       turns =
-          turned_then s t u c.args.self.now.turns c.loop-w.self.turns c.give_up_key.new.self.turns
+          turned_then s t u c.args.self.now.turns c.loop-i.self.turns c.give_up_in.new.self.turns
           (λ x h.
-          wanting_given t u p x w.key
-          (stays_in (has_wants (without_key w.key (request_at t p))) x p t.order u.order inv.table.kept.once gives.order) gives.given gives.others
-          h)
+          wanting_given t u p x w.key (stays_in (has_wants (without_key w.key (request_at t p))) x p t.order u.order inv.table.kept.once order) given
+          gives.others h)
           inv.turns gives.turns;
+      open_still =
+          later_open c.loop-i.self.keys c.give_up_in.new.self.keys c.in-Some.n i named c.args.found.now gives.locks up.key_is
+          (λ j lt within. named_apart named i j lt within (get_or named j unused_want).key (is_next s c.args.job named j c.requires.passed within).new)
+          inv.open_still;
     }
