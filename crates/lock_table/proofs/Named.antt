@@ -1,5 +1,5 @@
 -- A job gives up keys.
-use Rattle.std.proofs.Common.{◌≡◌, ◌<◌, ◌∙◌, sym, ap, subst, ℕ, zero, suc, true, false, ◌==◌, not, List, [], ◌∷◌, length, get_or, filter, slice_get}
+use Rattle.std.proofs.Common.{◌≡◌, ◌<◌, ◌≤◌, IfSome, ◌∙◌, sym, ap, subst, ℕ, zero, suc, true, false, ◌==◌, not, List, [], ◌∷◌, length, get_or, filter, slice_get}
 use Rattle.std.proofs.Common.{Some, arith, ◌≢◌, ◌+◌, Bool, ◌&&◌, cond, ◌++◌, take, Option, None, inl, inr, refl, append_assoc, append-nil, map}
 use Rattle.std.specs.List.{list_all, position_or_len, remove, All, find}
 use Rattle.std.proofs.lemmas.Bool.{both_ways, and_parts, cases_eq, eq-eqb, eqb-true, false_from_ne_true, not-false}
@@ -11,6 +11,8 @@ use Rattle.lock_queue.specs.Queue.{names, requests_of, wants_of, all_wants}
 use Rattle.lock_queue.specs.Unused.{unused_want}
 use Rattle.lock_queue.specs.WellFormed.{are_apart, is_well_formed}
 use Rattle.lock_queue.proofs.Fitting.{eq-same_key, names-found, same_key-eq, same_key-swap, names-Has}
+use Rattle.key_queues.specs.declared.filed.Filed.{Filed}
+use Rattle.key_queues.specs.declared.found.Found.{Found}
 use Rattle.key_queues.specs.declared.lock.Lock.{Lock}
 use Rattle.key_queues.specs.Locks.{lock_at}
 use Rattle.key_queues.specs.Stores.{Stored, filed_at, without_place}
@@ -18,6 +20,7 @@ use Rattle.lock_table.specs.Filing.{own_at, state_of}
 use Rattle.key_queues.specs.States.{State, IsTable, LosesWant, is_open}
 use Rattle.key_queues.specs.Tables.{is_there, QueuesOf, StandsOnce, places_at}
 use Rattle.key_queues.proofs.Using.{position_found, as_many_queues, kept_there, there_at, there_kept}
+use Rattle.lock_table.specs.Arrivals.{no_found}
 use Rattle.lock_table.specs.Reads.{request_at}
 use Rattle.lock_table.specs.Departures.{without_key, IsWantOf, IsLeft, left_named, IsSoleNamed, stays_beside}
 use Rattle.key_queues.specs.Opened.{is_open_for}
@@ -71,20 +74,25 @@ pub record StandsAt (s : Stored) (locks : List Lock) (p n k : ℕ) : Type 0 wher
   pub want : IsWantOf s p (lock_at locks n).key k
   pub own : own_at s p k ≡ n
 
-pub stands_at : (s : Stored) (locks : List Lock) (p n k : ℕ) → IsTable (state_of s locks) → is_there p s.order ≡ true
+pub stands_at : (s : Stored) (locks : List Lock) (p n k : ℕ) (f : Filed) (own : List ℕ) → IsTable (state_of s locks) → is_there p s.order ≡ true
     → is_open (lock_at locks n).queue ≡ true
     → names (filed_at s p).request.wants.items (lock_at locks n).key ≡ true
-    → k ≡ position_or_len (λ m. m == n) (filed_at s p).queues.items
+    → f ≡ filed_at s p
+    → own ≡ f.queues.items
+    → k ≡ position_or_len (λ m. m == n) own
     → StandsAt s locks p n k
-stands_at s locks p n k table present open_is named at =
-    let own = (filed_at s p).queues.items in
-    let found = position_found n own (queued_is s locks n table open_is p present ∙ named) in
-    let some = slice_get-get_or own (position_or_len (λ m. m == n) own) 0 found.0 in
-    subst (StandsAt s locks p n) (sym at)
+stands_at s locks p n k f own table present open_is named read is at =
+    let queues = (filed_at s p).queues.items in
+    let found = position_found n queues (queued_is s locks n table open_is p present ∙ named) in
+    let some = slice_get-get_or queues (position_or_len (λ m. m == n) queues) 0 found.0 in
+    subst (StandsAt s locks p n)
+    (sym (at ∙ ap (position_or_len (λ m. m == n)) (is ∙ ap (λ (v : Filed). v.queues.items) read)))
     (record {
       want = record {
         within = found.0;
-        of = key_at (λ m. (lock_at locks m).key) (filed_at s p).request.wants.items own (position_or_len (λ m. m == n) own) n (table.kept.queues p present) found.1;
+        of =
+            key_at (λ m. (lock_at locks m).key) (filed_at s p).request.wants.items queues (position_or_len (λ m. m == n) queues) n
+            (table.kept.queues p present) found.1;
       };
       own = cc (some, found.1);
     })
@@ -425,17 +433,22 @@ pub record GivesUpNamed (s t : Stored) (locks : List Lock) (job i : ℕ) (named 
   pub has : HasKey t job (get_or named i unused_want).key
   pub places_are : places ≡ places_at (request_at t) t.order (get_or named i unused_want).key
 
-pub gives_up_named : (s t : Stored) (locks more : List Lock) (job i : ℕ) (named : List Want) (n : ℕ) (places : List ℕ)
+pub gives_up_named : (s t : Stored) (locks more : List Lock) (l : Lock) (job i : ℕ) (named : List Want) (found : List Found) (n : ℕ) (places : List ℕ)
     → IsTable (state_of s locks)
-    → IsTable (state_of t more)
-    → IsLeft s t (left_named s job (take i named)) (λ x. has_wants (left_named s job (take i named) x))
     → first_refusal (dequeue_fault (requests_in s) job) [] named ≡ None
     → i < length named
-    → is_open_for (get_or named i unused_want).key (lock_at more n) ≡ true
-    → places ≡ (lock_at more n).queue.places
+    → IsTable (state_of t more)
+    → IsLeft s t (left_named s job (take i named)) (λ x. has_wants (left_named s job (take i named) x))
+    → ((j : ℕ) → i ≤ j → j < length named
+    → IfSome (get_or found j no_found).number (λ m. is_open_for (get_or named j unused_want).key (lock_at more m) ≡ true))
+    → (get_or found i no_found).number ≡ Some n
+    → l ≡ lock_at more n
+    → places ≡ l.queue.places
     → GivesUpNamed s t more job i named n places
-gives_up_named s t locks more job i named n places was table left passed lt open_for is =
+gives_up_named s t locks more l job i named found n places was passed lt table left open_still number read is =
     let key : Key = (get_or named i unused_want).key in
+    let open_for : is_open_for key (lock_at more n) ≡ true =
+    subst (λ o. IfSome o (λ m. is_open_for key (lock_at more m) ≡ true)) number (open_still i (omega arith) lt) in
     let parts = open_parts key (lock_at more n) open_for in
     let next = is_next s job named i passed lt in
     record {
@@ -444,5 +457,6 @@ gives_up_named s t locks more job i named n places was table left passed lt open
       next = next;
       has = next_present s t t job i named (get_or named i unused_want) next was.kept.once left;
       places_are =
-          is ∙ (queue_is t more n table parts.0).places ∙ ap (λ (k : Key). places_at (request_at t) t.order k) parts.1;
+          is ∙ ap (λ (v : Lock). v.queue.places) read ∙ (queue_is t more n table parts.0).places
+          ∙ ap (λ (k : Key). places_at (request_at t) t.order k) parts.1;
     }

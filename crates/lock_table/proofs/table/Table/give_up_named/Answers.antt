@@ -1,11 +1,9 @@
-use Rattle.std.proofs.Common.{◌≡◌, ◌∙◌, sym, ap, subst, refl, arith, true, get_or, lit<, IfSome}
+use Rattle.std.proofs.Common.{◌≡◌, ◌∙◌, sym, subst, refl, arith, true, get_or, lit<}
 use Rattle.lock_queue.specs.declared.key.Key.{Key}
 use Rattle.lock_queue.specs.Dequeues.{has_wants}
 use Rattle.lock_queue.specs.Queue.{names}
 use Rattle.lock_queue.specs.Unused.{unused_want}
-use Rattle.key_queues.specs.declared.lock.Lock.{Lock}
 use Rattle.key_queues.specs.Locks.{lock_at}
-use Rattle.key_queues.specs.Opened.{is_open_for}
 use Rattle.lock_table.specs.Reads.{request_at}
 use Rattle.lock_table.specs.Departures.{without_key}
 use Rattle.lock_table.proofs.Filing.{stays_in, turned_still, turned_then, wanting_given}
@@ -36,14 +34,13 @@ place_of-requires g c =
     let t = c.loop-i.self.store in
     let i = c.loop-i.i in
     let named = c.args.named.now in
+    let places = c.as_slice-places.result.now in
     let inv = c.loop-i.invariant in
-    let open_for : is_open_for (get_or named i unused_want).key (lock_at c.loop-i.self.keys c.in-Some.n) ≡ true =
-    subst (λ o. IfSome o (λ m. is_open_for (get_or named i unused_want).key (lock_at c.loop-i.self.keys m) ≡ true)) c.in-Some.is
-    (inv.open_still i (omega arith) c.loop-i-test.true) in
     let up =
-    gives_up_named s t c.args.self.now.keys c.loop-i.self.keys c.args.job i named c.in-Some.n c.as_slice-places.result.now c.requires.whole.table inv.table
-    inv.left c.requires.passed c.loop-i-test.true open_for (c.as_slice-places.ensures.value ∙ ap (λ (l : Lock). l.queue.places) c.lock_of.ensures) in
-    (lit< tt, key_there t c.args.job (get_or named i unused_want).key c.as_slice-places.result.now up.places_are)
+    gives_up_named s t c.args.self.now.keys c.loop-i.self.keys c.lock_of.result.now c.args.job i named c.args.found.now c.in-Some.n places
+    c.requires.whole.table c.requires.passed c.loop-i-test.true inv.table inv.left inv.open_still c.in-Some.is c.lock_of.ensures
+    c.as_slice-places.ensures.value in
+    (lit< tt, key_there t c.args.job (get_or named i unused_want).key places up.places_are)
 
 pub loop-i-preserved-in_default-place_of : goal.loop-i-preserved-in_default-place_of
 loop-i-preserved-in_default-place_of g c =
@@ -51,15 +48,14 @@ loop-i-preserved-in_default-place_of g c =
     let t = c.loop-i.self.store in
     let i = c.loop-i.i in
     let named = c.args.named.now in
+    let places = c.as_slice-places.result.now in
     let inv = c.loop-i.invariant in
-    let open_for : is_open_for (get_or named i unused_want).key (lock_at c.loop-i.self.keys c.in-Some.n) ≡ true =
-    subst (λ o. IfSome o (λ m. is_open_for (get_or named i unused_want).key (lock_at c.loop-i.self.keys m) ≡ true)) c.in-Some.is
-    (inv.open_still i (omega arith) c.loop-i-test.true) in
     let up =
-    gives_up_named s t c.args.self.now.keys c.loop-i.self.keys c.args.job i named c.in-Some.n c.as_slice-places.result.now c.requires.whole.table inv.table
-    inv.left c.requires.passed c.loop-i-test.true open_for (c.as_slice-places.ensures.value ∙ ap (λ (l : Lock). l.queue.places) c.lock_of.ensures) in
+    gives_up_named s t c.args.self.now.keys c.loop-i.self.keys c.lock_of.result.now c.args.job i named c.args.found.now c.in-Some.n places
+    c.requires.whole.table c.requires.passed c.loop-i-test.true inv.table inv.left inv.open_still c.in-Some.is c.lock_of.ensures
+    c.as_slice-places.ensures.value in
     absurd
-    (not_missed t c.args.job (get_or named i unused_want).key c.as_slice-places.result.now up.places_are up.has
+    (not_missed t c.args.job (get_or named i unused_want).key places up.places_are up.has
     (sym c.place_of.ensures ∙ c.in_default-place_of.is))
 
 pub give_up_in-requires : goal.give_up_in-requires
@@ -68,15 +64,14 @@ give_up_in-requires g c =
     let t = c.loop-i.self.store in
     let i = c.loop-i.i in
     let named = c.args.named.now in
+    let places = c.as_slice-places.result.now in
     let inv = c.loop-i.invariant in
-    let open_for : is_open_for (get_or named i unused_want).key (lock_at c.loop-i.self.keys c.in-Some.n) ≡ true =
-    subst (λ o. IfSome o (λ m. is_open_for (get_or named i unused_want).key (lock_at c.loop-i.self.keys m) ≡ true)) c.in-Some.is
-    (inv.open_still i (omega arith) c.loop-i-test.true) in
     let up =
-    gives_up_named s t c.args.self.now.keys c.loop-i.self.keys c.args.job i named c.in-Some.n c.as_slice-places.result.now c.requires.whole.table inv.table
-    inv.left c.requires.passed c.loop-i-test.true open_for (c.as_slice-places.ensures.value ∙ ap (λ (l : Lock). l.queue.places) c.lock_of.ensures) in
+    gives_up_named s t c.args.self.now.keys c.loop-i.self.keys c.lock_of.result.now c.args.job i named c.args.found.now c.in-Some.n places
+    c.requires.whole.table c.requires.passed c.loop-i-test.true inv.table inv.left inv.open_still c.in-Some.is c.lock_of.ensures
+    c.as_slice-places.ensures.value in
     let at =
-    found_place t c.args.job (get_or named i unused_want).key c.as_slice-places.result.now up.places_are c.in-Some-place_of.p
+    found_place t c.args.job (get_or named i unused_want).key places up.places_are c.in-Some-place_of.p
     (sym c.place_of.ensures ∙ c.in-Some-place_of.is) in
     let has : names (request_at t c.in-Some-place_of.p).wants.items (lock_at c.loop-i.self.keys c.in-Some.n).key ≡ true =
     subst (λ (k : Key). names (request_at t c.in-Some-place_of.p).wants.items k ≡ true) (sym up.key_is) at.2 in
@@ -88,19 +83,18 @@ loop-i-preserved g c =
     let t = c.loop-i.self.store in
     let i = c.loop-i.i in
     let named = c.args.named.now in
+    let places = c.as_slice-places.result.now in
     let inv = c.loop-i.invariant in
-    let open_for : is_open_for (get_or named i unused_want).key (lock_at c.loop-i.self.keys c.in-Some.n) ≡ true =
-    subst (λ o. IfSome o (λ m. is_open_for (get_or named i unused_want).key (lock_at c.loop-i.self.keys m) ≡ true)) c.in-Some.is
-    (inv.open_still i (omega arith) c.loop-i-test.true) in
     let up =
-    gives_up_named s t c.args.self.now.keys c.loop-i.self.keys c.args.job i named c.in-Some.n c.as_slice-places.result.now c.requires.whole.table inv.table
-    inv.left c.requires.passed c.loop-i-test.true open_for (c.as_slice-places.ensures.value ∙ ap (λ (l : Lock). l.queue.places) c.lock_of.ensures) in
+    gives_up_named s t c.args.self.now.keys c.loop-i.self.keys c.lock_of.result.now c.args.job i named c.args.found.now c.in-Some.n places
+    c.requires.whole.table c.requires.passed c.loop-i-test.true inv.table inv.left inv.open_still c.in-Some.is c.lock_of.ensures
+    c.as_slice-places.ensures.value in
     let u = c.give_up_in.new.self.store in
     let p = c.in-Some-place_of.p in
     let w = get_or named i unused_want in
     let gives = c.give_up_in.ensures in
     let at =
-    found_place t c.args.job w.key c.as_slice-places.result.now up.places_are p (sym c.place_of.ensures ∙ c.in-Some-place_of.is) in
+    found_place t c.args.job w.key places up.places_are p (sym c.place_of.ensures ∙ c.in-Some-place_of.is) in
     let given = rw up.key_is at gives.given in
     let order = rw up.key_is at gives.order in
     record {
