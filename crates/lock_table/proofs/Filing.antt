@@ -19,7 +19,7 @@ use Rattle.key_queues.specs.Filing.{unused_filed, without_want}
 use Rattle.lock_table.specs.Filing.{own_at, want_at, state_of}
 use Rattle.key_queues.specs.Kept.{KeptQueue, fits_next, admitted}
 use Rattle.key_queues.specs.States.{State, Stands, all_count, IsKept, FlagsAll, CountsAll, CountsBut, IsCounted, Renews, LetsIn, GivesUpAt, IsUsed}
-use Rattle.key_queues.specs.States.{IsTable, Leaves, LosesWant, Extended, OpenAreUsed}
+use Rattle.key_queues.specs.States.{IsTable, Leaves, Extended, OpenAreUsed}
 use Rattle.key_queues.specs.Tables.{is_counted, is_there, QueuesOf, StandsOnce}
 use Rattle.key_queues.proofs.Keeping.{letting_in_keeps, giving_up_keeps, leaving_keeps, queues_at, queues_without}
 use Rattle.key_queues.proofs.Moves.{there_without}
@@ -37,7 +37,7 @@ use Rattle.std.specs.Bool.{beq}
 use Rattle.lock_table.specs.Turns.{Turned, is_wanting, mark_at, turned_if}
 use Rattle.lock_queue.specs.Dequeues.{has_wants, with_wants}
 use Rattle.lock_table.specs.Reads.{request_at}
-use Rattle.lock_table.specs.Departures.{stays_beside, without_key, IsLeft, is_chosen, is_leaver_at, is_of, may_be_leavers}
+use Rattle.lock_table.specs.Departures.{stays_beside, IsLeft, is_chosen, is_leaver_at, is_of, may_be_leavers}
 use Rattle.key_queues.proofs.Orders.{filter_same as same_where, without_gone, without_other, without_kept, without_left, there_last, filter_short}
 use Rattle.lock_table.proofs.Altering.{filter_each}
 use Rattle.lock_table.proofs.Reading.{kept_present}
@@ -370,43 +370,30 @@ wanting_before t u x same h =
 some_wants : (w : Want) (ws : List Want) → not (length (w ∷ ws) == 0) ≡ true
 some_wants w ws = ap not (ne_eqb (suc (length ws)) 0 (λ e. absurd (omega arith)))
 
-some_before : (ws : List Want) (k : ℕ) → not (length (remove ws k) == 0) ≡ true → not (length ws == 0) ≡ true
-some_before [] zero h = h
-some_before [] (suc k) h = h
-some_before (w ∷ ws) k h = some_wants w ws
+some_before : (f : List Want → List Want) (ws : List Want) → f [] ≡ [] → not (length (f ws) == 0) ≡ true → not (length ws == 0) ≡ true
+some_before f [] none h = subst (λ l. not (length l == 0) ≡ true) none h
+some_before f (w ∷ ws) none h = some_wants w ws
 
-pub wanting_less : (s t : Stored) (locks more : List Lock) (p k x : ℕ) → LosesWant (state_of s locks) (state_of t more) p k → is_wanting t x ≡ true
-    → is_wanting s x ≡ true
-wanting_less s t locks more p k x less h =
-    elim (cases_eq x p) [
-      | inl is ↦
-          let both = and_parts (is_there x t.order) (has_wants (filed_at t x).request) h in
-          let left : (filed_at t x).request ≡ with_wants (filed_at s x).request (remove (filed_at s x).request.wants.items k) =
-          subst (λ y. (filed_at t y).request ≡ with_wants (filed_at s y).request (remove (filed_at s y).request.wants.items k)) (sym is) less.left in
-          let some = some_before (filed_at s x).request.wants.items k (subst (λ (r : Request). has_wants r ≡ true) left both.1) in
-          grind (arith, common_steps, both.0, some, less.order)
-      | inr ne ↦ wanting_before s t x (λ present. (subst (λ l. is_there x l ≡ true) less.order present, less.others x ne)) h
-    ]
-
-some_kept : (test : Want → Bool) (ws : List Want) → not (length (filter test ws) == 0) ≡ true → not (length ws == 0) ≡ true
-some_kept test [] h = h
-some_kept test (w ∷ ws) h = some_wants w ws
-
-pub wanting_given : (t u : Stored) (p x : ℕ) (key : Key) → (is_there x u.order ≡ true → is_there x t.order ≡ true)
-    → (is_there p u.order ≡ true → (filed_at u p).request ≡ without_key key (filed_at t p).request)
+pub wanting_less : (t u : Stored) (p x : ℕ) (f : List Want → List Want) → f [] ≡ [] → (is_there x u.order ≡ true → is_there x t.order ≡ true)
+    → (is_there p u.order ≡ true → (filed_at u p).request ≡ with_wants (filed_at t p).request (f (filed_at t p).request.wants.items))
     → ((y : ℕ) → (y ≡ p → ⊥) → (filed_at u y).request ≡ (filed_at t y).request)
     → is_wanting u x ≡ true
     → is_wanting t x ≡ true
-wanting_given t u p x key stays given others h =
+wanting_less t u p x f none stays left others h =
     elim (cases_eq x p) [
       | inl is ↦
           let both = and_parts (is_there x u.order) (has_wants (filed_at u x).request) h in
-          let left : (filed_at u x).request ≡ without_key key (filed_at t x).request =
-          subst (λ y. is_there y u.order ≡ true → (filed_at u y).request ≡ without_key key (filed_at t y).request) (sym is) given both.0 in
-          let some = some_kept (λ v. not (same_key key v.key)) (filed_at t x).request.wants.items (subst (λ (r : Request). has_wants r ≡ true) left both.1) in
+          let less : (filed_at u x).request ≡ with_wants (filed_at t x).request (f (filed_at t x).request.wants.items) =
+          subst (λ y. is_there y u.order ≡ true → (filed_at u y).request ≡ with_wants (filed_at t y).request (f (filed_at t y).request.wants.items))
+          (sym is) left both.0 in
+          let some = some_before f (filed_at t x).request.wants.items none (subst (λ (r : Request). has_wants r ≡ true) less both.1) in
           grind (arith, common_steps, some, stays both.0)
       | inr ne ↦ wanting_before t u x (λ there. (stays there, others x ne)) h
     ]
+
+pub none_removed : (k : ℕ) → remove {X = Want} [] k ≡ []
+none_removed zero = refl
+none_removed (suc k) = refl
 
 pub turned_then : (s t u : Stored) (l m n : List Bool) → ((x : ℕ) → is_wanting u x ≡ true → is_wanting t x ≡ true)
     → Turned s t l m

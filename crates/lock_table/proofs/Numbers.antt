@@ -1,9 +1,7 @@
 -- What was found of wants' keys stays so while a want of another key is entered, or given up.
-use Rattle.std.proofs.Common.{◌≡◌, ◌∙◌, ◌<◌, ◌≤◌, ◌+◌, sym, ap, ℕ, true, false, List, Option, Some, None, inl, inr, arith, IfSome, get_or, length, subst, [], ◌∷◌, ◌++◌}
+use Rattle.std.proofs.Common.{◌≡◌, ◌∙◌, ◌<◌, ◌≤◌, ◌+◌, sym, ap, ℕ, true, false, List, Option, Some, None, inl, inr, arith, IfSome, get_or, length}
 use Rattle.std.proofs.lemmas.Bool.{both_ways, cases_eq, false_from_ne_true}
-use Rattle.std.proofs.Math.Seq.{get_or-append_seam}
 use Rattle.std.proofs.lemmas.Grind.{common_steps}
-use Rattle.std.proofs.lemmas.List.{get_or_append_left, get_or_read}
 use Rattle.lock_queue.specs.declared.key.Key.{Key}
 use Rattle.lock_queue.specs.declared.want.Want.{Want}
 use Rattle.lock_queue.specs.Keys.{same_key}
@@ -38,26 +36,6 @@ same_found : (locks most : List Lock) (key : Key) (o : Option ℕ) → ((m : ℕ
     → IfSome o (λ n. is_open_for key (lock_at most n) ≡ true)
 same_found locks most key None same found = tt
 same_found locks most key (Some n) same found = same n ∙ found
-
--- what one more look-up gave
-pub found_more : (locks : List Lock) (wants : List Want) (found : List Found) (i : ℕ) (w : Want) (seen : Found) → length found ≡ i → i < length wants
-    → w ≡ get_or wants i w
-    → IsFound locks w.key seen
-    → ((j : ℕ) → j < i → IsFound locks (get_or wants j unused_want).key (get_or found j no_found))
-    → (j : ℕ) → j < i + 1
-    → IsFound locks (get_or wants j unused_want).key (get_or (found ++ seen ∷ []) j no_found)
-found_more locks wants found i w seen long lt read here was j below =
-    elim (cases_eq j i) [
-      | inl is ↦
-          let last : get_or (found ++ seen ∷ []) i no_found ≡ seen =
-          subst (λ k. get_or (found ++ seen ∷ []) k no_found ≡ seen) long (get_or-append_seam found seen [] no_found) in
-          subst (λ k. IsFound locks (get_or wants k unused_want).key (get_or (found ++ seen ∷ []) k no_found)) (sym is)
-          (subst (IsFound locks (get_or wants i unused_want).key) (sym last)
-          (subst (λ (v : Want). IsFound locks v.key seen) (get_or_read wants i w lt read unused_want) here))
-      | inr ne ↦
-          subst (IsFound locks (get_or wants j unused_want).key) (sym (get_or_append_left found (seen ∷ []) no_found j (omega (arith, below, ne, long))))
-          (was j (omega (arith, below, ne)))
-    ]
 
 module _ (locks most : List Lock) (p n : ℕ) (w : Want) (key : Key) (e : IsEntered locks most p w n) (other : same_key w.key key ≡ false) where
   -- the lock of the want that is entered

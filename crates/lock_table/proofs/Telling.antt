@@ -9,7 +9,6 @@ use Rattle.word36.specs.declared.sizes.TheConstants.{JOBS}
 use Rattle.lock_queue.specs.declared.key.Key.{Key}
 use Rattle.lock_queue.specs.declared.request.Request.{Request}
 use Rattle.lock_queue.specs.declared.want.Want.{Want}
-use Rattle.lock_queue.specs.Dequeues.{has_id, is_of_job}
 use Rattle.lock_queue.specs.Jobs.{first_id, is_blocked_by, is_pending, is_waiting_job, pending, waits_for}
 use Rattle.lock_queue.specs.Jobs.{is_blocked as is_blocked_behind}
 use Rattle.lock_queue.specs.Keys.{same_key}
@@ -134,15 +133,6 @@ module _ (s : Stored) (job : ℕ) (m : MarksGrants s) where
   waits_is other =
       (told s (is_blocked_by job other) (λ p. own p && is_blocked_from s other p) m (λ p present. grind (arith, common_steps, m.marks p present))).1
       ∙ any_among own (is_blocked_from s other) s.order
-
-pub has_request_is : (s : Stored) (job : ℕ) → list_any (is_of_job job) (requests_in s) ≡ not (length (places_of s job) == 0)
-has_request_is s job = any_mapped (is_of_job job) (request_at s) s.order ∙ any_some (λ p. (request_at s p).job == job) s.order
-
-pub has_id_is : (s : Stored) (job id : ℕ)
-    → list_any (has_id job id) (requests_in s) ≡ list_any (λ p. (request_at s p).id == id) (places_of s job)
-has_id_is s job id =
-    any_mapped (has_id job id) (request_at s) s.order
-    ∙ any_among (λ p. (request_at s p).job == job) (λ p. (request_at s p).id == id) s.order
 
 -- ---- one request
 

@@ -14,7 +14,7 @@ use Rattle.key_queues.proofs.Orders.{filter_same, filter_short}
 use Rattle.lock_table.specs.Filing.{state_of}
 use Rattle.lock_table.specs.Whole.{AreRight, IsWhole, JobsAreApart, LevelsAgree, level_at, requests_in}
 use Rattle.lock_queue.specs.declared.want.Want.{Want}
-use Rattle.lock_queue.specs.Dequeues.{has_wants, without_keys_of, without_named, dequeue_fault, dequeue_named, has_id, is_of_job}
+use Rattle.lock_queue.specs.Dequeues.{dequeue_where, has_wants, without_keys_of, without_named, dequeue_fault, dequeue_named, has_id, is_of_job}
 use Rattle.arrayvec.specs.ArrayVec.{ArrayVec}
 use Rattle.lock_queue.specs.declared.call.LockCall.TheVariants.{Modify, DequeueNamed, Enqueue, DequeueAll, DequeueId}
 use Rattle.lock_queue.specs.Grants.{left_of, staying_if, grant_of, is_told_of, woken, unless_refused_grants, woken_by, woken_by_release}
@@ -49,7 +49,7 @@ use Rattle.lock_queue.specs.Jobs.{is_blocking, is_not_blocked_where, released, w
 use Rattle.lock_queue.specs.Jobs.{told_of}
 use Rattle.word36.specs.declared.sizes.TheConstants.{MOST_REQUESTS}
 use Rattle.key_queues.proofs.Marks.{marks_choose}
-use Rattle.lock_table.proofs.Telling.{before_is}
+use Rattle.lock_table.proofs.Telling.{any_mapped, before_is}
 use Rattle.lock_queue.specs.Keys.{same_key}
 use Rattle.key_queues.specs.Beginnings.{fitting}
 use Rattle.key_queues.specs.Kept.{Counts}
@@ -132,6 +132,26 @@ pub left_where : (s t : Stored) (test : Request → Bool) → IsLeft s t (reques
     → requests_in t ≡ filter (λ r. not (test r)) (requests_in s)
 left_where s t test left =
     left_requests s t (request_at s) (λ x. not (test (request_at s x))) left ∙ sym (filter_mapped (λ r. not (test r)) (request_at s) s.order)
+
+-- where none leaves, all stay
+all_stay : (t : ℕ → Bool) (xs : List ℕ) → list_any t xs ≡ false → filter (λ x. not (t x)) xs ≡ xs
+all_stay t [] none = refl
+all_stay t (x ∷ xs) none = grind (arith, common_steps, none, all_stay t xs)
+
+-- what is left, and the answer, where the requests for which a test holds are given up
+pub left_dequeued : (s t : Stored) (test : Request → Bool) (some : Bool) → IsLeft s t (request_at s) (λ x. not (test (request_at s x)))
+    → some ≡ list_any (λ x. test (request_at s x)) s.order
+    → (requests_in t ≡ (dequeue_where (requests_in s) test).requests)
+    × (cond some Done (Refused NotPresent) ≡ (dequeue_where (requests_in s) test).reply)
+left_dequeued s t test true left is =
+    let any : list_any test (requests_in s) ≡ true = any_mapped test (request_at s) s.order ∙ sym is in
+    (grind (arith, common_steps, left_where s t test left, any), grind (arith, common_steps, any))
+left_dequeued s t test false left is =
+    let none : list_any test (requests_in s) ≡ false = any_mapped test (request_at s) s.order ∙ sym is in
+    let same : requests_in t ≡ requests_in s =
+    left_requests s t (request_at s) (λ x. not (test (request_at s x))) left
+    ∙ ap (map (request_at s)) (all_stay (λ x. test (request_at s x)) s.order (sym is)) in
+    (grind (arith, common_steps, same, none), grind (arith, common_steps, none))
 
 pub leaves_by : (left : Request → Option Request) (s t : Stored) (then : ℕ → Request) (stays : ℕ → Bool) → IsLeft s t then stays
     → ((x : ℕ) → left (request_at s x) ≡ staying_if (stays x) (then x))

@@ -15,7 +15,7 @@ ghost use Rattle.lock_table.specs.Tables.{AreTurned, IsRight, requests, state};
 use crate::found::FoundKeys;
 use crate::leaving::{Leavers, Leaving};
 use crate::queues::lock_of;
-use crate::readings::{has_request, has_request_id, sole_of};
+use crate::readings::sole_of;
 use crate::refusals::refusal_of_dequeue;
 use crate::steps::place_of;
 use crate::table::Table;
@@ -97,11 +97,11 @@ impl<const REQS: usize> Table<REQS> {
         ensures left { result ≡ Done → LeavesBy (left_of job DequeueAll) self.old.store self.new.store }
         ensures turns { result ≡ Done → AreTurned self.old self.new }
     {
-        if !has_request(&self.store, job) {
-            return LockReply::Refused(Refusal::NotPresent);
+        if self.release(leaving, &Leavers::Job(job)) {
+            LockReply::Done
+        } else {
+            LockReply::Refused(Refusal::NotPresent)
         }
-        self.release(leaving, &Leavers::Job(job));
-        LockReply::Done
     }
 
     /// A job gives up all its requests of an id.
@@ -114,10 +114,10 @@ impl<const REQS: usize> Table<REQS> {
         ensures left { result ≡ Done → LeavesBy (left_of job (DequeueId id)) self.old.store self.new.store }
         ensures turns { result ≡ Done → AreTurned self.old self.new }
     {
-        if !has_request_id(&self.store, job, id) {
-            return LockReply::Refused(Refusal::NotPresent);
+        if self.release(leaving, &Leavers::Id(job, id)) {
+            LockReply::Done
+        } else {
+            LockReply::Refused(Refusal::NotPresent)
         }
-        self.release(leaving, &Leavers::Id(job, id));
-        LockReply::Done
     }
 }

@@ -1,5 +1,6 @@
 //! Which requests leave as a whole.
 ghost use Rattle.std.specs.Prelude.{◌≡◌, ◌≤◌, filter, length};
+ghost use Rattle.std.specs.List.{list_any};
 ghost use Rattle.word36.specs.declared.sizes.TheConstants.{MOST_REQUESTS};
 ghost use Rattle.lock_table.specs.Whole.{AreRight};
 ghost use Rattle.lock_table.specs.Departures.{LeavesWhere, is_chosen, is_leaver_at, may_be_leavers};
@@ -69,15 +70,17 @@ fn gather<const REQS: usize>(leaving: &mut Leaving, store: &Store<REQS>, who: &L
 }
 
 impl<const REQS: usize> Table<REQS> {
-    /// Requests leave as a whole.
-    pub fn release(&mut self, leaving: &mut Leaving, who: &Leavers)
+    /// Requests leave as a whole. Whether there were any.
+    pub fn release(&mut self, leaving: &mut Leaving, who: &Leavers) -> bool
         requires whole { IsRight REQS self.old }
         requires small { REQS ≤ MOST_REQUESTS }
         ensures whole { IsRight REQS self.new }
+        ensures some { result ≡ list_any (is_leaver_at self.old.store who.now) self.old.store.order }
         ensures left { LeavesWhere self.old.store self.new.store (is_leaver_at self.old.store who.now) }
         ensures turns { AreTurned self.old self.new }
     {
         gather(leaving, &self.store, who);
         self.leave_all(leaving.as_slice());
+        !leaving.is_empty()
     }
 }

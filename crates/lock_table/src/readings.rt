@@ -2,7 +2,6 @@
 ghost use Rattle.std.specs.Prelude.{◌≡◌, ◌<◌, IfSome, Some, length, slice_get, true};
 ghost use Rattle.std.specs.List.{All, find, list_any};
 ghost use Rattle.key_queues.specs.States.{IsTable};
-ghost use Rattle.lock_queue.specs.Dequeues.{has_id, is_of_job};
 ghost use Rattle.lock_queue.specs.Jobs.{is_in_the_way, is_kept_by, is_waiting_job, pending, waits_for};
 ghost use Rattle.lock_queue.specs.Queue.{granted, requests_of, wants_at};
 ghost use Rattle.key_queues.specs.Stores.{filed_at, places_of};
@@ -78,29 +77,6 @@ pub fn is_granted<const REQS: usize>(store: &Store<REQS>, i: usize) -> bool
     ensures { result ≡ granted (requests_in store.now) i }
 {
     store.get(store.order()[i]).granted
-}
-
-/// Whether there is a request of the job.
-#[tactic(auto, using(crate::proofs::Telling::has_request_is))]
-pub fn has_request<const REQS: usize>(store: &Store<REQS>, job: u8) -> bool
-    requires { AreRight store.now }
-    ensures { result ≡ list_any (is_of_job job) (requests_in store.now) }
-{
-    !own_places(store, job).is_empty()
-}
-
-/// Whether there is a request of the job with that id.
-#[tactic(auto, using(crate::proofs::Reading::own_there, crate::proofs::Telling::has_id_is))]
-pub fn has_request_id<const REQS: usize>(store: &Store<REQS>, job: u8, id: RequestId) -> bool
-    requires { AreRight store.now }
-    ensures { result ≡ list_any (has_id job id) (requests_in store.now) }
-{
-    for p in own_places(store, job) {
-        if store.get(*p).request.id == id {
-            return true;
-        }
-    }
-    false
 }
 
 /// The place of a job's only request, where its only want is of a key.

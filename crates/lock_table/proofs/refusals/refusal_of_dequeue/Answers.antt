@@ -1,12 +1,7 @@
-use Rattle.std.proofs.Common.{◌<◌, ◌+◌, ℕ, List, arith, get_or, rules, subst, sym}
+use Rattle.std.proofs.Common.{arith, rules}
 use Rattle.std.proofs.lemmas.Grind.{common_steps}
-use Rattle.lock_queue.specs.Unused.{unused_want}
-use Rattle.key_queues.specs.declared.found.Found.{Found}
-use Rattle.key_queues.specs.Found.{IsFound}
 use Rattle.key_queues.specs.Locks.{lock_at}
 use Rattle.key_queues.proofs.Finding.{found_open, open_parts}
-use Rattle.lock_table.specs.Arrivals.{no_found}
-use Rattle.lock_table.proofs.Numbers.{found_more}
 use Rattle.lock_table.proofs.Queued.{unwanted_by}
 use Rattle.lock_table.proofs.refusals.refusal_of_dequeue.Goals as goal
 
@@ -31,9 +26,5 @@ loop-i-preserved g c =
     record {
       fault = grind (arith, common_steps, is);
       long = search rules;
-      found =
-          subst (λ (l : List Found). (j : ℕ) → j < c.loop-i.i + 1 → IsFound locks (get_or c.args.named.now j unused_want).key (get_or l j no_found))
-          (sym c.push.ensures.items)
-          (found_more locks c.args.named.now c.loop-i.found.items c.loop-i.i w c.look_up-seen.result c.loop-i.invariant.long c.loop-i-test.true
-          c.index-named-i.is c.look_up-seen.ensures c.loop-i.invariant.found);
+      found = λ j below. grind (arith, common_steps, c.loop-i.invariant.found j, c.push.ensures.items, c.look_up-seen.ensures, c.index-named-i.is);
     }

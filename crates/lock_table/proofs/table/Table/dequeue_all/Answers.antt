@@ -1,18 +1,29 @@
-use Rattle.std.proofs.Common.{◌∙◌, not, refl, arith}
+use Rattle.std.proofs.Common.{◌∙◌, not, sym, true, false, refl}
 use Rattle.lock_queue.specs.declared.call.LockCall.TheVariants.{DequeueAll}
 use Rattle.lock_queue.specs.Dequeues.{is_of_job}
-use Rattle.lock_table.specs.Reads.{request_at}
 use Rattle.lock_queue.specs.Grants.{left_of}
-use Rattle.lock_table.proofs.Wholes.{leaves_by, left_where}
+use Rattle.lock_table.specs.Reads.{request_at}
+use Rattle.lock_table.proofs.Wholes.{leaves_by, left_dequeued}
 use Rattle.lock_table.proofs.table.Table.dequeue_all.Goals as goal
-use Rattle.std.proofs.lemmas.Grind.{common_steps}
 
-pub returns-clause-requests : goal.returns-clause-requests
-returns-clause-requests g c =
-    left_where c.args.self.now.store c.release.new.self.store (is_of_job c.args.job) c.release.ensures.left
-    ∙ grind (arith, common_steps, c.has_request.ensures)
+pub returns-then-release : goal.returns-then-release
+returns-then-release g c =
+    let s = c.args.self.now.store in
+    let t = c.release.new.self.store in
+    let both = left_dequeued s t (is_of_job c.args.job) true c.release.ensures.left (sym c.if-release.true ∙ c.release.ensures.some) in
+    record {
+      whole = c.release.ensures.whole;
+      requests = both.0;
+      reply = both.1;
+      left =
+          λ done.
+          leaves_by (left_of c.args.job DequeueAll) s t (request_at s) (λ x. not ((is_of_job c.args.job) (request_at s x))) c.release.ensures.left (λ x. refl);
+      turns = λ done. c.release.ensures.turns;
+    }
 
-pub returns-clause-left : goal.returns-clause-left
-returns-clause-left g c done =
-    leaves_by (left_of c.args.job DequeueAll) c.args.self.now.store c.release.new.self.store (request_at c.args.self.now.store)
-    (λ x. not ((is_of_job c.args.job) (request_at c.args.self.now.store x))) c.release.ensures.left (λ x. refl)
+pub returns-else-release : goal.returns-else-release
+returns-else-release g c =
+    let both =
+    left_dequeued c.args.self.now.store c.release.new.self.store (is_of_job c.args.job) false c.release.ensures.left
+    (sym c.if-release.false ∙ c.release.ensures.some) in
+    record { whole = c.release.ensures.whole; requests = both.0; reply = both.1; left = λ done. absurd (cc); turns = λ done. c.release.ensures.turns }

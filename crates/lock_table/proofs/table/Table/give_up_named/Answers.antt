@@ -1,12 +1,13 @@
-use Rattle.std.proofs.Common.{◌≡◌, ◌∙◌, sym, subst, refl, arith, true, get_or, lit<}
+use Rattle.std.proofs.Common.{◌≡◌, ◌∙◌, sym, subst, refl, arith, true, get_or, lit<, filter, not}
 use Rattle.lock_queue.specs.declared.key.Key.{Key}
 use Rattle.lock_queue.specs.Dequeues.{has_wants}
 use Rattle.lock_queue.specs.Queue.{names}
+use Rattle.lock_queue.specs.Keys.{same_key}
 use Rattle.lock_queue.specs.Unused.{unused_want}
 use Rattle.key_queues.specs.Locks.{lock_at}
 use Rattle.lock_table.specs.Reads.{request_at}
 use Rattle.lock_table.specs.Departures.{without_key}
-use Rattle.lock_table.proofs.Filing.{stays_in, turned_still, turned_then, wanting_given}
+use Rattle.lock_table.proofs.Filing.{stays_in, turned_still, turned_then, wanting_less}
 use Rattle.lock_table.proofs.Named.{found_place, gives_up_named, is_next, key_lost, key_there, left_start, named_apart, next_left, not_missed}
 use Rattle.lock_table.proofs.Numbers.{later_open}
 use Rattle.lock_table.proofs.table.Table.give_up_named.Goals as goal
@@ -103,7 +104,7 @@ loop-i-preserved g c =
       turns =
           turned_then s t u c.args.self.now.turns c.loop-i.self.turns c.give_up_in.new.self.turns
           (λ x h.
-          wanting_given t u p x w.key (stays_in (has_wants (without_key w.key (request_at t p))) x p t.order u.order inv.table.kept.once order) given
+          wanting_less t u p x (filter (λ v. not (same_key w.key v.key))) refl (stays_in (has_wants (without_key w.key (request_at t p))) x p t.order u.order inv.table.kept.once order) given
           gives.others h)
           inv.turns gives.turns;
       open_still =

@@ -1,8 +1,9 @@
-use Rattle.std.proofs.Common.{◌<◌, ◌-◌, ◌∙◌, sym, ap, length, arith}
+use Rattle.std.proofs.Common.{◌≡◌, true, subst, ◌<◌, ◌-◌, ◌∙◌, sym, ap, length, arith}
+use Rattle.std.specs.List.{remove}
 use Rattle.std.proofs.lemmas.List.Edits.{length-remove}
 use Rattle.key_queues.specs.Tables.{is_there}
 use Rattle.key_queues.specs.Stores.{filed_at}
-use Rattle.lock_table.proofs.Filing.{absent, gone, turned_then, wanting_less}
+use Rattle.lock_table.proofs.Filing.{absent, gone, none_removed, turned_then, wanting_less}
 use Rattle.lock_table.proofs.table.Table.leave.Goals as goal
 
 pub loop-left-preserved : goal.loop-left-preserved
@@ -20,7 +21,9 @@ loop-left-preserved g c =
       turns =
           turned_then c.args.self.now.store c.loop-left.self.store c.depart.new.self.store c.args.self.now.turns c.loop-left.self.turns
           c.depart.new.self.turns
-          (λ x h. wanting_less c.loop-left.self.store c.depart.new.self.store c.loop-left.self.keys c.depart.new.self.keys c.args.p (c.loop-left.left - 1) x left h)
+          (λ x h.
+          wanting_less c.loop-left.self.store c.depart.new.self.store c.args.p x (λ ws. remove ws (c.loop-left.left - 1))
+          (none_removed (c.loop-left.left - 1)) (subst (λ l. is_there x l ≡ true) left.order) (λ there. left.left) left.others h)
           was.turns c.depart.ensures.turns;
     }
 

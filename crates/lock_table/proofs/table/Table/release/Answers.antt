@@ -1,5 +1,7 @@
-use Rattle.std.proofs.Common.{◌∙◌}
+use Rattle.std.proofs.Common.{◌∙◌, arith}
+use Rattle.std.proofs.lemmas.Grind.{common_steps}
 use Rattle.lock_table.specs.Departures.{is_leaver_at, stays_beside}
+use Rattle.lock_table.proofs.Telling.{any_some}
 use Rattle.lock_table.proofs.Wholes.{leaves_where, whole_left}
 use Rattle.lock_table.proofs.table.Table.release.Goals as goal
 
@@ -12,3 +14,8 @@ pub returns-clause-left : goal.returns-clause-left
 returns-clause-left g c =
     leaves_where c.args.self.now.store c.leave_all.new.self.store (is_leaver_at c.args.self.now.store c.args.who.now) c.as_slice.result.now
     c.leave_all.ensures.left (c.as_slice.ensures.value ∙ c.gather.ensures)
+
+pub returns-clause-some : goal.returns-clause-some
+returns-clause-some g c =
+    let leaver = is_leaver_at c.args.self.now.store c.args.who.now in
+    grind (arith, common_steps, any_some leaver c.args.self.now.store.order, c.gather.ensures, c.is_empty.ensures)
