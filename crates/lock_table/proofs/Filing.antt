@@ -46,8 +46,6 @@ use Rattle.lock_table.specs.declared.leaving.Leavers.TheVariants.{All as Everyon
 
 -- ---- what the code of a table finds
 
--- ---- what the code of a table finds
-
 -- a request is put in its place, and the others stay
 module _ (s t : Stored) (p : ℕ) (f : Filed) (lt : p < length s.filed) (is : t.filed ≡ set s.filed p f) where
   pub filed_mine : filed_at t p ≡ f

@@ -162,19 +162,19 @@ has_key s job key h =
 
 -- the first place of a job's request among those of a key
 module _ (s : Stored) (job : ℕ) (key : Key) (places : List ℕ) (of : places ≡ places_at (request_at s) s.order key) where
-  pub key_there : All (λ x. is_there x s.order ≡ true) places
+  key_there : All (λ x. is_there x s.order ≡ true) places
   key_there k d lt =
       let x : ℕ = get_or places k d in
       (there_kept (λ y. names (request_at s y).wants.items key) x s.order (subst (λ l. is_there x l ≡ true) of (there_at places k d lt))).0
 
-  pub found_place : (p : ℕ) → find (λ q. (request_at s q).job == job) places ≡ Some p
+  found_place : (p : ℕ) → find (λ q. (request_at s q).job == job) places ≡ Some p
       → (is_there p s.order ≡ true) × ((request_at s p).job ≡ job) × (names (request_at s p).wants.items key ≡ true)
   found_place p at =
       let found = found_of_job s job places p at in
       let both = there_kept (λ y. names (request_at s y).wants.items key) p s.order (subst (λ l. is_there p l ≡ true) of found.0) in
       (both.0, found.1, both.1)
 
-  pub not_missed : HasKey s job key → find (λ q. (request_at s q).job == job) places ≡ None → ⊥
+  not_missed : HasKey s job key → find (λ q. (request_at s q).job == job) places ≡ None → ⊥
   not_missed h none =
       let there = ap (is_there h.place) of ∙ kept_there (λ y. names (request_at s y).wants.items key) h.place s.order h.present h.named in
       both_ways ((request_at s h.place).job == job) (find_misses (λ q. (request_at s q).job == job) places h.place none there)
@@ -270,7 +270,7 @@ module _ (s : Stored) (job : ℕ) (named : List Want) (w : Want) (p : ℕ) where
 -- one step of the loop
 module _ (s t u : Stored) (job i : ℕ) (named : List Want) (w : Want) (next : IsNext s job named i w) (once : StandsOnce s.order)
     (left : IsLeft s t (left_named s job (take i named)) (λ x. has_wants (left_named s job (take i named) x))) where
-  pub next_present : HasKey t job w.key
+  next_present : HasKey t job w.key
   next_present =
       let h = next.has in
       let still = still_named s job (take i named) h.place w.key h.named next.new in
@@ -425,13 +425,15 @@ module _ (s : Stored) (job : ℕ) (named : List Want) (p : ℕ) (is : IsSoleName
           ap (λ l. names (all_wants l) is.want.key) (requests_of_places (request_at s) s.order job ∙ ap (map (request_at s)) is.sole.own)
           ∙ ap (λ l. names l is.want.key) (append-nil (request_at s p).wants.items) ∙ is.sole.named
 
--- what is known of a key that is given up next: the lock that was found for it, and the places of its queue
+-- what is known of a key that is given up next: the lock that was found for it, and the place of the job's request in its queue
 pub record GivesUpNamed (s t : Stored) (locks : List Lock) (job i : ℕ) (named : List Want) (n : ℕ) (places : List ℕ) : Type 0 where
   pub open_is : is_open (lock_at locks n).queue ≡ true
   pub key_is : (lock_at locks n).key ≡ (get_or named i unused_want).key
   pub next : IsNext s job named i (get_or named i unused_want)
-  pub has : HasKey t job (get_or named i unused_want).key
-  pub places_are : places ≡ places_at (request_at t) t.order (get_or named i unused_want).key
+  pub there : All (λ x. is_there x t.order ≡ true) places
+  pub at : (p : ℕ) → find (λ q. (request_at t q).job == job) places ≡ Some p
+      → (is_there p t.order ≡ true) × ((request_at t p).job ≡ job) × (names (request_at t p).wants.items (get_or named i unused_want).key ≡ true)
+  pub missed : find (λ q. (request_at t q).job == job) places ≡ None → ⊥
 
 pub gives_up_named : (s t : Stored) (locks more : List Lock) (l : Lock) (job i : ℕ) (named : List Want) (found : List Found) (n : ℕ) (places : List ℕ)
     → IsTable (state_of s locks)
@@ -451,12 +453,14 @@ gives_up_named s t locks more l job i named found n places was passed lt table l
     subst (λ o. IfSome o (λ m. is_open_for key (lock_at more m) ≡ true)) number (open_still i (omega arith) lt) in
     let parts = open_parts key (lock_at more n) open_for in
     let next = is_next s job named i passed lt in
+    let of =
+    is ∙ ap (λ (v : Lock). v.queue.places) read ∙ (queue_is t more n table parts.0).places
+    ∙ ap (λ (k : Key). places_at (request_at t) t.order k) parts.1 in
     record {
       open_is = parts.0;
       key_is = parts.1;
       next = next;
-      has = next_present s t t job i named (get_or named i unused_want) next was.kept.once left;
-      places_are =
-          is ∙ ap (λ (v : Lock). v.queue.places) read ∙ (queue_is t more n table parts.0).places
-          ∙ ap (λ (k : Key). places_at (request_at t) t.order k) parts.1;
+      there = key_there t job key places of;
+      at = found_place t job key places of;
+      missed = not_missed t job key places of (next_present s t t job i named (get_or named i unused_want) next was.kept.once left);
     }

@@ -74,12 +74,7 @@ module _ (locks most : List Lock) (p n : ℕ) (w : Want) (key : Key) (e : IsEnte
     none = λ is m. open_as_before m ∙ f.none is m;
   }
 
--- a lock that is open stays so where its key and its queue do
-pub still_open : (locks more : List Lock) (n m : ℕ) (key : Key) → KeepsLocks locks more n → (m ≡ n → ⊥) → is_open_for key (lock_at locks m) ≡ true
-    → is_open_for key (lock_at more m) ≡ true
-still_open locks more n m key keeps ne open_for = grind (arith, common_steps, keeps.keys m, keeps.queues m ne, open_for)
-
--- and so do the locks of the keys that are named later
+-- the locks of the keys that are named later stay open
 pub later_open : (locks more : List Lock) (n i : ℕ) (named : List Want) (found : List Found) → KeepsLocks locks more n
     → (lock_at locks n).key ≡ (get_or named i unused_want).key
     → ((j : ℕ) → i < j → j < length named → same_key (get_or named i unused_want).key (get_or named j unused_want).key ≡ false)
@@ -100,4 +95,4 @@ later_open locks more n i named found keeps is apart was j above within = go (ge
         both_ways (same_key (get_or named i unused_want).key key) (apart j (omega (arith, above)) within)
         (eq-same_key (get_or named i unused_want).key key
         (sym is ∙ ap (λ z. (lock_at locks z).key) (sym e) ∙ (open_parts key (lock_at locks m) h).1)) in
-        still_open locks more n m key keeps other h
+        grind (arith, common_steps, keeps.keys m, keeps.queues m other, h)

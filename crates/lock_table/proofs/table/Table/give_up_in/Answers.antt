@@ -11,11 +11,9 @@ use Rattle.lock_table.proofs.table.Table.give_up_in.Goals as goal
 
 pub depart-requires : goal.depart-requires
 depart-requires g c =
-    let s = c.args.self.now.store in
-    let locks = c.args.self.now.keys in
     let r = c.requires in
     let at =
-    stands_at s locks c.args.p c.args.n c.index_of-k.result c.get.result.now c.as_slice.result.now r.table r.present r.open r.named
+    stands_at c.args.self.now.store c.args.self.now.keys c.args.p c.args.n c.index_of-k.result c.get.result.now c.as_slice.result.now r.table r.present r.open r.named
     c.get.ensures.value c.as_slice.ensures.value c.index_of-k.ensures in
     (lit< tt, (r.table, (r.present, at.want.within)))
 

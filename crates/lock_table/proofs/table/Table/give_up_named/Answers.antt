@@ -4,11 +4,10 @@ use Rattle.lock_queue.specs.Dequeues.{has_wants}
 use Rattle.lock_queue.specs.Queue.{names}
 use Rattle.lock_queue.specs.Keys.{same_key}
 use Rattle.lock_queue.specs.Unused.{unused_want}
-use Rattle.key_queues.specs.Locks.{lock_at}
 use Rattle.lock_table.specs.Reads.{request_at}
 use Rattle.lock_table.specs.Departures.{without_key}
 use Rattle.lock_table.proofs.Filing.{stays_in, turned_still, turned_then, wanting_less}
-use Rattle.lock_table.proofs.Named.{found_place, gives_up_named, is_next, key_lost, key_there, left_start, named_apart, next_left, not_missed}
+use Rattle.lock_table.proofs.Named.{gives_up_named, is_next, key_lost, left_start, named_apart, next_left}
 use Rattle.lock_table.proofs.Numbers.{later_open}
 use Rattle.lock_table.proofs.table.Table.give_up_named.Goals as goal
 
@@ -31,52 +30,30 @@ loop-i-preserved-in_default g c =
 
 pub place_of-requires : goal.place_of-requires
 place_of-requires g c =
-    let s = c.args.self.now.store in
-    let t = c.loop-i.self.store in
-    let i = c.loop-i.i in
-    let named = c.args.named.now in
-    let places = c.as_slice-places.result.now in
-    let inv = c.loop-i.invariant in
     let up =
-    gives_up_named s t c.args.self.now.keys c.loop-i.self.keys c.lock_of.result.now c.args.job i named c.args.found.now c.in-Some.n places
-    c.requires.whole.table c.requires.passed c.loop-i-test.true inv.table inv.left inv.open_still c.in-Some.is c.lock_of.ensures
-    c.as_slice-places.ensures.value in
-    (lit< tt, key_there t c.args.job (get_or named i unused_want).key places up.places_are)
+    gives_up_named c.args.self.now.store c.loop-i.self.store c.args.self.now.keys c.loop-i.self.keys c.lock_of.result.now c.args.job c.loop-i.i
+    c.args.named.now c.args.found.now c.in-Some.n c.as_slice-places.result.now c.requires.whole.table c.requires.passed c.loop-i-test.true
+    c.loop-i.invariant.table c.loop-i.invariant.left c.loop-i.invariant.open_still c.in-Some.is c.lock_of.ensures c.as_slice-places.ensures.value in
+    (lit< tt, up.there)
 
 pub loop-i-preserved-in_default-place_of : goal.loop-i-preserved-in_default-place_of
 loop-i-preserved-in_default-place_of g c =
-    let s = c.args.self.now.store in
-    let t = c.loop-i.self.store in
-    let i = c.loop-i.i in
-    let named = c.args.named.now in
-    let places = c.as_slice-places.result.now in
-    let inv = c.loop-i.invariant in
     let up =
-    gives_up_named s t c.args.self.now.keys c.loop-i.self.keys c.lock_of.result.now c.args.job i named c.args.found.now c.in-Some.n places
-    c.requires.whole.table c.requires.passed c.loop-i-test.true inv.table inv.left inv.open_still c.in-Some.is c.lock_of.ensures
-    c.as_slice-places.ensures.value in
-    absurd
-    (not_missed t c.args.job (get_or named i unused_want).key places up.places_are up.has
-    (sym c.place_of.ensures ∙ c.in_default-place_of.is))
+    gives_up_named c.args.self.now.store c.loop-i.self.store c.args.self.now.keys c.loop-i.self.keys c.lock_of.result.now c.args.job c.loop-i.i
+    c.args.named.now c.args.found.now c.in-Some.n c.as_slice-places.result.now c.requires.whole.table c.requires.passed c.loop-i-test.true
+    c.loop-i.invariant.table c.loop-i.invariant.left c.loop-i.invariant.open_still c.in-Some.is c.lock_of.ensures c.as_slice-places.ensures.value in
+    absurd (up.missed (sym c.place_of.ensures ∙ c.in_default-place_of.is))
 
 pub give_up_in-requires : goal.give_up_in-requires
 give_up_in-requires g c =
-    let s = c.args.self.now.store in
-    let t = c.loop-i.self.store in
-    let i = c.loop-i.i in
-    let named = c.args.named.now in
-    let places = c.as_slice-places.result.now in
-    let inv = c.loop-i.invariant in
     let up =
-    gives_up_named s t c.args.self.now.keys c.loop-i.self.keys c.lock_of.result.now c.args.job i named c.args.found.now c.in-Some.n places
-    c.requires.whole.table c.requires.passed c.loop-i-test.true inv.table inv.left inv.open_still c.in-Some.is c.lock_of.ensures
-    c.as_slice-places.ensures.value in
-    let at =
-    found_place t c.args.job (get_or named i unused_want).key places up.places_are c.in-Some-place_of.p
-    (sym c.place_of.ensures ∙ c.in-Some-place_of.is) in
-    let has : names (request_at t c.in-Some-place_of.p).wants.items (lock_at c.loop-i.self.keys c.in-Some.n).key ≡ true =
-    subst (λ (k : Key). names (request_at t c.in-Some-place_of.p).wants.items k ≡ true) (sym up.key_is) at.2 in
-    (lit< tt, (inv.table, (at.0, (up.open_is, has))))
+    gives_up_named c.args.self.now.store c.loop-i.self.store c.args.self.now.keys c.loop-i.self.keys c.lock_of.result.now c.args.job c.loop-i.i
+    c.args.named.now c.args.found.now c.in-Some.n c.as_slice-places.result.now c.requires.whole.table c.requires.passed c.loop-i-test.true
+    c.loop-i.invariant.table c.loop-i.invariant.left c.loop-i.invariant.open_still c.in-Some.is c.lock_of.ensures c.as_slice-places.ensures.value in
+    let p = c.in-Some-place_of.p in
+    let at = up.at p (sym c.place_of.ensures ∙ c.in-Some-place_of.is) in
+    let has = subst (λ (k : Key). names (request_at c.loop-i.self.store p).wants.items k ≡ true) (sym up.key_is) at.2 in
+    (lit< tt, (c.loop-i.invariant.table, (at.0, (up.open_is, has))))
 
 pub loop-i-preserved : goal.loop-i-preserved
 loop-i-preserved g c =
@@ -84,18 +61,16 @@ loop-i-preserved g c =
     let t = c.loop-i.self.store in
     let i = c.loop-i.i in
     let named = c.args.named.now in
-    let places = c.as_slice-places.result.now in
     let inv = c.loop-i.invariant in
     let up =
-    gives_up_named s t c.args.self.now.keys c.loop-i.self.keys c.lock_of.result.now c.args.job i named c.args.found.now c.in-Some.n places
-    c.requires.whole.table c.requires.passed c.loop-i-test.true inv.table inv.left inv.open_still c.in-Some.is c.lock_of.ensures
-    c.as_slice-places.ensures.value in
+    gives_up_named c.args.self.now.store c.loop-i.self.store c.args.self.now.keys c.loop-i.self.keys c.lock_of.result.now c.args.job c.loop-i.i
+    c.args.named.now c.args.found.now c.in-Some.n c.as_slice-places.result.now c.requires.whole.table c.requires.passed c.loop-i-test.true
+    c.loop-i.invariant.table c.loop-i.invariant.left c.loop-i.invariant.open_still c.in-Some.is c.lock_of.ensures c.as_slice-places.ensures.value in
     let u = c.give_up_in.new.self.store in
     let p = c.in-Some-place_of.p in
     let w = get_or named i unused_want in
     let gives = c.give_up_in.ensures in
-    let at =
-    found_place t c.args.job w.key places up.places_are p (sym c.place_of.ensures ∙ c.in-Some-place_of.is) in
+    let at = up.at p (sym c.place_of.ensures ∙ c.in-Some-place_of.is) in
     let given = rw up.key_is at gives.given in
     let order = rw up.key_is at gives.order in
     record {
