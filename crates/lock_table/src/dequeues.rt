@@ -97,11 +97,10 @@ impl<const REQS: usize> Table<REQS> {
         ensures left { result ≡ Done → LeavesBy (left_of job DequeueAll) self.old.store self.new.store }
         ensures turns { result ≡ Done → AreTurned self.old self.new }
     {
-        if self.release(leaving, &Leavers::Job(job)) {
-            LockReply::Done
-        } else {
-            LockReply::Refused(Refusal::NotPresent)
+        if !self.release(leaving, &Leavers::Job(job)) {
+            return LockReply::Refused(Refusal::NotPresent);
         }
+        LockReply::Done
     }
 
     /// A job gives up all its requests of an id.
@@ -114,10 +113,9 @@ impl<const REQS: usize> Table<REQS> {
         ensures left { result ≡ Done → LeavesBy (left_of job (DequeueId id)) self.old.store self.new.store }
         ensures turns { result ≡ Done → AreTurned self.old self.new }
     {
-        if self.release(leaving, &Leavers::Id(job, id)) {
-            LockReply::Done
-        } else {
-            LockReply::Refused(Refusal::NotPresent)
+        if !self.release(leaving, &Leavers::Id(job, id)) {
+            return LockReply::Refused(Refusal::NotPresent);
         }
+        LockReply::Done
     }
 }

@@ -77,7 +77,7 @@ impl<const REQS: usize> Table<REQS> {
         are_in_range(wants.as_slice());
         let p = self.store.insert(job, asking, false);
         enter_all(&mut self.store, &mut self.keys, p, wants.as_slice(), found);
-        renew(&mut self.store, &mut self.turns, &self.keys, p);
+        let _ = renew(&mut self.store, &self.keys, p);
         p
     }
 

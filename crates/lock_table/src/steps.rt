@@ -1,5 +1,6 @@
 //! The steps of a table.
-ghost use Rattle.std.specs.Prelude.{◌≡◌, ◌<◌, ◌≤◌, ◌+◌, ◌==◌, true, false, if◌then◌else◌, length};
+ghost use Rattle.std.specs.Prelude.{◌≡◌, ◌<◌, ◌≤◌, ◌+◌, ◌==◌, true, false, not, if◌then◌else◌, length};
+ghost use Rattle.std.specs.Bool.{beq};
 ghost use Rattle.std.specs.List.{All, find, position_or_len};
 ghost use Rattle.key_queues.specs.Locks.{lock_at, uncounted, with_queue, without_place};
 ghost use Rattle.key_queues.specs.States.{CountsAll, CountsBut, all_count, Extended, FlagsAll, GivesUpAt, IsCounted, IsFull};
@@ -32,10 +33,28 @@ pub fn place_of<const REQS: usize>(store: &Store<REQS>, places: &[u16], job: u8)
     None
 }
 
-/// Sets the flag of a request right: where it is granted, it stays so. Its mark turns with it, but for that of a
-/// request without wants, which is on its way out.
+/// Sets the flag of a request right: where it is granted, it stays so. Whether it turned.
 #[inline(always)]
-pub fn renew<const REQS: usize>(
+pub fn renew<const REQS: usize>(store: &mut Store<REQS>, keys: &Keys<REQS>, p: u16) -> bool
+    requires present { is_there p store.old.order ≡ true }
+    requires queues { All (λ n. n < length keys.now) (filed_at store.old p).queues.items }
+    requires granted { (filed_at store.old p).granted ≡ true → all_count (state_of store.old keys.now) p ≡ true }
+    ensures renews { Renews (state_of store.old keys.now) (state_of store.new keys.now) p }
+    ensures turned { result ≡ not (beq (filed_at store.old p).granted (filed_at store.new p).granted) }
+{
+    let f = store.get(p);
+    if f.granted {
+        return false;
+    }
+    let granted = keys.all_count(f.queues.as_slice(), p);
+    store.set_granted(p, granted);
+    granted
+}
+
+/// Sets the flag of a request right, and turns its mark with it; but not that of a request without wants, which is on
+/// its way out.
+#[inline(always)]
+fn renew_marked<const REQS: usize>(
     store: &mut Store<REQS>,
     turns: &mut Turns<REQS>,
     keys: &Keys<REQS>,
@@ -47,14 +66,9 @@ pub fn renew<const REQS: usize>(
     ensures renews { Renews (state_of store.old keys.now) (state_of store.new keys.now) p }
     ensures turns { Turned store.old store.new turns.old turns.new }
 {
-    let f = store.get(p);
-    if f.granted {
-        return;
-    }
-    let granted = keys.all_count(f.queues.as_slice(), p);
-    let stays = !f.request.wants.is_empty();
-    store.set_granted(p, granted);
-    turns.turn_if(p, granted && stays);
+    let turned = renew(store, keys, p);
+    let stays = !store.get(p).request.wants.is_empty();
+    turns.turn_if(p, turned && stays);
 }
 
 /// Takes the k-th want of a request out of its queue, whose number is the result.
@@ -99,7 +113,7 @@ impl<const REQS: usize> Table<REQS> {
         if !self.keys.let_in(n, want_filed(&self.store, p, n)) {
             return false;
         }
-        renew(&mut self.store, &mut self.turns, &self.keys, p);
+        renew_marked(&mut self.store, &mut self.turns, &self.keys, p);
         true
     }
 
@@ -137,7 +151,7 @@ impl<const REQS: usize> Table<REQS> {
     {
         let n = leave_queue_of(&self.store, &mut self.keys, p, k);
         self.store.take_want(p, k);
-        renew(&mut self.store, &mut self.turns, &self.keys, p);
+        renew_marked(&mut self.store, &mut self.turns, &self.keys, p);
         n
     }
 

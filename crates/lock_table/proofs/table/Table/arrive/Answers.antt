@@ -53,7 +53,7 @@ renew-requires g c =
     let new : (filed_at c.enter_all.new.store p).granted ≡ false = c.enter_all.ensures.same.flags p ∙ ap (λ (f : Filed). f.granted) mine in
     let present = present_last _ c.enter_all.new.store c.enter_all.new.keys p _ a in
     let within = queues_within _ c.enter_all.new.store c.enter_all.new.keys p _ a in
-    (lit< tt, (lit< tt, (lit< tt, (present, (within, λ granted. absurd (both_ways _ new granted))))))
+    (lit< tt, (lit< tt, (present, (within, λ granted. absurd (both_ways _ new granted)))))
 
 pub returns : goal.returns
 returns g c =

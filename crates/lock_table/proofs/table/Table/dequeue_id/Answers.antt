@@ -6,11 +6,11 @@ use Rattle.lock_table.specs.Reads.{request_at}
 use Rattle.lock_table.proofs.Wholes.{leaves_by, left_dequeued}
 use Rattle.lock_table.proofs.table.Table.dequeue_id.Goals as goal
 
-pub returns-then-release : goal.returns-then-release
-returns-then-release g c =
+pub returns : goal.returns
+returns g c =
     let s = c.args.self.now.store in
     let t = c.release.new.self.store in
-    let both = left_dequeued s t (has_id c.args.job c.args.id) true c.release.ensures.left (sym c.if-release.true ∙ c.release.ensures.some) in
+    let both = left_dequeued s t (has_id c.args.job c.args.id) true c.release.ensures.left (sym c.if-not-release.false ∙ c.release.ensures.some) in
     record {
       whole = c.release.ensures.whole;
       requests = both.0;
@@ -21,9 +21,9 @@ returns-then-release g c =
       turns = λ done. c.release.ensures.turns;
     }
 
-pub returns-else-release : goal.returns-else-release
-returns-else-release g c =
+pub returns-then-not-release : goal.returns-then-not-release
+returns-then-not-release g c =
     let both =
     left_dequeued c.args.self.now.store c.release.new.self.store (has_id c.args.job c.args.id) false c.release.ensures.left
-    (sym c.if-release.false ∙ c.release.ensures.some) in
+    (sym c.if-not-release.true ∙ c.release.ensures.some) in
     record { whole = c.release.ensures.whole; requests = both.0; reply = both.1; left = λ done. absurd (cc); turns = λ done. c.release.ensures.turns }

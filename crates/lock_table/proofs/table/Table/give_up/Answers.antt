@@ -17,8 +17,8 @@ take_want-requires g c =
     let all = given c.args.self.now.store c.args.self.now.keys c.args.p c.args.k c.requires.kept c.requires.present c.requires.want in
     (lit< tt, (c.requires.present, (all.wants_in, c.requires.want)))
 
-pub renew-requires : goal.renew-requires
-renew-requires g c =
+pub renew_marked-requires : goal.renew_marked-requires
+renew_marked-requires g c =
     let s = c.args.self.now.store in
     let locks = c.args.self.now.keys in
     let p = c.args.p in
@@ -41,16 +41,16 @@ returns g c =
     let locks = c.args.self.now.keys in
     let a = given s locks c.args.p c.args.k c.requires.kept c.requires.present c.requires.want in
     let all =
-    given_up s c.take_want.new.self c.renew.new.store locks c.leave_queue_of-n.new.keys c.args.p
+    given_up s c.take_want.new.self c.renew_marked.new.store locks c.leave_queue_of-n.new.keys c.args.p
     c.args.k c.requires.kept c.requires.flags c.requires.present c.requires.want c.take_want.ensures.value
-    c.leave_queue_of-n.ensures.after c.renew.ensures.renews in
+    c.leave_queue_of-n.ensures.after c.renew_marked.ensures.renews in
     record {
       number = c.leave_queue_of-n.ensures.number;
       kept = all.0;
       flags = all.1;
       gives =
-          gives_up_by s c.take_want.new.self c.renew.new.store locks c.leave_queue_of-n.new.keys c.args.p
-          c.args.k c.requires.kept c.requires.want a c.take_want.ensures.value c.leave_queue_of-n.ensures.after c.renew.ensures.renews;
+          gives_up_by s c.take_want.new.self c.renew_marked.new.store locks c.leave_queue_of-n.new.keys c.args.p
+          c.args.k c.requires.kept c.requires.want a c.take_want.ensures.value c.leave_queue_of-n.ensures.after c.renew_marked.ensures.renews;
       full = all.2;
       counts = all.3;
       lock = omega (arith, a.lock_in, ap length c.leave_queue_of-n.ensures.after ∙ length-set locks (own_at s c.args.p c.args.k) _);

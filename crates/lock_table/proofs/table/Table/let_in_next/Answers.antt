@@ -45,8 +45,8 @@ returns-then-not-let_in-clause-full g c e =
     let same : c.let_in.new.self ≡ c.args.self.now.keys = c.let_in.ensures.after ∙ cond-false _ _ _ c.if-not-let_in.true in
     subst (λ l. IsFull (state_of c.args.self.now.store l) c.args.n) (sym same) full
 
-pub renew-requires : goal.renew-requires
-renew-requires g c =
+pub renew_marked-requires : goal.renew_marked-requires
+renew_marked-requires g c =
     let s = c.args.self.now.store in
     let locks = c.args.self.now.keys in
     let p = c.in-Some.p in
@@ -63,9 +63,9 @@ returns-clause-extended g c =
     let next =
     subst (Next s c.args.n c.in-Some.p) (sym c.want_filed.ensures)
     (next_is s c.args.n c.in-Some.p c.requires.kept c.requires.used (sym c.in-Some.ensures)) in
-    extended_by c.args.self.now.store c.args.self.now.keys c.renew.new.store c.let_in.new.self c.args.n c.in-Some.p c.want_filed.result.now
+    extended_by c.args.self.now.store c.args.self.now.keys c.renew_marked.new.store c.let_in.new.self c.args.n c.in-Some.p c.want_filed.result.now
     c.requires.kept c.requires.flags c.requires.used (sym c.in-Some.ensures) next (sym c.let_in.ensures.value ∙ c.if-not-let_in.false)
-    (c.let_in.ensures.after ∙ cond-true _ _ _ c.if-not-let_in.false) c.renew.ensures.renews
+    (c.let_in.ensures.after ∙ cond-true _ _ _ c.if-not-let_in.false) c.renew_marked.ensures.renews
 
 pub returns-clause-fewer : goal.returns-clause-fewer
 returns-clause-fewer g c =
