@@ -1,5 +1,5 @@
 //! Wants and requests leave.
-ghost use Rattle.std.specs.Prelude.{◌≡◌, ◌==◌, ℕ, true, if◌then◌else◌};
+ghost use Rattle.std.specs.Prelude.{◌≡◌, ℕ, true, if◌then◌else◌};
 ghost use Rattle.lock_queue.specs.Dequeues.{has_wants};
 ghost use Rattle.lock_queue.specs.Queue.{names};
 ghost use Rattle.key_queues.specs.Locks.{lock_at};

@@ -18,7 +18,6 @@ use crate::queues::want_filed;
 use crate::table::Table;
 use crate::turns::Turns;
 use key_queues::{Keys, Store};
-use lock_queue::Want;
 
 /// The first of some places whose request is a job's.
 pub fn place_of<const REQS: usize>(store: &Store<REQS>, places: &[u16], job: u8) -> Option<u16>

@@ -1,5 +1,5 @@
 //! The grants that a call made.
-ghost use Rattle.std.specs.Prelude.{◌≡◌, ◌≤◌, length, true, false};
+ghost use Rattle.std.specs.Prelude.{◌≡◌, ◌≤◌, length, true};
 ghost use Rattle.word36.specs.declared.sizes.TheConstants.{MOST_REQUESTS};
 ghost use Rattle.key_queues.specs.Tables.{StandsOnce, is_there};
 ghost use Rattle.lock_queue.specs.Grants.{grant_of};
