@@ -2,6 +2,7 @@
 use Rattle.std.proofs.Common.{◌≡◌, ◌≤◌, ◌+◌, ◌++◌, ◌&&◌, ℕ, Bool, true, false, cond, List, [], ◌∷◌, length, Option, Some, None, Result}
 use Rattle.std.proofs.Common.{Ok, Err, min, nat_le, arith, refl, sym, ap, ◌∙◌, append_assoc, length-append}
 use Rattle.std.specs.Prelude.{option_map, option_and_then}
+use Rattle.std.specs.Option.{option_map_or}
 use Rattle.std.proofs.lemmas.Bool.Decides.{nat_tests}
 use Rattle.arrayvec.specs.ArrayVec.{ArrayVec}
 use Rattle.lock_queue.specs.declared.refusal.Refusal.{Refusal}
@@ -152,9 +153,9 @@ pub gathers-want : (job : ℕ) (use_ : BlockUse) (all old rest : List (List ℕ)
     (wants wants' : List Want) (want : Want) (refusal : Option Refusal)
     → Gathers job use_ all old count wants refusal → old ≡ item ∷ rest → lock_of item ≡ Some lock → next ≡ min 16 count + 1
     → want_of job use_ lock ≡ Ok want → wants' ≡ wants ++ want ∷ [] → Gathers job use_ all rest next wants' refusal
-gathers-want job use_ all old rest item lock count next wants wants' want refusal g taken is counted wanted pushed = record {
+gathers-want job use_ all old rest item lock count next wants wants' want refusal g split is counted wanted pushed = record {
   seen = g.seen ++ lock ∷ [];
-  read = read-push all old rest item g.seen lock g.read taken is;
+  read = read-push all old rest item g.seen lock g.read split is;
   counted = let c = g.counted in let n = length-append g.seen (lock ∷ []) in omega arith;
   told = λ h.
       let n = length-append g.seen (lock ∷ []) in
@@ -187,17 +188,17 @@ few_refused : (n m : ℕ) (x y z : Result (ArrayVec Want) Refusal) → 1 ≤ n �
 few_refused n m x y z one same e = grind (arith, nat_tests)
 
 filled_refused : (b : Bool) (why : Refusal) (wants : ArrayVec Want)
-    → filled (Some (cond b (Err why) (Err BadCount))) wants ≡ Some (cond b (Err why) (Err BadCount))
+    → filled (cond b (taken.Refused why) (taken.Refused BadCount)) wants ≡ Some (cond b (Err why) (Err BadCount))
 filled_refused true why wants = refl
 filled_refused false why wants = refl
 
 pub gathers-refused : (job : ℕ) (use_ : BlockUse) (all old rest : List (List ℕ)) (item : List ℕ) (lock : Lock) (count : ℕ)
-    (wants : List Want) (after : ArrayVec Want) (why : Refusal) (r : Option (Result (Unit {0}) Refusal))
+    (wants : List Want) (after : ArrayVec Want) (why : Refusal) (r : Taken)
     → Gathers job use_ all old count wants None → count ≤ 16 → old ≡ item ∷ rest → lock_of item ≡ Some lock → want_of job use_ lock ≡ Err why
-    → r ≡ option_map (refused_with (count + 1) why) (locks_of rest) → filled r after ≡ option_map (call_wants job use_) (locks_of all)
-gathers-refused job use_ all old rest item lock count wants after why r g few taken is wrong result =
+    → r ≡ option_map_or (refused_with (count + 1) why) (locks_of rest) taken.NoLock → filled r after ≡ option_map (call_wants job use_) (locks_of all)
+gathers-refused job use_ all old rest item lock count wants after why r g few split is wrong result =
     ap (λ x. filled x after) result ∙ finish (locks_of rest)
-    ∙ sym (ap (option_map (call_wants job use_)) (read-push all old rest item g.seen lock g.read taken is))
+    ∙ sym (ap (option_map (call_wants job use_)) (read-push all old rest item g.seen lock g.read split is))
   where
     seen : List Lock
     seen = g.seen ++ lock ∷ []
@@ -208,7 +209,7 @@ gathers-refused job use_ all old rest item lock count wants after why r g few ta
         wants_of-push job use_ g.seen lock ∙ ap (λ w. join w (want_of job use_ lock)) (g.told (omega (arith, few))) ∙ ap (join (Ok wants)) wrong
 
     finish : (o : Option (List Lock))
-        → filled (option_map (refused_with (count + 1) why) o) after
+        → filled (option_map_or (refused_with (count + 1) why) o taken.NoLock) after
         ≡ option_map (call_wants job use_) (option_map (λ ls. seen ++ ls) o)
     finish None = refl
     finish (Some ls) =
@@ -222,18 +223,18 @@ gathers-refused job use_ all old rest item lock count wants after why r g few ta
         (ap stored (wants_of-refused job use_ seen ls why refused-so))))
 
 pub gathers-full : (job : ℕ) (use_ : BlockUse) (all rest : List (List ℕ)) (count : ℕ) (wants : List Want) (after : ArrayVec Want)
-    (r : Option (Result (Unit {0}) Refusal))
+    (r : Taken)
     → Gathers job use_ all rest count wants None → 16 ≤ count → (rest ≡ [] → ⊥)
-    → r ≡ option_map (refused_with 16 BadCount) (locks_of rest) → filled r after ≡ option_map (call_wants job use_) (locks_of all)
+    → r ≡ option_map_or (refused_with 16 BadCount) (locks_of rest) taken.NoLock → filled r after ≡ option_map (call_wants job use_) (locks_of all)
 gathers-full job use_ all rest count wants after r g many some result =
     ap (λ x. filled x after) result ∙ finish rest some ∙ sym (ap (option_map (call_wants job use_)) g.read)
   where
-    same : (b : Bool) → filled (Some (cond b (Err BadCount) (Err BadCount))) after ≡ Some (Err BadCount)
+    same : (b : Bool) → filled (cond b (taken.Refused BadCount) (taken.Refused BadCount)) after ≡ Some (Err BadCount)
     same true = refl
     same false = refl
 
     first : (lock : Option Lock) (more : Option (List Lock))
-        → filled (option_map (refused_with 16 BadCount) (option_and_then (λ l. option_map (λ ls. l ∷ ls) more) lock)) after
+        → filled (option_map_or (refused_with 16 BadCount) (option_and_then (λ l. option_map (λ ls. l ∷ ls) more) lock) taken.NoLock) after
         ≡ option_map (call_wants job use_) (option_map (λ ls. g.seen ++ ls) (option_and_then (λ l. option_map (λ ls. l ∷ ls) more) lock))
     first None more = refl
     first (Some l) None = refl
@@ -243,7 +244,7 @@ gathers-full job use_ all rest count wants after r g many some result =
         same (nat_le (16 + length (l ∷ ls)) 16) ∙ ap Some (sym (few_or_many (length (g.seen ++ l ∷ ls)) _ _ (λ one most. omega (arith, many))))
 
     finish : (items : List (List ℕ)) → (items ≡ [] → ⊥)
-        → filled (option_map (refused_with 16 BadCount) (locks_of items)) after
+        → filled (option_map_or (refused_with 16 BadCount) (locks_of items) taken.NoLock) after
         ≡ option_map (call_wants job use_) (option_map (λ ls. g.seen ++ ls) (locks_of items))
     finish [] some = absurd (some refl)
     finish (item ∷ more) some = first (lock_of item) (locks_of more)

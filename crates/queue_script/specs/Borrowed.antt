@@ -4,13 +4,18 @@ use Rattle.std.specs.Borrow.{Bor}
 use Rattle.lock_queue.specs.declared.refusal.Refusal.{Refusal}
 use Rattle.queue_script.specs.Commands.{Asked, nothing, call, status, free, show, waits, quit}
 use Rattle.queue_script.specs.declared.commands.Command.{Command}
-use Rattle.queue_script.specs.declared.commands.Command.TheVariants.{Nothing, Call, Status, Free, Show, Waits, Quit}
+use Rattle.queue_script.specs.declared.commands.Command.TheVariants.{Nothing, Call, Refused, Status, Free, Show, Waits, Quit}
+use Rattle.lock_queue.specs.declared.call.LockCall.{LockCall}
+use Rattle.queue_script.specs.declared.call_room.CallAsked.{CallAsked}
+use Rattle.queue_script.specs.declared.call_room.CallAsked.TheVariants as asked
+use Rattle.queue_script.specs.declared.locks.Taken.{Taken}
+use Rattle.queue_script.specs.declared.locks.Taken.TheVariants as taken
 
 -- what was filled in, where it was not refused
-abbrev pub filled : {T : Type 0} → Option (Result (Unit {0}) Refusal) → T → Option (Result T Refusal)
-filled None value = None
-filled (Some (Ok u)) value = Some (Ok value)
-filled (Some (Err refusal)) value = Some (Err refusal)
+abbrev pub filled : {T : Type 0} → Taken → T → Option (Result T Refusal)
+filled taken.NoLock value = None
+filled taken.Wanted value = Some (Ok value)
+filled (taken.Refused refusal) value = Some (Err refusal)
 
 -- what is borrowed
 abbrev pub lent : {T : Type 0} → Result (Bor T) Refusal → Result T Refusal
@@ -21,10 +26,17 @@ abbrev pub lent_by : {T : Type 0} → Option (Result (Bor T) Refusal) → Option
 lent_by None = None
 lent_by (Some answer) = Some (lent answer)
 
+-- the call that items spell, or why it is refused
+abbrev pub called_by : CallAsked → Option (Result LockCall Refusal)
+called_by asked.NoCall = None
+called_by (asked.Call made) = Some (Ok made.now)
+called_by (asked.Refused refusal) = Some (Err refusal)
+
 -- what a command asks for
 abbrev pub asked_by : Command → Asked
 asked_by Nothing = nothing
-asked_by (Call job asked) = call job (lent asked)
+asked_by (Call job made) = call job (Ok made.now)
+asked_by (Refused job refusal) = call job (Err refusal)
 asked_by (Status job wants) = status job (lent wants)
 asked_by (Free job) = free job
 asked_by Show = show

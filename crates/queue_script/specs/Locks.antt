@@ -148,5 +148,5 @@ call_wants job use_ locks =
     if nat_le 1 (length locks) && nat_le (length locks) LOCKS_A_CALL then stored (wants_of job use_ locks) else Err BadCount
 
 -- why a call is refused that names so many locks and these, where one of them is wrong: their number is looked at first
-abbrev pub refused_with : ℕ → Refusal → List Lock → Result (Unit {0}) Refusal
-refused_with count why locks = if nat_le (count + length locks) LOCKS_A_CALL then Err why else Err BadCount
+abbrev pub refused_with : ℕ → Refusal → List Lock → Taken
+refused_with count why locks = if nat_le (count + length locks) LOCKS_A_CALL then taken.Refused why else taken.Refused BadCount

@@ -1,13 +1,14 @@
 //! Room for the call of a line. A call has room for 16 locks, too much to be moved for every line of
 //! a script, so each call is filled in where it stays, and the line's command borrows it.
 ghost use Rattle.std.specs.Prelude.{◌≡◌, option_map};
-ghost use Rattle.queue_script.specs.Borrowed.{filled, lent_by};
+ghost use Rattle.queue_script.specs.Borrowed.{filled, called_by, lent_by};
 ghost use Rattle.queue_script.specs.Commands.{request_call, change_call, release_call, release_all_call, release_id_call};
 ghost use Rattle.queue_script.specs.Locks.{locks_of, call_wants};
 ghost use Rattle.lock_queue.specs.declared.call.LockCall.TheVariants.{DequeueId};
 ghost use Rattle.lock_queue.specs.declared.terms.BlockUse.TheVariants.{Named};
 
 use crate::call_wants::read_wants;
+use crate::locks::Taken;
 use crate::options::read_half;
 use lock_queue::{Asking, BlockUse, EnqueueKind, LockCall, Refusal, RequestId, Wants};
 use script_io::Parts;
@@ -16,6 +17,17 @@ use word36::MOST_REQUESTS;
 /// How many requests a job of a script may have: more than any table holds, so that a script is never
 /// refused for that.
 pub const QUOTA: u16 = MOST_REQUESTS as u16 + 1;
+
+/// What has come of the items of a call.
+#[derive(Clone, Copy)]
+pub enum CallAsked<'a> {
+    /// They do not spell a call, such as where one is no lock.
+    NoCall,
+    /// The call that they spell.
+    Call(&'a LockCall),
+    /// It is refused before it is made.
+    Refused(Refusal),
+}
 
 /// A call of each kind that names locks, one that names none, and the locks whose status is asked.
 #[derive(Drop)]
@@ -39,8 +51,7 @@ impl CallRoom {
         }
     }
 
-    /// A request for the locks that the items spell, or why it is refused; None where an item is no
-    /// lock.
+    /// A request for the locks that the items spell, or why it is refused.
     #[inline(always)]
     pub fn request(
         &mut self,
@@ -48,63 +59,65 @@ impl CallRoom {
         id: RequestId,
         job: u8,
         items: Parts<'_>,
-    ) -> Option<Result<&LockCall, Refusal>>
-        ensures { lent_by result ≡ request_call kind id job items.entry }
+    ) -> CallAsked<'_>
+        ensures { called_by result ≡ request_call kind id job items.entry }
     {
         match fill_request(&mut self.request, kind, id, job, items) {
-            None => None,
-            Some(Ok(())) => Some(Ok(&self.request)),
-            Some(Err(refusal)) => Some(Err(refusal)),
+            Taken::NoLock => CallAsked::NoCall,
+            Taken::Wanted => CallAsked::Call(&self.request),
+            Taken::Refused(refusal) => CallAsked::Refused(refusal),
         }
     }
 
-    /// A change of the locks that the items spell, or why it is refused; None where an item is no
-    /// lock.
-    pub fn change(&mut self, job: u8, items: Parts<'_>) -> Option<Result<&LockCall, Refusal>>
-        ensures { lent_by result ≡ change_call job items.entry }
+    /// A change of the locks that the items spell, or why it is refused.
+    pub fn change(&mut self, job: u8, items: Parts<'_>) -> CallAsked<'_>
+        ensures { called_by result ≡ change_call job items.entry }
     {
         match fill_change(&mut self.change, job, items) {
-            None => None,
-            Some(Ok(())) => Some(Ok(&self.change)),
-            Some(Err(refusal)) => Some(Err(refusal)),
+            Taken::NoLock => CallAsked::NoCall,
+            Taken::Wanted => CallAsked::Call(&self.change),
+            Taken::Refused(refusal) => CallAsked::Refused(refusal),
         }
     }
 
-    /// That the locks that the items spell are given up, or why it is refused; None where an item is
-    /// no lock.
+    /// That the locks that the items spell are given up, or why it is refused.
     #[inline(always)]
-    pub fn release(&mut self, job: u8, items: Parts<'_>) -> Option<Result<&LockCall, Refusal>>
-        ensures { lent_by result ≡ release_call job items.entry }
+    pub fn release(&mut self, job: u8, items: Parts<'_>) -> CallAsked<'_>
+        ensures { called_by result ≡ release_call job items.entry }
     {
         match fill_release(&mut self.release, job, items) {
-            None => None,
-            Some(Ok(())) => Some(Ok(&self.release)),
-            Some(Err(refusal)) => Some(Err(refusal)),
+            Taken::NoLock => CallAsked::NoCall,
+            Taken::Wanted => CallAsked::Call(&self.release),
+            Taken::Refused(refusal) => CallAsked::Refused(refusal),
         }
     }
 
     /// That all is given up, where no item is left.
-    pub fn release_all(&mut self, items: Parts<'_>) -> Option<Result<&LockCall, Refusal>>
-        ensures { lent_by result ≡ release_all_call items.entry }
+    pub fn release_all(&mut self, items: Parts<'_>) -> CallAsked<'_>
+        ensures { called_by result ≡ release_all_call items.entry }
     {
         if !items.is_empty() {
-            return None;
+            return CallAsked::NoCall;
         }
         self.other = LockCall::DequeueAll;
-        Some(Ok(&self.other))
+        CallAsked::Call(&self.other)
     }
 
     /// That the requests of the id are given up that the one item spells.
-    pub fn release_id(&mut self, mut items: Parts<'_>) -> Option<Result<&LockCall, Refusal>>
-        ensures { lent_by result ≡ release_id_call items.entry }
+    pub fn release_id(&mut self, mut items: Parts<'_>) -> CallAsked<'_>
+        ensures { called_by result ≡ release_id_call items.entry }
     {
-        let id = items.next()?;
+        let Some(id) = items.next() else {
+            return CallAsked::NoCall;
+        };
         if !items.is_empty() {
-            return None;
+            return CallAsked::NoCall;
         }
-        let id = RequestId::new(read_half(id)?);
-        fill_id(&mut self.other, id);
-        Some(Ok(&self.other))
+        let Some(id) = read_half(id) else {
+            return CallAsked::NoCall;
+        };
+        fill_id(&mut self.other, RequestId::new(id));
+        CallAsked::Call(&self.other)
     }
 
     /// The locks that the items spell, or why they are refused; None where an item is no lock.
@@ -112,9 +125,9 @@ impl CallRoom {
         ensures { lent_by result ≡ option_map (call_wants job Named) (locks_of items.entry) }
     {
         match read_wants(items, job, BlockUse::Named, &mut self.keys) {
-            None => None,
-            Some(Ok(())) => Some(Ok(&self.keys)),
-            Some(Err(refusal)) => Some(Err(refusal)),
+            Taken::NoLock => None,
+            Taken::Wanted => Some(Ok(&self.keys)),
+            Taken::Refused(refusal) => Some(Err(refusal)),
         }
     }
 }
@@ -137,7 +150,7 @@ fn replace_by_request(
     id: RequestId,
     job: u8,
     items: Parts<'_>,
-) -> Option<Result<(), Refusal>>
+) -> Taken
     ensures { filled result call.new ≡ request_call kind id job items.entry }
 {
     let mut wants = Wants::new();
@@ -156,7 +169,7 @@ fn replace_by_request(
 
 /// Fills in a change where another call stood.
 #[inline(never)]
-fn replace_by_change(call: &mut LockCall, job: u8, items: Parts<'_>) -> Option<Result<(), Refusal>>
+fn replace_by_change(call: &mut LockCall, job: u8, items: Parts<'_>) -> Taken
     ensures { filled result call.new ≡ change_call job items.entry }
 {
     let mut wants = Wants::new();
@@ -167,7 +180,7 @@ fn replace_by_change(call: &mut LockCall, job: u8, items: Parts<'_>) -> Option<R
 
 /// Fills in what is given up where another call stood.
 #[inline(never)]
-fn replace_by_release(call: &mut LockCall, job: u8, items: Parts<'_>) -> Option<Result<(), Refusal>>
+fn replace_by_release(call: &mut LockCall, job: u8, items: Parts<'_>) -> Taken
     ensures { filled result call.new ≡ release_call job items.entry }
 {
     let mut wants = Wants::new();
@@ -176,8 +189,7 @@ fn replace_by_release(call: &mut LockCall, job: u8, items: Parts<'_>) -> Option<
     answer
 }
 
-/// Fills in a request for the locks that the items spell, or says why it is refused; None where an
-/// item is no lock.
+/// Fills in a request for the locks that the items spell, or says why it is refused.
 #[inline(always)]
 fn fill_request(
     call: &mut LockCall,
@@ -185,7 +197,7 @@ fn fill_request(
     id: RequestId,
     job: u8,
     items: Parts<'_>,
-) -> Option<Result<(), Refusal>>
+) -> Taken
     ensures { filled result call.new ≡ request_call kind id job items.entry }
 {
     match call {
@@ -200,9 +212,8 @@ fn fill_request(
     }
 }
 
-/// Fills in a change of the locks that the items spell, or says why it is refused; None where an
-/// item is no lock.
-fn fill_change(call: &mut LockCall, job: u8, items: Parts<'_>) -> Option<Result<(), Refusal>>
+/// Fills in a change of the locks that the items spell, or says why it is refused.
+fn fill_change(call: &mut LockCall, job: u8, items: Parts<'_>) -> Taken
     ensures { filled result call.new ≡ change_call job items.entry }
 {
     match call {
@@ -211,10 +222,9 @@ fn fill_change(call: &mut LockCall, job: u8, items: Parts<'_>) -> Option<Result<
     }
 }
 
-/// Fills in that the locks that the items spell are given up, or says why it is refused; None where
-/// an item is no lock.
+/// Fills in that the locks that the items spell are given up, or says why it is refused.
 #[inline(always)]
-fn fill_release(call: &mut LockCall, job: u8, items: Parts<'_>) -> Option<Result<(), Refusal>>
+fn fill_release(call: &mut LockCall, job: u8, items: Parts<'_>) -> Taken
     ensures { filled result call.new ≡ release_call job items.entry }
 {
     match call {

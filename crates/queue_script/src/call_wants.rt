@@ -1,7 +1,9 @@
 //! The wants of a call.
 ghost use Rattle.std.specs.Prelude.{◌≡◌, [], option_map};
+ghost use Rattle.std.specs.Option.{option_map_or};
 ghost use Rattle.queue_script.specs.Borrowed.{filled};
 ghost use Rattle.queue_script.specs.Locks.{locks_of, call_wants, refused_with};
+ghost use Rattle.queue_script.specs.declared.locks.Taken.TheVariants.{NoLock};
 
 use crate::locks::{Taken, read_lock, take_first};
 use lock_queue::{BlockUse, Refusal, Wants};
@@ -21,34 +23,28 @@ fn clear(wants: &mut Wants)
 }
 
 /// Why a call is refused that names so many locks and those of some items, where `why` is wrong with
-/// one of them: their number is looked at first. None where an item is no lock.
+/// one of them: their number is looked at first.
 #[inline(never)]
-fn refuse(mut items: Parts<'_>, first: usize, why: Refusal) -> Option<Result<(), Refusal>>
-    ensures { result ≡ option_map (refused_with first why) (locks_of items.entry) }
+fn refuse(mut items: Parts<'_>, first: usize, why: Refusal) -> Taken
+    ensures { result ≡ option_map_or (refused_with first why) (locks_of items.entry) NoLock }
 {
     let mut count = first;
     while let Some(item) = items.next() {
         match read_lock(item) {
-            None => return None,
+            None => return Taken::NoLock,
             Some(_) => {}
         }
         count = LOCKS_A_CALL.min(count) + 1;
     }
     if count > LOCKS_A_CALL {
-        Some(Err(Refusal::BadCount))
+        Taken::Refused(Refusal::BadCount)
     } else {
-        Some(Err(why))
+        Taken::Refused(why)
     }
 }
 
-/// Fills in the wants that the items of a line spell, or says why the call is refused; None where
-/// an item is no lock.
-pub fn read_wants(
-    mut items: Parts<'_>,
-    job: u8,
-    block_use: BlockUse,
-    wants: &mut Wants,
-) -> Option<Result<(), Refusal>>
+/// Fills in the wants that the items of a line spell, or says why the call is refused.
+pub fn read_wants(mut items: Parts<'_>, job: u8, block_use: BlockUse, wants: &mut Wants) -> Taken
     ensures { filled result wants.new ≡ option_map (call_wants job block_use) (locks_of items.entry) }
 {
     clear(wants);
@@ -58,7 +54,7 @@ pub fn read_wants(
         }
         match take_first(&mut items, job, block_use, wants) {
             Taken::Wanted => {}
-            Taken::NoLock => return None,
+            Taken::NoLock => return Taken::NoLock,
             Taken::Refused(why) => {
                 let count = wants.len() + 1;
                 return refuse(items, count, why);
@@ -66,7 +62,7 @@ pub fn read_wants(
         }
     }
     if wants.is_empty() {
-        return Some(Err(Refusal::BadCount));
+        return Taken::Refused(Refusal::BadCount);
     }
-    Some(Ok(()))
+    Taken::Wanted
 }

@@ -1,13 +1,13 @@
 //! The commands of a script on the lock queue.
 ghost use Rattle.std.specs.Prelude.{◌≡◌, ◌<◌, ◌^◌, None, is_some, IfSome, MatchOption};
-ghost use Rattle.queue_script.specs.Borrowed.{lent_by, asked_by, asked_by_line};
-ghost use Rattle.queue_script.specs.Commands.{job_of, enqueue_call, dequeue_call, unknown_call, enqueue_of, dequeue_of};
+ghost use Rattle.queue_script.specs.Borrowed.{called_by, asked_by, asked_by_line};
+ghost use Rattle.queue_script.specs.Commands.{job_of, asked_call, enqueue_call, dequeue_call, unknown_call, enqueue_of, dequeue_of};
 ghost use Rattle.queue_script.specs.Commands.{status_of_items, free_of, bare, command_of_items, command_of};
 ghost use Rattle.queue_script.specs.Locks.{locks_of};
 ghost use Rattle.script_io.specs.Numbers.{front, IsFront, parts};
 ghost use Rattle.queue_script.specs.Options.{half_of};
 
-use crate::call_room::CallRoom;
+use crate::call_room::{CallAsked, CallRoom};
 use crate::locks::read_lock;
 use crate::options::MOST_HALF;
 use lock_queue::{EnqueueKind, LockCall, Refusal, RequestId, Wants};
@@ -19,8 +19,10 @@ use word36::JOBS;
 pub enum Command<'a> {
     /// Nothing: the line is empty or a comment.
     Nothing,
-    /// ENQ or DEQ of a job: its call, or why it is refused before it is made.
-    Call(u8, Result<&'a LockCall, Refusal>),
+    /// ENQ or DEQ of a job: its call.
+    Call(u8, &'a LockCall),
+    /// ENQ or DEQ of a job: why its call is refused before it is made.
+    Refused(u8, Refusal),
     /// STAT: what a job is told of these locks, or why it is told nothing.
     Status(u8, Result<&'a Wants, Refusal>),
     /// FREE: all requests of a job leave.
@@ -66,13 +68,13 @@ fn are_locks(mut items: Parts<'_>) -> bool
 }
 
 /// The call of a function that there is not: it is refused, whatever its locks.
-fn unknown_call<'a>(items: Parts<'_>) -> Option<Result<&'a LockCall, Refusal>>
-    ensures { lent_by result ≡ unknown_call items.entry }
+fn unknown_call<'a>(items: Parts<'_>) -> CallAsked<'a>
+    ensures { called_by result ≡ unknown_call items.entry }
 {
     if are_locks(items) {
-        Some(Err(Refusal::NoFunction))
+        CallAsked::Refused(Refusal::NoFunction)
     } else {
-        None
+        CallAsked::NoCall
     }
 }
 
@@ -84,8 +86,8 @@ fn enqueue_call<'a>(
     id: RequestId,
     job: u8,
     items: Parts<'_>,
-) -> Option<Result<&'a LockCall, Refusal>>
-    ensures { lent_by result ≡ enqueue_call function id job items.entry }
+) -> CallAsked<'a>
+    ensures { called_by result ≡ enqueue_call function id job items.entry }
 {
     match function {
         0 => room.request(EnqueueKind::Blocking, id, job, items),
@@ -93,6 +95,18 @@ fn enqueue_call<'a>(
         2 => room.request(EnqueueKind::Interrupt, id, job, items),
         3 => room.change(job, items),
         _ => unknown_call(items),
+    }
+}
+
+/// What a line asks for that is a call of this job.
+#[inline(always)]
+fn call_of<'a>(job: u8, asked: CallAsked<'a>) -> Option<Command<'a>>
+    ensures { asked_by_line result ≡ asked_call job (called_by asked.entry) }
+{
+    match asked {
+        CallAsked::NoCall => None,
+        CallAsked::Call(call) => Some(Command::Call(job, call)),
+        CallAsked::Refused(refusal) => Some(Command::Refused(job, refusal)),
     }
 }
 
@@ -104,8 +118,7 @@ fn read_enqueue<'a>(room: &'a mut CallRoom, mut items: Parts<'_>) -> Option<Comm
     let job = next_job(&mut items)?;
     let function = next_half(&mut items)?;
     let id = RequestId::new(next_half(&mut items)?);
-    let call = enqueue_call(room, function, id, job, items)?;
-    Some(Command::Call(job, call))
+    call_of(job, enqueue_call(room, function, id, job, items))
 }
 
 /// The call of DEQ with this function.
@@ -115,8 +128,8 @@ fn dequeue_call<'a>(
     function: u32,
     job: u8,
     items: Parts<'_>,
-) -> Option<Result<&'a LockCall, Refusal>>
-    ensures { lent_by result ≡ dequeue_call function job items.entry }
+) -> CallAsked<'a>
+    ensures { called_by result ≡ dequeue_call function job items.entry }
 {
     match function {
         0 => room.release(job, items),
@@ -133,8 +146,7 @@ fn read_dequeue<'a>(room: &'a mut CallRoom, mut items: Parts<'_>) -> Option<Comm
 {
     let job = next_job(&mut items)?;
     let function = next_half(&mut items)?;
-    let call = dequeue_call(room, function, job, items)?;
-    Some(Command::Call(job, call))
+    call_of(job, dequeue_call(room, function, job, items))
 }
 
 /// What follows STAT.

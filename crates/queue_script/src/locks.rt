@@ -160,14 +160,14 @@ pub fn read_lock(item: &[u8]) -> Option<Lock<'_>>
     Some(Lock { name, options })
 }
 
-/// What has come of an item that a call wants the lock of.
+/// What has come of items that a call wants the locks of.
 #[derive(Clone, Copy)]
 pub enum Taken {
-    /// It is no lock.
+    /// One is no lock.
     NoLock,
-    /// What is wanted of its lock stands behind the other wants.
+    /// What is wanted of their locks stands where it is to stand.
     Wanted,
-    /// What is wanted of its lock is refused.
+    /// What is wanted of them is refused.
     Refused(Refusal),
 }
 
@@ -249,6 +249,7 @@ fn take_plain(name: Characters<'_>, wants: &mut Wants) -> Taken
 }
 
 /// Takes what a call wants of the lock that an item spells, whatever its form.
+#[inline(never)]
 fn take_item(item: &[u8], job: u8, block_use: BlockUse, wants: &mut Wants) -> Taken
     requires { array_vec_len wants.old < LOCKS_A_CALL }
     ensures { Takes job block_use (lock_of item.now) wants.old.items wants.new.items result }

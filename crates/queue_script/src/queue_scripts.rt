@@ -43,28 +43,42 @@ fn make_call<L: LockTable>(
     push_grants(out, woken.as_slice())
 }
 
-/// Makes a call of a job, or says why it is refused before it is made, unless the job waits.
+/// Makes a call of a job, unless the job waits.
 fn call_unless_busy<L: LockTable>(
     table: &mut L,
     job: u8,
-    asked: Result<&LockCall, Refusal>,
+    call: &LockCall,
     woken: &mut Woken,
     out: &mut Vec<u8>,
 ) -> Result<(), AllocError>
-    requires { IfOk (lent asked) (λ call. IsTrue (is_call job call)) }
+    requires { IsTrue (is_call job call.now) }
     ensures requests { OnOk result (L.requests table.new
-        ≡ (unless_busy (L.requests table.old) job (call_effect L.REQS (L.requests table.old) job (lent asked.entry))).requests) }
+        ≡ (unless_busy (L.requests table.old) job (call_effect L.REQS (L.requests table.old) job (Ok call.now))).requests) }
     ensures text { OnOk result (out.new.items
-        ≡ out.old.items ++ (unless_busy (L.requests table.old) job (call_effect L.REQS (L.requests table.old) job (lent asked.entry))).text) }
+        ≡ out.old.items ++ (unless_busy (L.requests table.old) job (call_effect L.REQS (L.requests table.old) job (Ok call.now))).text) }
 {
     if table.waiting(job) {
         out.extend_from_slice(b"BUSY\n")?;
         return Ok(());
     }
-    match asked {
-        Ok(call) => make_call(table, job, call, woken, out),
-        Err(refusal) => push_code(out, refusal),
+    make_call(table, job, call, woken, out)
+}
+
+/// Says why a call of a job is refused before it is made, unless the job waits.
+fn refuse_unless_busy<L: LockTable>(
+    table: &L,
+    job: u8,
+    refusal: Refusal,
+    out: &mut Vec<u8>,
+) -> Result<(), AllocError>
+    ensures { OnOk result (out.new.items
+        ≡ out.old.items ++ (unless_busy (L.requests table.now) job (call_effect L.REQS (L.requests table.now) job (Err refusal))).text) }
+{
+    if !table.waiting(job) {
+        return push_code(out, refusal);
     }
+    out.extend_from_slice(b"BUSY\n")?;
+    Ok(())
 }
 
 /// Takes out all requests of a job, and adds the grants that this makes.
@@ -144,18 +158,19 @@ fn perform<L: LockTable>(
     ensures ending { IfOk result (λ ending. ending
         ≡ (effect_of L.REQS number (L.requests table.old) (asked_by_line command.entry)).ending) }
 {
+    let Some(command) = command else {
+        push_fault(out, number)?;
+        return Ok(Some(Ending::Script(number)));
+    };
     match command {
-        None => {
-            push_fault(out, number)?;
-            return Ok(Some(Ending::Script(number)));
-        }
-        Some(Command::Quit) => return Ok(Some(Ending::Done)),
-        Some(Command::Nothing) => {}
-        Some(Command::Call(job, asked)) => call_unless_busy(table, job, asked, woken, out)?,
-        Some(Command::Status(job, wants)) => push_status_text(out, table, job, wants)?,
-        Some(Command::Free(job)) => free(table, job, woken, out)?,
-        Some(Command::Show) => push_requests(out, table)?,
-        Some(Command::Waits) => push_waits(out, table)?,
+        Command::Quit => return Ok(Some(Ending::Done)),
+        Command::Nothing => {}
+        Command::Call(job, call) => call_unless_busy(table, job, call, woken, out)?,
+        Command::Refused(job, refusal) => refuse_unless_busy(table, job, refusal, out)?,
+        Command::Status(job, wants) => push_status_text(out, table, job, wants)?,
+        Command::Free(job) => free(table, job, woken, out)?,
+        Command::Show => push_requests(out, table)?,
+        Command::Waits => push_waits(out, table)?,
     }
     Ok(None)
 }

@@ -1,7 +1,8 @@
 use Rattle.std.proofs.Common.{true, false, ◌≡◌, ◌≤◌, ◌<◌, ◌+◌, [], ◌∷◌, min, length, length-append, arith, ap, ◌∙◌}
 use Rattle.std.proofs.lemmas.Bool.Decides.{nat_tests}
-use Rattle.std.specs.Prelude.{option_map}
+use Rattle.std.specs.Option.{option_map_or}
 use Rattle.queue_script.specs.Locks.{locks_of, refused_with}
+use Rattle.queue_script.specs.declared.locks.Taken.TheVariants as taken
 use Rattle.queue_script.proofs.WantLemmas.{wanted, wanted-not, no_lock, gathers-want, gathers-refused, gathers-full, gathers-none}
 use Rattle.queue_script.proofs.call_wants.read_wants.Goals as goal
 
@@ -31,6 +32,6 @@ pub returns-in-Refused : goal.returns-in-Refused
 returns-in-Refused c =
     let w = wanted-not _ _ _ _ _ _ _ c.in-Refused.ensures in
     let counted =
-    ap (λ n. option_map (refused_with (n + 1) c.in-Refused.why) (locks_of c.take_first.new.items))
+    ap (λ n. option_map_or (refused_with (n + 1) c.in-Refused.why) (locks_of c.take_first.new.items) taken.NoLock)
     (c.len-count.ensures.value ∙ ap length w.same) in
     gathers-refused _ _ _ _ _ _ _ _ _ _ _ _ c.items.invariant.gathers c.items.invariant.room w.first.1 w.first.2 w.is (c.refuse-in-Refused.ensures ∙ counted)
