@@ -77,18 +77,37 @@ pub fn is_name_character(character: u8) -> bool
     NAME_CHARACTERS[usize::from(character)] == 1
 }
 
-/// How many characters at the front of a text a name may have.
+/// How many characters at the front of a text a name may have. They are looked at by fours while there
+/// are four.
 #[inline(never)]
+#[tactic(auto, using(crate::proofs::LockLemmas::named_one, crate::proofs::LockLemmas::named_two, crate::proofs::LockLemmas::named_three, crate::proofs::LockLemmas::named_four))]
 fn name_length(text: &[u8]) -> usize
     ensures within { result ≤ length text.now }
     ensures named { list_all is_name_character (take result text.now) ≡ true }
 {
-    for (i, character) in text.iter().enumerate() {
-        if !is_name_character(*character) {
-            return i;
+    let mut count = 0;
+    'fours: while text.len() - count >= 4 {
+        if !is_name_character(text[count]) {
+            return count;
         }
+        if !is_name_character(text[count + 1]) {
+            return count + 1;
+        }
+        if !is_name_character(text[count + 2]) {
+            return count + 2;
+        }
+        if !is_name_character(text[count + 3]) {
+            return count + 3;
+        }
+        count += 4;
     }
-    text.len()
+    'ones: while count < text.len() {
+        if !is_name_character(text[count]) {
+            return count;
+        }
+        count += 1;
+    }
+    count
 }
 
 /// Whether a name may have these characters.
