@@ -2,6 +2,8 @@ pub mod WordLemmas
 pub mod ItemLemmas
 pub mod LockLemmas
 pub mod WantLemmas
+pub mod OptionLemmas
+pub mod CodeLemmas
 pub mod ShownLemmas
 pub mod Asking
 pub mod PairLemmas

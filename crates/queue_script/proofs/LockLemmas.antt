@@ -1,5 +1,5 @@
 -- Lemmas on locks.
-use Rattle.std.proofs.Common.{◌≡◌, ◌<◌, ◌≤◌, ◌+◌, ◌==◌, ◌&&◌, ◌∙◌, ℕ, Bool, true, false, refl, List, [], ◌∷◌, arith, ap, get_or, All, length, take}
+use Rattle.std.proofs.Common.{◌≡◌, ◌<◌, ◌+◌, ◌==◌, ◌&&◌, ◌∙◌, ℕ, Bool, true, false, refl, List, [], ◌∷◌, arith, ap, get_or, All, length, take}
 use Rattle.std.specs.Prelude.{IsUtf8}
 use Rattle.std.specs.List.{list_all}
 use Rattle.std.proofs.lemmas.Bool.{agree_below, agree_below_at}
@@ -37,7 +37,7 @@ names-utf8 text h = IsUtf8-from_ascii text (IsAscii-from_all text (names-ascii t
 
 -- ---- one more character of a name, and two, three and four
 
-both : (a b : Bool) → a ≡ true → b ≡ true → (a && b) ≡ true
+pub both : (a b : Bool) → a ≡ true → b ≡ true → (a && b) ≡ true
 both a b p q = ap (λ x. x && b) p ∙ q
 
 pub named_one : (text : List ℕ) (n : ℕ) → n < length text → list_all is_name_character (take n text) ≡ true

@@ -1,6 +1,6 @@
 -- Lemmas on the wants of a call.
 use Rattle.std.proofs.Common.{◌≡◌, ◌≤◌, ◌+◌, ◌++◌, ◌&&◌, ℕ, Bool, true, false, cond, List, [], ◌∷◌, length, Option, Some, None, Result}
-use Rattle.std.proofs.Common.{Ok, Err, min, nat_le, arith, refl, sym, ap, ◌∙◌, append_assoc, length-append}
+use Rattle.std.proofs.Common.{Ok, Err, min, nat_le, arith, refl, sym, ap, subst, take, ◌∙◌, append_assoc, append-nil, length-append}
 use Rattle.std.specs.Prelude.{option_map, option_and_then}
 use Rattle.std.specs.Option.{option_map_or}
 use Rattle.std.proofs.lemmas.Bool.Decides.{nat_tests}
@@ -16,7 +16,7 @@ use Rattle.queue_script.specs.declared.locks.LockName.TheVariants.{Spelled}
 use Rattle.queue_script.specs.declared.locks.Taken.{Taken}
 use Rattle.queue_script.specs.declared.locks.Taken.TheVariants as taken
 use Rattle.lock_queue.specs.declared.terms.BlockUse.TheVariants.{Blocking, Full, Named}
-use Rattle.queue_script.specs.Locks.{lock_of, locks_of, want_of, plain_want, with_want, taken_as, Takes, TakesFirst}
+use Rattle.queue_script.specs.Locks.{lock_of, locks_of, want_of, plain_want, taken_as, TakesWant, Takes, TakesFirst}
 use Rattle.queue_script.specs.Locks.{IsFirstLock, refused_with, onto_wants, wants_of, stored, call_wants}
 
 -- the wants so far, or the first refusal
@@ -61,71 +61,72 @@ want_of_plain job Named text = refl
 
 -- ---- what has come of an item
 
-pushed : (ws ws' : List Want) (w : Result Want Refusal) → taken.Wanted ≡ taken_as w → ws' ≡ with_want ws w
-    → (want : Want) × (w ≡ Ok want) × (ws' ≡ ws ++ want ∷ [])
-pushed ws ws' (Ok want) h items = (want, refl, items)
-pushed ws ws' (Err why) h items = absurd (cc)
+pushed : (place : ℕ) (ws ws' : List Want) (w : Result Want Refusal) → TakesWant w place ws ws' taken.Wanted
+    → (want : Want) × (w ≡ Ok want) × (take (place + 1) ws' ≡ take place ws ++ want ∷ []) × (place + 1 ≤ length ws')
+pushed place ws ws' (Ok want) h = (want, refl, h.1, h.2)
+pushed place ws ws' (Err why) h = let e : taken.Wanted ≡ taken.Refused why = h.0 in absurd (cc)
 
-refused : (ws ws' : List Want) (w : Result Want Refusal) (why : Refusal) → taken.Refused why ≡ taken_as w → ws' ≡ with_want ws w → (w ≡ Err why) × (ws' ≡ ws)
-refused ws ws' (Ok want) why h items = absurd (cc)
-refused ws ws' (Err other) why h items = (cc, items)
+refused : (place : ℕ) (ws ws' : List Want) (w : Result Want Refusal) (why : Refusal) → TakesWant w place ws ws' (taken.Refused why) → w ≡ Err why
+refused place ws ws' (Ok want) why h = let e : taken.Refused why ≡ taken.Wanted = h.0 in absurd (cc)
+refused place ws ws' (Err other) why h = let e : taken.Refused why ≡ taken.Refused other = h.0 in cc
 
 no_lock-not : (w : Result Want Refusal) → taken.NoLock ≡ taken_as w → ⊥
 no_lock-not (Ok want) h = cc
 no_lock-not (Err why) h = cc
 
-pub record IsWanted (job : ℕ) (use_ : BlockUse) (items others : List (List ℕ)) (wants next : List Want) : Type 0 where
+pub record IsWanted (job : ℕ) (use_ : BlockUse) (items others : List (List ℕ)) (place : ℕ) (wants next : List Want) : Type 0 where
   pub lock : Lock
   pub first : IsFirstLock items (Some lock) others
   pub want : Want
   pub is : want_of job use_ lock ≡ Ok want
-  pub behind : next ≡ wants ++ want ∷ []
+  pub behind : take (place + 1) next ≡ take place wants ++ want ∷ []
+  pub long : place + 1 ≤ length next
 
-pub wanted : (job : ℕ) (use_ : BlockUse) (items others : List (List ℕ)) (wants next : List Want)
-    → TakesFirst job use_ items others wants next taken.Wanted
-    → IsWanted job use_ items others wants next
-wanted job use_ items others wants next t = by t.0 t.1 t.2
+pub wanted : (job : ℕ) (use_ : BlockUse) (items others : List (List ℕ)) (place : ℕ) (wants next : List Want)
+    → TakesFirst job use_ items others place wants next taken.Wanted
+    → IsWanted job use_ items others place wants next
+wanted job use_ items others place wants next t = by t.0 t.1 t.2
   where
-    by : (lock : Option Lock) → IsFirstLock items lock others → Takes job use_ lock wants next taken.Wanted → IsWanted job use_ items others wants next
+    by : (lock : Option Lock) → IsFirstLock items lock others → Takes job use_ lock place wants next taken.Wanted
+        → IsWanted job use_ items others place wants next
     by None first h = absurd (cc)
     by (Some lock) first h =
-        let p = pushed wants next (want_of job use_ lock) h.0 h.1 in
-        record { lock = lock; first = first; want = p.0; is = p.1; behind = p.2 }
+        let p = pushed place wants next (want_of job use_ lock) h in
+        record { lock = lock; first = first; want = p.0; is = p.1; behind = p.2; long = p.3 }
 
-pub record IsRefused (job : ℕ) (use_ : BlockUse) (items others : List (List ℕ)) (wants next : List Want) (why : Refusal) : Type 0 where
+pub record IsRefused (job : ℕ) (use_ : BlockUse) (items others : List (List ℕ)) (why : Refusal) : Type 0 where
   pub lock : Lock
   pub first : IsFirstLock items (Some lock) others
   pub is : want_of job use_ lock ≡ Err why
-  pub same : next ≡ wants
 
-pub wanted-not : (job : ℕ) (use_ : BlockUse) (items others : List (List ℕ)) (wants next : List Want) (why : Refusal)
-    → TakesFirst job use_ items others wants next (taken.Refused why)
-    → IsRefused job use_ items others wants next why
-wanted-not job use_ items others wants next why t = by t.0 t.1 t.2
+pub wanted-not : (job : ℕ) (use_ : BlockUse) (items others : List (List ℕ)) (place : ℕ) (wants next : List Want) (why : Refusal)
+    → TakesFirst job use_ items others place wants next (taken.Refused why)
+    → IsRefused job use_ items others why
+wanted-not job use_ items others place wants next why t = by t.0 t.1 t.2
   where
-    by : (lock : Option Lock) → IsFirstLock items lock others → Takes job use_ lock wants next (taken.Refused why)
-        → IsRefused job use_ items others wants next why
+    by : (lock : Option Lock) → IsFirstLock items lock others → Takes job use_ lock place wants next (taken.Refused why)
+        → IsRefused job use_ items others why
     by None first h = absurd (cc)
-    by (Some lock) first h =
-        let p = refused wants next (want_of job use_ lock) why h.0 h.1 in
-        record { lock = lock; first = first; is = p.0; same = p.1 }
+    by (Some lock) first h = record { lock = lock; first = first; is = refused place wants next (want_of job use_ lock) why h }
 
-pub no_lock : (job : ℕ) (use_ : BlockUse) (items others : List (List ℕ)) (wants next : List Want)
-    → TakesFirst job use_ items others wants next taken.NoLock
+pub no_lock : (job : ℕ) (use_ : BlockUse) (items others : List (List ℕ)) (place : ℕ) (wants next : List Want)
+    → TakesFirst job use_ items others place wants next taken.NoLock
     → IsFirstLock items None others
-no_lock job use_ items others wants next t = by t.0 t.1 t.2
+no_lock job use_ items others place wants next t = by t.0 t.1 t.2
   where
-    by : (lock : Option Lock) → IsFirstLock items lock others → Takes job use_ lock wants next taken.NoLock → IsFirstLock items None others
+    by : (lock : Option Lock) → IsFirstLock items lock others → Takes job use_ lock place wants next taken.NoLock → IsFirstLock items None others
     by None first h = first
     by (Some lock) first h = absurd (no_lock-not (want_of job use_ lock) h.0)
 
-pub takes-plain : (job : ℕ) (use_ : BlockUse) (items others : List (List ℕ)) (wants next : List Want) (result : Taken) (text : List ℕ)
-    → IsFirstLock items (Some (record { name = Spelled text; options = no_options })) others → result ≡ taken_as (plain_want text)
-    → next ≡ with_want wants (plain_want text)
-    → TakesFirst job use_ items others wants next result
-takes-plain job use_ items others wants next result text first answer behind =
-    let same = want_of_plain job use_ text in
-    (Some (record { name = Spelled text; options = no_options }), first, (answer ∙ ap taken_as (sym same), behind ∙ ap (with_want wants) (sym same)))
+pub takes-plain : (job : ℕ) (use_ : BlockUse) (items others : List (List ℕ)) (place : ℕ) (wants next : List Want) (result : Taken) (text : List ℕ)
+    → IsFirstLock items (Some (record { name = Spelled text; options = no_options })) others
+    → TakesWant (plain_want text) place wants next result
+    → TakesFirst job use_ items others place wants next result
+takes-plain job use_ items others place wants next result text first takes = (
+  Some (record { name = Spelled text; options = no_options }),
+  first,
+  subst (λ w. TakesWant w place wants next result) (sym (want_of_plain job use_ text)) takes,
+)
 
 -- reading one more item
 map-push : (seen : List Lock) (lock : Lock) (o : Option (List Lock))
@@ -163,10 +164,47 @@ gathers-want job use_ all old rest item lock count next wants wants' want refusa
       ∙ ap (join (told_by refusal wants)) wanted ∙ join-told refusal wants want ∙ ap (told_by refusal) (sym pushed);
 }
 
--- ---- the end
+-- ---- the start and the end
+
+nothing-before : (o : Option (List Lock)) → o ≡ option_map (λ ls. [] ++ ls) o
+nothing-before None = refl
+nothing-before (Some ls) = refl
+
+pub gathers-start : (job : ℕ) (use_ : BlockUse) (items : List (List ℕ)) (wants : List Want) → Gathers job use_ items items 0 (take 0 wants) None
+gathers-start job use_ items wants = record { seen = []; read = nothing-before (locks_of items); counted = refl; told = λ h. refl }
 
 few_or_many : (n : ℕ) (x y : Result (ArrayVec Want) Refusal) → (1 ≤ n → n ≤ 16 → ⊥) → cond (nat_le 1 n && nat_le n 16) x y ≡ y
 few_or_many n x y h = grind (arith, nat_tests)
+
+right_many : (n : ℕ) (x y : Result (ArrayVec Want) Refusal) → 1 ≤ n → n ≤ 16 → cond (nat_le 1 n && nat_le n 16) x y ≡ x
+right_many n x y one most = grind (arith, nat_tests)
+
+all-seen : (job : ℕ) (use_ : BlockUse) (all rest : List (List ℕ)) (count : ℕ) (wants : List Want) (g : Gathers job use_ all rest count wants None)
+    → rest ≡ []
+    → locks_of all ≡ Some g.seen
+all-seen job use_ all rest count wants g end =
+    g.read ∙ ap (λ l. option_map (λ ls. g.seen ++ ls) (locks_of l)) end ∙ ap Some (append-nil g.seen)
+
+pub gathers-end : (job : ℕ) (use_ : BlockUse) (all rest : List (List ℕ)) (count : ℕ) (wants : List Want) (after : ArrayVec Want)
+    → Gathers job use_ all rest count wants None → rest ≡ [] → 1 ≤ count → count ≤ 16 → after.items ≡ wants
+    → filled taken.Wanted after ≡ option_map (call_wants job use_) (locks_of all)
+gathers-end job use_ all rest count wants after g end some few is =
+    let c = g.counted in
+    ap (λ ws. Some (Ok (record { items = ws }))) is
+    ∙ sym
+    (ap (option_map (call_wants job use_)) (all-seen job use_ all rest count wants g end)
+    ∙ ap Some
+    (right_many (length g.seen) (stored (wants_of job use_ g.seen)) (Err BadCount) (omega (arith, some, few)) (omega (arith, some, few))
+    ∙ ap stored (g.told (omega (arith, few)))))
+
+pub gathers-nothing : (job : ℕ) (use_ : BlockUse) (all rest : List (List ℕ)) (count : ℕ) (wants : List Want) (after : ArrayVec Want)
+    → Gathers job use_ all rest count wants None → rest ≡ [] → count ≡ 0
+    → filled (taken.Refused BadCount) after ≡ option_map (call_wants job use_) (locks_of all)
+gathers-nothing job use_ all rest count wants after g end none =
+    let c = g.counted in
+    sym
+    (ap (option_map (call_wants job use_)) (all-seen job use_ all rest count wants g end)
+    ∙ ap Some (few_or_many (length g.seen) (stored (wants_of job use_ g.seen)) (Err BadCount) (λ one most. omega (arith, none))))
 
 -- ---- a call that is refused
 

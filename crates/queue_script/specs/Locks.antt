@@ -1,5 +1,5 @@
 -- The locks of a command, and what a call wants of them (this project's profile).
-use Rattle.std.specs.Prelude.{◌≡◌, ◌==◌, ◌&&◌, ◌||◌, ◌++◌, ◌+◌, ℕ, Bool, false, List, [], ◌∷◌, length, Option, Some, None, Result}
+use Rattle.std.specs.Prelude.{◌≡◌, ◌≤◌, take, ◌==◌, ◌&&◌, ◌||◌, ◌++◌, ◌+◌, ℕ, Bool, false, List, [], ◌∷◌, length, Option, Some, None, Result}
 use Rattle.std.specs.Prelude.{Ok, Err, if◌then◌else◌, option_and_then, option_map, unwrap_or, nat_le}
 use Rattle.std.specs.List.{list_all}
 use Rattle.arrayvec.specs.ArrayVec.{ArrayVec}
@@ -118,14 +118,25 @@ abbrev pub taken_as : Result Want Refusal → Taken
 taken_as (Ok want) = taken.Wanted
 taken_as (Err refusal) = taken.Refused refusal
 
--- what a call wants of this lock is taken behind some wants, which makes these; or there is no lock
-abbrev pub Takes : ℕ → BlockUse → Option Lock → List Want → List Want → Taken → Type 0
-Takes job use_ None wants next result = result ≡ taken.NoLock
-Takes job use_ (Some lock) wants next result = (result ≡ taken_as (want_of job use_ lock)) × (next ≡ with_want wants (want_of job use_ lock))
+-- the place behind a want at some place, where there is one
+abbrev pub place_behind : ℕ → Result Want Refusal → ℕ
+place_behind place (Ok want) = place + 1
+place_behind place (Err refusal) = place
+
+-- a want is taken to a place behind the wants before it, or refused
+abbrev pub TakesWant : Result Want Refusal → ℕ → List Want → List Want → Taken → Type 0
+TakesWant want place wants next result =
+    (result ≡ taken_as want) × (take (place_behind place want) next ≡ with_want (take place wants) want) × (place_behind place want ≤ length next)
+
+-- what a call wants of this lock is taken so; or there is no lock
+abbrev pub Takes : ℕ → BlockUse → Option Lock → ℕ → List Want → List Want → Taken → Type 0
+Takes job use_ None place wants next result = result ≡ taken.NoLock
+Takes job use_ (Some lock) place wants next result = TakesWant (want_of job use_ lock) place wants next result
 
 -- so is the lock that the first of some items spells, where these are behind it
-abbrev pub TakesFirst : ℕ → BlockUse → List (List ℕ) → List (List ℕ) → List Want → List Want → Taken → Type 0
-TakesFirst job use_ items others wants next result = (lock : Option Lock) × IsFirstLock items lock others × Takes job use_ lock wants next result
+abbrev pub TakesFirst : ℕ → BlockUse → List (List ℕ) → List (List ℕ) → ℕ → List Want → List Want → Taken → Type 0
+TakesFirst job use_ items others place wants next result =
+    (lock : Option Lock) × IsFirstLock items lock others × Takes job use_ lock place wants next result
 
 -- a want in front of others, or the first refusal
 abbrev pub onto_wants : Result Want Refusal → Result (List Want) Refusal → Result (List Want) Refusal

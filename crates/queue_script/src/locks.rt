@@ -1,9 +1,12 @@
 //! The locks of a command.
-ghost use Rattle.std.specs.Prelude.{◌≡◌, ◌≢◌, ◌<◌, ◌≤◌, true, [], length, take, ◌^◌, IfSome};
+ghost use Rattle.std.specs.Prelude.{◌≡◌, ◌≢◌, ◌<◌, ◌≤◌, ◌+◌, ◌++◌, ◌∷◌, true, [], length, take, ◌^◌, None, Some, Ok, IfSome};
 ghost use Rattle.std.specs.List.{list_all};
+ghost use Rattle.script_io.specs.Numbers.{is_digit, parts, texts_in};
 ghost use Rattle.queue_script.specs.Locks.{is_name_character, user_code, name_of_characters, name_of, lock_of, want_of_name};
-ghost use Rattle.queue_script.specs.Locks.{plain_want, with_want, taken_as, key_of, terms_of, Takes, TakesFirst};
-ghost use Rattle.queue_script.specs.declared.locks.LockName.TheVariants.{Spelled};
+ghost use Rattle.queue_script.specs.Locks.{IsFirstLock, plain_want, key_of, terms_of, TakesWant, Takes, TakesFirst};
+ghost use Rattle.queue_script.specs.Options.{is_option_character};
+ghost use Rattle.queue_script.specs.declared.locks.LockName.{LockName};
+ghost use Rattle.queue_script.specs.declared.locks.LockName.TheVariants.{Spelled, Coded};
 ghost use Rattle.arrayvec.specs.ArrayVec.{array_vec_len};
 ghost use Rattle.lock_queue.specs.Uses.{want_on};
 ghost use Rattle.word36.specs.declared.sizes.TheConstants.{LOCKS_A_CALL};
@@ -199,6 +202,43 @@ fn key_of(job: u8, name: Name, own: bool) -> Key
     Key { scope, name }
 }
 
+/// Puts a want at a place of the list: over the one there, or last.
+#[inline(always)]
+fn put(wants: &mut Wants, place: usize, want: Want)
+    requires within { place ≤ array_vec_len wants.old }
+    requires room { place < LOCKS_A_CALL }
+    ensures items { take (place + 1) wants.new.items ≡ take place wants.old.items ++ want ∷ [] }
+    ensures long { place + 1 ≤ array_vec_len wants.new }
+{
+    if place < wants.len() {
+        wants[place] = want;
+    } else {
+        wants.push(want);
+    }
+}
+
+/// What a call wants of a lock with neither a group nor a pool: nothing can be wrong with it.
+#[inline(always)]
+fn simple_want(block_use: BlockUse, key: Key, options: Options) -> Want
+    requires group { options.group ≡ None }
+    requires pool { options.pool ≡ None }
+    ensures { want_on block_use key (terms_of options) ≡ Ok result }
+{
+    let named = matches!(block_use, BlockUse::Named);
+    Want {
+        key,
+        shared: options.shared,
+        group: Group::new(0),
+        bypass: if named { false } else { options.bypass },
+        level: if named {
+            Level::new(0)
+        } else {
+            options.level.unwrap_or(Level::new(0))
+        },
+        pool: None,
+    }
+}
+
 /// Takes what a call wants of the lock of this name.
 #[inline(always)]
 fn take_named(
@@ -207,15 +247,20 @@ fn take_named(
     job: u8,
     block_use: BlockUse,
     wants: &mut Wants,
+    place: usize,
 ) -> Taken
-    requires { array_vec_len wants.old < LOCKS_A_CALL }
-    ensures answer { result ≡ taken_as (want_on block_use (key_of job name options.own) (terms_of options)) }
-    ensures items { wants.new.items ≡ with_want wants.old.items (want_on block_use (key_of job name options.own) (terms_of options)) }
+    requires within { place ≤ array_vec_len wants.old }
+    requires room { place < LOCKS_A_CALL }
+    ensures { TakesWant (want_on block_use (key_of job name options.own) (terms_of options)) place wants.old.items wants.new.items result }
 {
     let key = key_of(job, name, options.own);
+    if options.group.is_none() && options.pool.is_none() {
+        put(wants, place, simple_want(block_use, key, options));
+        return Taken::Wanted;
+    }
     match Want::on(block_use, key, options.terms()) {
         Ok(want) => {
-            wants.push(want);
+            put(wants, place, want);
             Taken::Wanted
         }
         Err(refusal) => Taken::Refused(refusal),
@@ -230,27 +275,28 @@ fn take_spelled(
     job: u8,
     block_use: BlockUse,
     wants: &mut Wants,
+    place: usize,
 ) -> Taken
-    requires { array_vec_len wants.old < LOCKS_A_CALL }
-    ensures answer { result ≡ taken_as (want_of_name job block_use (Spelled name.entry) options) }
-    ensures items { wants.new.items ≡ with_want wants.old.items (want_of_name job block_use (Spelled name.entry) options) }
+    requires within { place ≤ array_vec_len wants.old }
+    requires room { place < LOCKS_A_CALL }
+    ensures { TakesWant (want_of_name job block_use (Spelled name.entry) options) place wants.old.items wants.new.items result }
 {
     match NameText::new(name.text) {
-        Some(text) => take_named(Name::Text(text), options, job, block_use, wants),
+        Some(text) => take_named(Name::Text(text), options, job, block_use, wants, place),
         None => Taken::Refused(Refusal::BadName),
     }
 }
 
 /// Takes what any call wants of the lock of a name alone. Here the name is copied.
 #[inline(always)]
-fn take_plain(name: Characters<'_>, wants: &mut Wants) -> Taken
-    requires { array_vec_len wants.old < LOCKS_A_CALL }
-    ensures answer { result ≡ taken_as (plain_want name.entry) }
-    ensures items { wants.new.items ≡ with_want wants.old.items (plain_want name.entry) }
+fn take_plain(name: Characters<'_>, wants: &mut Wants, place: usize) -> Taken
+    requires within { place ≤ array_vec_len wants.old }
+    requires room { place < LOCKS_A_CALL }
+    ensures { TakesWant (plain_want name.entry) place wants.old.items wants.new.items result }
 {
     match NameText::new(name.text) {
         Some(text) => {
-            wants.push(Want {
+            let want = Want {
                 key: Key {
                     scope: Scope::All,
                     name: Name::Text(text),
@@ -260,7 +306,8 @@ fn take_plain(name: Characters<'_>, wants: &mut Wants) -> Taken
                 bypass: false,
                 level: Level::new(0),
                 pool: None,
-            });
+            };
+            put(wants, place, want);
             Taken::Wanted
         }
         None => Taken::Refused(Refusal::BadName),
@@ -269,50 +316,161 @@ fn take_plain(name: Characters<'_>, wants: &mut Wants) -> Taken
 
 /// Takes what a call wants of the lock that an item spells, whatever its form.
 #[inline(never)]
-fn take_item(item: &[u8], job: u8, block_use: BlockUse, wants: &mut Wants) -> Taken
-    requires { array_vec_len wants.old < LOCKS_A_CALL }
-    ensures { Takes job block_use (lock_of item.now) wants.old.items wants.new.items result }
+fn take_item(item: &[u8], job: u8, block_use: BlockUse, wants: &mut Wants, place: usize) -> Taken
+    requires within { place ≤ array_vec_len wants.old }
+    requires room { place < LOCKS_A_CALL }
+    ensures { Takes job block_use (lock_of item.now) place wants.old.items wants.new.items result }
 {
     match read_lock(item) {
         None => Taken::NoLock,
         Some(Lock { name, options }) => match name {
-            LockName::Coded(code) => take_named(Name::Code(code), options, job, block_use, wants),
-            LockName::Spelled(name) => take_spelled(name, options, job, block_use, wants),
+            LockName::Coded(code) => {
+                take_named(Name::Code(code), options, job, block_use, wants, place)
+            }
+            LockName::Spelled(name) => take_spelled(name, options, job, block_use, wants, place),
         },
     }
+}
+
+/// Takes what a call wants of the lock that the first of some items spells, whatever its form.
+#[inline(always)]
+fn take_next(
+    items: &mut Parts<'_>,
+    job: u8,
+    block_use: BlockUse,
+    wants: &mut Wants,
+    place: usize,
+) -> Taken
+    requires some { items.old ≢ [] }
+    requires within { place ≤ array_vec_len wants.old }
+    requires room { place < LOCKS_A_CALL }
+    ensures { TakesFirst job block_use items.old items.new place wants.old.items wants.new.items result }
+{
+    match items.next() {
+        Some(item) => take_item(item, job, block_use, wants, place),
+        None => Taken::NoLock,
+    }
+}
+
+/// Whether a character is an octal digit.
+#[inline(always)]
+fn is_octal_digit(character: u8) -> bool
+    ensures { result ≡ is_digit 8 character }
+{
+    character >= b'0' && character <= b'7'
+}
+
+/// The name in bits that stands in front of a text, and its length. What follows it may be more than
+/// its end.
+#[inline(always)]
+fn front_code(text: &[u8]) -> Option<(UserCode, usize)>
+    ensures within { IfSome result (λ r. r.1 ≤ length text.now) }
+    ensures name { IfSome result (λ r. name_of (take r.1 text.now) ≡ Some (Coded r.0)) }
+    ensures apart { IfSome result (λ r. list_all is_option_character (take r.1 text.now) ≡ true) }
+{
+    if text.is_empty() || text[0] != b'#' {
+        return None;
+    }
+    let mut number = 0;
+    let mut count = 1;
+    'digits: while count < text.len() && is_octal_digit(text[count]) {
+        number = 8 * number + u64::from(text[count] - b'0');
+        if number > MOST_CODE {
+            return None;
+        }
+        count += 1;
+    }
+    if count == 1 || count > CODE_DIGITS + 1 {
+        return None;
+    }
+    Some((UserCode::new(number), count))
+}
+
+/// The options behind a name of so many characters that stands in front of some items, and the items
+/// behind them. None where they are not right.
+#[inline(always)]
+fn options_behind(text: &[u8], count: usize) -> Option<(Options, Option<&[u8]>)>
+    requires within { count ≤ length text.now }
+    requires apart { list_all is_option_character (take count text.now) ≡ true }
+    ensures { IfSome result (λ r. (name : LockName) → name_of (take count text.now) ≡ Some name
+        → IsFirstLock (parts 32 text.now) (Some (record { name = name; options = r.0 })) (texts_in 32 r.1)) }
+{
+    if count == text.len() {
+        return Some((Options::none(), None));
+    }
+    let behind = &text[count + 1..];
+    if text[count] == b' ' {
+        return Some((Options::none(), Some(behind)));
+    }
+    if text[count] != b'/' {
+        return None;
+    }
+    front_options(behind)
+}
+
+/// Takes what a call wants of the lock that the first of some items spells, where it is more than a
+/// name in characters. So many of its characters may be those of a name.
+#[inline(never)]
+fn take_longer<'a>(
+    items: &mut Parts<'a>,
+    text: &'a [u8],
+    count: usize,
+    job: u8,
+    block_use: BlockUse,
+    wants: &mut Wants,
+    place: usize,
+) -> Taken
+    requires text { items.old ≡ parts 32 text.now }
+    requires count { count ≤ length text.now }
+    requires named { list_all is_name_character (take count text.now) ≡ true }
+    requires within { place ≤ array_vec_len wants.old }
+    requires room { place < LOCKS_A_CALL }
+    ensures { TakesFirst job block_use items.old items.new place wants.old.items wants.new.items result }
+{
+    if count > 0 {
+        if let Some((options, others)) = options_behind(text, count) {
+            *items = Parts::between_blanks(others);
+            let name = spelled(&text[..count]);
+            return take_spelled(name, options, job, block_use, wants, place);
+        }
+    } else if let Some((code, count)) = front_code(text) {
+        if let Some((options, others)) = options_behind(text, count) {
+            *items = Parts::between_blanks(others);
+            return take_named(Name::Code(code), options, job, block_use, wants, place);
+        }
+    }
+    take_next(items, job, block_use, wants, place)
 }
 
 /// Takes what a call wants of the lock that the first of some items spells: most locks are gone over
 /// once.
 #[inline(always)]
-pub fn take_first(items: &mut Parts<'_>, job: u8, block_use: BlockUse, wants: &mut Wants) -> Taken
+pub fn take_first(
+    items: &mut Parts<'_>,
+    job: u8,
+    block_use: BlockUse,
+    wants: &mut Wants,
+    place: usize,
+) -> Taken
     requires some { items.old ≢ [] }
-    requires room { array_vec_len wants.old < LOCKS_A_CALL }
-    ensures { TakesFirst job block_use items.old items.new wants.old.items wants.new.items result }
+    requires within { place ≤ array_vec_len wants.old }
+    requires room { place < LOCKS_A_CALL }
+    ensures { TakesFirst job block_use items.old items.new place wants.old.items wants.new.items result }
 {
-    if let Some(text) = items.left() {
-        let count = name_length(text);
-        if count > 0 {
-            let name = &text[..count];
-            if count == text.len() {
-                *items = Parts::between_blanks(None);
-                return take_plain(spelled(name), wants);
-            }
-            let behind = &text[count + 1..];
-            if text[count] == b' ' {
-                *items = Parts::between_blanks(Some(behind));
-                return take_plain(spelled(name), wants);
-            }
-            if text[count] == b'/' {
-                if let Some((options, others)) = front_options(behind) {
-                    *items = Parts::between_blanks(others);
-                    return take_spelled(spelled(name), options, job, block_use, wants);
-                }
-            }
+    let Some(text) = items.left() else {
+        return take_next(items, job, block_use, wants, place);
+    };
+    let count = name_length(text);
+    if count > 0 {
+        let name = &text[..count];
+        if count == text.len() {
+            *items = Parts::between_blanks(None);
+            return take_plain(spelled(name), wants, place);
+        }
+        if text[count] == b' ' {
+            *items = Parts::between_blanks(Some(&text[count + 1..]));
+            return take_plain(spelled(name), wants, place);
         }
     }
-    match items.next() {
-        Some(item) => take_item(item, job, block_use, wants),
-        None => Taken::NoLock,
-    }
+    take_longer(items, text, count, job, block_use, wants, place)
 }

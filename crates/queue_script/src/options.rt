@@ -211,24 +211,10 @@ fn is_at_end(text: &[u8]) -> bool {
     text.is_empty() || !is_option_character(text[0])
 }
 
-/// The level of one digit that stands in front of a text, and its length, where nothing follows that
-/// belongs to it.
-#[inline(always)]
-fn front_level(text: &[u8]) -> Option<(LockOption, usize)>
-    ensures within { IfSome result (λ r. r.1 ≤ length text.now) }
-    ensures option { IfSome result (λ r. option_of (take r.1 text.now) ≡ Some r.0) }
-    ensures characters { IfSome result (λ r. list_all is_option_character (take r.1 text.now) ≡ true) }
-{
-    match text {
-        [b'L', digit, rest @ ..] if is_option_character(*digit) && is_at_end(rest) => {
-            Some((read_option(&text[..2])?, 2))
-        }
-        _ => None,
-    }
-}
-
 /// The option that stands in front of a text, and its length. What follows it may be more than its end.
+/// A letter alone, and a level of one digit, are told at once.
 #[inline(always)]
+#[tactic(auto, using(crate::proofs::OptionLemmas::level_apart))]
 fn front_option(text: &[u8]) -> Option<(LockOption, usize)>
     ensures within { IfSome result (λ r. r.1 ≤ length text.now) }
     ensures option { IfSome result (λ r. option_of (take r.1 text.now) ≡ Some r.0) }
@@ -238,10 +224,11 @@ fn front_option(text: &[u8]) -> Option<(LockOption, usize)>
         [b'S', ..] => return Some((LockOption::Shared, 1)),
         [b'B', ..] => return Some((LockOption::Bypass, 1)),
         [b'J', ..] => return Some((LockOption::Own, 1)),
+        [b'L', digit, rest @ ..] if *digit >= b'0' && *digit <= b'9' && is_at_end(rest) => {
+            let level = Level::new(u16::from(*digit - b'0'));
+            return Some((LockOption::Level(level), 2));
+        }
         _ => {}
-    }
-    if let Some(level) = front_level(text) {
-        return Some(level);
     }
     let length = option_length(text);
     Some((read_option(&text[..length])?, length))
