@@ -421,17 +421,19 @@ fn take_longer<'a>(
     place: usize,
 ) -> Taken
     requires text { items.old ≡ parts 32 text.now }
-    requires count { count ≤ length text.now }
+    requires count { 0 < count → count < length text.now }
     requires named { list_all is_name_character (take count text.now) ≡ true }
     requires within { place ≤ array_vec_len wants.old }
     requires room { place < LOCKS_A_CALL }
     ensures { TakesFirst job block_use items.old items.new place wants.old.items wants.new.items result }
 {
     if count > 0 {
-        if let Some((options, others)) = options_behind(text, count) {
-            *items = Parts::between_blanks(others);
-            let name = spelled(&text[..count]);
-            return take_spelled(name, options, job, block_use, wants, place);
+        if text[count] == b'/' {
+            if let Some((options, others)) = front_options(&text[count + 1..]) {
+                *items = Parts::between_blanks(others);
+                let name = spelled(&text[..count]);
+                return take_spelled(name, options, job, block_use, wants, place);
+            }
         }
     } else if let Some((code, count)) = front_code(text) {
         if let Some((options, others)) = options_behind(text, count) {

@@ -1,21 +1,21 @@
 use Rattle.std.proofs.Common.{Some, sym, take, arith, ◌∙◌}
 use Rattle.script_io.proofs.NumberLemmas.{parts-nonempty}
-use Rattle.queue_script.proofs.ItemLemmas.{characters-name, characters-apart}
+use Rattle.queue_script.proofs.ItemLemmas.{characters-name, characters-apart, with_options}
 use Rattle.queue_script.specs.declared.locks.LockName.TheVariants.{Spelled, Coded}
 use Rattle.queue_script.proofs.locks.take_longer.Goals as goal
 
-pub options_behind-requires-clause-apart : goal.options_behind-requires-clause-apart
-options_behind-requires-clause-apart c = characters-apart (take c.args.count c.args.text.now) c.requires.named
-
 pub returns-in-Some : goal.returns-in-Some
-returns-in-Some c = (
-  Some (record { name = Spelled c.spelled-name.result; options = c.in-Some.options }),
-  rw c.requires.text
-      (rw c.between_blanks.ensures
-      (rw c.spelled-name.ensures
-      (c.in-Some.ensures _ (characters-name c.args.text.now c.args.count (λ e. omega arith) c.requires.count c.requires.named)))),
-  c.take_spelled.ensures,
-)
+returns-in-Some c =
+    let rest = c.requires.count (omega arith) in (
+      Some (record { name = Spelled c.spelled-name.result; options = c.in-Some.options }),
+      rw c.requires.text
+          (rw c.between_blanks.ensures
+          (rw c.spelled-name.ensures
+          (with_options c.args.text.now _ _ c.args.count _ rest c.if-text-count-eq47.true
+          (characters-apart (take c.args.count c.args.text.now) c.requires.named) c.in-Some.ensures
+          (characters-name c.args.text.now c.args.count (λ e. omega arith) (omega (arith, rest)) c.requires.named)))),
+      c.take_spelled.ensures,
+    )
 
 pub returns-in-Some-options_behind : goal.returns-in-Some-options_behind
 returns-in-Some-options_behind c = (
