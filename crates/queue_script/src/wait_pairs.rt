@@ -34,6 +34,22 @@ fn fill_row<L: LockTable>(pairs: &mut PairTable, table: &L, job: usize)
     }
 }
 
+/// Fills in an empty table of who waits for whom. The jobs that wait are marked, and of the others
+/// nothing is asked.
+#[inline(always)]
+fn fill_pairs<L: LockTable>(pairs: &mut PairTable, table: &L, waiting: &JobMarks)
+    requires empty { (i : ℕ) → slice_index_or pairs.old i false ≡ false }
+    requires waiting { (j : ℕ) → j < NUMBERS → slice_index_or waiting.now j false ≡ is_waiting_job (L.requests table.now) j }
+    ensures marked { MarksWaiters waiting.now (pair_in pairs.new) }
+    ensures pairs { (i : ℕ) → i < PAIRS → slice_index_or pairs.new i false ≡ waits_for (L.requests table.now) (i / NUMBERS) (i % NUMBERS) }
+{
+    for job in 0..NUMBERS {
+        if waiting[job] {
+            fill_row(pairs, table, job);
+        }
+    }
+}
+
 /// The table of who waits for whom. The jobs that wait are marked, and of the others nothing is asked.
 pub fn pair_table<L: LockTable>(table: &L, waiting: &JobMarks) -> PairTable
     requires { (j : ℕ) → j < NUMBERS → slice_index_or waiting.now j false ≡ is_waiting_job (L.requests table.now) j }
@@ -41,11 +57,7 @@ pub fn pair_table<L: LockTable>(table: &L, waiting: &JobMarks) -> PairTable
     ensures pairs { (i : ℕ) → i < PAIRS → slice_index_or result i false ≡ waits_for (L.requests table.now) (i / NUMBERS) (i % NUMBERS) }
 {
     let mut pairs = [false; PAIRS];
-    for job in 0..NUMBERS {
-        if waiting[job] {
-            fill_row(&mut pairs, table, job);
-        }
-    }
+    fill_pairs(&mut pairs, table, waiting);
     pairs
 }
 
@@ -159,7 +171,8 @@ pub fn push_waits<L: LockTable>(out: &mut Vec<u8>, table: &L) -> Result<(), Allo
     ensures { OnOk result (out.new.items ≡ out.old.items ++ waits_text (L.requests table.now)) }
 {
     let waiting = waiting_jobs(table);
-    let pairs = pair_table(table, &waiting);
+    let mut pairs = [false; PAIRS];
+    fill_pairs(&mut pairs, table, &waiting);
     push_pairs(out, &pairs, &waiting)?;
     out.extend_from_slice(b"CIRCLE")?;
     push_circle(out, &pairs, &waiting)?;

@@ -2,14 +2,17 @@ use Rattle.std.proofs.Common.{◌++◌, ◌∙◌, ap}
 use Rattle.std.specs.Prelude.{codes}
 use Rattle.lock_queue.specs.Jobs.{waits_for}
 use Rattle.queue_script.specs.WaitPairs.{pair_in, circle_jobs, or_none, pairs_text}
-use Rattle.queue_script.proofs.PairLemmas.{circle-same, four_texts, pairs-same, table-pairs}
+use Rattle.queue_script.proofs.PairLemmas.{circle-same, four_texts, nothing, pairs-same, table-pairs}
 use Rattle.queue_script.proofs.wait_pairs.push_waits.Goals as goal
+
+pub fill_pairs-requires-clause-empty : goal.fill_pairs-requires-clause-empty
+fill_pairs-requires-clause-empty g c = λ i. nothing i
 
 pub returns : goal.returns
 returns g c =
     let requests = g.L.LockTable.requests c.args.table.now in
-    let pairs = c.pair_table-pairs.result in
-    let alike = table-pairs pairs (waits_for requests) c.pair_table-pairs.ensures.pairs in
+    let pairs = c.fill_pairs.new.pairs in
+    let alike = table-pairs pairs (waits_for requests) c.fill_pairs.ensures.pairs in
     let lines = pairs-same (pair_in pairs) (waits_for requests) alike in
     let same = circle-same (pair_in pairs) (waits_for requests) alike in
     let o0 = c.args.out.now.items in

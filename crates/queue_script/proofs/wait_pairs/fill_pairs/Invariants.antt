@@ -2,7 +2,7 @@
 use Rattle.std.proofs.Common.{◌≡◌, ◌<◌, ◌≤◌, ◌*◌, ◌/◌, ◌%◌, ℕ, false, length, slice_index_or}
 use Rattle.lock_queue.specs.Jobs.{waits_for}
 use Rattle.queue_script.specs.declared.circles.TheConstants.{NUMBERS, PAIRS}
-use Rattle.queue_script.proofs.wait_pairs.pair_table.Given as goal
+use Rattle.queue_script.proofs.wait_pairs.fill_pairs.Given as goal
 
 abbrev pub invariant-loop-job : goal.invariant-loop-job
 invariant-loop-job g l = record {
