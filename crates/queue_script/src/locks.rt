@@ -82,7 +82,7 @@ pub fn is_name_character(character: u8) -> bool
 
 /// How many characters at the front of a text a name may have. They are looked at by fours while there
 /// are four.
-#[inline(never)]
+#[inline(always)]
 #[tactic(auto, using(crate::proofs::LockLemmas::named_one, crate::proofs::LockLemmas::named_two, crate::proofs::LockLemmas::named_three, crate::proofs::LockLemmas::named_four))]
 fn name_length(text: &[u8]) -> usize
     ensures within { result ≤ length text.now }

@@ -212,7 +212,7 @@ fn is_at_end(text: &[u8]) -> bool {
 }
 
 /// The option that stands in front of a text, and its length. What follows it may be more than its end.
-/// A letter alone, and a level of one digit, are told at once.
+/// A level of one digit, and a letter alone, are told at once.
 #[inline(always)]
 #[tactic(auto, using(crate::proofs::OptionLemmas::level_apart))]
 fn front_option(text: &[u8]) -> Option<(LockOption, usize)>
@@ -221,13 +221,16 @@ fn front_option(text: &[u8]) -> Option<(LockOption, usize)>
     ensures characters { IfSome result (λ r. list_all is_option_character (take r.1 text.now) ≡ true) }
 {
     match text {
-        [b'S', ..] => return Some((LockOption::Shared, 1)),
-        [b'B', ..] => return Some((LockOption::Bypass, 1)),
-        [b'J', ..] => return Some((LockOption::Own, 1)),
         [b'L', digit, rest @ ..] if *digit >= b'0' && *digit <= b'9' && is_at_end(rest) => {
             let level = Level::new(u16::from(*digit - b'0'));
             return Some((LockOption::Level(level), 2));
         }
+        _ => {}
+    }
+    match text {
+        [b'B', ..] => return Some((LockOption::Bypass, 1)),
+        [b'S', ..] => return Some((LockOption::Shared, 1)),
+        [b'J', ..] => return Some((LockOption::Own, 1)),
         _ => {}
     }
     let length = option_length(text);
