@@ -9,3 +9,4 @@ pub mod Asking
 pub mod PairLemmas
 pub mod LongLines
 pub mod AsciiLines
+pub mod RefusalLemmas

@@ -12,14 +12,25 @@ use script_io::{push_decimal, push_escaped, push_word};
 use std::alloc::AllocError;
 use word36::octal_text;
 
-/// Adds `CODE n`.
-#[tactic(auto, using(std::proofs::Common::append_assoc))]
+/// Adds `CODE n`, where n is from 1 to 18.
 pub fn push_code(out: &mut Vec<u8>, refusal: Refusal) -> Result<(), AllocError>
     ensures { OnOk result (out.new.items ≡ out.old.items ++ code_line refusal) }
 {
-    out.extend_from_slice(b"CODE ")?;
-    push_decimal(out, refusal.code())?;
-    out.push(b'\n')?;
+    let code = refusal.code();
+    if code < 10 {
+        out.extend_from_slice(&[b'C', b'O', b'D', b'E', b' ', b'0' + code, b'\n'])?;
+    } else {
+        out.extend_from_slice(&[
+            b'C',
+            b'O',
+            b'D',
+            b'E',
+            b' ',
+            b'1',
+            b'0' + (code - 10),
+            b'\n',
+        ])?;
+    }
     Ok(())
 }
 
