@@ -9,7 +9,7 @@ ghost use Rattle.lock_queue.specs.declared.terms.BlockUse.TheVariants.{Named};
 
 use crate::call_wants::read_wants;
 use crate::locks::Taken;
-use crate::options::read_half;
+use crate::options::next_half;
 use lock_queue::{Asking, BlockUse, EnqueueKind, LockCall, Refusal, RequestId, Wants};
 use script_io::Parts;
 use word36::MOST_REQUESTS;
@@ -107,15 +107,12 @@ impl CallRoom {
     pub fn release_id(&mut self, mut items: Parts<'_>) -> CallAsked<'_>
         ensures { called_by result ≡ release_id_call items.entry }
     {
-        let Some(id) = items.next() else {
+        let Some(id) = next_half(&mut items) else {
             return CallAsked::NoCall;
         };
         if !items.is_empty() {
             return CallAsked::NoCall;
         }
-        let Some(id) = read_half(id) else {
-            return CallAsked::NoCall;
-        };
         fill_id(&mut self.other, RequestId::new(id));
         CallAsked::Call(&self.other)
     }

@@ -9,7 +9,7 @@ ghost use Rattle.queue_script.specs.Options.{half_of};
 
 use crate::call_room::{CallAsked, CallRoom};
 use crate::locks::read_lock;
-use crate::options::MOST_HALF;
+use crate::options::next_half;
 use lock_queue::{EnqueueKind, LockCall, Refusal, RequestId, Wants};
 use script_io::{LINE_LENGTH, Parts, is_allowed, is_silent};
 use word36::JOBS;
@@ -42,16 +42,6 @@ fn next_job(items: &mut Parts<'_>) -> Option<u8>
 {
     let job = items.next_number(u64::from(JOBS))?;
     if job == 0 { None } else { Some(job as u8) }
-}
-
-/// Takes a number of 18 bits from the front of the items.
-#[inline(always)]
-fn next_half(items: &mut Parts<'_>) -> Option<u32>
-    ensures value { MatchOption result (front half_of items.old ≡ None) (λ n. IsFront half_of n items.old items.new) }
-    ensures small { IfSome result (λ n. n < 2 ^ 18) }
-{
-    let number = items.next_number(MOST_HALF)?;
-    Some(number as u32)
 }
 
 /// Whether all items are locks.

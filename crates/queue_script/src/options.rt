@@ -1,7 +1,7 @@
 //! The options of a lock.
-ghost use Rattle.std.specs.Prelude.{◌≡◌, ◌^◌, ◌<◌, ◌≤◌, true, length, take, IfSome, Some};
+ghost use Rattle.std.specs.Prelude.{◌≡◌, ◌^◌, ◌<◌, ◌≤◌, true, length, take, IfSome, Some, MatchOption, None};
 ghost use Rattle.std.specs.List.{list_all};
-ghost use Rattle.script_io.specs.Numbers.{parts, texts_in};
+ghost use Rattle.script_io.specs.Numbers.{front, IsFront, parts, texts_in};
 ghost use Rattle.queue_script.specs.Locks.{terms_of};
 ghost use Rattle.queue_script.specs.Options.{half_of, option_of, pool_of, with_option, options_from, no_options, is_option_character, SpellsOptions};
 
@@ -67,6 +67,16 @@ pub fn read_half(text: &[u8]) -> Option<u32>
         Some(number) => Some(number as u32),
         None => None,
     }
+}
+
+/// Takes a number of 18 bits from the front of the items.
+#[inline(always)]
+pub fn next_half(items: &mut Parts<'_>) -> Option<u32>
+    ensures value { MatchOption result (front half_of items.old ≡ None) (λ n. IsFront half_of n items.old items.new) }
+    ensures small { IfSome result (λ n. n < 2 ^ 18) }
+{
+    let number = items.next_number(MOST_HALF)?;
+    Some(number as u32)
 }
 
 /// The pool that `s:a` spells.
