@@ -411,7 +411,7 @@ fn options_behind(text: &[u8], count: usize) -> Option<(Options, Option<&[u8]>)>
 /// Takes what a call wants of the lock that the first of some items spells, where that is more than a
 /// name in characters: options stand behind the name, or it is a name in bits. `count` is how many
 /// characters at the front a name in characters may have.
-#[inline(never)]
+#[inline(always)]
 fn take_longer<'a>(
     items: &mut Parts<'a>,
     text: &'a [u8],
