@@ -199,9 +199,12 @@ fn is_met(machine: &Machine, ran: Option<u8>, stop: &Stop, stood: bool) -> bool
 fn first_met(machine: &Machine, ran: Option<u8>, stops: &[LookedAt]) -> Option<usize>
     ensures { result ≡ position (is_met_at machine.now ran) stops.now }
 {
-    stops
-        .iter()
-        .position(|one| is_met(machine, ran, &one.stop, one.stood))
+    for (i, one) in stops.iter().enumerate() {
+        if is_met(machine, ran, &one.stop, one.stood) {
+            return Some(i);
+        }
+    }
+    None
 }
 
 /// Whether a job can go on now, or will by ticks alone.
@@ -246,7 +249,12 @@ fn runs_on(machine: &Machine, ran: Option<u8>) -> bool {
 fn is_among(places: &[Address], place: Address) -> bool
     ensures { result ≡ is_among places.now place }
 {
-    places.iter().any(|one| *one == place)
+    for one in places {
+        if *one == place {
+            return true;
+        }
+    }
+    false
 }
 
 /// Whether a stop is at one of some places.
@@ -263,7 +271,12 @@ fn is_at_one_of(places: &[Address], stop: &Stop) -> bool
 fn are_within(places: &[Address], stops: &[LookedAt]) -> bool
     ensures { result ≡ list_all (is_within places.now) stops.now }
 {
-    stops.iter().all(|one| is_at_one_of(places, &one.stop))
+    for one in stops {
+        if !is_at_one_of(places, &one.stop) {
+            return false;
+        }
+    }
+    true
 }
 
 /// How many rounds may be made at once: as many as there can be where all stops are at some of these

@@ -211,9 +211,9 @@ impl Timeline {
         most: u32,
         watch: &mut W,
     ) -> Result<Ran, AllocError> {
+        self.cut()?;
         let mut looked = looked_at(self.alloc, stops)?;
         let places = places_of(self.alloc, stops)?;
-        self.cut()?;
         let ran = run_until(
             &mut self.machine,
             looked.as_mut_slice(),
