@@ -33,12 +33,22 @@ fn last_escape(text: &[u8]) -> Option<usize>
     text.iter().rposition(|byte| *byte == b'$')
 }
 
+/// Whether all characters are digits.
+fn are_digits(text: &[u8]) -> bool {
+    for byte in text {
+        if !byte.is_ascii_digit() {
+            return false;
+        }
+    }
+    true
+}
+
 /// The command behind the last ESC of a line, where there is one: digits and a letter.
 fn behind_escape(text: &[u8]) -> Option<Escaped<'_>> {
     let place = last_escape(text)?;
     let before = &text[..place];
     let (letter, digits) = text[place + 1..].split_last()?;
-    if !letter.is_ascii_alphabetic() || !digits.iter().all(|byte| byte.is_ascii_digit()) {
+    if !letter.is_ascii_alphabetic() || !are_digits(digits) {
         return None;
     }
     Some(Escaped {
@@ -48,20 +58,13 @@ fn behind_escape(text: &[u8]) -> Option<Escaped<'_>> {
     })
 }
 
-/// The number of a breakpoint, where one is written.
-fn breakpoint_number(digits: &[u8]) -> Result<Option<u8>, Wrong> {
-    if digits.is_empty() {
-        return Ok(None);
-    }
-    match decimal(digits) {
-        Some(number) if 1 <= number && number <= u64::from(BREAKPOINTS) => Ok(Some(number as u8)),
-        _ => Err(Wrong::NoBreakpoint),
-    }
-}
-
 /// `$B`, `a$B`, `a$nB` and `0$nB`.
 fn read_breakpoint<'a>(line: Escaped<'_>, scope: &Scope<'_>) -> Result<Command<'a>, Wrong> {
-    let number = breakpoint_number(line.digits)?;
+    let number = match decimal(line.digits) {
+        Some(number) if 1 <= number && number <= u64::from(BREAKPOINTS) => Some(number as u8),
+        None if line.digits.is_empty() => None,
+        _ => return Err(Wrong::NoBreakpoint),
+    };
     if line.before.is_empty() {
         return match number {
             None => Ok(Command::Breaks),
@@ -83,11 +86,6 @@ fn read_start<'a>(line: Escaped<'_>, scope: &Scope<'_>) -> Result<Command<'a>, W
     Ok(Command::GoAt(address(line.before, scope)?))
 }
 
-/// The number of octal digits.
-fn octal_count(text: &[u8]) -> Option<u64> {
-    Some(octal(text)?.number())
-}
-
 /// How often: the octal number before the ESC, or once.
 fn times(text: &[u8]) -> Result<u32, Wrong> {
     if text.is_empty() {
@@ -95,7 +93,10 @@ fn times(text: &[u8]) -> Result<u32, Wrong> {
     }
     let number = match text {
         [digits @ .., b'.'] => decimal(digits),
-        _ => octal_count(text),
+        _ => match octal(text) {
+            Some(word) => Some(word.number()),
+            None => None,
+        },
     };
     match number {
         Some(number) if 1 <= number && number <= MOST_TIMES => Ok(number as u32),
@@ -170,22 +171,20 @@ fn read_short<'a>(text: &[u8]) -> Option<Command<'a>> {
     }
 }
 
-/// A command behind an ESC, or a value.
-fn read_other<'a>(text: &[u8], scope: &Scope<'_>) -> Result<Command<'a>, Wrong> {
-    if let Some(line) = behind_escape(text) {
-        if let Some(command) = read_escaped(line, scope) {
-            return command;
-        }
-    }
-    Ok(Command::Deposit(value(text, scope)?))
-}
-
-/// A line that neither begins with a point and a letter nor is short.
+/// A line that neither begins with a point and a letter nor is short: a place or a value and what is asked
+/// of it, a command behind an ESC, or a value.
 fn read_value_line<'a>(text: &[u8], scope: &Scope<'_>) -> Result<Command<'a>, Wrong> {
     match text {
         [place @ .., b'/'] => Ok(Command::Open(address(place, scope)?)),
         [front @ .., b'='] => Ok(Command::Tell(value(front, scope)?)),
-        _ => read_other(text, scope),
+        _ => {
+            if let Some(line) = behind_escape(text) {
+                if let Some(command) = read_escaped(line, scope) {
+                    return command;
+                }
+            }
+            Ok(Command::Deposit(value(text, scope)?))
+        }
     }
 }
 

@@ -15,10 +15,9 @@ mod turns;
 
 pub use causes::{Cause, Stops, stops_of};
 pub use input::{InputLines, line_from};
-pub use lock_watch::stands_at_call;
 pub use replays::Replay;
 pub use runs::{Ended, run_to};
-pub use starts::{breakpoint_of, go_on, is_loaded, is_stopped, start};
+pub use starts::{begin, cause_at_start, go_on, is_stopped, start_jobs};
 pub use stop_lists::{BREAKPOINTS, Breakpoint, StopList, WatchedWord};
 pub use terminals::{take_line, type_line};
 pub use traces::{Turns, last_at, last_turns, last_write};

@@ -27,7 +27,7 @@ pub struct LockWatch<'a> {
 }
 
 /// Whether a job stands before a call on a lock of this name.
-pub fn stands_at_call(
+fn stands_at_call(
     alloc: Global,
     machine: &Machine,
     number: u8,
@@ -41,6 +41,24 @@ pub fn stands_at_call(
         Some(call) => Ok(call.is_on(machine, number, name)),
         None => Ok(false),
     }
+}
+
+/// The first job, of those at so many lines, that stands before a call on the lock at which runs stop.
+pub(crate) fn first_standing(
+    alloc: Global,
+    machine: &Machine,
+    lines: u8,
+    list: &StopList,
+) -> Result<Option<Cause>, AllocError> {
+    let Some(name) = &list.lock else {
+        return Ok(None);
+    };
+    for number in 1..lines.saturating_add(1) {
+        if stands_at_call(alloc, machine, number, name)? {
+            return Ok(Some(Cause::Call(number)));
+        }
+    }
+    Ok(None)
 }
 
 /// The first job that came to a call on a lock of this name in a round in which a job ran, where the jobs

@@ -7,49 +7,47 @@ use ddt_session::{NoWatch, Ran, Timeline};
 use run_notes::grant_lines;
 use std::alloc::AllocError;
 
-/// A run that ended.
-#[derive(Drop)]
+/// Why a run ended.
+#[derive(Clone, Copy)]
 pub struct Ended {
-    /// Why it ended, if a stop ended it.
+    /// What ended it, if a stop did.
     pub cause: Option<Cause>,
     /// Whether it ended since it made as many steps as it may.
     pub is_cut: bool,
-    /// The lines on the grants that ended it.
-    pub grants: String,
 }
 
 impl Ended {
     /// A run that one of the stops ended, or none.
-    fn of(timeline: &Timeline, stops: &Stops, ran: Ran, most: u32) -> Self {
+    fn of(stops: &Stops, ran: Ran, most: u32) -> Self {
         Ended {
             cause: stops.cause(ran.stop),
             is_cut: ran.stop.is_none() && !ran.is_watched && ran.made >= most,
-            grants: String::new(timeline.alloc()),
         }
     }
 
     /// A run that ended so before it began.
-    pub fn at_once(timeline: &Timeline, cause: Option<Cause>) -> Self {
+    pub fn at_once(cause: Option<Cause>) -> Self {
         Ended {
             cause,
             is_cut: false,
-            grants: String::new(timeline.alloc()),
         }
     }
 }
 
-/// Makes steps until a stop holds, no job can go on, or so many are made.
+/// Makes steps until a stop holds, no job can go on, or so many are made. Where a grant ended it, the
+/// lines on that are put in place of `grants`.
 pub fn run_to(
     timeline: &mut Timeline,
     stops: &Stops,
     list: &StopList,
     most: u32,
+    grants: &mut String,
 ) -> Result<Ended, AllocError> {
     if list.looks_at_locks() {
-        return run_watched(timeline, stops, list, most);
+        return run_watched(timeline, stops, list, most, grants);
     }
     let ran = timeline.run(stops.stops.as_slice(), most, &mut NoWatch)?;
-    Ok(Ended::of(timeline, stops, ran, most))
+    Ok(Ended::of(stops, ran, most))
 }
 
 /// Makes steps as `run_to` does, and looks at calls on the lock that was asked for, and at grants.
@@ -58,19 +56,29 @@ fn run_watched(
     stops: &Stops,
     list: &StopList,
     most: u32,
+    grants: &mut String,
 ) -> Result<Ended, AllocError> {
-    let alloc = timeline.alloc();
-    let mut watch = LockWatch::new(alloc, timeline.machine(), list)?;
+    let mut watch = LockWatch::new(timeline.alloc(), timeline.machine(), list)?;
     let ran = timeline.run(stops.stops.as_slice(), most, &mut watch)?;
+    if ran.is_watched {
+        ended_by(timeline, &watch, grants)
+    } else {
+        Ok(Ended::of(stops, ran, most))
+    }
+}
+
+/// Why a run ended that was ended by what it was looked at for.
+fn ended_by(
+    timeline: &Timeline,
+    watch: &LockWatch<'_>,
+    grants: &mut String,
+) -> Result<Ended, AllocError> {
     if watch.has_failed {
         return Err(AllocError);
     }
-    let mut ended = Ended::of(timeline, stops, ran, most);
-    if ran.is_watched {
-        ended.cause = watch.cause;
-        let requests = timeline.machine().requests(alloc)?;
-        let (before, ticks) = (watch.requests.as_slice(), timeline.ticks());
-        ended.grants = grant_lines(alloc, ticks, before, requests.as_slice())?;
-    }
-    Ok(ended)
+    let (alloc, ticks) = (timeline.alloc(), timeline.ticks());
+    let requests = timeline.machine().requests(alloc)?;
+    let before = watch.requests.as_slice();
+    *grants = grant_lines(alloc, ticks, before, requests.as_slice())?;
+    Ok(Ended::at_once(watch.cause))
 }

@@ -1,6 +1,7 @@
 //! Jobs that start and go on.
 
 use crate::causes::Cause;
+use crate::lock_watch::first_standing;
 use crate::stop_lists::StopList;
 use crate::traces::stands_at;
 use ddt_session::{Entry, Timeline};
@@ -9,7 +10,7 @@ use run_machine::Machine;
 use std::alloc::AllocError;
 
 /// Whether a job was not started.
-pub fn is_loaded(machine: &Machine, number: u8) -> bool {
+fn is_loaded(machine: &Machine, number: u8) -> bool {
     match machine.job(number) {
         Some(view) => view.stop == Some(Stop::Loaded),
         None => false,
@@ -25,29 +26,64 @@ pub fn is_stopped(machine: &Machine, number: u8) -> bool {
 }
 
 /// Starts a job.
-pub fn start(timeline: &mut Timeline, number: u8) -> Result<(), AllocError> {
+fn start(timeline: &mut Timeline, number: u8) -> Result<(), AllocError> {
     timeline.make(Entry::Start(number))?;
     Ok(())
 }
 
-/// Whether CTRL-C or EXIT 1 stopped a job.
-fn is_interrupted(machine: &Machine, number: u8) -> bool {
-    match machine.job(number) {
-        Some(view) => view.stop == Some(Stop::Typed) || view.stop == Some(Stop::Monitor),
-        None => false,
+/// Starts the jobs that were not started, of those at so many lines, or the open one where all were; false
+/// where it is not stopped.
+pub fn start_jobs(timeline: &mut Timeline, lines: u8, open: u8) -> Result<bool, AllocError> {
+    let mut any = false;
+    for number in 1..lines.saturating_add(1) {
+        if is_loaded(timeline.machine(), number) {
+            start(timeline, number)?;
+            any = true;
+        }
     }
+    if !any && is_stopped(timeline.machine(), open) {
+        start(timeline, open)?;
+        any = true;
+    }
+    Ok(any)
 }
 
 /// A job goes on, where CTRL-C or EXIT 1 stopped it.
 pub fn go_on(timeline: &mut Timeline, number: u8) -> Result<(), AllocError> {
-    if is_interrupted(timeline.machine(), number) {
+    let is_interrupted = match timeline.machine().job(number) {
+        Some(view) => view.stop == Some(Stop::Typed) || view.stop == Some(Stop::Monitor),
+        None => false,
+    };
+    if is_interrupted {
         timeline.make(Entry::Continue(number))?;
     }
     Ok(())
 }
 
+/// Starts a job that was not started, or lets one go on that CTRL-C or EXIT 1 stopped.
+pub fn begin(timeline: &mut Timeline, number: u8) -> Result<(), AllocError> {
+    if is_loaded(timeline.machine(), number) {
+        start(timeline, number)
+    } else {
+        go_on(timeline, number)
+    }
+}
+
+/// Why no step is made where the jobs at so many lines were started just now: one stands at a breakpoint,
+/// or before a call on the lock at which runs stop.
+pub fn cause_at_start(
+    timeline: &Timeline,
+    lines: u8,
+    list: &StopList,
+) -> Result<Option<Cause>, AllocError> {
+    match breakpoint_of(timeline.machine(), list) {
+        Some(cause) => Ok(Some(cause)),
+        None => first_standing(timeline.alloc(), timeline.machine(), lines, list),
+    }
+}
+
 /// The first breakpoint where its job stands.
-pub fn breakpoint_of(machine: &Machine, list: &StopList) -> Option<Cause> {
+fn breakpoint_of(machine: &Machine, list: &StopList) -> Option<Cause> {
     for (i, breakpoint) in list.breakpoints.iter().enumerate() {
         if let Some(breakpoint) = breakpoint {
             let (job, place) = (breakpoint.job, breakpoint.place.number());

@@ -9,13 +9,6 @@ use std::alloc::{AllocError, Global};
 /// place; `None` where there is none.
 pub fn last_at(timeline: &Timeline, job: u8, place: u32) -> Result<Option<u64>, AllocError> {
     let mut replay = Replay::of(timeline)?;
-    let last = last_step_at(&mut replay, job, place);
-    replay.end();
-    Ok(last)
-}
-
-/// The last step of those still to be made once more before which a job stands at a place.
-fn last_step_at(replay: &mut Replay<'_>, job: u8, place: u32) -> Option<u64> {
     let mut last = None;
     for _ in 0..u64::MAX {
         if !replay.go_before_step() {
@@ -26,7 +19,8 @@ fn last_step_at(replay: &mut Replay<'_>, job: u8, place: u32) -> Option<u64> {
         }
         replay.step();
     }
-    last
+    replay.end();
+    Ok(last)
 }
 
 /// Whether a job stands at a place.
@@ -41,13 +35,6 @@ pub(crate) fn stands_at(machine: &Machine, job: u8, place: u32) -> bool {
 /// `None` where none did.
 pub fn last_write(timeline: &Timeline, job: u8, place: u32) -> Result<Option<u64>, AllocError> {
     let mut replay = Replay::of(timeline)?;
-    let last = last_step_writing(&mut replay, job, place);
-    replay.end();
-    Ok(last)
-}
-
-/// The last step of those still to be made once more that changes a word of a job.
-fn last_step_writing(replay: &mut Replay<'_>, job: u8, place: u32) -> Option<u64> {
     let mut last = None;
     for _ in 0..u64::MAX {
         if !replay.go_before_step() {
@@ -59,7 +46,8 @@ fn last_step_writing(replay: &mut Replay<'_>, job: u8, place: u32) -> Option<u64
             last = Some(steps);
         }
     }
-    last
+    replay.end();
+    Ok(last)
 }
 
 /// The last turns of a job, so many at most: how many steps were made before each.

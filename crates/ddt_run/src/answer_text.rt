@@ -1,5 +1,6 @@
 //! Text that is put together piece by piece.
 
+use ddt_lines::Refusal;
 use line_ports::{Answers, Failure};
 use script_io::ByteOut;
 use std::alloc::{AllocError, Global};
@@ -10,6 +11,8 @@ use std::alloc::{AllocError, Global};
 /// nothing more is added, and in place of writing there is a failure.
 #[derive(Drop)]
 pub struct AnswerText {
+    /// Where memory comes from.
+    pub alloc: Global,
     bytes: Vec<u8>,
     /// Whether there was memory for all that belongs to it.
     is_whole: bool,
@@ -19,6 +22,7 @@ impl AnswerText {
     /// An answer that says nothing yet.
     pub fn new(alloc: Global) -> Self {
         AnswerText {
+            alloc,
             bytes: Vec::new(alloc),
             is_whole: true,
         }
@@ -44,7 +48,26 @@ impl AnswerText {
         }
     }
 
-    /// There was no memory for something that belongs to the answer.
+    /// Adds a number between two texts.
+    pub fn say_number(&mut self, before: &str, number: u64, behind: &str) {
+        let alloc = self.alloc;
+        self.say_made(format!(in alloc; "{before}{number}{behind}"));
+    }
+
+    /// Adds a line that says why nothing is done.
+    pub fn refuse(&mut self, refusal: Refusal) {
+        let alloc = self.alloc;
+        self.say_made(format!(in alloc; "{refusal}\n"));
+    }
+
+    /// Adds a line of a file, which stands before its answer.
+    pub fn echo(&mut self, line: &[u8]) {
+        self.say("* ");
+        self.add(line);
+        self.say("\n");
+    }
+
+    /// There was no memory for something that belongs to the answer: in its place the session ends.
     pub fn fail(&mut self) {
         self.is_whole = false;
     }

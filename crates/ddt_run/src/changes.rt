@@ -1,5 +1,6 @@
 //! What is changed by hand: words, places where jobs start, time, and what is typed in and out.
 
+use crate::answer_text::AnswerText;
 use crate::runs::run_from_start;
 use crate::session::Session;
 use ddt_lines::Refusal;
@@ -11,10 +12,15 @@ use word36::{Address, Word};
 /// A value: it is put in the place that is open, which is closed by that.
 pub fn deposit(session: &mut Session<'_>, word: Word) {
     if !session.is_open {
-        return session.refuse(Refusal::NotOpen);
+        return session.answer.refuse(Refusal::NotOpen);
     }
-    if session.machine().peek(session.open, session.here).is_none() {
-        return session.refuse(Refusal::NoWord);
+    if session
+        .timeline
+        .machine()
+        .peek(session.open, session.here)
+        .is_none()
+    {
+        return session.answer.refuse(Refusal::NoWord);
     }
     if !session.is_edited() {
         session.edited = Some(session.timeline.happened());
@@ -27,19 +33,19 @@ pub fn deposit(session: &mut Session<'_>, word: Word) {
 /// Makes an entry whose answer tells nothing.
 fn make(session: &mut Session<'_>, entry: Entry) {
     if session.timeline.make(entry).is_err() {
-        session.fail();
+        session.answer.fail();
     }
 }
 
 /// `a$G`: the open job starts at a place, and the machine runs.
 pub fn start_at(session: &mut Session<'_>, place: u32) {
     let Some(place) = Address::try_new(place) else {
-        return session.refuse(Refusal::NoWord);
+        return session.answer.refuse(Refusal::NoWord);
     };
     match session.timeline.make(Entry::StartAt(session.open, place)) {
-        Ok(Answer::Refused(_)) => session.refuse(Refusal::NotStopped),
+        Ok(Answer::Refused(_)) => session.answer.refuse(Refusal::NotStopped),
         Ok(_) => run_from_start(session),
-        Err(_) => session.fail(),
+        Err(_) => session.answer.fail(),
     }
 }
 
@@ -52,40 +58,36 @@ pub fn tick(session: &mut Session<'_>, count: u32) {
 pub fn type_at(session: &mut Session<'_>, line: u8, text: &[u8]) {
     match type_line(&mut session.timeline, line, text) {
         Ok(true) => {}
-        Ok(false) => session.refuse(Refusal::LineFull),
-        Err(_) => session.fail(),
+        Ok(false) => session.answer.refuse(Refusal::LineFull),
+        Err(_) => session.answer.fail(),
     }
 }
 
 /// Adds what was taken of a line, which is named where there are several.
-fn say_taken(session: &mut Session<'_>, line: u8, bytes: &[u8]) {
+fn say_taken(answer: &mut AnswerText, line: u8, is_named: bool, bytes: &[u8]) {
     let Some(last) = bytes.last() else {
         return;
     };
-    if session.jobs.len() > 1 {
-        session.say_made(format!(in session.alloc; "line {line}:\n"));
+    if is_named {
+        answer.say_number("line ", u64::from(line), ":\n");
     }
-    session.answer.add(bytes);
+    answer.add(bytes);
     if *last != b'\n' {
-        session.say("\n");
-    }
-}
-
-/// Takes what stands in the output of a line, and adds it.
-fn take_of(session: &mut Session<'_>, line: u8) {
-    match take_line(&mut session.timeline, line) {
-        Ok(bytes) => say_taken(session, line, bytes.as_slice()),
-        Err(_) => session.fail(),
+        answer.say("\n");
     }
 }
 
 /// `.TAKE`: tells what jobs have typed out.
 pub fn take(session: &mut Session<'_>) {
     let before = session.answer.len();
+    let is_named = session.jobs.len() > 1;
     for line in 0..session.lines() {
-        take_of(session, line);
+        match take_line(&mut session.timeline, line) {
+            Ok(bytes) => say_taken(&mut session.answer, line, is_named, bytes.as_slice()),
+            Err(_) => session.answer.fail(),
+        }
     }
     if session.answer.len() == before {
-        session.say("nothing was typed out\n");
+        session.answer.say("nothing was typed out\n");
     }
 }

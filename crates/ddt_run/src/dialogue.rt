@@ -10,7 +10,6 @@ use line_ports::{Answers, Came, Failure, LineReader};
 use run_facts::DONE;
 use script_io::{ByteIn, ByteOut, LINE_LENGTH};
 use std::rt::Files;
-use std::str;
 
 /// Where lines come from, and where answers go.
 #[derive(Drop)]
@@ -46,7 +45,7 @@ impl<R: ByteIn + Drop, W: ByteOut + Drop, E: ByteOut + Drop> Dialogue<R, W, E> {
         if came == Came::End {
             return self.ask();
         }
-        session.echo(self.line.as_slice());
+        session.answer.echo(self.line.as_slice());
         Ok(came)
     }
 }
@@ -68,6 +67,32 @@ pub fn serve_lines<F: Files + AllocGlobal, R: ByteIn + Drop, W: ByteOut + Drop, 
     Ok(DONE)
 }
 
+/// What is asked of the program by what came: a line is obeyed, and kept where it asks for no file.
+fn wish_in<'a>(session: &mut Session<'_>, came: Came, line: &'a [u8]) -> Wish<'a> {
+    match came {
+        Came::End => Wish::Quit,
+        Came::TooLong => {
+            let (before, behind) = ("? a line has at most ", " characters\n");
+            session
+                .answer
+                .say_number(before, LINE_LENGTH as u64, behind);
+            Wish::Nothing
+        }
+        Came::Line => {
+            let wish = obey_line(session, line);
+            if matches!(wish, Wish::Nothing) && !has_kept(&mut session.kept, line) {
+                session.answer.fail();
+            }
+            wish
+        }
+    }
+}
+
+/// Keeps a line that was obeyed; false where there is no memory for it.
+fn has_kept(kept: &mut Vec<u8>, line: &[u8]) -> bool {
+    kept.extend_from_slice(line).is_ok() && kept.push(b'\n').is_ok()
+}
+
 /// Serves what came; false where the session ends.
 fn serve_line<F: Files + AllocGlobal>(
     rt: &F,
@@ -75,71 +100,26 @@ fn serve_line<F: Files + AllocGlobal>(
     came: Came,
     line: &[u8],
 ) -> bool {
-    match came {
-        Came::End => false,
-        Came::TooLong => {
-            let text = format!(in session.alloc; "? a line has at most {LINE_LENGTH} characters\n");
-            session.say_made(text);
-            true
+    match wish_in(session, came, line) {
+        Wish::Nothing | Wish::Refused => {}
+        Wish::Save(file) => {
+            let lines = session.kept.as_slice();
+            write_file(rt, REFUSAL_HEAD, file, lines, &mut session.answer);
         }
-        Came::Line => obey(rt, session, line),
-    }
-}
-
-/// Obeys a line; false where it ends the session.
-fn obey<F: Files + AllocGlobal>(rt: &F, session: &mut Session<'_>, line: &[u8]) -> bool {
-    match obey_line(session, line) {
-        Wish::Nothing => session.keep(line),
+        Wish::Do(file) => {
+            if let Some(text) = read_file(rt, REFUSAL_HEAD, file, &mut session.answer) {
+                begin_file(session, file, text);
+            }
+        }
         Wish::Quit => return false,
-        Wish::Save(file) => save(rt, session, file),
-        Wish::Do(file) => obey_file(rt, session, file),
     }
     true
-}
-
-/// The name of a file, or says that it is none.
-fn name_in<'a>(session: &mut Session<'_>, file: &'a [u8]) -> Option<&'a str> {
-    let name = str::from_utf8(file).ok();
-    if name.is_none() {
-        session.say("? : the name of a file is no text\n");
-    }
-    name
-}
-
-/// Writes the lines that were obeyed to a file.
-fn save<F: Files + AllocGlobal>(rt: &F, session: &mut Session<'_>, file: &[u8]) {
-    if let Some(file) = name_in(session, file) {
-        let lines = session.kept.as_slice();
-        write_file(rt, REFUSAL_HEAD, file, lines, &mut session.answer);
-    }
-}
-
-/// Says that a file of lines names another, where one is obeyed; whether one is.
-fn refuse_nested(session: &mut Session<'_>) -> bool {
-    let Some(file) = session.file_lines.file() else {
-        return false;
-    };
-    let line = format!(in session.alloc; "? {file}: a file of lines obeys no other file\n");
-    session.say_made(line);
-    true
-}
-
-/// The lines of a file are obeyed next, unless they are named by a line of such a file.
-fn obey_file<F: Files + AllocGlobal>(rt: &F, session: &mut Session<'_>, file: &[u8]) {
-    if refuse_nested(session) {
-        return;
-    }
-    if let Some(file) = name_in(session, file) {
-        if let Some(text) = read_file(rt, REFUSAL_HEAD, file, &mut session.answer) {
-            begin_file(session, file, text);
-        }
-    }
 }
 
 /// The lines of this text of a file are obeyed next.
 fn begin_file(session: &mut Session<'_>, file: &str, text: Vec<u8>) {
     match format!(in session.alloc; "{file}") {
         Ok(name) => session.file_lines = FileLines::new(name, text),
-        Err(_) => session.fail(),
+        Err(_) => session.answer.fail(),
     }
 }

@@ -12,9 +12,9 @@ fn put_back(session: &mut Session<'_>, steps: u64) {
         Ok(true) => session.show_next(),
         Ok(false) => {
             let made = session.timeline.steps();
-            session.refuse(Refusal::FewSteps(made));
+            session.answer.refuse(Refusal::FewSteps(made));
         }
-        Err(_) => session.fail(),
+        Err(_) => session.answer.fail(),
     }
 }
 
@@ -22,7 +22,7 @@ fn put_back(session: &mut Session<'_>, steps: u64) {
 pub fn back(session: &mut Session<'_>, steps: u64) {
     let made = session.timeline.steps();
     if steps > made {
-        return session.refuse(Refusal::FewSteps(made));
+        return session.answer.refuse(Refusal::FewSteps(made));
     }
     put_back(session, made - steps);
 }
@@ -31,35 +31,30 @@ pub fn back(session: &mut Session<'_>, steps: u64) {
 pub fn back_to(session: &mut Session<'_>, place: u32) {
     match last_at(&session.timeline, session.open, place) {
         Ok(Some(steps)) => put_back(session, steps),
-        Ok(None) => session.refuse(Refusal::NeverThere),
-        Err(_) => session.fail(),
+        Ok(None) => session.answer.refuse(Refusal::NeverThere),
+        Err(_) => session.answer.fail(),
     }
 }
 
-/// `.BACK WRITE a`: to before the step that last changed a word of the open job.
+/// `.BACK WRITE a`: to before the step that last changed a word of the open job. Which job that was and
+/// where it stood is told.
 pub fn back_to_write(session: &mut Session<'_>, place: u32) {
-    match last_write(&session.timeline, session.open, place) {
-        Ok(Some(steps)) => {
-            tell_write(session, place, steps);
-            put_back(session, steps);
-        }
-        Ok(None) => session.refuse(Refusal::NeverWritten),
-        Err(_) => session.fail(),
-    }
-}
-
-/// Tells which job changed a word of the open job in the step behind so many, and where that job stood.
-fn tell_write(session: &mut Session<'_>, place: u32, steps: u64) {
+    let steps = match last_write(&session.timeline, session.open, place) {
+        Ok(Some(steps)) => steps,
+        Ok(None) => return session.answer.refuse(Refusal::NeverWritten),
+        Err(_) => return session.answer.fail(),
+    };
     match turn_at(&session.timeline, steps) {
         Ok(Some((job, from))) => {
             session.say_spot(session.open, place);
-            session.say(" was last changed by ");
+            session.answer.say(" was last changed by ");
             say_turn(session, job, from);
-            session.say("\n");
+            session.answer.say("\n");
         }
         Ok(None) => {}
-        Err(_) => session.fail(),
+        Err(_) => session.answer.fail(),
     }
+    put_back(session, steps);
 }
 
 /// `.FORWARD`: to where `.BACK` was typed.
@@ -67,6 +62,6 @@ pub fn forward(session: &mut Session<'_>) {
     session.is_open = false;
     match session.timeline.forward() {
         Ok(()) => session.show_next(),
-        Err(_) => session.fail(),
+        Err(_) => session.answer.fail(),
     }
 }

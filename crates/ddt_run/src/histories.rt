@@ -2,9 +2,8 @@
 
 use crate::answer_text::AnswerText;
 use crate::session::Session;
-use ddt_lines::{Look, Refusal};
+use ddt_lines::{Look, Refusal, ShownJob, place_line};
 use ddt_moves::{Replay, last_turns};
-use ddt_show::{ShownJob, place_line};
 use run_machine::Machine;
 use std::alloc::Global;
 use word36::Word;
@@ -56,8 +55,8 @@ pub fn tell_history(session: &mut Session<'_>, most: u32) {
     match last_turns(&session.timeline, session.open, most as usize) {
         Ok(turns) => match turns.first() {
             Some(first) => say_turns_from(session, first),
-            None => session.refuse(Refusal::NoTurns),
+            None => session.answer.refuse(Refusal::NoTurns),
         },
-        Err(_) => session.fail(),
+        Err(_) => session.answer.fail(),
     }
 }

@@ -1,9 +1,10 @@
 //! Lines that are obeyed.
 
+use crate::answer_text::AnswerText;
 use crate::changes::{deposit, start_at, take, tick, type_at};
 use crate::going_back::{back, back_to, back_to_write, forward};
 use crate::histories::tell_history;
-use crate::looks::{examine, open, open_addressed, open_before, open_next, tell_last, tell_value};
+use crate::looks::{before, examine, look_of, next_of, open, tell_as, tell_value};
 use crate::runs::{execute, execute_call, go, proceed, step};
 use crate::searches::search;
 use crate::session::Session;
@@ -12,15 +13,19 @@ use crate::stop_commands::{
 };
 use crate::tables::{open_job, tell_jobs, tell_locks, tell_registers, tell_waits};
 use ddt_lines::{Command, Wrong, help_lines, is_help_on, read_line};
+use std::str;
 
 /// What a line asks of the program, beside its answer.
+#[derive(Clone, Copy)]
 pub enum Wish<'a> {
     /// Nothing.
     Nothing,
+    /// Nothing: what it asks for of a file is refused.
+    Refused,
     /// The lines so far are written to a file.
-    Save(&'a [u8]),
+    Save(&'a str),
     /// The lines of a file are obeyed.
-    Do(&'a [u8]),
+    Do(&'a str),
     /// The session ends.
     Quit,
 }
@@ -32,41 +37,71 @@ pub fn obey_line<'a>(session: &mut Session<'_>, line: &'a [u8]) -> Wish<'a> {
     match read {
         Ok(command) => {
             obey(session, &command);
-            wish_of(&command)
+            wish_of(session, &command)
         }
         Err(wrong) => {
-            tell_wrong(session, wrong);
+            tell_wrong(&mut session.answer, wrong);
             Wish::Nothing
         }
     }
 }
 
 /// Says what is wrong with a line.
-fn tell_wrong(session: &mut Session<'_>, wrong: Wrong) {
-    session.say_made(format!(in session.alloc; "{wrong}\n"));
+fn tell_wrong(answer: &mut AnswerText, wrong: Wrong) {
+    let alloc = answer.alloc;
+    answer.say_made(format!(in alloc; "{wrong}\n"));
 }
 
 /// What a command asks of the program.
-fn wish_of<'a>(command: &Command<'a>) -> Wish<'a> {
+fn wish_of<'a>(session: &mut Session<'_>, command: &Command<'a>) -> Wish<'a> {
     match *command {
-        Command::Save(file) => Wish::Save(file),
-        Command::Do(file) => Wish::Do(file),
+        Command::Save(file) => match name_in(&mut session.answer, file) {
+            Some(file) => Wish::Save(file),
+            None => Wish::Refused,
+        },
+        Command::Do(file) => match file_to_obey(session, file) {
+            Some(file) => Wish::Do(file),
+            None => Wish::Refused,
+        },
         Command::Quit => Wish::Quit,
         _ => Wish::Nothing,
     }
 }
 
+/// The name of a file, or says that it is none.
+fn name_in<'a>(answer: &mut AnswerText, file: &'a [u8]) -> Option<&'a str> {
+    let name = str::from_utf8(file).ok();
+    if name.is_none() {
+        answer.say("? : the name of a file is no text\n");
+    }
+    name
+}
+
+/// The name of a file whose lines are to be obeyed, or says that it is none, or that a line of such a file
+/// names it.
+fn file_to_obey<'a>(session: &mut Session<'_>, file: &'a [u8]) -> Option<&'a str> {
+    let Some(obeyed) = session.file_lines.file() else {
+        return name_in(&mut session.answer, file);
+    };
+    session.answer.say("? ");
+    session.answer.say(obeyed);
+    session
+        .answer
+        .say(": a file of lines obeys no other file\n");
+    None
+}
+
 /// Does what a command asks of the session: looks at places, and sets stops.
 fn obey(session: &mut Session<'_>, command: &Command<'_>) {
     match *command {
-        Command::Next => open_next(session),
-        Command::Before => open_before(session),
-        Command::Addressed => open_addressed(session),
+        Command::Next => open(session, next_of(session.here)),
+        Command::Before => open(session, before(session.here)),
+        Command::Addressed => open(session, session.last.right()),
         Command::Open(place) => open(session, place),
         Command::Deposit(word) => deposit(session, word),
         Command::Tell(word) => tell_value(session, word),
         Command::Show(look) => session.look = look,
-        Command::Last(last) => tell_last(session, last),
+        Command::Last(last) => tell_as(session, look_of(last)),
         Command::Examine(first, last) => examine(session, first, last),
         Command::Search(wanted) => search(session, &wanted),
         Command::Break(place, number) => set(session, place, number),
@@ -80,7 +115,7 @@ fn obey(session: &mut Session<'_>, command: &Command<'_>) {
     }
 }
 
-/// Does what a command asks of the machine: goes on, and back.
+/// Does what a command asks of the machine, as to go on and back, and tells what it asks for of the jobs.
 fn obey_move(session: &mut Session<'_>, command: &Command<'_>) {
     match *command {
         Command::Go => go(session),
@@ -95,13 +130,6 @@ fn obey_move(session: &mut Session<'_>, command: &Command<'_>) {
         Command::BackTo(place) => back_to(session, place),
         Command::BackWrite(place) => back_to_write(session, place),
         Command::Forward => forward(session),
-        _ => obey_question(session, command),
-    }
-}
-
-/// Tells what a command asks for of the jobs.
-fn obey_question(session: &mut Session<'_>, command: &Command<'_>) {
-    match *command {
         Command::Take => take(session),
         Command::Job(number) => open_job(session, number),
         Command::Jobs => tell_jobs(session),
@@ -109,22 +137,22 @@ fn obey_question(session: &mut Session<'_>, command: &Command<'_>) {
         Command::Waits => tell_waits(session),
         Command::Registers => tell_registers(session),
         Command::History(count) => tell_history(session, count),
-        Command::Help(word) => tell_help(session, word),
+        Command::Help(word) => tell_help(&mut session.answer, word),
         _ => {}
     }
 }
 
 /// `.HELP` and `.HELP word`: tells of all commands, or of those in which the word stands.
-fn tell_help(session: &mut Session<'_>, word: &[u8]) {
+fn tell_help(answer: &mut AnswerText, word: &[u8]) {
     let mut is_any = false;
     for line in help_lines() {
         if is_help_on(line, word) {
-            session.say(line);
-            session.say("\n");
+            answer.say(line);
+            answer.say("\n");
             is_any = true;
         }
     }
     if !is_any {
-        tell_wrong(session, Wrong::NoCommand);
+        tell_wrong(answer, Wrong::NoCommand);
     }
 }

@@ -1,6 +1,7 @@
 //! The whole program.
 ghost use Rattle.std.specs.Prelude.{◌≡◌, ◌≢◌, false};
 
+use crate::answer_text::AnswerText;
 use crate::asked::Asked;
 use crate::dialogue::{Dialogue, serve_lines};
 use crate::files::read_file;
@@ -39,15 +40,15 @@ const ERROR_HEAD: &str = "ddt: ";
 fn read_sources<'a, F: Files + AllocGlobal>(
     rt: &F,
     files: &[&'a str],
-    session: &mut Session<'_>,
+    told: &mut AnswerText,
     sources: &mut Vec<Source<'a>>,
 ) -> bool {
     for file in files {
-        let Some(text) = read_file(rt, ERROR_HEAD, file, &mut session.answer) else {
+        let Some(text) = read_file(rt, ERROR_HEAD, file, told) else {
             return false;
         };
         if sources.push(Source { file, text }).is_err() {
-            session.fail();
+            told.fail();
         }
     }
     true
@@ -104,20 +105,27 @@ fn tell_failure<E: ByteOut + Drop>(alloc: Global, failure: Failure, errors: &mut
 }
 
 /// Reads what is asked for, and logs a job in for each source; gives the exit status where that fails.
-/// What is wrong, and warnings, are the answer.
+/// What is wrong, and warnings, are the answer, and what a person is told first.
 fn load<'a, F: Files + AllocGlobal>(
     rt: &F,
     asked: &Asked<'a>,
     session: &mut Session<'a>,
+    is_person: bool,
 ) -> Option<u8> {
     let mut sources = Vec::new(session.alloc);
-    if !read_sources(rt, asked.files.as_slice(), session, &mut sources)
+    let files = asked.files.as_slice();
+    if !read_sources(rt, files, &mut session.answer, &mut sources)
         || !read_input(rt, asked, session)
     {
-        return Some(FAILED);
+        Some(FAILED)
+    } else if begin(session, sources.as_slice()) {
+        if is_person {
+            session.answer.say(texts::BANNER);
+        }
+        None
+    } else {
+        Some(REFUSED)
     }
-    let is_right = begin(session, sources.as_slice());
-    (!is_right).then_some(REFUSED)
 }
 
 /// Serves a session that has no jobs yet, and gives the exit status. What is told before the first line is
@@ -134,10 +142,7 @@ fn serve_session<
     session: &mut Session<'a>,
     dialogue: &mut Dialogue<R, W, E>,
 ) -> Result<u8, Failure> {
-    let ended = load(rt, asked, session);
-    if dialogue.is_person && ended.is_none() {
-        session.say(texts::BANNER);
-    }
+    let ended = load(rt, asked, session, dialogue.is_person);
     session.answer.write_to(&mut dialogue.errors)?;
     match ended {
         Some(status) => Ok(status),

@@ -23,14 +23,14 @@ fn is_found(machine: &Machine, number: u8, search: &Search, word: Word) -> bool 
 /// Shows the words of the open job's core that are searched for.
 pub fn search(session: &mut Session<'_>, search: &Search) {
     let number = session.open;
-    let Some(view) = session.machine().job(number) else {
+    let Some(view) = session.timeline.machine().job(number) else {
         return session.tell_job(number);
     };
     for place in 0..view.blocks.saturating_mul(BLOCK_WORDS as u32) {
-        let Some(word) = session.machine().peek(number, place) else {
+        let Some(word) = session.timeline.machine().peek(number, place) else {
             break;
         };
-        if is_found(session.machine(), number, search, word) {
+        if is_found(session.timeline.machine(), number, search, word) {
             session.show_place(place);
             session.here = place;
         }

@@ -2,14 +2,13 @@
 
 use crate::answer_text::AnswerText;
 use crate::file_lines::FileLines;
-use ddt_lines::{Look, Refusal, Scope, Symbol};
+use ddt_lines::{Look, Scope, ShownJob, Symbol, job_line, place_line, place_text};
 use ddt_moves::{InputLines, StopList};
 use ddt_session::Timeline;
-use ddt_show::{ShownJob, job_line, place_line, place_text};
 use job_sched::Wait;
-use run_machine::Machine;
-use std::alloc::{AllocError, Global};
-use word36::{Address, JOBS, Word};
+use monitor::JobView;
+use std::alloc::Global;
+use word36::{JOBS, Word};
 
 /// A job of a session.
 #[derive(Drop)]
@@ -43,6 +42,8 @@ pub struct Session<'a> {
     pub last: Word,
     /// Where runs stop.
     pub list: StopList,
+    /// The lines on the grants that ended a run last.
+    pub grants: String,
     /// What is typed where a job waits for characters.
     pub input: InputLines,
     /// Behind how many entries the first word was deposited.
@@ -68,6 +69,7 @@ impl<'a> Session<'a> {
             is_open: false,
             last: Word::new(0),
             list: StopList::new(),
+            grants: String::new(alloc),
             input: InputLines::none(alloc),
             edited: None,
             answer: AnswerText::new(alloc),
@@ -77,48 +79,14 @@ impl<'a> Session<'a> {
     }
 }
 
+/// Whether a job runs: it is not stopped and waits for nothing.
+fn is_running(view: &JobView) -> bool {
+    view.stop.is_none() && view.wait == Wait::None
+}
+
 impl Session<'_> {
     /// Ends the session, and gives back the memory that it has.
     pub fn end(self) {}
-
-    /// Adds to the answer.
-    pub fn say(&mut self, text: &str) {
-        self.answer.say(text);
-    }
-
-    /// Adds a text that was just made to the answer, if there was memory for it.
-    pub fn say_made(&mut self, made: Result<String, AllocError>) {
-        self.answer.say_made(made);
-    }
-
-    /// There was no memory for what a line asks for: in place of its answer the session ends.
-    pub fn fail(&mut self) {
-        self.answer.fail();
-    }
-
-    /// Adds a line of a file, which stands before its answer.
-    pub fn echo(&mut self, line: &[u8]) {
-        self.say("* ");
-        self.answer.add(line);
-        self.say("\n");
-    }
-
-    /// Keeps a line that was obeyed.
-    pub fn keep(&mut self, line: &[u8]) {
-        if self.kept.extend_from_slice(line).is_err() || self.kept.push(b'\n').is_err() {
-            self.fail();
-        }
-    }
-
-    /// Adds a line that says why nothing is done.
-    pub fn refuse(&mut self, refusal: Refusal) {
-        self.say_made(format!(in self.alloc; "{refusal}\n"));
-    }
-
-    /// The machine.
-    pub fn machine(&self) -> &Machine {
-        self.timeline.machine()
-    }
 
     /// How many terminal lines have jobs: line 0 job 1, line 1 job 2, and so on.
     pub fn lines(&self) -> u8 {
@@ -135,12 +103,6 @@ impl Session<'_> {
     /// The job that is open.
     pub fn open_job(&self) -> Option<&SessionJob<'_>> {
         self.job(self.open)
-    }
-
-    /// The PC of the job that is open; `None` where it is gone.
-    pub fn place(&self) -> Option<Address> {
-        let view = self.machine().job(self.open)?;
-        Some(view.pc)
     }
 
     /// What the symbols of a line stand for.
@@ -162,38 +124,32 @@ impl Session<'_> {
             Some(job) => place_text(self.alloc, &job.shown, place),
             None => format!(in self.alloc; "{place:o}"),
         };
-        self.say_made(text);
+        self.answer.say_made(text);
     }
 
     /// Adds the line of a place of the open job and its word, as words are shown; false where it has no
     /// word there.
     pub fn show_place(&mut self, place: u32) -> bool {
-        let Some(word) = self.machine().peek(self.open, place) else {
+        let Some(word) = self.timeline.machine().peek(self.open, place) else {
             return false;
         };
         if let Some(job) = self.open_job() {
             let line = place_line(self.alloc, &job.shown, place, word, self.look);
-            self.say_made(line);
+            self.answer.say_made(line);
         }
-        self.say("\n");
+        self.answer.say("\n");
         self.last = word;
         true
     }
 
-    /// Whether the open job runs: it is not stopped and waits for nothing.
-    pub fn is_running(&self) -> bool {
-        match self.machine().job(self.open) {
-            Some(view) => view.stop.is_none() && view.wait == Wait::None,
-            None => false,
-        }
-    }
-
     /// Adds the line of what the open job executes next, or how it stands where it does not run.
     pub fn show_next(&mut self) {
-        if let Some(place) = self.place() {
-            self.here = place.number();
+        let mut is_shown = false;
+        if let Some(view) = self.timeline.machine().job(self.open) {
+            self.here = view.pc.number();
+            is_shown = is_running(&view) && self.show_place(self.here);
         }
-        if !self.is_running() || !self.show_place(self.here) {
+        if !is_shown {
             self.tell_job(self.open);
         }
     }
@@ -201,8 +157,8 @@ impl Session<'_> {
     /// Adds the line on how a job stands.
     pub fn tell_job(&mut self, number: u8) {
         if let Some(job) = self.job(number) {
-            let line = job_line(self.alloc, self.machine(), &job.shown, job.file);
-            self.say_made(line);
+            let line = job_line(self.alloc, self.timeline.machine(), &job.shown, job.file);
+            self.answer.say_made(line);
         }
     }
 

@@ -11,38 +11,38 @@ use word36::Address;
 /// Sets a breakpoint of the open job.
 pub fn set(session: &mut Session<'_>, place: u32, number: Option<u8>) {
     let Some(place) = Address::try_new(place) else {
-        return session.refuse(Refusal::NoWord);
+        return session.answer.refuse(Refusal::NoWord);
     };
     let job = session.open;
     match session.list.set(job, place, number) {
         Some(number) => tell_breakpoint(session, number, Breakpoint { job, place }),
-        None => session.refuse(Refusal::NoBreakpointFree),
+        None => session.answer.refuse(Refusal::NoBreakpointFree),
     }
 }
 
 /// Takes a breakpoint away.
 pub fn unset(session: &mut Session<'_>, number: u8) {
     if !session.list.unset(number) {
-        session.refuse(Refusal::NotSet);
+        session.answer.refuse(Refusal::NotSet);
     }
 }
 
 /// Adds the place of a job where runs stop, with which the line ends: ` job 1 LOOP+3`.
 fn say_stop(session: &mut Session<'_>, job: u8, place: u32) {
-    session.say_made(format!(in session.alloc; " job {job} "));
+    session.answer.say_number(" job ", u64::from(job), " ");
     session.say_spot(job, place);
-    session.say("\n");
+    session.answer.say("\n");
 }
 
 /// The line on a breakpoint: `$1B job 1 LOOP+3`.
 fn tell_breakpoint(session: &mut Session<'_>, number: usize, breakpoint: Breakpoint) {
-    session.say_made(format!(in session.alloc; "${number}B"));
+    session.answer.say_number("$", number as u64, "B");
     say_stop(session, breakpoint.job, breakpoint.place.number());
 }
 
 /// The line on a watched word: `watched job 1 COUNT`.
 fn tell_watched(session: &mut Session<'_>, head: &str, word: WatchedWord) {
-    session.say(head);
+    session.answer.say(head);
     say_stop(session, word.job, word.place);
 }
 
@@ -54,57 +54,47 @@ fn breakpoint_at(list: &StopList, at: usize) -> Option<Breakpoint> {
     }
 }
 
-/// Tells the breakpoints.
-fn tell_breakpoints(session: &mut Session<'_>) {
+/// Tells the breakpoints, and what else runs stop at.
+pub fn tell_stops(session: &mut Session<'_>) {
     for at in 0..BREAKPOINTS {
         if let Some(breakpoint) = breakpoint_at(&session.list, at) {
             tell_breakpoint(session, at.saturating_add(1), breakpoint);
         }
     }
-}
-
-/// Tells the words that are watched.
-fn tell_words(session: &mut Session<'_>) {
     for i in 0..session.list.words.len() {
         if let Some(word) = session.list.words.as_slice().get(i).copied() {
             tell_watched(session, "watched", word);
         }
     }
-}
-
-/// Tells the breakpoints, and what else runs stop at.
-pub fn tell_stops(session: &mut Session<'_>) {
-    tell_breakpoints(session);
-    tell_words(session);
     if session.list.circles {
-        session.say("circles\n");
+        session.answer.say("circles\n");
     }
     if session.list.lock.is_some() {
-        session.say("calls on a lock\n");
+        session.answer.say("calls on a lock\n");
     }
     if session.list.grants {
-        session.say("grants\n");
+        session.answer.say("grants\n");
     }
 }
 
 /// Watches a word of the open job, or no longer.
 pub fn watch(session: &mut Session<'_>, place: u32) {
     let job = session.open;
-    if session.machine().peek(job, place).is_none() {
-        return session.refuse(Refusal::NoWord);
+    if session.timeline.machine().peek(job, place).is_none() {
+        return session.answer.refuse(Refusal::NoWord);
     }
     let word = WatchedWord { job, place };
     match session.list.watch(word) {
         Some(true) => tell_watched(session, "watched", word),
         Some(false) => tell_watched(session, "no longer watched", word),
-        None => session.refuse(Refusal::NoWatchFree),
+        None => session.answer.refuse(Refusal::NoWatchFree),
     }
 }
 
 /// Runs stop at circles of waits, or no longer.
 pub fn stop_at_circles(session: &mut Session<'_>) {
     session.list.circles = !session.list.circles;
-    session.say(if session.list.circles {
+    session.answer.say(if session.list.circles {
         "runs stop at circles\n"
     } else {
         "runs no longer stop at circles\n"
@@ -114,7 +104,7 @@ pub fn stop_at_circles(session: &mut Session<'_>) {
 /// Runs stop where a request is granted, or no longer.
 pub fn stop_at_grants(session: &mut Session<'_>) {
     session.list.grants = !session.list.grants;
-    session.say(if session.list.grants {
+    session.answer.say(if session.list.grants {
         "runs stop at grants\n"
     } else {
         "runs no longer stop at grants\n"
@@ -144,13 +134,15 @@ fn stops_at(list: &StopList, name: &Name) -> bool {
 /// Runs stop before calls on a lock, or no longer where they do.
 pub fn stop_at_lock(session: &mut Session<'_>, text: &[u8]) {
     let Some(name) = lock_name(session.open, text) else {
-        return session.refuse(Refusal::NoLock);
+        return session.answer.refuse(Refusal::NoLock);
     };
     if stops_at(&session.list, &name) {
         session.list.lock = None;
-        session.say("runs no longer stop before calls on that lock\n");
+        session
+            .answer
+            .say("runs no longer stop before calls on that lock\n");
     } else {
         session.list.lock = Some(name);
-        session.say("runs stop before calls on that lock\n");
+        session.answer.say("runs stop before calls on that lock\n");
     }
 }

@@ -1,14 +1,14 @@
 //! What is told of jobs, locks and registers.
 
+use crate::answer_text::AnswerText;
 use crate::session::Session;
-use ddt_lines::Refusal;
-use ddt_show::{lock_lines, register_lines, wait_lines};
+use ddt_lines::{Refusal, lock_lines, register_lines, wait_lines};
 use std::alloc::AllocError;
 
 /// Opens a job.
 pub fn open_job(session: &mut Session<'_>, number: u8) {
     if usize::from(number) > session.jobs.len() || number == 0 {
-        return session.refuse(Refusal::NoJob);
+        return session.answer.refuse(Refusal::NoJob);
     }
     session.open = number;
     session.is_open = false;
@@ -19,41 +19,42 @@ pub fn open_job(session: &mut Session<'_>, number: u8) {
 pub fn tell_jobs(session: &mut Session<'_>) {
     session.tell_jobs();
     let (steps, ticks) = (session.timeline.steps(), session.timeline.ticks());
-    session.say_made(format!(in session.alloc; "steps {steps}, ticks {ticks}"));
+    session.answer.say_number("steps ", steps, ", ");
+    session.answer.say_number("ticks ", ticks, "");
     if session.is_edited() {
-        session.say(", edited: words were deposited");
+        session.answer.say(", edited: words were deposited");
     }
-    session.say("\n");
+    session.answer.say("\n");
 }
 
 /// Adds lines that were just made, or that there is none.
-fn say_lines(session: &mut Session<'_>, made: Result<Vec<u8>, AllocError>, none: &str) {
+fn say_lines(answer: &mut AnswerText, made: Result<Vec<u8>, AllocError>, none: &str) {
     let Ok(lines) = made else {
-        return session.fail();
+        return answer.fail();
     };
     if lines.is_empty() {
-        session.say(none);
+        answer.say(none);
     } else {
-        session.answer.add(lines.as_slice());
+        answer.add(lines.as_slice());
     }
 }
 
 /// Tells the requests for locks.
 pub fn tell_locks(session: &mut Session<'_>) {
-    let lines = lock_lines(session.alloc, session.machine());
-    say_lines(session, lines, "no requests\n");
+    let lines = lock_lines(session.alloc, session.timeline.machine());
+    say_lines(&mut session.answer, lines, "no requests\n");
 }
 
 /// Tells who waits for whom.
 pub fn tell_waits(session: &mut Session<'_>) {
-    let lines = wait_lines(session.alloc, session.machine());
-    say_lines(session, lines, "no job waits for another\n");
+    let lines = wait_lines(session.alloc, session.timeline.machine());
+    say_lines(&mut session.answer, lines, "no job waits for another\n");
 }
 
 /// Tells the registers of the open job.
 pub fn tell_registers(session: &mut Session<'_>) {
     if let Some(job) = session.open_job() {
-        let lines = register_lines(session.alloc, session.machine(), &job.shown);
-        session.say_made(lines);
+        let lines = register_lines(session.alloc, session.timeline.machine(), &job.shown);
+        session.answer.say_made(lines);
     }
 }

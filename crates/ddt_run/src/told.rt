@@ -1,5 +1,6 @@
 //! What is told of a run that ended.
 
+use crate::answer_text::AnswerText;
 use crate::session::Session;
 use crate::tables::tell_waits;
 use ddt_moves::{Cause, Ended, turn_at};
@@ -9,68 +10,57 @@ use word36::Word;
 fn tell_breakpoint(session: &mut Session<'_>, number: usize, job: u8, place: u32) {
     session.open = job;
     session.here = place;
-    session.say_made(format!(in session.alloc; "${number}B>> "));
+    session.answer.say_number("$", number as u64, "B>> ");
     if !session.show_place(place) {
         session.tell_job(job);
     }
 }
 
 /// Adds a word in octal.
-fn say_word(session: &mut Session<'_>, word: Option<Word>) {
+fn say_word(answer: &mut AnswerText, word: Option<Word>) {
     match word {
-        Some(word) => session.say(word.octal().as_str()),
-        None => session.say("no word"),
+        Some(word) => answer.say(word.octal().as_str()),
+        None => answer.say("no word"),
     }
 }
 
-/// Adds by whom a word was changed in the last step that was made: ` by job 1 at LOOP+3`.
-fn say_writer(session: &mut Session<'_>) {
-    let steps = session.timeline.steps().saturating_sub(1);
-    match turn_at(&session.timeline, steps) {
-        Ok(Some((job, place))) => {
-            session.say(" by ");
-            say_turn(session, job, place);
-        }
-        Ok(None) => {}
-        Err(_) => session.fail(),
-    }
+/// Adds what a word was and is: ` was 0, is 1, changed`.
+fn say_change(answer: &mut AnswerText, was: Option<Word>, is: Option<Word>) {
+    answer.say(" was ");
+    say_word(answer, was);
+    answer.say(", is ");
+    say_word(answer, is);
+    answer.say(", changed");
 }
 
 /// Adds where a job stood: `job 1 at LOOP+3`.
 pub fn say_turn(session: &mut Session<'_>, job: u8, place: u32) {
-    session.say_made(format!(in session.alloc; "job {job} at "));
+    session.answer.say_number("job ", u64::from(job), " at ");
     session.say_spot(job, place);
 }
 
-/// A run ended since a word of a job changed, which is open from here on.
+/// A run ended since a word of a job changed, which is open from here on: the last step that was made
+/// changed it, and whose turn that was is told, ` by job 1 at LOOP+3`.
 fn tell_change(session: &mut Session<'_>, job: u8, place: u32, was: Option<Word>) {
     session.open = job;
     session.say_spot(job, place);
-    session.say(" was ");
-    say_word(session, was);
-    session.say(", is ");
-    say_word(session, session.machine().peek(job, place));
-    session.say(", changed");
-    say_writer(session);
-    session.say("\n");
-    session.show_next();
-}
-
-/// A job is before a call on the lock that is looked at, and is open from here on.
-fn tell_call(session: &mut Session<'_>, job: u8) {
-    session.open = job;
-    session.say_made(format!(in session.alloc; "job {job} is before a call on the lock\n"));
-    session.show_next();
-}
-
-/// As many steps were made as a run may have.
-fn tell_cut(session: &mut Session<'_>, most: u32) {
-    session.say_made(format!(in session.alloc; "{most} steps were made: $P goes on\n"));
+    let is = session.timeline.machine().peek(job, place);
+    say_change(&mut session.answer, was, is);
+    let steps = session.timeline.steps().saturating_sub(1);
+    match turn_at(&session.timeline, steps) {
+        Ok(Some((job, place))) => {
+            session.answer.say(" by ");
+            say_turn(session, job, place);
+        }
+        Ok(None) => {}
+        Err(_) => session.answer.fail(),
+    }
+    session.answer.say("\n");
     session.show_next();
 }
 
 /// Says why a run ended, which could make so many steps.
-fn tell_cause(session: &mut Session<'_>, ended: &Ended, most: u32) {
+fn tell_cause(session: &mut Session<'_>, ended: Ended, most: u32) {
     // A cause may hold a word: the prover wants its type to be named.
     let _word: Option<Word> = None;
     let cause = ended.cause;
@@ -78,28 +68,37 @@ fn tell_cause(session: &mut Session<'_>, ended: &Ended, most: u32) {
         Some(Cause::Breakpoint(number, job, place)) => tell_breakpoint(session, number, job, place),
         Some(Cause::Word(job, place, was)) => tell_change(session, job, place, was),
         Some(Cause::Circle) => {
-            session.say("jobs wait in a circle\n");
+            session.answer.say("jobs wait in a circle\n");
             tell_waits(session);
         }
-        Some(Cause::Call(job)) => tell_call(session, job),
+        Some(Cause::Call(job)) => {
+            session.open = job;
+            let behind = " is before a call on the lock\n";
+            session.answer.say_number("job ", u64::from(job), behind);
+            session.show_next();
+        }
         Some(Cause::Grant) => {
-            session.say(ended.grants.as_str());
+            session.answer.say(session.grants.as_str());
             session.show_next();
         }
         Some(Cause::Own | Cause::Input) => session.show_next(),
-        None if ended.is_cut => tell_cut(session, most),
+        None if ended.is_cut => {
+            let behind = " steps were made: $P goes on\n";
+            session.answer.say_number("", u64::from(most), behind);
+            session.show_next();
+        }
         None => {
-            session.say("no job goes on\n");
+            session.answer.say("no job goes on\n");
             session.tell_jobs();
         }
     }
 }
 
 /// Says why a run ended, which could make so many steps, and whether the session was edited.
-pub fn tell_end(session: &mut Session<'_>, ended: &Ended, most: u32) {
+pub fn tell_end(session: &mut Session<'_>, ended: Ended, most: u32) {
     session.is_open = false;
     tell_cause(session, ended, most);
     if session.is_edited() {
-        session.say("edited: words were deposited\n");
+        session.answer.say("edited: words were deposited\n");
     }
 }

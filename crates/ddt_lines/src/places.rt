@@ -1,7 +1,7 @@
 //! Places, and the words there.
 
+use crate::commands::Look;
 use crate::words::WordText;
-use ddt_lines::Look;
 use run_notes::Reference;
 use source_labels::Places;
 use std::alloc::{AllocError, Global};

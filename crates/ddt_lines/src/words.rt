@@ -1,8 +1,8 @@
 //! Words, in each of the ways in which they are shown.
 
 use crate::characters::{ascii_code, sixbit_code};
+use crate::commands::Look;
 use crate::places::ShownJob;
-use ddt_lines::Look;
 use run_notes::{InstructionText, Reference};
 use source_labels::Places;
 use std::alloc::{AllocError, Global};
