@@ -30,23 +30,18 @@ pub struct Dialogue<R: ByteIn + Drop, W: ByteOut + Drop, E: ByteOut + Drop> {
 const REFUSAL_HEAD: &str = "? ";
 
 impl<R: ByteIn + Drop, W: ByteOut + Drop, E: ByteOut + Drop> Dialogue<R, W, E> {
-    /// Takes the next line that is typed, for which a person is asked.
-    fn ask(&mut self) -> Result<Came, Failure> {
+    /// Takes the next line of the file that is obeyed, which is written before its answer, or else the
+    /// next that is typed, for which a person is asked.
+    fn take_line(&mut self, session: &mut Session<'_>) -> Result<Came, Failure> {
+        let came = session.file_lines.next_line(&mut self.line)?;
+        if came != Came::End {
+            session.answer.echo(self.line.as_slice());
+            return Ok(came);
+        }
         if self.is_person {
             self.errors.write(texts::PROMPT.as_bytes())?;
         }
         self.input.next_line(&mut self.line)
-    }
-
-    /// Takes the next line of the file that is obeyed, which is written before its answer, or else the
-    /// next that is typed.
-    fn take_line(&mut self, session: &mut Session<'_>) -> Result<Came, Failure> {
-        let came = session.file_lines.next_line(&mut self.line)?;
-        if came == Came::End {
-            return self.ask();
-        }
-        session.answer.echo(self.line.as_slice());
-        Ok(came)
     }
 }
 

@@ -9,33 +9,20 @@ use source_labels::{Assembled, Places, Program, Source, assemble_source, warning
 use std::alloc::{AllocError, Global};
 use word36::Word;
 
-/// Assembles a source. What is wrong with it, or warnings, are told.
-fn assemble<'a>(told: &mut AnswerText, source: &Source<'a>) -> Option<Program<'a>> {
-    match assemble_source(told.alloc, source) {
-        Ok(Assembled::Program(program)) => {
-            let (image, places) = (&program.image, &program.places);
-            told.say_made(warnings_of(told.alloc, program.file, image, places));
-            Some(program)
-        }
-        Ok(Assembled::Refused(text)) => {
-            told.add(text.as_slice());
-            None
-        }
-        Err(_) => {
-            told.fail();
-            None
-        }
-    }
-}
-
-/// The programs of sources, where all are right.
+/// The programs of sources, where all are right. What is wrong with them, or warnings, are told.
 fn assemble_all<'a>(told: &mut AnswerText, sources: &[Source<'a>]) -> Option<Vec<Program<'a>>> {
     let mut programs = Vec::new(told.alloc);
     for source in sources {
-        if let Some(program) = assemble(told, source) {
-            if programs.push(program).is_err() {
-                told.fail();
+        match assemble_source(told.alloc, source) {
+            Ok(Assembled::Program(program)) => {
+                let (image, places) = (&program.image, &program.places);
+                told.say_made(warnings_of(told.alloc, program.file, image, places));
+                if programs.push(program).is_err() {
+                    told.fail();
+                }
             }
+            Ok(Assembled::Refused(text)) => told.add(text.as_slice()),
+            Err(_) => told.fail(),
         }
     }
     (programs.len() == sources.len()).then_some(programs)

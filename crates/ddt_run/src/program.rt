@@ -84,12 +84,14 @@ fn tell_refusal<W: ByteOut + Drop, E: ByteOut + Drop>(
         Refusal::Memory => Err(Failure::Memory),
         Refusal::Usage(error) => {
             let text = error.to_string(alloc)?;
-            if error.use_stderr() {
-                errors.write(text.as_str().as_bytes())?;
-                return Ok(USAGE);
-            }
-            writer.write(text.as_str().as_bytes())?;
-            Ok(DONE)
+            let bytes = text.as_str().as_bytes();
+            let (written, status) = if error.use_stderr() {
+                (errors.write(bytes), USAGE)
+            } else {
+                (writer.write(bytes), DONE)
+            };
+            written?;
+            Ok(status)
         }
     }
 }
@@ -163,19 +165,6 @@ fn serve_asked<F: Files + AllocGlobal, R: ByteIn + Drop, W: ByteOut + Drop, E: B
     served
 }
 
-/// The program, but for what is said of a failure.
-fn serve<F: Files + AllocGlobal, R: ByteIn + Drop, W: ByteOut + Drop, E: ByteOut + Drop>(
-    rt: &F,
-    words: &[String],
-    dialogue: &mut Dialogue<R, W, E>,
-) -> Result<u8, Failure> {
-    let alloc = rt.alloc();
-    match read_words(alloc, words) {
-        Ok(asked) => serve_asked(rt, &asked, dialogue),
-        Err(refusal) => tell_refusal(alloc, &refusal, &mut dialogue.output, &mut dialogue.errors),
-    }
-}
-
 /// Does what the words, which begin with the program's name, ask for, and gives the exit status: reads
 /// files, assembles them, logs a job in for each, and obeys lines until the session ends. The help and
 /// the version go to the output, and then there is no session.
@@ -194,20 +183,25 @@ pub fn ddt<F: Files + AllocGlobal, R: ByteIn + Drop, W: ByteOut + Drop, E: ByteO
         errors,
         is_person,
     } = ports;
+    let alloc = rt.alloc();
     let mut errors = Answers::new(errors);
-    let Ok(input) = LineReader::new(rt.alloc(), reader) else {
-        return tell_failure(rt.alloc(), Failure::Memory, &mut errors);
+    let Ok(input) = LineReader::new(alloc, reader) else {
+        return tell_failure(alloc, Failure::Memory, &mut errors);
     };
     let mut dialogue = Dialogue {
         input,
-        line: Vec::new(rt.alloc()),
+        line: Vec::new(alloc),
         output: Answers::new(writer),
         errors,
         is_person,
     };
-    match serve(rt, words, &mut dialogue) {
+    let served = match read_words(alloc, words) {
+        Ok(asked) => serve_asked(rt, &asked, &mut dialogue),
+        Err(refusal) => tell_refusal(alloc, &refusal, &mut dialogue.output, &mut dialogue.errors),
+    };
+    match served {
         Ok(status) => status,
-        Err(failure) => tell_failure(rt.alloc(), failure, &mut dialogue.errors),
+        Err(failure) => tell_failure(alloc, failure, &mut dialogue.errors),
     }
 }
 
