@@ -7,7 +7,8 @@ use Rattle.std.proofs.lemmas.Bool.{false_from_ne_true}
 use Rattle.std.proofs.lemmas.List.Folds.{list_any-append}
 use Rattle.word36.specs.declared.sizes.TheConstants.{LOCKS_A_CALL, JOBS}
 use Rattle.key_queues.specs.Tables.{is_there, IsAt}
-use Rattle.key_queues.proofs.Keeping.{split_there, Has-there, there_split, renewing_keeps, flags_tell_grants}
+use Rattle.key_queues.proofs.Keeping.{split_there, Has-there, renewing_keeps, flags_tell_grants}
+use Rattle.key_queues.proofs.Orders.{there_split}
 use Rattle.key_queues.proofs.Opening.{there_around, used_same, used_open}
 use Rattle.std.proofs.lemmas.Grind.{common_steps}
 use Rattle.lock_queue.specs.declared.want.Want.{Want}

@@ -22,7 +22,8 @@ use Rattle.key_queues.specs.declared.lock.Lock.{Lock}
 use Rattle.key_queues.specs.States.{IsTable}
 use Rattle.key_queues.specs.Tables.{StandsOnce, is_there, places_at}
 use Rattle.key_queues.proofs.Counted.{none_kept}
-use Rattle.key_queues.proofs.Keeping.{Has-there, flags_tell_grants, found_there, split_there, there_split}
+use Rattle.key_queues.proofs.Keeping.{Has-there, flags_tell_grants, found_there, split_there}
+use Rattle.key_queues.proofs.Orders.{there_split}
 use Rattle.key_queues.proofs.Marks.{marks_choose}
 use Rattle.key_queues.proofs.Lists.{found_within, split_at}
 use Rattle.key_queues.proofs.Using.{there_kept}

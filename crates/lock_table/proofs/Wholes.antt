@@ -10,7 +10,7 @@ use Rattle.key_queues.specs.States.{IsTable, State, IsUsed, Stands}
 use Rattle.key_queues.specs.Tables.{is_there, StandsOnce, QueuesOf, places_at}
 use Rattle.key_queues.proofs.Using.{kept_there, there_kept}
 use Rattle.key_queues.specs.Stores.{Stored, filed_at, places_of, with_filed}
-use Rattle.key_queues.proofs.Orders.{filter_same, filter_short}
+use Rattle.key_queues.proofs.Orders.{filter_same, filter_short, there_split}
 use Rattle.lock_table.specs.Filing.{state_of}
 use Rattle.lock_table.specs.Whole.{AreRight, IsWhole, JobsAreApart, LevelsAgree, level_at, requests_in}
 use Rattle.lock_queue.specs.declared.want.Want.{Want}
@@ -22,7 +22,7 @@ use Rattle.lock_table.specs.Changing.{IsChanged}
 use Rattle.lock_table.proofs.Reading.{filter_mapped}
 use Rattle.lock_table.specs.Departures.{IsLeft, LeavesBy, LeavesWhere, left_named, stays_beside, is_blocking_at, is_of}
 use Rattle.lock_queue.proofs.Lists.{Has-map, list_all-Has, list_all-each, map-Has}
-use Rattle.key_queues.proofs.Keeping.{Has-there, there_split, flags_tell_grants}
+use Rattle.key_queues.proofs.Keeping.{Has-there, flags_tell_grants}
 use Rattle.lock_table.proofs.Altering.{filter_each, map_each, map_twice, there_Has}
 use Rattle.std.proofs.lemmas.Grind.{common_steps}
 use Rattle.lock_table.proofs.Named.{fewer_named, job_named, level_named, some_wants}
