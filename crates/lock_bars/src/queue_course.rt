@@ -1,8 +1,8 @@
 //! What is seen along a script of `lockmon queue`.
-ghost use Rattle.std.specs.Prelude.{◌≡◌, ◌≤◌, ℕ, [], Some, IsTrue, IfOk, IfErr, IfSome, length, is_some, true, false};
+ghost use Rattle.std.specs.Prelude.{◌≡◌, ◌≤◌, ℕ, [], Some, Ok, IsTrue, IfOk, IfErr, IfSome, length, is_some, true, false};
 ghost use Rattle.std.specs.Str.Lines.{lines};
 ghost use Rattle.queue_script.specs.Asks.{asks_right};
-ghost use Rattle.queue_script.specs.Borrowed.{asked_by_line, lent};
+ghost use Rattle.queue_script.specs.Borrowed.{asked_by_line};
 ghost use Rattle.queue_script.specs.QueueScripts.{effect_of, call_effect, unless_busy};
 ghost use Rattle.script_io.specs.declared.endings.Ending.TheVariants as ending;
 ghost use Rattle.script_io.specs.declared.endings.SourceFault.{SourceFault};
@@ -15,25 +15,19 @@ use crate::columns::Column;
 use crate::course::Course;
 use crate::errors::{MOST_LINES, ScriptError};
 use crate::script_lines::ScriptLines;
-use lock_queue::{LockCall, LockTable, Refusal};
+use lock_queue::{LockCall, LockTable};
 use queue_script::{CallRoom, Command, read_command};
 use script_io::Ending;
 use std::alloc::Global;
 
-/// Makes a job's call, unless it is refused before or the job waits.
-fn call_unless_busy<L: LockTable>(table: &mut L, job: u8, asked: Result<&LockCall, Refusal>)
-    requires { IfOk (lent asked) (λ call. IsTrue (is_call job call)) }
+/// Makes a job's call, unless the job waits.
+fn call_unless_busy<L: LockTable>(table: &mut L, job: u8, call: &LockCall)
+    requires { IsTrue (is_call job call.now) }
     ensures { L.requests table.new
-        ≡ (unless_busy (L.requests table.old) job (call_effect L.REQS (L.requests table.old) job (lent asked.entry))).requests }
+        ≡ (unless_busy (L.requests table.old) job (call_effect L.REQS (L.requests table.old) job (Ok call.now))).requests }
 {
-    if table.waiting(job) {
-        return;
-    }
-    match asked {
-        Ok(call) => {
-            let _ = table.call(job, call);
-        }
-        Err(_) => {}
+    if !table.waiting(job) {
+        let _ = table.call(job, call);
     }
 }
 
@@ -50,12 +44,18 @@ fn follow<L: LockTable>(
     ensures ended { IfSome result (λ _. L.requests table.new ≡ L.requests table.old) }
     ensures no_source { (fault : SourceFault) → result ≡ Some (ending.Source fault) → false ≡ true }
 {
+    let Some(command) = command else {
+        return Some(Ending::Script(number as u128));
+    };
     match command {
-        None => return Some(Ending::Script(number as u128)),
-        Some(Command::Quit) => return Some(Ending::Done),
-        Some(Command::Call(job, asked)) => call_unless_busy(table, job, asked),
-        Some(Command::Free(job)) => table.release(job),
-        Some(Command::Nothing | Command::Status(_, _) | Command::Show | Command::Waits) => {}
+        Command::Quit => return Some(Ending::Done),
+        Command::Call(job, call) => call_unless_busy(table, job, call),
+        Command::Free(job) => table.release(job),
+        Command::Nothing
+        | Command::Refused(_, _)
+        | Command::Status(_, _)
+        | Command::Show
+        | Command::Waits => {}
     }
     None
 }

@@ -60,10 +60,8 @@ fn take_line(room: &mut CallRoom, number: usize, line: &[u8]) -> Result<Taken, S
             Ok(Taken::Nothing)
         }
         Some(Command::Free(job)) => kept_line(number, job, Step::Free),
-        Some(Command::Call(job, Ok(call))) => {
-            kept_line(number, job, Step::Call(copied_call(call)))
-        }
-        Some(Command::Call(job, Err(refusal))) => kept_line(number, job, Step::Refused(refusal)),
+        Some(Command::Call(job, call)) => { kept_line(number, job, Step::Call(copied_call(call))) }
+        Some(Command::Refused(job, refusal)) => kept_line(number, job, Step::Refused(refusal)),
     }
 }
 
