@@ -1,5 +1,6 @@
 //! Calls on the queue from plain data.
-ghost use Rattle.std.specs.Prelude.{length, nat_le, IsTrue};
+ghost use Rattle.std.specs.Prelude.{◌≡◌, ◌<◌, ◌++◌, ◌∷◌, [], length, nat_le, IsTrue};
+ghost use Rattle.word36.specs.declared.sizes.TheConstants.{LOCKS_A_CALL};
 ghost use Rattle.std.specs.List.{list_all};
 ghost use Rattle.lock_queue.specs.WellFormed.{names_locks, shares_rightly, all_share_rightly};
 
@@ -116,6 +117,15 @@ fn want(lock: Lock) -> Want
     }
 }
 
+/// Adds a want to fewer than 16. The prover follows `push` of a want only where its name is looked at.
+pub fn add(wants: &mut Wants, want: Want)
+    requires { length wants.old.items < LOCKS_A_CALL }
+    ensures { wants.new.items ≡ wants.old.items ++ want ∷ [] }
+{
+    let _name = &want.key.name;
+    wants.push(want);
+}
+
 /// The wants of one lock.
 pub fn one(want: Want) -> Wants
     requires { IsTrue (shares_rightly want) }
@@ -123,7 +133,7 @@ pub fn one(want: Want) -> Wants
     ensures right { IsTrue (list_all shares_rightly result.items) }
 {
     let mut wants = Wants::new();
-    wants.push(want);
+    add(&mut wants, want);
     wants
 }
 
@@ -136,8 +146,8 @@ fn wants(locks: Locks) -> Wants
         Locks::One(lock) => one(want(lock)),
         Locks::Two(first, second) => {
             let mut wants = Wants::new();
-            wants.push(want(first));
-            wants.push(want(second));
+            add(&mut wants, want(first));
+            add(&mut wants, want(second));
             wants
         }
     }

@@ -5,6 +5,7 @@ ghost use Rattle.word36.specs.declared.sizes.TheConstants.{JOBS};
 ghost use Rattle.lock_queue.specs.WellFormed.{names_locks, shares_rightly, all_share_rightly};
 
 use crate::alike::{are_alike, hold_the_same};
+use crate::build::add;
 use lock_queue::{
     Asking, EnqueueKind, Group, Key, Level, LockCall, LockTable, Name, Pool, RequestId, Scope,
     UserCode, Want, Wants, Woken,
@@ -102,11 +103,11 @@ fn wants(numbers: &mut Numbers) -> Wants
     ensures right { IsTrue (list_all shares_rightly result.items) }
 {
     let mut wants = Wants::new();
-    wants.push(want(numbers));
+    add(&mut wants, want(numbers));
     let more = numbers.below(4);
     for _ in 0..MORE {
         if numbers.below(4) < more {
-            wants.push(want(numbers));
+            add(&mut wants, want(numbers));
         }
     }
     wants
