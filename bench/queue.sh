@@ -1,13 +1,13 @@
 #!/usr/bin/env bash
 # Host instructions for a command of `lockmon queue` (callgrind, the difference of two lengths): one lock taken
-# and given up by turns, with the time of a million; then the same beside 200 requests that are present; a
+# and given up by turns, with the time of a million; then the same beside 200 and 1,000 requests that are present; a
 # command on a busy table (busy.py); a request of sixteen locks that leaves a table of 256 such requests, where
 # 31 want each of its locks; and the same of a full table of 1,024, where 63 do.
 set -eu
 cd "$(dirname "$0")"
 program=${LOCKMON:-../crates/lockmon/out/lockmon}
 turns() { awk -v n="$1" 'BEGIN { for (i = 0; i < n; i += 2) print "ENQ 1 1 1 X\nDEQ 1 0 X" }'; }
-present() { awk 'BEGIN { for (i = 0; i < 200; i++) print "ENQ " 2 + i % 30 " 1 " i " N" i "/B" }'; }
+present() { awk -v n="$1" 'BEGIN { for (i = 0; i < n; i++) print "ENQ " 2 + i % 60 " 1 " i " N" i "/B" }'; }
 held() { # requests jobs leaving
     awk -v requests="$1" -v jobs="$2" -v n="$3" 'BEGIN {
         for (i = 0; i < requests; i++) {
@@ -26,7 +26,9 @@ each() { # what shorter longer commands
 }
 each "by turns" "$(turns 2000 | counted)" "$(turns 12000 | counted)" 10000
 time turns 1000000 | "$program" queue >/dev/null
-each "beside 200 requests" "$( (present; turns 1000) | counted)" "$( (present; turns 2000) | counted)" 1000
+for n in 200 1000; do
+    each "beside $n requests" "$( (present $n; turns 1000) | counted)" "$( (present $n; turns 2000) | counted)" 1000
+done
 busy=$(mktemp)
 trap 'rm -f "$busy"' EXIT
 python3 busy.py 20000 >"$busy"
