@@ -1,10 +1,10 @@
 //! The locks of a table, which are found by hashes of their keys.
-ghost use Rattle.std.specs.Prelude.{IfOk, IfSome, ◌≡◌, ◌<◌, ◌≤◌, ◌*◌, ◌^◌, ◌==◌, [], ℕ, true, false, if◌then◌else◌, length, slice_get};
+ghost use Rattle.std.specs.Prelude.{IfOk, IfSome, None, ◌≡◌, ◌<◌, ◌≤◌, ◌*◌, ◌^◌, ◌==◌, [], ℕ, true, false, if◌then◌else◌, length, slice_get};
 ghost use Rattle.std.specs.List.{All, list_all, list_any, position_or_len};
 ghost use Rattle.word36.specs.declared.sizes.TheConstants.{JOBS, LOCKS_A_CALL, MOST_REQUESTS};
 ghost use Rattle.key_queues.specs.Found.{IsEntered, IsFound, IsSpare};
 ghost use Rattle.key_queues.specs.Hashes.{hash_of};
-ghost use Rattle.key_queues.specs.Kept.{admitted, counting, fits_next};
+ghost use Rattle.key_queues.specs.Kept.{admitted, counting, fits_last, fits_next};
 ghost use Rattle.key_queues.specs.Locks.{lock_at, with_queue, without_place};
 ghost use Rattle.key_queues.specs.Opened.{is_closed, is_open_for};
 ghost use Rattle.key_queues.specs.Tables.{is_counted};
@@ -165,6 +165,21 @@ impl<const REQS: usize> Keys<REQS> {
         self.locks[n as usize].begin(p, w, found.hash);
         self.buckets[found.hash as usize].put(n);
         n
+    }
+
+    /// Whether a want of a key that `look_up` found fits behind all that stand in the queue of that key. Where
+    /// none does, there is nothing to fit behind.
+    #[inline(always)]
+    #[tactic(auto, using(crate::proofs::Finding::found_open, crate::proofs::Finding::open_parts, crate::proofs::Finding::open_within))]
+    pub fn fits_last(&self, w: &Want, found: Found) -> bool
+        requires { IsFound self.now w.now.key found }
+        ensures found { IfSome found.number (λ n. result ≡ fits_last (lock_at self.now n).queue w.now) }
+        ensures none { found.number ≡ None → result ≡ true }
+    {
+        match found.number {
+            Some(n) => self.locks[n as usize].queue.fits_last(w),
+            None => true,
+        }
     }
 
     /// Counts the first want of a queue that is not counted, which there is, where it fits.

@@ -5,7 +5,7 @@ ghost use Rattle.word36.specs.declared.sizes.TheConstants.{JOBS};
 ghost use Rattle.lock_queue.specs.Queue.{amount_of};
 ghost use Rattle.key_queues.specs.Tables.{is_counted};
 ghost use Rattle.key_queues.specs.Locks.{want_in, without_place};
-ghost use Rattle.key_queues.specs.Kept.{IsQueueOf, admitted, appended, counting, fits_next, no_queue};
+ghost use Rattle.key_queues.specs.Kept.{IsQueueOf, admitted, appended, counting, fits_last, fits_next, no_queue};
 
 use arrayvec::ArrayVec;
 use lock_queue::{Group, Want};
@@ -150,6 +150,13 @@ impl Queue {
             Some(pool) => self.taken + pool.amount() <= pool.size(),
             None => self.fitting == 0 || self.shared && w.shared && self.group == w.group,
         }
+    }
+
+    /// Whether a want of the key fits behind all.
+    pub fn fits_last(&self, w: &Want) -> bool
+        ensures { result ≡ fits_last self.now w.now }
+    {
+        self.fitting == self.places.len() && self.fits_next(w)
     }
 
     /// A want of the key comes last, of the request at this place.

@@ -12,13 +12,16 @@ use Rattle.lock_queue.specs.declared.want.Want.{Want}
 use Rattle.arrayvec.specs.ArrayVec.{ArrayVec}
 use Rattle.lock_queue.specs.declared.call.Asking.{Asking}
 use Rattle.lock_queue.specs.Enqueues.{are_alike, enqueue, enqueue_fault, enqueue_refusal, not_granted, request_of, same_pool_size, with_arrival}
-use Rattle.lock_queue.specs.declared.call.LockReply.TheVariants.{Granted}
+use Rattle.lock_queue.specs.declared.call.LockReply.TheVariants.{Granted, Refused}
+use Rattle.lock_queue.specs.declared.refusal.Refusal.TheVariants.{NotGranted}
+use Rattle.lock_queue.specs.declared.request.EnqueueKind.TheVariants.{AtOnce}
 use Rattle.lock_queue.specs.Jobs.{is_interrupt}
 use Rattle.lock_queue.specs.Outcomes.{first_refusal, outcome}
 use Rattle.lock_queue.specs.Pools.{PoolShare}
-use Rattle.lock_queue.specs.Queue.{granted, names, requests_of, wants_at, wants_of, all_wants}
+use Rattle.lock_queue.specs.Queue.{fits, granted, names, requests_of, wants_at, wants_of, all_wants}
 use Rattle.lock_queue.specs.Unused.{unused_want}
 use Rattle.lock_queue.specs.WellFormed.{are_apart, are_well_formed, is_in_range, is_job, is_well_formed, shares_rightly}
+use Rattle.lock_queue.proofs.Granted.{granted_last}
 use Rattle.lock_queue.proofs.Fitting.{names-Has, names-found, eq-same_key}
 use Rattle.lock_queue.proofs.Lists.{Has, Has-filter, Has-flat_map, Has-map, list_all-Has}
 use Rattle.lock_queue.proofs.Refusing.{or_else-None, refuse_if-None}
@@ -195,6 +198,13 @@ module _ (size : ℕ) (rs : List Request) (job : ℕ) (asking : Asking) (wants :
   pub arrives_waiting : granted (with_arrival rs job asking false wants) (length rs) ≡ false
       → enqueue size rs job asking wants ≡ not_granted rs (with_arrival rs job asking false wants) asking.kind
   arrives_waiting h = grind (arith, common_steps, passed)
+
+  -- nothing comes of a request whose job would not wait for it, where not all of its wants fit
+  pub turned_away : asking.kind ≡ AtOnce → list_all (fits rs) wants.items ≡ false
+      → enqueue size rs job asking wants ≡ outcome rs (Refused NotGranted)
+  turned_away once none =
+      arrives_waiting (granted_last rs (request_of job asking false wants) ∙ none)
+      ∙ ap (not_granted rs (with_arrival rs job asking false wants)) once
 
 -- ---- a key is still wanted at one level where a request comes, and where wants are changed
 

@@ -280,7 +280,7 @@ all_take f zero ws h = refl
 all_take f (suc n) [] h = refl
 all_take f (suc n) (w ∷ ws) h = grind (arith, common_steps, all_take f n ws)
 
-all_at : (f : Want → Bool) (ws : List Want) (k : ℕ) (d : Want) → list_all f ws ≡ true → k < length ws → f (get_or ws k d) ≡ true
+pub all_at : (f : Want → Bool) (ws : List Want) (k : ℕ) (d : Want) → list_all f ws ≡ true → k < length ws → f (get_or ws k d) ≡ true
 all_at f [] k d h lt = absurd (omega arith)
 all_at f (w ∷ ws) zero d h lt = grind (arith, common_steps)
 all_at f (w ∷ ws) (suc k) d h lt = grind (arith, common_steps, all_at f ws k d)

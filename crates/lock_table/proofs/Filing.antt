@@ -514,14 +514,6 @@ pub stays_in : (b : Bool) (x p : ℕ) (xs then : List ℕ) → StandsOnce xs →
     → is_there x xs ≡ true
 stays_in b x p xs then once is h = grind (arith, common_steps, there_beside x p xs once)
 
--- a place that came last and leaves again
-pub without_new : (xs : List ℕ) (p : ℕ) → is_there p xs ≡ false → order_without (xs ++ p ∷ []) p ≡ xs
-without_new [] p out = rw (eq-eqb p p refl) refl
-without_new (x ∷ xs) p out =
-    let parts = or_parts (x == p) (is_there p xs) out in
-    let one : 1 + position_or_len (λ y. y == p) (xs ++ p ∷ []) ≡ suc (position_or_len (λ y. y == p) (xs ++ p ∷ [])) = omega arith in
-    rw parts.0 (rw one (ap (λ l. x ∷ l) (without_new xs p parts.1)))
-
 -- ---- the requests that leave as a whole are all among those that may (Everyone is Leavers::All)
 
 -- those that two tests choose, one behind the other

@@ -10,4 +10,5 @@ pub mod Telling
 pub mod Keepers
 pub mod Numbers
 pub mod Queued
+pub mod Fits
 pub mod Levels

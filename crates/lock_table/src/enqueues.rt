@@ -2,14 +2,16 @@
 ghost use Rattle.std.specs.Prelude.{◌≡◌, ◌≤◌, ◌<◌, ◌+◌, ◌++◌, ◌∷◌, ℕ, true, false, [], None, IsTrue, length, nat_le};
 ghost use Rattle.std.specs.List.{list_all};
 ghost use Rattle.word36.specs.declared.sizes.TheConstants.{JOBS};
+ghost use Rattle.lock_queue.specs.declared.request.EnqueueKind.TheVariants.{AtOnce};
 ghost use Rattle.lock_queue.specs.Enqueues.{enqueue, enqueue_fault, request_of, with_arrival};
 ghost use Rattle.lock_queue.specs.Outcomes.{first_refusal};
-ghost use Rattle.lock_queue.specs.Queue.{granted};
+ghost use Rattle.lock_queue.specs.Queue.{fits, granted};
 ghost use Rattle.lock_queue.specs.WellFormed.{is_in_range, shares_rightly};
 ghost use Rattle.key_queues.specs.Tables.{is_there};
 ghost use Rattle.key_queues.specs.Stores.{filed_at};
-ghost use Rattle.lock_table.specs.Arrivals.{AreFound, IsArriving, SameRequests};
-ghost use Rattle.lock_table.specs.Tables.{IsRight, requests};
+ghost use Rattle.key_queues.specs.States.{IsTable};
+ghost use Rattle.lock_table.specs.Arrivals.{AdmitsFrom, AreFound, IsArriving, SameRequests};
+ghost use Rattle.lock_table.specs.Tables.{IsRight, requests, state};
 
 use crate::found::FoundKeys;
 use crate::refusals::refusal_of_enqueue;
@@ -54,6 +56,28 @@ fn enter_all<const REQS: usize>(
 }
 
 impl<const REQS: usize> Table<REQS> {
+    /// Whether a request is not taken in since its job would not wait for it, and not all of its wants fit behind
+    /// the present ones. The open locks of their keys take them.
+    fn is_turned_away(&self, asking: &Asking, wants: &[Want], found: &[Found]) -> bool
+        requires table { IsTable (state self.now) }
+        requires long { length found.now ≡ length wants.now }
+        requires found { AreFound 0 self.now.keys wants.now found.now }
+        requires admits { AdmitsFrom 0 self.now.keys wants.now }
+        ensures away { result ≡ true → (asking.now.kind ≡ AtOnce) × (list_all (fits (requests self.now)) wants.now ≡ false) }
+        ensures stays { result ≡ false → asking.now.kind ≡ AtOnce → list_all (fits (requests self.now)) wants.now ≡ true }
+    {
+        if !matches!(asking.kind, EnqueueKind::AtOnce) {
+            return false;
+        }
+        are_in_range(wants);
+        for (k, w) in wants.iter().enumerate() {
+            if !self.keys.fits_last(w, found[k]) {
+                return true;
+            }
+        }
+        false
+    }
+
     /// A request comes last, which is not refused. Its wants stand last in the queues of their keys, and it is
     /// granted where all of them fit behind the requests before it.
     fn arrive(&mut self, job: u8, asking: &Asking, wants: &Wants, found: &[Found]) -> u16
@@ -81,7 +105,8 @@ impl<const REQS: usize> Table<REQS> {
         p
     }
 
-    /// A job asks for locks. Where they are granted at once, it need not be told by an interrupt any more.
+    /// A job asks for locks. Where they are granted at once, it need not be told by an interrupt any more. A
+    /// request that does not wait is taken in only where it is granted.
     pub fn enqueue(&mut self, job: u8, asking: &Asking, wants: &Wants) -> LockReply
         requires whole { IsRight REQS self.old }
         requires job { (1 ≤ job) × (job ≤ JOBS) }
@@ -91,18 +116,23 @@ impl<const REQS: usize> Table<REQS> {
         ensures requests { requests self.new ≡ (enqueue REQS (requests self.old) job asking.now wants.now).requests }
         ensures reply { result ≡ (enqueue REQS (requests self.old) job asking.now wants.now).reply }
     {
+        let asked = wants.as_slice();
         let mut found = FoundKeys::new();
         if let Some(refusal) = refusal_of_enqueue(
             &self.store,
             &self.keys,
             job,
             asking,
-            wants.as_slice(),
+            asked,
             &mut found,
         ) {
             return LockReply::Refused(refusal);
         }
-        let p = self.arrive(job, asking, wants, found.as_slice());
+        let found = found.as_slice();
+        if self.is_turned_away(asking, asked, found) {
+            return LockReply::Refused(Refusal::NotGranted);
+        }
+        let p = self.arrive(job, asking, wants, found);
         match (self.store.get(p).granted, asking.kind) {
             (true, EnqueueKind::Interrupt) => {
                 mark_told(&mut self.store, p);
@@ -110,10 +140,7 @@ impl<const REQS: usize> Table<REQS> {
             }
             (true, _) => LockReply::Granted,
             (false, EnqueueKind::Blocking) => LockReply::Queued,
-            (false, EnqueueKind::AtOnce) => {
-                self.leave(p);
-                LockReply::Refused(Refusal::NotGranted)
-            }
+            (false, EnqueueKind::AtOnce) => LockReply::Refused(Refusal::NotGranted),
             (false, EnqueueKind::Interrupt) => LockReply::Refused(Refusal::NotGranted),
         }
     }
