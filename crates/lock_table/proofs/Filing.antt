@@ -2,7 +2,7 @@
 use Rattle.std.proofs.Common.{◌≡◌, ◌≢◌, ◌<◌, ◌∙◌, sym, ap, subst, ℕ, suc, Bool, true, ◌==◌, List, [], length, set, take, drop, get_or, slice_get}
 use Rattle.std.proofs.Common.{Some, zero, inl, inr, refl, arith, false, ◌∷◌, ◌++◌, filter, not, ◌+◌, cond, ◌≤◌, ◌&&◌}
 use Rattle.std.specs.List.{All, list_all, position_or_len, remove, list_any}
-use Rattle.std.proofs.lemmas.Bool.{and_parts, cases_eq, false_from_ne_true, both_ways, or_parts, eq-eqb, ne_eqb}
+use Rattle.std.proofs.lemmas.Bool.{and_parts, cases_eq, false_from_ne_true, both_ways, ne_eqb}
 use Rattle.std.proofs.lemmas.List.{get_or_past, get_or-set_same, get_or-set_other, nil_from_length, length-append}
 use Rattle.std.proofs.lemmas.Option.{slice_get-get_or}
 use Rattle.lock_queue.specs.declared.key.Key.{Key}
