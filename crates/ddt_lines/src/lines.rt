@@ -18,6 +18,8 @@ const MOST_TIMES: u64 = 0o10000;
 /// A command behind an ESC, as it is written.
 #[derive(Clone, Copy)]
 struct Escaped<'a> {
+    /// The whole line.
+    text: &'a [u8],
     /// What stands before the ESC.
     before: &'a [u8],
     /// The digits behind it.
@@ -52,6 +54,7 @@ fn behind_escape(text: &[u8]) -> Option<Escaped<'_>> {
         return None;
     }
     Some(Escaped {
+        text,
         before,
         digits,
         letter: letter.to_ascii_uppercase(),
@@ -78,43 +81,58 @@ fn read_breakpoint<'a>(line: Escaped<'_>, scope: &Scope<'_>) -> Result<Command<'
     }
 }
 
-/// `a$G`.
+/// `$G` and `a$G`.
 fn read_start<'a>(line: Escaped<'_>, scope: &Scope<'_>) -> Result<Command<'a>, Wrong> {
     if !line.digits.is_empty() {
         return Err(Wrong::NoEscape);
+    }
+    if line.before.is_empty() {
+        return Ok(Command::Go);
     }
     Ok(Command::GoAt(address(line.before, scope)?))
 }
 
 /// How often: the octal number before the ESC, or once.
-fn times(text: &[u8]) -> Result<u32, Wrong> {
-    if text.is_empty() {
-        return Ok(1);
-    }
-    let number = match text {
+fn times(text: &[u8]) -> Option<u64> {
+    match text {
+        [] => Some(1),
         [digits @ .., b'.'] => decimal(digits),
-        _ => match octal(text) {
-            Some(word) => Some(word.number()),
-            None => None,
-        },
-    };
-    match number {
-        Some(number) if 1 <= number && number <= MOST_TIMES => Ok(number as u32),
+        _ => Some(octal(text)?.number()),
+    }
+}
+
+/// `n$P`, `n$X` and `$$X`.
+fn read_moving<'a>(line: Escaped<'_>) -> Result<Command<'a>, Wrong> {
+    if line.letter == b'X' && line.before == b"$".as_slice() {
+        return Ok(Command::ExecuteCall);
+    }
+    match times(line.before) {
+        Some(times) if 1 <= times && times <= MOST_TIMES => {
+            if line.letter == b'P' {
+                Ok(Command::Proceed(times as u32))
+            } else {
+                Ok(Command::Execute(times as u32))
+            }
+        }
         _ => Err(Wrong::NoTimes),
     }
 }
 
-/// The value and the mask of a search, `value<mask>` or a value alone.
-fn read_search<'a>(text: &[u8], kind: SearchKind, scope: &Scope<'_>) -> Result<Command<'a>, Wrong> {
-    let [front @ .., b'>'] = text else {
-        let (value, mask) = (value(text, scope)?, Word::new(0).not());
-        return Ok(Command::Search(Search { kind, value, mask }));
+/// The value and the mask of a search, `value<mask>$W` or `value$W`; so with `$N` and `$E`.
+fn read_search<'a>(line: Escaped<'_>, scope: &Scope<'_>) -> Result<Command<'a>, Wrong> {
+    let (before, mask) = match line.before {
+        [front @ .., b'>'] => match cut_at(front, b'<') {
+            Some((before, mask)) => (before, value(mask, scope)?),
+            None => return Err(Wrong::NoMask),
+        },
+        before => (before, Word::new(0).not()),
     };
-    let Some((before, mask)) = cut_at(front, b'<') else {
-        return Err(Wrong::NoMask);
-    };
-    let mask = value(mask, scope)?;
     let value = value(before, scope)?;
+    let kind = match line.letter {
+        b'W' => SearchKind::Equal,
+        b'N' => SearchKind::NotEqual,
+        _ => SearchKind::Address,
+    };
     Ok(Command::Search(Search { kind, value, mask }))
 }
 
@@ -126,48 +144,25 @@ fn read_radix<'a>(digits: &[u8]) -> Result<Command<'a>, Wrong> {
     }
 }
 
-/// `n$P` and `n$X`.
-fn read_moving<'a>(line: Escaped<'_>) -> Result<Command<'a>, Wrong> {
-    let times = times(line.before)?;
-    if line.letter == b'P' {
-        Ok(Command::Proceed(times))
-    } else {
-        Ok(Command::Execute(times))
-    }
+/// A value, which is put in the place that is open.
+fn read_deposit<'a>(text: &[u8], scope: &Scope<'_>) -> Result<Command<'a>, Wrong> {
+    Ok(Command::Deposit(value(text, scope)?))
 }
 
-/// A command behind an ESC; `None` where the letter is none of one.
-fn read_escaped<'a>(line: Escaped<'_>, scope: &Scope<'_>) -> Option<Result<Command<'a>, Wrong>> {
+/// A command behind an ESC, or a value where the letter is none of a command.
+fn read_escaped<'a>(line: Escaped<'_>, scope: &Scope<'_>) -> Result<Command<'a>, Wrong> {
     let is_alone = line.before.is_empty() && line.digits.is_empty();
-    let command = match line.letter {
+    match line.letter {
         b'B' => read_breakpoint(line, scope),
-        b'G' if is_alone => Ok(Command::Go),
         b'G' => read_start(line, scope),
-        b'P' => read_moving(line),
-        b'X' if line.before == b"$".as_slice() => Ok(Command::ExecuteCall),
-        b'X' => read_moving(line),
-        b'W' => read_search(line.before, SearchKind::Equal, scope),
-        b'N' => read_search(line.before, SearchKind::NotEqual, scope),
-        b'E' => read_search(line.before, SearchKind::Address, scope),
+        b'P' | b'X' => read_moving(line),
+        b'W' | b'N' | b'E' => read_search(line, scope),
         b'R' if line.before.is_empty() => read_radix(line.digits),
         b'S' if is_alone => Ok(Command::Show(Look::Symbolic)),
         b'C' if is_alone => Ok(Command::Show(Look::Octal)),
         b'T' if is_alone => Ok(Command::Show(Look::Text)),
         b'H' if is_alone => Ok(Command::Show(Look::Halves)),
-        _ => return None,
-    };
-    Some(command)
-}
-
-/// A line of one character that asks for something, or a remark.
-fn read_short<'a>(text: &[u8]) -> Option<Command<'a>> {
-    match text {
-        [b'^'] => Some(Command::Before),
-        [b'='] => Some(Command::Last(Last::Octal)),
-        [b'_'] => Some(Command::Last(Last::Symbolic)),
-        [b';'] => Some(Command::Last(Last::Text)),
-        [b';', ..] => Some(Command::Remark),
-        _ => None,
+        _ => read_deposit(line.text, scope),
     }
 }
 
@@ -177,31 +172,28 @@ fn read_value_line<'a>(text: &[u8], scope: &Scope<'_>) -> Result<Command<'a>, Wr
     match text {
         [place @ .., b'/'] => Ok(Command::Open(address(place, scope)?)),
         [front @ .., b'='] => Ok(Command::Tell(value(front, scope)?)),
-        _ => {
-            if let Some(line) = behind_escape(text) {
-                if let Some(command) = read_escaped(line, scope) {
-                    return command;
-                }
-            }
-            Ok(Command::Deposit(value(text, scope)?))
-        }
+        _ => match behind_escape(text) {
+            Some(line) => read_escaped(line, scope),
+            None => read_deposit(text, scope),
+        },
     }
 }
 
 /// What a line asks for, or what is wrong with it. Numbers are octal, and decimal with a point behind
 /// them, but for those of the commands that begin with a point, which are decimal.
 pub fn read_line<'a>(line: &'a [u8], scope: &Scope<'_>) -> Result<Command<'a>, Wrong> {
-    if line.is_empty() {
-        return Ok(Command::Next);
-    }
-    if line == b"\t".as_slice() {
-        return Ok(Command::Addressed);
+    match line {
+        [] => return Ok(Command::Next),
+        [b'\t'] => return Ok(Command::Addressed),
+        _ => {}
     }
     let text = trimmed(line);
-    if let Some(command) = read_short(text) {
-        return Ok(command);
-    }
     match text {
+        [b'^'] => Ok(Command::Before),
+        [b'='] => Ok(Command::Last(Last::Octal)),
+        [b'_'] => Ok(Command::Last(Last::Symbolic)),
+        [b';'] => Ok(Command::Last(Last::Text)),
+        [b';', ..] => Ok(Command::Remark),
         [b'.', first, ..] if first.is_ascii_alphabetic() => read_own(&text[1..], scope),
         _ => read_value_line(text, scope),
     }

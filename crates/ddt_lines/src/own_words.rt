@@ -19,25 +19,32 @@ const MOST_HISTORY: u64 = 1000;
 /// The word behind the point.
 #[derive(Clone, Copy)]
 enum OwnWord {
+    /// One behind which nothing stands.
+    Alone(AloneWord),
     Back,
     Break,
     Do,
     Ex,
-    Forward,
     Help,
     History,
     Job,
+    Save,
+    Step,
+    Tick,
+    Type,
+    Watch,
+}
+
+/// A word behind the point that stands alone.
+#[derive(Clone, Copy)]
+enum AloneWord {
+    Forward,
     Jobs,
     Locks,
     Quit,
     Regs,
-    Save,
-    Step,
     Take,
-    Tick,
-    Type,
     Waits,
-    Watch,
 }
 
 /// The words behind the point.
@@ -46,20 +53,20 @@ static WORDS: [(&str, OwnWord); 19] = [
     ("BREAK", OwnWord::Break),
     ("DO", OwnWord::Do),
     ("EX", OwnWord::Ex),
-    ("FORWARD", OwnWord::Forward),
+    ("FORWARD", OwnWord::Alone(AloneWord::Forward)),
     ("HELP", OwnWord::Help),
     ("HISTORY", OwnWord::History),
     ("JOB", OwnWord::Job),
-    ("JOBS", OwnWord::Jobs),
-    ("LOCKS", OwnWord::Locks),
-    ("QUIT", OwnWord::Quit),
-    ("REGS", OwnWord::Regs),
+    ("JOBS", OwnWord::Alone(AloneWord::Jobs)),
+    ("LOCKS", OwnWord::Alone(AloneWord::Locks)),
+    ("QUIT", OwnWord::Alone(AloneWord::Quit)),
+    ("REGS", OwnWord::Alone(AloneWord::Regs)),
     ("SAVE", OwnWord::Save),
     ("STEP", OwnWord::Step),
-    ("TAKE", OwnWord::Take),
+    ("TAKE", OwnWord::Alone(AloneWord::Take)),
     ("TICK", OwnWord::Tick),
     ("TYPE", OwnWord::Type),
-    ("WAITS", OwnWord::Waits),
+    ("WAITS", OwnWord::Alone(AloneWord::Waits)),
     ("WATCH", OwnWord::Watch),
 ];
 
@@ -99,19 +106,33 @@ fn count(text: &[u8], least: u64, most: u64, default: u64) -> Result<u64, Wrong>
     }
 }
 
-/// A number in decimal that fits in 32 bits.
+/// A number in decimal from 1 to `most`, or `default` where nothing is written.
 fn short_count(text: &[u8], most: u64, default: u64) -> Result<u32, Wrong> {
     let number = count(text, 1, most, default)?;
-    match u32::try_from(number) {
-        Ok(number) => Ok(number),
-        Err(_) => Err(Wrong::NoCount),
+    u32::try_from(number).or(Err(Wrong::NoCount))
+}
+
+/// `.HISTORY n`, `.STEP n` and `.TICK n`.
+fn read_counted<'a>(word: OwnWord, text: &[u8]) -> Result<Command<'a>, Wrong> {
+    let (most, default) = match word {
+        OwnWord::History => (MOST_HISTORY, 10),
+        OwnWord::Tick => (MOST_TICKS, 1),
+        _ => (MOST_STEPS, 1),
+    };
+    let count = short_count(text, most, default)?;
+    match word {
+        OwnWord::History => Ok(Command::History(count)),
+        OwnWord::Tick => Ok(Command::Tick(count)),
+        _ => Ok(Command::Step(count)),
     }
 }
 
-/// The number of a job.
-fn job_number(text: &[u8]) -> Result<u8, Wrong> {
+/// `.JOB n`.
+fn read_job<'a>(text: &[u8]) -> Result<Command<'a>, Wrong> {
     match decimal(text) {
-        Some(number) if 1 <= number && number <= u64::from(JOBS) => Ok(number as u8),
+        Some(number) if 1 <= number && number <= u64::from(JOBS) => {
+            Ok(Command::Job(number as u8))
+        }
         _ => Err(Wrong::NoJob),
     }
 }
@@ -128,12 +149,15 @@ fn read_type(text: &[u8]) -> Result<Command<'_>, Wrong> {
 /// `.BACK n`, `.BACK TO a` and `.BACK WRITE a`.
 fn read_back<'a>(text: &'a [u8], scope: &Scope<'_>) -> Result<Command<'a>, Wrong> {
     let (word, place) = cut_word(text);
-    if is_word(word, b"TO") {
-        Ok(Command::BackTo(address(place, scope)?))
-    } else if is_word(word, b"WRITE") {
-        Ok(Command::BackWrite(address(place, scope)?))
+    let is_to = is_word(word, b"TO");
+    if !is_to && !is_word(word, b"WRITE") {
+        return Ok(Command::Back(count(text, 0, 1 << 39, 1)?));
+    }
+    let place = address(place, scope)?;
+    if is_to {
+        Ok(Command::BackTo(place))
     } else {
-        Ok(Command::Back(count(text, 0, 1 << 39, 1)?))
+        Ok(Command::BackWrite(place))
     }
 }
 
@@ -141,25 +165,35 @@ fn read_back<'a>(text: &'a [u8], scope: &Scope<'_>) -> Result<Command<'a>, Wrong
 fn read_break<'a>(text: &'a [u8], scope: &Scope<'_>) -> Result<Command<'a>, Wrong> {
     let (word, rest) = cut_word(text);
     if is_word(word, b"GRANT") {
-        return Ok(Command::BreakGrant);
+        Ok(Command::BreakGrant)
+    } else if is_word(word, b"CIRCLE") {
+        Ok(Command::BreakCircle)
+    } else if !is_word(word, b"LOCK") {
+        Ok(Command::Break(address(text, scope)?, None))
+    } else if rest.is_empty() {
+        Err(Wrong::NoLock)
+    } else {
+        Ok(Command::BreakLock(rest))
     }
-    if is_word(word, b"CIRCLE") {
-        return Ok(Command::BreakCircle);
-    }
-    if is_word(word, b"LOCK") {
-        return if rest.is_empty() {
-            Err(Wrong::NoLock)
-        } else {
-            Ok(Command::BreakLock(rest))
-        };
-    }
-    Ok(Command::Break(address(text, scope)?, None))
 }
 
 /// `.EX a-b` and `.EX a`.
 fn read_examine<'a>(text: &[u8], scope: &Scope<'_>) -> Result<Command<'a>, Wrong> {
     let (first, last) = cut_at(text, b'-').unwrap_or((text, text));
     Ok(Command::Examine(address(first, scope)?, address(last, scope)?))
+}
+
+/// What a word that stands alone asks for.
+fn command_of(word: AloneWord) -> Command<'static> {
+    match word {
+        AloneWord::Forward => Command::Forward,
+        AloneWord::Jobs => Command::Jobs,
+        AloneWord::Locks => Command::Locks,
+        AloneWord::Quit => Command::Quit,
+        AloneWord::Regs => Command::Registers,
+        AloneWord::Take => Command::Take,
+        AloneWord::Waits => Command::Waits,
+    }
 }
 
 /// The command behind the point, which begins with a letter.
@@ -169,26 +203,18 @@ pub fn read_own<'a>(text: &'a [u8], scope: &Scope<'_>) -> Result<Command<'a>, Wr
         return Err(Wrong::NoCommand);
     };
     match own {
+        OwnWord::Alone(_) if !rest.is_empty() => Err(Wrong::BehindCommand),
+        OwnWord::Alone(word) => Ok(command_of(word)),
         OwnWord::Back => read_back(rest, scope),
         OwnWord::Break => read_break(rest, scope),
         OwnWord::Do | OwnWord::Save if rest.is_empty() => Err(Wrong::NoFile),
         OwnWord::Do => Ok(Command::Do(rest)),
         OwnWord::Ex => read_examine(rest, scope),
         OwnWord::Help => Ok(Command::Help(rest)),
-        OwnWord::History => Ok(Command::History(short_count(rest, MOST_HISTORY, 10)?)),
-        OwnWord::Job => Ok(Command::Job(job_number(rest)?)),
+        OwnWord::History | OwnWord::Step | OwnWord::Tick => read_counted(own, rest),
+        OwnWord::Job => read_job(rest),
         OwnWord::Save => Ok(Command::Save(rest)),
-        OwnWord::Step => Ok(Command::Step(short_count(rest, MOST_STEPS, 1)?)),
-        OwnWord::Tick => Ok(Command::Tick(short_count(rest, MOST_TICKS, 1)?)),
         OwnWord::Type => read_type(rest),
         OwnWord::Watch => Ok(Command::Watch(address(rest, scope)?)),
-        _ if !rest.is_empty() => Err(Wrong::BehindCommand),
-        OwnWord::Forward => Ok(Command::Forward),
-        OwnWord::Jobs => Ok(Command::Jobs),
-        OwnWord::Locks => Ok(Command::Locks),
-        OwnWord::Quit => Ok(Command::Quit),
-        OwnWord::Regs => Ok(Command::Registers),
-        OwnWord::Take => Ok(Command::Take),
-        OwnWord::Waits => Ok(Command::Waits),
     }
 }

@@ -36,7 +36,7 @@ pub enum Refusal {
 }
 
 impl Refusal {
-    /// What a person is told; nothing of numbers.
+    /// What a person is told; nothing where a number is told too.
     fn text(self) -> &'static str {
         match self {
             Refusal::NotOpen => "? no place is open: a/ opens one",
@@ -47,7 +47,7 @@ impl Refusal {
             Refusal::NotSet => "? that breakpoint is not set",
             Refusal::NoWatchFree => "? 8 words are watched already",
             Refusal::NotStopped => "? no job can be started: the open one is not stopped",
-            Refusal::FewSteps(_) => "? so many steps were made: ",
+            Refusal::FewSteps(_) => "",
             Refusal::NeverWritten => "? no step has changed that word",
             Refusal::NeverThere => "? the job did not stand there before any step",
             Refusal::LineFull => "? the terminal line has no room for more",
@@ -59,10 +59,9 @@ impl Refusal {
 
 impl fmt::Display for Refusal {
     fn fmt<W: fmt::Write>(&self, f: &mut fmt::Formatter<W>) -> fmt::Result {
-        f.write_str(self.text())?;
         match *self {
-            Refusal::FewSteps(steps) => write!(f, "{steps}"),
-            _ => Ok(()),
+            Refusal::FewSteps(steps) => write!(f, "? so many steps were made: {steps}"),
+            refusal => f.write_str(refusal.text()),
         }
     }
 }

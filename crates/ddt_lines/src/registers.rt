@@ -4,6 +4,7 @@ use crate::places::ShownJob;
 use run_machine::Machine;
 use run_notes::Reference;
 use std::alloc::{AllocError, Global};
+use std::fmt;
 use word36::Word;
 
 /// How many accumulators there are.
@@ -11,6 +12,30 @@ const ACCUMULATORS: u32 = 16;
 
 /// So many of them stand in a line.
 const IN_A_LINE: u32 = 4;
+
+/// The accumulators of a job, four in a line.
+#[derive(Clone, Copy)]
+struct Accumulators<'a> {
+    machine: &'a Machine,
+    /// The number of the job.
+    number: u8,
+}
+
+impl fmt::Display for Accumulators<'_> {
+    fn fmt<W: fmt::Write>(&self, f: &mut fmt::Formatter<W>) -> fmt::Result {
+        for register in 0..ACCUMULATORS {
+            let word = self.machine.peek(self.number, register);
+            let word = word.unwrap_or(Word::new(0));
+            let end = if register % IN_A_LINE == IN_A_LINE - 1 {
+                "\n"
+            } else {
+                "  "
+            };
+            write!(f, "{register:>2o}/ {word}{end}")?;
+        }
+        Ok(())
+    }
+}
 
 /// The PC of a job and its accumulators, four in a line; that it is gone, where it is.
 pub fn register_lines(
@@ -26,16 +51,6 @@ pub fn register_lines(
         places: &job.places,
         address: view.pc.number(),
     };
-    let mut text = format!(in alloc; "job {number}, PC {spot}\n")?;
-    for register in 0..ACCUMULATORS {
-        let word = machine.peek(number, register).unwrap_or(Word::new(0));
-        let end = if register % IN_A_LINE == IN_A_LINE - 1 {
-            "\n"
-        } else {
-            "  "
-        };
-        let one = format!(in alloc; "{register:>2o}/ {}{end}", word.octal().as_str())?;
-        text.push_str(one.as_str())?;
-    }
-    Ok(text)
+    let accumulators = Accumulators { machine, number };
+    format!(in alloc; "job {number}, PC {spot}\n{accumulators}")
 }

@@ -1,6 +1,6 @@
 //! Words, in each of the ways in which they are shown.
 
-use crate::characters::{ascii_code, sixbit_code};
+use crate::characters::{Codes, ascii_codes, sixbit_codes};
 use crate::commands::Look;
 use crate::places::ShownJob;
 use run_notes::{InstructionText, Reference};
@@ -23,15 +23,13 @@ pub struct WordText<'a> {
 
 /// Writes five characters of ASCII between quotation marks, and six of SIXBIT between apostrophes.
 fn write_text<W: fmt::Write>(word: Word, f: &mut fmt::Formatter<W>) -> fmt::Result {
-    f.write_str("ASCII \"")?;
-    for place in 0..5u8 {
-        f.write_char(char::from(ascii_code(word, place)))?;
-    }
-    f.write_str("\", SIXBIT '")?;
-    for place in 0..6u8 {
-        f.write_char(char::from(sixbit_code(word, place)))?;
-    }
-    f.write_str("'")
+    let ascii = Codes {
+        codes: &ascii_codes(word),
+    };
+    let sixbit = Codes {
+        codes: &sixbit_codes(word),
+    };
+    write!(f, "ASCII \"{ascii}\", SIXBIT '{sixbit}'")
 }
 
 /// A digit of a number.
@@ -47,38 +45,26 @@ fn digit(value: u64) -> u8 {
 /// How many digits a number of 36 bits has at most, in the radix 2.
 const DIGITS: usize = 36;
 
-/// Writes a number in a radix.
-fn write_number<W: fmt::Write>(number: u64, radix: u8, f: &mut fmt::Formatter<W>) -> fmt::Result {
-    let radix = u64::from(radix.max(2));
-    let mut digits = [b'0'; DIGITS];
-    let mut left = number;
-    let mut first = DIGITS - 1;
-    for step in 0..DIGITS {
-        let place = DIGITS - 1 - step;
-        digits[place] = digit(left % radix);
-        if digits[place] != b'0' {
-            first = place;
-        }
-        left /= radix;
-    }
-    for place in 0..DIGITS {
-        if place >= first {
-            f.write_char(char::from(digits[place]))?;
-        }
-    }
-    if radix == 10 {
-        f.write_str(".")?;
-    }
-    Ok(())
-}
-
 /// Writes a word as a signed number of a radix; a point stands behind one in decimal.
 fn write_radix<W: fmt::Write>(word: Word, radix: u8, f: &mut fmt::Formatter<W>) -> fmt::Result {
     let value = word.signed();
-    if value < 0 {
-        f.write_str("-")?;
+    let base = u64::from(radix.max(2));
+    let mut left = value.unsigned_abs();
+    let mut digits = [b'0'; DIGITS];
+    let mut first = DIGITS - 1;
+    for place in (0..DIGITS).rev() {
+        digits[place] = digit(left % base);
+        if digits[place] != b'0' {
+            first = place;
+        }
+        left /= base;
     }
-    write_number(value.unsigned_abs(), radix, f)
+    let digits = Codes {
+        codes: &digits[first..],
+    };
+    let sign = if value < 0 { "-" } else { "" };
+    let point = if radix == 10 { "." } else { "" };
+    write!(f, "{sign}{digits}{point}")
 }
 
 impl WordText<'_> {
@@ -104,9 +90,9 @@ impl fmt::Display for WordText<'_> {
                     places: self.places,
                     word: self.word,
                 };
-                write!(f, "{text}")
+                text.fmt(f)
             }
-            Look::Octal => f.write_str(self.word.octal().as_str()),
+            Look::Octal => self.word.fmt(f),
             Look::Text => write_text(self.word, f),
             Look::Halves => self.write_halves(f),
             Look::Radix(radix) => write_radix(self.word, radix, f),

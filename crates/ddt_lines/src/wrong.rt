@@ -1,6 +1,8 @@
 //! What is wrong with a line.
 
+use crate::characters::{Codes, sixbit_codes};
 use std::fmt;
+use word36::Word;
 
 /// What is wrong with a line.
 #[derive(Clone, Copy, Drop)]
@@ -77,14 +79,11 @@ impl Wrong {
 
 /// Writes the name of a symbol that is not defined.
 fn write_undefined<W: fmt::Write>(name: u64, f: &mut fmt::Formatter<W>) -> fmt::Result {
-    f.write_str("U ")?;
-    for place in 0..6u32 {
-        let code = (name >> (30 - 6 * place) & 0o77) as u8;
-        if code != 0 {
-            f.write_char(char::from(code + 0o40))?;
-        }
-    }
-    Ok(())
+    let codes = sixbit_codes(Word::low_bits(name));
+    let name = Codes {
+        codes: codes.trim_ascii_end(),
+    };
+    write!(f, "U {name}")
 }
 
 impl fmt::Display for Wrong {
