@@ -1,10 +1,9 @@
 //! Whole lines.
-ghost use Rattle.std.specs.Prelude.{◌<◌, length, IfSome};
 
 use crate::commands::{Command, Last, Look, Search, SearchKind};
 use crate::numbers::{decimal, octal};
 use crate::own_words::read_own;
-use crate::reader::{cut_at, trimmed};
+use crate::reader::{cut_at, cut_at_last, trimmed};
 use crate::values::{Scope, address, value};
 use crate::wrong::Wrong;
 use word36::Word;
@@ -28,13 +27,6 @@ struct Escaped<'a> {
     letter: u8,
 }
 
-/// The place of the last `$`.
-fn last_escape(text: &[u8]) -> Option<usize>
-    ensures within { IfSome result (λ i. i < length text.now) }
-{
-    text.iter().rposition(|byte| *byte == b'$')
-}
-
 /// Whether all characters are digits.
 fn are_digits(text: &[u8]) -> bool {
     for byte in text {
@@ -47,9 +39,8 @@ fn are_digits(text: &[u8]) -> bool {
 
 /// The command behind the last ESC of a line, where there is one: digits and a letter.
 fn behind_escape(text: &[u8]) -> Option<Escaped<'_>> {
-    let place = last_escape(text)?;
-    let before = &text[..place];
-    let (letter, digits) = text[place + 1..].split_last()?;
+    let (before, behind) = cut_at_last(text, b'$')?;
+    let (letter, digits) = behind.split_last()?;
     if !letter.is_ascii_alphabetic() || !are_digits(digits) {
         return None;
     }

@@ -1,23 +1,19 @@
 //! What of a text is still to be read.
-ghost use Rattle.std.specs.Prelude.{◌<◌, length, IfSome};
+
+use crate::values::Scope;
 
 /// What of a text is still to be read.
 #[derive(Clone, Copy)]
 pub struct Reader<'a> {
     /// The bytes.
     pub rest: &'a [u8],
+    /// What its symbols stand for.
+    pub scope: &'a Scope<'a>,
 }
 
 /// Whether a byte may stand in a number or a name.
 pub fn is_word_character(byte: u8) -> bool {
     byte.is_ascii_alphanumeric() || byte == b'.' || byte == b'%'
-}
-
-/// The place of the first byte that can stand in no number and no name.
-fn word_end(text: &[u8]) -> Option<usize>
-    ensures within { IfSome result (λ i. i < length text.now) }
-{
-    text.iter().position(|byte| !is_word_character(*byte))
 }
 
 /// A text without the blanks before it and behind it.
@@ -33,6 +29,17 @@ pub fn cut_at(text: &[u8], byte: u8) -> Option<(&[u8], &[u8])> {
         }
     }
     None
+}
+
+/// What stands before the last byte of this kind, and what behind it.
+pub fn cut_at_last(text: &[u8], byte: u8) -> Option<(&[u8], &[u8])> {
+    let mut parts = None;
+    for (i, one) in text.iter().enumerate() {
+        if *one == byte {
+            parts = Some((&text[..i], &text[i + 1..]));
+        }
+    }
+    parts
 }
 
 impl<'a> Reader<'a> {
@@ -55,15 +62,13 @@ impl<'a> Reader<'a> {
     /// Passes the characters of a number or a name, as many as come, and gives them.
     pub fn word(&mut self) -> &'a [u8] {
         let text = self.rest;
-        match word_end(text) {
-            Some(end) => {
-                self.rest = &text[end..];
-                &text[..end]
-            }
-            None => {
-                self.rest = &[];
-                text
+        for (i, byte) in text.iter().enumerate() {
+            if !is_word_character(*byte) {
+                self.rest = &text[i..];
+                return &text[..i];
             }
         }
+        self.rest = &[];
+        text
     }
 }

@@ -3,7 +3,7 @@
 use crate::numbers::{decimal, octal};
 use crate::reader::Reader;
 use crate::wrong::Wrong;
-use arrayvec::{ArrayString, ArrayVec};
+use arrayvec::ArrayString;
 use ka_isa::{Named, named};
 use word36::{Word, sixbit};
 
@@ -31,13 +31,18 @@ pub struct Scope<'a> {
 /// How many characters of a name count.
 const NAME_CHARACTERS: usize = 6;
 
-/// The name of a word in upper case characters, the first six of which count.
-fn name_of(word: &[u8]) -> u64 {
-    let mut upper = ArrayVec::<u8, NAME_CHARACTERS>::new();
+/// The first six characters of a word, in upper case.
+fn upper(word: &[u8]) -> ArrayString<NAME_CHARACTERS> {
+    let mut upper = ArrayString::new();
     for byte in word.iter().take(NAME_CHARACTERS) {
-        let _ = upper.try_push(byte.to_ascii_uppercase());
+        let _ = upper.try_push(char::from(byte.to_ascii_uppercase()));
     }
-    match sixbit(upper.as_slice()) {
+    upper
+}
+
+/// The name of a word, of which the first six characters count.
+fn name_of(word: &[u8]) -> u64 {
+    match sixbit(upper(word).as_str().as_bytes()) {
         Some(name) => name.number(),
         None => 0,
     }
@@ -57,57 +62,46 @@ impl Scope<'_> {
 
 /// The value of a number or a name: digits are octal, and decimal where a point stands behind them.
 fn word_value(word: &[u8], scope: &Scope<'_>) -> Result<Word, Wrong> {
-    let Some(first) = word.first().copied() else {
-        return Err(Wrong::NoValue);
-    };
-    if first == b'.' && word.len() == 1 {
-        return Ok(scope.here);
-    }
-    if !first.is_ascii_digit() {
-        let name = name_of(word);
-        return scope.value_of(name).ok_or(Wrong::Undefined(name));
-    }
-    if let [digits @ .., b'.'] = word {
-        return match decimal(digits) {
+    match word {
+        [] => Err(Wrong::NoValue),
+        [b'.'] => Ok(scope.here),
+        [first, ..] if !first.is_ascii_digit() => {
+            let name = name_of(word);
+            scope.value_of(name).ok_or(Wrong::Undefined(name))
+        }
+        [digits @ .., b'.'] => match decimal(digits) {
             Some(number) => Ok(Word::low_bits(number)),
             None => Err(Wrong::NoDecimal),
-        };
+        },
+        _ => octal(word).ok_or(Wrong::NoOctal),
     }
-    octal(word).ok_or(Wrong::NoOctal)
 }
 
 /// A term: a number, a name, `.` or `$Q`.
-fn term(reader: &mut Reader<'_>, scope: &Scope<'_>) -> Result<Word, Wrong> {
+fn term(reader: &mut Reader<'_>) -> Result<Word, Wrong> {
     reader.skip();
     if reader.eat(b'$') {
-        if reader.eat(b'Q') || reader.eat(b'q') {
-            return Ok(scope.last);
-        }
-        return Err(Wrong::NoEscape);
+        return if reader.eat(b'Q') || reader.eat(b'q') {
+            Ok(reader.scope.last)
+        } else {
+            Err(Wrong::NoEscape)
+        };
     }
     let word = reader.word();
-    let value = word_value(word, scope)?;
     reader.skip();
-    Ok(value)
-}
-
-/// A sum less a word.
-fn less(value: Word, other: Word) -> Word {
-    value.sum(other.not(), true)
+    word_value(word, reader.scope)
 }
 
 /// A sum of terms with `+` and `-`, a sign before the first allowed.
-fn sum(reader: &mut Reader<'_>, scope: &Scope<'_>) -> Result<Word, Wrong> {
+fn sum(reader: &mut Reader<'_>) -> Result<Word, Wrong> {
     reader.skip();
     let mut value = Word::new(0);
     let mut is_minus = reader.eat(b'-');
     for _ in 0..reader.rest.len().saturating_add(1) {
-        let term = term(reader, scope)?;
-        value = if is_minus {
-            less(value, term)
-        } else {
-            value.sum(term, false)
-        };
+        let term = term(reader)?;
+        // A word is taken away by its complement and one.
+        let added = if is_minus { term.not() } else { term };
+        value = value.sum(added, is_minus);
         is_minus = reader.eat(b'-');
         if !is_minus && !reader.eat(b'+') {
             break;
@@ -117,14 +111,13 @@ fn sum(reader: &mut Reader<'_>, scope: &Scope<'_>) -> Result<Word, Wrong> {
 }
 
 /// A sum, or two with `,,` between them for the halves of a word.
-fn halves(reader: &mut Reader<'_>, scope: &Scope<'_>) -> Result<Word, Wrong> {
-    let first = sum(reader, scope)?;
-    if !reader.rest.starts_with(b",,".as_slice()) {
+fn halves(reader: &mut Reader<'_>) -> Result<Word, Wrong> {
+    let first = sum(reader)?;
+    let [b',', b',', rest @ ..] = reader.rest else {
         return Ok(first);
-    }
-    reader.eat(b',');
-    reader.eat(b',');
-    let second = sum(reader, scope)?;
+    };
+    reader.rest = rest;
+    let second = sum(reader)?;
     Ok(Word::join(first.right(), second.right()))
 }
 
@@ -139,18 +132,13 @@ struct Operand {
 
 /// An address with or without `@`; 0 where none stands before an index register, or where none is written
 /// and none has to be.
-fn read_operand(
-    reader: &mut Reader<'_>,
-    scope: &Scope<'_>,
-    may_be_empty: bool,
-) -> Result<Operand, Wrong> {
+fn read_operand(reader: &mut Reader<'_>, may_be_empty: bool) -> Result<Operand, Wrong> {
     reader.skip();
     let is_indirect = reader.eat(b'@');
-    let is_empty = may_be_empty && reader.rest.is_empty();
-    let address = if is_empty || reader.rest.starts_with(b"(".as_slice()) {
-        0
-    } else {
-        sum(reader, scope)?.right()
+    let address = match reader.rest {
+        [] if may_be_empty => 0,
+        [b'(', ..] => 0,
+        _ => sum(reader)?.right(),
     };
     Ok(Operand {
         is_indirect,
@@ -159,11 +147,11 @@ fn read_operand(
 }
 
 /// The index register between parentheses, or 0.
-fn index_register(reader: &mut Reader<'_>, scope: &Scope<'_>) -> Result<u32, Wrong> {
+fn index_register(reader: &mut Reader<'_>) -> Result<u32, Wrong> {
     if !reader.eat(b'(') {
         return Ok(0);
     }
-    let index = sum(reader, scope)?;
+    let index = sum(reader)?;
     if !reader.eat(b')') {
         return Err(Wrong::NoParenthesis);
     }
@@ -171,18 +159,18 @@ fn index_register(reader: &mut Reader<'_>, scope: &Scope<'_>) -> Result<u32, Wro
 }
 
 /// Puts an accumulator, an address and an index register to an instruction.
-fn with_operands(reader: &mut Reader<'_>, scope: &Scope<'_>, word: Word) -> Result<Word, Wrong> {
+fn with_operands(reader: &mut Reader<'_>, word: Word) -> Result<Word, Wrong> {
     reader.skip();
     if reader.rest.is_empty() {
         return Ok(word);
     }
     let mut accumulator = 0;
-    let mut last = read_operand(reader, scope, false)?;
+    let mut last = read_operand(reader, false)?;
     if !last.is_indirect && reader.eat(b',') {
         accumulator = last.address & 0o17;
-        last = read_operand(reader, scope, true)?;
+        last = read_operand(reader, true)?;
     }
-    let index = index_register(reader, scope)?;
+    let index = index_register(reader)?;
     let number = word.number()
         | u64::from(accumulator) << 23
         | u64::from(last.is_indirect) << 22
@@ -196,29 +184,20 @@ fn instruction_of(word: &[u8], scope: &Scope<'_>) -> Option<Named> {
     if word.len() > NAME_CHARACTERS || scope.value_of(name_of(word)).is_some() {
         return None;
     }
-    let mut name = ArrayString::<6>::new();
-    for byte in word {
-        if name
-            .try_push(char::from(byte.to_ascii_uppercase()))
-            .is_err()
-        {
-            return None;
-        }
-    }
-    named(name.as_str())
+    named(upper(word).as_str())
 }
 
 /// The value of a text: a sum, two halves, or an instruction.
 pub fn value(text: &[u8], scope: &Scope<'_>) -> Result<Word, Wrong> {
-    let mut reader = Reader { rest: text };
+    let mut reader = Reader { rest: text, scope };
     reader.skip();
     let mut ahead = reader;
     let word = ahead.word();
     let value = match instruction_of(word, scope) {
-        Some(instruction) => with_operands(&mut ahead, scope, instruction.word)?,
+        Some(instruction) => with_operands(&mut ahead, instruction.word)?,
         None => {
             ahead = reader;
-            halves(&mut ahead, scope)?
+            halves(&mut ahead)?
         }
     };
     ahead.skip();
