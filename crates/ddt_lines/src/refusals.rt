@@ -35,10 +35,10 @@ pub enum Refusal {
     NoTurns,
 }
 
-impl Refusal {
-    /// What a person is told; nothing where a number is told too.
-    fn text(self) -> &'static str {
-        match self {
+impl fmt::Display for Refusal {
+    fn fmt<W: fmt::Write>(&self, f: &mut fmt::Formatter<W>) -> fmt::Result {
+        let text = match *self {
+            Refusal::FewSteps(steps) => return write!(f, "? so many steps were made: {steps}"),
             Refusal::NotOpen => "? no place is open: a/ opens one",
             Refusal::NoLock => "? a lock is named as in .BREAK LOCK A, or by its code as #17",
             Refusal::NoWord => "? the job has no word there",
@@ -47,21 +47,12 @@ impl Refusal {
             Refusal::NotSet => "? that breakpoint is not set",
             Refusal::NoWatchFree => "? 8 words are watched already",
             Refusal::NotStopped => "? no job can be started: the open one is not stopped",
-            Refusal::FewSteps(_) => "",
             Refusal::NeverWritten => "? no step has changed that word",
             Refusal::NeverThere => "? the job did not stand there before any step",
             Refusal::LineFull => "? the terminal line has no room for more",
             Refusal::WrongOrder => "? the first place is behind the last",
             Refusal::NoTurns => "? the job has had no turn",
-        }
-    }
-}
-
-impl fmt::Display for Refusal {
-    fn fmt<W: fmt::Write>(&self, f: &mut fmt::Formatter<W>) -> fmt::Result {
-        match *self {
-            Refusal::FewSteps(steps) => write!(f, "? so many steps were made: {steps}"),
-            refusal => f.write_str(refusal.text()),
-        }
+        };
+        f.write_str(text)
     }
 }

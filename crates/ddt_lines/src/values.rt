@@ -192,19 +192,17 @@ pub fn value(text: &[u8], scope: &Scope<'_>) -> Result<Word, Wrong> {
     let mut reader = Reader { rest: text, scope };
     reader.skip();
     let mut ahead = reader;
-    let word = ahead.word();
-    let value = match instruction_of(word, scope) {
-        Some(instruction) => with_operands(&mut ahead, instruction.word)?,
+    let value = match instruction_of(ahead.word(), scope) {
+        Some(instruction) => with_operands(&mut ahead, instruction.word),
         None => {
             ahead = reader;
-            halves(&mut ahead)?
+            halves(&mut ahead)
         }
     };
     ahead.skip();
-    if ahead.rest.is_empty() {
-        Ok(value)
-    } else {
-        Err(Wrong::Behind)
+    match value {
+        Ok(_) if !ahead.rest.is_empty() => Err(Wrong::Behind),
+        value => value,
     }
 }
 
