@@ -47,17 +47,17 @@ impl Stops {
     /// Why a run that one of them ended stopped.
     pub fn cause(&self, stop: Option<usize>) -> Option<Cause> {
         let at = stop?;
-        let number = self.numbers.as_slice().get(at).copied()?;
-        let cause = match self.stops.as_slice().get(at)? {
+        let stop = self.stops.as_slice().get(at).copied()?;
+        let number = self.numbers.as_slice().get(at).copied().unwrap_or(0);
+        match stop {
             Stop::Place(job, place) if number > 0 => {
-                Cause::Breakpoint(number, *job, place.number())
+                Some(Cause::Breakpoint(number, job, place.number()))
             }
-            Stop::Word(job, place, was) => Cause::Word(*job, *place, *was),
-            Stop::Circle => Cause::Circle,
-            Stop::Input => Cause::Input,
-            _ => Cause::Own,
-        };
-        Some(cause)
+            Stop::Word(job, place, was) => Some(Cause::Word(job, place, was)),
+            Stop::Circle => Some(Cause::Circle),
+            Stop::Input => Some(Cause::Input),
+            _ => Some(Cause::Own),
+        }
     }
 }
 

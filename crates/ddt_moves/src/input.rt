@@ -23,14 +23,14 @@ struct Typed {
     next: usize,
 }
 
-/// How many bytes stand before the first LF.
-fn line_length(text: &[u8]) -> usize {
+/// What stands before the first LF.
+fn first_line(text: &[u8]) -> &[u8] {
     for (i, byte) in text.iter().enumerate() {
         if *byte == b'\n' {
-            return i;
+            return &text[..i];
         }
     }
-    text.len()
+    text
 }
 
 /// The line that begins at a place, without its LF and a CR before that, and where the next begins;
@@ -40,7 +40,7 @@ pub fn line_from(text: &[u8], start: usize) -> Option<(&[u8], usize)> {
     if rest.is_empty() {
         return None;
     }
-    let line = rest.get(..line_length(rest))?;
+    let line = first_line(rest);
     let next = start.saturating_add(line.len()).saturating_add(1);
     match line {
         [front @ .., b'\r'] => Some((front, next)),

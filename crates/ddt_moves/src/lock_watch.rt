@@ -70,12 +70,12 @@ fn first_caller(
     before: &[Option<Address>; NUMBERS],
     places: &[Option<Address>; NUMBERS],
     ran: Option<u8>,
-) -> Result<Option<u8>, AllocError> {
+) -> Result<Option<Cause>, AllocError> {
     for number in 1..JOBS + 1 {
         let at = usize::from(number);
         let has_come = ran == Some(number) || places[at] != before[at];
         if has_come && stands_at_call(alloc, machine, number, name)? {
-            return Ok(Some(number));
+            return Ok(Some(Cause::Call(number)));
         }
     }
     Ok(None)
@@ -117,32 +117,18 @@ impl<'a> LockWatch<'a> {
         Ok(false)
     }
 
-    /// The first job that came to a call on the lock, if there is one, in a round in which a job ran and
-    /// behind which the jobs stand at these places.
-    fn caller(
-        &self,
-        machine: &Machine,
-        places: &[Option<Address>; NUMBERS],
-        ran: Option<u8>,
-    ) -> Result<Option<u8>, AllocError> {
-        match &self.list.lock {
-            Some(name) => first_caller(self.alloc, machine, name, &self.places, places, ran),
-            None => Ok(None),
-        }
-    }
-
     /// Why the run ends behind a round in which a job ran, if it does.
     fn look(&mut self, machine: &Machine, ran: Option<u8>) -> Result<Option<Cause>, AllocError> {
         if self.sees_grant(machine)? {
             return Ok(Some(Cause::Grant));
         }
         let places = places_of(machine);
-        let caller = self.caller(machine, &places, ran)?;
-        self.places = places;
-        match caller {
-            Some(number) => Ok(Some(Cause::Call(number))),
+        let cause = match &self.list.lock {
+            Some(name) => first_caller(self.alloc, machine, name, &self.places, &places, ran),
             None => Ok(None),
-        }
+        };
+        self.places = places;
+        cause
     }
 }
 

@@ -1,6 +1,6 @@
 //! What has happened to a machine, once more and step by step.
 
-use ddt_session::{Entry, Timeline, perform, round, ticks_of};
+use ddt_session::{Entry, Timeline, let_go, perform, round};
 use run_machine::Machine;
 use std::alloc::AllocError;
 
@@ -13,7 +13,6 @@ pub struct Replay<'a> {
     part: u32,
     /// What is left of the steps of an entry.
     left: u32,
-    ticks: u64,
     steps: u64,
 }
 
@@ -25,22 +24,18 @@ impl<'a> Replay<'a> {
             entries: timeline.entries(),
             part: timeline.part(),
             left: 0,
-            ticks: 0,
             steps: 0,
         })
     }
 
     /// Ends it, and gives back the memory that it has.
-    pub fn end(self) {}
+    pub fn end(self) {
+        let_go(self.machine);
+    }
 
     /// The machine.
     pub fn machine(&self) -> &Machine {
         &self.machine
-    }
-
-    /// How many ticks went by.
-    pub fn ticks(&self) -> u64 {
-        self.ticks
     }
 
     /// How many steps were made.
@@ -61,7 +56,6 @@ impl<'a> Replay<'a> {
                     Entry::Rounds(count) => self.left = *count,
                     _ => {
                         perform(&mut self.machine, entry);
-                        self.ticks = self.ticks.saturating_add(u64::from(ticks_of(entry)));
                     }
                 }
                 self.entries = later;
@@ -89,7 +83,6 @@ impl<'a> Replay<'a> {
             return None;
         }
         self.left -= 1;
-        self.ticks = self.ticks.saturating_add(1);
         self.steps = self.steps.saturating_add(1);
         round(&mut self.machine)
     }
@@ -108,7 +101,6 @@ impl<'a> Replay<'a> {
             };
             self.machine.steps(count, true);
             self.left -= count;
-            self.ticks = self.ticks.saturating_add(u64::from(count));
             self.steps = self.steps.saturating_add(u64::from(count));
         }
     }

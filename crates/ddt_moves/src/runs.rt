@@ -43,7 +43,7 @@ pub fn run_to(
     most: u32,
     grants: &mut String,
 ) -> Result<Ended, AllocError> {
-    if list.looks_at_locks() {
+    if list.grants || list.lock.is_some() {
         return run_watched(timeline, stops, list, most, grants);
     }
     let ran = timeline.run(stops.stops.as_slice(), most, &mut NoWatch)?;

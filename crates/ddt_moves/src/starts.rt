@@ -41,11 +41,11 @@ pub fn start_jobs(timeline: &mut Timeline, lines: u8, open: u8) -> Result<bool, 
             any = true;
         }
     }
-    if !any && is_stopped(timeline.machine(), open) {
-        start(timeline, open)?;
-        any = true;
+    if any || !is_stopped(timeline.machine(), open) {
+        return Ok(any);
     }
-    Ok(any)
+    start(timeline, open)?;
+    Ok(true)
 }
 
 /// A job goes on, where CTRL-C or EXIT 1 stopped it.
@@ -76,21 +76,15 @@ pub fn cause_at_start(
     lines: u8,
     list: &StopList,
 ) -> Result<Option<Cause>, AllocError> {
-    match breakpoint_of(timeline.machine(), list) {
-        Some(cause) => Ok(Some(cause)),
-        None => first_standing(timeline.alloc(), timeline.machine(), lines, list),
-    }
-}
-
-/// The first breakpoint where its job stands.
-fn breakpoint_of(machine: &Machine, list: &StopList) -> Option<Cause> {
+    let machine = timeline.machine();
     for (i, breakpoint) in list.breakpoints.iter().enumerate() {
         if let Some(breakpoint) = breakpoint {
             let (job, place) = (breakpoint.job, breakpoint.place.number());
             if stands_at(machine, job, place) {
-                return Some(Cause::Breakpoint(i.saturating_add(1), job, place));
+                let number = i.saturating_add(1);
+                return Ok(Some(Cause::Breakpoint(number, job, place)));
             }
         }
     }
-    None
+    first_standing(timeline.alloc(), machine, lines, list)
 }

@@ -52,11 +52,6 @@ impl StopList {
         }
     }
 
-    /// Whether calls on locks or grants are looked at.
-    pub fn looks_at_locks(&self) -> bool {
-        self.grants || self.lock.is_some()
-    }
-
     /// The place among the breakpoints of one that stands there already, or of one that is free.
     fn free(&self, job: u8, place: Address) -> Option<usize> {
         let mut free = None;

@@ -14,8 +14,10 @@ fn type_byte(timeline: &mut Timeline, line: u8, byte: u8) -> Result<bool, AllocE
     let Some(character) = Char7::try_new(byte) else {
         return Ok(true);
     };
-    let answer = timeline.make(Entry::Typed(line, character))?;
-    Ok(!matches!(answer, Answer::Refused(RefusedEvent::Full)))
+    match timeline.make(Entry::Typed(line, character))? {
+        Answer::Refused(RefusedEvent::Full) => Ok(false),
+        _ => Ok(true),
+    }
 }
 
 /// Types a text and a line end; false where there is no room for all of it.

@@ -9,16 +9,13 @@ use word36::{Address, JOBS};
 /// So many numbers jobs and none have.
 pub(crate) const NUMBERS: usize = JOBS as usize + 1;
 
-/// Where a job stands, if it is there.
-fn place_of(machine: &Machine, number: u8) -> Option<Address> {
-    Some(machine.job(number)?.pc)
-}
-
 /// Where each job stands that is there.
 pub(crate) fn places_of(machine: &Machine) -> [Option<Address>; NUMBERS] {
     let mut places = [None; NUMBERS];
     for number in 0..NUMBERS {
-        places[number] = place_of(machine, number as u8);
+        if let Some(view) = machine.job(number as u8) {
+            places[number] = Some(view.pc);
+        }
     }
     places
 }
@@ -30,10 +27,8 @@ fn next_turn(replay: &mut Replay<'_>) -> Option<(u8, u32)> {
     }
     let places = places_of(replay.machine());
     let job = replay.step()?;
-    match places.get(usize::from(job)) {
-        Some(Some(place)) => Some((job, place.number())),
-        _ => None,
-    }
+    let place = places.get(usize::from(job)).copied().flatten()?;
+    Some((job, place.number()))
 }
 
 /// Whose turn the step behind so many was, and where that job stood before it.

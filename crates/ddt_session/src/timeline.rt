@@ -9,6 +9,7 @@ use crate::stops::{LookedAt, Ran, Stop, Watch, run_until};
 use monitor::{Answer, Config};
 use run_machine::Machine;
 use std::alloc::{AllocError, Global};
+use std::mem;
 use word36::{Address, Word};
 
 /// A machine with all that has happened to it.
@@ -104,6 +105,9 @@ fn places_of(alloc: Global, stops: &[Stop]) -> Result<Vec<Address>, AllocError> 
     }
     Ok(places)
 }
+
+/// Lets a machine go, and gives back the memory that it has.
+pub fn let_go(machine: Machine) {}
 
 impl Timeline {
     /// A machine to which nothing has happened.
@@ -244,7 +248,8 @@ impl Timeline {
         ensures entries { self.new.entries.items ≡ self.old.entries.items }
         ensures there { OnOk result ((self.new.whole ≡ whole) × (self.new.part ≡ part)) }
     {
-        self.machine = self.replayed(whole, part)?;
+        let machine = self.replayed(whole, part)?;
+        let_go(mem::replace(&mut self.machine, machine));
         self.whole = whole;
         self.part = part;
         Ok(())
