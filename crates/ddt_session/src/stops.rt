@@ -9,7 +9,7 @@ ghost use Rattle.ddt_session.specs.Stops.{is_word, looked, met_after, stands_at,
 ghost use Rattle.machine.specs.Views.{job_view};
 
 use job_sched::Wait;
-use monitor::{Answer, Event};
+use monitor::{Answer, Event, JobView};
 use run_facts::is_in_circle;
 use run_machine::Machine;
 use word36::{Address, Image, JOBS, Word};
@@ -209,16 +209,20 @@ fn first_met(machine: &Machine, ran: Option<u8>, stops: &[LookedAt]) -> Option<u
 
 /// Whether a job can go on now, or will by ticks alone.
 fn goes_on(machine: &Machine, number: u8) -> bool {
-    match machine.job(number) {
-        None => false,
-        Some(view) => {
-            view.stop.is_none()
-                && match view.wait {
-                    Wait::None | Wait::Sleep(_) => true,
-                    Wait::Queue(limit, _) => limit > 0,
-                    Wait::Char | Wait::Line | Wait::Room(_) => false,
-                }
-        }
+    let Some(
+        JobView {
+            stop: None,
+            wait,
+            ..
+        },
+    ) = machine.job(number)
+    else {
+        return false;
+    };
+    match wait {
+        Wait::None | Wait::Sleep(_) => true,
+        Wait::Queue(limit, _) => limit > 0,
+        Wait::Char | Wait::Line | Wait::Room(_) => false,
     }
 }
 
@@ -239,10 +243,14 @@ fn runs_on(machine: &Machine, ran: Option<u8>) -> bool {
     let Some(number) = ran else {
         return false;
     };
-    match machine.job(number) {
-        Some(view) => view.stop.is_none() && matches!(view.wait, Wait::None),
-        None => false,
-    }
+    matches!(
+        machine.job(number),
+        Some(JobView {
+            stop: None,
+            wait: Wait::None,
+            ..
+        })
+    )
 }
 
 /// Whether a place is one of some.
@@ -301,17 +309,6 @@ fn may_go_on(ran: &Ran, most: u32) -> bool
     ran.stop.is_none() && !ran.is_watched && ran.made < most
 }
 
-/// Whether what else a run is looked at for ends it behind a round in which a job ran, where no stop did.
-#[inline(always)]
-fn ends_run<W: Watch>(
-    watch: &mut W,
-    machine: &Machine,
-    job: Option<u8>,
-    stop: Option<usize>,
-) -> bool {
-    stop.is_none() && watch.is_met(machine, job)
-}
-
 /// Makes steps, each with a tick behind it, until a stop holds, so many are made, no job can go on, or
 /// what else is looked at ends the run. Where all stops are at these places and nothing else is looked
 /// at, the rounds of a job are made at once up to the first that leaves it at one of them.
@@ -342,7 +339,7 @@ pub fn run_until<W: Watch>(
         let rounds = machine.rounds_to(at_once.min(most - ran.made), places);
         ran.made += rounds.made;
         ran.stop = first_met(machine, rounds.job, stops);
-        ran.is_watched = ends_run(watch, machine, rounds.job, ran.stop);
+        ran.is_watched = ran.stop.is_none() && watch.is_met(machine, rounds.job);
         is_sure = runs_on(machine, rounds.job);
         look(machine, stops);
     }

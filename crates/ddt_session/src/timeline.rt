@@ -81,29 +81,24 @@ fn beginning(entries: &Vec<Entry>, count: usize) -> &[Entry]
     &entries.as_slice()[..count]
 }
 
-/// Some stops, to be looked at.
-fn looked_at(alloc: Global, stops: &[Stop]) -> Result<Vec<LookedAt>, AllocError> {
-    let mut looked = Vec::new(alloc);
+/// Adds some stops to those that are looked at, and their places to those of the others.
+fn add_stops(
+    stops: &[Stop],
+    looked: &mut Vec<LookedAt>,
+    places: &mut Vec<Address>,
+) -> Result<(), AllocError> {
+    // A stop may hold a word: the prover wants its type to be named.
+    let _word: Option<Word> = None;
     for stop in stops {
         looked.push(LookedAt {
             stop: *stop,
             stood: false,
         })?;
-    }
-    Ok(looked)
-}
-
-/// The places of some stops.
-fn places_of(alloc: Global, stops: &[Stop]) -> Result<Vec<Address>, AllocError> {
-    // A stop may hold a word, of which these have none: the prover wants its type to be named.
-    let _word: Option<Word> = None;
-    let mut places = Vec::new(alloc);
-    for stop in stops {
         if let Stop::Place(_, place) = *stop {
             places.push(place)?;
         }
     }
-    Ok(places)
+    Ok(())
 }
 
 /// Lets a machine go, and gives back the memory that it has.
@@ -216,8 +211,9 @@ impl Timeline {
         watch: &mut W,
     ) -> Result<Ran, AllocError> {
         self.cut()?;
-        let mut looked = looked_at(self.alloc, stops)?;
-        let places = places_of(self.alloc, stops)?;
+        let mut looked = Vec::new(self.alloc);
+        let mut places = Vec::new(self.alloc);
+        add_stops(stops, &mut looked, &mut places)?;
         let ran = run_until(
             &mut self.machine,
             looked.as_mut_slice(),
