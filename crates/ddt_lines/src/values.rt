@@ -121,33 +121,24 @@ fn halves(reader: &mut Reader<'_>) -> Result<Word, Wrong> {
     Ok(Word::join(first.right(), second.right()))
 }
 
-/// The address of an instruction.
-#[derive(Clone, Copy)]
-struct Operand {
-    /// Whether `@` stands before it.
-    is_indirect: bool,
-    /// Its 18 bits.
-    address: u32,
-}
+/// The bit of an instruction that makes its address indirect.
+const INDIRECT: u64 = 1 << 22;
 
-/// An address with or without `@`; 0 where none stands before an index register, or where none is written
-/// and none has to be.
-fn read_operand(reader: &mut Reader<'_>, may_be_empty: bool) -> Result<Operand, Wrong> {
+/// An address with or without `@`, as bits of an instruction; 0 where none stands before an index
+/// register, or where none is written and none has to be.
+fn read_operand(reader: &mut Reader<'_>, may_be_empty: bool) -> Result<u64, Wrong> {
     reader.skip();
-    let is_indirect = reader.eat(b'@');
+    let indirect = if reader.eat(b'@') { INDIRECT } else { 0 };
     let address = match reader.rest {
         [] if may_be_empty => 0,
         [b'(', ..] => 0,
         _ => sum(reader)?.right(),
     };
-    Ok(Operand {
-        is_indirect,
-        address,
-    })
+    Ok(indirect | u64::from(address))
 }
 
-/// The index register between parentheses, or 0.
-fn index_register(reader: &mut Reader<'_>) -> Result<u32, Wrong> {
+/// The index register between parentheses, as bits of an instruction, or 0.
+fn index_register(reader: &mut Reader<'_>) -> Result<u64, Wrong> {
     if !reader.eat(b'(') {
         return Ok(0);
     }
@@ -155,7 +146,7 @@ fn index_register(reader: &mut Reader<'_>) -> Result<u32, Wrong> {
     if !reader.eat(b')') {
         return Err(Wrong::NoParenthesis);
     }
-    Ok(index.right() & 0o17)
+    Ok((index.number() & 0o17) << 18)
 }
 
 /// Puts an accumulator, an address and an index register to an instruction.
@@ -165,17 +156,13 @@ fn with_operands(reader: &mut Reader<'_>, word: Word) -> Result<Word, Wrong> {
         return Ok(word);
     }
     let mut accumulator = 0;
-    let mut last = read_operand(reader, false)?;
-    if !last.is_indirect && reader.eat(b',') {
-        accumulator = last.address & 0o17;
-        last = read_operand(reader, true)?;
+    let mut address = read_operand(reader, false)?;
+    if address & INDIRECT == 0 && reader.eat(b',') {
+        accumulator = (address & 0o17) << 23;
+        address = read_operand(reader, true)?;
     }
     let index = index_register(reader)?;
-    let number = word.number()
-        | u64::from(accumulator) << 23
-        | u64::from(last.is_indirect) << 22
-        | u64::from(index) << 18
-        | u64::from(last.address);
+    let number = word.number() | accumulator | index | address;
     Ok(Word::low_bits(number))
 }
 

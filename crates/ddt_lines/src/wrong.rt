@@ -49,11 +49,19 @@ pub enum Wrong {
     BehindCommand,
 }
 
-impl Wrong {
-    /// What a person is told; nothing of a symbol.
-    fn text(self) -> &'static str {
-        match self {
-            Wrong::Undefined(_) => "",
+/// Writes the name of a symbol that is not defined.
+fn write_undefined<W: fmt::Write>(name: u64, f: &mut fmt::Formatter<W>) -> fmt::Result {
+    let codes = sixbit_codes(Word::low_bits(name));
+    let name = Codes {
+        codes: codes.trim_ascii_end(),
+    };
+    write!(f, "U {name}")
+}
+
+impl fmt::Display for Wrong {
+    fn fmt<W: fmt::Write>(&self, f: &mut fmt::Formatter<W>) -> fmt::Result {
+        let text = match *self {
+            Wrong::Undefined(name) => return write_undefined(name, f),
             Wrong::NoValue => "? a value is wanted",
             Wrong::NoDecimal => "? no number in decimal below 2^40",
             Wrong::NoOctal => "? no number in octal",
@@ -73,24 +81,7 @@ impl Wrong {
             Wrong::NoMask => "? before > a mask behind < is wanted",
             Wrong::NoRadix => "? a radix is from 2 to 16, in decimal",
             Wrong::BehindCommand => "? nothing may stand behind this command",
-        }
-    }
-}
-
-/// Writes the name of a symbol that is not defined.
-fn write_undefined<W: fmt::Write>(name: u64, f: &mut fmt::Formatter<W>) -> fmt::Result {
-    let codes = sixbit_codes(Word::low_bits(name));
-    let name = Codes {
-        codes: codes.trim_ascii_end(),
-    };
-    write!(f, "U {name}")
-}
-
-impl fmt::Display for Wrong {
-    fn fmt<W: fmt::Write>(&self, f: &mut fmt::Formatter<W>) -> fmt::Result {
-        match *self {
-            Wrong::Undefined(name) => write_undefined(name, f),
-            wrong => f.write_str(wrong.text()),
-        }
+        };
+        f.write_str(text)
     }
 }
