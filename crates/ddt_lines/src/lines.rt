@@ -3,7 +3,7 @@
 use crate::commands::{Command, Last, Look, Search, SearchKind};
 use crate::numbers::{decimal, octal};
 use crate::own_words::read_own;
-use crate::reader::{cut_at, cut_at_last, trimmed};
+use crate::reader::{cut_at, cut_at_last};
 use crate::values::{Scope, address, value};
 use crate::wrong::Wrong;
 use word36::Word;
@@ -40,16 +40,17 @@ fn are_digits(text: &[u8]) -> bool {
 /// The command behind the last ESC of a line, where there is one: digits and a letter.
 fn behind_escape(text: &[u8]) -> Option<Escaped<'_>> {
     let (before, behind) = cut_at_last(text, b'$')?;
-    let (letter, digits) = behind.split_last()?;
-    if !letter.is_ascii_alphabetic() || !are_digits(digits) {
-        return None;
+    match behind {
+        [digits @ .., letter] if letter.is_ascii_alphabetic() && are_digits(digits) => {
+            Some(Escaped {
+                text,
+                before,
+                digits,
+                letter: letter.to_ascii_uppercase(),
+            })
+        }
+        _ => None,
     }
-    Some(Escaped {
-        text,
-        before,
-        digits,
-        letter: letter.to_ascii_uppercase(),
-    })
 }
 
 /// `$B`, `a$B`, `a$nB` and `0$nB`.
@@ -178,7 +179,7 @@ pub fn read_line<'a>(line: &'a [u8], scope: &Scope<'_>) -> Result<Command<'a>, W
         [b'\t'] => return Ok(Command::Addressed),
         _ => {}
     }
-    let text = trimmed(line);
+    let text = line.trim_ascii();
     match text {
         [b'^'] => Ok(Command::Before),
         [b'='] => Ok(Command::Last(Last::Octal)),

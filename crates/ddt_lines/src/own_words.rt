@@ -2,7 +2,7 @@
 
 use crate::commands::Command;
 use crate::numbers::decimal;
-use crate::reader::{cut_at, trimmed};
+use crate::reader::cut_at;
 use crate::values::{Scope, address};
 use crate::wrong::Wrong;
 use word36::{JOBS, LINES};
@@ -73,7 +73,7 @@ static WORDS: [(&str, OwnWord); 19] = [
 /// The word that a text is, in upper or lower case.
 fn own_word(text: &[u8]) -> Option<OwnWord> {
     for (name, word) in &WORDS {
-        if is_word(text, name.as_bytes()) {
+        if text.eq_ignore_ascii_case(name.as_bytes()) {
             return Some(*word);
         }
     }
@@ -84,15 +84,10 @@ fn own_word(text: &[u8]) -> Option<OwnWord> {
 fn cut_word(text: &[u8]) -> (&[u8], &[u8]) {
     for (i, byte) in text.iter().enumerate() {
         if *byte == b' ' || *byte == b'\t' {
-            return (&text[..i], trimmed(&text[i + 1..]));
+            return (&text[..i], text[i + 1..].trim_ascii());
         }
     }
     (text, &[])
-}
-
-/// Whether a word is this one, in upper or lower case.
-fn is_word(word: &[u8], wanted: &[u8]) -> bool {
-    word.eq_ignore_ascii_case(wanted)
 }
 
 /// A number in decimal from `least` to `most`, or `default` where nothing is written.
@@ -106,12 +101,6 @@ fn count(text: &[u8], least: u64, most: u64, default: u64) -> Result<u64, Wrong>
     }
 }
 
-/// A number in decimal from 1 to `most`, or `default` where nothing is written.
-fn short_count(text: &[u8], most: u64, default: u64) -> Result<u32, Wrong> {
-    let number = count(text, 1, most, default)?;
-    u32::try_from(number).or(Err(Wrong::NoCount))
-}
-
 /// `.HISTORY n`, `.STEP n` and `.TICK n`.
 fn read_counted<'a>(word: OwnWord, text: &[u8]) -> Result<Command<'a>, Wrong> {
     let (most, default) = match word {
@@ -119,7 +108,10 @@ fn read_counted<'a>(word: OwnWord, text: &[u8]) -> Result<Command<'a>, Wrong> {
         OwnWord::Tick => (MOST_TICKS, 1),
         _ => (MOST_STEPS, 1),
     };
-    let count = short_count(text, most, default)?;
+    let count = count(text, 1, most, default)?;
+    let Ok(count) = u32::try_from(count) else {
+        return Err(Wrong::NoCount);
+    };
     match word {
         OwnWord::History => Ok(Command::History(count)),
         OwnWord::Tick => Ok(Command::Tick(count)),
@@ -149,8 +141,8 @@ fn read_type(text: &[u8]) -> Result<Command<'_>, Wrong> {
 /// `.BACK n`, `.BACK TO a` and `.BACK WRITE a`.
 fn read_back<'a>(text: &'a [u8], scope: &Scope<'_>) -> Result<Command<'a>, Wrong> {
     let (word, place) = cut_word(text);
-    let is_to = is_word(word, b"TO");
-    if !is_to && !is_word(word, b"WRITE") {
+    let is_to = word.eq_ignore_ascii_case(b"TO");
+    if !is_to && !word.eq_ignore_ascii_case(b"WRITE") {
         return Ok(Command::Back(count(text, 0, 1 << 39, 1)?));
     }
     let place = address(place, scope)?;
@@ -164,11 +156,11 @@ fn read_back<'a>(text: &'a [u8], scope: &Scope<'_>) -> Result<Command<'a>, Wrong
 /// `.BREAK a`, `.BREAK GRANT` and `.BREAK CIRCLE`.
 fn read_break<'a>(text: &'a [u8], scope: &Scope<'_>) -> Result<Command<'a>, Wrong> {
     let (word, rest) = cut_word(text);
-    if is_word(word, b"GRANT") {
+    if word.eq_ignore_ascii_case(b"GRANT") {
         Ok(Command::BreakGrant)
-    } else if is_word(word, b"CIRCLE") {
+    } else if word.eq_ignore_ascii_case(b"CIRCLE") {
         Ok(Command::BreakCircle)
-    } else if !is_word(word, b"LOCK") {
+    } else if !word.eq_ignore_ascii_case(b"LOCK") {
         Ok(Command::Break(address(text, scope)?, None))
     } else if rest.is_empty() {
         Err(Wrong::NoLock)

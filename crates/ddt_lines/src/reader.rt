@@ -11,16 +11,6 @@ pub struct Reader<'a> {
     pub scope: &'a Scope<'a>,
 }
 
-/// Whether a byte may stand in a number or a name.
-pub fn is_word_character(byte: u8) -> bool {
-    byte.is_ascii_alphanumeric() || byte == b'.' || byte == b'%'
-}
-
-/// A text without the blanks before it and behind it.
-pub fn trimmed(text: &[u8]) -> &[u8] {
-    text.trim_ascii()
-}
-
 /// What stands before the first byte of this kind, and what behind it.
 pub fn cut_at(text: &[u8], byte: u8) -> Option<(&[u8], &[u8])> {
     for (i, one) in text.iter().enumerate() {
@@ -63,7 +53,8 @@ impl<'a> Reader<'a> {
     pub fn word(&mut self) -> &'a [u8] {
         let text = self.rest;
         for (i, byte) in text.iter().enumerate() {
-            if !is_word_character(*byte) {
+            let is_inside = byte.is_ascii_alphanumeric() || *byte == b'.' || *byte == b'%';
+            if !is_inside {
                 self.rest = &text[i..];
                 return &text[..i];
             }

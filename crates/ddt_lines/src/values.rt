@@ -34,8 +34,11 @@ const NAME_CHARACTERS: usize = 6;
 /// The first six characters of a word, in upper case.
 fn upper(word: &[u8]) -> ArrayString<NAME_CHARACTERS> {
     let mut upper = ArrayString::new();
-    for byte in word.iter().take(NAME_CHARACTERS) {
-        let _ = upper.try_push(char::from(byte.to_ascii_uppercase()));
+    for byte in word {
+        let character = char::from(byte.to_ascii_uppercase());
+        if upper.try_push(character).is_err() {
+            break;
+        }
     }
     upper
 }

@@ -6,6 +6,7 @@ use crate::stop_lists::StopList;
 use crate::traces::stands_at;
 use ddt_session::{Entry, Timeline};
 use job_sched::Stop;
+use monitor::JobView;
 use run_machine::Machine;
 use std::alloc::AllocError;
 
@@ -41,20 +42,23 @@ pub fn start_jobs(timeline: &mut Timeline, lines: u8, open: u8) -> Result<bool, 
             any = true;
         }
     }
-    if any || !is_stopped(timeline.machine(), open) {
-        return Ok(any);
+    if !any && is_stopped(timeline.machine(), open) {
+        start(timeline, open)?;
+        any = true;
     }
-    start(timeline, open)?;
-    Ok(true)
+    Ok(any)
 }
 
 /// A job goes on, where CTRL-C or EXIT 1 stopped it.
 pub fn go_on(timeline: &mut Timeline, number: u8) -> Result<(), AllocError> {
-    let is_interrupted = match timeline.machine().job(number) {
-        Some(view) => view.stop == Some(Stop::Typed) || view.stop == Some(Stop::Monitor),
-        None => false,
-    };
-    if is_interrupted {
+    let view = timeline.machine().job(number);
+    if let Some(
+        JobView {
+            stop: Some(Stop::Typed | Stop::Monitor),
+            ..
+        },
+    ) = view
+    {
         timeline.make(Entry::Continue(number))?;
     }
     Ok(())
