@@ -66,13 +66,6 @@ fn place_of(entries: &[Entry], steps: u64) -> Option<(usize, u32)>
     Some((entries.len(), 0))
 }
 
-/// How many entries there are.
-fn count_of(entries: &Vec<Entry>) -> usize
-    ensures { result ≡ length entries.now.items }
-{
-    entries.as_slice().len()
-}
-
 /// The first of some entries, so many.
 fn beginning(entries: &Vec<Entry>, count: usize) -> &[Entry]
     requires { count ≤ length entries.now.items }
@@ -173,8 +166,7 @@ impl Timeline {
         ensures machine { self.new.machine ≡ self.old.machine }
         ensures end { OnOk result (self.old.whole ≡ length self.old.entries.items → (self.new.whole ≡ length self.new.entries.items) × (self.new.part ≡ 0)) }
     {
-        let count = count_of(&self.entries);
-        if self.whole == count && self.part > 0 {
+        if self.whole == self.entries.len() && self.part > 0 {
             self.entries.push(Entry::Rounds(self.part))?;
             self.whole += 1;
             self.part = 0;
