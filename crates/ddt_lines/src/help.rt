@@ -54,14 +54,12 @@ pub fn help_lines() -> &'static [&'static str] {
 /// Whether a word stands in the command that a line of the help is on, in upper or lower case: an empty one
 /// stands in each.
 pub fn is_help_on(line: &str, word: &[u8]) -> bool {
-    if word.is_empty() {
-        return true;
-    }
     let bytes = line.as_bytes();
-    let column = &bytes[..COLUMN.min(bytes.len())];
-    for part in column.windows(word.len().max(1)) {
-        if part.eq_ignore_ascii_case(word) {
-            return true;
+    for start in 0..COLUMN {
+        let end = start.saturating_add(word.len());
+        match bytes.get(start..end) {
+            Some(part) if end <= COLUMN && part.eq_ignore_ascii_case(word) => return true,
+            _ => {}
         }
     }
     false

@@ -94,11 +94,7 @@ impl<'a> Replay<'a> {
             if wanted == 0 || !self.go_before_step() {
                 return;
             }
-            let count = if wanted < u64::from(self.left) {
-                wanted as u32
-            } else {
-                self.left
-            };
+            let count = wanted.min(u64::from(self.left)) as u32;
             self.machine.steps(count, true);
             self.left -= count;
             self.steps = self.steps.saturating_add(u64::from(count));

@@ -47,27 +47,28 @@ fn tick(machine: &mut Machine, count: u32)
 pub fn perform(machine: &mut Machine, entry: &Entry) -> Answer
     ensures { machine.new ≡ made machine.old entry.now }
 {
-    match entry {
+    let event = match entry {
         Entry::Rounds(count) => {
             machine.steps(*count, true);
-            Answer::Done
+            return Answer::Done;
         }
-        Entry::Login(line, image) => machine.event(&Event::Login(*line, image)),
-        Entry::Start(number) => machine.event(&Event::Start(*number)),
-        Entry::Continue(number) => machine.event(&Event::Continue(*number)),
-        Entry::Kill(number) => machine.event(&Event::Kill(*number)),
-        Entry::Typed(line, character) => machine.event(&Event::Typed(*line, *character)),
-        Entry::Take(line) => machine.event(&Event::Take(*line, TAKEN_AT_ONCE)),
         Entry::Ticks(count) => {
             tick(machine, *count);
-            Answer::Done
+            return Answer::Done;
         }
         Entry::Deposit(number, place, word) => {
             machine.deposit(*number, *place, *word);
-            Answer::Done
+            return Answer::Done;
         }
-        Entry::StartAt(number, place) => machine.start_at(*number, *place),
-    }
+        Entry::StartAt(number, place) => return machine.start_at(*number, *place),
+        Entry::Login(line, image) => Event::Login(*line, image),
+        Entry::Start(number) => Event::Start(*number),
+        Entry::Continue(number) => Event::Continue(*number),
+        Entry::Kill(number) => Event::Kill(*number),
+        Entry::Typed(line, character) => Event::Typed(*line, *character),
+        Entry::Take(line) => Event::Take(*line, TAKEN_AT_ONCE),
+    };
+    machine.event(&event)
 }
 
 /// Makes entries happen one after the other.
