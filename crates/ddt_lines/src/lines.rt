@@ -73,17 +73,6 @@ fn read_breakpoint<'a>(line: Escaped<'_>, scope: &Scope<'_>) -> Result<Command<'
     }
 }
 
-/// `$G` and `a$G`.
-fn read_start<'a>(line: Escaped<'_>, scope: &Scope<'_>) -> Result<Command<'a>, Wrong> {
-    if !line.digits.is_empty() {
-        return Err(Wrong::NoEscape);
-    }
-    if line.before.is_empty() {
-        return Ok(Command::Go);
-    }
-    Ok(Command::GoAt(address(line.before, scope)?))
-}
-
 /// How often: the octal number before the ESC, or once.
 fn times(text: &[u8]) -> Option<u64> {
     match text {
@@ -128,14 +117,6 @@ fn read_search<'a>(line: Escaped<'_>, scope: &Scope<'_>) -> Result<Command<'a>, 
     Ok(Command::Search(Search { kind, value, mask }))
 }
 
-/// `$nR`: the radix is written in decimal.
-fn read_radix<'a>(digits: &[u8]) -> Result<Command<'a>, Wrong> {
-    match decimal(digits) {
-        Some(radix) if 2 <= radix && radix <= 16 => Ok(Command::Show(Look::Radix(radix as u8))),
-        _ => Err(Wrong::NoRadix),
-    }
-}
-
 /// A value, which is put in the place that is open.
 fn read_deposit<'a>(text: &[u8], scope: &Scope<'_>) -> Result<Command<'a>, Wrong> {
     Ok(Command::Deposit(value(text, scope)?))
@@ -146,10 +127,15 @@ fn read_escaped<'a>(line: Escaped<'_>, scope: &Scope<'_>) -> Result<Command<'a>,
     let is_alone = line.before.is_empty() && line.digits.is_empty();
     match line.letter {
         b'B' => read_breakpoint(line, scope),
-        b'G' => read_start(line, scope),
+        b'G' if is_alone => Ok(Command::Go),
+        b'G' if line.digits.is_empty() => Ok(Command::GoAt(address(line.before, scope)?)),
+        b'G' => Err(Wrong::NoEscape),
         b'P' | b'X' => read_moving(line),
         b'W' | b'N' | b'E' => read_search(line, scope),
-        b'R' if line.before.is_empty() => read_radix(line.digits),
+        b'R' if line.before.is_empty() => match decimal(line.digits) {
+            Some(radix) if 2 <= radix && radix <= 16 => Ok(Command::Show(Look::Radix(radix as u8))),
+            _ => Err(Wrong::NoRadix),
+        },
         b'S' if is_alone => Ok(Command::Show(Look::Symbolic)),
         b'C' if is_alone => Ok(Command::Show(Look::Octal)),
         b'T' if is_alone => Ok(Command::Show(Look::Text)),

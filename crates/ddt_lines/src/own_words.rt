@@ -119,16 +119,6 @@ fn read_counted<'a>(word: OwnWord, text: &[u8]) -> Result<Command<'a>, Wrong> {
     }
 }
 
-/// `.JOB n`.
-fn read_job<'a>(text: &[u8]) -> Result<Command<'a>, Wrong> {
-    match decimal(text) {
-        Some(number) if 1 <= number && number <= u64::from(JOBS) => {
-            Ok(Command::Job(number as u8))
-        }
-        _ => Err(Wrong::NoJob),
-    }
-}
-
 /// `.TYPE line text`.
 fn read_type(text: &[u8]) -> Result<Command<'_>, Wrong> {
     let (line, typed) = cut_word(text);
@@ -204,7 +194,12 @@ pub fn read_own<'a>(text: &'a [u8], scope: &Scope<'_>) -> Result<Command<'a>, Wr
         OwnWord::Ex => read_examine(rest, scope),
         OwnWord::Help => Ok(Command::Help(rest)),
         OwnWord::History | OwnWord::Step | OwnWord::Tick => read_counted(own, rest),
-        OwnWord::Job => read_job(rest),
+        OwnWord::Job => match decimal(rest) {
+            Some(number) if 1 <= number && number <= u64::from(JOBS) => {
+                Ok(Command::Job(number as u8))
+            }
+            _ => Err(Wrong::NoJob),
+        },
         OwnWord::Save => Ok(Command::Save(rest)),
         OwnWord::Type => read_type(rest),
         OwnWord::Watch => Ok(Command::Watch(address(rest, scope)?)),
