@@ -73,21 +73,20 @@ fn read_breakpoint<'a>(line: Escaped<'_>, scope: &Scope<'_>) -> Result<Command<'
     }
 }
 
-/// How often: the octal number before the ESC, or once.
-fn times(text: &[u8]) -> Option<u64> {
-    match text {
-        [] => Some(1),
-        [digits @ .., b'.'] => decimal(digits),
-        _ => Some(octal(text)?.number()),
-    }
-}
-
-/// `n$P`, `n$X` and `$$X`.
+/// `n$P`, `n$X` and `$$X`: how often stands before the ESC, or it is once.
 fn read_moving<'a>(line: Escaped<'_>) -> Result<Command<'a>, Wrong> {
     if line.letter == b'X' && line.before == b"$".as_slice() {
         return Ok(Command::ExecuteCall);
     }
-    match times(line.before) {
+    let times = match line.before {
+        [] => Some(1),
+        [digits @ .., b'.'] => decimal(digits),
+        digits => match octal(digits) {
+            Some(word) => Some(word.number()),
+            None => None,
+        },
+    };
+    match times {
         Some(times) if 1 <= times && times <= MOST_TIMES => {
             if line.letter == b'P' {
                 Ok(Command::Proceed(times as u32))

@@ -4,7 +4,7 @@ use crate::numbers::{decimal, octal};
 use crate::reader::Reader;
 use crate::wrong::Wrong;
 use arrayvec::ArrayString;
-use ka_isa::{Named, named};
+use ka_isa::named;
 use word36::{Word, sixbit};
 
 /// A symbol and what it stands for.
@@ -169,20 +169,20 @@ fn with_operands(reader: &mut Reader<'_>, word: Word) -> Result<Word, Wrong> {
     Ok(Word::low_bits(number))
 }
 
-/// The instruction that a word names, where it names one and no symbol.
-fn instruction_of(word: &[u8], scope: &Scope<'_>) -> Option<Named> {
-    if word.len() > NAME_CHARACTERS || scope.value_of(name_of(word)).is_some() {
-        return None;
-    }
-    named(upper(word).as_str())
-}
-
 /// The value of a text: a sum, two halves, or an instruction.
 pub fn value(text: &[u8], scope: &Scope<'_>) -> Result<Word, Wrong> {
     let mut reader = Reader { rest: text, scope };
     reader.skip();
     let mut ahead = reader;
-    let value = match instruction_of(ahead.word(), scope) {
+    let word = ahead.word();
+    // A symbol goes before an instruction of its name, and a longer word names none.
+    let is_other = word.len() > NAME_CHARACTERS || scope.value_of(name_of(word)).is_some();
+    let instruction = if is_other {
+        None
+    } else {
+        named(upper(word).as_str())
+    };
+    let value = match instruction {
         Some(instruction) => with_operands(&mut ahead, instruction.word),
         None => {
             ahead = reader;

@@ -67,21 +67,6 @@ fn write_radix<W: fmt::Write>(word: Word, radix: u8, f: &mut fmt::Formatter<W>) 
     write!(f, "{sign}{digits}{point}")
 }
 
-impl WordText<'_> {
-    /// Writes both halves, as labels where the program has them there.
-    fn write_halves<W: fmt::Write>(&self, f: &mut fmt::Formatter<W>) -> fmt::Result {
-        let left = Reference {
-            places: self.places,
-            address: self.word.left(),
-        };
-        let right = Reference {
-            places: self.places,
-            address: self.word.right(),
-        };
-        write!(f, "{left},,{right}")
-    }
-}
-
 impl fmt::Display for WordText<'_> {
     fn fmt<W: fmt::Write>(&self, f: &mut fmt::Formatter<W>) -> fmt::Result {
         match self.look {
@@ -94,7 +79,17 @@ impl fmt::Display for WordText<'_> {
             }
             Look::Octal => self.word.fmt(f),
             Look::Text => write_text(self.word, f),
-            Look::Halves => self.write_halves(f),
+            Look::Halves => {
+                let left = Reference {
+                    places: self.places,
+                    address: self.word.left(),
+                };
+                let right = Reference {
+                    places: self.places,
+                    address: self.word.right(),
+                };
+                write!(f, "{left},,{right}")
+            }
             Look::Radix(radix) => write_radix(self.word, radix, f),
         }
     }

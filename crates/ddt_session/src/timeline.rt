@@ -217,26 +217,15 @@ impl Timeline {
         Ok(ran)
     }
 
-    /// A second machine, to which so many whole entries have happened, and so many steps more.
-    #[tactic(auto, using(crate::proofs::RunLemmas::replayed))]
-    fn replayed(&self, whole: usize, part: u32) -> Result<Machine, AllocError>
-        requires { whole ≤ length self.now.entries.items }
-        ensures { IfOk result (λ machine. machine
-            ≡ reached self.now.entries.items whole part (at_boot MOST_REQUESTS self.now.config.blocks self.now.config.quantum)) }
-    {
-        let mut machine = Machine::boot(self.alloc, self.config)?;
-        play(&mut machine, beginning(&self.entries, whole));
-        machine.steps(part, true);
-        Ok(machine)
-    }
-
     /// Puts the machine where so many whole entries have happened, and so many steps more.
     fn go_to(&mut self, whole: usize, part: u32) -> Result<(), AllocError>
         requires { whole ≤ length self.old.entries.items }
         ensures entries { self.new.entries.items ≡ self.old.entries.items }
         ensures there { OnOk result ((self.new.whole ≡ whole) × (self.new.part ≡ part)) }
     {
-        let machine = self.replayed(whole, part)?;
+        let mut machine = Machine::boot(self.alloc, self.config)?;
+        play(&mut machine, beginning(&self.entries, whole));
+        machine.steps(part, true);
         let_go(mem::replace(&mut self.machine, machine));
         self.whole = whole;
         self.part = part;
