@@ -72,21 +72,24 @@ pub fn stops_of(
         stops: Vec::new(alloc),
         numbers: Vec::new(alloc),
     };
+    // That there is no memory for one is told at the end.
+    let mut added = Ok(());
     for stop in own {
-        stops.add(*stop, 0)?;
+        added = added.and(stops.add(*stop, 0));
     }
     for (i, breakpoint) in list.breakpoints.iter().enumerate() {
         if let Some(breakpoint) = breakpoint {
             let stop = Stop::Place(breakpoint.job, breakpoint.place);
-            stops.add(stop, i.saturating_add(1))?;
+            added = added.and(stops.add(stop, i.saturating_add(1)));
         }
     }
     for watched in list.words.as_slice() {
         let word = machine.peek(watched.job, watched.place);
-        stops.add(Stop::Word(watched.job, watched.place, word), 0)?;
+        added = added.and(stops.add(Stop::Word(watched.job, watched.place, word), 0));
     }
     if list.circles {
-        stops.add(Stop::Circle, 0)?;
+        added = added.and(stops.add(Stop::Circle, 0));
     }
+    added?;
     Ok(stops)
 }

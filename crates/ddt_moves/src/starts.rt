@@ -6,7 +6,6 @@ use crate::stop_lists::StopList;
 use crate::traces::stands_at;
 use ddt_session::{Entry, Timeline};
 use job_sched::Stop;
-use monitor::JobView;
 use run_machine::Machine;
 use std::alloc::AllocError;
 
@@ -51,14 +50,11 @@ pub fn start_jobs(timeline: &mut Timeline, lines: u8, open: u8) -> Result<bool, 
 
 /// A job goes on, where CTRL-C or EXIT 1 stopped it.
 pub fn go_on(timeline: &mut Timeline, number: u8) -> Result<(), AllocError> {
-    let view = timeline.machine().job(number);
-    if let Some(
-        JobView {
-            stop: Some(Stop::Typed | Stop::Monitor),
-            ..
-        },
-    ) = view
-    {
+    let stop = match timeline.machine().job(number) {
+        Some(view) => view.stop,
+        None => None,
+    };
+    if let Some(Stop::Typed | Stop::Monitor) = stop {
         timeline.make(Entry::Continue(number))?;
     }
     Ok(())

@@ -9,7 +9,7 @@ ghost use Rattle.ddt_session.specs.Stops.{is_word, looked, met_after, stands_at,
 ghost use Rattle.machine.specs.Views.{job_view};
 
 use job_sched::Wait;
-use monitor::{Answer, Event, JobView};
+use monitor::{Answer, Event};
 use run_facts::is_in_circle;
 use run_machine::Machine;
 use word36::{Address, Image, JOBS, Word};
@@ -209,20 +209,16 @@ fn first_met(machine: &Machine, ran: Option<u8>, stops: &[LookedAt]) -> Option<u
 
 /// Whether a job can go on now, or will by ticks alone.
 fn goes_on(machine: &Machine, number: u8) -> bool {
-    let Some(
-        JobView {
-            stop: None,
-            wait,
-            ..
-        },
-    ) = machine.job(number)
-    else {
-        return false;
-    };
-    match wait {
-        Wait::None | Wait::Sleep(_) => true,
-        Wait::Queue(limit, _) => limit > 0,
-        Wait::Char | Wait::Line | Wait::Room(_) => false,
+    match machine.job(number) {
+        None => false,
+        Some(view) => {
+            view.stop.is_none()
+                && match view.wait {
+                    Wait::None | Wait::Sleep(_) => true,
+                    Wait::Queue(limit, _) => limit > 0,
+                    Wait::Char | Wait::Line | Wait::Room(_) => false,
+                }
+        }
     }
 }
 
@@ -243,14 +239,10 @@ fn runs_on(machine: &Machine, ran: Option<u8>) -> bool {
     let Some(number) = ran else {
         return false;
     };
-    matches!(
-        machine.job(number),
-        Some(JobView {
-            stop: None,
-            wait: Wait::None,
-            ..
-        })
-    )
+    match machine.job(number) {
+        Some(view) => view.stop.is_none() && matches!(view.wait, Wait::None),
+        None => false,
+    }
 }
 
 /// Whether a place is one of some.
