@@ -40,6 +40,11 @@ impl AnswerText {
         self.add(text.as_bytes());
     }
 
+    /// Ends a line.
+    pub fn end_line(&mut self) {
+        self.say("\n");
+    }
+
     /// Adds a text that was just made, if there was memory for it.
     pub fn say_made(&mut self, made: Result<String, AllocError>) {
         match made {
@@ -64,7 +69,7 @@ impl AnswerText {
     pub fn echo(&mut self, line: &[u8]) {
         self.say("* ");
         self.add(line);
-        self.say("\n");
+        self.end_line();
     }
 
     /// There was no memory for something that belongs to the answer: in its place the session ends.

@@ -10,7 +10,7 @@ use monitor::Answer;
 use word36::{Address, Word};
 
 /// A value: it is put in the place that is open, which is closed by that.
-pub fn deposit(session: &mut Session<'_>, word: Word) {
+pub fn deposit(session: &mut Session, word: Word) {
     if !session.is_open {
         return session.answer.refuse(Refusal::NotOpen);
     }
@@ -31,14 +31,14 @@ pub fn deposit(session: &mut Session<'_>, word: Word) {
 }
 
 /// Makes an entry whose answer tells nothing.
-fn make(session: &mut Session<'_>, entry: Entry) {
+fn make(session: &mut Session, entry: Entry) {
     if session.timeline.make(entry).is_err() {
         session.answer.fail();
     }
 }
 
 /// `a$G`: the open job starts at a place, and the machine runs.
-pub fn start_at(session: &mut Session<'_>, place: u32) {
+pub fn start_at(session: &mut Session, place: u32) {
     let Some(place) = Address::try_new(place) else {
         return session.answer.refuse(Refusal::NoWord);
     };
@@ -50,12 +50,12 @@ pub fn start_at(session: &mut Session<'_>, place: u32) {
 }
 
 /// `.TICK n`: so many ticks go by.
-pub fn tick(session: &mut Session<'_>, count: u32) {
+pub fn tick(session: &mut Session, count: u32) {
     make(session, Entry::Ticks(count));
 }
 
 /// `.TYPE line text`: types a text and a line end at a line.
-pub fn type_at(session: &mut Session<'_>, line: u8, text: &[u8]) {
+pub fn type_at(session: &mut Session, line: u8, text: &[u8]) {
     match type_line(&mut session.timeline, line, text) {
         Ok(true) => {}
         Ok(false) => session.answer.refuse(Refusal::LineFull),
@@ -73,12 +73,12 @@ fn say_taken(answer: &mut AnswerText, line: u8, is_named: bool, bytes: &[u8]) {
     }
     answer.add(bytes);
     if *last != b'\n' {
-        answer.say("\n");
+        answer.end_line();
     }
 }
 
 /// `.TAKE`: tells what jobs have typed out.
-pub fn take(session: &mut Session<'_>) {
+pub fn take(session: &mut Session) {
     let before = session.answer.len();
     let is_named = session.jobs.len() > 1;
     for line in 0..session.lines() {

@@ -32,7 +32,7 @@ const REFUSAL_HEAD: &str = "? ";
 impl<R: ByteIn + Drop, W: ByteOut + Drop, E: ByteOut + Drop> Dialogue<R, W, E> {
     /// Takes the next line of the file that is obeyed, which is written before its answer, or else the
     /// next that is typed, for which a person is asked.
-    fn take_line(&mut self, session: &mut Session<'_>) -> Result<Came, Failure> {
+    fn take_line(&mut self, session: &mut Session) -> Result<Came, Failure> {
         let came = session.file_lines.next_line(&mut self.line)?;
         if came != Came::End {
             session.answer.echo(self.line.as_slice());
@@ -48,7 +48,7 @@ impl<R: ByteIn + Drop, W: ByteOut + Drop, E: ByteOut + Drop> Dialogue<R, W, E> {
 /// Serves lines until the session ends, and gives the exit status.
 pub fn serve_lines<F: Files + AllocGlobal, R: ByteIn + Drop, W: ByteOut + Drop, E: ByteOut + Drop>(
     rt: &F,
-    session: &mut Session<'_>,
+    session: &mut Session,
     dialogue: &mut Dialogue<R, W, E>,
 ) -> Result<u8, Failure> {
     for _ in 0..u64::MAX {
@@ -63,7 +63,7 @@ pub fn serve_lines<F: Files + AllocGlobal, R: ByteIn + Drop, W: ByteOut + Drop, 
 }
 
 /// What is asked of the program by what came: a line is obeyed, and kept where it asks for no file.
-fn wish_in<'a>(session: &mut Session<'_>, came: Came, line: &'a [u8]) -> Wish<'a> {
+fn wish_in<'a>(session: &mut Session, came: Came, line: &'a [u8]) -> Wish<'a> {
     match came {
         Came::End => Wish::Quit,
         Came::TooLong => {
@@ -91,7 +91,7 @@ fn has_kept(kept: &mut Vec<u8>, line: &[u8]) -> bool {
 /// Serves what came; false where the session ends.
 fn serve_line<F: Files + AllocGlobal>(
     rt: &F,
-    session: &mut Session<'_>,
+    session: &mut Session,
     came: Came,
     line: &[u8],
 ) -> bool {
@@ -112,7 +112,7 @@ fn serve_line<F: Files + AllocGlobal>(
 }
 
 /// The lines of this text of a file are obeyed next.
-fn begin_file(session: &mut Session<'_>, file: &str, text: Vec<u8>) {
+fn begin_file(session: &mut Session, file: &str, text: Vec<u8>) {
     match format!(in session.alloc; "{file}") {
         Ok(name) => session.file_lines = FileLines::new(name, text),
         Err(_) => session.answer.fail(),

@@ -6,7 +6,7 @@ use ddt_lines::Refusal;
 use ddt_moves::{last_at, last_write, turn_at};
 
 /// Puts the machine where so many steps were made, and shows what the open job executes there.
-fn put_back(session: &mut Session<'_>, steps: u64) {
+fn put_back(session: &mut Session, steps: u64) {
     session.is_open = false;
     match session.timeline.put_back(steps) {
         Ok(true) => session.show_next(),
@@ -19,7 +19,7 @@ fn put_back(session: &mut Session<'_>, steps: u64) {
 }
 
 /// `.BACK n`: so many steps back.
-pub fn back(session: &mut Session<'_>, steps: u64) {
+pub fn back(session: &mut Session, steps: u64) {
     let made = session.timeline.steps();
     if steps > made {
         return session.answer.refuse(Refusal::FewSteps(made));
@@ -28,7 +28,7 @@ pub fn back(session: &mut Session<'_>, steps: u64) {
 }
 
 /// `.BACK TO a`: to before the last step for which the open job stood at a place.
-pub fn back_to(session: &mut Session<'_>, place: u32) {
+pub fn back_to(session: &mut Session, place: u32) {
     match last_at(&session.timeline, session.open, place) {
         Ok(Some(steps)) => put_back(session, steps),
         Ok(None) => session.answer.refuse(Refusal::NeverThere),
@@ -38,7 +38,7 @@ pub fn back_to(session: &mut Session<'_>, place: u32) {
 
 /// `.BACK WRITE a`: to before the step that last changed a word of the open job. Which job that was and
 /// where it stood is told.
-pub fn back_to_write(session: &mut Session<'_>, place: u32) {
+pub fn back_to_write(session: &mut Session, place: u32) {
     let steps = match last_write(&session.timeline, session.open, place) {
         Ok(Some(steps)) => steps,
         Ok(None) => return session.answer.refuse(Refusal::NeverWritten),
@@ -49,7 +49,7 @@ pub fn back_to_write(session: &mut Session<'_>, place: u32) {
             session.say_spot(session.open, place);
             session.answer.say(" was last changed by ");
             say_turn(session, job, from);
-            session.answer.say("\n");
+            session.answer.end_line();
         }
         Ok(None) => {}
         Err(_) => session.answer.fail(),
@@ -58,7 +58,7 @@ pub fn back_to_write(session: &mut Session<'_>, place: u32) {
 }
 
 /// `.FORWARD`: to where `.BACK` was typed.
-pub fn forward(session: &mut Session<'_>) {
+pub fn forward(session: &mut Session) {
     session.is_open = false;
     match session.timeline.forward() {
         Ok(()) => session.show_next(),

@@ -28,14 +28,14 @@ fn say_turns(alloc: Global, replay: &mut Replay<'_>, job: &ShownJob, answer: &mu
         if ran == Some(job.number) {
             if let Some((place, word)) = next {
                 answer.say_made(place_line(alloc, job, place, word, Look::Symbolic));
-                answer.say("\n");
+                answer.end_line();
             }
         }
     }
 }
 
 /// Adds the lines of the turns of the open job that were made behind so many steps.
-fn say_turns_from(session: &mut Session<'_>, steps: u64) {
+fn say_turns_from(session: &mut Session, steps: u64) {
     let at = usize::from(session.open).saturating_sub(1);
     let Some(job) = session.jobs.as_slice().get(at) else {
         return;
@@ -51,7 +51,7 @@ fn say_turns_from(session: &mut Session<'_>, steps: u64) {
 }
 
 /// `.HISTORY n`: tells the last turns of the open job, so many at most.
-pub fn tell_history(session: &mut Session<'_>, most: u32) {
+pub fn tell_history(session: &mut Session, most: u32) {
     match last_turns(&session.timeline, session.open, most as usize) {
         Ok(turns) => match turns.first() {
             Some(first) => say_turns_from(session, first),

@@ -2,12 +2,10 @@
 
 use crate::answer_text::AnswerText;
 use crate::session::{Session, SessionJob};
-use ddt_lines::{ShownJob, Symbol};
+use ddt_lines::ShownJob;
 use ddt_session::Entry;
 use monitor::{Answer, RefusedEvent};
-use source_labels::{Assembled, Places, Program, Source, assemble_source, warnings_of};
-use std::alloc::{AllocError, Global};
-use word36::Word;
+use source_labels::{Assembled, Program, Source, assemble_source, warnings_of};
 
 /// The programs of sources, where all are right. What is wrong with them, or warnings, are told.
 fn assemble_all<'a>(told: &mut AnswerText, sources: &[Source<'a>]) -> Option<Vec<Program<'a>>> {
@@ -28,29 +26,11 @@ fn assemble_all<'a>(told: &mut AnswerText, sources: &[Source<'a>]) -> Option<Vec
     (programs.len() == sources.len()).then_some(programs)
 }
 
-/// The labels of a program, as symbols.
-fn symbols_of(alloc: Global, places: &Places) -> Result<Vec<Symbol>, AllocError> {
-    let mut symbols = Vec::new(alloc);
-    for label in places.labels.as_slice() {
-        symbols.push(Symbol {
-            name: label.name,
-            value: Word::low_bits(u64::from(label.place.number())),
-        })?;
-    }
-    Ok(symbols)
-}
-
 /// Adds a job that was logged in.
-fn add_job<'a>(session: &mut Session<'a>, file: &'a str, shown: ShownJob) {
-    let Ok(symbols) = symbols_of(session.alloc, &shown.places) else {
-        return session.answer.fail();
-    };
-    let job = SessionJob {
-        shown,
-        file,
-        symbols,
-    };
-    if session.jobs.push(job).is_err() {
+fn add_job(session: &mut Session, file: &str, shown: ShownJob) {
+    let mut job = SessionJob::new(session.alloc, shown);
+    let is_whole = job.name(file).is_ok();
+    if session.jobs.push(job).is_err() || !is_whole {
         session.answer.fail();
     }
 }
@@ -66,7 +46,7 @@ fn tell_refusal(told: &mut AnswerText, file: &str, answer: &Answer) {
 }
 
 /// Logs a program in at the next line, and adds its job; false where it is refused, which is told.
-fn log_in<'a>(session: &mut Session<'a>, program: Program<'a>) -> bool {
+fn log_in(session: &mut Session, program: Program<'_>) -> bool {
     let line = session.lines();
     let Program {
         file,
@@ -92,7 +72,7 @@ fn log_in<'a>(session: &mut Session<'a>, program: Program<'a>) -> bool {
 /// Assembles sources, and logs their programs in at lines from 0 on where all are right, none of which is
 /// started; false where one of them or of the programs is refused. What is told of that, and warnings, are
 /// the answer.
-pub fn begin<'a>(session: &mut Session<'a>, sources: &[Source<'a>]) -> bool {
+pub fn begin(session: &mut Session, sources: &[Source<'_>]) -> bool {
     let Some(programs) = assemble_all(&mut session.answer, sources) else {
         return false;
     };

@@ -8,7 +8,7 @@ use word36::Word;
 const PLACES: u32 = 0o1_000_000;
 
 /// Opens a place of the open job.
-pub fn open(session: &mut Session<'_>, place: u32) {
+pub fn open(session: &mut Session, place: u32) {
     if !session.show_place(place) {
         return session.answer.refuse(Refusal::NoWord);
     }
@@ -30,7 +30,7 @@ pub fn before(place: u32) -> u32 {
 }
 
 /// Tells the last quantity, shown so.
-pub fn tell_as(session: &mut Session<'_>, look: Look) {
+pub fn tell_as(session: &mut Session, look: Look) {
     if let Some(job) = session.open_job() {
         let line = word_line(session.alloc, &job.shown, session.last, look);
         session.answer.say_made(line);
@@ -47,13 +47,13 @@ pub fn look_of(last: Last) -> Look {
 }
 
 /// Tells a value in octal.
-pub fn tell_value(session: &mut Session<'_>, value: Word) {
+pub fn tell_value(session: &mut Session, value: Word) {
     session.last = value;
     tell_as(session, Look::Octal);
 }
 
 /// Shows the places from the first to the last.
-pub fn examine(session: &mut Session<'_>, first: u32, last: u32) {
+pub fn examine(session: &mut Session, first: u32, last: u32) {
     if last < first {
         return session.answer.refuse(Refusal::WrongOrder);
     }

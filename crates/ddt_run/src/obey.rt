@@ -32,7 +32,7 @@ pub enum Wish<'a> {
 
 /// Obeys a line, and adds to the answer. A wrong line is answered by what is wrong with it, and changes
 /// nothing.
-pub fn obey_line<'a>(session: &mut Session<'_>, line: &'a [u8]) -> Wish<'a> {
+pub fn obey_line<'a>(session: &mut Session, line: &'a [u8]) -> Wish<'a> {
     let read = read_line(line, &session.scope());
     match read {
         Ok(command) => {
@@ -53,7 +53,7 @@ fn tell_wrong(answer: &mut AnswerText, wrong: Wrong) {
 }
 
 /// What a command asks of the program.
-fn wish_of<'a>(session: &mut Session<'_>, command: &Command<'a>) -> Wish<'a> {
+fn wish_of<'a>(session: &mut Session, command: &Command<'a>) -> Wish<'a> {
     match *command {
         Command::Save(file) => match name_in(&mut session.answer, file) {
             Some(file) => Wish::Save(file),
@@ -79,7 +79,7 @@ fn name_in<'a>(answer: &mut AnswerText, file: &'a [u8]) -> Option<&'a str> {
 
 /// The name of a file whose lines are to be obeyed, or says that it is none, or that a line of such a file
 /// names it.
-fn file_to_obey<'a>(session: &mut Session<'_>, file: &'a [u8]) -> Option<&'a str> {
+fn file_to_obey<'a>(session: &mut Session, file: &'a [u8]) -> Option<&'a str> {
     let Some(obeyed) = session.file_lines.file() else {
         return name_in(&mut session.answer, file);
     };
@@ -92,7 +92,7 @@ fn file_to_obey<'a>(session: &mut Session<'_>, file: &'a [u8]) -> Option<&'a str
 }
 
 /// Does what a command asks of the session: looks at places, and sets stops.
-fn obey(session: &mut Session<'_>, command: &Command<'_>) {
+fn obey(session: &mut Session, command: &Command<'_>) {
     match *command {
         Command::Next => open(session, next_of(session.here)),
         Command::Before => open(session, before(session.here)),
@@ -116,7 +116,7 @@ fn obey(session: &mut Session<'_>, command: &Command<'_>) {
 }
 
 /// Does what a command asks of the machine, as to go on and back, and tells what it asks for of the jobs.
-fn obey_move(session: &mut Session<'_>, command: &Command<'_>) {
+fn obey_move(session: &mut Session, command: &Command<'_>) {
     match *command {
         Command::Go => go(session),
         Command::GoAt(place) => start_at(session, place),
@@ -148,7 +148,7 @@ fn tell_help(answer: &mut AnswerText, word: &[u8]) {
     for line in help_lines() {
         if is_help_on(line, word) {
             answer.say(line);
-            answer.say("\n");
+            answer.end_line();
             is_any = true;
         }
     }

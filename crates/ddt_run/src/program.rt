@@ -56,11 +56,7 @@ fn read_sources<'a, F: Files + AllocGlobal>(
 
 /// Reads the lines that are typed where a job waits, if a file of them is named; false where it cannot be
 /// read, which is told.
-fn read_input<F: Files + AllocGlobal>(
-    rt: &F,
-    asked: &Asked<'_>,
-    session: &mut Session<'_>,
-) -> bool {
+fn read_input<F: Files + AllocGlobal>(rt: &F, asked: &Asked<'_>, session: &mut Session) -> bool {
     let Some(file) = asked.input else {
         return true;
     };
@@ -108,10 +104,10 @@ fn tell_failure<E: ByteOut + Drop>(alloc: Global, failure: Failure, errors: &mut
 
 /// Reads what is asked for, and logs a job in for each source; gives the exit status where that fails.
 /// What is wrong, and warnings, are the answer, and what a person is told first.
-fn load<'a, F: Files + AllocGlobal>(
+fn load<F: Files + AllocGlobal>(
     rt: &F,
-    asked: &Asked<'a>,
-    session: &mut Session<'a>,
+    asked: &Asked<'_>,
+    session: &mut Session,
     is_person: bool,
 ) -> Option<u8> {
     let mut sources = Vec::new(session.alloc);
@@ -132,16 +128,10 @@ fn load<'a, F: Files + AllocGlobal>(
 
 /// Serves a session that has no jobs yet, and gives the exit status. What is told before the first line is
 /// read goes where a person is told what is wrong.
-fn serve_session<
-    'a,
-    F: Files + AllocGlobal,
-    R: ByteIn + Drop,
-    W: ByteOut + Drop,
-    E: ByteOut + Drop,
->(
+fn serve_session<F: Files + AllocGlobal, R: ByteIn + Drop, W: ByteOut + Drop, E: ByteOut + Drop>(
     rt: &F,
-    asked: &Asked<'a>,
-    session: &mut Session<'a>,
+    asked: &Asked<'_>,
+    session: &mut Session,
     dialogue: &mut Dialogue<R, W, E>,
 ) -> Result<u8, Failure> {
     let ended = load(rt, asked, session, dialogue.is_person);

@@ -16,7 +16,7 @@ const MOST_STEPS: u32 = 1_000_000_000;
 /// Makes steps until a stop holds, no job can go on, or so many are made. A run stops at its own stops,
 /// which come first, at those that were asked for, and where a job waits for characters as long as there
 /// are lines for it: the next one is typed.
-fn run(session: &mut Session<'_>, own: &[Stop], most: u32) -> Result<Ended, AllocError> {
+fn run(session: &mut Session, own: &[Stop], most: u32) -> Result<Ended, AllocError> {
     let machine = session.timeline.machine();
     let mut stops = stops_of(session.alloc, machine, own, &session.list)?;
     if session.input.is_left(session.timeline.happened()) {
@@ -26,11 +26,7 @@ fn run(session: &mut Session<'_>, own: &[Stop], most: u32) -> Result<Ended, Allo
 }
 
 /// Makes steps as `run` does, up to these stops.
-fn run_with_input(
-    session: &mut Session<'_>,
-    stops: &Stops,
-    most: u32,
-) -> Result<Ended, AllocError> {
+fn run_with_input(session: &mut Session, stops: &Stops, most: u32) -> Result<Ended, AllocError> {
     let mut left = most;
     for _ in 0..most {
         let before = session.timeline.steps();
@@ -52,7 +48,7 @@ fn run_with_input(
 
 /// Whether a run that ended so goes on: it came to where characters are waited for, or to where no job
 /// goes on, and the next line of the input is typed, or some job goes on behind its last one.
-fn goes_on(session: &mut Session<'_>, ended: Ended) -> Result<bool, AllocError> {
+fn goes_on(session: &mut Session, ended: Ended) -> Result<bool, AllocError> {
     let is_asked = matches!(ended.cause, Some(Cause::Input)) || ended.cause.is_none();
     if !is_asked || ended.is_cut {
         return Ok(false);
@@ -63,7 +59,7 @@ fn goes_on(session: &mut Session<'_>, ended: Ended) -> Result<bool, AllocError> 
 }
 
 /// Tells why a run ended, which could make so many steps.
-fn tell_run(session: &mut Session<'_>, ran: Result<Ended, AllocError>, most: u32) {
+fn tell_run(session: &mut Session, ran: Result<Ended, AllocError>, most: u32) {
     match ran {
         Ok(ended) => tell_end(session, ended, most),
         Err(_) => session.answer.fail(),
@@ -71,7 +67,7 @@ fn tell_run(session: &mut Session<'_>, ran: Result<Ended, AllocError>, most: u32
 }
 
 /// `$G`: starts jobs, and runs.
-pub fn go(session: &mut Session<'_>) {
+pub fn go(session: &mut Session) {
     let lines = session.lines();
     match start_jobs(&mut session.timeline, lines, session.open) {
         Ok(true) => run_from_start(session),
@@ -81,7 +77,7 @@ pub fn go(session: &mut Session<'_>) {
 }
 
 /// Runs where jobs were started just now: one that stands where runs stop stops the run before it begins.
-pub fn run_from_start(session: &mut Session<'_>) {
+pub fn run_from_start(session: &mut Session) {
     let lines = session.lines();
     match cause_at_start(&session.timeline, lines, &session.list) {
         Ok(Some(cause)) => tell_end(session, Ended::at_once(Some(cause)), MOST_STEPS),
@@ -91,7 +87,7 @@ pub fn run_from_start(session: &mut Session<'_>) {
 }
 
 /// The jobs go on, and pass so many breakpoints.
-fn go_past(session: &mut Session<'_>, passed: u32) -> Result<Ended, AllocError> {
+fn go_past(session: &mut Session, passed: u32) -> Result<Ended, AllocError> {
     go_on(&mut session.timeline, session.open)?;
     for _ in 0..passed {
         let ended = run(session, &[], MOST_STEPS)?;
@@ -103,14 +99,14 @@ fn go_past(session: &mut Session<'_>, passed: u32) -> Result<Ended, AllocError> 
 }
 
 /// `n$P`: the jobs go on, until so many breakpoints were come to.
-pub fn proceed(session: &mut Session<'_>, times: u32) {
+pub fn proceed(session: &mut Session, times: u32) {
     let ran = go_past(session, times.saturating_sub(1));
     tell_run(session, ran, MOST_STEPS);
 }
 
 /// So many instructions of the open job, behind each of which the next is told, or fewer where one is the
 /// last that it can execute now.
-fn execute_some(session: &mut Session<'_>, count: u32) -> Result<(), AllocError> {
+fn execute_some(session: &mut Session, count: u32) -> Result<(), AllocError> {
     let number = session.open;
     begin(&mut session.timeline, number)?;
     for _ in 0..count {
@@ -126,14 +122,14 @@ fn execute_some(session: &mut Session<'_>, count: u32) -> Result<(), AllocError>
 }
 
 /// `n$X`: so many instructions of the open job, behind each of which the next is told.
-pub fn execute(session: &mut Session<'_>, count: u32) {
+pub fn execute(session: &mut Session, count: u32) {
     if execute_some(session, count).is_err() {
         session.answer.fail();
     }
 }
 
 /// `$$X`: until the open job comes to the place behind its instruction, or the one behind that.
-pub fn execute_call(session: &mut Session<'_>) {
+pub fn execute_call(session: &mut Session) {
     // A stop may hold a word, of which these have none: the prover wants its type to be named.
     let _word: Option<Word> = None;
     let number = session.open;
@@ -154,7 +150,7 @@ pub fn execute_call(session: &mut Session<'_>) {
 }
 
 /// `.STEP n`: so many steps of the machine.
-pub fn step(session: &mut Session<'_>, count: u32) {
+pub fn step(session: &mut Session, count: u32) {
     match run(session, &[], count) {
         Ok(Ended { is_cut: true, .. }) => {
             session.is_open = false;

@@ -21,7 +21,7 @@ fn is_found(machine: &Machine, number: u8, search: &Search, word: Word) -> bool 
 }
 
 /// Shows the words of the open job's core that are searched for.
-pub fn search(session: &mut Session<'_>, search: &Search) {
+pub fn search(session: &mut Session, search: &Search) {
     let number = session.open;
     let Some(view) = session.timeline.machine().job(number) else {
         return session.tell_job(number);

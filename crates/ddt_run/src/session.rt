@@ -7,29 +7,52 @@ use ddt_moves::{InputLines, StopList};
 use ddt_session::Timeline;
 use job_sched::Wait;
 use monitor::JobView;
-use std::alloc::Global;
+use std::alloc::{AllocError, Global};
 use word36::{JOBS, Word};
 
 /// A job of a session.
 #[derive(Drop)]
-pub struct SessionJob<'a> {
+pub struct SessionJob {
     /// Its number, and where its labels and literals stand.
     pub shown: ShownJob,
     /// The name of its source's file.
-    pub file: &'a str,
+    pub file: String,
     /// Its labels.
     pub symbols: Vec<Symbol>,
 }
 
+impl SessionJob {
+    /// A job without a name and labels.
+    pub fn new(alloc: Global, shown: ShownJob) -> Self {
+        SessionJob {
+            shown,
+            file: String::new(alloc),
+            symbols: Vec::new(alloc),
+        }
+    }
+
+    /// Gives it the name of its source's file, and the labels of its places.
+    pub fn name(&mut self, file: &str) -> Result<(), AllocError> {
+        self.file.push_str(file)?;
+        for label in self.shown.places.labels.as_slice() {
+            self.symbols.push(Symbol {
+                name: label.name,
+                value: Word::low_bits(u64::from(label.place.number())),
+            })?;
+        }
+        Ok(())
+    }
+}
+
 /// A session.
 #[derive(Drop)]
-pub struct Session<'a> {
+pub struct Session {
     /// Where memory comes from.
     pub alloc: Global,
     /// The machine, with all that has happened to it.
     pub timeline: Timeline,
     /// The jobs, by number from 1 on, each at the terminal line behind that of the one before.
-    pub jobs: Vec<SessionJob<'a>>,
+    pub jobs: Vec<SessionJob>,
     /// The number of the job that is open.
     pub open: u8,
     /// How words are shown.
@@ -56,7 +79,7 @@ pub struct Session<'a> {
     pub file_lines: FileLines,
 }
 
-impl<'a> Session<'a> {
+impl Session {
     /// A session without jobs, whose first will be open, and where nothing was looked at.
     pub fn new(alloc: Global, timeline: Timeline) -> Self {
         Session {
@@ -84,7 +107,7 @@ fn is_running(view: &JobView) -> bool {
     view.stop.is_none() && view.wait == Wait::None
 }
 
-impl Session<'_> {
+impl Session {
     /// Ends the session, and gives back the memory that it has.
     pub fn end(self) {}
 
@@ -94,14 +117,14 @@ impl Session<'_> {
     }
 
     /// The job of a number.
-    fn job(&self, number: u8) -> Option<&SessionJob<'_>> {
+    fn job(&self, number: u8) -> Option<&SessionJob> {
         self.jobs
             .as_slice()
             .get(usize::from(number).saturating_sub(1))
     }
 
     /// The job that is open.
-    pub fn open_job(&self) -> Option<&SessionJob<'_>> {
+    pub fn open_job(&self) -> Option<&SessionJob> {
         self.job(self.open)
     }
 
@@ -137,7 +160,7 @@ impl Session<'_> {
             let line = place_line(self.alloc, &job.shown, place, word, self.look);
             self.answer.say_made(line);
         }
-        self.answer.say("\n");
+        self.answer.end_line();
         self.last = word;
         true
     }
@@ -157,7 +180,12 @@ impl Session<'_> {
     /// Adds the line on how a job stands.
     pub fn tell_job(&mut self, number: u8) {
         if let Some(job) = self.job(number) {
-            let line = job_line(self.alloc, self.timeline.machine(), &job.shown, job.file);
+            let line = job_line(
+                self.alloc,
+                self.timeline.machine(),
+                &job.shown,
+                job.file.as_str(),
+            );
             self.answer.say_made(line);
         }
     }

@@ -9,7 +9,7 @@ use script_io::Parts;
 use word36::Address;
 
 /// Sets a breakpoint of the open job.
-pub fn set(session: &mut Session<'_>, place: u32, number: Option<u8>) {
+pub fn set(session: &mut Session, place: u32, number: Option<u8>) {
     let Some(place) = Address::try_new(place) else {
         return session.answer.refuse(Refusal::NoWord);
     };
@@ -21,27 +21,27 @@ pub fn set(session: &mut Session<'_>, place: u32, number: Option<u8>) {
 }
 
 /// Takes a breakpoint away.
-pub fn unset(session: &mut Session<'_>, number: u8) {
+pub fn unset(session: &mut Session, number: u8) {
     if !session.list.unset(number) {
         session.answer.refuse(Refusal::NotSet);
     }
 }
 
 /// Adds the place of a job where runs stop, with which the line ends: ` job 1 LOOP+3`.
-fn say_stop(session: &mut Session<'_>, job: u8, place: u32) {
+fn say_stop(session: &mut Session, job: u8, place: u32) {
     session.answer.say_number(" job ", u64::from(job), " ");
     session.say_spot(job, place);
-    session.answer.say("\n");
+    session.answer.end_line();
 }
 
 /// The line on a breakpoint: `$1B job 1 LOOP+3`.
-fn tell_breakpoint(session: &mut Session<'_>, number: usize, breakpoint: Breakpoint) {
+fn tell_breakpoint(session: &mut Session, number: usize, breakpoint: Breakpoint) {
     session.answer.say_number("$", number as u64, "B");
     say_stop(session, breakpoint.job, breakpoint.place.number());
 }
 
 /// The line on a watched word: `watched job 1 COUNT`.
-fn tell_watched(session: &mut Session<'_>, head: &str, word: WatchedWord) {
+fn tell_watched(session: &mut Session, head: &str, word: WatchedWord) {
     session.answer.say(head);
     say_stop(session, word.job, word.place);
 }
@@ -55,7 +55,7 @@ fn breakpoint_at(list: &StopList, at: usize) -> Option<Breakpoint> {
 }
 
 /// Tells the breakpoints, and what else runs stop at.
-pub fn tell_stops(session: &mut Session<'_>) {
+pub fn tell_stops(session: &mut Session) {
     for at in 0..BREAKPOINTS {
         if let Some(breakpoint) = breakpoint_at(&session.list, at) {
             tell_breakpoint(session, at.saturating_add(1), breakpoint);
@@ -78,7 +78,7 @@ pub fn tell_stops(session: &mut Session<'_>) {
 }
 
 /// Watches a word of the open job, or no longer.
-pub fn watch(session: &mut Session<'_>, place: u32) {
+pub fn watch(session: &mut Session, place: u32) {
     let job = session.open;
     if session.timeline.machine().peek(job, place).is_none() {
         return session.answer.refuse(Refusal::NoWord);
@@ -92,7 +92,7 @@ pub fn watch(session: &mut Session<'_>, place: u32) {
 }
 
 /// Runs stop at circles of waits, or no longer.
-pub fn stop_at_circles(session: &mut Session<'_>) {
+pub fn stop_at_circles(session: &mut Session) {
     session.list.circles = !session.list.circles;
     session.answer.say(if session.list.circles {
         "runs stop at circles\n"
@@ -102,7 +102,7 @@ pub fn stop_at_circles(session: &mut Session<'_>) {
 }
 
 /// Runs stop where a request is granted, or no longer.
-pub fn stop_at_grants(session: &mut Session<'_>) {
+pub fn stop_at_grants(session: &mut Session) {
     session.list.grants = !session.list.grants;
     session.answer.say(if session.list.grants {
         "runs stop at grants\n"
@@ -132,7 +132,7 @@ fn stops_at(list: &StopList, name: &Name) -> bool {
 }
 
 /// Runs stop before calls on a lock, or no longer where they do.
-pub fn stop_at_lock(session: &mut Session<'_>, text: &[u8]) {
+pub fn stop_at_lock(session: &mut Session, text: &[u8]) {
     let Some(name) = lock_name(session.open, text) else {
         return session.answer.refuse(Refusal::NoLock);
     };

@@ -6,7 +6,7 @@ use ddt_lines::{Refusal, lock_lines, register_lines, wait_lines};
 use std::alloc::AllocError;
 
 /// Opens a job.
-pub fn open_job(session: &mut Session<'_>, number: u8) {
+pub fn open_job(session: &mut Session, number: u8) {
     if usize::from(number) > session.jobs.len() || number == 0 {
         return session.answer.refuse(Refusal::NoJob);
     }
@@ -16,7 +16,7 @@ pub fn open_job(session: &mut Session<'_>, number: u8) {
 }
 
 /// Tells how all jobs stand, how many steps were made, and whether words were deposited.
-pub fn tell_jobs(session: &mut Session<'_>) {
+pub fn tell_jobs(session: &mut Session) {
     session.tell_jobs();
     let (steps, ticks) = (session.timeline.steps(), session.timeline.ticks());
     session.answer.say_number("steps ", steps, ", ");
@@ -24,7 +24,7 @@ pub fn tell_jobs(session: &mut Session<'_>) {
     if session.is_edited() {
         session.answer.say(", edited: words were deposited");
     }
-    session.answer.say("\n");
+    session.answer.end_line();
 }
 
 /// Adds lines that were just made, or that there is none.
@@ -40,19 +40,19 @@ fn say_lines(answer: &mut AnswerText, made: Result<Vec<u8>, AllocError>, none: &
 }
 
 /// Tells the requests for locks.
-pub fn tell_locks(session: &mut Session<'_>) {
+pub fn tell_locks(session: &mut Session) {
     let lines = lock_lines(session.alloc, session.timeline.machine());
     say_lines(&mut session.answer, lines, "no requests\n");
 }
 
 /// Tells who waits for whom.
-pub fn tell_waits(session: &mut Session<'_>) {
+pub fn tell_waits(session: &mut Session) {
     let lines = wait_lines(session.alloc, session.timeline.machine());
     say_lines(&mut session.answer, lines, "no job waits for another\n");
 }
 
 /// Tells the registers of the open job.
-pub fn tell_registers(session: &mut Session<'_>) {
+pub fn tell_registers(session: &mut Session) {
     if let Some(job) = session.open_job() {
         let lines = register_lines(session.alloc, session.timeline.machine(), &job.shown);
         session.answer.say_made(lines);

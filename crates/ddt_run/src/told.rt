@@ -7,7 +7,7 @@ use ddt_moves::{Cause, Ended, turn_at};
 use word36::Word;
 
 /// A run ended at a breakpoint, whose job is open from here on.
-fn tell_breakpoint(session: &mut Session<'_>, number: usize, job: u8, place: u32) {
+fn tell_breakpoint(session: &mut Session, number: usize, job: u8, place: u32) {
     session.open = job;
     session.here = place;
     session.answer.say_number("$", number as u64, "B>> ");
@@ -34,14 +34,14 @@ fn say_change(answer: &mut AnswerText, was: Option<Word>, is: Option<Word>) {
 }
 
 /// Adds where a job stood: `job 1 at LOOP+3`.
-pub fn say_turn(session: &mut Session<'_>, job: u8, place: u32) {
+pub fn say_turn(session: &mut Session, job: u8, place: u32) {
     session.answer.say_number("job ", u64::from(job), " at ");
     session.say_spot(job, place);
 }
 
 /// A run ended since a word of a job changed, which is open from here on: the last step that was made
 /// changed it, and whose turn that was is told, ` by job 1 at LOOP+3`.
-fn tell_change(session: &mut Session<'_>, job: u8, place: u32, was: Option<Word>) {
+fn tell_change(session: &mut Session, job: u8, place: u32, was: Option<Word>) {
     session.open = job;
     session.say_spot(job, place);
     let is = session.timeline.machine().peek(job, place);
@@ -55,12 +55,12 @@ fn tell_change(session: &mut Session<'_>, job: u8, place: u32, was: Option<Word>
         Ok(None) => {}
         Err(_) => session.answer.fail(),
     }
-    session.answer.say("\n");
+    session.answer.end_line();
     session.show_next();
 }
 
 /// Says why a run ended, which could make so many steps.
-fn tell_cause(session: &mut Session<'_>, ended: Ended, most: u32) {
+fn tell_cause(session: &mut Session, ended: Ended, most: u32) {
     // A cause may hold a word: the prover wants its type to be named.
     let _word: Option<Word> = None;
     let cause = ended.cause;
@@ -95,7 +95,7 @@ fn tell_cause(session: &mut Session<'_>, ended: Ended, most: u32) {
 }
 
 /// Says why a run ended, which could make so many steps, and whether the session was edited.
-pub fn tell_end(session: &mut Session<'_>, ended: Ended, most: u32) {
+pub fn tell_end(session: &mut Session, ended: Ended, most: u32) {
     session.is_open = false;
     tell_cause(session, ended, most);
     if session.is_edited() {
