@@ -7,9 +7,12 @@ use ddt_session::Entry;
 use monitor::{Answer, RefusedEvent};
 use source_labels::{Assembled, Program, Source, assemble_source, warnings_of};
 
-/// The programs of sources, where all are right. What is wrong with them, or warnings, are told.
-fn assemble_all<'a>(told: &mut AnswerText, sources: &[Source<'a>]) -> Option<Vec<Program<'a>>> {
-    let mut programs = Vec::new(told.alloc);
+/// Adds the programs of sources that are right. What is wrong with others, and warnings, are told.
+fn assemble_all<'a>(
+    told: &mut AnswerText,
+    sources: &[Source<'a>],
+    programs: &mut Vec<Program<'a>>,
+) {
     for source in sources {
         match assemble_source(told.alloc, source) {
             Ok(Assembled::Program(program)) => {
@@ -23,7 +26,6 @@ fn assemble_all<'a>(told: &mut AnswerText, sources: &[Source<'a>]) -> Option<Vec
             Err(_) => told.fail(),
         }
     }
-    (programs.len() == sources.len()).then_some(programs)
 }
 
 /// Adds a job that was logged in.
@@ -73,9 +75,11 @@ fn log_in(session: &mut Session, program: Program<'_>) -> bool {
 /// started; false where one of them or of the programs is refused. What is told of that, and warnings, are
 /// the answer.
 pub fn begin(session: &mut Session, sources: &[Source<'_>]) -> bool {
-    let Some(programs) = assemble_all(&mut session.answer, sources) else {
+    let mut programs = Vec::new(session.alloc);
+    assemble_all(&mut session.answer, sources, &mut programs);
+    if programs.len() < sources.len() {
         return false;
-    };
+    }
     for program in programs {
         if !log_in(session, program) {
             return false;

@@ -16,7 +16,7 @@ const MOST_STEPS: u32 = 1_000_000_000;
 /// Makes steps until a stop holds, no job can go on, or so many are made. A run stops at its own stops,
 /// which come first, at those that were asked for, and where a job waits for characters as long as there
 /// are lines for it: the next one is typed.
-fn run(session: &mut Session, own: &[Stop], most: u32) -> Result<Ended, AllocError> {
+fn try_run(session: &mut Session, own: &[Stop], most: u32) -> Result<Ended, AllocError> {
     let machine = session.timeline.machine();
     let mut stops = stops_of(session.alloc, machine, own, &session.list)?;
     if session.input.is_left(session.timeline.happened()) {
@@ -25,20 +25,29 @@ fn run(session: &mut Session, own: &[Stop], most: u32) -> Result<Ended, AllocErr
     run_with_input(session, &stops, most)
 }
 
-/// Makes steps as `run` does, up to these stops.
+/// Makes steps as `try_run` does. Where there is no memory, the run ends, and the answer fails.
+fn run(session: &mut Session, own: &[Stop], most: u32) -> Ended {
+    match try_run(session, own, most) {
+        Ok(ended) => ended,
+        Err(_) => {
+            session.answer.fail();
+            Ended::at_once(None)
+        }
+    }
+}
+
+/// Makes steps as `try_run` does, up to these stops.
 fn run_with_input(session: &mut Session, stops: &Stops, most: u32) -> Result<Ended, AllocError> {
-    let mut left = most;
+    let end = session.timeline.steps().saturating_add(u64::from(most));
     for _ in 0..most {
-        let before = session.timeline.steps();
+        let left = end.saturating_sub(session.timeline.steps());
         let ended = run_to(
             &mut session.timeline,
             stops,
             &session.list,
-            left,
+            left.min(u64::from(most)) as u32,
             &mut session.grants,
         )?;
-        let made = session.timeline.steps().saturating_sub(before);
-        left = left.saturating_sub(made.min(u64::from(most)) as u32);
         if !goes_on(session, ended)? {
             return Ok(ended);
         }
@@ -49,21 +58,12 @@ fn run_with_input(session: &mut Session, stops: &Stops, most: u32) -> Result<End
 /// Whether a run that ended so goes on: it came to where characters are waited for, or to where no job
 /// goes on, and the next line of the input is typed, or some job goes on behind its last one.
 fn goes_on(session: &mut Session, ended: Ended) -> Result<bool, AllocError> {
-    let is_asked = matches!(ended.cause, Some(Cause::Input)) || ended.cause.is_none();
-    if !is_asked || ended.is_cut {
+    if ended.is_cut || !matches!(ended.cause, None | Some(Cause::Input)) {
         return Ok(false);
     }
     let lines = session.lines();
     let is_typed = session.input.type_next(&mut session.timeline, lines)?;
     Ok(is_typed || some_go_on(session.timeline.machine()))
-}
-
-/// Tells why a run ended, which could make so many steps.
-fn tell_run(session: &mut Session, ran: Result<Ended, AllocError>, most: u32) {
-    match ran {
-        Ok(ended) => tell_end(session, ended, most),
-        Err(_) => session.answer.fail(),
-    }
 }
 
 /// `$G`: starts jobs, and runs.
@@ -86,45 +86,36 @@ pub fn run_from_start(session: &mut Session) {
     }
 }
 
-/// The jobs go on, and pass so many breakpoints.
-fn go_past(session: &mut Session, passed: u32) -> Result<Ended, AllocError> {
-    go_on(&mut session.timeline, session.open)?;
-    for _ in 0..passed {
-        let ended = run(session, &[], MOST_STEPS)?;
-        if !matches!(ended.cause, Some(Cause::Breakpoint(_, _, _))) {
-            return Ok(ended);
-        }
-    }
-    run(session, &[], MOST_STEPS)
-}
-
 /// `n$P`: the jobs go on, until so many breakpoints were come to.
 pub fn proceed(session: &mut Session, times: u32) {
-    let ran = go_past(session, times.saturating_sub(1));
-    tell_run(session, ran, MOST_STEPS);
+    if go_on(&mut session.timeline, session.open).is_err() {
+        return session.answer.fail();
+    }
+    let mut ended = run(session, &[], MOST_STEPS);
+    for _ in 1..times {
+        if !matches!(ended.cause, Some(Cause::Breakpoint(_, _, _))) {
+            break;
+        }
+        ended = run(session, &[], MOST_STEPS);
+    }
+    tell_end(session, ended, MOST_STEPS);
 }
 
-/// So many instructions of the open job, behind each of which the next is told, or fewer where one is the
-/// last that it can execute now.
-fn execute_some(session: &mut Session, count: u32) -> Result<(), AllocError> {
+/// `n$X`: so many instructions of the open job, behind each of which the next is told, or fewer where one
+/// is the last that it can execute now.
+pub fn execute(session: &mut Session, count: u32) {
     let number = session.open;
-    begin(&mut session.timeline, number)?;
+    if begin(&mut session.timeline, number).is_err() {
+        return session.answer.fail();
+    }
     for _ in 0..count {
-        let ended = run(session, &[Stop::Turn(number)], MOST_STEPS)?;
+        let ended = run(session, &[Stop::Turn(number)], MOST_STEPS);
         let cause = ended.cause;
         tell_end(session, ended, MOST_STEPS);
         let is_own = matches!(cause, Some(Cause::Own));
         if !is_own || is_stopped(session.timeline.machine(), number) {
             break;
         }
-    }
-    Ok(())
-}
-
-/// `n$X`: so many instructions of the open job, behind each of which the next is told.
-pub fn execute(session: &mut Session, count: u32) {
-    if execute_some(session, count).is_err() {
-        session.answer.fail();
     }
 }
 
@@ -142,8 +133,8 @@ pub fn execute_call(session: &mut Session) {
                 Stop::Place(number, view.pc.plus(1)),
                 Stop::Place(number, view.pc.plus(2)),
             ];
-            let ran = run(session, &own, MOST_STEPS);
-            tell_run(session, ran, MOST_STEPS);
+            let ended = run(session, &own, MOST_STEPS);
+            tell_end(session, ended, MOST_STEPS);
         }
         None => session.tell_job(number),
     }
@@ -151,11 +142,11 @@ pub fn execute_call(session: &mut Session) {
 
 /// `.STEP n`: so many steps of the machine.
 pub fn step(session: &mut Session, count: u32) {
-    match run(session, &[], count) {
-        Ok(Ended { is_cut: true, .. }) => {
-            session.is_open = false;
-            session.show_next();
-        }
-        ran => tell_run(session, ran, count),
+    let ended = run(session, &[], count);
+    if ended.is_cut {
+        session.is_open = false;
+        session.show_next();
+    } else {
+        tell_end(session, ended, count);
     }
 }

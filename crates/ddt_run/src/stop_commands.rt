@@ -1,5 +1,6 @@
 //! Breakpoints, watched words and the other stops, as they are asked for.
 
+use crate::answer_text::AnswerText;
 use crate::session::Session;
 use ddt_lines::Refusal;
 use ddt_moves::{BREAKPOINTS, Breakpoint, StopList, WatchedWord};
@@ -40,9 +41,13 @@ fn tell_breakpoint(session: &mut Session, number: usize, breakpoint: Breakpoint)
     say_stop(session, breakpoint.job, breakpoint.place.number());
 }
 
-/// The line on a watched word: `watched job 1 COUNT`.
-fn tell_watched(session: &mut Session, head: &str, word: WatchedWord) {
-    session.answer.say(head);
+/// The line on a word that is watched, or no longer: `watched job 1 COUNT`.
+fn tell_watched(session: &mut Session, word: WatchedWord, is_watched: bool) {
+    session.answer.say(if is_watched {
+        "watched"
+    } else {
+        "no longer watched"
+    });
     say_stop(session, word.job, word.place);
 }
 
@@ -54,6 +59,19 @@ fn breakpoint_at(list: &StopList, at: usize) -> Option<Breakpoint> {
     }
 }
 
+/// Tells what else than breakpoints and words runs stop at.
+fn tell_others(answer: &mut AnswerText, list: &StopList) {
+    if list.circles {
+        answer.say("circles\n");
+    }
+    if list.lock.is_some() {
+        answer.say("calls on a lock\n");
+    }
+    if list.grants {
+        answer.say("grants\n");
+    }
+}
+
 /// Tells the breakpoints, and what else runs stop at.
 pub fn tell_stops(session: &mut Session) {
     for at in 0..BREAKPOINTS {
@@ -61,20 +79,12 @@ pub fn tell_stops(session: &mut Session) {
             tell_breakpoint(session, at.saturating_add(1), breakpoint);
         }
     }
-    for i in 0..session.list.words.len() {
-        if let Some(word) = session.list.words.as_slice().get(i).copied() {
-            tell_watched(session, "watched", word);
+    for at in 0..session.list.words.len() {
+        if let Some(word) = session.list.words.as_slice().get(at).copied() {
+            tell_watched(session, word, true);
         }
     }
-    if session.list.circles {
-        session.answer.say("circles\n");
-    }
-    if session.list.lock.is_some() {
-        session.answer.say("calls on a lock\n");
-    }
-    if session.list.grants {
-        session.answer.say("grants\n");
-    }
+    tell_others(&mut session.answer, &session.list);
 }
 
 /// Watches a word of the open job, or no longer.
@@ -85,8 +95,7 @@ pub fn watch(session: &mut Session, place: u32) {
     }
     let word = WatchedWord { job, place };
     match session.list.watch(word) {
-        Some(true) => tell_watched(session, "watched", word),
-        Some(false) => tell_watched(session, "no longer watched", word),
+        Some(is_watched) => tell_watched(session, word, is_watched),
         None => session.answer.refuse(Refusal::NoWatchFree),
     }
 }
