@@ -5,58 +5,61 @@ use crate::runs::run_from_start;
 use crate::session::Session;
 use ddt_lines::Refusal;
 use ddt_moves::{take_line, type_line};
-use ddt_session::Entry;
+use ddt_session::{Entry, Timeline};
 use monitor::Answer;
 use word36::{Address, Word};
 
 /// A value: it is put in the place that is open, which is closed by that.
-pub fn deposit(session: &mut Session, word: Word) {
+pub fn deposit(session: &mut Session, timeline: &mut Timeline, word: Word) {
     if !session.is_open {
         return session.answer.refuse(Refusal::NotOpen);
     }
-    if session
-        .timeline
+    if timeline
         .machine()
         .peek(session.open, session.here)
         .is_none()
     {
         return session.answer.refuse(Refusal::NoWord);
     }
-    if !session.is_edited() {
-        session.edited = Some(session.timeline.happened());
+    if !session.is_edited(timeline) {
+        session.edited = Some(timeline.happened());
     }
-    make(session, Entry::Deposit(session.open, session.here, word));
+    make(
+        session,
+        timeline,
+        Entry::Deposit(session.open, session.here, word),
+    );
     session.is_open = false;
     session.last = word;
 }
 
 /// Makes an entry whose answer tells nothing.
-fn make(session: &mut Session, entry: Entry) {
-    if session.timeline.make(entry).is_err() {
+fn make(session: &mut Session, timeline: &mut Timeline, entry: Entry) {
+    if timeline.make(entry).is_err() {
         session.answer.fail();
     }
 }
 
 /// `a$G`: the open job starts at a place, and the machine runs.
-pub fn start_at(session: &mut Session, place: u32) {
+pub fn start_at(session: &mut Session, timeline: &mut Timeline, place: u32) {
     let Some(place) = Address::try_new(place) else {
         return session.answer.refuse(Refusal::NoWord);
     };
-    match session.timeline.make(Entry::StartAt(session.open, place)) {
+    match timeline.make(Entry::StartAt(session.open, place)) {
         Ok(Answer::Refused(_)) => session.answer.refuse(Refusal::NotStopped),
-        Ok(_) => run_from_start(session),
+        Ok(_) => run_from_start(session, timeline),
         Err(_) => session.answer.fail(),
     }
 }
 
 /// `.TICK n`: so many ticks go by.
-pub fn tick(session: &mut Session, count: u32) {
-    make(session, Entry::Ticks(count));
+pub fn tick(session: &mut Session, timeline: &mut Timeline, count: u32) {
+    make(session, timeline, Entry::Ticks(count));
 }
 
 /// `.TYPE line text`: types a text and a line end at a line.
-pub fn type_at(session: &mut Session, line: u8, text: &[u8]) {
-    match type_line(&mut session.timeline, line, text) {
+pub fn type_at(session: &mut Session, timeline: &mut Timeline, line: u8, text: &[u8]) {
+    match type_line(timeline, line, text) {
         Ok(true) => {}
         Ok(false) => session.answer.refuse(Refusal::LineFull),
         Err(_) => session.answer.fail(),
@@ -78,11 +81,11 @@ fn say_taken(answer: &mut AnswerText, line: u8, is_named: bool, bytes: &[u8]) {
 }
 
 /// `.TAKE`: tells what jobs have typed out.
-pub fn take(session: &mut Session) {
+pub fn take(session: &mut Session, timeline: &mut Timeline) {
     let before = session.answer.len();
     let is_named = session.jobs.len() > 1;
     for line in 0..session.lines() {
-        match take_line(&mut session.timeline, line) {
+        match take_line(timeline, line) {
             Ok(bytes) => say_taken(&mut session.answer, line, is_named, bytes.as_slice()),
             Err(_) => session.answer.fail(),
         }

@@ -6,6 +6,7 @@ use crate::files::{read_file, write_file};
 use crate::obey::{Wish, obey_line};
 use crate::session::Session;
 use crate::texts;
+use ddt_session::Timeline;
 use line_ports::{Answers, Came, Failure, LineReader};
 use run_facts::DONE;
 use script_io::{ByteIn, ByteOut, LINE_LENGTH};
@@ -49,11 +50,12 @@ impl<R: ByteIn + Drop, W: ByteOut + Drop, E: ByteOut + Drop> Dialogue<R, W, E> {
 pub fn serve_lines<F: Files + AllocGlobal, R: ByteIn + Drop, W: ByteOut + Drop, E: ByteOut + Drop>(
     rt: &F,
     session: &mut Session,
+    timeline: &mut Timeline,
     dialogue: &mut Dialogue<R, W, E>,
 ) -> Result<u8, Failure> {
     for _ in 0..u64::MAX {
         let came = dialogue.take_line(session)?;
-        let goes_on = serve_line(rt, session, came, dialogue.line.as_slice());
+        let goes_on = serve_line(rt, session, timeline, came, dialogue.line.as_slice());
         session.answer.write_to(&mut dialogue.output)?;
         if !goes_on {
             break;
@@ -63,7 +65,12 @@ pub fn serve_lines<F: Files + AllocGlobal, R: ByteIn + Drop, W: ByteOut + Drop, 
 }
 
 /// What is asked of the program by what came: a line is obeyed, and kept where it asks for no file.
-fn wish_in<'a>(session: &mut Session, came: Came, line: &'a [u8]) -> Wish<'a> {
+fn wish_in<'a>(
+    session: &mut Session,
+    timeline: &mut Timeline,
+    came: Came,
+    line: &'a [u8],
+) -> Wish<'a> {
     match came {
         Came::End => Wish::Quit,
         Came::TooLong => {
@@ -74,7 +81,7 @@ fn wish_in<'a>(session: &mut Session, came: Came, line: &'a [u8]) -> Wish<'a> {
             Wish::Nothing
         }
         Came::Line => {
-            let wish = obey_line(session, line);
+            let wish = obey_line(session, timeline, line);
             if matches!(wish, Wish::Nothing) && !has_kept(&mut session.kept, line) {
                 session.answer.fail();
             }
@@ -92,10 +99,11 @@ fn has_kept(kept: &mut Vec<u8>, line: &[u8]) -> bool {
 fn serve_line<F: Files + AllocGlobal>(
     rt: &F,
     session: &mut Session,
+    timeline: &mut Timeline,
     came: Came,
     line: &[u8],
 ) -> bool {
-    match wish_in(session, came, line) {
+    match wish_in(session, timeline, came, line) {
         Wish::Nothing | Wish::Refused => {}
         Wish::Save(file) => {
             let lines = session.kept.as_slice();

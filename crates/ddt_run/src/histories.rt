@@ -4,6 +4,7 @@ use crate::answer_text::AnswerText;
 use crate::session::Session;
 use ddt_lines::{Look, Refusal, ShownJob, place_line};
 use ddt_moves::{Replay, last_turns};
+use ddt_session::Timeline;
 use run_machine::Machine;
 use std::alloc::Global;
 use word36::Word;
@@ -35,12 +36,12 @@ fn say_turns(alloc: Global, replay: &mut Replay<'_>, job: &ShownJob, answer: &mu
 }
 
 /// Adds the lines of the turns of the open job that were made behind so many steps.
-fn say_turns_from(session: &mut Session, steps: u64) {
+fn say_turns_from(session: &mut Session, timeline: &Timeline, steps: u64) {
     let at = usize::from(session.open).saturating_sub(1);
     let Some(job) = session.jobs.as_slice().get(at) else {
         return;
     };
-    match Replay::of(&session.timeline) {
+    match Replay::of(timeline) {
         Ok(mut replay) => {
             replay.skip_to(steps);
             say_turns(session.alloc, &mut replay, &job.shown, &mut session.answer);
@@ -51,10 +52,10 @@ fn say_turns_from(session: &mut Session, steps: u64) {
 }
 
 /// `.HISTORY n`: tells the last turns of the open job, so many at most.
-pub fn tell_history(session: &mut Session, most: u32) {
-    match last_turns(&session.timeline, session.open, most as usize) {
+pub fn tell_history(session: &mut Session, timeline: &Timeline, most: u32) {
+    match last_turns(timeline, session.open, most as usize) {
         Ok(turns) => match turns.first() {
-            Some(first) => say_turns_from(session, first),
+            Some(first) => say_turns_from(session, timeline, first),
             None => session.answer.refuse(Refusal::NoTurns),
         },
         Err(_) => session.answer.fail(),

@@ -3,16 +3,13 @@
 use crate::answer_text::AnswerText;
 use crate::session::{Session, SessionJob};
 use ddt_lines::ShownJob;
-use ddt_session::Entry;
+use ddt_session::{Entry, Timeline};
 use monitor::{Answer, RefusedEvent};
 use source_labels::{Assembled, Program, Source, assemble_source, warnings_of};
 
-/// Adds the programs of sources that are right. What is wrong with others, and warnings, are told.
-fn assemble_all<'a>(
-    told: &mut AnswerText,
-    sources: &[Source<'a>],
-    programs: &mut Vec<Program<'a>>,
-) {
+/// The programs of sources, where all are right. What is wrong with them, or warnings, are told.
+fn assemble_all<'a>(told: &mut AnswerText, sources: &[Source<'a>]) -> Option<Vec<Program<'a>>> {
+    let mut programs = Vec::new(told.alloc);
     for source in sources {
         match assemble_source(told.alloc, source) {
             Ok(Assembled::Program(program)) => {
@@ -26,6 +23,7 @@ fn assemble_all<'a>(
             Err(_) => told.fail(),
         }
     }
+    (programs.len() == sources.len()).then_some(programs)
 }
 
 /// Adds a job that was logged in.
@@ -48,14 +46,14 @@ fn tell_refusal(told: &mut AnswerText, file: &str, answer: &Answer) {
 }
 
 /// Logs a program in at the next line, and adds its job; false where it is refused, which is told.
-fn log_in(session: &mut Session, program: Program<'_>) -> bool {
+fn log_in(session: &mut Session, timeline: &mut Timeline, program: Program<'_>) -> bool {
     let line = session.lines();
     let Program {
         file,
         image,
         places,
     } = program;
-    match session.timeline.make(Entry::Login(line, image)) {
+    match timeline.make(Entry::Login(line, image)) {
         Ok(Answer::JobNumber(number)) => {
             add_job(session, file, ShownJob { number, places });
             true
@@ -74,18 +72,16 @@ fn log_in(session: &mut Session, program: Program<'_>) -> bool {
 /// Assembles sources, and logs their programs in at lines from 0 on where all are right, none of which is
 /// started; false where one of them or of the programs is refused. What is told of that, and warnings, are
 /// the answer.
-pub fn begin(session: &mut Session, sources: &[Source<'_>]) -> bool {
-    let mut programs = Vec::new(session.alloc);
-    assemble_all(&mut session.answer, sources, &mut programs);
-    if programs.len() < sources.len() {
+pub fn begin(session: &mut Session, timeline: &mut Timeline, sources: &[Source<'_>]) -> bool {
+    let Some(programs) = assemble_all(&mut session.answer, sources) else {
         return false;
-    }
+    };
     for program in programs {
-        if !log_in(session, program) {
+        if !log_in(session, timeline, program) {
             return false;
         }
     }
-    if let Some(view) = session.timeline.machine().job(1) {
+    if let Some(view) = timeline.machine().job(1) {
         session.here = view.pc.number();
     }
     true

@@ -2,14 +2,15 @@
 
 use crate::session::Session;
 use ddt_lines::{Last, Look, Refusal, word_line};
+use ddt_session::Timeline;
 use word36::Word;
 
 /// The places that addresses reach.
 const PLACES: u32 = 0o1_000_000;
 
 /// Opens a place of the open job.
-pub fn open(session: &mut Session, place: u32) {
-    if !session.show_place(place) {
+pub fn open(session: &mut Session, timeline: &Timeline, place: u32) {
+    if !session.show_place(timeline, place) {
         return session.answer.refuse(Refusal::NoWord);
     }
     session.here = place;
@@ -53,12 +54,12 @@ pub fn tell_value(session: &mut Session, value: Word) {
 }
 
 /// Shows the places from the first to the last.
-pub fn examine(session: &mut Session, first: u32, last: u32) {
+pub fn examine(session: &mut Session, timeline: &Timeline, first: u32, last: u32) {
     if last < first {
         return session.answer.refuse(Refusal::WrongOrder);
     }
     for place in first..last.saturating_add(1) {
-        if !session.show_place(place) {
+        if !session.show_place(timeline, place) {
             return session.answer.refuse(Refusal::NoWord);
         }
         session.here = place;

@@ -13,6 +13,7 @@ use crate::stop_commands::{
 };
 use crate::tables::{open_job, tell_jobs, tell_locks, tell_registers, tell_waits};
 use ddt_lines::{Command, Wrong, help_lines, is_help_on, read_line};
+use ddt_session::Timeline;
 use std::str;
 
 /// What a line asks of the program, beside its answer.
@@ -32,11 +33,11 @@ pub enum Wish<'a> {
 
 /// Obeys a line, and adds to the answer. A wrong line is answered by what is wrong with it, and changes
 /// nothing.
-pub fn obey_line<'a>(session: &mut Session, line: &'a [u8]) -> Wish<'a> {
+pub fn obey_line<'a>(session: &mut Session, timeline: &mut Timeline, line: &'a [u8]) -> Wish<'a> {
     let read = read_line(line, &session.scope());
     match read {
         Ok(command) => {
-            obey(session, &command);
+            obey(session, timeline, &command);
             wish_of(session, &command)
         }
         Err(wrong) => {
@@ -92,51 +93,51 @@ fn file_to_obey<'a>(session: &mut Session, file: &'a [u8]) -> Option<&'a str> {
 }
 
 /// Does what a command asks of the session: looks at places, and sets stops.
-fn obey(session: &mut Session, command: &Command<'_>) {
+fn obey(session: &mut Session, timeline: &mut Timeline, command: &Command<'_>) {
     match *command {
-        Command::Next => open(session, next_of(session.here)),
-        Command::Before => open(session, before(session.here)),
-        Command::Addressed => open(session, session.last.right()),
-        Command::Open(place) => open(session, place),
-        Command::Deposit(word) => deposit(session, word),
+        Command::Next => open(session, timeline, next_of(session.here)),
+        Command::Before => open(session, timeline, before(session.here)),
+        Command::Addressed => open(session, timeline, session.last.right()),
+        Command::Open(place) => open(session, timeline, place),
+        Command::Deposit(word) => deposit(session, timeline, word),
         Command::Tell(word) => tell_value(session, word),
         Command::Show(look) => session.look = look,
         Command::Last(last) => tell_as(session, look_of(last)),
-        Command::Examine(first, last) => examine(session, first, last),
-        Command::Search(wanted) => search(session, &wanted),
+        Command::Examine(first, last) => examine(session, timeline, first, last),
+        Command::Search(wanted) => search(session, timeline, &wanted),
         Command::Break(place, number) => set(session, place, number),
         Command::Unbreak(number) => unset(session, number),
         Command::Breaks => tell_stops(session),
-        Command::Watch(place) => watch(session, place),
+        Command::Watch(place) => watch(session, timeline, place),
         Command::BreakLock(name) => stop_at_lock(session, name),
         Command::BreakGrant => stop_at_grants(session),
         Command::BreakCircle => stop_at_circles(session),
-        _ => obey_move(session, command),
+        _ => obey_move(session, timeline, command),
     }
 }
 
 /// Does what a command asks of the machine, as to go on and back, and tells what it asks for of the jobs.
-fn obey_move(session: &mut Session, command: &Command<'_>) {
+fn obey_move(session: &mut Session, timeline: &mut Timeline, command: &Command<'_>) {
     match *command {
-        Command::Go => go(session),
-        Command::GoAt(place) => start_at(session, place),
-        Command::Proceed(times) => proceed(session, times),
-        Command::Execute(count) => execute(session, count),
-        Command::ExecuteCall => execute_call(session),
-        Command::Step(count) => step(session, count),
-        Command::Tick(count) => tick(session, count),
-        Command::Type(line, text) => type_at(session, line, text),
-        Command::Back(steps) => back(session, steps),
-        Command::BackTo(place) => back_to(session, place),
-        Command::BackWrite(place) => back_to_write(session, place),
-        Command::Forward => forward(session),
-        Command::Take => take(session),
-        Command::Job(number) => open_job(session, number),
-        Command::Jobs => tell_jobs(session),
-        Command::Locks => tell_locks(session),
-        Command::Waits => tell_waits(session),
-        Command::Registers => tell_registers(session),
-        Command::History(count) => tell_history(session, count),
+        Command::Go => go(session, timeline),
+        Command::GoAt(place) => start_at(session, timeline, place),
+        Command::Proceed(times) => proceed(session, timeline, times),
+        Command::Execute(count) => execute(session, timeline, count),
+        Command::ExecuteCall => execute_call(session, timeline),
+        Command::Step(count) => step(session, timeline, count),
+        Command::Tick(count) => tick(session, timeline, count),
+        Command::Type(line, text) => type_at(session, timeline, line, text),
+        Command::Back(steps) => back(session, timeline, steps),
+        Command::BackTo(place) => back_to(session, timeline, place),
+        Command::BackWrite(place) => back_to_write(session, timeline, place),
+        Command::Forward => forward(session, timeline),
+        Command::Take => take(session, timeline),
+        Command::Job(number) => open_job(session, timeline, number),
+        Command::Jobs => tell_jobs(session, timeline),
+        Command::Locks => tell_locks(session, timeline),
+        Command::Waits => tell_waits(session, timeline),
+        Command::Registers => tell_registers(session, timeline),
+        Command::History(count) => tell_history(session, timeline, count),
         Command::Help(word) => tell_help(&mut session.answer, word),
         _ => {}
     }

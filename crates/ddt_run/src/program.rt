@@ -108,6 +108,7 @@ fn load<F: Files + AllocGlobal>(
     rt: &F,
     asked: &Asked<'_>,
     session: &mut Session,
+    timeline: &mut Timeline,
     is_person: bool,
 ) -> Option<u8> {
     let mut sources = Vec::new(session.alloc);
@@ -116,7 +117,7 @@ fn load<F: Files + AllocGlobal>(
         || !read_input(rt, asked, session)
     {
         Some(FAILED)
-    } else if begin(session, sources.as_slice()) {
+    } else if begin(session, timeline, sources.as_slice()) {
         if is_person {
             session.answer.say(texts::BANNER);
         }
@@ -132,13 +133,14 @@ fn serve_session<F: Files + AllocGlobal, R: ByteIn + Drop, W: ByteOut + Drop, E:
     rt: &F,
     asked: &Asked<'_>,
     session: &mut Session,
+    timeline: &mut Timeline,
     dialogue: &mut Dialogue<R, W, E>,
 ) -> Result<u8, Failure> {
-    let ended = load(rt, asked, session, dialogue.is_person);
+    let ended = load(rt, asked, session, timeline, dialogue.is_person);
     session.answer.write_to(&mut dialogue.errors)?;
     match ended {
         Some(status) => Ok(status),
-        None => serve_lines(rt, session, dialogue),
+        None => serve_lines(rt, session, timeline, dialogue),
     }
 }
 
@@ -148,10 +150,10 @@ fn serve_asked<F: Files + AllocGlobal, R: ByteIn + Drop, W: ByteOut + Drop, E: B
     asked: &Asked<'_>,
     dialogue: &mut Dialogue<R, W, E>,
 ) -> Result<u8, Failure> {
-    let timeline = Timeline::new(rt.alloc(), asked.config)?;
-    let mut session = Session::new(rt.alloc(), timeline);
-    let served = serve_session(rt, asked, &mut session, dialogue);
-    session.end();
+    let mut timeline = Timeline::new(rt.alloc(), asked.config)?;
+    let mut session = Session::new(rt.alloc());
+    let served = serve_session(rt, asked, &mut session, &mut timeline, dialogue);
+    session.end(timeline);
     served
 }
 

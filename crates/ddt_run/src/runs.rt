@@ -6,7 +6,7 @@ use ddt_lines::Refusal;
 use ddt_moves::{
     Cause, Ended, Stops, begin, cause_at_start, go_on, is_stopped, run_to, start_jobs, stops_of,
 };
-use ddt_session::{Stop, some_go_on};
+use ddt_session::{Stop, Timeline, some_go_on};
 use std::alloc::AllocError;
 use word36::Word;
 
@@ -16,18 +16,23 @@ const MOST_STEPS: u32 = 1_000_000_000;
 /// Makes steps until a stop holds, no job can go on, or so many are made. A run stops at its own stops,
 /// which come first, at those that were asked for, and where a job waits for characters as long as there
 /// are lines for it: the next one is typed.
-fn try_run(session: &mut Session, own: &[Stop], most: u32) -> Result<Ended, AllocError> {
-    let machine = session.timeline.machine();
+fn try_run(
+    session: &mut Session,
+    timeline: &mut Timeline,
+    own: &[Stop],
+    most: u32,
+) -> Result<Ended, AllocError> {
+    let machine = timeline.machine();
     let mut stops = stops_of(session.alloc, machine, own, &session.list)?;
-    if session.input.is_left(session.timeline.happened()) {
+    if session.input.is_left(timeline.happened()) {
         stops.add(Stop::Input, 0)?;
     }
-    run_with_input(session, &stops, most)
+    run_with_input(session, timeline, &stops, most)
 }
 
 /// Makes steps as `try_run` does. Where there is no memory, the run ends, and the answer fails.
-fn run(session: &mut Session, own: &[Stop], most: u32) -> Ended {
-    match try_run(session, own, most) {
+fn run(session: &mut Session, timeline: &mut Timeline, own: &[Stop], most: u32) -> Ended {
+    match try_run(session, timeline, own, most) {
         Ok(ended) => ended,
         Err(_) => {
             session.answer.fail();
@@ -37,18 +42,23 @@ fn run(session: &mut Session, own: &[Stop], most: u32) -> Ended {
 }
 
 /// Makes steps as `try_run` does, up to these stops.
-fn run_with_input(session: &mut Session, stops: &Stops, most: u32) -> Result<Ended, AllocError> {
-    let end = session.timeline.steps().saturating_add(u64::from(most));
+fn run_with_input(
+    session: &mut Session,
+    timeline: &mut Timeline,
+    stops: &Stops,
+    most: u32,
+) -> Result<Ended, AllocError> {
+    let end = timeline.steps().saturating_add(u64::from(most));
     for _ in 0..most {
-        let left = end.saturating_sub(session.timeline.steps());
+        let left = end.saturating_sub(timeline.steps());
         let ended = run_to(
-            &mut session.timeline,
+            timeline,
             stops,
             &session.list,
             left.min(u64::from(most)) as u32,
             &mut session.grants,
         )?;
-        if !goes_on(session, ended)? {
+        if !goes_on(session, timeline, ended)? {
             return Ok(ended);
         }
     }
@@ -57,96 +67,100 @@ fn run_with_input(session: &mut Session, stops: &Stops, most: u32) -> Result<End
 
 /// Whether a run that ended so goes on: it came to where characters are waited for, or to where no job
 /// goes on, and the next line of the input is typed, or some job goes on behind its last one.
-fn goes_on(session: &mut Session, ended: Ended) -> Result<bool, AllocError> {
+fn goes_on(
+    session: &mut Session,
+    timeline: &mut Timeline,
+    ended: Ended,
+) -> Result<bool, AllocError> {
     if ended.is_cut || !matches!(ended.cause, None | Some(Cause::Input)) {
         return Ok(false);
     }
     let lines = session.lines();
-    let is_typed = session.input.type_next(&mut session.timeline, lines)?;
-    Ok(is_typed || some_go_on(session.timeline.machine()))
+    let is_typed = session.input.type_next(timeline, lines)?;
+    Ok(is_typed || some_go_on(timeline.machine()))
 }
 
 /// `$G`: starts jobs, and runs.
-pub fn go(session: &mut Session) {
+pub fn go(session: &mut Session, timeline: &mut Timeline) {
     let lines = session.lines();
-    match start_jobs(&mut session.timeline, lines, session.open) {
-        Ok(true) => run_from_start(session),
+    match start_jobs(timeline, lines, session.open) {
+        Ok(true) => run_from_start(session, timeline),
         Ok(false) => session.answer.refuse(Refusal::NotStopped),
         Err(_) => session.answer.fail(),
     }
 }
 
 /// Runs where jobs were started just now: one that stands where runs stop stops the run before it begins.
-pub fn run_from_start(session: &mut Session) {
+pub fn run_from_start(session: &mut Session, timeline: &mut Timeline) {
     let lines = session.lines();
-    match cause_at_start(&session.timeline, lines, &session.list) {
-        Ok(Some(cause)) => tell_end(session, Ended::at_once(Some(cause)), MOST_STEPS),
-        Ok(None) => proceed(session, 1),
+    match cause_at_start(timeline, lines, &session.list) {
+        Ok(Some(cause)) => tell_end(session, timeline, Ended::at_once(Some(cause)), MOST_STEPS),
+        Ok(None) => proceed(session, timeline, 1),
         Err(_) => session.answer.fail(),
     }
 }
 
 /// `n$P`: the jobs go on, until so many breakpoints were come to.
-pub fn proceed(session: &mut Session, times: u32) {
-    if go_on(&mut session.timeline, session.open).is_err() {
+pub fn proceed(session: &mut Session, timeline: &mut Timeline, times: u32) {
+    if go_on(timeline, session.open).is_err() {
         return session.answer.fail();
     }
-    let mut ended = run(session, &[], MOST_STEPS);
+    let mut ended = run(session, timeline, &[], MOST_STEPS);
     for _ in 1..times {
         if !matches!(ended.cause, Some(Cause::Breakpoint(_, _, _))) {
             break;
         }
-        ended = run(session, &[], MOST_STEPS);
+        ended = run(session, timeline, &[], MOST_STEPS);
     }
-    tell_end(session, ended, MOST_STEPS);
+    tell_end(session, timeline, ended, MOST_STEPS);
 }
 
 /// `n$X`: so many instructions of the open job, behind each of which the next is told, or fewer where one
 /// is the last that it can execute now.
-pub fn execute(session: &mut Session, count: u32) {
+pub fn execute(session: &mut Session, timeline: &mut Timeline, count: u32) {
     let number = session.open;
-    if begin(&mut session.timeline, number).is_err() {
+    if begin(timeline, number).is_err() {
         return session.answer.fail();
     }
     for _ in 0..count {
-        let ended = run(session, &[Stop::Turn(number)], MOST_STEPS);
+        let ended = run(session, timeline, &[Stop::Turn(number)], MOST_STEPS);
         let cause = ended.cause;
-        tell_end(session, ended, MOST_STEPS);
+        tell_end(session, timeline, ended, MOST_STEPS);
         let is_own = matches!(cause, Some(Cause::Own));
-        if !is_own || is_stopped(session.timeline.machine(), number) {
+        if !is_own || is_stopped(timeline.machine(), number) {
             break;
         }
     }
 }
 
 /// `$$X`: until the open job comes to the place behind its instruction, or the one behind that.
-pub fn execute_call(session: &mut Session) {
+pub fn execute_call(session: &mut Session, timeline: &mut Timeline) {
     // A stop may hold a word, of which these have none: the prover wants its type to be named.
     let _word: Option<Word> = None;
     let number = session.open;
-    if begin(&mut session.timeline, number).is_err() {
+    if begin(timeline, number).is_err() {
         return session.answer.fail();
     }
-    match session.timeline.machine().job(number) {
+    match timeline.machine().job(number) {
         Some(view) => {
             let own = [
                 Stop::Place(number, view.pc.plus(1)),
                 Stop::Place(number, view.pc.plus(2)),
             ];
-            let ended = run(session, &own, MOST_STEPS);
-            tell_end(session, ended, MOST_STEPS);
+            let ended = run(session, timeline, &own, MOST_STEPS);
+            tell_end(session, timeline, ended, MOST_STEPS);
         }
-        None => session.tell_job(number),
+        None => session.tell_job(timeline, number),
     }
 }
 
 /// `.STEP n`: so many steps of the machine.
-pub fn step(session: &mut Session, count: u32) {
-    let ended = run(session, &[], count);
+pub fn step(session: &mut Session, timeline: &mut Timeline, count: u32) {
+    let ended = run(session, timeline, &[], count);
     if ended.is_cut {
         session.is_open = false;
-        session.show_next();
+        session.show_next(timeline);
     } else {
-        tell_end(session, ended, count);
+        tell_end(session, timeline, ended, count);
     }
 }

@@ -2,6 +2,7 @@
 
 use crate::session::Session;
 use ddt_lines::{Search, SearchKind};
+use ddt_session::Timeline;
 use run_machine::Machine;
 use run_notes::effective_address;
 use word36::{BLOCK_WORDS, Word};
@@ -21,17 +22,17 @@ fn is_found(machine: &Machine, number: u8, search: &Search, word: Word) -> bool 
 }
 
 /// Shows the words of the open job's core that are searched for.
-pub fn search(session: &mut Session, search: &Search) {
+pub fn search(session: &mut Session, timeline: &Timeline, search: &Search) {
     let number = session.open;
-    let Some(view) = session.timeline.machine().job(number) else {
-        return session.tell_job(number);
+    let Some(view) = timeline.machine().job(number) else {
+        return session.tell_job(timeline, number);
     };
     for place in 0..view.blocks.saturating_mul(BLOCK_WORDS as u32) {
-        let Some(word) = session.timeline.machine().peek(number, place) else {
+        let Some(word) = timeline.machine().peek(number, place) else {
             break;
         };
-        if is_found(session.timeline.machine(), number, search, word) {
-            session.show_place(place);
+        if is_found(timeline.machine(), number, search, word) {
+            session.show_place(timeline, place);
             session.here = place;
         }
     }

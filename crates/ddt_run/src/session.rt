@@ -44,13 +44,12 @@ impl SessionJob {
     }
 }
 
-/// A session.
+/// A session: what is looked at, where runs stop, and what is told. The machine, with all that has happened
+/// to it, stands beside it.
 #[derive(Drop)]
 pub struct Session {
     /// Where memory comes from.
     pub alloc: Global,
-    /// The machine, with all that has happened to it.
-    pub timeline: Timeline,
     /// The jobs, by number from 1 on, each at the terminal line behind that of the one before.
     pub jobs: Vec<SessionJob>,
     /// The number of the job that is open.
@@ -81,10 +80,9 @@ pub struct Session {
 
 impl Session {
     /// A session without jobs, whose first will be open, and where nothing was looked at.
-    pub fn new(alloc: Global, timeline: Timeline) -> Self {
+    pub fn new(alloc: Global) -> Self {
         Session {
             alloc,
-            timeline,
             jobs: Vec::new(alloc),
             open: 1,
             look: Look::Symbolic,
@@ -108,8 +106,8 @@ fn is_running(view: &JobView) -> bool {
 }
 
 impl Session {
-    /// Ends the session, and gives back the memory that it has.
-    pub fn end(self) {}
+    /// Ends the session, and gives back the memory that it and its machine have.
+    pub fn end(self, _timeline: Timeline) {}
 
     /// How many terminal lines have jobs: line 0 job 1, line 1 job 2, and so on.
     pub fn lines(&self) -> u8 {
@@ -152,8 +150,8 @@ impl Session {
 
     /// Adds the line of a place of the open job and its word, as words are shown; false where it has no
     /// word there.
-    pub fn show_place(&mut self, place: u32) -> bool {
-        let Some(word) = self.timeline.machine().peek(self.open, place) else {
+    pub fn show_place(&mut self, timeline: &Timeline, place: u32) -> bool {
+        let Some(word) = timeline.machine().peek(self.open, place) else {
             return false;
         };
         if let Some(job) = self.open_job() {
@@ -166,23 +164,23 @@ impl Session {
     }
 
     /// Adds the line of what the open job executes next, or how it stands where it does not run.
-    pub fn show_next(&mut self) {
+    pub fn show_next(&mut self, timeline: &Timeline) {
         let mut is_shown = false;
-        if let Some(view) = self.timeline.machine().job(self.open) {
+        if let Some(view) = timeline.machine().job(self.open) {
             self.here = view.pc.number();
-            is_shown = is_running(&view) && self.show_place(self.here);
+            is_shown = is_running(&view) && self.show_place(timeline, self.here);
         }
         if !is_shown {
-            self.tell_job(self.open);
+            self.tell_job(timeline, self.open);
         }
     }
 
     /// Adds the line on how a job stands.
-    pub fn tell_job(&mut self, number: u8) {
+    pub fn tell_job(&mut self, timeline: &Timeline, number: u8) {
         if let Some(job) = self.job(number) {
             let line = job_line(
                 self.alloc,
-                self.timeline.machine(),
+                timeline.machine(),
                 &job.shown,
                 job.file.as_str(),
             );
@@ -191,16 +189,16 @@ impl Session {
     }
 
     /// Adds the lines on how all jobs stand.
-    pub fn tell_jobs(&mut self) {
+    pub fn tell_jobs(&mut self, timeline: &Timeline) {
         for number in 1..self.lines().saturating_add(1) {
-            self.tell_job(number);
+            self.tell_job(timeline, number);
         }
     }
 
     /// Whether words were deposited before this.
-    pub fn is_edited(&self) -> bool {
+    pub fn is_edited(&self, timeline: &Timeline) -> bool {
         match self.edited {
-            Some(happened) => happened < self.timeline.happened(),
+            Some(happened) => happened < timeline.happened(),
             None => false,
         }
     }

@@ -1,9 +1,9 @@
 //! Breakpoints, watched words and the other stops, as they are asked for.
 
-use crate::answer_text::AnswerText;
 use crate::session::Session;
 use ddt_lines::Refusal;
 use ddt_moves::{BREAKPOINTS, Breakpoint, StopList, WatchedWord};
+use ddt_session::Timeline;
 use lock_queue::Name;
 use queue_script::CallRoom;
 use script_io::Parts;
@@ -59,19 +59,6 @@ fn breakpoint_at(list: &StopList, at: usize) -> Option<Breakpoint> {
     }
 }
 
-/// Tells what else than breakpoints and words runs stop at.
-fn tell_others(answer: &mut AnswerText, list: &StopList) {
-    if list.circles {
-        answer.say("circles\n");
-    }
-    if list.lock.is_some() {
-        answer.say("calls on a lock\n");
-    }
-    if list.grants {
-        answer.say("grants\n");
-    }
-}
-
 /// Tells the breakpoints, and what else runs stop at.
 pub fn tell_stops(session: &mut Session) {
     for at in 0..BREAKPOINTS {
@@ -84,13 +71,21 @@ pub fn tell_stops(session: &mut Session) {
             tell_watched(session, word, true);
         }
     }
-    tell_others(&mut session.answer, &session.list);
+    if session.list.circles {
+        session.answer.say("circles\n");
+    }
+    if session.list.lock.is_some() {
+        session.answer.say("calls on a lock\n");
+    }
+    if session.list.grants {
+        session.answer.say("grants\n");
+    }
 }
 
 /// Watches a word of the open job, or no longer.
-pub fn watch(session: &mut Session, place: u32) {
+pub fn watch(session: &mut Session, timeline: &Timeline, place: u32) {
     let job = session.open;
-    if session.timeline.machine().peek(job, place).is_none() {
+    if timeline.machine().peek(job, place).is_none() {
         return session.answer.refuse(Refusal::NoWord);
     }
     let word = WatchedWord { job, place };

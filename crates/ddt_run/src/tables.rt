@@ -3,25 +3,26 @@
 use crate::answer_text::AnswerText;
 use crate::session::Session;
 use ddt_lines::{Refusal, lock_lines, register_lines, wait_lines};
+use ddt_session::Timeline;
 use std::alloc::AllocError;
 
 /// Opens a job.
-pub fn open_job(session: &mut Session, number: u8) {
+pub fn open_job(session: &mut Session, timeline: &Timeline, number: u8) {
     if usize::from(number) > session.jobs.len() || number == 0 {
         return session.answer.refuse(Refusal::NoJob);
     }
     session.open = number;
     session.is_open = false;
-    session.tell_job(number);
+    session.tell_job(timeline, number);
 }
 
 /// Tells how all jobs stand, how many steps were made, and whether words were deposited.
-pub fn tell_jobs(session: &mut Session) {
-    session.tell_jobs();
-    let (steps, ticks) = (session.timeline.steps(), session.timeline.ticks());
+pub fn tell_jobs(session: &mut Session, timeline: &Timeline) {
+    session.tell_jobs(timeline);
+    let (steps, ticks) = (timeline.steps(), timeline.ticks());
     session.answer.say_number("steps ", steps, ", ");
     session.answer.say_number("ticks ", ticks, "");
-    if session.is_edited() {
+    if session.is_edited(timeline) {
         session.answer.say(", edited: words were deposited");
     }
     session.answer.end_line();
@@ -40,21 +41,21 @@ fn say_lines(answer: &mut AnswerText, made: Result<Vec<u8>, AllocError>, none: &
 }
 
 /// Tells the requests for locks.
-pub fn tell_locks(session: &mut Session) {
-    let lines = lock_lines(session.alloc, session.timeline.machine());
+pub fn tell_locks(session: &mut Session, timeline: &Timeline) {
+    let lines = lock_lines(session.alloc, timeline.machine());
     say_lines(&mut session.answer, lines, "no requests\n");
 }
 
 /// Tells who waits for whom.
-pub fn tell_waits(session: &mut Session) {
-    let lines = wait_lines(session.alloc, session.timeline.machine());
+pub fn tell_waits(session: &mut Session, timeline: &Timeline) {
+    let lines = wait_lines(session.alloc, timeline.machine());
     say_lines(&mut session.answer, lines, "no job waits for another\n");
 }
 
 /// Tells the registers of the open job.
-pub fn tell_registers(session: &mut Session) {
+pub fn tell_registers(session: &mut Session, timeline: &Timeline) {
     if let Some(job) = session.open_job() {
-        let lines = register_lines(session.alloc, session.timeline.machine(), &job.shown);
+        let lines = register_lines(session.alloc, timeline.machine(), &job.shown);
         session.answer.say_made(lines);
     }
 }
