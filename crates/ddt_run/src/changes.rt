@@ -34,7 +34,7 @@ pub fn deposit(session: &mut Session, timeline: &mut Timeline, word: Word) {
 }
 
 /// Makes an entry whose answer tells nothing.
-fn make(session: &mut Session, timeline: &mut Timeline, entry: Entry) {
+pub fn make(session: &mut Session, timeline: &mut Timeline, entry: Entry) {
     if timeline.make(entry).is_err() {
         session.answer.fail();
     }
@@ -50,11 +50,6 @@ pub fn start_at(session: &mut Session, timeline: &mut Timeline, place: u32) {
         Ok(_) => run_from_start(session, timeline),
         Err(_) => session.answer.fail(),
     }
-}
-
-/// `.TICK n`: so many ticks go by.
-pub fn tick(session: &mut Session, timeline: &mut Timeline, count: u32) {
-    make(session, timeline, Entry::Ticks(count));
 }
 
 /// `.TYPE line text`: types a text and a line end at a line.

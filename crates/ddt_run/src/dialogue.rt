@@ -34,9 +34,10 @@ impl<R: ByteIn + Drop, W: ByteOut + Drop, E: ByteOut + Drop> Dialogue<R, W, E> {
     /// Takes the next line of the file that is obeyed, which is written before its answer, or else the
     /// next that is typed, for which a person is asked.
     fn take_line(&mut self, session: &mut Session) -> Result<Came, Failure> {
-        let came = session.file_lines.next_line(&mut self.line)?;
+        let came = session
+            .file_lines
+            .next_line(&mut self.line, &mut session.answer)?;
         if came != Came::End {
-            session.answer.echo(self.line.as_slice());
             return Ok(came);
         }
         if self.is_person {
@@ -56,9 +57,10 @@ pub fn serve_lines<F: Files + AllocGlobal, R: ByteIn + Drop, W: ByteOut + Drop, 
     for _ in 0..u64::MAX {
         let came = dialogue.take_line(session)?;
         let goes_on = serve_line(rt, session, timeline, came, dialogue.line.as_slice());
-        session.answer.write_to(&mut dialogue.output)?;
-        if !goes_on {
-            break;
+        match session.answer.write_to(&mut dialogue.output) {
+            Ok(()) if goes_on => {}
+            Ok(()) => break,
+            Err(failure) => return Err(failure),
         }
     }
     Ok(DONE)
@@ -82,17 +84,15 @@ fn wish_in<'a>(
         }
         Came::Line => {
             let wish = obey_line(session, timeline, line);
-            if matches!(wish, Wish::Nothing) && !has_kept(&mut session.kept, line) {
-                session.answer.fail();
+            if matches!(wish, Wish::Nothing) {
+                let kept = &mut session.kept;
+                if kept.extend_from_slice(line).is_err() || kept.push(b'\n').is_err() {
+                    session.answer.fail();
+                }
             }
             wish
         }
     }
-}
-
-/// Keeps a line that was obeyed; false where there is no memory for it.
-fn has_kept(kept: &mut Vec<u8>, line: &[u8]) -> bool {
-    kept.extend_from_slice(line).is_ok() && kept.push(b'\n').is_ok()
 }
 
 /// Serves what came; false where the session ends.
@@ -121,7 +121,7 @@ fn serve_line<F: Files + AllocGlobal>(
 
 /// The lines of this text of a file are obeyed next.
 fn begin_file(session: &mut Session, file: &str, text: Vec<u8>) {
-    match format!(in session.alloc; "{file}") {
+    match String::from_str(session.alloc, file) {
         Ok(name) => session.file_lines = FileLines::new(name, text),
         Err(_) => session.answer.fail(),
     }

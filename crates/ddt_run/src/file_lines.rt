@@ -1,5 +1,6 @@
 //! The lines of a file that is obeyed.
 
+use crate::answer_text::AnswerText;
 use ddt_moves::line_from;
 use line_ports::Came;
 use script_io::LINE_LENGTH;
@@ -42,8 +43,12 @@ impl FileLines {
         }
     }
 
-    /// Puts the next line in place of `line`. At the end no file is obeyed any longer.
-    pub fn next_line(&mut self, line: &mut Vec<u8>) -> Result<Came, AllocError> {
+    /// Puts the next line in place of `line`, and before its answer. At the end no file is obeyed any longer.
+    pub fn next_line(
+        &mut self,
+        line: &mut Vec<u8>,
+        answer: &mut AnswerText,
+    ) -> Result<Came, AllocError> {
         line.clear();
         let Some((next, behind)) = line_from(self.text.as_slice(), self.next) else {
             self.file = None;
@@ -51,6 +56,7 @@ impl FileLines {
         };
         self.next = behind;
         line.extend_from_slice(next)?;
+        answer.echo(next);
         if line.len() > LINE_LENGTH {
             return Ok(Came::TooLong);
         }

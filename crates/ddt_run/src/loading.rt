@@ -28,7 +28,12 @@ fn assemble_all<'a>(told: &mut AnswerText, sources: &[Source<'a>]) -> Option<Vec
 
 /// Adds a job that was logged in.
 fn add_job(session: &mut Session, file: &str, shown: ShownJob) {
-    let mut job = SessionJob::new(session.alloc, shown);
+    let alloc = session.alloc;
+    let mut job = SessionJob {
+        shown,
+        file: String::new(alloc),
+        symbols: Vec::new(alloc),
+    };
     let is_whole = job.name(file).is_ok();
     if session.jobs.push(job).is_err() || !is_whole {
         session.answer.fail();

@@ -1,7 +1,7 @@
 //! Lines that are obeyed.
 
 use crate::answer_text::AnswerText;
-use crate::changes::{deposit, start_at, take, tick, type_at};
+use crate::changes::{deposit, make, start_at, take, type_at};
 use crate::going_back::{back, back_to, back_to_write, forward};
 use crate::histories::tell_history;
 use crate::looks::{before, examine, look_of, next_of, open, tell_as, tell_value};
@@ -13,7 +13,7 @@ use crate::stop_commands::{
 };
 use crate::tables::{open_job, tell_jobs, tell_locks, tell_registers, tell_waits};
 use ddt_lines::{Command, Wrong, help_lines, is_help_on, read_line};
-use ddt_session::Timeline;
+use ddt_session::{Entry, Timeline};
 use std::str;
 
 /// What a line asks of the program, beside its answer.
@@ -92,14 +92,35 @@ fn file_to_obey<'a>(session: &mut Session, file: &'a [u8]) -> Option<&'a str> {
     None
 }
 
-/// Does what a command asks of the session: looks at places, and sets stops.
+/// Does what a command asks of the machine, as to go on and back, and of the session.
 fn obey(session: &mut Session, timeline: &mut Timeline, command: &Command<'_>) {
+    match *command {
+        Command::Deposit(word) => deposit(session, timeline, word),
+        Command::Go => go(session, timeline),
+        Command::GoAt(place) => start_at(session, timeline, place),
+        Command::Proceed(times) => proceed(session, timeline, times),
+        Command::Execute(count) => execute(session, timeline, count),
+        Command::ExecuteCall => execute_call(session, timeline),
+        Command::Step(count) => step(session, timeline, count),
+        Command::Tick(count) => make(session, timeline, Entry::Ticks(count)),
+        Command::Type(line, text) => type_at(session, timeline, line, text),
+        Command::Take => take(session, timeline),
+        Command::Back(steps) => back(session, timeline, steps),
+        Command::BackTo(place) => back_to(session, timeline, place),
+        Command::BackWrite(place) => back_to_write(session, timeline, place),
+        Command::Forward => forward(session, timeline),
+        _ => obey_look(session, timeline, command),
+    }
+}
+
+/// Does what a command asks that leaves the machine as it is: looks at places, sets stops, and tells of
+/// the jobs.
+fn obey_look(session: &mut Session, timeline: &Timeline, command: &Command<'_>) {
     match *command {
         Command::Next => open(session, timeline, next_of(session.here)),
         Command::Before => open(session, timeline, before(session.here)),
         Command::Addressed => open(session, timeline, session.last.right()),
         Command::Open(place) => open(session, timeline, place),
-        Command::Deposit(word) => deposit(session, timeline, word),
         Command::Tell(word) => tell_value(session, word),
         Command::Show(look) => session.look = look,
         Command::Last(last) => tell_as(session, look_of(last)),
@@ -112,26 +133,6 @@ fn obey(session: &mut Session, timeline: &mut Timeline, command: &Command<'_>) {
         Command::BreakLock(name) => stop_at_lock(session, name),
         Command::BreakGrant => stop_at_grants(session),
         Command::BreakCircle => stop_at_circles(session),
-        _ => obey_move(session, timeline, command),
-    }
-}
-
-/// Does what a command asks of the machine, as to go on and back, and tells what it asks for of the jobs.
-fn obey_move(session: &mut Session, timeline: &mut Timeline, command: &Command<'_>) {
-    match *command {
-        Command::Go => go(session, timeline),
-        Command::GoAt(place) => start_at(session, timeline, place),
-        Command::Proceed(times) => proceed(session, timeline, times),
-        Command::Execute(count) => execute(session, timeline, count),
-        Command::ExecuteCall => execute_call(session, timeline),
-        Command::Step(count) => step(session, timeline, count),
-        Command::Tick(count) => tick(session, timeline, count),
-        Command::Type(line, text) => type_at(session, timeline, line, text),
-        Command::Back(steps) => back(session, timeline, steps),
-        Command::BackTo(place) => back_to(session, timeline, place),
-        Command::BackWrite(place) => back_to_write(session, timeline, place),
-        Command::Forward => forward(session, timeline),
-        Command::Take => take(session, timeline),
         Command::Job(number) => open_job(session, timeline, number),
         Command::Jobs => tell_jobs(session, timeline),
         Command::Locks => tell_locks(session, timeline),

@@ -56,8 +56,8 @@ fn read_sources<'a, F: Files + AllocGlobal>(
 
 /// Reads the lines that are typed where a job waits, if a file of them is named; false where it cannot be
 /// read, which is told.
-fn read_input<F: Files + AllocGlobal>(rt: &F, asked: &Asked<'_>, session: &mut Session) -> bool {
-    let Some(file) = asked.input else {
+fn read_input<F: Files + AllocGlobal>(rt: &F, file: Option<&str>, session: &mut Session) -> bool {
+    let Some(file) = file else {
         return true;
     };
     match read_file(rt, ERROR_HEAD, file, &mut session.answer) {
@@ -72,7 +72,7 @@ fn read_input<F: Files + AllocGlobal>(rt: &F, asked: &Asked<'_>, session: &mut S
 /// Says why the words were refused, or on `writer` the help or the version that they asked for.
 fn tell_refusal<W: ByteOut + Drop, E: ByteOut + Drop>(
     alloc: Global,
-    refusal: &Refusal,
+    refusal: Refusal,
     writer: &mut Answers<W>,
     errors: &mut Answers<E>,
 ) -> Result<u8, Failure> {
@@ -114,7 +114,7 @@ fn load<F: Files + AllocGlobal>(
     let mut sources = Vec::new(session.alloc);
     let files = asked.files.as_slice();
     if !read_sources(rt, files, &mut session.answer, &mut sources)
-        || !read_input(rt, asked, session)
+        || !read_input(rt, asked.input, session)
     {
         Some(FAILED)
     } else if begin(session, timeline, sources.as_slice()) {
@@ -127,32 +127,22 @@ fn load<F: Files + AllocGlobal>(
     }
 }
 
-/// Serves a session that has no jobs yet, and gives the exit status. What is told before the first line is
-/// read goes where a person is told what is wrong.
-fn serve_session<F: Files + AllocGlobal, R: ByteIn + Drop, W: ByteOut + Drop, E: ByteOut + Drop>(
-    rt: &F,
-    asked: &Asked<'_>,
-    session: &mut Session,
-    timeline: &mut Timeline,
-    dialogue: &mut Dialogue<R, W, E>,
-) -> Result<u8, Failure> {
-    let ended = load(rt, asked, session, timeline, dialogue.is_person);
-    session.answer.write_to(&mut dialogue.errors)?;
-    match ended {
-        Some(status) => Ok(status),
-        None => serve_lines(rt, session, timeline, dialogue),
-    }
-}
-
-/// Serves what is asked for, and gives the exit status.
+/// Serves what is asked for, and gives the exit status. What is told before the first line is read goes
+/// where a person is told what is wrong.
 fn serve_asked<F: Files + AllocGlobal, R: ByteIn + Drop, W: ByteOut + Drop, E: ByteOut + Drop>(
     rt: &F,
-    asked: &Asked<'_>,
+    asked: Asked<'_>,
     dialogue: &mut Dialogue<R, W, E>,
 ) -> Result<u8, Failure> {
     let mut timeline = Timeline::new(rt.alloc(), asked.config)?;
     let mut session = Session::new(rt.alloc());
-    let served = serve_session(rt, asked, &mut session, &mut timeline, dialogue);
+    let ended = load(rt, &asked, &mut session, &mut timeline, dialogue.is_person);
+    let told = session.answer.write_to(&mut dialogue.errors);
+    let served = match (told, ended) {
+        (Err(failure), _) => Err(failure),
+        (Ok(()), Some(status)) => Ok(status),
+        (Ok(()), None) => serve_lines(rt, &mut session, &mut timeline, dialogue),
+    };
     session.end(timeline);
     served
 }
@@ -188,8 +178,8 @@ pub fn ddt<F: Files + AllocGlobal, R: ByteIn + Drop, W: ByteOut + Drop, E: ByteO
         is_person,
     };
     let served = match read_words(alloc, words) {
-        Ok(asked) => serve_asked(rt, &asked, &mut dialogue),
-        Err(refusal) => tell_refusal(alloc, &refusal, &mut dialogue.output, &mut dialogue.errors),
+        Ok(asked) => serve_asked(rt, asked, &mut dialogue),
+        Err(refusal) => tell_refusal(alloc, refusal, &mut dialogue.output, &mut dialogue.errors),
     };
     match served {
         Ok(status) => status,

@@ -76,8 +76,10 @@ fn goes_on(
         return Ok(false);
     }
     let lines = session.lines();
-    let is_typed = session.input.type_next(timeline, lines)?;
-    Ok(is_typed || some_go_on(timeline.machine()))
+    match session.input.type_next(timeline, lines) {
+        Ok(false) => Ok(some_go_on(timeline.machine())),
+        typed => typed,
+    }
 }
 
 /// `$G`: starts jobs, and runs.

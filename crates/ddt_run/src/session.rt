@@ -6,7 +6,6 @@ use ddt_lines::{Look, Scope, ShownJob, Symbol, job_line, place_line, place_text}
 use ddt_moves::{InputLines, StopList};
 use ddt_session::Timeline;
 use job_sched::Wait;
-use monitor::JobView;
 use std::alloc::{AllocError, Global};
 use word36::{JOBS, Word};
 
@@ -22,15 +21,6 @@ pub struct SessionJob {
 }
 
 impl SessionJob {
-    /// A job without a name and labels.
-    pub fn new(alloc: Global, shown: ShownJob) -> Self {
-        SessionJob {
-            shown,
-            file: String::new(alloc),
-            symbols: Vec::new(alloc),
-        }
-    }
-
     /// Gives it the name of its source's file, and the labels of its places.
     pub fn name(&mut self, file: &str) -> Result<(), AllocError> {
         self.file.push_str(file)?;
@@ -100,11 +90,6 @@ impl Session {
     }
 }
 
-/// Whether a job runs: it is not stopped and waits for nothing.
-fn is_running(view: &JobView) -> bool {
-    view.stop.is_none() && view.wait == Wait::None
-}
-
 impl Session {
     /// Ends the session, and gives back the memory that it and its machine have.
     pub fn end(self, _timeline: Timeline) {}
@@ -168,7 +153,8 @@ impl Session {
         let mut is_shown = false;
         if let Some(view) = timeline.machine().job(self.open) {
             self.here = view.pc.number();
-            is_shown = is_running(&view) && self.show_place(timeline, self.here);
+            let is_running = view.stop.is_none() && view.wait == Wait::None;
+            is_shown = is_running && self.show_place(timeline, self.here);
         }
         if !is_shown {
             self.tell_job(timeline, self.open);

@@ -127,26 +127,21 @@ fn lock_name(job: u8, text: &[u8]) -> Option<Name> {
     }
 }
 
-/// Whether runs stop before calls on a lock.
-fn stops_at(list: &StopList, name: &Name) -> bool {
-    match &list.lock {
-        Some(lock) => lock.is_same(name),
-        None => false,
-    }
-}
-
 /// Runs stop before calls on a lock, or no longer where they do.
 pub fn stop_at_lock(session: &mut Session, text: &[u8]) {
     let Some(name) = lock_name(session.open, text) else {
         return session.answer.refuse(Refusal::NoLock);
     };
-    if stops_at(&session.list, &name) {
-        session.list.lock = None;
-        session
-            .answer
-            .say("runs no longer stop before calls on that lock\n");
-    } else {
-        session.list.lock = Some(name);
-        session.answer.say("runs stop before calls on that lock\n");
+    match &session.list.lock {
+        Some(lock) if lock.is_same(&name) => {
+            session.list.lock = None;
+            session
+                .answer
+                .say("runs no longer stop before calls on that lock\n");
+        }
+        _ => {
+            session.list.lock = Some(name);
+            session.answer.say("runs stop before calls on that lock\n");
+        }
     }
 }

@@ -17,8 +17,9 @@ fn tell_breakpoint(session: &mut Session, timeline: &Timeline, number: usize, jo
     }
 }
 
-/// Adds a word in octal.
-fn say_word(answer: &mut AnswerText, word: Option<Word>) {
+/// Adds a word in octal, behind a text.
+fn say_word(answer: &mut AnswerText, before: &str, word: Option<Word>) {
+    answer.say(before);
     match word {
         Some(word) => answer.say(word.octal().as_str()),
         None => answer.say("no word"),
@@ -27,10 +28,8 @@ fn say_word(answer: &mut AnswerText, word: Option<Word>) {
 
 /// Adds what a word was and is: ` was 0, is 1, changed`.
 fn say_change(answer: &mut AnswerText, was: Option<Word>, is: Option<Word>) {
-    answer.say(" was ");
-    say_word(answer, was);
-    answer.say(", is ");
-    say_word(answer, is);
+    say_word(answer, " was ", was);
+    say_word(answer, ", is ", is);
     answer.say(", changed");
 }
 
