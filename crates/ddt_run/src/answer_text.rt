@@ -87,7 +87,9 @@ impl AnswerText {
         if !self.is_whole {
             return Err(Failure::Memory);
         }
-        port.write(self.bytes.as_slice())?;
+        if port.write(self.bytes.as_slice()).is_err() {
+            return Err(Failure::Write);
+        }
         self.bytes.clear();
         Ok(())
     }

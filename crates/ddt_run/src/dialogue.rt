@@ -34,14 +34,14 @@ impl<R: ByteIn + Drop, W: ByteOut + Drop, E: ByteOut + Drop> Dialogue<R, W, E> {
     /// Takes the next line of the file that is obeyed, which is written before its answer, or else the
     /// next that is typed, for which a person is asked.
     fn take_line(&mut self, session: &mut Session) -> Result<Came, Failure> {
-        let came = session
-            .file_lines
-            .next_line(&mut self.line, &mut session.answer)?;
-        if came != Came::End {
-            return Ok(came);
+        let (line, answer) = (&mut self.line, &mut session.answer);
+        match session.file_lines.next_line(line, answer) {
+            Ok(Came::End) => {}
+            Ok(came) => return Ok(came),
+            Err(_) => return Err(Failure::Memory),
         }
-        if self.is_person {
-            self.errors.write(texts::PROMPT.as_bytes())?;
+        if self.is_person && self.errors.write(texts::PROMPT.as_bytes()).is_err() {
+            return Err(Failure::Write);
         }
         self.input.next_line(&mut self.line)
     }

@@ -34,7 +34,7 @@ fn add_job(session: &mut Session, file: &str, shown: ShownJob) {
         file: String::new(alloc),
         symbols: Vec::new(alloc),
     };
-    let is_whole = job.name(file).is_ok();
+    let is_whole = job.file.push_str(file).is_ok() && job.add_labels().is_ok();
     if session.jobs.push(job).is_err() || !is_whole {
         session.answer.fail();
     }

@@ -79,15 +79,14 @@ fn tell_refusal<W: ByteOut + Drop, E: ByteOut + Drop>(
     match refusal {
         Refusal::Memory => Err(Failure::Memory),
         Refusal::Usage(error) => {
-            let text = error.to_string(alloc)?;
-            let bytes = text.as_str().as_bytes();
+            let mut text = AnswerText::new(alloc);
+            text.say_made(error.to_string(alloc));
             let (written, status) = if error.use_stderr() {
-                (errors.write(bytes), USAGE)
+                (text.write_to(errors), USAGE)
             } else {
-                (writer.write(bytes), DONE)
+                (text.write_to(writer), DONE)
             };
-            written?;
-            Ok(status)
+            written.and(Ok(status))
         }
     }
 }
@@ -134,7 +133,9 @@ fn serve_asked<F: Files + AllocGlobal, R: ByteIn + Drop, W: ByteOut + Drop, E: B
     asked: Asked<'_>,
     dialogue: &mut Dialogue<R, W, E>,
 ) -> Result<u8, Failure> {
-    let mut timeline = Timeline::new(rt.alloc(), asked.config)?;
+    let Ok(mut timeline) = Timeline::new(rt.alloc(), asked.config) else {
+        return Err(Failure::Memory);
+    };
     let mut session = Session::new(rt.alloc());
     let ended = load(rt, &asked, &mut session, &mut timeline, dialogue.is_person);
     let told = session.answer.write_to(&mut dialogue.errors);

@@ -21,9 +21,8 @@ pub struct SessionJob {
 }
 
 impl SessionJob {
-    /// Gives it the name of its source's file, and the labels of its places.
-    pub fn name(&mut self, file: &str) -> Result<(), AllocError> {
-        self.file.push_str(file)?;
+    /// Gives it the labels of its places.
+    pub fn add_labels(&mut self) -> Result<(), AllocError> {
         for label in self.shown.places.labels.as_slice() {
             self.symbols.push(Symbol {
                 name: label.name,
