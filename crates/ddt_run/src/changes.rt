@@ -24,19 +24,16 @@ pub fn deposit(session: &mut Session, timeline: &mut Timeline, word: Word) {
     if !session.is_edited(timeline) {
         session.edited = Some(timeline.happened());
     }
-    make(
-        session,
-        timeline,
-        Entry::Deposit(session.open, session.here, word),
-    );
+    let entry = Entry::Deposit(session.open, session.here, word);
+    make(&mut session.answer, timeline, entry);
     session.is_open = false;
     session.last = word;
 }
 
 /// Makes an entry whose answer tells nothing.
-pub fn make(session: &mut Session, timeline: &mut Timeline, entry: Entry) {
+pub fn make(answer: &mut AnswerText, timeline: &mut Timeline, entry: Entry) {
     if timeline.make(entry).is_err() {
-        session.answer.fail();
+        answer.fail();
     }
 }
 
@@ -53,11 +50,11 @@ pub fn start_at(session: &mut Session, timeline: &mut Timeline, place: u32) {
 }
 
 /// `.TYPE line text`: types a text and a line end at a line.
-pub fn type_at(session: &mut Session, timeline: &mut Timeline, line: u8, text: &[u8]) {
+pub fn type_at(answer: &mut AnswerText, timeline: &mut Timeline, line: u8, text: &[u8]) {
     match type_line(timeline, line, text) {
         Ok(true) => {}
-        Ok(false) => session.answer.refuse(Refusal::LineFull),
-        Err(_) => session.answer.fail(),
+        Ok(false) => answer.refuse(Refusal::LineFull),
+        Err(_) => answer.fail(),
     }
 }
 

@@ -87,9 +87,7 @@ impl Session {
             file_lines: FileLines::none(alloc),
         }
     }
-}
 
-impl Session {
     /// Ends the session, and gives back the memory that it and its machine have.
     pub fn end(self, _timeline: Timeline) {}
 

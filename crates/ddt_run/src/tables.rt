@@ -41,15 +41,15 @@ fn say_lines(answer: &mut AnswerText, made: Result<Vec<u8>, AllocError>, none: &
 }
 
 /// Tells the requests for locks.
-pub fn tell_locks(session: &mut Session, timeline: &Timeline) {
-    let lines = lock_lines(session.alloc, timeline.machine());
-    say_lines(&mut session.answer, lines, "no requests\n");
+pub fn tell_locks(answer: &mut AnswerText, timeline: &Timeline) {
+    let lines = lock_lines(answer.alloc, timeline.machine());
+    say_lines(answer, lines, "no requests\n");
 }
 
 /// Tells who waits for whom.
-pub fn tell_waits(session: &mut Session, timeline: &Timeline) {
-    let lines = wait_lines(session.alloc, timeline.machine());
-    say_lines(&mut session.answer, lines, "no job waits for another\n");
+pub fn tell_waits(answer: &mut AnswerText, timeline: &Timeline) {
+    let lines = wait_lines(answer.alloc, timeline.machine());
+    say_lines(answer, lines, "no job waits for another\n");
 }
 
 /// Tells the registers of the open job.

@@ -71,7 +71,7 @@ fn tell_cause(session: &mut Session, timeline: &Timeline, ended: Ended, most: u3
         Some(Cause::Word(job, place, was)) => tell_change(session, timeline, job, place, was),
         Some(Cause::Circle) => {
             session.answer.say("jobs wait in a circle\n");
-            tell_waits(session, timeline);
+            tell_waits(&mut session.answer, timeline);
         }
         Some(Cause::Call(job)) => {
             session.open = job;
