@@ -56,7 +56,8 @@ pub fn serve_lines<F: Files + AllocGlobal, R: ByteIn + Drop, W: ByteOut + Drop, 
 ) -> Result<u8, Failure> {
     for _ in 0..u64::MAX {
         let came = dialogue.take_line(session)?;
-        let goes_on = serve_line(rt, session, timeline, came, dialogue.line.as_slice());
+        let wish = wish_in(session, timeline, came, dialogue.line.as_slice());
+        let goes_on = serve_wish(rt, session, wish);
         match session.answer.write_to(&mut dialogue.output) {
             Ok(()) if goes_on => {}
             Ok(()) => break,
@@ -95,15 +96,9 @@ fn wish_in<'a>(
     }
 }
 
-/// Serves what came; false where the session ends.
-fn serve_line<F: Files + AllocGlobal>(
-    rt: &F,
-    session: &mut Session,
-    timeline: &mut Timeline,
-    came: Came,
-    line: &[u8],
-) -> bool {
-    match wish_in(session, timeline, came, line) {
+/// Does what is asked of the program; false where the session ends.
+fn serve_wish<F: Files + AllocGlobal>(rt: &F, session: &mut Session, wish: Wish<'_>) -> bool {
+    match wish {
         Wish::Nothing | Wish::Refused => {}
         Wish::Save(file) => {
             let lines = session.kept.as_slice();

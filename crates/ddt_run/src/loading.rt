@@ -13,8 +13,8 @@ fn assemble_all<'a>(told: &mut AnswerText, sources: &[Source<'a>]) -> Option<Vec
     for source in sources {
         match assemble_source(told.alloc, source) {
             Ok(Assembled::Program(program)) => {
-                let (image, places) = (&program.image, &program.places);
-                told.say_made(warnings_of(told.alloc, program.file, image, places));
+                let file = program.file;
+                told.say_made(warnings_of(told.alloc, file, &program.image, &program.places));
                 if programs.push(program).is_err() {
                     told.fail();
                 }
