@@ -130,14 +130,14 @@ fn load<F: Files + AllocGlobal>(
 /// where a person is told what is wrong.
 fn serve_asked<F: Files + AllocGlobal, R: ByteIn + Drop, W: ByteOut + Drop, E: ByteOut + Drop>(
     rt: &F,
-    asked: Asked<'_>,
+    asked: &Asked<'_>,
     dialogue: &mut Dialogue<R, W, E>,
 ) -> Result<u8, Failure> {
     let Ok(mut timeline) = Timeline::new(rt.alloc(), asked.config) else {
         return Err(Failure::Memory);
     };
     let mut session = Session::new(rt.alloc());
-    let ended = load(rt, &asked, &mut session, &mut timeline, dialogue.is_person);
+    let ended = load(rt, asked, &mut session, &mut timeline, dialogue.is_person);
     let told = session.answer.write_to(&mut dialogue.errors);
     let served = match (told, ended) {
         (Err(failure), _) => Err(failure),
@@ -179,7 +179,7 @@ pub fn ddt<F: Files + AllocGlobal, R: ByteIn + Drop, W: ByteOut + Drop, E: ByteO
         is_person,
     };
     let served = match read_words(alloc, words) {
-        Ok(asked) => serve_asked(rt, asked, &mut dialogue),
+        Ok(asked) => serve_asked(rt, &asked, &mut dialogue),
         Err(refusal) => tell_refusal(alloc, refusal, &mut dialogue.output, &mut dialogue.errors),
     };
     match served {
