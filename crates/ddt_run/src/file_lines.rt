@@ -43,7 +43,8 @@ impl FileLines {
         }
     }
 
-    /// Puts the next line in place of `line`, and before its answer. At the end no file is obeyed any longer.
+    /// Puts the next line in place of `line`, and into the answer, ahead of what is answered. At the end no
+    /// file is obeyed any longer.
     pub fn next_line(
         &mut self,
         line: &mut Vec<u8>,
