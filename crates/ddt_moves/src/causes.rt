@@ -1,10 +1,10 @@
 //! Why a run stopped.
 
 use crate::stop_lists::StopList;
-use ddt_session::Stop;
+use ddt_session::{LookedAt, Stop};
 use run_machine::Machine;
 use std::alloc::{AllocError, Global};
-use word36::Word;
+use word36::{Address, Word};
 
 /// Why a run stopped.
 #[derive(Clone, Copy)]
@@ -29,9 +29,11 @@ pub enum Cause {
 #[derive(Drop)]
 pub struct Stops {
     /// Where it stops.
-    pub stops: Vec<Stop>,
+    pub stops: Vec<LookedAt>,
     /// For each of these the number of its breakpoint, from 1; 0 where it is none.
     pub numbers: Vec<usize>,
+    /// The places of those that are at places.
+    pub places: Vec<Address>,
 }
 
 impl Stops {
@@ -39,17 +41,20 @@ impl Stops {
     pub fn add(&mut self, stop: Stop, number: usize) -> Result<(), AllocError> {
         // A stop may hold a word, or none: the prover wants that type to be named.
         let _word: Option<Word> = None;
-        self.stops.push(stop)?;
+        if let Stop::Place(_, place) = stop {
+            self.places.push(place)?;
+        }
         self.numbers.push(number)?;
+        self.stops.push(LookedAt { stop, stood: false })?;
         Ok(())
     }
 
     /// Why a run that one of them ended stopped.
     pub fn cause(&self, stop: Option<usize>) -> Option<Cause> {
         let at = stop?;
-        let stop = self.stops.as_slice().get(at).copied()?;
+        let looked = self.stops.as_slice().get(at).copied()?;
         let number = self.numbers.as_slice().get(at).copied().unwrap_or(0);
-        match stop {
+        match looked.stop {
             Stop::Place(job, place) if number > 0 => {
                 Some(Cause::Breakpoint(number, job, place.number()))
             }
@@ -71,6 +76,7 @@ pub fn stops_of(
     let mut stops = Stops {
         stops: Vec::new(alloc),
         numbers: Vec::new(alloc),
+        places: Vec::new(alloc),
     };
     // That there is no memory for one is told at the end.
     let mut added = Ok(());

@@ -38,7 +38,7 @@ impl Ended {
 /// lines on that are put in place of `grants`.
 pub fn run_to(
     timeline: &mut Timeline,
-    stops: &Stops,
+    stops: &mut Stops,
     list: &StopList,
     most: u32,
     grants: &mut String,
@@ -46,20 +46,30 @@ pub fn run_to(
     if list.grants || list.lock.is_some() {
         return run_watched(timeline, stops, list, most, grants);
     }
-    let ran = timeline.run(stops.stops.as_slice(), most, &mut NoWatch)?;
+    let ran = timeline.run(
+        stops.stops.as_mut_slice(),
+        stops.places.as_slice(),
+        most,
+        &mut NoWatch,
+    )?;
     Ok(Ended::of(stops, ran, most))
 }
 
 /// Makes steps as `run_to` does, and looks at calls on the lock that was asked for, and at grants.
 fn run_watched(
     timeline: &mut Timeline,
-    stops: &Stops,
+    stops: &mut Stops,
     list: &StopList,
     most: u32,
     grants: &mut String,
 ) -> Result<Ended, AllocError> {
     let mut watch = LockWatch::new(timeline.alloc(), timeline.machine(), list)?;
-    let ran = timeline.run(stops.stops.as_slice(), most, &mut watch)?;
+    let ran = timeline.run(
+        stops.stops.as_mut_slice(),
+        stops.places.as_slice(),
+        most,
+        &mut watch,
+    )?;
     if ran.is_watched {
         ended_by(timeline, &watch, grants)
     } else {

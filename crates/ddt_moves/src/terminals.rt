@@ -30,9 +30,8 @@ pub fn type_line(timeline: &mut Timeline, line: u8, typed: &[u8]) -> Result<bool
     type_byte(timeline, line, b'\n')
 }
 
-/// Takes what stands in the output of a line.
-pub fn take_line(timeline: &mut Timeline, line: u8) -> Result<Vec<u8>, AllocError> {
-    let mut bytes = Vec::new(timeline.alloc());
+/// Takes what stands in the output of a line, and adds it to these bytes.
+pub fn take_line(timeline: &mut Timeline, line: u8, bytes: &mut Vec<u8>) -> Result<(), AllocError> {
     for _ in 0..MOST_TAKES {
         let Answer::Text(taken) = timeline.make(Entry::Take(line))? else {
             break;
@@ -44,5 +43,5 @@ pub fn take_line(timeline: &mut Timeline, line: u8) -> Result<Vec<u8>, AllocErro
             bytes.push(character.number())?;
         }
     }
-    Ok(bytes)
+    Ok(())
 }

@@ -76,9 +76,11 @@ fn say_taken(answer: &mut AnswerText, line: u8, is_named: bool, bytes: &[u8]) {
 pub fn take(session: &mut Session, timeline: &mut Timeline) {
     let before = session.answer.len();
     let is_named = session.jobs.len() > 1;
+    let mut bytes = Vec::new(session.alloc);
     for line in 0..session.lines() {
-        match take_line(timeline, line) {
-            Ok(bytes) => say_taken(&mut session.answer, line, is_named, bytes.as_slice()),
+        bytes.clear();
+        match take_line(timeline, line, &mut bytes) {
+            Ok(()) => say_taken(&mut session.answer, line, is_named, bytes.as_slice()),
             Err(_) => session.answer.fail(),
         }
     }

@@ -27,7 +27,7 @@ fn try_run(
     if session.input.is_left(timeline.happened()) {
         stops.add(Stop::Input, 0)?;
     }
-    run_with_input(session, timeline, &stops, most)
+    run_with_input(session, timeline, &mut stops, most)
 }
 
 /// Makes steps as `try_run` does. Where there is no memory, the run ends, and the answer fails.
@@ -45,7 +45,7 @@ fn run(session: &mut Session, timeline: &mut Timeline, own: &[Stop], most: u32) 
 fn run_with_input(
     session: &mut Session,
     timeline: &mut Timeline,
-    stops: &Stops,
+    stops: &mut Stops,
     most: u32,
 ) -> Result<Ended, AllocError> {
     let end = timeline.steps().saturating_add(u64::from(most));

@@ -7,4 +7,4 @@ mod timeline;
 
 pub use entries::{Entry, perform, play};
 pub use stops::{LookedAt, NoWatch, Ran, Stop, Watch, round, run_until, some_go_on};
-pub use timeline::{Timeline, let_go, ticks_of};
+pub use timeline::{Timeline, let_go};

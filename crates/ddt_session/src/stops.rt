@@ -208,6 +208,7 @@ fn first_met(machine: &Machine, ran: Option<u8>, stops: &[LookedAt]) -> Option<u
 }
 
 /// Whether a job can go on now, or will by ticks alone.
+#[inline(always)]
 fn goes_on(machine: &Machine, number: u8) -> bool {
     match machine.job(number) {
         None => false,
@@ -231,18 +232,6 @@ pub fn some_go_on(machine: &Machine) -> bool {
         }
     }
     false
-}
-
-/// Whether the job that ran can go on at once.
-#[inline(always)]
-fn runs_on(machine: &Machine, ran: Option<u8>) -> bool {
-    let Some(number) = ran else {
-        return false;
-    };
-    match machine.job(number) {
-        Some(view) => view.stop.is_none() && matches!(view.wait, Wait::None),
-        None => false,
-    }
 }
 
 /// Whether a place is one of some.
@@ -332,7 +321,10 @@ pub fn run_until<W: Watch>(
         ran.made += rounds.made;
         ran.stop = first_met(machine, rounds.job, stops);
         ran.is_watched = ran.stop.is_none() && watch.is_met(machine, rounds.job);
-        is_sure = runs_on(machine, rounds.job);
+        is_sure = match rounds.job {
+            Some(number) => goes_on(machine, number),
+            None => false,
+        };
         look(machine, stops);
     }
     ran

@@ -5,12 +5,12 @@ ghost use Rattle.machine.specs.Machine.{at_boot};
 ghost use Rattle.ddt_session.specs.Timelines.{made, reached, steps_in, steps_of};
 
 use crate::entries::{Entry, perform, play};
-use crate::stops::{LookedAt, Ran, Stop, Watch, run_until};
+use crate::stops::{LookedAt, Ran, Watch, run_until};
 use monitor::{Answer, Config};
 use run_machine::Machine;
 use std::alloc::{AllocError, Global};
 use std::mem;
-use word36::{Address, Word};
+use word36::Address;
 
 /// A machine with all that has happened to it.
 ///
@@ -39,7 +39,7 @@ fn steps_of(entry: &Entry) -> u32
 }
 
 /// How many ticks an entry has.
-pub fn ticks_of(entry: &Entry) -> u32 {
+fn ticks_of(entry: &Entry) -> u32 {
     match entry {
         Entry::Rounds(count) | Entry::Ticks(count) => *count,
         _ => 0,
@@ -72,26 +72,6 @@ fn beginning(entries: &Vec<Entry>, count: usize) -> &[Entry]
     ensures { result.now ≡ take count entries.now.items }
 {
     &entries.as_slice()[..count]
-}
-
-/// Adds some stops to those that are looked at, and their places to those of the others.
-fn add_stops(
-    stops: &[Stop],
-    looked: &mut Vec<LookedAt>,
-    places: &mut Vec<Address>,
-) -> Result<(), AllocError> {
-    // A stop may hold a word: the prover wants its type to be named.
-    let _word: Option<Word> = None;
-    for stop in stops {
-        looked.push(LookedAt {
-            stop: *stop,
-            stood: false,
-        })?;
-        if let Stop::Place(_, place) = *stop {
-            places.push(place)?;
-        }
-    }
-    Ok(())
 }
 
 /// Lets a machine go, and gives back the memory that it has.
@@ -195,24 +175,16 @@ impl Timeline {
     }
 
     /// Makes steps until a stop holds, so many are made, no job can go on, or what else is looked at ends
-    /// the run, and forgets what stood behind.
+    /// the run, and forgets what stood behind. The places are those of the stops at places.
     pub fn run<W: Watch>(
         &mut self,
-        stops: &[Stop],
+        stops: &mut [LookedAt],
+        places: &[Address],
         most: u32,
         watch: &mut W,
     ) -> Result<Ran, AllocError> {
         self.cut()?;
-        let mut looked = Vec::new(self.alloc);
-        let mut places = Vec::new(self.alloc);
-        add_stops(stops, &mut looked, &mut places)?;
-        let ran = run_until(
-            &mut self.machine,
-            looked.as_mut_slice(),
-            places.as_slice(),
-            most,
-            watch,
-        );
+        let ran = run_until(&mut self.machine, stops, places, most, watch);
         self.part = ran.made;
         Ok(ran)
     }
