@@ -1,10 +1,11 @@
 //! The program: a session of the debugger on sources that its words name.
 #![tactic(auto)]
 
-use ddt_run::{Ports, ddt, unread_words};
+use ddt_run::{Dialogue, ddt, not_begun};
+use line_ports::{Answers, LineReader};
 use script_io::{HostIn, HostOut};
 use std::env;
-use std::io::{self, IsTerminal};
+use std::io::{self, ErrorKind, IsTerminal};
 use std::process::ExitCode;
 
 /// The words of the command line, which begin with the program's name.
@@ -18,13 +19,17 @@ fn main(rt: HostRuntime) -> ExitCode {
     let errors = HostOut::new(rt.stderr());
     let words = match words_of(&rt) {
         Ok(words) => words,
-        Err(error) => return ExitCode::from(unread_words(alloc, error.kind(), errors)),
+        Err(error) => return ExitCode::from(not_begun(alloc, error.kind(), errors)),
     };
-    let ports = Ports {
-        reader: HostIn::new(rt.stdin()),
-        writer: HostOut::new(rt.stdout()),
-        errors,
+    let Ok(input) = LineReader::new(alloc, HostIn::new(rt.stdin())) else {
+        return ExitCode::from(not_begun(alloc, ErrorKind::OutOfMemory, errors));
+    };
+    let mut dialogue = Dialogue {
+        input,
+        line: Vec::new(alloc),
+        output: Answers::new(HostOut::new(rt.stdout())),
+        errors: Answers::new(errors),
         is_person: rt.stderr().is_terminal(),
     };
-    ExitCode::from(ddt(&rt, words.as_slice(), ports))
+    ExitCode::from(ddt(&rt, words.as_slice(), &mut dialogue))
 }

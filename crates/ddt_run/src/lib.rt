@@ -24,8 +24,9 @@ mod words;
 
 pub use answer_text::AnswerText;
 pub use asked::Asked;
+pub use dialogue::Dialogue;
 pub use obey::{Wish, obey_line};
-pub use program::{Ports, ddt, unread_words};
+pub use program::{ddt, not_begun};
 pub use run_words::Refusal;
 pub use session::{Session, SessionJob};
 pub use words::read_words;

@@ -11,7 +11,7 @@ use crate::texts;
 use crate::words::read_words;
 use ddt_moves::InputLines;
 use ddt_session::Timeline;
-use line_ports::{Answers, Failure, LineReader};
+use line_ports::{Answers, Failure};
 use run_facts::{DONE, FAILED, REFUSED, USAGE};
 use run_words::Refusal;
 use script_io::{ByteIn, ByteOut};
@@ -19,19 +19,6 @@ use source_labels::Source;
 use std::alloc::Global;
 use std::io::ErrorKind;
 use std::rt::Files;
-
-/// The ports of the program.
-#[derive(Drop)]
-pub struct Ports<R: ByteIn + Drop, W: ByteOut + Drop, E: ByteOut + Drop> {
-    /// Where lines come from.
-    pub reader: R,
-    /// Where answers go.
-    pub writer: W,
-    /// Where a person is told what went wrong, and asked for lines.
-    pub errors: E,
-    /// Whether a person is asked for lines.
-    pub is_person: bool,
-}
 
 /// How a line begins that tells of a file which cannot be read.
 const ERROR_HEAD: &str = "ddt: ";
@@ -154,32 +141,11 @@ fn serve_asked<F: Files + AllocGlobal, R: ByteIn + Drop, W: ByteOut + Drop, E: B
 pub fn ddt<F: Files + AllocGlobal, R: ByteIn + Drop, W: ByteOut + Drop, E: ByteOut + Drop>(
     rt: &F,
     words: &[String],
-    ports: Ports<R, W, E>,
-) -> u8
-    requires reader_sound { R.has_failed ports.reader ≡ false }
-    requires writer_sound { W.has_failed ports.writer ≡ false }
-    requires errors_sound { E.has_failed ports.errors ≡ false }
-{
-    let Ports {
-        reader,
-        writer,
-        errors,
-        is_person,
-    } = ports;
+    dialogue: &mut Dialogue<R, W, E>,
+) -> u8 {
     let alloc = rt.alloc();
-    let mut errors = Answers::new(errors);
-    let Ok(input) = LineReader::new(alloc, reader) else {
-        return tell_failure(alloc, Failure::Memory, &mut errors);
-    };
-    let mut dialogue = Dialogue {
-        input,
-        line: Vec::new(alloc),
-        output: Answers::new(writer),
-        errors,
-        is_person,
-    };
     let served = match read_words(alloc, words) {
-        Ok(asked) => serve_asked(rt, &asked, &mut dialogue),
+        Ok(asked) => serve_asked(rt, &asked, dialogue),
         Err(refusal) => tell_refusal(alloc, refusal, &mut dialogue.output, &mut dialogue.errors),
     };
     match served {
@@ -188,9 +154,9 @@ pub fn ddt<F: Files + AllocGlobal, R: ByteIn + Drop, W: ByteOut + Drop, E: ByteO
     }
 }
 
-/// Says why the words of the command line could not be read, and gives the exit status: one of them is
-/// no text, which refuses them, or there was no memory.
-pub fn unread_words<E: ByteOut + Drop>(alloc: Global, kind: ErrorKind, errors: E) -> u8
+/// Says why the words of the command line, or the input, could not be taken, and gives the exit status: one
+/// of the words is no text, which refuses them, or there was no memory.
+pub fn not_begun<E: ByteOut + Drop>(alloc: Global, kind: ErrorKind, errors: E) -> u8
     requires { E.has_failed errors ≡ false }
     ensures no_text { kind ≡ ErrorKind.InvalidData → result ≡ USAGE }
     ensures no_memory { kind ≢ ErrorKind.InvalidData → result ≡ FAILED }
