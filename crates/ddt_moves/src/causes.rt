@@ -51,10 +51,8 @@ impl Stops {
 
     /// Why a run that one of them ended stopped.
     pub fn cause(&self, stop: Option<usize>) -> Option<Cause> {
-        // A stop may hold a place: the prover wants its type to be named.
-        let _place: Option<Address> = None;
         let at = stop?;
-        let looked = self.stops.as_slice().get(at).copied()?;
+        let looked = self.stops.as_slice().get(at)?;
         let number = self.numbers.as_slice().get(at).copied().unwrap_or(0);
         match looked.stop {
             Stop::Place(job, place) if number > 0 => {
