@@ -1,7 +1,10 @@
 //! The program: a session of the debugger on sources that its words name.
 #![tactic(auto)]
 
-use ddt_run::{Dialogue, ddt, not_begun};
+mod terminal;
+
+use crate::terminal::Terminal;
+use ddt_run::{ddt, not_begun};
 use line_ports::{Answers, LineReader};
 use script_io::{HostIn, HostOut};
 use std::env;
@@ -24,12 +27,12 @@ fn main(rt: HostRuntime) -> ExitCode {
     let Ok(input) = LineReader::new(alloc, HostIn::new(rt.stdin())) else {
         return ExitCode::from(not_begun(alloc, ErrorKind::OutOfMemory, errors));
     };
-    let mut dialogue = Dialogue {
-        input,
-        line: Vec::new(alloc),
-        output: Answers::new(HostOut::new(rt.stdout())),
-        errors: Answers::new(errors),
+    let mut terminal = Terminal {
+        rt: &rt,
         is_person: rt.stderr().is_terminal(),
+        input,
+        answers: Answers::new(HostOut::new(rt.stdout())),
+        errors: Answers::new(errors),
     };
-    ExitCode::from(ddt(&rt, words.as_slice(), &mut dialogue))
+    ExitCode::from(ddt(alloc, words.as_slice(), &mut terminal))
 }

@@ -1,8 +1,8 @@
 //! Text that is put together piece by piece.
 
+use crate::host::{Host, Stream};
 use ddt_lines::Refusal;
-use line_ports::{Answers, Failure};
-use script_io::ByteOut;
+use line_ports::Failure;
 use std::alloc::{AllocError, Global};
 
 /// The text of an answer, which is put together piece by piece and written as a whole or not at all.
@@ -82,12 +82,12 @@ impl AnswerText {
         self.bytes.len()
     }
 
-    /// Writes all of it to a port, and begins anew; fails where there was no memory for all of it.
-    pub fn write_to<W: ByteOut + Drop>(&mut self, port: &mut Answers<W>) -> Result<(), Failure> {
+    /// Writes all of it, and begins anew; fails where there was no memory for all of it.
+    pub fn write_to<H: Host>(&mut self, host: &mut H, stream: Stream) -> Result<(), Failure> {
         if !self.is_whole {
             return Err(Failure::Memory);
         }
-        if port.write(self.bytes.as_slice()).is_err() {
+        if host.write(stream, self.bytes.as_slice()).is_err() {
             return Err(Failure::Write);
         }
         self.bytes.clear();

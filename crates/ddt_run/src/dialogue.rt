@@ -1,64 +1,52 @@
 //! The lines of a session, as they come.
-ghost use Rattle.std.specs.Prelude.{false};
-
 use crate::file_lines::FileLines;
 use crate::files::{read_file, write_file};
+use crate::host::{Host, Stream};
 use crate::obey::{Wish, obey_line};
 use crate::session::Session;
 use crate::texts;
 use ddt_session::Timeline;
-use line_ports::{Answers, Came, Failure, LineReader};
+use line_ports::{Came, Failure};
 use run_facts::DONE;
-use script_io::{ByteIn, ByteOut, LINE_LENGTH};
-use std::rt::Files;
-
-/// Where lines come from, and where answers go.
-#[derive(Drop)]
-pub struct Dialogue<R: ByteIn + Drop, W: ByteOut + Drop, E: ByteOut + Drop> {
-    /// Where lines come from.
-    pub input: LineReader<R>,
-    /// The line that came last.
-    pub line: Vec<u8>,
-    /// Where answers go.
-    pub output: Answers<W>,
-    /// Where a person is asked for the next line.
-    pub errors: Answers<E>,
-    /// Whether a person is asked.
-    pub is_person: bool,
-}
+use script_io::LINE_LENGTH;
 
 /// How a line begins that says why something is not done.
 const REFUSAL_HEAD: &str = "? ";
 
-impl<R: ByteIn + Drop, W: ByteOut + Drop, E: ByteOut + Drop> Dialogue<R, W, E> {
-    /// Takes the next line of the file that is obeyed, which is written before its answer, or else the
-    /// next that is typed, for which a person is asked.
-    fn take_line(&mut self, session: &mut Session) -> Result<Came, Failure> {
-        let (line, answer) = (&mut self.line, &mut session.answer);
-        match session.file_lines.next_line(line, answer) {
-            Ok(Came::End) => {}
-            Ok(came) => return Ok(came),
-            Err(_) => return Err(Failure::Memory),
-        }
-        if self.is_person && self.errors.write(texts::PROMPT.as_bytes()).is_err() {
-            return Err(Failure::Write);
-        }
-        self.input.next_line(&mut self.line)
+/// Takes the next line of the file that is obeyed, which is written before its answer, or else the next
+/// that is typed, for which a person is asked.
+fn take_line<H: Host>(
+    host: &mut H,
+    session: &mut Session,
+    line: &mut Vec<u8>,
+) -> Result<Came, Failure> {
+    match session.file_lines.next_line(line, &mut session.answer) {
+        Ok(Came::End) => {}
+        Ok(came) => return Ok(came),
+        Err(_) => return Err(Failure::Memory),
     }
+    if host.is_person()
+        && host
+            .write(Stream::Errors, texts::PROMPT.as_bytes())
+            .is_err()
+    {
+        return Err(Failure::Write);
+    }
+    host.next_line(line)
 }
 
 /// Serves lines until the session ends, and gives the exit status.
-pub fn serve_lines<F: Files + AllocGlobal, R: ByteIn + Drop, W: ByteOut + Drop, E: ByteOut + Drop>(
-    rt: &F,
+pub fn serve_lines<H: Host>(
+    host: &mut H,
     session: &mut Session,
     timeline: &mut Timeline,
-    dialogue: &mut Dialogue<R, W, E>,
+    line: &mut Vec<u8>,
 ) -> Result<u8, Failure> {
     for _ in 0..u64::MAX {
-        let came = dialogue.take_line(session)?;
-        let wish = wish_in(session, timeline, came, dialogue.line.as_slice());
-        let goes_on = serve_wish(rt, session, wish);
-        match session.answer.write_to(&mut dialogue.output) {
+        let came = take_line(host, session, line)?;
+        let wish = wish_in(session, timeline, came, line.as_slice());
+        let goes_on = serve_wish(host, session, wish);
+        match session.answer.write_to(host, Stream::Answers) {
             Ok(()) if goes_on => {}
             Ok(()) => break,
             Err(failure) => return Err(failure),
@@ -97,15 +85,15 @@ fn wish_in<'a>(
 }
 
 /// Does what is asked of the program; false where the session ends.
-fn serve_wish<F: Files + AllocGlobal>(rt: &F, session: &mut Session, wish: Wish<'_>) -> bool {
+fn serve_wish<H: Host>(host: &H, session: &mut Session, wish: Wish<'_>) -> bool {
     match wish {
         Wish::Nothing | Wish::Refused => {}
         Wish::Save(file) => {
             let lines = session.kept.as_slice();
-            write_file(rt, REFUSAL_HEAD, file, lines, &mut session.answer);
+            write_file(host, REFUSAL_HEAD, file, lines, &mut session.answer);
         }
         Wish::Do(file) => {
-            if let Some(text) = read_file(rt, REFUSAL_HEAD, file, &mut session.answer) {
+            if let Some(text) = read_file(host, REFUSAL_HEAD, file, &mut session.answer) {
                 begin_file(session, file, text);
             }
         }

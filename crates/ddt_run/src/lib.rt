@@ -9,6 +9,7 @@ mod file_lines;
 mod files;
 mod going_back;
 mod histories;
+mod host;
 mod loading;
 mod looks;
 mod obey;
@@ -24,7 +25,7 @@ mod words;
 
 pub use answer_text::AnswerText;
 pub use asked::Asked;
-pub use dialogue::Dialogue;
+pub use host::{Host, Stream};
 pub use obey::{Wish, obey_line};
 pub use program::{ddt, not_begun};
 pub use run_words::Refusal;

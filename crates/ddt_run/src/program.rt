@@ -3,8 +3,9 @@ ghost use Rattle.std.specs.Prelude.{◌≡◌, ◌≢◌, false};
 
 use crate::answer_text::AnswerText;
 use crate::asked::Asked;
-use crate::dialogue::{Dialogue, serve_lines};
+use crate::dialogue::serve_lines;
 use crate::files::read_file;
+use crate::host::{Host, Stream};
 use crate::loading::begin;
 use crate::session::Session;
 use crate::texts;
@@ -14,24 +15,23 @@ use ddt_session::Timeline;
 use line_ports::{Answers, Failure};
 use run_facts::{DONE, FAILED, REFUSED, USAGE};
 use run_words::Refusal;
-use script_io::{ByteIn, ByteOut};
+use script_io::ByteOut;
 use source_labels::Source;
-use std::alloc::Global;
+use std::alloc::{AllocError, Global};
 use std::io::ErrorKind;
-use std::rt::Files;
 
 /// How a line begins that tells of a file which cannot be read.
 const ERROR_HEAD: &str = "ddt: ";
 
 /// Reads all sources; false where one cannot be read, which is told of the first.
-fn read_sources<'a, F: Files + AllocGlobal>(
-    rt: &F,
+fn read_sources<'a, H: Host>(
+    host: &H,
     files: &[&'a str],
     told: &mut AnswerText,
     sources: &mut Vec<Source<'a>>,
 ) -> bool {
     for file in files {
-        let Some(text) = read_file(rt, ERROR_HEAD, file, told) else {
+        let Some(text) = read_file(host, ERROR_HEAD, file, told) else {
             return false;
         };
         if sources.push(Source { file, text }).is_err() {
@@ -43,11 +43,11 @@ fn read_sources<'a, F: Files + AllocGlobal>(
 
 /// Reads the lines that are typed where a job waits, if a file of them is named; false where it cannot be
 /// read, which is told.
-fn read_input<F: Files + AllocGlobal>(rt: &F, file: Option<&str>, session: &mut Session) -> bool {
+fn read_input<H: Host>(host: &H, file: Option<&str>, session: &mut Session) -> bool {
     let Some(file) = file else {
         return true;
     };
-    match read_file(rt, ERROR_HEAD, file, &mut session.answer) {
+    match read_file(host, ERROR_HEAD, file, &mut session.answer) {
         Some(text) => {
             session.input = InputLines::new(session.alloc, text);
             true
@@ -56,55 +56,44 @@ fn read_input<F: Files + AllocGlobal>(rt: &F, file: Option<&str>, session: &mut 
     }
 }
 
-/// Says why the words were refused, or on `writer` the help or the version that they asked for.
-fn tell_refusal<W: ByteOut + Drop, E: ByteOut + Drop>(
-    alloc: Global,
-    refusal: Refusal,
-    writer: &mut Answers<W>,
-    errors: &mut Answers<E>,
-) -> Result<u8, Failure> {
+/// Says why the words were refused, or as an answer the help or the version that they asked for.
+fn tell_refusal<H: Host>(alloc: Global, refusal: Refusal, host: &mut H) -> Result<u8, Failure> {
     match refusal {
         Refusal::Memory => Err(Failure::Memory),
         Refusal::Usage(error) => {
+            let (stream, status) = if error.use_stderr() {
+                (Stream::Errors, USAGE)
+            } else {
+                (Stream::Answers, DONE)
+            };
             let mut text = AnswerText::new(alloc);
             text.say_made(error.to_string(alloc));
-            let (written, status) = if error.use_stderr() {
-                (text.write_to(errors), USAGE)
-            } else {
-                (text.write_to(writer), DONE)
-            };
-            written.and(Ok(status))
+            text.write_to(host, stream).and(Ok(status))
         }
     }
 }
 
-/// Says what went wrong, and gives the exit status.
-fn tell_failure<E: ByteOut + Drop>(alloc: Global, failure: Failure, errors: &mut Answers<E>) -> u8
-    ensures { result ≡ FAILED }
-{
-    if let Ok(text) = format!(in alloc; "ddt: {failure}\n") {
-        let _ = errors.write(text.as_str().as_bytes());
-    }
-    FAILED
+/// What went wrong, in a line.
+fn failure_line(alloc: Global, failure: Failure) -> Result<String, AllocError> {
+    format!(in alloc; "ddt: {failure}\n")
 }
 
 /// Reads what is asked for, and logs a job in for each source; gives the exit status where that fails.
 /// What is wrong, and warnings, are the answer, and what a person is told first.
-fn load<F: Files + AllocGlobal>(
-    rt: &F,
+fn load<H: Host>(
+    host: &H,
     asked: &Asked<'_>,
     session: &mut Session,
     timeline: &mut Timeline,
-    is_person: bool,
 ) -> Option<u8> {
     let mut sources = Vec::new(session.alloc);
     let files = asked.files.as_slice();
-    if !read_sources(rt, files, &mut session.answer, &mut sources)
-        || !read_input(rt, asked.input, session)
+    if !read_sources(host, files, &mut session.answer, &mut sources)
+        || !read_input(host, asked.input, session)
     {
         Some(FAILED)
     } else if begin(session, timeline, sources.as_slice()) {
-        if is_person {
+        if host.is_person() {
             session.answer.say(texts::BANNER);
         }
         None
@@ -115,21 +104,18 @@ fn load<F: Files + AllocGlobal>(
 
 /// Serves what is asked for, and gives the exit status. What is told before the first line is read goes
 /// where a person is told what is wrong.
-fn serve_asked<F: Files + AllocGlobal, R: ByteIn + Drop, W: ByteOut + Drop, E: ByteOut + Drop>(
-    rt: &F,
-    asked: &Asked<'_>,
-    dialogue: &mut Dialogue<R, W, E>,
-) -> Result<u8, Failure> {
-    let Ok(mut timeline) = Timeline::new(rt.alloc(), asked.config) else {
+fn serve_asked<H: Host>(alloc: Global, asked: &Asked<'_>, host: &mut H) -> Result<u8, Failure> {
+    let Ok(mut timeline) = Timeline::new(alloc, asked.config) else {
         return Err(Failure::Memory);
     };
-    let mut session = Session::new(rt.alloc());
-    let ended = load(rt, asked, &mut session, &mut timeline, dialogue.is_person);
-    let told = session.answer.write_to(&mut dialogue.errors);
+    let mut session = Session::new(alloc);
+    let mut line = Vec::new(alloc);
+    let ended = load(host, asked, &mut session, &mut timeline);
+    let told = session.answer.write_to(host, Stream::Errors);
     let served = match (told, ended) {
         (Err(failure), _) => Err(failure),
         (Ok(()), Some(status)) => Ok(status),
-        (Ok(()), None) => serve_lines(rt, &mut session, &mut timeline, dialogue),
+        (Ok(()), None) => serve_lines(host, &mut session, &mut timeline, &mut line),
     };
     session.end(timeline);
     served
@@ -137,20 +123,20 @@ fn serve_asked<F: Files + AllocGlobal, R: ByteIn + Drop, W: ByteOut + Drop, E: B
 
 /// Does what the words, which begin with the program's name, ask for, and gives the exit status: reads
 /// files, assembles them, logs a job in for each, and obeys lines until the session ends. The help and
-/// the version go to the output, and then there is no session.
-pub fn ddt<F: Files + AllocGlobal, R: ByteIn + Drop, W: ByteOut + Drop, E: ByteOut + Drop>(
-    rt: &F,
-    words: &[String],
-    dialogue: &mut Dialogue<R, W, E>,
-) -> u8 {
-    let alloc = rt.alloc();
+/// the version are answers, and then there is no session.
+pub fn ddt<H: Host>(alloc: Global, words: &[String], host: &mut H) -> u8 {
     let served = match read_words(alloc, words) {
-        Ok(asked) => serve_asked(rt, &asked, dialogue),
-        Err(refusal) => tell_refusal(alloc, refusal, &mut dialogue.output, &mut dialogue.errors),
+        Ok(asked) => serve_asked(alloc, &asked, host),
+        Err(refusal) => tell_refusal(alloc, refusal, host),
     };
     match served {
         Ok(status) => status,
-        Err(failure) => tell_failure(alloc, failure, &mut dialogue.errors),
+        Err(failure) => {
+            if let Ok(text) = failure_line(alloc, failure) {
+                let _ = host.write(Stream::Errors, text.as_str().as_bytes());
+            }
+            FAILED
+        }
     }
 }
 
@@ -167,6 +153,9 @@ pub fn not_begun<E: ByteOut + Drop>(alloc: Global, kind: ErrorKind, errors: E) -
         let _ = errors.write(text);
         USAGE
     } else {
-        tell_failure(alloc, Failure::Memory, &mut errors)
+        if let Ok(text) = failure_line(alloc, Failure::Memory) {
+            let _ = errors.write(text.as_str().as_bytes());
+        }
+        FAILED
     }
 }
