@@ -1,6 +1,6 @@
 -- Open queues stay used.
 use Rattle.std.proofs.lemmas.Grind.{common_steps}
-use Rattle.std.proofs.Common.{◌≡◌, ◌≢◌, ◌<◌, ℕ, true, List, ◌∷◌, ◌++◌, length, get_or, inl, inr, arith}
+use Rattle.std.proofs.Common.{◌≡◌, ◌≢◌, ◌<◌, sym, subst, ℕ, true, List, ◌∷◌, ◌++◌, length, get_or, inl, inr, arith}
 use Rattle.std.proofs.lemmas.Bool.{cases_eq, not-true}
 use Rattle.std.proofs.lemmas.List.Folds.{list_any-append}
 use Rattle.key_queues.specs.Kept.{KeptQueue}
@@ -33,7 +33,12 @@ pub used_same : (s t : State) (m : ℕ) → t.order ≡ s.order → ((x : ℕ) �
 used_same s t m order own u = grind (arith, common_steps)
 
 pub open_extended : (s t : State) (n : ℕ) → Extended s t n → IsUsed s n → OpenAreUsed s → OpenAreUsed t
-open_extended s t n e used_n used m some = grind (arith, common_steps, used_same)
+open_extended s t n e used_n used m some =
+    used_same s t m e.order e.own
+    (elim (cases_eq m n) [
+      | inl same ↦ subst (IsUsed s) (sym same) used_n
+      | inr ne ↦ used m (subst (λ q. is_open q ≡ true) (e.others m ne) some)
+    ])
 
 -- an open queue has places
 pub open_where_there : (x : ℕ) (q : KeptQueue) → is_there x q.places ≡ true → is_open q ≡ true

@@ -1,9 +1,8 @@
 -- Lists of places.
 use Rattle.std.proofs.Common.{nat_lt, ◌≡◌, ◌≢◌, ◌≤◌, ◌<◌, ◌+◌, ◌-◌, ◌∙◌, sym, ap, subst, ℕ, zero, suc, Bool, true, false, not, ◌||◌, ◌==◌, cond}
-use Rattle.std.proofs.Common.{List, [], ◌∷◌, ◌++◌, length, take, drop, filter, get_or, refl, arith}
+use Rattle.std.proofs.Common.{List, [], ◌∷◌, ◌++◌, length, take, drop, filter, get_or, inl, inr, refl, arith}
 use Rattle.std.specs.List.{position_or_len, remove}
-use Rattle.std.proofs.lemmas.Bool.{or_parts}
-use Rattle.std.proofs.lemmas.Bool.{or_right}
+use Rattle.std.proofs.lemmas.Bool.{both_ways, cases_eq, ne_eqb, or_parts, or_right}
 use Rattle.std.proofs.lemmas.List.{nil_from_length, length-append, drop-drop, length-drop}
 use Rattle.std.proofs.lemmas.List.Folds.{list_any-append}
 use Rattle.std.proofs.lemmas.List.Elements.{filter-append}
@@ -195,6 +194,13 @@ passed_on p from k xs le out is =
     grind (arith, common_steps, position_past p k (drop from xs), drop-drop k from xs, length-drop from xs)
 
 -- how many of a list pass
+count_cons : (t : ℕ → Bool) (x : ℕ) (xs : List ℕ) → length (filter t (x ∷ xs)) ≡ length (filter t xs) + one_if (t x)
+count_cons t x xs = go (t x)
+  where
+    go : (b : Bool) → length (cond b (x ∷ filter t xs) (filter t xs)) ≡ length (filter t xs) + one_if b
+    go true = omega arith
+    go false = omega arith
+
 pub count_changed : (t u : ℕ → Bool) (p : ℕ) (xs : List ℕ) → StandsOnce xs → is_there p xs ≡ true → ((x : ℕ) → x ≢ p → t x ≡ u x)
     → length (filter u xs) + one_if (t p) ≡ length (filter t xs) + one_if (u p)
 unfolding Once
@@ -202,7 +208,17 @@ count_changed t u p xs once h same = go xs (once_to xs once) h
   where
     go : (ys : List ℕ) → Once ys → is_there p ys ≡ true → length (filter u ys) + one_if (t p) ≡ length (filter t ys) + one_if (u p)
     go [] o k = cc
-    go (y ∷ ys) o k = grind (arith, common_steps, go ys o.1, same y, filter_same t u ys, same, o)
+    go (y ∷ ys) o k =
+        elim (cases_eq y p) [
+          | inl e ↦
+              let away : (x : ℕ) → is_there x ys ≡ true → x ≢ p =
+              λ x h s. both_ways (is_there y ys) o.0 (subst (λ z. is_there z ys ≡ true) (s ∙ sym e) h) in
+              let rest = ap length (filter_same t u ys (λ x h. same x (away x h))) in
+              omega (arith, count_cons t y ys, count_cons u y ys, rest, ap (λ z. one_if (t z)) e, ap (λ z. one_if (u z)) e)
+          | inr ne ↦
+              let later : is_there p ys ≡ true = sym (ap (λ b. b || is_there p ys) (ne_eqb y p ne)) ∙ k in
+              omega (arith, count_cons t y ys, count_cons u y ys, go ys o.1 later, ap one_if (same y ne))
+        ]
 
 pub count_without : (t : ℕ → Bool) (p : ℕ) (xs : List ℕ) → is_there p xs ≡ true
     → length (filter t (without_place xs p)) + one_if (t p) ≡ length (filter t xs)

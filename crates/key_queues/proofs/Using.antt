@@ -1,9 +1,9 @@
 -- What is found of queues that are used.
 use Rattle.std.proofs.lemmas.Grind.{common_steps}
-use Rattle.std.proofs.Common.{◌≡◌, ◌≤◌, ◌<◌, ◌+◌, ◌∙◌, ap, subst, ℕ, zero, suc, Bool, true, false, ◌==◌, cond, List, [], ◌∷◌}
+use Rattle.std.proofs.Common.{◌≡◌, ◌≤◌, ◌<◌, ◌+◌, ◌∙◌, sym, ap, subst, ℕ, zero, suc, Bool, true, false, ◌==◌, cond, List, [], ◌∷◌}
 use Rattle.std.proofs.Common.{length, get_or, map, filter, slice_get, Some, None, inl, inr, refl, arith}
 use Rattle.std.specs.List.{position_or_len, remove}
-use Rattle.std.proofs.lemmas.Bool.{eqb-false}
+use Rattle.std.proofs.lemmas.Bool.{cases_eq, eqb-false}
 use Rattle.std.proofs.lemmas.List.{get_or-set_same, get_or-set_other, nil_from_length}
 use Rattle.std.proofs.lemmas.Option.{slice_get-map}
 use Rattle.lock_queue.specs.declared.key.Key.{Key}
@@ -152,7 +152,13 @@ as_many_queues R (w ∷ ws) [] q = absurd q
 
 -- what a request owns after that it owned before
 pub owned_before : (s t : State) (p k x m : ℕ) → GivesUpAt s t p k → is_there m (t.own x) ≡ true → is_there m (s.own x) ≡ true
-owned_before s t p k x m gives there = grind (arith, common_steps, there_removed)
+owned_before s t p k x m gives there =
+    elim (cases_eq x p) [
+      | inl e ↦
+          let of : is_there m (t.own p) ≡ true = subst (λ y. is_there m (t.own y) ≡ true) e there in
+          subst (λ y. is_there m (s.own y) ≡ true) (sym e) (there_removed m k (s.own p) (subst (λ l. is_there m l ≡ true) gives.owns of))
+      | inr ne ↦ subst (λ l. is_there m l ≡ true) (gives.own x ne) there
+    ]
 
 -- a queue that is not empty after that is used
 pub used_after : (s t : State) (p k : ℕ) → IsKept s → IsKept t → is_there p s.order ≡ true → k < length (s.own p)
