@@ -1,8 +1,10 @@
 -- What is found by a key's hash, and how that is kept.
-use Rattle.std.proofs.Common.{◌≡◌, ◌<◌, ◌*◌, ◌++◌, ℕ, Bool, true, false, ◌==◌, List, [], ◌∷◌, length, get_or, set, take, drop, suc, Some, None, IfSome, subst, arith}
+use Rattle.std.proofs.Common.{◌≡◌, ◌<◌, ◌+◌, ◌*◌, ◌++◌, ◌∙◌, ℕ, Bool, true, false, not, ◌==◌, List, [], ◌∷◌, length, get_or, set, take, drop, suc}
+use Rattle.std.proofs.Common.{Some, None, IfSome, sym, ap, subst, refl, arith}
+use Rattle.std.proofs.lemmas.Bool.{ne_eqb}
 use Rattle.std.specs.List.{All, find, list_any, position_or_len, remove}
 use Rattle.std.proofs.lemmas.Grind.{common_steps}
-use Rattle.std.proofs.lemmas.List.{set-set}
+use Rattle.std.proofs.lemmas.List.{get_or_default, set-set}
 use Rattle.std.proofs.lemmas.List.Elements.{All-append, All-take, All-drop}
 use Rattle.word36.specs.declared.sizes.TheConstants.{LOCKS_A_CALL}
 use Rattle.lock_queue.specs.declared.key.Key.{Key}
@@ -50,10 +52,19 @@ pub found_open : (locks : List Lock) (key : Key) (seen : Found) (n : ℕ) → Is
     → is_open_for key (lock_at locks n) ≡ true
 found_open locks key seen n found is = subst (λ o. IfSome o (λ m. is_open_for key (lock_at locks m) ≡ true)) is found.found
 
+-- a hash is below their number
+pub hash_below : (h : ℕ) (key : Key) → h ≡ hash_of key → h < HASHES
+hash_below h key is = omega (arith, is)
+
 -- what is read at a hash is the bucket there
 pub bucket_read : (buckets : List Bucket) (h : ℕ) (b : Bucket) → length buckets ≡ HASHES → h < HASHES → b ≡ get_or buckets h b
     → b ≡ bucket_at buckets h
 bucket_read buckets h b long below read = grind (arith, common_steps)
+
+-- what is read of the locks is the lock there
+pub lock_read : (locks now : List Lock) (n : ℕ) (l : Lock) → locks ≡ now → n < length now → l ≡ get_or locks n l → l ≡ lock_at now n
+lock_read locks now n l view lt read =
+    read ∙ ap (λ ls. get_or ls n l) view ∙ get_or_default now n l unused_lock lt
 
 -- the numbers there are those of locks
 pub number_within : (buckets : List Bucket) (locks : List Lock) (h i : ℕ) (b : Bucket) → IsIndex buckets locks → h < HASHES
@@ -68,6 +79,10 @@ pub none_found : (buckets : List Bucket) (locks : List Lock) (key : Key) → IsI
     → (bucket_at buckets (hash_of key)).crowded ≡ false
     → (n : ℕ) → is_open_for key (lock_at locks n) ≡ false
 none_found buckets locks key index missed plain n = grind (arith, common_steps, find_misses, open_parts, index.hashes n, index.holds n)
+
+-- a queue that has places is open
+pub open_below : (q : KeptQueue) (k : ℕ) → k < length q.places → is_open q ≡ true
+open_below q k lt = ap not (ne_eqb (length q.places) 0 (λ e. absurd (omega (arith, lt, e))))
 
 -- an open lock whose queue is changed
 pub keyed_queue : (size : ℕ) (locks : List Lock) (most : ℕ) (buckets : List Bucket) (n : ℕ) (l : Lock) (q : KeptQueue) → IsKeyed size locks most buckets
@@ -106,18 +121,36 @@ all_less : (P : ℕ → Type 0) (xs : List ℕ) (i : ℕ) → All P xs → All P
 all_less P xs i all = All-append P (take i xs) (drop (suc i) xs) (All-take P i xs all) (All-drop P (suc i) xs all)
 
 -- a number that is taken out, of a lock that is not open
-pub keyed_closed : (size : ℕ) (locks : List Lock) (most : ℕ) (buckets : List Bucket) (n h : ℕ) → IsKeyed size locks most buckets
-    → n < length locks
-    → is_closed (lock_at locks n) ≡ true
-    → h < HASHES
-    → IsKeyed size locks most (set buckets h (without_number (bucket_at buckets h) n))
-keyed_closed size locks most buckets n h k lt shut below =
-    let b : Bucket = bucket_at buckets h in
+pub keyed_closed : (size : ℕ) (locks : List Lock) (most : ℕ) (buckets : List Bucket) (n : ℕ) (l : Lock) (b then : Bucket) → IsKeyed size locks most buckets
+    → n < length locks → l ≡ get_or locks n l → is_closed l ≡ true → b ≡ get_or buckets l.hash b → then ≡ without_number b n
+    → IsKeyed size locks most (set buckets l.hash then)
+keyed_closed size locks most buckets n l b then k lt is shut read gone =
+    let at : l ≡ lock_at locks n = lock_read locks locks n l refl lt is in
+    let below = hash_below l.hash l.key (subst (λ (m : Lock). m.hash ≡ hash_of m.key) (sym at) (k.index.hashes n)) in
+    let same : b ≡ bucket_at buckets l.hash = bucket_read buckets l.hash b k.index.long below read in
+    let less = all_less (λ m. m < length locks) b.numbers.items (position_or_len (λ m. m == n) b.numbers.items) in
     let within : All (λ m. m < length locks) (without_number b n).numbers.items =
-    all_less (λ m. m < length locks) b.numbers.items (position_or_len (λ m. m == n) b.numbers.items) (k.index.within h) in
-    let keeps : (m : ℕ) → is_open (lock_at locks m).queue ≡ true → Holds b m → Holds (without_number b n) m =
+    less (subst (λ (x : Bucket). All (λ m. m < length locks) x.numbers.items) (sym same) (k.index.within l.hash)) in
+    let keeps : (m : ℕ) → is_open (lock_at locks m).queue ≡ true → Holds (bucket_at buckets l.hash) m → Holds (without_number b n) m =
     λ m some held plain. grind (arith, common_steps, without_other n b.numbers.items m) in
-    record { small = k.small; reserved = k.reserved; index = index_set buckets locks h (without_number b n) k.index below within keeps }
+    subst (λ x. IsKeyed size locks most (set buckets l.hash x)) (sym gone)
+    record { small = k.small; reserved = k.reserved; index = index_set buckets locks l.hash (without_number b n) k.index below within keeps }
+
+-- a lock that is made
+pub spare_made : (locks old more : List Lock) (n : ℕ) (l : Lock) → old ≡ locks → more ≡ old ++ l ∷ [] → l ≡ unused_lock → n ≡ length old
+    → IsSpare locks more n
+spare_made locks old more n l view pushed unused at =
+    let is : more ≡ locks ++ unused_lock ∷ [] = pushed ∙ (λ i. view i ++ unused i ∷ []) in
+    grind (arith, common_steps, same_more locks)
+
+-- a want that comes last in the queue of an open lock
+pub entered_open : (locks old : List Lock) (p : ℕ) (w : Want) (n : ℕ) (l : Lock) (q : KeptQueue) → is_open_for w.key (lock_at locks n) ≡ true
+    → old ≡ locks → l ≡ get_or old n l → q ≡ appended l.queue p w
+    → IsEntered locks (set old n (record l { queue = q })) p w n
+entered_open locks old p w n l q some view read is =
+    let within = open_within locks n (open_parts w.key (lock_at locks n) some).0 in
+    let at = lock_read old locks n l view within read in
+    record { middle = locks; ready = grind (arith, common_steps); after = grind (arith, common_steps) }
 
 -- a want that comes last in the queue of a lock that is begun for its key
 pub entered_begun : (locks mid : List Lock) (p : ℕ) (w : Want) (n : ℕ) → IsSpare locks mid n

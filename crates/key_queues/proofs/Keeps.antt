@@ -3,6 +3,7 @@ use Rattle.std.proofs.Common.{◌≡◌, ◌≢◌, ◌≤◌, ◌<◌, ◌+◌,
 use Rattle.std.proofs.Common.{◌++◌, length, map, filter, get_or, slice_set, Option, Some, None, is_some, inl, inr, refl, arith, take, drop}
 use Rattle.std.proofs.lemmas.Bool.{both_ways, eq-eqb, cases_eq}
 use Rattle.std.proofs.lemmas.List.{append-nil, length-append, length-set, get_or-set_same, get_or-set_other, get_or_default, map-set, length-map}
+use Rattle.std.proofs.lemmas.List.Elements.{filter-append}
 use Rattle.std.proofs.Math.Seq.{take-append_seam}
 use Rattle.word36.specs.declared.sizes.TheConstants.{JOBS, MOST_REQUESTS}
 use Rattle.key_queues.specs.declared.filed.Filed.{Filed}
@@ -11,9 +12,8 @@ use Rattle.key_queues.specs.Shelves.{slot, is_filled, with_slot}
 use Rattle.key_queues.specs.Stores.{one_if, without_place, Stored, filed_at, with_filed, filed_or, job_at}
 use Rattle.key_queues.specs.Tables.{is_there, StandsOnce}
 use Rattle.key_queues.specs.Stores.{list_of, IsStored, blocked_at, blocked_of, is_blocked, places_of, number_of, recounted}
-use Rattle.key_queues.proofs.Orders.{there_filter, filter_passes, count_changed, count_last, count_without, there_last, stands_filter}
-use Rattle.key_queues.proofs.Orders.{filter_last, filter_same, filter_short, filter_there, stands_last, without_other, without_gone}
-use Rattle.key_queues.proofs.Orders.{without_once, without_length, without_kept, without_left}
+use Rattle.key_queues.proofs.Orders.{there_filter, filter_passes, count_changed, count_last, count_without, there_last, stands_filter, filter_same, filter_short}
+use Rattle.key_queues.proofs.Orders.{filter_there, stands_last, without_other, without_gone, without_once, without_length, without_kept, without_left}
 use Rattle.std.proofs.lemmas.Grind.{common_steps}
 use Rattle.key_queues.proofs.Slots.{within}
 
@@ -175,7 +175,7 @@ module _ (n : ℕ) (slots : List (Option Filed)) (len : ℕ) (order : List ℕ) 
         let new : ℕ → Bool = λ x. job_at (with_slot slots p (Some f)) x == j in
         let front : filter (λ x. job_at slots x == j) order ≡ filter new order =
         filter_same (λ x. job_at slots x == j) new order (λ x t. ap (λ y. y == j) (sym (job_other (Some f) x (not_here x t)))) in
-        let last = filter_last new order p in
+        let last = filter-append new order (p ∷ []) in
         let here = job_same (Some f) lt in
         let there : f.request.job < length own = omega (arith, k.lists, most) in
         grind (arith, common_steps, k.each j le, front, last, here, there, get_or-set_same, get_or-set_other, append-nil)
@@ -230,15 +230,9 @@ module _ (n : ℕ) (slots : List (Option Filed)) (len : ℕ) (order : List ℕ) 
 
     there_left : (q : ℕ) → is_there q (without_place order p) ≡ is_filled (with_slot slots p None) q
     there_left q =
-        grind (
-          arith,
-          common_steps,
-          without_gone p order k.once,
-          without_other p order q,
-          same_slot None (filled_within h),
-          other_slot None q,
-          k.there q,
-        )
+        let gone = without_gone p order k.once in
+        let other = without_other p order q in
+        grind (arith, common_steps, gone, other, same_slot None (filled_within h), other_slot None q, k.there q)
 
     jobs_left : (q : ℕ) → job_at (with_slot slots p None) q ≤ JOBS
     jobs_left q = grind (arith, common_steps, job_same None (filled_within h), job_other None q, k.jobs q)

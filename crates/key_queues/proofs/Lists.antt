@@ -1,8 +1,9 @@
 -- What stands at a place of a list, before it and behind it.
-use Rattle.std.proofs.Common.{◌≡◌, ◌≤◌, ◌<◌, ◌+◌, ap, subst, ℕ, zero, suc, List, [], ◌∷◌, ◌++◌, length}
-use Rattle.std.proofs.Common.{take, drop, slice_get, Some, None, inl, inr, refl, arith}
+use Rattle.std.proofs.Common.{◌≡◌, ◌≤◌, ◌<◌, ◌+◌, ◌-◌, ◌∙◌, ap, subst, ℕ, zero, suc, List, [], ◌∷◌, ◌++◌, length}
+use Rattle.std.proofs.Common.{drop_of_length-le, take, drop, get_or, replicate, slice_get, Some, None, inl, inr, refl, arith}
 use Rattle.std.specs.List.{remove}
-use Rattle.std.proofs.lemmas.List.{take-append-drop}
+use Rattle.std.proofs.lemmas.Bool.{cases_lt}
+use Rattle.std.proofs.lemmas.List.{get_or_past, get_or-replicate, length-replicate, replicate_more, take-append-drop, append-nil}
 use Rattle.std.proofs.lemmas.Grind.{common_steps}
 use Rattle.std.proofs.lemmas.Option.{slice_get_within, get_or_from_slice_get}
 use Rattle.lock_queue.proofs.Lists.{Has, Has-left, Sub, nil, skip, keep, Sub-refl}
@@ -59,6 +60,12 @@ module _ {X : Type 0} where
   take-remove_past (x ∷ xs) (suc n) zero le = absurd (omega arith)
   take-remove_past (x ∷ xs) (suc n) (suc i) le = ap (λ l. x ∷ l) (take-remove_past xs n i (omega arith))
 
+  pub remove_last : (xs : List X) (k : ℕ) → k ≡ length xs - 1 → k < length xs → remove xs k ≡ take (length xs - 1) xs
+  remove_last xs k is lt =
+      let le : length xs ≤ suc k = omega (arith, is, lt) in
+      let past : drop (suc k) xs ≡ [] = drop_of_length-le xs le in
+      ap (λ l. take k xs ++ l) past ∙ append-nil (take k xs) ∙ ap (λ n. take n xs) is
+
   pub remove_split : (a b : List X) (x : X) → remove (a ++ x ∷ b) (length a) ≡ a ++ b
   remove_split [] b x = refl
   remove_split (y ∷ a) b x = ap (λ l. y ∷ l) (remove_split a b x)
@@ -72,3 +79,15 @@ module _ {X : Type 0} where
   found_in_front (y ∷ xs) zero i x lt e = absurd (omega arith)
   found_in_front (y ∷ xs) (suc n) zero x lt e = e
   found_in_front (y ∷ xs) (suc n) (suc i) x lt e = found_in_front xs n i x (omega arith) e
+
+  -- a list of one element over and over
+  pub repeated_more : (n : ℕ) (x y : X) (xs ys : List X) → ys ≡ xs ++ y ∷ [] → xs ≡ replicate n x → y ≡ x → ys ≡ replicate (n + 1) x
+  repeated_more n x y xs ys is before same =
+      is ∙ ap (λ l. l ++ y ∷ []) before ∙ ap (λ z. replicate n x ++ z ∷ []) same ∙ replicate_more n x
+
+  pub repeated_at : (n i : ℕ) (x : X) → get_or (replicate n x) i x ≡ x
+  repeated_at n i x =
+      elim (cases_lt i n) [
+        | inl lt ↦ get_or-replicate n i x x lt
+        | inr ge ↦ get_or_past (replicate n x) i x (omega (arith, length-replicate n x))
+      ]

@@ -1,22 +1,20 @@
 -- Lists of places.
 use Rattle.std.proofs.Common.{nat_lt, ◌≡◌, ◌≢◌, ◌≤◌, ◌<◌, ◌+◌, ◌-◌, ◌∙◌, sym, ap, subst, ℕ, zero, suc, Bool, true, false, not, ◌||◌, ◌==◌, cond}
 use Rattle.std.proofs.Common.{List, [], ◌∷◌, ◌++◌, length, take, drop, filter, get_or, inl, inr, refl, arith}
-use Rattle.std.specs.List.{position_or_len, remove}
-use Rattle.std.proofs.lemmas.Bool.{both_ways, cases_eq, ne_eqb, or_parts, or_right}
+use Rattle.std.specs.List.{list_any, position_or_len, remove}
+use Rattle.std.proofs.lemmas.Bool.{both_ways, cases_eq, eq-eqb, false_from_ne_true, ltb-true, ne_eqb, or_parts, or_right}
 use Rattle.std.proofs.lemmas.List.{nil_from_length, length-append, drop-drop, length-drop}
 use Rattle.std.proofs.lemmas.List.Folds.{list_any-append}
 use Rattle.std.proofs.lemmas.List.Elements.{filter-append}
-use Rattle.lock_queue.proofs.Lists.{Sub-length, Sub-filter}
+use Rattle.lock_queue.proofs.Lists.{Has, Pairs, Pairs-across, Pairs-append, Pairs-right, Sub-Pairs, Sub-length, Sub-filter, list_any-Has, list_any-found}
 use Rattle.std.proofs.lemmas.Grind.{common_steps}
 use Rattle.key_queues.specs.Stores.{one_if, without_place}
 use Rattle.key_queues.specs.Tables.{is_there, StandsOnce}
+use Rattle.key_queues.proofs.Lists.{Sub-remove}
 
 -- one more place at the end
 pub there_last : (q p : ℕ) (xs : List ℕ) → is_there q (xs ++ p ∷ []) ≡ (is_there q xs || (p == q))
 there_last q p xs = grind (arith, common_steps, list_any-append (λ x. x == q) xs (p ∷ []))
-
-pub filter_last : (t : ℕ → Bool) (xs : List ℕ) (p : ℕ) → filter t (xs ++ p ∷ []) ≡ filter t xs ++ cond (t p) (p ∷ []) []
-filter_last t xs p = filter-append t xs (p ∷ [])
 
 pub filter_same : (t u : ℕ → Bool) (xs : List ℕ) → ((x : ℕ) → is_there x xs ≡ true → t x ≡ u x) → filter t xs ≡ filter u xs
 filter_same t u [] same = refl
@@ -35,19 +33,18 @@ pub there_filter : (t : ℕ → Bool) (x : ℕ) (xs : List ℕ) → is_there x (
 there_filter t x [] h = cc
 there_filter t x (y ∷ xs) h = grind (arith, common_steps, there_filter t x xs)
 
-there_at : (xs : List ℕ) (i d : ℕ) → i < length xs → is_there (get_or xs i d) xs ≡ true
+pub there_at : (xs : List ℕ) (i d : ℕ) → i < length xs → is_there (get_or xs i d) xs ≡ true
 there_at [] i d lt = absurd (omega arith)
 there_at (x ∷ xs) zero d lt = grind (arith, common_steps)
 there_at (x ∷ xs) (suc i) d lt = grind (arith, common_steps, there_at xs i d)
-
-pub there_within : (p : ℕ) (xs : List ℕ) → is_there p xs ≡ true → position_or_len (λ x. x == p) xs < length xs
-there_within p [] h = cc
-there_within p (x ∷ xs) h = grind (arith, common_steps, there_within p xs)
 
 -- a place is there where it has an index
 pub there_by_index : (p : ℕ) (xs : List ℕ) → nat_lt (position_or_len (λ x. x == p) xs) (length xs) ≡ is_there p xs
 there_by_index p [] = refl
 there_by_index p (x ∷ xs) = grind (arith, common_steps, there_by_index p xs)
+
+pub there_within : (p : ℕ) (xs : List ℕ) → is_there p xs ≡ true → position_or_len (λ x. x == p) xs < length xs
+there_within p xs h = ltb-true _ _ (there_by_index p xs ∙ h)
 
 -- a list whose end is turned left by one, without its last
 pub turned_out : (xs : List ℕ) (i n : ℕ) → n + 1 ≡ length xs → i ≤ n
@@ -91,22 +88,37 @@ once_to (x ∷ xs) once = (
 pub there_split : (p : ℕ) (before after : List ℕ) → is_there p (before ++ p ∷ after) ≡ true
 there_split p before after = grind (arith, common_steps, list_any-append (λ x. x == p) before (p ∷ after))
 
-once_from : (xs : List ℕ) → Once xs → StandsOnce xs
-unfolding Once
-once_from [] once [] after p is = cc
-once_from [] once (y ∷ before) after p is = cc
-once_from (x ∷ xs) once [] after p is = grind (arith, common_steps, once)
-once_from (x ∷ xs) once (y ∷ before) after p is =
-    grind (arith, common_steps, once_from xs once.1 before after p, there_split p before after, once)
+-- each place once, by pairs
+pub Has-there : (xs : List ℕ) (x : ℕ) → Has xs x → is_there x xs ≡ true
+Has-there xs x h = list_any-Has (λ y. y == x) xs x (eq-eqb x x refl) h
+
+pub once_pairs : (xs : List ℕ) → StandsOnce xs → Pairs (λ x y. x ≢ y) xs
+once_pairs [] once = tt
+once_pairs (x ∷ xs) once = (
+  λ y h e. let out = (once [] xs x refl).1 in let there = Has-there xs y h in grind (arith, common_steps),
+  once_pairs xs (λ before after p is. let both = once (x ∷ before) after p (ap (λ l. x ∷ l) is) in grind (arith, common_steps)),
+)
+
+pub pairs_once : (xs : List ℕ) → Pairs (λ x y. x ≢ y) xs → StandsOnce xs
+pairs_once xs pairs before after p is =
+    let all : Pairs (λ x y. x ≢ y) (before ++ p ∷ after) = subst (Pairs (λ x y. x ≢ y)) is pairs in (
+      list_any-absent (λ y. y == p) before (λ y h. ne_eqb y p (Pairs-across (λ x y. x ≢ y) before (p ∷ after) all y p h (inl refl))),
+      list_any-absent (λ y. y == p) after (λ y h. ne_eqb y p (λ e. (Pairs-right (λ x y. x ≢ y) before (p ∷ after) all).0 y h (sym e))),
+    )
+  where
+    list_any-absent : (test : ℕ → Bool) (ys : List ℕ) → ((y : ℕ) → Has ys y → test y ≡ false) → list_any test ys ≡ false
+    list_any-absent test ys f =
+        false_from_ne_true (list_any test ys) (λ t. let found = list_any-found test ys t in both_ways (test found.0) (f found.0 found.1) found.2)
 
 -- one more that is not there
-once_last : (xs : List ℕ) (p : ℕ) → is_there p xs ≡ false → Once xs → Once (xs ++ p ∷ [])
-unfolding Once
-once_last [] p out once = (refl, tt)
-once_last (x ∷ xs) p out once = grind (arith, common_steps, once_last xs p, there_last x p xs, once)
-
 pub stands_last : (xs : List ℕ) (p : ℕ) → is_there p xs ≡ false → StandsOnce xs → StandsOnce (xs ++ p ∷ [])
-stands_last xs p out once = once_from (xs ++ p ∷ []) (once_last xs p out (once_to xs once))
+stands_last xs p out once =
+    pairs_once (xs ++ p ∷ [])
+    (Pairs-append (λ x y. x ≢ y) xs (p ∷ []) (once_pairs xs once) (λ y h. absurd h, tt) (λ x y h k e.
+    elim k [
+      | inl f ↦ both_ways (is_there p xs) out (subst (λ z. is_there z xs ≡ true) (e ∙ sym f) (Has-there xs x h))
+      | inr f ↦ absurd f
+    ]))
 
 -- what is there when one has gone
 drop_other : (p q : ℕ) (xs : List ℕ) → q ≢ p → is_there q (drop_first p xs) ≡ is_there q xs
@@ -118,11 +130,6 @@ drop_gone : (p : ℕ) (xs : List ℕ) → Once xs → is_there p (drop_first p x
 unfolding drop_first Once
 drop_gone p [] once = refl
 drop_gone p (x ∷ xs) once = grind (arith, common_steps, drop_gone p xs, once)
-
-drop_once : (p : ℕ) (xs : List ℕ) → Once xs → Once (drop_first p xs)
-unfolding drop_first Once
-drop_once p [] once = tt
-drop_once p (x ∷ xs) once = grind (arith, common_steps, drop_once p xs, drop_other p x xs, once)
 
 drop_length : (p : ℕ) (xs : List ℕ) → is_there p xs ≡ true → length (drop_first p xs) + 1 ≡ length xs
 unfolding drop_first
@@ -149,8 +156,7 @@ module _ (p : ℕ) (xs : List ℕ) where
   without_gone once = ap (is_there p) (without_is p xs) ∙ drop_gone p xs (once_to xs once)
 
   pub without_once : StandsOnce xs → StandsOnce (without_place xs p)
-  without_once once =
-      subst StandsOnce (sym (without_is p xs)) (once_from (drop_first p xs) (drop_once p xs (once_to xs once)))
+  without_once once = pairs_once (without_place xs p) (Sub-Pairs (λ x y. x ≢ y) (Sub-remove xs _) (once_pairs xs once))
 
   pub without_length : is_there p xs ≡ true → length (without_place xs p) + 1 ≡ length xs
   without_length h = ap (λ l. length l + 1) (without_is p xs) ∙ drop_length p xs h
@@ -178,14 +184,8 @@ last_dropped p (suc n) d (x ∷ xs) once long is = grind (arith, common_steps, l
 pub without_last : (p n d : ℕ) (xs : List ℕ) → StandsOnce xs → n + 1 ≡ length xs → get_or xs n d ≡ p → without_place xs p ≡ take n xs
 without_last p n d xs once long is = without_is p xs ∙ last_dropped p n d xs (once_to xs once) long is
 
--- what a filter keeps stands once
-filter_once : (t : ℕ → Bool) (xs : List ℕ) → Once xs → Once (filter t xs)
-unfolding Once
-filter_once t [] once = tt
-filter_once t (x ∷ xs) once = grind (arith, common_steps, filter_once t xs, there_filter t x xs, once)
-
 pub stands_filter : (t : ℕ → Bool) (xs : List ℕ) → StandsOnce xs → StandsOnce (filter t xs)
-stands_filter t xs once = once_from (filter t xs) (filter_once t xs (once_to xs once))
+stands_filter t xs once = pairs_once (filter t xs) (Sub-Pairs (λ x y. x ≢ y) (Sub-filter t xs) (once_pairs xs once))
 
 pub passed_on : (p from k : ℕ) (xs : List ℕ) → from + k ≤ length xs → is_there p (take (from + k - from) (drop from xs)) ≡ false
     → from + position_or_len (λ x. x == p) (drop from xs) ≡ position_or_len (λ x. x == p) xs
@@ -226,7 +226,7 @@ count_without t p xs h =
     grind (arith, common_steps, without_kept p xs t, without_left p xs t, without_length p (filter t xs), filter_there t p xs)
 
 pub count_last : (t : ℕ → Bool) (xs : List ℕ) (p : ℕ) → length (filter t (xs ++ p ∷ [])) ≡ length (filter t xs) + one_if (t p)
-count_last t xs p = grind (arith, common_steps, filter_last t xs p, length-append)
+count_last t xs p = grind (arith, common_steps, filter-append t xs (p ∷ []), length-append)
 
 pub filter_passes : (t : ℕ → Bool) (x : ℕ) (xs : List ℕ) → is_there x (filter t xs) ≡ true → t x ≡ true
 filter_passes t x [] h = cc

@@ -21,18 +21,14 @@ use Rattle.key_queues.proofs.Counting.{counts_all}
 use Rattle.key_queues.proofs.Beginnings.{fitting_most}
 use Rattle.key_queues.proofs.Keeping.{found_there}
 use Rattle.key_queues.proofs.Lists.{past_none, found_within}
+use Rattle.key_queues.proofs.Orders.{filter_passes, there_filter}
+pub use Rattle.key_queues.proofs.Orders.{filter_there as kept_there, there_at}
 use Rattle.key_queues.proofs.Standing.{one_of_key}
 
--- a place that passes is kept by a filter
-pub kept_there : (t : ℕ → Bool) (x : ℕ) (xs : List ℕ) → is_there x xs ≡ true → t x ≡ true → is_there x (filter t xs) ≡ true
-kept_there t x [] h is = cc
-kept_there t x (y ∷ xs) h is = grind (arith, common_steps, kept_there t x xs)
-
--- and what is kept was there, and passes
+-- what is kept by a filter was there, and passes
 pub there_kept : (t : ℕ → Bool) (x : ℕ) (xs : List ℕ) → is_there x (filter t xs) ≡ true
     → (is_there x xs ≡ true) × (t x ≡ true)
-there_kept t x [] h = cc
-there_kept t x (y ∷ xs) h = grind (arith, common_steps, there_kept t x xs)
+there_kept t x xs h = (there_filter t x xs h, filter_passes t x xs h)
 
 -- a request names the key of each of its queues
 pub named_there : (key : ℕ → Key) (ws : List Want) (ns : List ℕ) (n : ℕ) → QueuesOf (λ w m. key m ≡ w.key) ws ns
@@ -68,11 +64,6 @@ want_at_queue key [] [] n q h = cc
 want_at_queue key (v ∷ ws) (m ∷ ns) n q h = grind (arith, common_steps, want_at_queue key ws ns n q.1)
 want_at_queue key [] (m ∷ ns) n q h = absurd q
 want_at_queue key (v ∷ ws) [] n q h = absurd q
-
-pub there_at : (ns : List ℕ) (k d : ℕ) → k < length ns → is_there (get_or ns k d) ns ≡ true
-there_at [] k d lt = absurd (omega arith)
-there_at (n ∷ ns) zero d lt = grind (arith, common_steps)
-there_at (n ∷ ns) (suc k) d lt = grind (arith, common_steps, there_at ns k d)
 
 -- the place of the first want of a queue that is not counted
 pub record Next (s : State) (n p : ℕ) (w : Want) : Type 0 where

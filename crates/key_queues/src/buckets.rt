@@ -47,10 +47,10 @@ pub fn no_buckets(alloc: Global, count: usize) -> Result<Vec<Bucket>, AllocError
 {
     let mut buckets = Vec::with_capacity(alloc, count)?;
     for _ in 0..count {
-        buckets.push(Bucket {
+        buckets.push_reserved(Bucket {
             numbers: ArrayVec::new(),
             crowded: false,
-        })?;
+        });
     }
     Ok(buckets)
 }

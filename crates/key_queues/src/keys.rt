@@ -72,9 +72,9 @@ impl<const REQS: usize> Keys<REQS> {
         ensures { IfOk result (λ keys. keys ≡ []) }
     {
         Ok(Keys {
+            free: Vec::with_capacity(alloc, LOCKS_A_CALL * REQS)?,
             locks: Vec::with_capacity(alloc, LOCKS_A_CALL * REQS)?,
             buckets: no_buckets(alloc, HASHES)?,
-            free: Vec::with_capacity(alloc, LOCKS_A_CALL * REQS)?,
         })
     }
 

@@ -114,7 +114,7 @@ pub fn no_lists<const REQS: usize>(
 {
     let mut own = Vec::with_capacity(alloc, lists)?;
     for _ in 0..lists {
-        own.push(Places::new(alloc)?)?;
+        own.push_reserved(Places::new(alloc)?);
     }
     Ok(own)
 }
@@ -134,9 +134,5 @@ pub fn no_counts(alloc: Global, numbers: usize) -> Result<Vec<u16>, AllocError>
     ensures long { IfOk result (λ counts. length counts.items ≡ numbers) }
     ensures zero { IfOk result (λ counts. (job : ℕ) → number_of counts.items job ≡ 0) }
 {
-    let mut counts = Vec::with_capacity(alloc, numbers)?;
-    for _ in 0..numbers {
-        counts.push(0)?;
-    }
-    Ok(counts)
+    vec![in alloc; 0; numbers]
 }

@@ -1,6 +1,6 @@
 //! Requests in the places of a slab.
 ghost use Rattle.std.specs.Borrow.{sem};
-ghost use Rattle.std.specs.Prelude.{ℕ, ◌≡◌, ◌<◌, ◌≤◌, ◌+◌, length, true, Some, None, IfOk, OnOk};
+ghost use Rattle.std.specs.Prelude.{ℕ, ◌≡◌, ◌<◌, ◌≤◌, ◌+◌, length, true, Some, None, IfOk, OnOk, vec_capacity};
 ghost use Rattle.word36.specs.declared.sizes.TheConstants.{MOST_REQUESTS};
 ghost use Rattle.key_queues.specs.Filing.{arrived};
 ghost use Rattle.key_queues.specs.Shelves.{is_filled, slot, with_slot};
@@ -32,6 +32,18 @@ impl<const REQS: usize> Model for Shelf<REQS> {
     ghost invariant = { λ s. IsShelved REQS s.slab (length s.spare.items) (vec_capacity s.spare) };
 }
 
+/// So many boxes of requests that are not there.
+fn spare_boxes(alloc: Global, count: usize) -> Result<Vec<Box<Filed>>, AllocError>
+    ensures long { IfOk result (λ spare. length spare.items ≡ count) }
+    ensures room { IfOk result (λ spare. count ≤ vec_capacity spare) }
+{
+    let mut spare = Vec::with_capacity(alloc, count)?;
+    for _ in 0..count {
+        spare.push_reserved(Box::new(alloc, Filed::unused())?);
+    }
+    Ok(spare)
+}
+
 impl<const REQS: usize> Shelf<REQS> {
     ghost use Rattle.key_queues.specs.Lends.{lends_request};
 
@@ -50,11 +62,10 @@ impl<const REQS: usize> Shelf<REQS> {
         if slab.capacity() != REQS {
             return Err(AllocError);
         }
-        let mut spare = Vec::with_capacity(alloc, REQS)?;
-        for _ in 0..REQS {
-            spare.push(Box::new(alloc, Filed::unused())?)?;
-        }
-        Ok(Shelf { slab, spare })
+        Ok(Shelf {
+            slab,
+            spare: spare_boxes(alloc, REQS)?,
+        })
     }
 
     /// Whether a place is filled.

@@ -43,10 +43,10 @@ impl<const REQS: usize> Store<REQS> {
         ensures long { IfOk result (λ s. length s.filed ≡ REQS) }
     {
         Ok(Store {
-            shelf: Shelf::new(alloc)?,
+            blocked: no_counts(alloc, JOBS as usize + 1)?,
             order: Places::new(alloc)?,
             own: no_lists(alloc, JOBS as usize + 1)?,
-            blocked: no_counts(alloc, JOBS as usize + 1)?,
+            shelf: Shelf::new(alloc)?,
         })
     }
 

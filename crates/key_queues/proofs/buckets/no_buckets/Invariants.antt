@@ -1,6 +1,6 @@
-use Rattle.std.proofs.Common.{ℕ, ◌≡◌, length}
-use Rattle.key_queues.specs.Found.{bucket_at, no_bucket}
+use Rattle.std.proofs.Common.{◌≡◌, ◌≤◌, replicate, vec_capacity}
+use Rattle.key_queues.specs.Found.{no_bucket}
 use Rattle.key_queues.proofs.buckets.no_buckets.Given as goal
 
 abbrev pub invariant-loop : goal.invariant-loop
-invariant-loop l = (length l.buckets.items ≡ l.counter) × ((h : ℕ) → bucket_at l.buckets.items h ≡ no_bucket)
+invariant-loop l = (l.buckets.items ≡ replicate l.counter no_bucket) × (l.count ≤ vec_capacity l.buckets)

@@ -1,6 +1,5 @@
-use Rattle.std.proofs.Common.{ℕ, ◌≡◌, [], length}
-use Rattle.key_queues.specs.Stores.{list_of}
+use Rattle.std.proofs.Common.{◌≡◌, ◌≤◌, [], replicate, vec_capacity}
 use Rattle.key_queues.proofs.places.no_lists.Given as goal
 
 abbrev pub invariant-loop : goal.invariant-loop
-invariant-loop g l = (length l.own.items ≡ l.counter) × ((job : ℕ) → list_of l.own.items job ≡ [])
+invariant-loop g l = (l.own.items ≡ replicate l.counter []) × (l.lists ≤ vec_capacity l.own)

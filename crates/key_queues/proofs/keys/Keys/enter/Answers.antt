@@ -2,7 +2,7 @@ use Rattle.std.proofs.Common.{refl}
 use Rattle.key_queues.specs.Kept.{appended, no_queue}
 use Rattle.key_queues.specs.Locks.{lock_at}
 use Rattle.key_queues.specs.Opened.{fresh_lock}
-use Rattle.key_queues.proofs.Finding.{entered_begun, found_open, keyed_lock, keyed_queue, open_parts}
+use Rattle.key_queues.proofs.Finding.{entered_begun, entered_open, found_open, keyed_lock, keyed_queue, open_parts}
 use Rattle.key_queues.proofs.keys.Keys.enter.Goals as goal
 
 pub invariant_of-self : goal.invariant_of-self
@@ -23,3 +23,8 @@ returns g c =
     rw (c.begin.ensures, c.self-2.view_is)
     (entered_begun c.args.self.now c.take_free-n.new.self c.args.p c.args.w.now c.take_free-n.result c.take_free-n.ensures
     (c.requires.number.none c.in_default.is))
+
+pub returns-in-Some : goal.returns-in-Some
+returns-in-Some g c =
+    let some = found_open c.args.self.now c.args.w.now.key c.args.found c.in-Some.n c.requires.number c.in-Some.is in
+    entered_open _ _ c.args.p c.args.w.now c.in-Some.n _ _ some c.self.view_is c.index_mut.ensures.value c.append.ensures
