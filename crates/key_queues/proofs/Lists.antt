@@ -2,7 +2,6 @@
 use Rattle.std.proofs.Common.{◌≡◌, ◌≤◌, ◌<◌, ◌+◌, ◌-◌, ◌∙◌, ap, subst, ℕ, zero, suc, List, [], ◌∷◌, ◌++◌, length}
 use Rattle.std.proofs.Common.{drop_of_length-le, take, drop, get_or, replicate, slice_get, Some, None, inl, inr, refl, arith}
 use Rattle.std.specs.List.{remove}
-use Rattle.std.proofs.lemmas.Bool.{cases_lt}
 use Rattle.std.proofs.lemmas.List.{get_or_past, get_or-replicate, length-replicate, replicate_more, take-append-drop, append-nil}
 use Rattle.std.proofs.lemmas.Grind.{common_steps}
 use Rattle.std.proofs.lemmas.Option.{slice_get_within, get_or_from_slice_get}
@@ -86,8 +85,4 @@ module _ {X : Type 0} where
       is ∙ ap (λ l. l ++ y ∷ []) before ∙ ap (λ z. replicate n x ++ z ∷ []) same ∙ replicate_more n x
 
   pub repeated_at : (n i : ℕ) (x : X) → get_or (replicate n x) i x ≡ x
-  repeated_at n i x =
-      elim (cases_lt i n) [
-        | inl lt ↦ get_or-replicate n i x x lt
-        | inr ge ↦ get_or_past (replicate n x) i x (omega (arith, length-replicate n x))
-      ]
+  repeated_at n i x = grind (arith, common_steps, get_or-replicate n i x x, get_or_past (replicate n x) i x, length-replicate n x)

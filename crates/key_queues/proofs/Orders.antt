@@ -195,11 +195,7 @@ passed_on p from k xs le out is =
 
 -- how many of a list pass
 count_cons : (t : ℕ → Bool) (x : ℕ) (xs : List ℕ) → length (filter t (x ∷ xs)) ≡ length (filter t xs) + one_if (t x)
-count_cons t x xs = go (t x)
-  where
-    go : (b : Bool) → length (cond b (x ∷ filter t xs) (filter t xs)) ≡ length (filter t xs) + one_if b
-    go true = omega arith
-    go false = omega arith
+count_cons t x xs = grind (arith, common_steps)
 
 pub count_changed : (t u : ℕ → Bool) (p : ℕ) (xs : List ℕ) → StandsOnce xs → is_there p xs ≡ true → ((x : ℕ) → x ≢ p → t x ≡ u x)
     → length (filter u xs) + one_if (t p) ≡ length (filter t xs) + one_if (u p)
