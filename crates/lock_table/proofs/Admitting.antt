@@ -44,7 +44,6 @@ use Rattle.lock_table.proofs.Named.{passes_at}
 use Rattle.lock_table.proofs.Wholes.{well_from_right}
 use Rattle.lock_table.proofs.Altering.{there_Has, named_changed, own_changed}
 use Rattle.lock_table.proofs.Filing.{there_before}
-use Rattle.std.proofs.lemmas.Grind.{common_steps}
 use Rattle.lock_queue.specs.Changes.{changed, changed_want}
 use Rattle.lock_queue.specs.Keys.{same_key}
 use Rattle.lock_queue.specs.StatusWords.{first_level}
@@ -65,14 +64,14 @@ had_key s job key x present mine named =
     (Has-flat_map (λ (r : Request). r.wants.items) (requests_of (requests_in s) job) (request_at s x) of.0 own of.1) of.2
 
 share_alike : (size : Option ℕ) (a b : Option PoolShare) → is_share_of size a ≡ true → same_pool_size a b ≡ true → is_share_of size b ≡ true
-share_alike size a b h e = grind (arith, common_steps)
+share_alike size a b h e = grind arith
 
 -- a want that stands in a list that is not empty is of the pool's size, and so is one like it
 first_alike : (size : Option ℕ) (w : Want) (ws : List Want) → (length ws == 0) ≡ false → list_all (λ v. is_share_of size v.pool) ws ≡ true
     → list_all (λ v. are_alike v w) ws ≡ true
     → is_share_of size w.pool ≡ true
 first_alike size w [] some sizes alike = cc
-first_alike size w (v ∷ ws) some sizes alike = grind (arith, common_steps, share_alike size v.pool w.pool)
+first_alike size w (v ∷ ws) some sizes alike = grind (arith, share_alike size v.pool w.pool)
 
 -- a want that is not refused
 pub record Passed (s : Stored) (job : ℕ) (w : Want) : Type 0 where
@@ -142,7 +141,7 @@ module _ (size : ℕ) (s : Stored) (locks : List Lock) (job : ℕ) where
       let many =
       as_many_queues (λ w n. (state_of s locks).key n ≡ w.key) (request_at s x).wants.items (filed_at s x).queues.items
       (whole.table.kept.queues x h) in
-      grind (arith, common_steps, many, whole.right x h)
+      grind (arith, many, whole.right x h)
 
 -- the requests after one has come
 module _ (s t : Stored) (p job : ℕ) (r : Request) where
@@ -159,7 +158,7 @@ module _ (s t : Stored) (p job : ℕ) (r : Request) where
       → first_refusal (enqueue_fault (requests_in s) job) [] r.wants.items ≡ None
       → JobsAreApart t
   jobs_after apart out order mine job_is others passed x y key hx hy nx ny e =
-      grind (arith, common_steps, mine, job_is, others x, others y, was x, was y, other x, other y, apart x y key)
+      grind (arith, mine, job_is, others x, others y, was x, was y, other x, other y, apart x y key)
     where
       was : (x : ℕ) → x ≢ p → is_there x t.order ≡ true → is_there x s.order ≡ true
       was x ne h = there_before x p s.order (sym (ap (is_there x) order) ∙ h) ne
@@ -171,7 +170,7 @@ module _ (s t : Stored) (p job : ℕ) (r : Request) where
           let of = names-found r.wants.items key (subst (λ (q : Request). names q.wants.items key ≡ true) mine np) in
           let new : names (wants_of (requests_in s) job) key ≡ false =
           subst (λ k. names (wants_of (requests_in s) job) k ≡ false) of.2 (passed_of s job [] r.wants.items of.0 passed of.1).new in
-          grind (arith, common_steps, new, had_key s job key x h, others x ne)
+          grind (arith, new, had_key s job key x h, others x ne)
 
 -- the requests with one that comes are well-formed, and its keys are apart
 module _ (s : Stored) (job : ℕ) (asking : Asking) (wants : ArrayVec Want) where
@@ -186,18 +185,18 @@ module _ (s : Stored) (job : ℕ) (asking : Asking) (wants : ArrayVec Want) wher
 
   pub apart_after : are_well_formed (requests_in s ++ request_of job asking false wants ∷ []) ≡ true → are_apart wants.items ≡ true
   apart_after well =
-      grind (arith, common_steps, list_all-append is_well_formed (requests_in s) (request_of job asking false wants ∷ []))
+      grind (arith, list_all-append is_well_formed (requests_in s) (request_of job asking false wants ∷ []))
 
 -- what an arrival that is not refused leaves and answers
 module _ (size : ℕ) (rs : List Request) (job : ℕ) (asking : Asking) (wants : ArrayVec Want)
     (passed : enqueue_refusal size rs job asking wants.items ≡ None) where
   pub arrives_granted : granted (with_arrival rs job asking false wants) (length rs) ≡ true
       → enqueue size rs job asking wants ≡ outcome (with_arrival rs job asking (is_interrupt asking.kind) wants) Granted
-  arrives_granted h = grind (arith, common_steps, passed)
+  arrives_granted h = grind (arith, passed)
 
   pub arrives_waiting : granted (with_arrival rs job asking false wants) (length rs) ≡ false
       → enqueue size rs job asking wants ≡ not_granted rs (with_arrival rs job asking false wants) asking.kind
-  arrives_waiting h = grind (arith, common_steps, passed)
+  arrives_waiting h = grind (arith, passed)
 
   -- nothing comes of a request whose job would not wait for it, where not all of its wants fit
   pub turned_away : asking.kind ≡ AtOnce → list_all (fits rs) wants.items ≡ false
@@ -231,7 +230,7 @@ module _ (s t : Stored) (p job : ℕ) (r : Request) (apart : (x : ℕ) → are_a
       → first_refusal (enqueue_fault (requests_in s) job) [] r.wants.items ≡ None
       → LevelsAgree t
   levels_after agree order mine others own passed x y key hx hy nx ny =
-      grind (arith, common_steps, mine, others x, others y, was x, was y, like_present own passed y key, like_present own passed x key, agree x y key)
+      grind (arith, mine, others x, others y, was x, was y, like_present own passed y key, like_present own passed x key, agree x y key)
     where
       was : (z : ℕ) → z ≢ p → is_there z t.order ≡ true → is_there z s.order ≡ true
       was z ne h = there_before z p s.order (sym (ap (is_there z) order) ∙ h) ne
@@ -239,10 +238,10 @@ module _ (s t : Stored) (p job : ℕ) (r : Request) (apart : (x : ℕ) → are_a
 -- a change keeps the level
 changed_level : (cs : List Want) (w : Want) → (changed_want cs w).level ≡ w.level
 changed_level [] w = refl
-changed_level (c ∷ cs) w = grind (arith, common_steps, changed_level cs w)
+changed_level (c ∷ cs) w = grind (arith, changed_level cs w)
 
 level_changed : (job : ℕ) (cs : List Want) (r : Request) (key : Key) → level_at (changed job cs r) key ≡ level_at r key
-level_changed job cs r key = grind (arith, common_steps, append-nil, own_changed cs r.wants.items key, first (filter (λ v. same_key v.key key) r.wants.items))
+level_changed job cs r key = grind (arith, append-nil, own_changed cs r.wants.items key, first (filter (λ v. same_key v.key key) r.wants.items))
   where
     first : (ws : List Want) → first_level (map (changed_want cs) ws) ≡ first_level ws
     first [] = refl
@@ -254,4 +253,4 @@ levels_changed s t job changes agree is x y key hx hy nx ny =
     let at_y = level_changed job changes (request_at s y) key in
     let named_x = named_changed job changes (request_at s x) key in
     let named_y = named_changed job changes (request_at s y) key in
-    grind (arith, common_steps, is.order, is.at x, is.at y, at_x, at_y, named_x, named_y, agree x y key)
+    grind (arith, is.order, is.at x, is.at y, at_x, at_y, named_x, named_y, agree x y key)

@@ -18,7 +18,6 @@ use Rattle.key_queues.specs.Tables.{own_wants, StandsOnce, is_there, places_at, 
 use Rattle.lock_table.specs.Changing.{changed_by, changed_once, fitting_then, is_lost_by, IsFreeAt, SparesPools, loses_by, want_then}
 use Rattle.std.proofs.lemmas.List.{map-id, map-append, take-append-drop, get_or_read}
 use Rattle.key_queues.proofs.Lists.{found_Has}
-use Rattle.std.proofs.lemmas.Grind.{common_steps}
 use Rattle.std.proofs.lemmas.List.Elements.{filter-append}
 use Rattle.std.proofs.lemmas.List.Folds.{list_any-append, list_all-append}
 use Rattle.key_queues.specs.Beginnings.{Alike, fitting, is_share_of}
@@ -50,11 +49,11 @@ use Rattle.key_queues.specs.States.{is_open}
 
 pub changed_key : (cs : List Want) (w : Want) → (changed_want cs w).key ≡ w.key
 changed_key [] w = refl
-changed_key (c ∷ cs) w = grind (arith, common_steps, changed_key cs w)
+changed_key (c ∷ cs) w = grind (arith, changed_key cs w)
 
 pub changed_pool : (cs : List Want) (w : Want) → (changed_want cs w).pool ≡ w.pool
 changed_pool [] w = refl
-changed_pool (c ∷ cs) w = grind (arith, common_steps, changed_pool cs w)
+changed_pool (c ∷ cs) w = grind (arith, changed_pool cs w)
 
 -- a want of a key that is not named stays
 pub unnamed_stays : (cs : List Want) (w : Want) (key : Key) → w.key ≡ key → names cs key ≡ false → changed_want cs w ≡ w
@@ -72,36 +71,36 @@ named_once c w e = rw (eq-same_key w.key c.key e) refl
 
 pub first_named : (cs : List Want) (c w : Want) → are_apart cs ≡ true → Has cs c → w.key ≡ c.key → changed_want cs w ≡ changed_by c w
 first_named [] c w apart h e = absurd h
-first_named (d ∷ cs) c w apart (inl same) e = grind (arith, common_steps, same, eq-same_key w.key d.key)
+first_named (d ∷ cs) c w apart (inl same) e = grind (arith, same, eq-same_key w.key d.key)
 first_named (d ∷ cs) c w apart (inr h) e =
-    grind (arith, common_steps, list_all-Has (λ v. not (same_key d.key v.key)) cs c, same_key-eq w.key d.key, first_named cs c w, h)
+    grind (arith, list_all-Has (λ v. not (same_key d.key v.key)) cs c, same_key-eq w.key d.key, first_named cs c w, h)
 
 -- the first change, and then the others
 pub changed_first : (c : Want) (later : List Want) (w : Want) → names later c.key ≡ false
     → changed_want later (changed_want (c ∷ []) w) ≡ changed_want (c ∷ later) w
-changed_first c later w f = grind (arith, common_steps, unnamed_stays later (changed_by c w) c.key, same_key-eq w.key c.key)
+changed_first c later w f = grind (arith, unnamed_stays later (changed_by c w) c.key, same_key-eq w.key c.key)
 
 -- ---- the wants of a request
 
 pub names_changed : (cs ws : List Want) (key : Key) → names (map (changed_want cs) ws) key ≡ names ws key
 names_changed cs [] key = refl
-names_changed cs (w ∷ ws) key = grind (arith, common_steps, changed_key cs w, names_changed cs ws key)
+names_changed cs (w ∷ ws) key = grind (arith, changed_key cs w, names_changed cs ws key)
 
 -- those of a key
 pub own_changed : (cs ws : List Want) (key : Key)
     → filter (λ w. same_key w.key key) (map (changed_want cs) ws) ≡ map (changed_want cs) (filter (λ w. same_key w.key key) ws)
 own_changed cs [] key = refl
-own_changed cs (w ∷ ws) key = grind (arith, common_steps, changed_key cs w, own_changed cs ws key)
+own_changed cs (w ∷ ws) key = grind (arith, changed_key cs w, own_changed cs ws key)
 
 -- what is done to each of them
 pub map_kept : (f g : Want → Want) (key : Key) (ws : List Want) → ((w : Want) → w.key ≡ key → f w ≡ g w)
     → map f (filter (λ w. same_key w.key key) ws) ≡ map g (filter (λ w. same_key w.key key) ws)
 map_kept f g key [] same = refl
-map_kept f g key (w ∷ ws) same = grind (arith, common_steps, same w, same_key-eq w.key key, map_kept f g key ws same)
+map_kept f g key (w ∷ ws) same = grind (arith, same w, same_key-eq w.key key, map_kept f g key ws same)
 
 pub filter_each : {X : Type 0} → (t : X → Bool) (xs : List X) → ((x : X) → Has xs x → t x ≡ true) → filter t xs ≡ xs
 filter_each t [] all = refl
-filter_each t (x ∷ xs) all = grind (arith, common_steps, all x (inl refl), filter_each t xs (λ y h. all y (inr h)))
+filter_each t (x ∷ xs) all = grind (arith, all x (inl refl), filter_each t xs (λ y h. all y (inr h)))
 
 pub map_twice : {X Y Z : Type 0} → (g : Y → Z) (f : X → Y) (xs : List X) → map g (map f xs) ≡ map (λ x. g (f x)) xs
 map_twice g f [] = refl
@@ -120,52 +119,52 @@ pub set_is_changed : (c : Want) (ws : List Want) (i : ℕ) (w : Want) → are_ap
     → set ws i (changed_by c w) ≡ map (changed_want (c ∷ [])) ws
 set_is_changed c [] i w apart at e = cc
 set_is_changed c (v ∷ ws) zero w apart at e =
-    let rest = unnamed_wants (c ∷ []) ws (λ u h. grind (arith, common_steps, list_all-Has (λ u. not (same_key v.key u.key)) ws u, h)) in
-    grind (arith, common_steps, named_once c w e, rest)
+    let rest = unnamed_wants (c ∷ []) ws (λ u h. grind (arith, list_all-Has (λ u. not (same_key v.key u.key)) ws u, h)) in
+    grind (arith, named_once c w e, rest)
 set_is_changed c (v ∷ ws) (suc i) w apart at e =
-    grind (arith, common_steps, list_all-Has (λ u. not (same_key v.key u.key)) ws w, found_Has ws i w at, set_is_changed c ws i w)
+    grind (arith, list_all-Has (λ u. not (same_key v.key u.key)) ws w, found_Has ws i w at, set_is_changed c ws i w)
 
 -- keys stay apart
 all_keys_changed : (key : Key) (cs ws : List Want)
     → list_all (λ v. not (same_key key v.key)) (map (changed_want cs) ws) ≡ list_all (λ v. not (same_key key v.key)) ws
 all_keys_changed key cs [] = refl
-all_keys_changed key cs (w ∷ ws) = grind (arith, common_steps, changed_key cs w, all_keys_changed key cs ws)
+all_keys_changed key cs (w ∷ ws) = grind (arith, changed_key cs w, all_keys_changed key cs ws)
 
 wants_apart : (cs ws : List Want) → are_apart (map (changed_want cs) ws) ≡ are_apart ws
 wants_apart cs [] = refl
-wants_apart cs (w ∷ ws) = grind (arith, common_steps, changed_key cs w, all_keys_changed w.key cs ws, wants_apart cs ws)
+wants_apart cs (w ∷ ws) = grind (arith, changed_key cs w, all_keys_changed w.key cs ws, wants_apart cs ws)
 
 -- ---- requests
 
 module _ (job : ℕ) (cs : List Want) (r : Request) where
   pub job_changed : (changed job cs r).job ≡ r.job
-  job_changed = grind (arith, common_steps)
+  job_changed = grind arith
 
   pub apart_changed : are_apart (changed job cs r).wants.items ≡ are_apart r.wants.items
-  apart_changed = grind (arith, common_steps, wants_apart cs r.wants.items)
+  apart_changed = grind (arith, wants_apart cs r.wants.items)
 
   pub named_changed : (key : Key) → names (changed job cs r).wants.items key ≡ names r.wants.items key
-  named_changed key = grind (arith, common_steps, names_changed cs r.wants.items key)
+  named_changed key = grind (arith, names_changed cs r.wants.items key)
 
   -- the wants of a key, of the job's requests and of others
   pub own_of_changed : (key : Key) → own_wants key (changed job cs r) ≡ cond (r.job == job) (map (changed_want cs) (own_wants key r)) (own_wants key r)
-  own_of_changed key = grind (arith, common_steps, own_changed cs r.wants.items key)
+  own_of_changed key = grind (arith, own_changed cs r.wants.items key)
 
   -- of a key that is not named
   pub own_unnamed : (key : Key) → names cs key ≡ false → own_wants key (changed job cs r) ≡ own_wants key r
-  own_unnamed key f = own_of_changed key ∙ grind (arith, common_steps, map_kept (changed_want cs) (λ w. w) key r.wants.items (λ w e. unnamed_stays cs w key e f), map-id (own_wants key r))
+  own_unnamed key f = own_of_changed key ∙ grind (arith, map_kept (changed_want cs) (λ w. w) key r.wants.items (λ w e. unnamed_stays cs w key e f), map-id (own_wants key r))
 
 -- of a key that is named, all changes do what its own does
 pub own_named : (job : ℕ) (cs : List Want) (c : Want) (r : Request) → are_apart cs ≡ true → Has cs c
     → own_wants c.key (changed job cs r) ≡ own_wants c.key (changed_once job c r)
-own_named job cs c r apart h = grind (arith, common_steps, own_of_changed job cs r c.key, own_of_changed job (c ∷ []) r c.key, map_kept (changed_want cs) (changed_want (c ∷ [])) c.key r.wants.items (λ w e. first_named cs c w apart h e ∙ sym (named_once c w e)))
+own_named job cs c r apart h = grind (arith, own_of_changed job cs r c.key, own_of_changed job (c ∷ []) r c.key, map_kept (changed_want cs) (changed_want (c ∷ [])) c.key r.wants.items (λ w e. first_named cs c w apart h e ∙ sym (named_once c w e)))
 
 -- the first change, and then the others
 pub changed_then : (job : ℕ) (c : Want) (later : List Want) (r : Request) → names later c.key ≡ false
     → changed job later (changed_once job c r) ≡ changed job (c ∷ later) r
 changed_then job c later r f =
     let first = map_each (λ w. changed_want later (changed_want (c ∷ []) w)) (changed_want (c ∷ later)) r.wants.items (λ w h. changed_first c later w f) in
-    grind (arith, common_steps, map_twice (changed_want later) (changed_want (c ∷ [])) r.wants.items, first)
+    grind (arith, map_twice (changed_want later) (changed_want (c ∷ [])) r.wants.items, first)
 
 -- without changes it stays
 pub changed_none : (job : ℕ) (r : Request) → changed job [] r ≡ r
@@ -236,11 +235,11 @@ module _ (job : ℕ) (cs : List Want) (at : ℕ → Request) (order : List ℕ) 
   pools_of : (size : Option ℕ) (ws : List Want)
       → list_all (λ w. is_share_of size w.pool) (map (changed_want cs) ws) ≡ list_all (λ w. is_share_of size w.pool) ws
   pools_of size [] = refl
-  pools_of size (w ∷ ws) = grind (arith, common_steps, changed_pool cs w, pools_of size ws)
+  pools_of size (w ∷ ws) = grind (arith, changed_pool cs w, pools_of size ws)
 
   pools_own : (size : Option ℕ) (key : Key) (x : ℕ)
       → list_all (λ w. is_share_of size w.pool) (own_wants key (new x)) ≡ list_all (λ w. is_share_of size w.pool) (own_wants key (at x))
-  pools_own size key x = grind (arith, common_steps, own_of_changed job cs (at x) key, pools_of size (own_wants key (at x)))
+  pools_own size key x = grind (arith, own_of_changed job cs (at x) key, pools_of size (own_wants key (at x)))
 
 wants_cons : (at : ℕ → Request) (p : ℕ) (order : List ℕ) (key : Key) → wants_at (map at (p ∷ order)) key ≡ own_wants key (at p) ++ wants_at (map at order) key
 wants_cons at p order key = filter-append (λ w. same_key w.key key) (at p).wants.items (all_wants (map at order))
@@ -253,7 +252,7 @@ wants_same_there key at then [] same = refl
 wants_same_there key at then (p ∷ order) same =
     let here = same p (or_left (p == p) (is_there p order) (eq-eqb p p refl)) in
     let rest = wants_same_there key at then order (λ x h. same x (or_right (p == x) (is_there x order) h)) in
-    grind (arith, common_steps, wants_cons then p order key, wants_cons at p order key, here, rest)
+    grind (arith, wants_cons then p order key, wants_cons at p order key, here, rest)
 
 module _ (job : ℕ) (cs : List Want) (at : ℕ → Request) (size : Option ℕ) (key : Key) where
   pub alike_changed : (order : List ℕ)
@@ -261,7 +260,7 @@ module _ (job : ℕ) (cs : List Want) (at : ℕ → Request) (size : Option ℕ)
       ≡ list_all (λ w. is_share_of size w.pool) (wants_at (map at order) key)
   alike_changed [] = refl
   alike_changed (p ∷ order) =
-      grind (arith, common_steps, wants_cons (λ x. changed job cs (at x)) p order key, wants_cons at p order key, list_all-append, pools_own job cs at order size key p, alike_changed order)
+      grind (arith, wants_cons (λ x. changed job cs (at x)) p order key, wants_cons at p order key, list_all-append, pools_own job cs at order size key p, alike_changed order)
 
 -- the queue of a key in which a request stands that has a want of it
 pub queue_of_key : (s : State) (x : ℕ) (key : Key) → IsKept s → is_there x s.order ≡ true → names (s.at x).wants.items key ≡ true
@@ -348,7 +347,7 @@ module _ (s : State) (job : ℕ) (cs : List Want) (t : IsTable s) where
                 let within : is_there p (take (fitting (wants_at (map s.at s.order) of.0.key)) (places_at s.at s.order of.0.key)) ≡ true =
                 sym (fits_in_order s.at s.order split.0 split.1 p alike.0 of.0 t.kept.once t.kept.apart split.2 of.1 alike.1) ∙ fit in
                 let same = wants_same w.key s.at then s.order (λ x. own_unnamed job cs (s.at x) w.key e) in
-                grind (arith, common_steps, of.2, within, same, places_changed job cs s.at s.order w.key)
+                grind (arith, of.2, within, same, places_changed job cs s.at s.order w.key)
             go true e =
                 let of = names-found cs w.key e in
                 let k : ℕ = fitting_then s.at s.order job of.0 in
@@ -356,7 +355,7 @@ module _ (s : State) (job : ℕ) (cs : List Want) (t : IsTable s) where
                 let has = there_Has p (drop k (places_at s.at s.order of.0.key)) in
                 let parts = there_parts k p (places_at s.at s.order of.0.key) in
                 let changed = places_changed job cs s.at s.order of.0.key in
-                grind (arith, common_steps, of.2, there, lost, has, parts, changed, safe of.0 of.1, same_fitting of.0 of.1)
+                grind (arith, of.2, there, lost, has, parts, changed, safe of.0 of.1, same_fitting of.0 of.1)
 
     -- where a change takes one, one is lost
     some_is_lost : (c : Want) → Has cs c → is_lost_by s.at s.flag s.order job c ≡ true → list_any (λ p. s.flag p && not (stays p)) s.order ≡ true
@@ -365,7 +364,7 @@ module _ (s : State) (job : ℕ) (cs : List Want) (t : IsTable s) where
         let found = list_any-found s.flag (drop k (places_at s.at s.order c.key)) lost in
         let p : ℕ = found.0 in
         let behind : is_there p (drop k (places_at s.at s.order c.key)) ≡ true = Has-there (drop k (places_at s.at s.order c.key)) p found.1 in
-        let there : is_there p (places_at s.at s.order c.key) ≡ true = grind (arith, common_steps, there_parts k p (places_at s.at s.order c.key), behind) in
+        let there : is_there p (places_at s.at s.order c.key) ≡ true = grind (arith, there_parts k p (places_at s.at s.order c.key), behind) in
         let both = there_kept (λ x. names (s.at x).wants.items c.key) p s.order there in
         let of = names-found (then p).wants.items c.key (named_changed job cs (s.at p) c.key ∙ both.1) in
         let once : StandsOnce (places_at s.at s.order c.key) = stands_filter (λ x. names (s.at x).wants.items c.key) s.order t.kept.once in
@@ -398,13 +397,13 @@ module _ (s : State) (job : ℕ) (cs : List Want) (t : IsTable s) where
 
 -- what is next stands behind the first
 next_behind : (xs : List ℕ) (k p : ℕ) → slice_get xs k ≡ Some p → is_there p (drop k xs) ≡ true
-next_behind [] k p e = grind (arith, common_steps)
-next_behind (x ∷ xs) zero p e = grind (arith, common_steps, eq-eqb x p)
+next_behind [] k p e = grind arith
+next_behind (x ∷ xs) zero p e = grind (arith, eq-eqb x p)
 next_behind (x ∷ xs) (suc k) p e = next_behind xs k p e
 
 -- a change keeps the pool
 pub then_pool : (s : Stored) (n job : ℕ) (c : Want) (p : ℕ) → (want_then s n job c p).pool ≡ (want_filed s p n).pool
-then_pool s n job c p = grind (arith, common_steps)
+then_pool s n job c p = grind arith
 
 -- the want of a place in a queue that it stands in
 pub record IsWantedAt (s : Stored) (n p : ℕ) (key : Key) : Type 0 where
@@ -485,7 +484,7 @@ module _ (s : Stored) (locks : List Lock) (n : ℕ) (kept : IsKept (state_of s l
     want_is p h =
         let w = wanted_at p (Has-there (lock_at locks n).queue.places p h) in
         let own = own_of_changed job (c ∷ []) (request_at s p) (lock_at locks n).key in
-        grind (arith, common_steps, own, w.one, named_once c (want_filed s p n) (w.key_is ∙ key))
+        grind (arith, own, w.one, named_once c (want_filed s p n) (w.key_is ∙ key))
 
     pub wants_then : wants_at (map (λ x. changed_once job c (request_at s x)) s.order) c.key ≡ map (want_then s n job c) (lock_at locks n).queue.places
     wants_then =
@@ -508,7 +507,7 @@ module _ (s : Stored) (locks : List Lock) (n : ℕ) (kept : IsKept (state_of s l
         (ap (places_at (request_at s) s.order) (sym key) ∙ sym counts.places)
 
 pub no_size : (o : Option ℕ) → is_some o ≡ false → o ≡ None
-no_size o e = grind (arith, common_steps)
+no_size o e = grind arith
 
 pub drop_none : (k : ℕ) → drop {A = ℕ} k [] ≡ []
 drop_none zero = refl
@@ -517,11 +516,11 @@ drop_none (suc k) = refl
 -- ---- pools
 
 pub share_pooled : (size : Option ℕ) (o : Option PoolShare) → is_some size ≡ true → is_share_of size o ≡ true → is_some o ≡ true
-share_pooled size o a b = grind (arith, common_steps)
+share_pooled size o a b = grind arith
 
 -- a want that is exclusive stays so
 still_exclusive : (c w : Want) → c.shared ≡ false → w.shared ≡ false → changed_by c w ≡ w
-still_exclusive c w cs ws = grind (arith, common_steps)
+still_exclusive c w cs ws = grind arith
 
 module _ (s : Stored) (job : ℕ) (c : Want) (right : AreRight s) (spares : SparesPools s job c) where
   -- a pool's want of the job stays as it is
@@ -536,9 +535,9 @@ module _ (s : Stored) (job : ℕ) (c : Want) (right : AreRight s) (spares : Spar
       Has-filter (λ v. same_key v.key c.key) (all_wants (requests_of (requests_in s) job)) w (eq-same_key w.key c.key e)
       (Has-flat_map (λ (q : Request). q.wants.items) (requests_of (requests_in s) job) (request_at s x) w in_rs h) in
       let some = list_any-Has is_pooled (wants_at (requests_of (requests_in s) job) c.key) w pooled there in
-      let rightly : list_all shares_rightly (request_at s x).wants.items ≡ true = grind (arith, common_steps, right x present) in
+      let rightly : list_all shares_rightly (request_at s x).wants.items ≡ true = grind (arith, right x present) in
       let one = list_all-Has shares_rightly (request_at s x).wants.items w rightly h in
-      grind (arith, common_steps, some, spares, one, pooled, still_exclusive c w)
+      grind (arith, some, spares, one, pooled, still_exclusive c w)
 
 module _ (s : Stored) (locks : List Lock) (n : ℕ) (job : ℕ) (c : Want) (t : IsTable (state_of s locks)) (right : AreRight s) (spares : SparesPools s job c)
     (used : IsUsed (state_of s locks) n) (key : (lock_at locks n).key ≡ c.key) (pooled : is_some (lock_at locks n).size ≡ true) where

@@ -10,7 +10,6 @@ use Rattle.key_queues.specs.Tables.{is_there, IsAt}
 use Rattle.key_queues.proofs.Keeping.{split_there, Has-there, renewing_keeps, flags_tell_grants}
 use Rattle.key_queues.proofs.Orders.{there_split}
 use Rattle.key_queues.proofs.Opening.{there_around, used_same, used_open}
-use Rattle.std.proofs.lemmas.Grind.{common_steps}
 use Rattle.lock_queue.specs.declared.want.Want.{Want}
 use Rattle.lock_queue.specs.Keys.{same_key}
 use Rattle.lock_queue.specs.Pools.{PoolShare}
@@ -88,8 +87,8 @@ owned_few own (x ∷ before) p short =
 pub none_at : {X : Type 0} → (t : X → Bool) (xs : List X) (k : ℕ) (d : X) → list_any t xs ≡ false → k < length xs
     → t (get_or xs k d) ≡ false
 none_at t [] k d h lt = absurd (omega arith)
-none_at t (x ∷ xs) zero d h lt = grind (arith, common_steps)
-none_at t (x ∷ xs) (suc k) d h lt = grind (arith, common_steps, none_at t xs k d)
+none_at t (x ∷ xs) zero d h lt = grind arith
+none_at t (x ∷ xs) (suc k) d h lt = grind (arith, none_at t xs k d)
 
 -- ---- a want's lock is made ready for it
 
@@ -278,26 +277,26 @@ module _ (store : Stored) (locks : List Lock) (p : ℕ) (wants : List Want) (k :
 all_take : (f : Want → Bool) (n : ℕ) (ws : List Want) → list_all f ws ≡ true → list_all f (take n ws) ≡ true
 all_take f zero ws h = refl
 all_take f (suc n) [] h = refl
-all_take f (suc n) (w ∷ ws) h = grind (arith, common_steps, all_take f n ws)
+all_take f (suc n) (w ∷ ws) h = grind (arith, all_take f n ws)
 
 pub all_at : (f : Want → Bool) (ws : List Want) (k : ℕ) (d : Want) → list_all f ws ≡ true → k < length ws → f (get_or ws k d) ≡ true
 all_at f [] k d h lt = absurd (omega arith)
-all_at f (w ∷ ws) zero d h lt = grind (arith, common_steps)
-all_at f (w ∷ ws) (suc k) d h lt = grind (arith, common_steps, all_at f ws k d)
+all_at f (w ∷ ws) zero d h lt = grind arith
+all_at f (w ∷ ws) (suc k) d h lt = grind (arith, all_at f ws k d)
 
 -- the first of wants whose keys are apart are so too
 apart_take : (n : ℕ) (ws : List Want) → are_apart ws ≡ true → are_apart (take n ws) ≡ true
 apart_take zero ws h = refl
 apart_take (suc n) [] h = refl
-apart_take (suc n) (w ∷ ws) h = grind (arith, common_steps, all_take (λ v. not (same_key w.key v.key)) n ws, apart_take n ws)
+apart_take (suc n) (w ∷ ws) h = grind (arith, all_take (λ v. not (same_key w.key v.key)) n ws, apart_take n ws)
 
 -- and two of them have different keys
 pub apart_at : (ws : List Want) (j k : ℕ) (d : Want) → are_apart ws ≡ true → j < k → k < length ws
     → same_key (get_or ws j d).key (get_or ws k d).key ≡ false
 apart_at [] j k d h lt within = absurd (omega arith)
 apart_at (w ∷ ws) j zero d h lt within = absurd (omega arith)
-apart_at (w ∷ ws) zero (suc k) d h lt within = grind (arith, common_steps, all_at (λ v. not (same_key w.key v.key)) ws k d)
-apart_at (w ∷ ws) (suc j) (suc k) d h lt within = grind (arith, common_steps, apart_at ws j k d)
+apart_at (w ∷ ws) zero (suc k) d h lt within = grind (arith, all_at (λ v. not (same_key w.key v.key)) ws k d)
+apart_at (w ∷ ws) (suc j) (suc k) d h lt within = grind (arith, apart_at ws j k d)
 
 module _ (store later : Stored) (locks most : List Lock) (p n k : ℕ) (wants : List Want) (w : Want) where
   pub entered_one : IsArriving store locks p wants k
@@ -396,11 +395,11 @@ module _ (store later : Stored) (locks most : List Lock) (p n k : ℕ) (wants : 
       still : (m x : ℕ) → Stands s x m → Stands t x m
       still m x st = record {
         present = ap (is_there x) same_order ∙ st.present;
-        there = grind (arith, common_steps, mine, others x, list_any-append (λ z. z == m) f.queues.items (n ∷ []), st.there);
+        there = grind (arith, mine, others x, list_any-append (λ z. z == m) f.queues.items (n ∷ []), st.there);
       }
 
       owns_new : is_there n (filed_at later p).queues.items ≡ true
-      owns_new = grind (arith, common_steps, mine, list_any-append (λ z. z == n) f.queues.items (n ∷ []))
+      owns_new = grind (arith, mine, list_any-append (λ z. z == n) f.queues.items (n ∷ []))
 
       used : OpenAreUsed t
       used m some =
@@ -410,7 +409,7 @@ module _ (store later : Stored) (locks most : List Lock) (p n k : ℕ) (wants : 
           ]
 
       short : AreShort later
-      short x h = grind (arith, common_steps, own_length, a.own, a.few, others x, a.short x, same_order)
+      short x h = grind (arith, own_length, a.own, a.few, others x, a.short x, same_order)
 
       -- the open lock of a want that is entered later is what it was
       as_before : (j m : ℕ) → k < j → j < length wants → is_open_for (get_or wants j unused_want).key (lock_at most m) ≡ true
@@ -434,8 +433,8 @@ module _ (store later : Stored) (locks most : List Lock) (p n k : ℕ) (wants : 
           let above : k < j = omega (arith, le) in
           let was : Admits locks (get_or wants j unused_want) = a.admits j (omega (arith, above)) in_wants in
           record {
-            alike = λ m t. grind (arith, common_steps, as_before j m above in_wants t, was.alike m, t);
-            room = λ m t. grind (arith, common_steps, as_before j m above in_wants t, was.room m, t);
+            alike = λ m t. grind (arith, as_before j m above in_wants t, was.alike m, t);
+            room = λ m t. grind (arith, as_before j m above in_wants t, was.room m, t);
           }
 
 -- ---- a request has come
@@ -515,9 +514,9 @@ came_last store later locks p job asking wants table short lt out apart few admi
 
     still : (m x : ℕ) → Stands s x m → Stands t x m
     still m x st =
-        let ne : x ≢ p = λ e. grind (arith, common_steps, e, out, st.present) in
+        let ne : x ≢ p = λ e. grind (arith, e, out, st.present) in
         record {
-          present = grind (arith, common_steps, same_order, list_any-append (λ z. z == x) store.order (p ∷ []), st.present);
+          present = grind (arith, same_order, list_any-append (λ z. z == x) store.order (p ∷ []), st.present);
           there = ap (λ (g : Filed). is_there m g.queues.items) (others x ne) ∙ st.there;
         }
 

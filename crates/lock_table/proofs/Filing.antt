@@ -81,7 +81,7 @@ module _ (store : Stored) (locks : List Lock) where
   -- what is used stands within the lists
   pub lock_within : (x n : ℕ) → IsKept (state_of store locks) → Stands (state_of store locks) x n
       → n < length locks
-  lock_within x n kept st = grind (arith, common_steps, stands_in_queue (state_of store locks) x n kept st, get_or_past locks n unused_lock)
+  lock_within x n kept st = grind (arith, stands_in_queue (state_of store locks) x n kept st, get_or_past locks n unused_lock)
 
   pub own_within : (x : ℕ) → IsKept (state_of store locks) → is_there x store.order ≡ true
       → All (λ n. n < length locks) (filed_at store x).queues.items
@@ -89,7 +89,7 @@ module _ (store : Stored) (locks : List Lock) where
       lock_within x (get_or (filed_at store x).queues.items k d) kept (record { present = present; there = there_at (filed_at store x).queues.items k d lt })
 
   pub place_within : (p : ℕ) (key : Key) → names (filed_at store p).request.wants.items key ≡ true → p < length store.filed
-  place_within p key named = grind (arith, common_steps, get_or_past store.filed p unused_filed)
+  place_within p key named = grind (arith, get_or_past store.filed p unused_filed)
 
   -- a queue that lets its next want in
   pub extended_by : (then : Stored) (more : List Lock) (n p : ℕ) (w : Want) → IsKept (state_of store locks)
@@ -266,7 +266,7 @@ left_store store locks p table present none lt =
     let all = leaving_keeps s t (take i store.order) (drop (suc i) store.order) p table.kept step in
     let still : (m x : ℕ) → Stands s x m → Stands t x m =
     λ m x st.
-    let other : x ≢ p = λ e. grind (arith, common_steps, e, st.there, nil_from_length (s.own p) none) in
+    let other : x ≢ p = λ e. grind (arith, e, st.there, nil_from_length (s.own p) none) in
     record {
       present = there_without x p i store.order (position_found p store.order present).1 other ∙ st.present;
       there = ap (λ (f : Filed). is_there m f.queues.items) (others x other) ∙ st.there;
@@ -280,16 +280,16 @@ left_store store locks p table present none lt =
 all_same : (f g : ℕ → Bool) (n : ℕ) (xs : List ℕ) → is_there n xs ≡ false → ((m : ℕ) → (m ≡ n → ⊥) → f m ≡ g m)
     → list_all f xs ≡ list_all g xs
 all_same f g n [] out same = refl
-all_same f g n (x ∷ xs) out same = grind (arith, common_steps, same x, all_same f g n xs)
+all_same f g n (x ∷ xs) out same = grind (arith, same x, all_same f g n xs)
 
 -- where it answers so of all, so it does of all but one
 all_less : (f : ℕ → Bool) (n : ℕ) (na nb : List ℕ) → list_all f (na ++ n ∷ nb) ≡ true → list_all f (na ++ nb) ≡ true
-all_less f n na nb all = grind (arith, common_steps, list_all-append f na (n ∷ nb), list_all-append f na nb)
+all_less f n na nb all = grind (arith, list_all-append f na (n ∷ nb), list_all-append f na nb)
 
 -- where none is chosen, none is named
 none_named : (test : Want → Bool) (ws : List Want) → filter test ws ≡ [] → list_any test ws ≡ false
 none_named test [] e = refl
-none_named test (w ∷ ws) e = grind (arith, common_steps, none_named test ws)
+none_named test (w ∷ ws) e = grind (arith, none_named test ws)
 
 -- the wants that are left are of other keys
 not_named : (a b : List Want) (w : Want) → are_apart (a ++ w ∷ b) ≡ true → names (a ++ b) w.key ≡ false
@@ -298,7 +298,7 @@ not_named a b w apart =
     let one : filter test (a ++ w ∷ b) ≡ w ∷ [] = one_of_key (a ++ w ∷ b) w apart (Has-right a (w ∷ b) w (inl refl)) in
     let both = filter-append test a (w ∷ b) in
     let count = length-append (filter test a) (w ∷ filter test b) in
-    none_named test (a ++ b) (grind (arith, common_steps, one, both, count, filter-append test a b, eq-same_key w.key w.key, nil_from_length (filter test a), nil_from_length (filter test b)))
+    none_named test (a ++ b) (grind (arith, one, both, count, filter-append test a b, eq-same_key w.key w.key, nil_from_length (filter test a), nil_from_length (filter test b)))
 
 still_counted : (s : State) (queue : ℕ → KeptQueue) (p n : ℕ) (a b : List Want) (w : Want) (na nb : List ℕ) → IsKept s → is_there p s.order ≡ true
     → (s.at p).wants.items ≡ a ++ w ∷ b
@@ -350,10 +350,10 @@ still_granted store middle locks more p k kept flags present lt g is lock_is gra
 
 -- what turns twice is as it was
 twice : (a b c k : Bool) → turned_if (not (beq b c)) (turned_if (not (beq a b)) k) ≡ turned_if (not (beq a c)) k
-twice a b c k = grind (arith, common_steps)
+twice a b c k = grind arith
 
 still : (a k : Bool) → k ≡ turned_if (not (beq a a)) k
-still a k = grind (arith, common_steps)
+still a k = grind arith
 
 -- a request that is present and has wants was and had before: where the same are present with the same wants, and where one gave
 -- up a want
@@ -363,7 +363,7 @@ pub wanting_before : (t u : Stored) (x : ℕ)
     → is_wanting t x ≡ true
 wanting_before t u x same h =
     let both = and_parts (is_there x u.order) (has_wants (filed_at u x).request) h in
-    grind (arith, common_steps, both.0, both.1, same both.0)
+    grind (arith, both.0, both.1, same both.0)
 
 some_wants : (w : Want) (ws : List Want) → not (length (w ∷ ws) == 0) ≡ true
 some_wants w ws = ap not (ne_eqb (suc (length ws)) 0 (λ e. absurd (omega arith)))
@@ -385,7 +385,7 @@ wanting_less t u p x f none stays left others h =
           subst (λ y. is_there y u.order ≡ true → (filed_at u y).request ≡ with_wants (filed_at t y).request (f (filed_at t y).request.wants.items))
           (sym is) left both.0 in
           let some = some_before f (filed_at t x).request.wants.items none (subst (λ (r : Request). has_wants r ≡ true) less both.1) in
-          grind (arith, common_steps, some, stays both.0)
+          grind (arith, some, stays both.0)
       | inr ne ↦ wanting_before t u x (λ there. (stays there, others x ne)) h
     ]
 
@@ -398,7 +398,7 @@ pub turned_then : (s t u : Stored) (l m n : List Bool) → ((x : ℕ) → is_wan
     → Turned t u m n
     → Turned s u l n
 turned_then s t u l m n stay first second x h =
-    grind (arith, common_steps, second x h, first x (stay x h), twice (filed_at s x).granted (filed_at t x).granted (filed_at u x).granted (mark_at l x))
+    grind (arith, second x h, first x (stay x h), twice (filed_at s x).granted (filed_at t x).granted (filed_at u x).granted (mark_at l x))
 
 pub turned_still : (s t : Stored) (m : List Bool) → ((x : ℕ) → is_wanting t x ≡ true → (filed_at t x).granted ≡ (filed_at s x).granted)
     → Turned s t m m
@@ -417,12 +417,12 @@ has_where_named r key h = go r.wants.items h
 -- who is still there was there, and is another
 pub there_beside : (x p : ℕ) (xs : List ℕ) → StandsOnce xs → is_there x (order_without xs p) ≡ true → (x ≢ p) × (is_there x xs ≡ true)
 there_beside x p xs once h =
-    let ne : x ≢ p = λ e. grind (arith, common_steps, without_gone p xs once, e) in
+    let ne : x ≢ p = λ e. grind (arith, without_gone p xs once, e) in
     (ne, sym (without_other p xs x ne) ∙ h)
 
 -- who is there before one more place is another
 pub there_before : (x p : ℕ) (xs : List ℕ) → is_there x (xs ++ p ∷ []) ≡ true → x ≢ p → is_there x xs ≡ true
-there_before x p xs h ne = grind (arith, common_steps, there_last x p xs)
+there_before x p xs h ne = grind (arith, there_last x p xs)
 
 -- a place leaves those that a test keeps
 remove_filter : (t u : ℕ → Bool) (p : ℕ) (xs : List ℕ) → StandsOnce xs → t p ≡ true → u p ≡ false → ((x : ℕ) → (x ≡ p → ⊥) → t x ≡ u x)
@@ -442,7 +442,7 @@ order_step t u p first order then once was is keeps same = go (u p) refl is
     go true e now = now ∙ was ∙ ap (λ (v : ℕ → Bool). filter v first) (λ i x. each x i)
       where
         each : (x : ℕ) → t x ≡ u x
-        each x = grind (arith, common_steps, same x)
+        each x = grind (arith, same x)
     go false e now = now ∙ ap (λ l. remove l (position_or_len (λ m. m == p) l)) was ∙ remove_filter t u p first once keeps e same
 
 -- a place that is not there cannot be taken out
@@ -457,10 +457,10 @@ pub beside_next : (before : List ℕ) (p : ℕ) (first order then : List ℕ) �
 beside_next before p first order then once was is = go (is_there p order) refl
   where
     next : (x : ℕ) → x ≢ p → stays_beside before x ≡ stays_beside (before ++ p ∷ []) x
-    next x ne = grind (arith, common_steps, there_last x p before, ne)
+    next x ne = grind (arith, there_last x p before, ne)
 
     last : stays_beside (before ++ p ∷ []) p ≡ false
-    last = grind (arith, common_steps, there_last p p before)
+    last = grind (arith, there_last p p before)
 
     go : (b : Bool) → is_there p order ≡ b → then ≡ filter (stays_beside (before ++ p ∷ [])) first
     go true here =
@@ -469,7 +469,7 @@ beside_next before p first order then once was is = go (is_there p order) refl
     go false out =
         is ∙ absent p order out ∙ was
         ∙ same_where (stays_beside before) (stays_beside (before ++ p ∷ [])) first
-        (λ x h. grind (arith, common_steps, there_last x p before, kept_there (stays_beside before) x first h, was, out))
+        (λ x h. grind (arith, there_last x p before, kept_there (stays_beside before) x first h, was, out))
 
 -- a request that has given up all its wants leaves
 pub gone : (s t u : Stored) (locks : List Lock) (p : ℕ) (l m : List Bool) → IsTable (state_of t locks) → is_there p t.order ≡ true
@@ -512,14 +512,14 @@ left_none s = record { order = sym (filter_each (stays_beside []) s.order (λ x 
 -- who is there after a place stays or leaves was there
 pub stays_in : (b : Bool) (x p : ℕ) (xs then : List ℕ) → StandsOnce xs → then ≡ cond b xs (order_without xs p) → is_there x then ≡ true
     → is_there x xs ≡ true
-stays_in b x p xs then once is h = grind (arith, common_steps, there_beside x p xs once)
+stays_in b x p xs then once is h = grind (arith, there_beside x p xs once)
 
 -- ---- the requests that leave as a whole are all among those that may (Everyone is Leavers::All)
 
 -- those that two tests choose, one behind the other
 filter_twice : (a t : ℕ → Bool) (xs : List ℕ) → filter t (filter a xs) ≡ filter (λ x. a x && t x) xs
 filter_twice a t [] = refl
-filter_twice a t (x ∷ xs) = grind (arith, common_steps, filter_twice a t xs)
+filter_twice a t (x ∷ xs) = grind (arith, filter_twice a t xs)
 
 pub leavers_among : (s : Stored) (who : Leavers)
     → filter (λ x. is_chosen who (filed_at s x)) (may_be_leavers s who) ≡ filter (is_leaver_at s who) s.order

@@ -1,7 +1,6 @@
 -- Whether the wants of a call fit is told by the queues of their keys.
 use Rattle.std.proofs.Common.{◌≡◌, ◌<◌, ◌∙◌, sym, ap, subst, ℕ, Bool, true, List, [], Option, Some, None, IfSome, get_or, length, refl, arith}
 use Rattle.std.specs.List.{list_all}
-use Rattle.std.proofs.lemmas.Grind.{common_steps}
 use Rattle.lock_queue.specs.declared.key.Key.{Key}
 use Rattle.lock_queue.specs.declared.want.Want.{Want}
 use Rattle.lock_queue.specs.Pools.{PoolShare}
@@ -26,7 +25,7 @@ use Rattle.lock_table.proofs.Queued.{queue_is, unwanted_at}
 -- a want that is in range fits where there is no other
 alone : (w : Want) (o : Option PoolShare) → is_right_pool o ≡ true → fits_beside [] w o ≡ true
 alone w None range = refl
-alone w (Some share) range = grind (arith, common_steps)
+alone w (Some share) range = grind arith
 
 module _ (s : Stored) (locks : List Lock) (table : IsTable (state_of s locks)) where
   fits_known : (w : Want) (seen : Found) (b : Bool) → IsFound locks w.key seen → Admits locks w → is_in_range w ≡ true
@@ -46,7 +45,7 @@ module _ (s : Stored) (locks : List Lock) (table : IsTable (state_of s locks)) w
           (admits.alike n open_for)
           ∙ ap (λ (k : Key). fits_beside (wants_at (requests_in s) k) w w.pool) parts.1
       go None e =
-          let range_of : is_right_pool w.pool ≡ true = grind (arith, common_steps, range) in
+          let range_of : is_right_pool w.pool ≡ true = grind (arith, range) in
           none e ∙ sym (alone w w.pool range_of)
           ∙ ap (λ l. fits_beside l w w.pool) (sym (unwanted_at s locks w.key table (found.none e)))
 

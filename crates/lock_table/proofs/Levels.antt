@@ -21,7 +21,6 @@ use Rattle.lock_table.specs.Filing.{state_of}
 use Rattle.lock_table.specs.Reads.{request_at}
 use Rattle.lock_table.specs.Whole.{LevelsAgree, level_at, requests_in}
 use Rattle.lock_table.proofs.Queued.{first_there, mapped_all, queue_is, share_is, there_parts, want_is}
-use Rattle.std.proofs.lemmas.Grind.{common_steps}
 use Rattle.key_queues.specs.Locks.{lock_at}
 use Rattle.key_queues.specs.States.{is_open}
 use Rattle.std.proofs.Common.{arith}
@@ -37,14 +36,14 @@ level_of_want r key w apart has is =
 -- and so it is of what is read as that want
 pub level_of_read : (r : Request) (key : Key) → are_apart r.wants.items ≡ true → names r.wants.items key ≡ true
     → (want_of key r).level ≡ level_at r key
-level_of_read r key apart named = grind (arith, common_steps, own_wants_are key r apart, named, append-nil r.wants.items)
+level_of_read r key apart named = grind (arith, own_wants_are key r apart, named, append-nil r.wants.items)
 
 -- the first tells of all where all are like it
 first_tells : (test : Want → Bool) (f : ℕ → Want) (xs : List ℕ) → is_there (get_or xs 0 0) xs ≡ true
     → (test (f (get_or xs 0 0)) ≡ true → list_all test (map f xs) ≡ true)
     → test (f (get_or xs 0 0)) ≡ list_all test (map f xs)
 first_tells test f [] there like = cc
-first_tells test f (x ∷ xs) there like = grind (arith, common_steps, like)
+first_tells test f (x ∷ xs) there like = grind (arith, like)
 
 module _ (s : Stored) (locks : List Lock) (n : ℕ) (t : IsTable (state_of s locks)) (open_is : is_open (lock_at locks n).queue ≡ true) (w : Want)
     (agree : LevelsAgree s) where
@@ -64,7 +63,7 @@ module _ (s : Stored) (locks : List Lock) (n : ℕ) (t : IsTable (state_of s loc
       let level : (of x).level ≡ (of p).level =
       level_of_read (request_at s x) key (t.kept.apart x) b.1 ∙ agree x p key b.0 a.0 b.1 a.1
       ∙ sym (level_of_read (request_at s p) key (t.kept.apart p) a.1) in
-      grind (arith, common_steps, level, is, share_is s locks n t open_is p hp, share_is s locks n t open_is x hx)
+      grind (arith, level, is, share_is s locks n t open_is p hp, share_is s locks n t open_is x hx)
 
   pub first_alike : (lock_at locks n).key ≡ w.key
       → are_alike (want_filed s (get_or places 0 0) n) w ≡ list_all (λ v. are_alike v w) (wants_at (requests_in s) w.key)

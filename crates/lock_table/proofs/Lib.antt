@@ -12,3 +12,4 @@ pub mod Numbers
 pub mod Queued
 pub mod Fits
 pub mod Levels
+pub mod Faults

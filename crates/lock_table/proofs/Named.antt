@@ -28,7 +28,6 @@ use Rattle.lock_table.proofs.Arriving.{apart_at}
 use Rattle.key_queues.proofs.Finding.{open_parts, find_misses}
 use Rattle.lock_table.proofs.Altering.{filter_each, open_named, found_of_job}
 use Rattle.lock_queue.proofs.Lists.{list_all-Has, Has-filter, filter-Has, flat_map-Has, map-Has}
-use Rattle.std.proofs.lemmas.Grind.{common_steps}
 use Rattle.std.proofs.lemmas.List.Folds.{list_any-append}
 use Rattle.std.proofs.lemmas.Option.{slice_get-get_or}
 use Rattle.lock_queue.specs.declared.refusal.Refusal.{Refusal}
@@ -55,16 +54,16 @@ remove_key (w ∷ ws) zero key h lt e =
     let rest =
     filter_each (λ v. not (same_key key v.key)) ws
     (λ v h. list_all-Has (λ v. not (same_key key v.key)) ws v (subst (λ j. list_all (λ v. not (same_key j v.key)) ws ≡ true) e parts.0) h) in
-    grind (arith, common_steps, eq-same_key key w.key, rest)
+    grind (arith, eq-same_key key w.key, rest)
 remove_key (w ∷ ws) (suc k) key h lt e =
-    grind (arith, common_steps, apart_at (w ∷ ws) zero (suc k) unused_want h (omega arith) lt, same_key-swap key w.key, remove_key ws k key)
+    grind (arith, apart_at (w ∷ ws) zero (suc k) unused_want h (omega arith) lt, same_key-swap key w.key, remove_key ws k key)
 
 -- the k-th want has the key of the k-th queue
 key_at : (key : ℕ → Key) (ws : List Want) (ns : List ℕ) (k n : ℕ) → QueuesOf (λ w m. key m ≡ w.key) ws ns
     → slice_get ns k ≡ Some n
     → (get_or ws k unused_want).key ≡ key n
 key_at key [] [] k n q e = cc
-key_at key (w ∷ ws) (m ∷ ns) zero n q e = grind (arith, common_steps)
+key_at key (w ∷ ws) (m ∷ ns) zero n q e = grind arith
 key_at key (w ∷ ws) (m ∷ ns) (suc k) n q e = key_at key ws ns k n q.1 e
 key_at key [] (m ∷ ns) k n q e = absurd q
 key_at key (w ∷ ws) [] k n q e = absurd q
@@ -127,7 +126,7 @@ pub none_left : (store : Stored) (locks : List Lock) (p : ℕ) → IsTable (stat
     → length (filed_at store p).queues.items ≡ 0
 none_left store locks p table present none =
     let few = as_many_queues (λ w n. (lock_at locks n).key ≡ w.key) (filed_at store p).request.wants.items (filed_at store p).queues.items (table.kept.queues p present) in
-    grind (arith, common_steps, few)
+    grind (arith, few)
 
 -- ---- a job gives up keys
 
@@ -202,8 +201,8 @@ pub named_apart : (named : List Want) (i j : ℕ) → i < j → j < length named
     → same_key (get_or named i unused_want).key key ≡ false
 named_apart [] i j lt within key new = absurd (omega arith)
 named_apart (w ∷ named) i zero lt within key new = absurd (omega arith)
-named_apart (w ∷ named) zero (suc j) lt within key new = grind (arith, common_steps, new)
-named_apart (w ∷ named) (suc i) (suc j) lt within key new = grind (arith, common_steps, new, named_apart named i j)
+named_apart (w ∷ named) zero (suc j) lt within key new = grind (arith, new)
+named_apart (w ∷ named) (suc i) (suc j) lt within key new = grind (arith, new, named_apart named i j)
 
 -- wants of other keys stay
 names_left : (ws named : List Want) (key : Key) → names ws key ≡ true → names named key ≡ false
@@ -221,36 +220,36 @@ names_fewer test ws key h =
 
 pub fewer_named : (s : Stored) (job : ℕ) (named : List Want) (x : ℕ) (key : Key) → names (left_named s job named x).wants.items key ≡ true
     → names (request_at s x).wants.items key ≡ true
-fewer_named s job named x key h = grind (arith, common_steps, names_fewer (λ w. not (names named w.key)) (request_at s x).wants.items key)
+fewer_named s job named x key h = grind (arith, names_fewer (λ w. not (names named w.key)) (request_at s x).wants.items key)
 
 pub job_named : (s : Stored) (job : ℕ) (named : List Want) (x : ℕ) → (left_named s job named x).job ≡ (request_at s x).job
-job_named s job named x = grind (arith, common_steps)
+job_named s job named x = grind arith
 
 -- the wants of a key that is not given up stay
 own_left : (ws named : List Want) (key : Key) → names named key ≡ false
     → filter (λ w. same_key w.key key) (filter (λ w. not (names named w.key)) ws) ≡ filter (λ w. same_key w.key key) ws
 own_left [] named key new = refl
-own_left (w ∷ ws) named key new = grind (arith, common_steps, same_key-eq w.key key, own_left ws named key new)
+own_left (w ∷ ws) named key new = grind (arith, same_key-eq w.key key, own_left ws named key new)
 
 pub level_named : (s : Stored) (job : ℕ) (named : List Want) (x : ℕ) (key : Key) → names (left_named s job named x).wants.items key ≡ true
     → level_at (left_named s job named x) key ≡ level_at (request_at s x) key
 level_named s job named x key h =
     let found = names-found (left_named s job named x).wants.items key h in
-    grind (arith, common_steps, found, filter-Has (λ w. not (names named w.key)) (request_at s x).wants.items found.0, own_left (request_at s x).wants.items named key, append-nil)
+    grind (arith, found, filter-Has (λ w. not (names named w.key)) (request_at s x).wants.items found.0, own_left (request_at s x).wants.items named key, append-nil)
 
 pub still_named : (s : Stored) (job : ℕ) (named : List Want) (x : ℕ) (key : Key) → names (request_at s x).wants.items key ≡ true → names named key ≡ false
     → names (left_named s job named x).wants.items key ≡ true
-still_named s job named x key h new = grind (arith, common_steps, names_left (request_at s x).wants.items named key h new)
+still_named s job named x key h new = grind (arith, names_left (request_at s x).wants.items named key h new)
 
 -- one key more
 filter_more : (named : List Want) (w : Want) (ws : List Want)
     → filter (λ v. not (names (named ++ w ∷ []) v.key)) ws ≡ filter (λ v. not (same_key w.key v.key)) (filter (λ v. not (names named v.key)) ws)
 filter_more named w [] = refl
-filter_more named w (v ∷ ws) = grind (arith, common_steps, list_any-append (λ (u : Want). same_key u.key v.key) named (w ∷ []), filter_more named w ws)
+filter_more named w (v ∷ ws) = grind (arith, list_any-append (λ (u : Want). same_key u.key v.key) named (w ∷ []), filter_more named w ws)
 
 left_more : (s : Stored) (job : ℕ) (named : List Want) (w : Want) (x : ℕ)
     → left_named s job (named ++ w ∷ []) x ≡ cond ((request_at s x).job == job) (without_key w.key (left_named s job named x)) (request_at s x)
-left_more s job named w x = grind (arith, common_steps, filter_more named w (request_at s x).wants.items)
+left_more s job named w x = grind (arith, filter_more named w (request_at s x).wants.items)
 
 -- a key that is not named leaves all wants
 filter_none : (key : Key) (ws : List Want) → names ws key ≡ false → filter (λ v. not (same_key key v.key)) ws ≡ ws
@@ -260,12 +259,12 @@ filter_none key ws none =
 
 module _ (s : Stored) (job : ℕ) (named : List Want) (w : Want) (p : ℕ) where
   pub left_mine : (request_at s p).job ≡ job → left_named s job (named ++ w ∷ []) p ≡ without_key w.key (left_named s job named p)
-  left_mine mine = left_more s job named w p ∙ grind (arith, common_steps)
+  left_mine mine = left_more s job named w p ∙ grind arith
 
   pub left_other : JobsAreApart s → is_there p s.order ≡ true → (request_at s p).job ≡ job → names (request_at s p).wants.items w.key ≡ true
       → (x : ℕ) → is_there x s.order ≡ true → x ≢ p
       → left_named s job (named ++ w ∷ []) x ≡ left_named s job named x
-  left_other apart here mine has x there ne = left_more s job named w x ∙ grind (arith, common_steps, apart x p w.key there here, fewer_named s job named x w.key, filter_none w.key (left_named s job named x).wants.items, eqb-true (request_at s x).job job)
+  left_other apart here mine has x there ne = left_more s job named w x ∙ grind (arith, apart x p w.key there here, fewer_named s job named x w.key, filter_none w.key (left_named s job named x).wants.items, eqb-true (request_at s x).job job)
 
 -- one step of the loop
 module _ (s t u : Stored) (job i : ℕ) (named : List Want) (w : Want) (next : IsNext s job named i w) (once : StandsOnce s.order)
@@ -278,7 +277,7 @@ module _ (s t u : Stored) (job i : ℕ) (named : List Want) (w : Want) (next : I
       let present : is_there h.place t.order ≡ true =
       ap (is_there h.place) left.order ∙ kept_there (λ x. has_wants (left_named s job (take i named) x)) h.place s.order h.present stays in
       let is = left.left h.place present in
-      record { place = h.place; present = present; job_is = grind (arith, common_steps, is, job_named s job (take i named) h.place, h.job_is); named = grind (arith, common_steps, is, still) }
+      record { place = h.place; present = present; job_is = grind (arith, is, job_named s job (take i named) h.place, h.job_is); named = grind (arith, is, still) }
 
   pub next_left : (p : ℕ) → JobsAreApart s → is_there p t.order ≡ true
       → (request_at t p).job ≡ job
@@ -339,7 +338,7 @@ module _ (s t u : Stored) (job i : ℕ) (named : List Want) (w : Want) (next : I
       u3 x = is_there x s.order && u2 x
 
       same_test : (x : ℕ) → x ≢ p → t3 x ≡ u3 x
-      same_test x ne = grind (arith, common_steps, other x)
+      same_test x ne = grind (arith, other x)
 
       within : (t4 : ℕ → Bool) → filter t4 s.order ≡ filter (λ x. is_there x s.order && t4 x) s.order
       within t4 = filter_same t4 (λ x. is_there x s.order && t4 x) s.order (λ x h. sym (ap (λ b. b && t4 x) h))
@@ -358,7 +357,7 @@ module _ (s t u : Stored) (job i : ℕ) (named : List Want) (w : Want) (next : I
 
 -- a request that is right has wants
 pub some_wants : (r : Request) → is_well_formed r ≡ true → has_wants r ≡ true
-some_wants r h = grind (arith, common_steps)
+some_wants r h = grind arith
 
 -- where nothing was given up yet
 pub left_start : (s : Stored) (job : ℕ) → AreRight s → IsLeft s s (left_named s job []) (λ x. has_wants (left_named s job [] x))
@@ -370,29 +369,29 @@ left_start s job right = record {
 }
   where
     same : (x : ℕ) → left_named s job [] x ≡ request_at s x
-    same x = grind (arith, common_steps, filter_each (λ w. not (names [] w.key)) (request_at s x).wants.items (λ w h. refl))
+    same x = grind (arith, filter_each (λ w. not (names [] w.key)) (request_at s x).wants.items (λ w h. refl))
 
 -- ---- a job's only request leaves, whose only want is the only one that is named
 
 -- the only want is given up
 only_given : (ws : List Want) (w : Want) → length ws ≡ 1 → names ws w.key ≡ true → filter (λ v. not (names (w ∷ []) v.key)) ws ≡ []
 only_given [] w one h = absurd (omega arith)
-only_given (v ∷ []) w one h = grind (arith, common_steps, same_key-swap v.key w.key)
+only_given (v ∷ []) w one h = grind (arith, same_key-swap v.key w.key)
 only_given (v ∷ u ∷ ws) w one h = absurd (omega arith)
 
 module _ (s : Stored) (job : ℕ) (named : List Want) (p : ℕ) (is : IsSoleNamed s job named p) where
   both : (is_there p s.order ≡ true) × (((request_at s p).job == job) ≡ true)
-  both = grind (arith, common_steps, is.sole.own, there_kept (λ x. (request_at s x).job == job) p s.order)
+  both = grind (arith, is.sole.own, there_kept (λ x. (request_at s x).job == job) p s.order)
 
   -- the others are of other jobs
   others_of : (x : ℕ) → is_there x s.order ≡ true → x ≢ p → ((request_at s x).job == job) ≡ false
-  others_of x there ne = grind (arith, common_steps, is.sole.own, kept_there (λ y. (request_at s y).job == job) x s.order there)
+  others_of x there ne = grind (arith, is.sole.own, kept_there (λ y. (request_at s y).job == job) x s.order there)
 
   mine_left : has_wants (left_named s job named p) ≡ false
-  mine_left = grind (arith, common_steps, both, is.named_is, only_given (request_at s p).wants.items is.want is.sole.one is.sole.named)
+  mine_left = grind (arith, both, is.named_is, only_given (request_at s p).wants.items is.want is.sole.one is.sole.named)
 
   other_left : (x : ℕ) → is_there x s.order ≡ true → x ≢ p → left_named s job named x ≡ request_at s x
-  other_left x there ne = grind (arith, common_steps, others_of x there ne)
+  other_left x there ne = grind (arith, others_of x there ne)
 
   pub sole_left : (t : Stored) → AreRight s → StandsOnce s.order → t.order ≡ without_place s.order p
       → ((x : ℕ) → (x ≡ p → ⊥) → (filed_at t x).request ≡ (filed_at s x).request)
@@ -409,10 +408,10 @@ module _ (s : Stored) (job : ℕ) (named : List Want) (p : ℕ) (is : IsSoleName
       left = left_next s s t [] p once (left_none s) order once others
 
       beside_not : (x : ℕ) → x ≡ p → stays_beside (p ∷ []) x ≡ true → ⊥
-      beside_not x e h = grind (arith, common_steps)
+      beside_not x e h = grind arith
 
       stays : (x : ℕ) → is_there x s.order ≡ true → stays_beside (p ∷ []) x ≡ has_wants (left_named s job named x)
-      stays x there = grind (arith, common_steps, other_left x there, mine_left, some_wants (request_at s x) (right x there))
+      stays x there = grind (arith, other_left x there, mine_left, some_wants (request_at s x) (right x there))
 
   -- the call is not refused
   pub sole_passes : first_refusal (dequeue_fault (requests_in s) job) [] named ≡ None

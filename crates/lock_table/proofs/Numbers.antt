@@ -1,7 +1,6 @@
 -- What was found of wants' keys stays so while a want of another key is entered, or given up.
 use Rattle.std.proofs.Common.{◌≡◌, ◌∙◌, ◌<◌, ◌≤◌, ◌+◌, sym, ap, ℕ, true, false, List, Option, Some, None, inl, inr, arith, IfSome, get_or, length}
 use Rattle.std.proofs.lemmas.Bool.{both_ways, cases_eq, false_from_ne_true}
-use Rattle.std.proofs.lemmas.Grind.{common_steps}
 use Rattle.lock_queue.specs.declared.key.Key.{Key}
 use Rattle.lock_queue.specs.declared.want.Want.{Want}
 use Rattle.lock_queue.specs.Keys.{same_key}
@@ -25,10 +24,10 @@ other_hash a b ne = false_from_ne_true (same_key a b) (λ t. ne (ap hash_of (sam
 
 -- a lock of another key is not open for this one, and neither is one that is not open
 other_key : (w : Want) (key : Key) (l : Lock) → same_key w.key key ≡ false → l.key ≡ w.key → is_open_for key l ≡ false
-other_key w key l other is = grind (arith, common_steps)
+other_key w key l other is = grind arith
 
 not_open : (key : Key) (l : Lock) → is_closed l ≡ true → is_open_for key l ≡ false
-not_open key l closed = grind (arith, common_steps)
+not_open key l closed = grind arith
 
 -- what is found by one test is found by another that says the same
 same_found : (locks most : List Lock) (key : Key) (o : Option ℕ) → ((m : ℕ) → is_open_for key (lock_at most m) ≡ is_open_for key (lock_at locks m))
@@ -95,4 +94,4 @@ later_open locks more n i named found keeps is apart was j above within = go (ge
         both_ways (same_key (get_or named i unused_want).key key) (apart j (omega (arith, above)) within)
         (eq-same_key (get_or named i unused_want).key key
         (sym is ∙ ap (λ z. (lock_at locks z).key) (sym e) ∙ (open_parts key (lock_at locks m) h).1)) in
-        grind (arith, common_steps, keeps.keys m, keeps.queues m other, h)
+        grind (arith, keeps.keys m, keeps.queues m other, h)

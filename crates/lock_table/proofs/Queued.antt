@@ -3,7 +3,6 @@ use Rattle.std.proofs.Common.{◌≡◌, ◌<◌, ◌∙◌, sym, ap, subst, ℕ
 use Rattle.std.proofs.Common.{is_some, refl, arith}
 use Rattle.std.specs.List.{All, find, list_all, list_any, position_or_len}
 use Rattle.std.proofs.lemmas.Bool.{or_right}
-use Rattle.std.proofs.lemmas.Grind.{common_steps}
 use Rattle.std.proofs.lemmas.List.Folds.{list_any-append}
 use Rattle.lock_queue.specs.declared.key.Key.{Key}
 use Rattle.lock_queue.specs.declared.request.Request.{Request}
@@ -35,46 +34,46 @@ any_filter : (f g t : ℕ → Bool) (xs : List ℕ) → ((x : ℕ) → is_there 
 any_filter f g t [] same within = refl
 any_filter f g t (x ∷ xs) same within =
     let rest = any_filter f g t xs (λ y h. same y (or_right (x == y) (is_there y xs) h)) within in
-    grind (arith, common_steps, rest, same x, within x)
+    grind (arith, rest, same x, within x)
 
 -- what two tests find that say the same, and what is found by one
 any_each : (f g : ℕ → Bool) (xs : List ℕ) → ((x : ℕ) → is_there x xs ≡ true → f x ≡ g x) → list_any f xs ≡ list_any g xs
 any_each f g [] same = refl
 any_each f g (x ∷ xs) same =
     let rest = any_each f g xs (λ y h. same y (or_right (x == y) (is_there y xs) h)) in
-    grind (arith, common_steps, rest, same x)
+    grind (arith, rest, same x)
 
 found_any : (t : ℕ → Bool) (xs : List ℕ) → is_some (find t xs) ≡ list_any t xs
 found_any t [] = refl
-found_any t (x ∷ xs) = grind (arith, common_steps, found_any t xs)
+found_any t (x ∷ xs) = grind (arith, found_any t xs)
 
 -- whether a job has a want of a key, request by request
 names_by : (at : ℕ → Request) (order : List ℕ) (job : ℕ) (key : Key)
     → names (wants_of (map at order) job) key ≡ list_any (λ p. (at p).job == job && names (at p).wants.items key) order
 names_by at [] job key = refl
-names_by at (p ∷ order) job key = grind (arith, common_steps, names_by at order job key, list_any-append)
+names_by at (p ∷ order) job key = grind (arith, names_by at order job key, list_any-append)
 
 -- one result for all
 any_alike : (t : ℕ → Bool) (b : Bool) (xs : List ℕ) → ((x : ℕ) → is_there x xs ≡ true → t x ≡ b) → list_any (λ x. true) xs ≡ true
     → list_any t xs ≡ b
 any_alike t b [] same some = cc
-any_alike t b (x ∷ []) same some = grind (arith, common_steps, same x)
+any_alike t b (x ∷ []) same some = grind (arith, same x)
 any_alike t b (x ∷ y ∷ xs) same some =
     let rest = any_alike t b (y ∷ xs) (λ z h. same z (or_right (x == z) (is_there z (y ∷ xs)) h)) refl in
-    grind (arith, common_steps, rest, same x)
+    grind (arith, rest, same x)
 
 -- what passes at each
 pub all_mapped : (test : Want → Bool) (f : ℕ → Want) (xs : List ℕ) (x : ℕ) → list_all test (map f xs) ≡ true → is_there x xs ≡ true
     → test (f x) ≡ true
 all_mapped test f [] x all there = cc
-all_mapped test f (y ∷ xs) x all there = grind (arith, common_steps, all_mapped test f xs x)
+all_mapped test f (y ∷ xs) x all there = grind (arith, all_mapped test f xs x)
 
 pub mapped_all : (test : Want → Bool) (f : ℕ → Want) (xs : List ℕ) → ((x : ℕ) → is_there x xs ≡ true → test (f x) ≡ true)
     → list_all test (map f xs) ≡ true
 mapped_all test f [] each = refl
 mapped_all test f (y ∷ xs) each =
     let rest = mapped_all test f xs (λ x h. each x (or_right (y == x) (is_there x xs) h)) in
-    grind (arith, common_steps, rest, each y)
+    grind (arith, rest, each y)
 
 -- where no lock of a key is open, nobody wants it
 module _ (s : Stored) (locks : List Lock) (key : Key) (t : IsTable (state_of s locks))
@@ -86,7 +85,7 @@ module _ (s : Stored) (locks : List Lock) (key : Key) (t : IsTable (state_of s l
   unwanted_by job =
       let own : ℕ → Bool = λ p. (request_at s p).job == job && names (request_at s p).wants.items key in
       names_by (request_at s) s.order job key
-      ∙ sym (any_filter own own (λ p. names (request_at s p).wants.items key) s.order (λ p h. refl) (λ p h. grind (arith, common_steps, h)))
+      ∙ sym (any_filter own own (λ p. names (request_at s p).wants.items key) s.order (λ p h. refl) (λ p h. grind (arith, h)))
       ∙ ap (list_any own) (shut_at (state_of s locks) key t shut)
 
 module _ (s : Stored) (locks : List Lock) (n : ℕ) (t : IsTable (state_of s locks)) (open_is : is_open (lock_at locks n).queue ≡ true) where
@@ -110,7 +109,6 @@ module _ (s : Stored) (locks : List Lock) (n : ℕ) (t : IsTable (state_of s loc
   queued_is p present =
       grind (
         arith,
-        common_steps,
         there_is p present,
         named_there (λ m. (lock_at locks m).key) (request_at s p).wants.items (filed_at s p).queues.items n (t.kept.queues p present),
       )
@@ -119,7 +117,7 @@ module _ (s : Stored) (locks : List Lock) (n : ℕ) (t : IsTable (state_of s loc
   all_present = present_at (λ x. names (request_at s x).wants.items key) s.order (lock_at locks n).queue.places queue_is.places
 
   pub first_there : is_there (get_or (lock_at locks n).queue.places 0 0) (lock_at locks n).queue.places ≡ true
-  first_there = there_at (lock_at locks n).queue.places 0 0 (grind (arith, common_steps, open_is))
+  first_there = there_at (lock_at locks n).queue.places 0 0 (grind (arith, open_is))
 
   module _ (p : ℕ) (queued : is_there p (lock_at locks n).queue.places ≡ true) where
     pub there_parts : (is_there p s.order ≡ true) × (names (request_at s p).wants.items key ≡ true)
@@ -161,18 +159,18 @@ module _ (s : Stored) (locks : List Lock) (n : ℕ) (t : IsTable (state_of s loc
     pub wanted_at_places : list_any (stands_of s job n) (lock_at locks n).queue.places ≡ names (wants_of (requests_in s) job) key
     wanted_at_places =
         ap (list_any (stands_of s job n)) queue_is.places
-        ∙ wanted_among (λ p. names (request_at s p).wants.items key) (λ p h. grind (arith, common_steps, h))
+        ∙ wanted_among (λ p. names (request_at s p).wants.items key) (λ p h. grind (arith, h))
 
     -- which is where one of the queue's places is the job's
     pub wanted_by_place : is_some (find (λ p. (request_at s p).job == job) (lock_at locks n).queue.places) ≡ names (wants_of (requests_in s) job) key
     wanted_by_place =
         found_any (λ p. (request_at s p).job == job) (lock_at locks n).queue.places
         ∙ any_each (λ p. (request_at s p).job == job) (stands_of s job n) (lock_at locks n).queue.places
-        (λ p h. let parts = there_parts p h in grind (arith, common_steps, there_is p parts.0 parts.1))
+        (λ p h. let parts = there_parts p h in grind (arith, there_is p parts.0 parts.1))
         ∙ wanted_at_places
 
     pub wanted_of_job : list_any (stands_of s job n) (places_of s job) ≡ names (wants_of (requests_in s) job) key
-    wanted_of_job = wanted_among (λ p. (filed_at s p).request.job == job) (λ p h. grind (arith, common_steps, h))
+    wanted_of_job = wanted_among (λ p. (filed_at s p).request.job == job) (λ p h. grind (arith, h))
 
     -- and its wants of it are of a pool where the lock is
     pub pooled_is : names (wants_of (requests_in s) job) key ≡ true
@@ -190,4 +188,4 @@ module _ (s : Stored) (locks : List Lock) (n : ℕ) (t : IsTable (state_of s loc
         let in_own = there_kept named p own h in
         let present = there_kept (λ q. (request_at s q).job == job) p s.order in_own.0 in
         let queued = subst (λ l. is_there p l ≡ true) (sym queue_is.places) (kept_there named p s.order present.0 in_own.1) in
-        grind (arith, common_steps, share_is p queued)) some
+        grind (arith, share_is p queued)) some

@@ -5,7 +5,6 @@ use Rattle.std.specs.List.{All, list_any}
 use Rattle.std.proofs.lemmas.Bool.{both_ways, false_from_ne_true}
 use Rattle.std.proofs.lemmas.List.{get_or_read, length-map}
 use Rattle.std.proofs.lemmas.List.Elements.{filter-append}
-use Rattle.std.proofs.lemmas.Grind.{common_steps}
 use Rattle.lock_queue.specs.declared.key.Key.{Key}
 use Rattle.lock_queue.specs.declared.request.Request.{Request}
 use Rattle.lock_queue.specs.Keys.{same_key}
@@ -72,18 +71,18 @@ own_there s job = place_kept (λ p. (filed_at s p).request.job == job) s.order
 pub filter_mapped : {X : Type 0} → (t : X → Bool) (f : ℕ → X) (xs : List ℕ)
     → filter t (map f xs) ≡ map f (filter (λ x. t (f x)) xs)
 filter_mapped t f [] = refl
-filter_mapped t f (x ∷ xs) = grind (arith, common_steps, filter_mapped t f xs)
+filter_mapped t f (x ∷ xs) = grind (arith, filter_mapped t f xs)
 
 -- what passes is found where nothing else is kept
 pub any_kept : {X : Type 0} → (t : X → Bool) (xs : List X) → list_any t xs ≡ list_any (λ x. true) (filter t xs)
 any_kept t [] = refl
-any_kept t (x ∷ xs) = grind (arith, common_steps, any_kept t xs)
+any_kept t (x ∷ xs) = grind (arith, any_kept t xs)
 
 -- the wants of a key are those of its places
 placed_wants : (at : ℕ → Request) (order : List ℕ) (key : Key) → wants_at (map at (places_at at order key)) key ≡ wants_at (map at order) key
 placed_wants at [] key = refl
 placed_wants at (p ∷ order) key =
-    grind (arith, common_steps, placed_wants at order key, filter-append, none_kept (λ w. same_key w.key key) (at p).wants.items)
+    grind (arith, placed_wants at order key, filter-append, none_kept (λ w. same_key w.key key) (at p).wants.items)
 
 pub wants_at_places : (at : ℕ → Request) (order : List ℕ) (key : Key) (places : List ℕ) → places ≡ places_at at order key
     → wants_at (map at places) key ≡ wants_at (map at order) key
@@ -94,7 +93,7 @@ pub wants_at_places_of : (at : ℕ → Request) (order : List ℕ) (key : Key) (
     → wants_at (requests_of (map at (places_at at order key)) job) key ≡ wants_at (requests_of (map at order) job) key
 wants_at_places_of at [] key job = refl
 wants_at_places_of at (p ∷ order) key job =
-    grind (arith, common_steps, wants_at_places_of at order key job, filter-append, none_kept (λ w. same_key w.key key) (at p).wants.items)
+    grind (arith, wants_at_places_of at order key job, filter-append, none_kept (λ w. same_key w.key key) (at p).wants.items)
 
 -- the requests of a job are those of its places
 pub requests_of_places : (at : ℕ → Request) (order : List ℕ) (job : ℕ)

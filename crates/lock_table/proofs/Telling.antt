@@ -12,7 +12,6 @@ use Rattle.lock_queue.specs.declared.want.Want.{Want}
 use Rattle.lock_queue.specs.Jobs.{first_id, is_blocked_by, is_pending, is_waiting_job, pending, waits_for}
 use Rattle.lock_queue.specs.Jobs.{is_blocked as is_blocked_behind}
 use Rattle.lock_queue.specs.Keys.{same_key}
-use Rattle.std.proofs.lemmas.Grind.{common_steps}
 use Rattle.lock_queue.specs.Queue.{all_wants, chosen, granted, granted_behind, is_granted, is_owner, is_waiter, names, owners, some_behind, waiters}
 use Rattle.lock_queue.specs.StatusWords.{first_level, level_of, standing, status_of}
 use Rattle.lock_queue.specs.WellFormed.{is_job}
@@ -74,16 +73,16 @@ module _ (s : Stored) (test : List Request → Request → Bool) (mark : ℕ →
 -- a test of those that another keeps
 pub any_among : (a t : ℕ → Bool) (xs : List ℕ) → list_any (λ p. a p && t p) xs ≡ list_any t (filter a xs)
 any_among a t [] = refl
-any_among a t (x ∷ xs) = grind (arith, common_steps, any_among a t xs)
+any_among a t (x ∷ xs) = grind (arith, any_among a t xs)
 
 filter_among : (a t : ℕ → Bool) (xs : List ℕ) → filter (λ p. a p && t p) xs ≡ filter t (filter a xs)
 filter_among a t [] = refl
-filter_among a t (x ∷ xs) = grind (arith, common_steps, filter_among a t xs)
+filter_among a t (x ∷ xs) = grind (arith, filter_among a t xs)
 
 -- a test finds one where not none are kept
 pub any_some : (t : ℕ → Bool) (xs : List ℕ) → list_any t xs ≡ not (length (filter t xs) == 0)
 any_some t [] = refl
-any_some t (x ∷ xs) = grind (arith, common_steps, any_some t xs)
+any_some t (x ∷ xs) = grind (arith, any_some t xs)
 
 pub any_mapped : {X : Type 0} → (t : X → Bool) (f : ℕ → X) (xs : List ℕ) → list_any t (map f xs) ≡ list_any (λ x. t (f x)) xs
 any_mapped t f [] = refl
@@ -91,12 +90,12 @@ any_mapped t f (x ∷ xs) = ap (λ b. t (f x) || b) (any_mapped t f xs)
 
 first_found : (s : Stored) (t : ℕ → Bool) (xs : List ℕ) → first_id (requests_at s (filter t xs)) ≡ id_at s (find t xs)
 first_found s t [] = refl
-first_found s t (x ∷ xs) = grind (arith, common_steps, first_found s t xs)
+first_found s t (x ∷ xs) = grind (arith, first_found s t xs)
 
 -- what is found was there
 pub find_there : (t : ℕ → Bool) (xs : List ℕ) (p : ℕ) → find t xs ≡ Some p → is_there p xs ≡ true
 find_there t [] p e = cc
-find_there t (x ∷ xs) p e = grind (arith, common_steps, find_there t xs p)
+find_there t (x ∷ xs) p e = grind (arith, find_there t xs p)
 
 -- a request that is found so is present
 pub pending_there : (s : Stored) (job p : ℕ) → Some p ≡ find (λ q. is_pending_filed (filed_at s q)) (places_of s job) → is_there p s.order ≡ true
@@ -110,7 +109,7 @@ pub no_job : (s : Stored) (job : ℕ) → AreRight s → JOBS < job → places_o
 no_job s job right above = none_kept own s.order (false_from_ne_true (list_any own s.order) (λ e.
     let found = list_any-found own s.order e in
     let of : is_job (request_at s found.0).job ≡ true = job_number (request_at s found.0) (right found.0 (Has-there s.order found.0 found.1)) in
-    grind (arith, common_steps, of, found.2)))
+    grind (arith, of, found.2)))
   where
     own : ℕ → Bool
     own p = (request_at s p).job == job
@@ -121,18 +120,18 @@ module _ (s : Stored) (job : ℕ) (m : MarksGrants s) where
 
   pub waiting_is : is_waiting_job (requests_in s) job ≡ list_any (λ p. is_blocked (filed_at s p)) (places_of s job)
   waiting_is =
-      (told s (is_blocked_behind job) (λ p. own p && is_blocked (filed_at s p)) m (λ p present. grind (arith, common_steps, m.marks p present))).1
+      (told s (is_blocked_behind job) (λ p. own p && is_blocked (filed_at s p)) m (λ p present. grind (arith, m.marks p present))).1
       ∙ any_among own (λ p. is_blocked (filed_at s p)) s.order
 
   pub pending_is : pending (requests_in s) job ≡ id_at s (find (λ p. is_pending_filed (filed_at s p)) (places_of s job))
   pending_is =
-      ap first_id ((told s (is_pending job) (λ p. own p && is_pending_filed (filed_at s p)) m (λ p present. grind (arith, common_steps, m.marks p present))).0
+      ap first_id ((told s (is_pending job) (λ p. own p && is_pending_filed (filed_at s p)) m (λ p present. grind (arith, m.marks p present))).0
       ∙ ap (requests_at s) (filter_among own (λ p. is_pending_filed (filed_at s p)) s.order))
       ∙ first_found s (λ p. is_pending_filed (filed_at s p)) (places_of s job)
 
   pub waits_is : (other : ℕ) → waits_for (requests_in s) job other ≡ list_any (is_blocked_from s other) (places_of s job)
   waits_is other =
-      (told s (is_blocked_by job other) (λ p. own p && is_blocked_from s other p) m (λ p present. grind (arith, common_steps, m.marks p present))).1
+      (told s (is_blocked_by job other) (λ p. own p && is_blocked_from s other p) m (λ p present. grind (arith, m.marks p present))).1
       ∙ any_among own (is_blocked_from s other) s.order
 
 -- ---- one request
@@ -175,13 +174,13 @@ module _ (s : Stored) (key : Key) (m : MarksGrants s) where
 -- the level at which a key is wanted is that of the first request that wants it
 first_wanted : (t : Want → Bool) (xs ys : List Want) → list_any t xs ≡ true → first_level (filter t (xs ++ ys)) ≡ first_level (filter t xs)
 first_wanted t [] ys some = cc
-first_wanted t (x ∷ xs) ys some = grind (arith, common_steps, first_wanted t xs ys)
+first_wanted t (x ∷ xs) ys some = grind (arith, first_wanted t xs ys)
 
 pub level_first : (at : ℕ → Request) (order : List ℕ) (key : Key) (places : List ℕ) → places ≡ places_at at order key → 0 < length places
     → level_of (map at order) key ≡ unwrap_or (first_level (filter (λ w. same_key w.key key) (at (get_or places 0 0)).wants.items)) 0
 level_first at order key [] is some = absurd (omega arith)
 level_first at order key (p ∷ rest) is some =
-    let there : is_there p (places_at at order key) ≡ true = subst (λ l. is_there p l ≡ true) is (grind (arith, common_steps)) in
+    let there : is_there p (places_at at order key) ≡ true = subst (λ l. is_there p l ≡ true) is (grind arith) in
     ap (λ (l : List Want). unwrap_or (first_level l) 0) (sym (wants_at_places at order key (p ∷ rest) is))
     ∙ ap (λ o. unwrap_or o 0)
     (first_wanted (λ w. same_key w.key key) (at p).wants.items (all_wants (map at rest)) (there_kept (λ x. names (at x).wants.items key) p order there).1)

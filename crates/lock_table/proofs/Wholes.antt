@@ -24,7 +24,6 @@ use Rattle.lock_table.specs.Departures.{IsLeft, LeavesBy, LeavesWhere, left_name
 use Rattle.lock_queue.proofs.Lists.{Has-map, list_all-Has, list_all-each, map-Has}
 use Rattle.key_queues.proofs.Keeping.{Has-there, flags_tell_grants}
 use Rattle.lock_table.proofs.Altering.{filter_each, map_each, map_twice, there_Has}
-use Rattle.std.proofs.lemmas.Grind.{common_steps}
 use Rattle.lock_table.proofs.Named.{fewer_named, job_named, level_named, some_wants}
 use Rattle.lock_queue.specs.declared.call.LockReply.TheVariants.{Done, Refused}
 use Rattle.lock_queue.specs.Outcomes.{Outcome, first_refusal, outcome, unless_refused}
@@ -79,7 +78,7 @@ pub jobs_left : (s t : Stored) (then : ℕ → Request) (stays : ℕ → Bool) �
     → ((x : ℕ) → (then x).job ≡ (request_at s x).job)
     → JobsAreApart t
 jobs_left s t then stays apart left fewer same x y key hx hy nx ny job =
-    grind (arith, common_steps, left.order, left.left, there_kept stays x s.order, there_kept stays y s.order, fewer, same, apart x y key)
+    grind (arith, left.order, left.left, there_kept stays x s.order, there_kept stays y s.order, fewer, same, apart x y key)
 
 -- and a key is still wanted at one level where the requests have fewer wants
 pub levels_left : (s t : Stored) (then : ℕ → Request) (stays : ℕ → Bool) → LevelsAgree s → IsLeft s t then stays
@@ -87,7 +86,7 @@ pub levels_left : (s t : Stored) (then : ℕ → Request) (stays : ℕ → Bool)
     → ((x : ℕ) (key : Key) → names (then x).wants.items key ≡ true → level_at (then x) key ≡ level_at (request_at s x) key)
     → LevelsAgree t
 levels_left s t then stays agree left fewer same x y key hx hy nx ny =
-    grind (arith, common_steps, left.order, left.left, there_kept stays x s.order, there_kept stays y s.order, fewer x key, fewer y key, same x key, same y key, agree x y key)
+    grind (arith, left.order, left.left, there_kept stays x s.order, there_kept stays y s.order, fewer x key, fewer y key, same x key, same y key, agree x y key)
 
 pub whole_left : (size : ℕ) (s t : Stored) (locks more : List Lock) (stays : ℕ → Bool) → IsWhole size s locks
     → IsTable (state_of t more)
@@ -107,7 +106,7 @@ whole_left size s t locks more stays w table left = record {
 -- who stays beside those that a test chooses
 pub beside_chosen : (test : ℕ → Bool) (xs places : List ℕ) (x : ℕ) → places ≡ filter test xs → is_there x xs ≡ true
     → stays_beside places x ≡ not (test x)
-beside_chosen test xs places x is h = grind (arith, common_steps, is, kept_there test x xs h, there_kept test x xs)
+beside_chosen test xs places x is h = grind (arith, is, kept_there test x xs h, there_kept test x xs)
 
 pub leaves_where : (s t : Stored) (test : ℕ → Bool) (places : List ℕ) → IsLeft s t (request_at s) (stays_beside places)
     → places ≡ filter test s.order
@@ -136,7 +135,7 @@ left_where s t test left =
 -- where none leaves, all stay
 all_stay : (t : ℕ → Bool) (xs : List ℕ) → list_any t xs ≡ false → filter (λ x. not (t x)) xs ≡ xs
 all_stay t [] none = refl
-all_stay t (x ∷ xs) none = grind (arith, common_steps, none, all_stay t xs)
+all_stay t (x ∷ xs) none = grind (arith, none, all_stay t xs)
 
 -- what is left, and the answer, where the requests for which a test holds are given up
 pub left_dequeued : (s t : Stored) (test : Request → Bool) (some : Bool) → IsLeft s t (request_at s) (λ x. not (test (request_at s x)))
@@ -145,13 +144,13 @@ pub left_dequeued : (s t : Stored) (test : Request → Bool) (some : Bool) → I
     × (cond some Done (Refused NotPresent) ≡ (dequeue_where (requests_in s) test).reply)
 left_dequeued s t test true left is =
     let any : list_any test (requests_in s) ≡ true = any_mapped test (request_at s) s.order ∙ sym is in
-    (grind (arith, common_steps, left_where s t test left, any), grind (arith, common_steps, any))
+    (grind (arith, left_where s t test left, any), grind (arith, any))
 left_dequeued s t test false left is =
     let none : list_any test (requests_in s) ≡ false = any_mapped test (request_at s) s.order ∙ sym is in
     let same : requests_in t ≡ requests_in s =
     left_requests s t (request_at s) (λ x. not (test (request_at s x))) left
     ∙ ap (map (request_at s)) (all_stay (λ x. test (request_at s x)) s.order (sym is)) in
-    (grind (arith, common_steps, same, none), grind (arith, common_steps, none))
+    (grind (arith, same, none), grind (arith, none))
 
 pub leaves_by : (left : Request → Option Request) (s t : Stored) (then : ℕ → Request) (stays : ℕ → Bool) → IsLeft s t then stays
     → ((x : ℕ) → left (request_at s x) ≡ staying_if (stays x) (then x))
@@ -159,7 +158,7 @@ pub leaves_by : (left : Request → Option Request) (s t : Stored) (then : ℕ �
 leaves_by left s t then stays is each = record {
   stays = stays;
   order = is.order;
-  left_is = λ x h. grind (arith, common_steps, each x, is.order, is.left x, kept_there stays x s.order h);
+  left_is = λ x h. grind (arith, each x, is.order, is.left x, kept_there stays x s.order h);
 }
 
 named_requests : (s t : Stored) (job : ℕ) (named : List Want) → IsLeft s t (left_named s job named) (λ x. has_wants (left_named s job named x))
@@ -213,22 +212,22 @@ changed_leaves s t job changes is = record {
 -- ---- what is left keeps its kind
 
 pub left_kind : (job : ℕ) (call : LockCall) (r s : Request) → left_of job call r ≡ Some s → s.kind ≡ r.kind
-left_kind job (Enqueue asking wants) r s e = grind (arith, common_steps)
-left_kind job (Modify changes) r s e = grind (arith, common_steps)
-left_kind job (DequeueNamed named) r s e = grind (arith, common_steps)
-left_kind job DequeueAll r s e = grind (arith, common_steps)
-left_kind job (DequeueId id) r s e = grind (arith, common_steps)
+left_kind job (Enqueue asking wants) r s e = grind arith
+left_kind job (Modify changes) r s e = grind arith
+left_kind job (DequeueNamed named) r s e = grind arith
+left_kind job DequeueAll r s e = grind arith
+left_kind job (DequeueId id) r s e = grind arith
 
 -- ---- who rises
 
 same_test : (was is told : Bool) → ((turned_if (not (beq was is)) false && is) && told) ≡ ((told && not was) && (true && is))
-same_test was is told = grind (arith, common_steps)
+same_test was is told = grind arith
 
 -- each request of a table that is right has wants
 turned_all : (s t : Stored) (before after : List Bool) → AreRight t → Turned s t before after
     → (x : ℕ) → is_there x t.order ≡ true
     → mark_at after x ≡ turned_if (not (beq (filed_at s x).granted (filed_at t x).granted)) (mark_at before x)
-turned_all s t before after right turned x there = turned x (grind (arith, common_steps, there, some_wants (request_at t x) (right x there)))
+turned_all s t before after right turned x there = turned x (grind (arith, there, some_wants (request_at t x) (right x there)))
 
 module _ (s t : Stored) (locks more : List Lock) (left : Request → Option Request) (before after : List Bool)
     (labels : (r q : Request) → left r ≡ Some q → grant_of q ≡ grant_of r) (kinds : (r q : Request) → left r ≡ Some q → q.kind ≡ r.kind)
@@ -240,7 +239,7 @@ module _ (s t : Stored) (locks more : List Lock) (left : Request → Option Requ
   raised_is x present stay =
       let there : is_there x t.order ≡ true = ap (is_there x) leaves.order ∙ kept_there leaves.stays x s.order present stay in
       let same = same_test (filed_at s x).granted (filed_at t x).granted (is_told_of (request_at s x).kind) in
-      grind (arith, common_steps, turned x there, none x, leaves.left_is x present, kinds (request_at s x) (request_at t x), same)
+      grind (arith, turned x there, none x, leaves.left_is x present, kinds (request_at s x) (request_at t x), same)
 
   raised_all : (xs : List ℕ) → ((x : ℕ) → is_there x xs ≡ true → is_there x s.order ≡ true)
       → map grant_of (requests_at t (filter (is_raised t after) (filter leaves.stays xs)))
@@ -249,7 +248,7 @@ module _ (s t : Stored) (locks more : List Lock) (left : Request → Option Requ
   raised_all (x ∷ xs) sub =
       let present : is_there x s.order ≡ true = sub x (or_left (x == x) (is_there x xs) (eq-eqb x x refl)) in
       let rest = raised_all xs (λ y h. sub y (or_right (x == y) (is_there y xs) h)) in
-      grind (arith, common_steps, rest, raised_is x present, leaves.left_is x present, labels (request_at s x) (request_at t x))
+      grind (arith, rest, raised_is x present, leaves.left_is x present, labels (request_at s x) (request_at t x))
 
   pub woken_marked : IsTable (state_of s locks) → IsTable (state_of t more) → grants_marked t after ≡ woken left (requests_in s)
   woken_marked was is =
@@ -285,10 +284,10 @@ only_kept t p (x ∷ xs) only once =
     only_kept t p xs only
     (λ before after q is. let parts = once (x ∷ before) after q (ap (λ l. x ∷ l) is) in
     ((or_parts (x == q) (is_there q before) parts.0).1, parts.1)) in
-    grind (arith, common_steps, only x, rest, (once [] xs x refl).1)
+    grind (arith, only x, rest, (once [] xs x refl).1)
 
 unmarked : (s : Stored) (marks : List Bool) (x : ℕ) → mark_at marks x ≡ false → is_raised s marks x ≡ false
-unmarked s marks x e = grind (arith, common_steps)
+unmarked s marks x e = grind arith
 
 pub none_raised : (s : Stored) (marks : List Bool) (xs : List ℕ) → ((x : ℕ) → mark_at marks x ≡ false) → filter (is_raised s marks) xs ≡ []
 none_raised s marks xs none = ap (λ (t : ℕ → Bool). filter t xs) (λ i x. unmarked s marks x (none x) i) ∙ none_stay xs
@@ -303,7 +302,7 @@ pub only_grants : (s : Stored) (marks : List Bool) (p : ℕ) (there raised : Boo
     → is_there p s.order ≡ there
     → is_raised s marks p ≡ raised
     → grants_marked s marks ≡ cond (there && raised) (grant_of (request_at s p) ∷ []) []
-only_grants s marks p there raised only once a b = grind (arith, common_steps, only_raised s marks p only once)
+only_grants s marks p there raised only once a b = grind (arith, only_raised s marks p only once)
 
 -- ---- what is seen of the parts of a table
 
@@ -408,10 +407,10 @@ module _ (s t : Stored) (p : ℕ) (lt : p < length s.filed) (is : t ≡ with_fil
   told_whole size locks w = record {
     table = subst IsTable (sym same_state) (table_same (state_of s locks) (request_at t) wants_like w.table);
     right = λ x h. like (λ (g : Filed). is_well_formed g.request) refl x ∙ w.right x (subst (λ l. is_there x l ≡ true) told_order h);
-    jobs = λ x y key hx hy nx ny e. grind (arith, common_steps, told_order, wants_like x, wants_like y, job_like x, job_like y, w.jobs x y key);
+    jobs = λ x y key hx hy nx ny e. grind (arith, told_order, wants_like x, wants_like y, job_like x, job_like y, w.jobs x y key);
     levels =
         λ x y key hx hy nx ny.
-        grind (arith, common_steps, told_order, wants_like x, wants_like y, level_like key x, level_like key y, w.levels x y key);
+        grind (arith, told_order, wants_like x, wants_like y, level_like key x, level_like key y, w.levels x y key);
     few = subst (λ l. length l ≤ size) (sym told_order) w.few;
   }
     where
@@ -439,7 +438,7 @@ module _ (s t : Stored) (p : ℕ) (lt : p < length s.filed) (is : t ≡ with_fil
 
 find_among : (a t : ℕ → Bool) (xs : List ℕ) → find t (filter a xs) ≡ find (λ x. a x && t x) xs
 find_among a t [] = refl
-find_among a t (x ∷ xs) = grind (arith, common_steps, find_among a t xs)
+find_among a t (x ∷ xs) = grind (arith, find_among a t xs)
 
 module _ (test : List Request → Request → Bool) (at : ℕ → Request) (mark : ℕ → Bool) (order : List ℕ)
     (right : (before after : List ℕ) (p : ℕ) → order ≡ before ++ p ∷ after → test (map at before) (at p) ≡ mark p) where
@@ -450,11 +449,11 @@ module _ (test : List Request → Request → Bool) (at : ℕ → Request) (mark
       let here : test (map at before) (at x) ≡ mark x = right before xs x is in
       let later = told_first (before ++ x ∷ []) xs p once (is ∙ sym (append_assoc before (x ∷ []) xs)) in
       let rest = map_same at (λ y. cond (y == p) (as_told (at y)) (at y)) p xs in
-      grind (arith, common_steps, here, later, rest, map-append at before (x ∷ []), once before xs x is, find_passes mark xs p, ne_eqb)
+      grind (arith, here, later, rest, map-append at before (x ∷ []), once before xs x is, find_passes mark xs p, ne_eqb)
 
   pub told_none : (before xs : List ℕ) → order ≡ before ++ xs → find mark xs ≡ None → told_behind test (map at before) (map at xs) ≡ map at xs
   told_none before [] is e = refl
-  told_none before (x ∷ xs) is e = grind (arith, common_steps, right before xs x is, map-append at before (x ∷ []), told_none (before ++ x ∷ []) xs (is ∙ sym (append_assoc before (x ∷ []) xs)))
+  told_none before (x ∷ xs) is e = grind (arith, right before xs x is, map-append at before (x ∷ []), told_none (before ++ x ∷ []) xs (is ∙ sym (append_assoc before (x ∷ []) xs)))
 
 -- which request of a job is pending
 module _ (s : Stored) (locks : List Lock) (job : ℕ) (table : IsTable (state_of s locks)) where
@@ -462,7 +461,7 @@ module _ (s : Stored) (locks : List Lock) (job : ℕ) (table : IsTable (state_of
   marks x = is_of s job x && is_pending_filed (filed_at s x)
 
   assoc : (a b c d : Bool) → (((a && b) && c) && d) ≡ (a && ((b && c) && d))
-  assoc a b c d = grind (arith, common_steps)
+  assoc a b c d = grind arith
 
   marks_right : (before after : List ℕ) (p : ℕ) → s.order ≡ before ++ p ∷ after → is_pending job (map (request_at s) before) (request_at s p) ≡ marks p
   unfolding marks
@@ -478,7 +477,7 @@ module _ (s : Stored) (locks : List Lock) (job : ℕ) (table : IsTable (state_of
       → requests_in t ≡ told_of (requests_in s) job
   unfolding marks
   told_is t p found order mine others =
-      let each : (x : ℕ) → request_at t x ≡ cond (x == p) (as_told (request_at s x)) (request_at s x) = λ x. grind (arith, common_steps, mine, others x) in
+      let each : (x : ℕ) → request_at t x ≡ cond (x == p) (as_told (request_at s x)) (request_at s x) = λ x. grind (arith, mine, others x) in
       ap (map (request_at t)) order
       ∙ ap (λ (g : ℕ → Request). map g s.order) (λ i x. each x i)
       ∙ sym

@@ -42,7 +42,6 @@ use Rattle.lock_table.proofs.Altering.{job_changed, named_changed, set_is_change
 use Rattle.lock_table.proofs.Altering.{wants_same_there, IsWantedAt, counts, lost_is, wanted_at, wants_then, changed_then, map_each, own_of_changed}
 use Rattle.lock_table.proofs.Altering.{own_unnamed, changed_none, map_twice, changes_tell, pool_same}
 use Rattle.lock_table.proofs.Filing.{place_within, filed_mine, filed_other, filed_like, lock_mine, lock_other, lock_like}
-use Rattle.std.proofs.lemmas.Grind.{common_steps}
 use Rattle.lock_queue.specs.Outcomes.{first_refusal, outcome}
 use Rattle.lock_queue.specs.WellFormed.{are_apart}
 use Rattle.lock_queue.proofs.Refusing.{or_else-None, refuse_if-None}
@@ -59,21 +58,21 @@ use Rattle.key_queues.proofs.Moves.{wants_same}
 -- a request without a want of the key stays
 pub unnamed_request : (job : ℕ) (c : Want) (r : Request) → names r.wants.items c.key ≡ false → changed_once job c r ≡ r
 unnamed_request job c r f =
-    grind (arith, common_steps, unnamed_wants (c ∷ []) r.wants.items none)
+    grind (arith, unnamed_wants (c ∷ []) r.wants.items none)
   where
     none : (w : Want) → Has r.wants.items w → names (c ∷ []) w.key ≡ false
-    none w h = grind (arith, common_steps, list_any-Has (λ v. same_key v.key c.key) r.wants.items w, same_key-swap c.key w.key, h)
+    none w h = grind (arith, list_any-Has (λ v. same_key v.key c.key) r.wants.items w, same_key-swap c.key w.key, h)
 
 take_fewer : (j k x : ℕ) (xs : List ℕ) → j ≤ k → is_there x (take j xs) ≡ true → is_there x (take k xs) ≡ true
 take_fewer zero k x xs le h = cc
 take_fewer (suc j) zero x xs le h = absurd (omega arith)
 take_fewer (suc j) (suc k) x [] le h = cc
-take_fewer (suc j) (suc k) x (y ∷ xs) le h = grind (arith, common_steps, take_fewer j k x xs (omega arith))
+take_fewer (suc j) (suc k) x (y ∷ xs) le h = grind (arith, take_fewer j k x xs (omega arith))
 
 -- wants without a pool take nothing
 none_taken : (ws : List Want) → ((u : Want) → Has ws u → u.pool ≡ None) → sum_by amount_of ws ≡ 0
 none_taken [] f = refl
-none_taken (w ∷ ws) f = grind (arith, common_steps, f w (inl refl), none_taken ws (λ u h. f u (inr h)), sum-cons amount_of w ws)
+none_taken (w ∷ ws) f = grind (arith, f w (inl refl), none_taken ws (λ u h. f u (inr h)), sum-cons amount_of w ws)
 
 first_mapped : (f : ℕ → Want) (xs : List ℕ) → 0 < length xs → slice_get (map f xs) 0 ≡ Some (f (get_or xs 0 0))
 first_mapped f [] lt = absurd (omega arith)
@@ -155,7 +154,7 @@ module _ (s : Stored) (locks : List Lock) (n p job : ℕ) (c : Want) (b : IsBetw
         | inr ne ↦
             let other = unnamed_request job c (request_at s x) in
             let apart = b.jobs x p c.key present wp.present in
-            grind (arith, common_steps, filed_x x ne, other, eqb-true (request_at s x).job job, apart, named_p, mine)
+            grind (arith, filed_x x ne, other, eqb-true (request_at s x).job job, apart, named_p, mine)
       ]
 
   within_locks : n < length locks
@@ -234,7 +233,7 @@ module _ (s : Stored) (locks : List Lock) (n p job : ℕ) (c : Want) (b : IsBetw
       let all = take_fewer q.fitting k x q.places in
       let front = take_fewer fits k x q.places in
       let either = there_parts fits x q.places in
-      grind (arith, common_steps, lost, has, all, front, either, there_parts q.fitting x q.places, there_Has x (drop fits q.places), le-min, min-le_left)
+      grind (arith, lost, has, all, front, either, there_parts q.fitting x q.places, there_Has x (drop fits q.places), le-min, min-le_left)
 
   step : Changes (state_of s locks) (state_of t more) p n (take i (request_at s p).wants.items) (drop (suc i) (request_at s p).wants.items) w (changed_by c w)
   step = record {
@@ -280,7 +279,7 @@ module _ (s : Stored) (locks : List Lock) (n p job : ℕ) (c : Want) (b : IsBetw
         λ x y key px py nx ny same.
         let named = λ (z : ℕ). named_changed job (c ∷ []) (request_at s z) key in
         let job_is = λ (z : ℕ). job_changed job (c ∷ []) (request_at s z) in
-        grind (arith, common_steps, request_t x px, request_t y py, named x, named y, job_is x, job_is y, b.jobs x y key);
+        grind (arith, request_t x px, request_t y py, named x, named y, job_is x, job_is y, b.jobs x y key);
   }
 
   pub altered_then : Altered s t locks more job c
@@ -303,7 +302,7 @@ module _ (s : Stored) (locks : List Lock) (n p job : ℕ) (c : Want) (b : IsBetw
 
 not_before : (c : Want) (later earlier : List Want) (d : Want) → names (earlier ++ c ∷ []) d.key ≡ false
     → (names earlier d.key ≡ false) × (same_key c.key d.key ≡ false)
-not_before c later earlier d f = grind (arith, common_steps, list_any-append (λ (v : Want). same_key v.key d.key) earlier (c ∷ []))
+not_before c later earlier d f = grind (arith, list_any-append (λ (v : Want). same_key v.key d.key) earlier (c ∷ []))
 
 -- what no refusal says of each change
 record IsPassed (requests : List Request) (job : ℕ) (earlier : List Want) (c : Want) : Type 0 where
@@ -379,7 +378,7 @@ module _ (s : Stored) (locks : List Lock) (job : ℕ) (t : IsTable (state_of s l
 
 -- two changes of two keys, in either order
 swapped : (c d w : Want) → same_key c.key d.key ≡ false → changed_want (c ∷ d ∷ []) w ≡ changed_want (d ∷ c ∷ []) w
-swapped c d w apart = grind (arith, common_steps, same_key-eq w.key c.key)
+swapped c d w apart = grind (arith, same_key-eq w.key c.key)
 
 twice_swapped : (job : ℕ) (c d : Want) (r : Request) → same_key c.key d.key ≡ false
     → changed_once job d (changed_once job c r) ≡ changed_once job c (changed_once job d r)
@@ -387,13 +386,13 @@ twice_swapped job c d r apart =
     let first = changed_then job c (d ∷ []) r in
     let second = changed_then job d (c ∷ []) r in
     let same = map_each (changed_want (c ∷ d ∷ [])) (changed_want (d ∷ c ∷ [])) r.wants.items (λ w h. swapped c d w apart) in
-    grind (arith, common_steps, first, second, same, same_key-swap d.key c.key)
+    grind (arith, first, second, same, same_key-swap d.key c.key)
 
 -- the wants of another key
 own_other : (job : ℕ) (c d : Want) (r : Request) → same_key c.key d.key ≡ false
     → own_wants d.key (changed_once job d (changed_once job c r)) ≡ own_wants d.key (changed_once job d r)
 own_other job c d r apart =
-    grind (arith, common_steps, own_of_changed job (d ∷ []) (changed_once job c r) d.key, job_changed job (c ∷ []) r, own_unnamed job (c ∷ []) r d.key, own_of_changed job (d ∷ []) r d.key)
+    grind (arith, own_of_changed job (d ∷ []) (changed_once job c r) d.key, job_changed job (c ∷ []) r, own_unnamed job (c ∷ []) r d.key, own_of_changed job (d ∷ []) r d.key)
 
 module _ (s t : Stored) (locks more : List Lock) (job : ℕ) (c : Want) (a : Altered s t locks more job c) where
   back : (x : ℕ) → is_there x t.order ≡ true → is_there x s.order ≡ true
@@ -473,18 +472,13 @@ module _ (s t : Stored) (locks more : List Lock) (job : ℕ) (c : Want) (a : Alt
 
 -- ---- all that fits is counted once all changes are made
 
--- the rest of a list from one of its elements on
-pub rest_is : (xs : List Want) (i : ℕ) (x : Want) → i < length xs → x ≡ get_or xs i x → drop i xs ≡ x ∷ drop (i + 1) xs
-rest_is xs i x lt is =
-    drop-cons xs i x lt ∙ ap (λ y. y ∷ drop (suc i) xs) (sym is) ∙ ap (λ j. x ∷ drop j xs) (sym (add-one i))
-
 -- a queue whose wants stay as they were counts all that fit, as it did
 still_full : (s t : Stored) (locks more : List Lock) (m : ℕ) → (lock_at more m).key ≡ (lock_at locks m).key
     → (lock_at more m).queue ≡ (lock_at locks m).queue
     → wants_at (map (request_at t) t.order) (lock_at locks m).key ≡ wants_at (map (request_at s) s.order) (lock_at locks m).key
     → IsFull (state_of s locks) m
     → IsFull (state_of t more) m
-still_full s t locks more m key queue wants full = grind (arith, common_steps)
+still_full s t locks more m key queue wants full = grind arith
 
 -- the queues of other keys
 pub full_but_changed : (s t : Stored) (locks more : List Lock) (job : ℕ) (changes : List Want) → IsTable (state_of s locks)
@@ -496,7 +490,7 @@ full_but_changed s t locks more job changes table i x m stands f =
     still_full s t locks more m (i.key m) (i.others m f_s)
     (ap (λ l. wants_at (map (request_at t) l) (lock_at locks m).key) i.order
     ∙ wants_same_there (lock_at locks m).key (request_at s) (request_at t) s.order
-    (λ y present. grind (arith, common_steps, changed_none job (request_at t y), i.at y present, own_unnamed job changes (request_at s y) (lock_at locks m).key f_s)))
+    (λ y present. grind (arith, changed_none job (request_at t y), i.at y present, own_unnamed job changes (request_at s y) (lock_at locks m).key f_s)))
     (table.full x m (record { present = there; there = subst (λ l. is_there m l ≡ true) (i.own x) stands.there }))
 
 -- a key of which no queue is open is passed over
@@ -509,7 +503,7 @@ extending_none s0 s locks0 locks c later kept i none = record {
   at = i.at;
   full = λ x m stands f.
       let other : same_key c.key (lock_at locks m).key ≡ false =
-      grind (arith, common_steps, none m, used_open (state_of s locks) x m kept stands, same_key-swap c.key (lock_at locks m).key) in
+      grind (arith, none m, used_open (state_of s locks) x m kept stands, same_key-swap c.key (lock_at locks m).key) in
       i.full x m stands (or_from (same_key c.key (lock_at locks m).key) (names later (lock_at locks m).key) other f);
 }
 
@@ -533,7 +527,7 @@ extending_more s0 s t locks0 locks more c later n b i is_for e full = (
     used = b.used n parts.0
 
     jobs : JobsAreApart t
-    jobs x y key px py nx ny same = grind (arith, common_steps, e.order, e.at x, e.at y, b.jobs x y key)
+    jobs x y key px py nx ny same = grind (arith, e.order, e.at x, e.at y, b.jobs x y key)
 
     go : (x m : ℕ) → Stands (state_of t more) x m → names later (lock_at more m).key ≡ false → (m ≡ n) ⊎ (m ≢ n) → IsFull (state_of t more) m
     go x m stands f (inl here) = subst (IsFull (state_of t more)) (sym here) full
@@ -572,4 +566,4 @@ requests_changed s t job changes is =
 pub modified : (requests : List Request) (job : ℕ) (changes : List Want) → first_refusal (modify_fault requests job) [] changes ≡ None
     → some_lost requests (with_changes requests job changes) ≡ false
     → modify requests job changes ≡ outcome (with_changes requests job changes) Done
-modified requests job changes none kept = grind (arith, common_steps)
+modified requests job changes none kept = grind arith

@@ -1,7 +1,8 @@
 use Rattle.std.proofs.Common.{◌≡◌, ◌<◌, ◌+◌, subst, ◌∷◌, drop, length, List, arith, lit<}
 use Rattle.lock_queue.specs.declared.want.Want.{Want}
 use Rattle.lock_table.specs.Changing.{AreSound, IsAltering}
-use Rattle.lock_table.proofs.Writing.{rest_is, altering_more, later_sound}
+use Rattle.lock_table.proofs.Writing.{altering_more, later_sound}
+use Rattle.lock_table.proofs.Faults.{rest_is}
 use Rattle.lock_table.proofs.change.alter_all.Goals as goal
 
 pub alter-requires : goal.alter-requires

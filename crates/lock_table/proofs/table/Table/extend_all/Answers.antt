@@ -2,7 +2,8 @@ use Rattle.std.proofs.Common.{◌≡◌, ◌+◌, subst, drop, List, arith, true
 use Rattle.lock_queue.specs.declared.want.Want.{Want}
 use Rattle.key_queues.specs.Tables.{is_there}
 use Rattle.lock_table.specs.Changing.{IsExtending}
-use Rattle.lock_table.proofs.Writing.{extending_more, extending_none, rest_is}
+use Rattle.lock_table.proofs.Writing.{extending_more, extending_none}
+use Rattle.lock_table.proofs.Faults.{rest_is}
 use Rattle.lock_table.proofs.Filing.{turned_then, wanting_before}
 use Rattle.lock_table.proofs.table.Table.extend_all.Goals as goal
 

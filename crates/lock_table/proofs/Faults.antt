@@ -1,0 +1,85 @@
+-- A call's wants are judged one by one, and their keys looked up.
+use Rattle.std.proofs.Common.{◌≡◌, ◌∙◌, ◌<◌, ◌+◌, ◌++◌, ◌∷◌, ◌||◌, sym, ap, subst, ℕ, suc, Bool, true, false, not, List, [], Option, Some, add-one}
+use Rattle.std.proofs.Common.{length, get_or, take, drop, arith, refl, below_more, is_some}
+use Rattle.std.specs.List.{list_all}
+use Rattle.std.proofs.lemmas.List.{get_or_append_left, get_or_push, get_or-take, length-take, take_more}
+use Rattle.std.proofs.Math.Seq.{drop-cons}
+use Rattle.lock_queue.specs.declared.refusal.Refusal.{Refusal}
+use Rattle.lock_queue.specs.declared.refusal.Refusal.TheVariants.{Differs, NamedAlready}
+use Rattle.lock_queue.specs.declared.request.Request.{Request}
+use Rattle.lock_queue.specs.declared.want.Want.{Want}
+use Rattle.lock_queue.specs.Enqueues.{are_alike, enqueue_fault}
+use Rattle.lock_queue.specs.Outcomes.{first_refusal, or_else, refuse_if}
+use Rattle.lock_queue.specs.Queue.{names, wants_at, wants_of}
+use Rattle.lock_queue.specs.Unused.{unused_want}
+use Rattle.key_queues.specs.declared.found.Found.{Found}
+use Rattle.key_queues.specs.declared.lock.Lock.{Lock}
+use Rattle.key_queues.specs.Found.{IsFound}
+use Rattle.key_queues.specs.Hashes.{hash_of}
+use Rattle.lock_table.specs.Arrivals.{no_found}
+
+-- the rest of a list from one of its elements on
+pub rest_is : (xs : List Want) (i : ℕ) (x : Want) → i < length xs → x ≡ get_or xs i x → drop i xs ≡ x ∷ drop (i + 1) xs
+rest_is xs i x lt is = drop-cons xs i x lt ∙ ap (λ y. y ∷ drop (suc i) xs) (sym is) ∙ ap (λ j. x ∷ drop j xs) (sym (add-one i))
+
+-- what is judged from one of the wants on
+pub judged_at : (fault : List Want → Want → Option Refusal) (ws : List Want) (i : ℕ) (w : Want) → i < length ws → w ≡ get_or ws i w
+    → first_refusal fault (take i ws) (drop i ws)
+    ≡ or_else (fault (take i ws) w) (first_refusal fault (take (i + 1) ws) (drop (i + 1) ws))
+judged_at fault ws i w lt is =
+    ap (first_refusal fault (take i ws)) (rest_is ws i w lt is)
+    ∙ ap (λ l. or_else (fault (take i ws) w) (first_refusal fault l (drop (i + 1) ws)))
+    (sym (take_more ws i w lt ∙ ap (λ v. take i ws ++ v ∷ []) (sym is)))
+
+-- ---- one want, where it is known whether it is refused beside the present ones
+
+refused_beside : (differs named before : Bool) (rest : Option Refusal)
+    → is_some (or_else (refuse_if differs Differs) (refuse_if named NamedAlready)) ≡ true
+    → or_else (or_else (refuse_if differs Differs) (refuse_if (before || named) NamedAlready)) rest
+    ≡ or_else (refuse_if differs Differs) (refuse_if named NamedAlready)
+refused_beside true named before rest h = refl
+refused_beside false true true rest h = refl
+refused_beside false true false rest h = refl
+refused_beside false false before rest h = cc
+
+not_refused : (differs named before : Bool) (rest : Option Refusal)
+    → is_some (or_else (refuse_if differs Differs) (refuse_if named NamedAlready)) ≡ false
+    → or_else (or_else (refuse_if differs Differs) (refuse_if (before || named) NamedAlready)) rest
+    ≡ or_else (refuse_if before NamedAlready) rest
+not_refused true named before rest h = cc
+not_refused false true before rest h = cc
+not_refused false false true rest h = refl
+not_refused false false false rest h = refl
+
+module _ (rs : List Request) (job : ℕ) (e : List Want) (w : Want) (rest : Option Refusal) where
+  pub fault_beside_is : is_some (enqueue_fault rs job [] w) ≡ true → or_else (enqueue_fault rs job e w) rest ≡ enqueue_fault rs job [] w
+  fault_beside_is =
+      refused_beside (not (list_all (λ v. are_alike v w) (wants_at rs w.key))) (names (wants_of rs job) w.key) (names e w.key) rest
+
+  pub none_beside : is_some (enqueue_fault rs job [] w) ≡ false
+      → or_else (enqueue_fault rs job e w) rest ≡ or_else (refuse_if (names e w.key) NamedAlready) rest
+  none_beside = not_refused (not (list_all (λ v. are_alike v w) (wants_at rs w.key))) (names (wants_of rs job) w.key) (names e w.key) rest
+
+-- ---- what was looked up
+
+module _ (locks : List Lock) (ws : List Want) (found : List Found) (i : ℕ)
+    (was : (j : ℕ) → j < i → IsFound locks (get_or ws j unused_want).key (get_or found j no_found)) where
+  -- the hashes of the keys before one
+  pub hashes_of : (seen : List Found) → seen ≡ found → (j : ℕ) → j < length (take i ws)
+      → (get_or seen j no_found).hash ≡ hash_of (get_or (take i ws) j unused_want).key
+  hashes_of seen is j lt =
+      let below : j < i = omega (arith, length-take i ws, lt) in
+      ap (λ l. (get_or l j no_found).hash) is ∙ (was j below).hash
+      ∙ ap (λ (v : Want). hash_of v.key) (sym (get_or-take i ws j unused_want below))
+
+  -- one more
+  pub found_more : (more : List Found) (w : Want) (x : Found) → length found ≡ i → more ≡ found ++ x ∷ [] → w ≡ get_or ws i unused_want
+      → IsFound locks w.key x
+      → (j : ℕ) → j < i + 1 → IsFound locks (get_or ws j unused_want).key (get_or more j no_found)
+  found_more more w x long is at here =
+      below_more (λ j. IsFound locks (get_or ws j unused_want).key (get_or more j no_found)) i
+      (λ j lt.
+      subst (IsFound locks (get_or ws j unused_want).key)
+      (sym (ap (λ l. get_or l j no_found) is ∙ get_or_append_left found (x ∷ []) no_found j (omega (arith, lt, long)))) (was j lt))
+      (subst (IsFound locks (get_or ws i unused_want).key) (sym (ap (λ l. get_or l i no_found) is ∙ get_or_push found x no_found i long))
+      (subst (λ (v : Want). IsFound locks v.key x) at here))
