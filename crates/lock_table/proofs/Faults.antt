@@ -5,9 +5,10 @@ use Rattle.std.specs.List.{list_all}
 use Rattle.std.proofs.lemmas.List.{get_or_append_left, get_or_push, get_or-take, length-take, take_more}
 use Rattle.std.proofs.Math.Seq.{drop-cons}
 use Rattle.lock_queue.specs.declared.refusal.Refusal.{Refusal}
-use Rattle.lock_queue.specs.declared.refusal.Refusal.TheVariants.{Differs, NamedAlready}
+use Rattle.lock_queue.specs.declared.refusal.Refusal.TheVariants.{Differs, NamedAlready, NotPresent}
 use Rattle.lock_queue.specs.declared.request.Request.{Request}
 use Rattle.lock_queue.specs.declared.want.Want.{Want}
+use Rattle.lock_queue.specs.Dequeues.{dequeue_fault}
 use Rattle.lock_queue.specs.Enqueues.{are_alike, enqueue_fault}
 use Rattle.lock_queue.specs.Outcomes.{first_refusal, or_else, refuse_if}
 use Rattle.lock_queue.specs.Queue.{names, wants_at, wants_of}
@@ -51,14 +52,38 @@ not_refused false true before rest h = cc
 not_refused false false true rest h = refl
 not_refused false false false rest h = refl
 
-module _ (rs : List Request) (job : ℕ) (e : List Want) (w : Want) (rest : Option Refusal) where
-  pub fault_beside_is : is_some (enqueue_fault rs job [] w) ≡ true → or_else (enqueue_fault rs job e w) rest ≡ enqueue_fault rs job [] w
-  fault_beside_is =
-      refused_beside (not (list_all (λ v. are_alike v w) (wants_at rs w.key))) (names (wants_of rs job) w.key) (names e w.key) rest
+module _ (rs : List Request) (job : ℕ) (ws : List Want) (i : ℕ) (w : Want) (lt : i < length ws) (at : w ≡ get_or ws i w) where
+  -- what becomes of a call that asks for keys
+  module _ (was : first_refusal (enqueue_fault rs job) (take i ws) (drop i ws) ≡ first_refusal (enqueue_fault rs job) [] ws) where
+    pub fault_here : is_some (enqueue_fault rs job [] w) ≡ true → enqueue_fault rs job [] w ≡ first_refusal (enqueue_fault rs job) [] ws
+    fault_here some =
+        sym (refused_beside (not (list_all (λ v. are_alike v w) (wants_at rs w.key))) (names (wants_of rs job) w.key) (names (take i ws) w.key)
+        (first_refusal (enqueue_fault rs job) (take (i + 1) ws) (drop (i + 1) ws)) some)
+        ∙ sym (judged_at (enqueue_fault rs job) ws i w lt at) ∙ was
 
-  pub none_beside : is_some (enqueue_fault rs job [] w) ≡ false
-      → or_else (enqueue_fault rs job e w) rest ≡ or_else (refuse_if (names e w.key) NamedAlready) rest
-  none_beside = not_refused (not (list_all (λ v. are_alike v w) (wants_at rs w.key))) (names (wants_of rs job) w.key) (names e w.key) rest
+    pub none_here : (before : Bool) → is_some (enqueue_fault rs job [] w) ≡ false → names (take i ws) w.key ≡ before
+        → or_else (refuse_if before NamedAlready) (first_refusal (enqueue_fault rs job) (take (i + 1) ws) (drop (i + 1) ws))
+        ≡ first_refusal (enqueue_fault rs job) [] ws
+    none_here before none named =
+        sym (judged_at (enqueue_fault rs job) ws i w lt at
+        ∙ not_refused (not (list_all (λ v. are_alike v w) (wants_at rs w.key))) (names (wants_of rs job) w.key) (names (take i ws) w.key)
+        (first_refusal (enqueue_fault rs job) (take (i + 1) ws) (drop (i + 1) ws)) none
+        ∙ ap (λ b. or_else (refuse_if b NamedAlready) (first_refusal (enqueue_fault rs job) (take (i + 1) ws) (drop (i + 1) ws))) named)
+        ∙ was
+
+  -- and of one that gives keys up
+  pub given_here : (before has : Bool) → names (take i ws) w.key ≡ before → names (wants_of rs job) w.key ≡ has
+      → first_refusal (dequeue_fault rs job) (take i ws) (drop i ws) ≡ first_refusal (dequeue_fault rs job) [] ws
+      → or_else (or_else (refuse_if before NamedAlready) (refuse_if (not has) NotPresent))
+      (first_refusal (dequeue_fault rs job) (take (i + 1) ws) (drop (i + 1) ws))
+      ≡ first_refusal (dequeue_fault rs job) [] ws
+  given_here before has named wanted was =
+      sym (judged_at (dequeue_fault rs job) ws i w lt at
+      ∙ ap (λ b. or_else (or_else (refuse_if b NamedAlready) (refuse_if (not (names (wants_of rs job) w.key)) NotPresent))
+      (first_refusal (dequeue_fault rs job) (take (i + 1) ws) (drop (i + 1) ws))) named
+      ∙ ap (λ b. or_else (or_else (refuse_if before NamedAlready) (refuse_if (not b) NotPresent))
+      (first_refusal (dequeue_fault rs job) (take (i + 1) ws) (drop (i + 1) ws))) wanted)
+      ∙ was
 
 -- ---- what was looked up
 

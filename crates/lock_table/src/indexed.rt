@@ -56,9 +56,9 @@ impl<const REQS: usize> LockTable for IndexedTable<REQS> {
     fn new(alloc: Global) -> Result<Self, AllocError> {
         Ok(IndexedTable {
             table: Table {
-                store: Store::new(alloc)?,
-                keys: Keys::new(alloc)?,
                 turns: Turns::new(alloc)?,
+                keys: Keys::new(alloc)?,
+                store: Store::new(alloc)?,
             },
             leaving: ArrayVec::new(),
         })

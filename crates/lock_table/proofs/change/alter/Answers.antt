@@ -1,4 +1,5 @@
-use Rattle.std.proofs.Common.{◌∙◌, ◌==◌, sym, ap, ℕ, List, is_some, map, min, get_or, refl, lit<}
+use Rattle.std.proofs.lemmas.Grind.{common_steps}
+use Rattle.std.proofs.Common.{◌∙◌, ◌==◌, sym, ap, ℕ, List, is_some, map, min, get_or, refl, lit<, arith}
 use Rattle.std.proofs.lemmas.Bool.{both_ways, eq-eqb}
 use Rattle.key_queues.specs.declared.lock.Lock.{Lock}
 use Rattle.key_queues.specs.Beginnings.{fitting}
@@ -110,3 +111,12 @@ returns-in_default-place_of-clause-altered g c =
     find_misses (λ q. (request_at s q).job == c.args.job) c.as_slice-places.result.now sound.place
     (sym c.place_of.ensures ∙ c.in_default-place_of.is) (ap (is_there sound.place) f.places_is ∙ queued) in
     absurd (both_ways ((request_at s sound.place).job == c.args.job) missed (eq-eqb (request_at s sound.place).job c.args.job sound.mine))
+
+pub recount-requires : goal.recount-requires
+recount-requires g c = grind (arith, common_steps)
+
+pub bounds-locks-n : goal.bounds-locks-n
+bounds-locks-n g c = grind (arith, common_steps)
+
+pub bounds-places-0 : goal.bounds-places-0
+bounds-places-0 g c = grind (arith, common_steps)

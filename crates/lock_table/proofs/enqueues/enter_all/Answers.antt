@@ -1,3 +1,4 @@
+use Rattle.std.proofs.lemmas.Grind.{common_steps}
 use Rattle.std.proofs.Common.{◌≡◌, false, sym, ap, subst, arith, length, get_or, lit<, rules}
 use Rattle.std.proofs.lemmas.List.{get_or_read}
 use Rattle.lock_queue.specs.declared.want.Want.{Want}
@@ -51,3 +52,6 @@ loop-k-preserved g c =
           (c.loop-k.invariant.found j (omega (arith, above)) within);
       same = search rules;
     }
+
+pub push_want-requires : goal.push_want-requires
+push_want-requires g c = grind (arith, common_steps)

@@ -1,5 +1,4 @@
 use Rattle.std.proofs.Common.{◌≡◌, ◌∙◌, ◌&&◌, Bool, ap, arith, get_or, lit<, not, refl, rules, sym, true}
-use Rattle.std.proofs.lemmas.Grind.{common_steps}
 use Rattle.key_queues.specs.declared.filed.Filed.{Filed}
 use Rattle.key_queues.specs.Locks.{lock_at}
 use Rattle.lock_table.specs.Filing.{own_at}
@@ -7,7 +6,7 @@ use Rattle.lock_table.proofs.Keepers.{before_present, kept_is, want_read}
 use Rattle.lock_table.proofs.readings.is_kept_at.Goals as goal
 
 kept_where : (b x y : Bool) → b ≡ true → (b && x) ≡ y → x ≡ y
-kept_where b x y does kept = grind (arith, common_steps)
+kept_where b x y does kept = grind arith
 
 pub is_in_the_way_at-requires : goal.is_in_the_way_at-requires
 is_in_the_way_at-requires g c =

@@ -1,11 +1,10 @@
 use Rattle.std.proofs.Common.{◌<◌, arith, length, sym}
-use Rattle.std.proofs.lemmas.Grind.{common_steps}
 use Rattle.lock_table.specs.Reads.{request_at}
 use Rattle.lock_table.proofs.Telling.{level_first}
 use Rattle.lock_table.proofs.standing.level_at.Goals as goal
 
 pub returns : goal.returns
 returns g c =
-    let some : 0 < length c.args.places.now = grind (arith, common_steps, c.is_empty.ensures, c.if-is_empty.false) in
+    let some : 0 < length c.args.places.now = grind (arith, c.is_empty.ensures, c.if-is_empty.false) in
     rw (c.unwrap_or.ensures, c.level_in.ensures, c.as_slice.ensures.value, c.get.ensures.value, c.new-2.ensures)
     (sym (level_first (request_at c.args.store.now) c.args.store.now.order c.args.key.now c.args.places.now c.requires some))

@@ -1,3 +1,6 @@
+use Rattle.lock_queue.proofs.StatusLaws.{standing_owner, standing_waiter}
+use Rattle.lock_table.proofs.Telling.{status_is}
+use Rattle.std.proofs.lemmas.Grind.{common_steps}
 use Rattle.std.proofs.Common.{arith, lit<}
 use Rattle.lock_queue.specs.Queue.{names}
 use Rattle.lock_table.specs.Reads.{request_at}
@@ -11,3 +14,9 @@ get-f-requires g c =
       place_kept (λ p. names (request_at s p).wants.items c.args.key.now) s.order _ _ (c.places_of-places.ensures.places s c.requires.table)
           (omega (arith, c.loop-i-test.true, c.loop-i.invariant.there)),
     )
+
+pub loop-i-preserved-then-f : goal.loop-i-preserved-then-f
+loop-i-preserved-then-f g c = grind (arith, common_steps)
+
+pub loop-i-preserved : goal.loop-i-preserved
+loop-i-preserved g c = grind (arith, common_steps, status_is, standing_owner, standing_waiter)

@@ -1,7 +1,7 @@
+use Rattle.std.proofs.lemmas.Grind.{common_steps}
 use Rattle.std.proofs.Common.{◌≡◌, ◌∙◌, sym, ap, subst, false, [], None, length, arith, lit<}
 use Rattle.std.specs.List.{list_all}
 use Rattle.std.proofs.lemmas.Bool.{both_ways}
-use Rattle.std.proofs.lemmas.Grind.{common_steps}
 use Rattle.lock_queue.specs.declared.call.LockReply.TheVariants.{Refused}
 use Rattle.lock_queue.specs.declared.refusal.Refusal.TheVariants.{NotGranted}
 use Rattle.lock_queue.specs.declared.request.EnqueueKind.{EnqueueKind}
@@ -55,7 +55,7 @@ is_turned_away-requires g c =
     let job = c.args.job in
     let asked = c.as_slice-asked.result.now in
     let passed = sym c.refusal_of_enqueue.ensures.refusal ∙ c.in_default.is in
-    let fault : first_refusal (enqueue_fault (requests_in s) job) [] asked ≡ None = grind (arith, common_steps, passed) in
+    let fault : first_refusal (enqueue_fault (requests_in s) job) [] asked ≡ None = grind (arith, passed) in
     let come = c.refusal_of_enqueue.ensures in
     let seen = c.as_slice-found.ensures.value in (
       lit< tt,
@@ -84,3 +84,12 @@ returns-in-false-AtOnce-clause-requests g c =
     let wait = sym c.arrive-p.ensures.granted ∙ ap (λ (f : Filed). f.granted) (sym c.get.ensures.value) ∙ c.in-false-AtOnce.is-0 in
     let fit = ap (list_all (fits rs)) (sym c.as_slice-asked.ensures.value) ∙ c.is_turned_away.ensures.stays c.if-is_turned_away.false c.in-false-AtOnce.is-1 in
     absurd (both_ways _ (sym (granted_last rs (request_of c.args.job c.args.asking.now false wants)) ∙ wait) fit)
+
+pub arrive-p-requires : goal.arrive-p-requires
+arrive-p-requires g c = grind (arith, common_steps)
+
+pub get-requires : goal.get-requires
+get-requires g c = grind (arith, common_steps)
+
+pub mark_told-requires : goal.mark_told-requires
+mark_told-requires g c = grind (arith, common_steps)

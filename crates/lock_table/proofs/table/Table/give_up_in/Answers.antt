@@ -1,5 +1,4 @@
 use Rattle.std.proofs.Common.{◌≡◌, ◌∙◌, ap, subst, true, false, arith, lit<, rules}
-use Rattle.std.proofs.lemmas.Grind.{common_steps}
 use Rattle.lock_queue.specs.Dequeues.{has_wants}
 use Rattle.key_queues.specs.Locks.{lock_at}
 use Rattle.key_queues.specs.Tables.{is_there}
@@ -31,16 +30,16 @@ returns-then-is_empty g c =
     let t = c.depart.new.self.store in
     let left = c.depart.ensures in
     let present : is_there c.args.p t.order ≡ true = ap (is_there c.args.p) left.left.order ∙ r.present in
-    let none : has_wants (filed_at t c.args.p).request ≡ false = grind (arith, common_steps, c.get-2.ensures.value, c.is_empty.ensures, c.if-is_empty.true) in
+    let none : has_wants (filed_at t c.args.p).request ≡ false = grind (arith, c.get-2.ensures.value, c.is_empty.ensures, c.if-is_empty.true) in
     let both =
     gone s t c.remove.new.self c.depart.new.self.keys c.args.p c.args.self.now.turns c.depart.new.self.turns left.table present
     (none_left t c.depart.new.self.keys c.args.p left.table present none) left.turns c.remove.ensures.within c.remove.ensures.value in
     record {
       table = both.0;
       locks = subst (KeepsLocks locks c.depart.new.self.keys) at.own left.locks;
-      given = λ h. grind (arith, common_steps, there_beside c.args.p c.args.p t.order left.table.kept.once);
+      given = λ h. grind (arith, there_beside c.args.p c.args.p t.order left.table.kept.once);
       others = search rules;
-      order = grind (arith, common_steps, given, c.get-2.ensures.value, c.is_empty.ensures, c.if-is_empty.true);
+      order = grind (arith, given, c.get-2.ensures.value, c.is_empty.ensures, c.if-is_empty.true);
       turns = both.1;
     }
 
@@ -60,6 +59,6 @@ returns-else-is_empty g c =
       locks = subst (KeepsLocks locks c.depart.new.self.keys) at.own c.depart.ensures.locks;
       given = λ h. given;
       others = c.depart.ensures.left.others;
-      order = grind (arith, common_steps, given, c.get-2.ensures.value, c.is_empty.ensures, c.if-is_empty.false);
+      order = grind (arith, given, c.get-2.ensures.value, c.is_empty.ensures, c.if-is_empty.false);
       turns = c.depart.ensures.turns;
     }

@@ -1,5 +1,4 @@
 use Rattle.std.proofs.Common.{◌≡◌, ◌∙◌, sym, ap, subst, true, length, arith, refl, lit<, rules}
-use Rattle.std.proofs.lemmas.Grind.{common_steps}
 use Rattle.lock_queue.specs.Outcomes.{Outcome}
 use Rattle.lock_queue.specs.WellFormed.{are_well_formed}
 use Rattle.lock_queue.proofs.WellKept.{well-modify}
@@ -23,14 +22,14 @@ returns-then-some_loses-clause-requests g c =
     let none = sym c.refusal_of_modify.ensures ∙ c.in_default.is in
     let w = c.requires.whole in
     let tells = tells_lost c.args.self.now.store c.args.self.now.keys c.args.job w.table w.right c.args.changes.now none in
-    grind (arith, common_steps, none, tells, c.some_loses.ensures, c.if-some_loses.true)
+    grind (arith, none, tells, c.some_loses.ensures, c.if-some_loses.true)
 
 pub returns-then-some_loses-clause-reply : goal.returns-then-some_loses-clause-reply
 returns-then-some_loses-clause-reply g c =
     let none = sym c.refusal_of_modify.ensures ∙ c.in_default.is in
     let w = c.requires.whole in
     let tells = tells_lost c.args.self.now.store c.args.self.now.keys c.args.job w.table w.right c.args.changes.now none in
-    grind (arith, common_steps, none, tells, c.some_loses.ensures, c.if-some_loses.true)
+    grind (arith, none, tells, c.some_loses.ensures, c.if-some_loses.true)
 
 pub alter_all-requires : goal.alter_all-requires
 alter_all-requires g c =

@@ -1,5 +1,4 @@
 use Rattle.std.proofs.Common.{◌∙◌, arith}
-use Rattle.std.proofs.lemmas.Grind.{common_steps}
 use Rattle.lock_table.specs.Departures.{is_leaver_at, stays_beside}
 use Rattle.lock_table.proofs.Telling.{any_some}
 use Rattle.lock_table.proofs.Wholes.{leaves_where, whole_left}
@@ -18,4 +17,4 @@ returns-clause-left g c =
 pub returns-clause-some : goal.returns-clause-some
 returns-clause-some g c =
     let leaver = is_leaver_at c.args.self.now.store c.args.who.now in
-    grind (arith, common_steps, any_some leaver c.args.self.now.store.order, c.gather.ensures, c.is_empty.ensures)
+    grind (arith, any_some leaver c.args.self.now.store.order, c.gather.ensures, c.is_empty.ensures)
