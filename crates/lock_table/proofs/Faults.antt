@@ -1,15 +1,16 @@
 -- A call's wants are judged one by one, and their keys looked up.
 use Rattle.std.proofs.Common.{◌≡◌, ◌∙◌, ◌<◌, ◌+◌, ◌++◌, ◌∷◌, ◌||◌, sym, ap, subst, ℕ, suc, Bool, true, false, not, List, [], Option, Some, add-one}
-use Rattle.std.proofs.Common.{length, get_or, take, drop, arith, refl, below_more, is_some}
-use Rattle.std.specs.List.{list_all}
+use Rattle.std.proofs.Common.{length, get_or, take, drop, arith, refl, below_more, is_some, append_assoc, nat_le, ◌&&◌}
+use Rattle.std.specs.List.{list_all, list_any}
 use Rattle.std.proofs.lemmas.List.{get_or_append_left, get_or_push, get_or-take, length-take, take_more}
+use Rattle.std.proofs.lemmas.List.Folds.{list_any-append}
 use Rattle.std.proofs.Math.Seq.{drop-cons}
 use Rattle.lock_queue.specs.declared.refusal.Refusal.{Refusal}
 use Rattle.lock_queue.specs.declared.refusal.Refusal.TheVariants.{Differs, NamedAlready, NotPresent}
 use Rattle.lock_queue.specs.declared.request.Request.{Request}
 use Rattle.lock_queue.specs.declared.want.Want.{Want}
 use Rattle.lock_queue.specs.Dequeues.{dequeue_fault}
-use Rattle.lock_queue.specs.Enqueues.{are_alike, enqueue_fault}
+use Rattle.lock_queue.specs.Enqueues.{are_alike, enqueue_fault, some_too_low}
 use Rattle.lock_queue.specs.Outcomes.{first_refusal, or_else, refuse_if}
 use Rattle.lock_queue.specs.Queue.{names, wants_at, wants_of}
 use Rattle.lock_queue.specs.Unused.{unused_want}
@@ -84,6 +85,17 @@ module _ (rs : List Request) (job : ℕ) (ws : List Want) (i : ℕ) (w : Want) (
       ∙ ap (λ b. or_else (or_else (refuse_if before NamedAlready) (refuse_if (not b) NotPresent))
       (first_refusal (dequeue_fault rs job) (take (i + 1) ws) (drop (i + 1) ws))) wanted)
       ∙ was
+
+-- whether a want is too low behind a job's own wants and those of the call before it
+pub too_low_at : (own ws : List Want) (i : ℕ) (w : Want) → i < length ws → w ≡ get_or ws i w
+    → some_too_low (own ++ take i ws) (drop i ws)
+    ≡ ((not w.bypass && (list_any (λ v. nat_le w.level v.level) own || list_any (λ v. nat_le w.level v.level) (take i ws)))
+    || some_too_low (own ++ take (i + 1) ws) (drop (i + 1) ws))
+too_low_at own ws i w lt at =
+    ap (some_too_low (own ++ take i ws)) (rest_is ws i w lt at)
+    ∙ ap (λ b. (not w.bypass && b) || some_too_low ((own ++ take i ws) ++ w ∷ []) (drop (i + 1) ws)) (list_any-append (λ v. nat_le w.level v.level) own (take i ws))
+    ∙ ap (λ l. (not w.bypass && (list_any (λ v. nat_le w.level v.level) own || list_any (λ v. nat_le w.level v.level) (take i ws))) || some_too_low l (drop (i + 1) ws))
+    (append_assoc own (take i ws) (w ∷ []) ∙ ap (λ l. own ++ l) (sym (take_more ws i w lt ∙ ap (λ v. take i ws ++ v ∷ []) (sym at))))
 
 -- ---- what was looked up
 

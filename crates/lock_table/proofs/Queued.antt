@@ -107,11 +107,7 @@ module _ (s : Stored) (locks : List Lock) (n : ℕ) (t : IsTable (state_of s loc
   -- and no other does
   pub queued_is : (p : ℕ) → is_there p s.order ≡ true → is_there n (filed_at s p).queues.items ≡ names (request_at s p).wants.items key
   queued_is p present =
-      grind (
-        arith,
-        there_is p present,
-        named_there (λ m. (lock_at locks m).key) (request_at s p).wants.items (filed_at s p).queues.items n (t.kept.queues p present),
-      )
+      grind (arith, there_is p present, named_there (λ m. (lock_at locks m).key) (request_at s p).wants.items (filed_at s p).queues.items n (t.kept.queues p present))
 
   pub all_present : All (λ p. is_there p s.order ≡ true) (lock_at locks n).queue.places
   all_present = present_at (λ x. names (request_at s x).wants.items key) s.order (lock_at locks n).queue.places queue_is.places

@@ -1,5 +1,6 @@
 use Rattle.std.proofs.Common.{◌≡◌, ◌∙◌, ◌+◌, ◌<◌, sym, ap, true, false, length, arith, refl, lit<}
 use Rattle.std.proofs.lemmas.List.{get_or_read}
+use Rattle.std.proofs.lemmas.Option.{none-some}
 use Rattle.lock_queue.specs.Queue.{names, wants_of}
 use Rattle.lock_queue.specs.Unused.{unused_want}
 use Rattle.key_queues.specs.Locks.{lock_at}
@@ -18,11 +19,16 @@ pub is_named-requires-clause-hashes : goal.is_named-requires-clause-hashes
 is_named-requires-clause-hashes g c =
     hashes_of c.args.keys.now c.args.named.now c.loop-i.found.items c.loop-i.i c.loop-i.invariant.found c.as_slice.result.now c.as_slice.ensures.value
 
-pub returns-then-is_named-clause-refusal : goal.returns-then-is_named-clause-refusal
-returns-then-is_named-clause-refusal g c =
-    given_here (requests_in c.args.store.now) c.args.job c.args.named.now c.loop-i.i c.index-named-i.result (omega arith) c.index-named-i.is true
-    (names (wants_of (requests_in c.args.store.now) c.args.job) c.index-named-i.result.key) (sym c.is_named.ensures ∙ c.if-is_named.true) refl
-    c.loop-i.invariant.fault
+pub returns-then-is_named : goal.returns-then-is_named
+returns-then-is_named g c =
+    record {
+      refusal =
+          given_here (requests_in c.args.store.now) c.args.job c.args.named.now c.loop-i.i c.index-named-i.result c.loop-i-test.true c.index-named-i.is true
+          (names (wants_of (requests_in c.args.store.now) c.args.job) c.index-named-i.result.key) (sym c.is_named.ensures ∙ c.if-is_named.true) refl
+          c.loop-i.invariant.fault;
+      long = λ e. absurd (none-some _ (sym e));
+      found = λ e. absurd (none-some _ (sym e));
+    }
 
 -- the lock that was found is open, and of the key
 parts : (g : Over) (c : goal.In-Some g) → (is_open (lock_at c.args.keys.now c.in-Some.n).queue ≡ true) × ((lock_at c.args.keys.now c.in-Some.n).key ≡ c.index-named-i.result.key)
@@ -33,27 +39,37 @@ parts g c =
 pub is_wanted_by-requires : goal.is_wanted_by-requires
 is_wanted_by-requires g c = (lit< tt, (lit< tt, (c.requires.table, ((parts g c).0, c.requires.job))))
 
-pub returns-in_default-clause-refusal : goal.returns-in_default-clause-refusal
-returns-in_default-clause-refusal g c =
-    given_here (requests_in c.args.store.now) c.args.job c.args.named.now c.loop-i.i c.index-named-i.result (omega arith) c.index-named-i.is false
-    false (sym c.is_named.ensures ∙ c.if-is_named.false)
-    (unwanted_by c.args.store.now c.args.keys.now c.index-named-i.result.key c.requires.table (c.look_up-seen.ensures.none c.in_default.is) c.args.job)
-    c.loop-i.invariant.fault
+pub returns-in_default : goal.returns-in_default
+returns-in_default g c =
+    record {
+      refusal =
+          given_here (requests_in c.args.store.now) c.args.job c.args.named.now c.loop-i.i c.index-named-i.result c.loop-i-test.true c.index-named-i.is false
+          false (sym c.is_named.ensures ∙ c.if-is_named.false)
+          (unwanted_by c.args.store.now c.args.keys.now c.index-named-i.result.key c.requires.table (c.look_up-seen.ensures.none c.in_default.is) c.args.job)
+          c.loop-i.invariant.fault;
+      long = λ e. absurd (none-some _ (sym e));
+      found = λ e. absurd (none-some _ (sym e));
+    }
 
-pub returns-then-not-is_wanted_by-clause-refusal : goal.returns-then-not-is_wanted_by-clause-refusal
-returns-then-not-is_wanted_by-clause-refusal g c =
+pub returns-then-not-is_wanted_by : goal.returns-then-not-is_wanted_by
+returns-then-not-is_wanted_by g c =
     let key = (parts g c.before.before).1 in
-    given_here (requests_in c.args.store.now) c.args.job c.args.named.now c.loop-i.i c.index-named-i.result (omega arith) c.index-named-i.is false
-    false (sym c.is_named.ensures ∙ c.if-is_named.false)
-    (ap (names (wants_of (requests_in c.args.store.now) c.args.job)) (sym key) ∙ sym c.is_wanted_by.ensures ∙ c.if-not-is_wanted_by.true)
-    c.loop-i.invariant.fault
+    record {
+      refusal =
+          given_here (requests_in c.args.store.now) c.args.job c.args.named.now c.loop-i.i c.index-named-i.result c.loop-i-test.true c.index-named-i.is false
+          false (sym c.is_named.ensures ∙ c.if-is_named.false)
+          (ap (names (wants_of (requests_in c.args.store.now) c.args.job)) (sym key) ∙ sym c.is_wanted_by.ensures ∙ c.if-not-is_wanted_by.true)
+          c.loop-i.invariant.fault;
+      long = λ e. absurd (none-some _ (sym e));
+      found = λ e. absurd (none-some _ (sym e));
+    }
 
 pub loop-i-preserved : goal.loop-i-preserved
 loop-i-preserved g c =
     let i = c.loop-i.i in
     let named = c.args.named.now in
     let w = c.index-named-i.result in
-    let lt : i < length named = omega arith in
+    let lt : i < length named = c.loop-i-test.true in
     let key = (parts g c.before.before.before.before).1 in
     record {
       fault =
