@@ -1,3 +1,4 @@
+use Rattle.std.proofs.lemmas.Grind.{common_steps}
 use Rattle.std.proofs.Common.{◌≡◌, ◌<◌, ◌+◌, ◌∙◌, sym, ap, [], ◌∷◌, ◌++◌, None, get_or, length, map, take, true, arith}
 use Rattle.std.proofs.lemmas.List.{map-append, take_more}
 use Rattle.lock_queue.specs.declared.want.Want.{Want}
@@ -23,3 +24,12 @@ loop-p-preserved g c =
     ap (λ (v : Want). is_share_of None v.pool) c.want_then.ensures
     ∙ ap (is_share_of None) (then_pool s c.args.n c.args.job c.args.c.now p) ∙ (c.requires.free i 0 lt).free in
     rw (more, c.append.ensures) (queue_appended None (map f (take i places)) c.loop-p.queue p w c.loop-p.invariant share)
+
+pub append-requires : goal.append-requires
+append-requires g c = grind (arith, common_steps)
+
+pub returns-clause-value : goal.returns-clause-value
+returns-clause-value g c = grind (arith, common_steps)
+
+pub returns-clause-most : goal.returns-clause-most
+returns-clause-most g c = grind (arith, common_steps)

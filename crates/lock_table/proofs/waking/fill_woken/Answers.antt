@@ -1,4 +1,5 @@
-use Rattle.std.proofs.Common.{◌≡◌, ◌∙◌, sym, ap, ℕ, List, [], ◌∷◌, ◌++◌, map, true, false, refl}
+use Rattle.std.proofs.lemmas.Grind.{common_steps}
+use Rattle.std.proofs.Common.{◌≡◌, ◌∙◌, sym, ap, ℕ, List, [], ◌∷◌, ◌++◌, map, true, false, refl, arith}
 use Rattle.lock_queue.specs.declared.grant.Grant.{Grant}
 use Rattle.lock_queue.specs.Grants.{grant_of}
 use Rattle.key_queues.specs.declared.filed.Filed.{Filed}
@@ -37,3 +38,12 @@ returns-else-contains g c =
           only_grants s c.args.turns.now p false (is_raised s c.args.turns.now p) c.in-Some.ensures c.requires.once
           (sym c.contains.ensures ∙ w.if-contains.false) refl
     ])
+
+pub loop-p-preserved : goal.loop-p-preserved
+loop-p-preserved g c = grind (arith, common_steps)
+
+pub get-requires-then-is_raised-2 : goal.get-requires-then-is_raised-2
+get-requires-then-is_raised-2 g c = grind (arith, common_steps)
+
+pub is_raised-requires-in-loop-p : goal.is_raised-requires-in-loop-p
+is_raised-requires-in-loop-p g c = grind (arith, common_steps)

@@ -39,3 +39,6 @@ loop-c-preserved g c =
           (λ x h. wanting_before t.store u.store x (λ there. (subst (λ l. is_there x l ≡ true) c.extend.ensures.extended.order there, c.extend.ensures.extended.at x)) h)
           c.loop-c.invariant.turns c.extend.ensures.turns;
     }
+
+pub extend-requires : goal.extend-requires
+extend-requires g c = grind arith
