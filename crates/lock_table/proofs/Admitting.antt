@@ -54,8 +54,7 @@ use Rattle.lock_table.specs.Changing.{IsChanged}
 
 -- a job's request with a want of a key is found among the job's wants
 pub had_key : (s : Stored) (job : ℕ) (key : Key) (x : ℕ) → is_there x s.order ≡ true → (request_at s x).job ≡ job
-    → names (request_at s x).wants.items key ≡ true
-    → names (wants_of (requests_in s) job) key ≡ true
+    → names (request_at s x).wants.items key ≡ true → names (wants_of (requests_in s) job) key ≡ true
 had_key s job key x present mine named =
     let of = names-found (request_at s x).wants.items key named in
     let own = Has-filter (λ (r : Request). r.job == job) (requests_in s) (request_at s x) (eq-eqb (request_at s x).job job mine)
@@ -68,8 +67,7 @@ share_alike size a b h e = grind arith
 
 -- a want that stands in a list that is not empty is of the pool's size, and so is one like it
 first_alike : (size : Option ℕ) (w : Want) (ws : List Want) → (length ws == 0) ≡ false → list_all (λ v. is_share_of size v.pool) ws ≡ true
-    → list_all (λ v. are_alike v w) ws ≡ true
-    → is_share_of size w.pool ≡ true
+    → list_all (λ v. are_alike v w) ws ≡ true → is_share_of size w.pool ≡ true
 first_alike size w [] some sizes alike = cc
 first_alike size w (v ∷ ws) some sizes alike = grind (arith, share_alike size v.pool w.pool)
 
@@ -129,8 +127,7 @@ module _ (size : ℕ) (s : Stored) (locks : List Lock) (job : ℕ) where
       not-true-of true h = sym h
       not-true-of false h = refl
 
-  pub admits_from : (wants : List Want) → IsWhole size s locks → is_job job ≡ true
-      → first_refusal (enqueue_fault (requests_in s) job) [] wants ≡ None
+  pub admits_from : (wants : List Want) → IsWhole size s locks → is_job job ≡ true → first_refusal (enqueue_fault (requests_in s) job) [] wants ≡ None
       → AdmitsFrom 0 locks wants
   admits_from wants whole mine passed k le lt =
       admits_one (get_or wants k unused_want) whole mine
@@ -146,8 +143,7 @@ module _ (size : ℕ) (s : Stored) (locks : List Lock) (job : ℕ) where
 -- the requests after one has come
 module _ (s t : Stored) (p job : ℕ) (r : Request) where
   pub requests_after : is_there p s.order ≡ false → t.order ≡ s.order ++ p ∷ [] → (filed_at t p).request ≡ r
-      → ((x : ℕ) → (x ≡ p → ⊥) → (filed_at t x).request ≡ (filed_at s x).request)
-      → requests_in t ≡ requests_in s ++ r ∷ []
+      → ((x : ℕ) → (x ≡ p → ⊥) → (filed_at t x).request ≡ (filed_at s x).request) → requests_in t ≡ requests_in s ++ r ∷ []
   requests_after out order mine others =
       ap (map (request_at t)) order ∙ map-append (request_at t) s.order (p ∷ [])
       ∙ ap (λ l. l ++ request_at t p ∷ []) (map_same (request_at t) (request_at s) p s.order out others)
@@ -155,8 +151,7 @@ module _ (s t : Stored) (p job : ℕ) (r : Request) where
 
   pub jobs_after : JobsAreApart s → is_there p s.order ≡ false → t.order ≡ s.order ++ p ∷ [] → (filed_at t p).request ≡ r → r.job ≡ job
       → ((x : ℕ) → (x ≡ p → ⊥) → (filed_at t x).request ≡ (filed_at s x).request)
-      → first_refusal (enqueue_fault (requests_in s) job) [] r.wants.items ≡ None
-      → JobsAreApart t
+      → first_refusal (enqueue_fault (requests_in s) job) [] r.wants.items ≡ None → JobsAreApart t
   jobs_after apart out order mine job_is others passed x y key hx hy nx ny e =
       grind (arith, mine, job_is, others x, others y, was x, was y, other x, other y, apart x y key)
     where
@@ -164,8 +159,7 @@ module _ (s t : Stored) (p job : ℕ) (r : Request) where
       was x ne h = there_before x p s.order (sym (ap (is_there x) order) ∙ h) ne
 
       other : (x : ℕ) → is_there x s.order ≡ true → x ≢ p → names (request_at t x).wants.items key ≡ true → (request_at t x).job ≡ job
-          → names (request_at t p).wants.items key ≡ true
-          → ⊥
+          → names (request_at t p).wants.items key ≡ true → ⊥
       other x h ne nx ex np =
           let of = names-found r.wants.items key (subst (λ (q : Request). names q.wants.items key ≡ true) mine np) in
           let new : names (wants_of (requests_in s) job) key ≡ false =
@@ -174,12 +168,9 @@ module _ (s t : Stored) (p job : ℕ) (r : Request) where
 
 -- the requests with one that comes are well-formed, and its keys are apart
 module _ (s : Stored) (job : ℕ) (asking : Asking) (wants : ArrayVec Want) where
-  pub well_after : AreRight s → (1 ≤ job) × (job ≤ JOBS) → nat_le 1 (length wants.items) ≡ true
-      → list_all shares_rightly wants.items ≡ true
-      → first_refusal (enqueue_fault (requests_in s) job) [] wants.items ≡ None
-      → length wants.items ≤ LOCKS_A_CALL
-      → list_all is_in_range wants.items ≡ true
-      → are_well_formed (requests_in s ++ request_of job asking false wants ∷ []) ≡ true
+  pub well_after : AreRight s → (1 ≤ job) × (job ≤ JOBS) → nat_le 1 (length wants.items) ≡ true → list_all shares_rightly wants.items ≡ true
+      → first_refusal (enqueue_fault (requests_in s) job) [] wants.items ≡ None → length wants.items ≤ LOCKS_A_CALL
+      → list_all is_in_range wants.items ≡ true → are_well_formed (requests_in s ++ request_of job asking false wants ∷ []) ≡ true
   well_after right mine some unshared passed few range =
       well-arrival (requests_in s) job asking false wants (right_job job mine) some unshared passed few range (well_from_right s right)
 
@@ -199,8 +190,7 @@ module _ (size : ℕ) (rs : List Request) (job : ℕ) (asking : Asking) (wants :
   arrives_waiting h = grind (arith, passed)
 
   -- nothing comes of a request whose job would not wait for it, where not all of its wants fit
-  pub turned_away : asking.kind ≡ AtOnce → list_all (fits rs) wants.items ≡ false
-      → enqueue size rs job asking wants ≡ outcome rs (Refused NotGranted)
+  pub turned_away : asking.kind ≡ AtOnce → list_all (fits rs) wants.items ≡ false → enqueue size rs job asking wants ≡ outcome rs (Refused NotGranted)
   turned_away once none =
       arrives_waiting (granted_last rs (request_of job asking false wants) ∙ none)
       ∙ ap (not_granted rs (with_arrival rs job asking false wants)) once
@@ -225,10 +215,8 @@ module _ (s t : Stored) (p job : ℕ) (r : Request) (apart : (x : ℕ) → are_a
       level_of_want r key v.0 own v.1 v.2 ∙ sym same ∙ sym (level_of_want (request_at s y) key u.0 (apart y) u.1 u.2)
 
   pub levels_after : LevelsAgree s → t.order ≡ s.order ++ p ∷ [] → (filed_at t p).request ≡ r
-      → ((x : ℕ) → (x ≡ p → ⊥) → (filed_at t x).request ≡ (filed_at s x).request)
-      → are_apart r.wants.items ≡ true
-      → first_refusal (enqueue_fault (requests_in s) job) [] r.wants.items ≡ None
-      → LevelsAgree t
+      → ((x : ℕ) → (x ≡ p → ⊥) → (filed_at t x).request ≡ (filed_at s x).request) → are_apart r.wants.items ≡ true
+      → first_refusal (enqueue_fault (requests_in s) job) [] r.wants.items ≡ None → LevelsAgree t
   levels_after agree order mine others own passed x y key hx hy nx ny =
       grind (arith, mine, others x, others y, was x, was y, like_present own passed y key, like_present own passed x key, agree x y key)
     where

@@ -178,9 +178,7 @@ changed_none job r = go (r.job == job)
 
 -- a want fits in an order where its place stands among the first of its key that fit
 fits_in_order : (at : ℕ → Request) (order before after : List ℕ) (p : ℕ) (size : Option ℕ) (w : Want) → StandsOnce order
-    → ((x : ℕ) → are_apart (at x).wants.items ≡ true)
-    → order ≡ before ++ p ∷ after
-    → Has (at p).wants.items w
+    → ((x : ℕ) → are_apart (at x).wants.items ≡ true) → order ≡ before ++ p ∷ after → Has (at p).wants.items w
     → Alike size (wants_at (map at order) w.key)
     → fits (map at before) w ≡ is_there p (take (fitting (wants_at (map at order) w.key)) (places_at at order w.key))
 fits_in_order at order before after p size w once apart is h alike =
@@ -255,8 +253,7 @@ wants_same_there key at then (p ∷ order) same =
     grind (arith, wants_cons then p order key, wants_cons at p order key, here, rest)
 
 module _ (job : ℕ) (cs : List Want) (at : ℕ → Request) (size : Option ℕ) (key : Key) where
-  pub alike_changed : (order : List ℕ)
-      → list_all (λ w. is_share_of size w.pool) (wants_at (map (λ x. changed job cs (at x)) order) key)
+  pub alike_changed : (order : List ℕ) → list_all (λ w. is_share_of size w.pool) (wants_at (map (λ x. changed job cs (at x)) order) key)
       ≡ list_all (λ w. is_share_of size w.pool) (wants_at (map at order) key)
   alike_changed [] = refl
   alike_changed (p ∷ order) =
@@ -443,9 +440,7 @@ module _ (s : Stored) (locks : List Lock) (n : ℕ) (kept : IsKept (state_of s l
 
   -- a request that is granted is not the next of a queue
   pub not_next : FlagsAll (state_of s locks) → (p : ℕ) → Stands (state_of s locks) p n
-      → slice_get (lock_at locks n).queue.places (lock_at locks n).queue.fitting ≡ Some p
-      → (filed_at s p).granted ≡ true
-      → ⊥
+      → slice_get (lock_at locks n).queue.places (lock_at locks n).queue.fitting ≡ Some p → (filed_at s p).granted ≡ true → ⊥
   not_next flags p stands at granted =
       let q = (lock_at locks n).queue in
       let all : all_count (state_of s locks) p ≡ true = sym (flags p stands.present) ∙ granted in
@@ -525,8 +520,7 @@ still_exclusive c w cs ws = grind arith
 module _ (s : Stored) (job : ℕ) (c : Want) (right : AreRight s) (spares : SparesPools s job c) where
   -- a pool's want of the job stays as it is
   pub pool_stays : (x : ℕ) (w : Want) → is_there x s.order ≡ true → (request_at s x).job ≡ job → Has (request_at s x).wants.items w → w.key ≡ c.key
-      → is_pooled w ≡ true
-      → changed_by c w ≡ w
+      → is_pooled w ≡ true → changed_by c w ≡ w
   pool_stays x w present mine h e pooled =
       let in_rs : Has (requests_of (requests_in s) job) (request_at s x) =
       Has-filter (λ (q : Request). q.job == job) (requests_in s) (request_at s x) (eq-eqb (request_at s x).job job mine)
@@ -602,11 +596,7 @@ pub record Found (s : Stored) (locks : List Lock) (n : ℕ) (key : Key) (l : Loc
   pub free : is_some l.size ≡ false → All (IsFreeAt s n) places
 
 pub found : (s : Stored) (locks read : List Lock) (n : ℕ) (key : Key) (l : Lock) (places : List ℕ) → IsKept (state_of s locks)
-    → OpenAreUsed (state_of s locks)
-    → is_open_for key (lock_at locks n) ≡ true
-    → read ≡ locks
-    → l ≡ get_or read n l
-    → places ≡ l.queue.places
+    → OpenAreUsed (state_of s locks) → is_open_for key (lock_at locks n) ≡ true → read ≡ locks → l ≡ get_or read n l → places ≡ l.queue.places
     → Found s locks n key l places
 found s locks read n key l places kept used for same at of =
     let parts = open_parts key (lock_at locks n) for in
@@ -631,17 +621,14 @@ open_for_from key l some e = ap (λ b. b && same_key l.key key) some ∙ eq-same
 
 -- a request with a want of a key stands in its open queue
 pub open_named : (s : Stored) (locks : List Lock) (x : ℕ) (key : Key) → IsKept (state_of s locks) → is_there x s.order ≡ true
-    → names (request_at s x).wants.items key ≡ true
-    → (m : ℕ) × (is_open_for key (lock_at locks m) ≡ true)
+    → names (request_at s x).wants.items key ≡ true → (m : ℕ) × (is_open_for key (lock_at locks m) ≡ true)
 open_named s locks x key kept present named =
     let m = queue_of_key (state_of s locks) x key kept present named in
     (m.0, open_for_from key (lock_at locks m.0) (used_open (state_of s locks) x m.0 kept m.1) m.2)
 
 -- it stands among the places of the queue
 pub queued_named : (s : Stored) (locks : List Lock) (n x : ℕ) (key : Key) → IsKept (state_of s locks) → IsUsed (state_of s locks) n
-    → (lock_at locks n).key ≡ key
-    → is_there x s.order ≡ true
-    → names (request_at s x).wants.items key ≡ true
+    → (lock_at locks n).key ≡ key → is_there x s.order ≡ true → names (request_at s x).wants.items key ≡ true
     → is_there x (lock_at locks n).queue.places ≡ true
 queued_named s locks n x key kept used of present named =
     subst (λ l. is_there x l ≡ true) (sym (counts s locks n kept used).places)

@@ -63,8 +63,7 @@ pub owned : (ℕ → List ℕ) → List ℕ → List ℕ
 owned own [] = []
 owned own (x ∷ xs) = own x ++ owned own xs
 
-pub there_owned : (own : ℕ → List ℕ) (x n : ℕ) (xs : List ℕ) → is_there x xs ≡ true → is_there n (own x) ≡ true
-    → is_there n (owned own xs) ≡ true
+pub there_owned : (own : ℕ → List ℕ) (x n : ℕ) (xs : List ℕ) → is_there x xs ≡ true → is_there n (own x) ≡ true → is_there n (owned own xs) ≡ true
 unfolding owned
 there_owned own x n [] h there = cc
 there_owned own x n (y ∷ xs) h there =
@@ -84,8 +83,7 @@ owned_few own (x ∷ before) p short =
     omega (arith, length-append (own x) (owned own (before ++ p ∷ [])), rest, here)
 
 -- where no element passes, none does at its place
-pub none_at : {X : Type 0} → (t : X → Bool) (xs : List X) (k : ℕ) (d : X) → list_any t xs ≡ false → k < length xs
-    → t (get_or xs k d) ≡ false
+pub none_at : {X : Type 0} → (t : X → Bool) (xs : List X) (k : ℕ) (d : X) → list_any t xs ≡ false → k < length xs → t (get_or xs k d) ≡ false
 none_at t [] k d h lt = absurd (omega arith)
 none_at t (x ∷ xs) zero d h lt = grind arith
 none_at t (x ∷ xs) (suc k) d h lt = grind (arith, none_at t xs k d)
@@ -115,9 +113,7 @@ pub record IsReady (s : State) (w : Want) (n : ℕ) : Type 0 where
 
 module _ (store : Stored) (locks : List Lock) (p : ℕ) (wants : List Want) (k : ℕ) where
   -- there is a lock that is not open
-  pub room_left : IsArriving store locks p wants k
-      → k < length wants
-      → LOCKS_A_CALL * length store.order ≤ length locks
+  pub room_left : IsArriving store locks p wants k → k < length wants → LOCKS_A_CALL * length store.order ≤ length locks
       → list_any is_closed locks ≡ true
   room_left a more room = go (list_any is_closed locks) refl
     where
@@ -141,10 +137,8 @@ module _ (store : Stored) (locks : List Lock) (p : ℕ) (wants : List Want) (k :
           absurd (omega (arith, long, few, same, count, length-append before (p ∷ []), room, more, a.few, a.own))
 
   -- the lock stays as it is
-  was_ready : (more : List Lock) (w : Want) (n : ℕ) → IsArriving store locks p wants k → Admits locks w
-      → ((m : ℕ) → lock_at more m ≡ lock_at locks m)
-      → is_open_for w.key (lock_at locks n) ≡ true
-      → IsReady (state_of store more) w n × FlagsBut p (state_of store more)
+  was_ready : (more : List Lock) (w : Want) (n : ℕ) → IsArriving store locks p wants k → Admits locks w → ((m : ℕ) → lock_at more m ≡ lock_at locks m)
+      → is_open_for w.key (lock_at locks n) ≡ true → IsReady (state_of store more) w n × FlagsBut p (state_of store more)
   was_ready more w n a admits same t =
       subst (λ (v : State). IsReady v w n × FlagsBut p v) (sym same_state) (ready, a.flags)
     where
@@ -185,8 +179,7 @@ module _ (store : Stored) (locks : List Lock) (p : ℕ) (wants : List Want) (k :
       }
 
   begun_is_ready : (more : List Lock) (w : Want) (n : ℕ) → IsArriving store locks p wants k
-      → ((m : ℕ) → (m ≡ n → ⊥) → lock_at more m ≡ lock_at locks m)
-      → IsBegun locks more w n
+      → ((m : ℕ) → (m ≡ n → ⊥) → lock_at more m ≡ lock_at locks m) → IsBegun locks more w n
       → IsReady (state_of store more) w n × FlagsBut p (state_of store more)
   begun_is_ready more w n a others begun = (ready, both.2 a.flags)
     where
@@ -256,9 +249,7 @@ module _ (store : Stored) (locks : List Lock) (p : ℕ) (wants : List Want) (k :
       }
 
   -- in both cases
-  pub is_ready : (more : List Lock) (w : Want) (n : ℕ) → IsArriving store locks p wants k
-      → Admits locks w
-      → Readies locks more w n
+  pub is_ready : (more : List Lock) (w : Want) (n : ℕ) → IsArriving store locks p wants k → Admits locks w → Readies locks more w n
       → IsReady (state_of store more) w n × FlagsBut p (state_of store more)
   is_ready more w n a admits r =
       elim r.mine [
@@ -299,13 +290,8 @@ apart_at (w ∷ ws) zero (suc k) d h lt within = grind (arith, all_at (λ v. not
 apart_at (w ∷ ws) (suc j) (suc k) d h lt within = grind (arith, apart_at ws j k d)
 
 module _ (store later : Stored) (locks most : List Lock) (p n k : ℕ) (wants : List Want) (w : Want) where
-  pub entered_one : IsArriving store locks p wants k
-      → k < length wants
-      → w ≡ get_or wants k unused_want
-      → p < length store.filed
-      → IsEntered locks most p w n
-      → later ≡ with_filed store p (with_more (filed_at store p) w n)
-      → IsArriving later most p wants (k + 1)
+  pub entered_one : IsArriving store locks p wants k → k < length wants → w ≡ get_or wants k unused_want → p < length store.filed
+      → IsEntered locks most p w n → later ≡ with_filed store p (with_more (filed_at store p) w n) → IsArriving later most p wants (k + 1)
   entered_one a within is placed e owned = record {
     kept = both.0;
     full = both.1 ready.full;
@@ -440,16 +426,9 @@ module _ (store later : Stored) (locks most : List Lock) (p n k : ℕ) (wants : 
 -- ---- a request has come
 
 -- a request stands last, and none of its wants is entered
-pub came_last : (store later : Stored) (locks : List Lock) (p job : ℕ) (asking : Asking) (wants : List Want)
-    → IsTable (state_of store locks)
-    → AreShort store
-    → p < length store.filed
-    → is_there p store.order ≡ false
-    → are_apart wants ≡ true
-    → length wants ≤ LOCKS_A_CALL
-    → AdmitsFrom 0 locks wants
-    → later ≡ inserted store p (arrived job asking false)
-    → IsArriving later locks p wants 0
+pub came_last : (store later : Stored) (locks : List Lock) (p job : ℕ) (asking : Asking) (wants : List Want) → IsTable (state_of store locks)
+    → AreShort store → p < length store.filed → is_there p store.order ≡ false → are_apart wants ≡ true → length wants ≤ LOCKS_A_CALL
+    → AdmitsFrom 0 locks wants → later ≡ inserted store p (arrived job asking false) → IsArriving later locks p wants 0
 came_last store later locks p job asking wants table short lt out apart few admits put = record {
   kept = both.0;
   full = both.1 table.full;
@@ -524,14 +503,11 @@ came_last store later locks p job asking wants table short lt out apart few admi
     used m some = used_where s t m (still m) (table.used m some)
 
 pub came_others : (store later : Stored) (p x job : ℕ) (asking : Asking) → p < length store.filed
-    → later ≡ inserted store p (arrived job asking false)
-    → (x ≡ p → ⊥)
-    → (filed_at later x).request ≡ (filed_at store x).request
+    → later ≡ inserted store p (arrived job asking false) → (x ≡ p → ⊥) → (filed_at later x).request ≡ (filed_at store x).request
 came_others store later p x job asking lt put ne =
     ap (λ (g : Filed). g.request) (filed_other store later p (arrived job asking false) lt (ap (λ (v : Stored). v.filed) put) x ne)
 
-pub came_mine : (store later : Stored) (p job : ℕ) (asking : Asking) → p < length store.filed
-    → later ≡ inserted store p (arrived job asking false)
+pub came_mine : (store later : Stored) (p job : ℕ) (asking : Asking) → p < length store.filed → later ≡ inserted store p (arrived job asking false)
     → (filed_at later p).request ≡ request_of job asking false (record { items = [] })
 came_mine store later p job asking lt put =
     ap (λ (g : Filed). g.request) (filed_mine store later p (arrived job asking false) lt (ap (λ (v : Stored). v.filed) put))
@@ -541,8 +517,7 @@ module _ (store later : Stored) (locks : List Lock) (p : ℕ) (wants : List Want
   pub present_last : IsArriving store locks p wants (length wants) → is_there p store.order ≡ true
   present_last a = subst (λ l. is_there p l ≡ true) (sym a.last.1) (there_split p a.last.0 [])
 
-  pub arrived_by : IsArriving store locks p wants (length wants)
-      → Renews (state_of store locks) (state_of later locks) p
+  pub arrived_by : IsArriving store locks p wants (length wants) → Renews (state_of store locks) (state_of later locks) p
       → IsTable (state_of later locks)
   arrived_by a renews = record {
     kept = both.0;
@@ -572,24 +547,18 @@ module _ (store later : Stored) (locks : List Lock) (p : ℕ) (wants : List Want
           a.full x m was
           ∙ ap fitting (sym (ap (λ l. wants_at (map t.at l) (s.key m)) renews.order ∙ ap (λ (f : ℕ → Request). wants_at (map f s.order) (s.key m)) same))
 
-  pub queues_within : IsArriving store locks p wants (length wants)
-      → All (λ n. n < length locks) (filed_at store p).queues.items
+  pub queues_within : IsArriving store locks p wants (length wants) → All (λ n. n < length locks) (filed_at store p).queues.items
   queues_within a = own_within store locks p a.kept (present_last a)
 
 -- a request with its wants is what it was without them, and they
 pub whole_again : (r : Request) (job : ℕ) (asking : Asking) (wants : ArrayVec Want)
-    → with_wants r [] ≡ request_of job asking false (record { items = [] })
-    → r.wants.items ≡ wants.items
-    → r ≡ request_of job asking false wants
+    → with_wants r [] ≡ request_of job asking false (record { items = [] }) → r.wants.items ≡ wants.items → r ≡ request_of job asking false wants
 whole_again r job asking wants bare all =
     ap (λ (q : Request). with_wants q r.wants.items) bare ∙ ap (with_wants (request_of job asking false (record { items = [] }))) all
 
 -- and it is granted where it has to be
-pub flag_last : (store later : Stored) (before : List ℕ) (locks : List Lock) (p : ℕ) (r : Request)
-    → IsTable (state_of later locks)
-    → later.order ≡ before ++ p ∷ []
-    → is_there p before ≡ false
-    → (filed_at later p).request ≡ r
+pub flag_last : (store later : Stored) (before : List ℕ) (locks : List Lock) (p : ℕ) (r : Request) → IsTable (state_of later locks)
+    → later.order ≡ before ++ p ∷ [] → is_there p before ≡ false → (filed_at later p).request ≡ r
     → ((x : ℕ) → (x ≡ p → ⊥) → (filed_at later x).request ≡ (filed_at store x).request)
     → (filed_at later p).granted ≡ granted_behind (map (λ x. (filed_at store x).request) before) r
 flag_last store later before locks p r table last out is others =

@@ -1,18 +1,18 @@
 -- A call's wants are judged one by one, and their keys looked up.
-use Rattle.std.proofs.Common.{◌≡◌, ◌∙◌, ◌<◌, ◌+◌, ◌++◌, ◌∷◌, ◌||◌, sym, ap, subst, ℕ, suc, Bool, true, false, not, List, [], Option, Some, add-one}
-use Rattle.std.proofs.Common.{length, get_or, take, drop, arith, refl, below_more, is_some, append_assoc, nat_le, ◌&&◌}
-use Rattle.std.specs.List.{list_all, list_any}
+use Rattle.std.proofs.Common.{◌≡◌, ◌∙◌, ◌<◌, ◌+◌, ◌++◌, ◌∷◌, ◌||◌, sym, ap, subst, ℕ, suc, Bool, true, false, not, List, [], Option, add-one}
+use Rattle.std.proofs.Common.{length, get_or, take, drop, arith, below_more, is_some, append_assoc, nat_le, ◌&&◌}
+use Rattle.std.specs.List.{list_any}
 use Rattle.std.proofs.lemmas.List.{get_or_append_left, get_or_push, get_or-take, length-take, take_more}
 use Rattle.std.proofs.lemmas.List.Folds.{list_any-append}
 use Rattle.std.proofs.Math.Seq.{drop-cons}
 use Rattle.lock_queue.specs.declared.refusal.Refusal.{Refusal}
-use Rattle.lock_queue.specs.declared.refusal.Refusal.TheVariants.{Differs, NamedAlready, NotPresent}
+use Rattle.lock_queue.specs.declared.refusal.Refusal.TheVariants.{NamedAlready, NotPresent}
 use Rattle.lock_queue.specs.declared.request.Request.{Request}
 use Rattle.lock_queue.specs.declared.want.Want.{Want}
 use Rattle.lock_queue.specs.Dequeues.{dequeue_fault}
-use Rattle.lock_queue.specs.Enqueues.{are_alike, enqueue_fault, some_too_low}
+use Rattle.lock_queue.specs.Enqueues.{enqueue_fault, some_too_low}
 use Rattle.lock_queue.specs.Outcomes.{first_refusal, or_else, refuse_if}
-use Rattle.lock_queue.specs.Queue.{names, wants_at, wants_of}
+use Rattle.lock_queue.specs.Queue.{names, wants_of}
 use Rattle.lock_queue.specs.Unused.{unused_want}
 use Rattle.key_queues.specs.declared.found.Found.{Found}
 use Rattle.key_queues.specs.declared.lock.Lock.{Lock}
@@ -35,42 +35,16 @@ judged_at fault ws i w lt is =
 
 -- ---- one want, where it is known whether it is refused beside the present ones
 
-refused_beside : (differs named before : Bool) (rest : Option Refusal)
-    → is_some (or_else (refuse_if differs Differs) (refuse_if named NamedAlready)) ≡ true
-    → or_else (or_else (refuse_if differs Differs) (refuse_if (before || named) NamedAlready)) rest
-    ≡ or_else (refuse_if differs Differs) (refuse_if named NamedAlready)
-refused_beside true named before rest h = refl
-refused_beside false true true rest h = refl
-refused_beside false true false rest h = refl
-refused_beside false false before rest h = cc
-
-not_refused : (differs named before : Bool) (rest : Option Refusal)
-    → is_some (or_else (refuse_if differs Differs) (refuse_if named NamedAlready)) ≡ false
-    → or_else (or_else (refuse_if differs Differs) (refuse_if (before || named) NamedAlready)) rest
-    ≡ or_else (refuse_if before NamedAlready) rest
-not_refused true named before rest h = cc
-not_refused false true before rest h = cc
-not_refused false false true rest h = refl
-not_refused false false false rest h = refl
-
 module _ (rs : List Request) (job : ℕ) (ws : List Want) (i : ℕ) (w : Want) (lt : i < length ws) (at : w ≡ get_or ws i w) where
   -- what becomes of a call that asks for keys
   module _ (was : first_refusal (enqueue_fault rs job) (take i ws) (drop i ws) ≡ first_refusal (enqueue_fault rs job) [] ws) where
     pub fault_here : is_some (enqueue_fault rs job [] w) ≡ true → enqueue_fault rs job [] w ≡ first_refusal (enqueue_fault rs job) [] ws
-    fault_here some =
-        sym (refused_beside (not (list_all (λ v. are_alike v w) (wants_at rs w.key))) (names (wants_of rs job) w.key) (names (take i ws) w.key)
-        (first_refusal (enqueue_fault rs job) (take (i + 1) ws) (drop (i + 1) ws)) some)
-        ∙ sym (judged_at (enqueue_fault rs job) ws i w lt at) ∙ was
+    fault_here some = grind (arith, judged_at (enqueue_fault rs job) ws i w lt at, was, some)
 
     pub none_here : (before : Bool) → is_some (enqueue_fault rs job [] w) ≡ false → names (take i ws) w.key ≡ before
         → or_else (refuse_if before NamedAlready) (first_refusal (enqueue_fault rs job) (take (i + 1) ws) (drop (i + 1) ws))
         ≡ first_refusal (enqueue_fault rs job) [] ws
-    none_here before none named =
-        sym (judged_at (enqueue_fault rs job) ws i w lt at
-        ∙ not_refused (not (list_all (λ v. are_alike v w) (wants_at rs w.key))) (names (wants_of rs job) w.key) (names (take i ws) w.key)
-        (first_refusal (enqueue_fault rs job) (take (i + 1) ws) (drop (i + 1) ws)) none
-        ∙ ap (λ b. or_else (refuse_if b NamedAlready) (first_refusal (enqueue_fault rs job) (take (i + 1) ws) (drop (i + 1) ws))) named)
-        ∙ was
+    none_here before none named = grind (arith, judged_at (enqueue_fault rs job) ws i w lt at, was, none, named)
 
   -- and of one that gives keys up
   pub given_here : (before has : Bool) → names (take i ws) w.key ≡ before → names (wants_of rs job) w.key ≡ has
@@ -78,24 +52,14 @@ module _ (rs : List Request) (job : ℕ) (ws : List Want) (i : ℕ) (w : Want) (
       → or_else (or_else (refuse_if before NamedAlready) (refuse_if (not has) NotPresent))
       (first_refusal (dequeue_fault rs job) (take (i + 1) ws) (drop (i + 1) ws))
       ≡ first_refusal (dequeue_fault rs job) [] ws
-  given_here before has named wanted was =
-      sym (judged_at (dequeue_fault rs job) ws i w lt at
-      ∙ ap (λ b. or_else (or_else (refuse_if b NamedAlready) (refuse_if (not (names (wants_of rs job) w.key)) NotPresent))
-      (first_refusal (dequeue_fault rs job) (take (i + 1) ws) (drop (i + 1) ws))) named
-      ∙ ap (λ b. or_else (or_else (refuse_if before NamedAlready) (refuse_if (not b) NotPresent))
-      (first_refusal (dequeue_fault rs job) (take (i + 1) ws) (drop (i + 1) ws))) wanted)
-      ∙ was
+  given_here before has named wanted was = grind (arith, judged_at (dequeue_fault rs job) ws i w lt at, named, wanted, was)
 
 -- whether a want is too low behind a job's own wants and those of the call before it
-pub too_low_at : (own ws : List Want) (i : ℕ) (w : Want) → i < length ws → w ≡ get_or ws i w
-    → some_too_low (own ++ take i ws) (drop i ws)
+pub too_low_at : (own ws : List Want) (i : ℕ) (w : Want) → i < length ws → w ≡ get_or ws i w → some_too_low (own ++ take i ws) (drop i ws)
     ≡ ((not w.bypass && (list_any (λ v. nat_le w.level v.level) own || list_any (λ v. nat_le w.level v.level) (take i ws)))
     || some_too_low (own ++ take (i + 1) ws) (drop (i + 1) ws))
 too_low_at own ws i w lt at =
-    ap (some_too_low (own ++ take i ws)) (rest_is ws i w lt at)
-    ∙ ap (λ b. (not w.bypass && b) || some_too_low ((own ++ take i ws) ++ w ∷ []) (drop (i + 1) ws)) (list_any-append (λ v. nat_le w.level v.level) own (take i ws))
-    ∙ ap (λ l. (not w.bypass && (list_any (λ v. nat_le w.level v.level) own || list_any (λ v. nat_le w.level v.level) (take i ws))) || some_too_low l (drop (i + 1) ws))
-    (append_assoc own (take i ws) (w ∷ []) ∙ ap (λ l. own ++ l) (sym (take_more ws i w lt ∙ ap (λ v. take i ws ++ v ∷ []) (sym at))))
+    grind (arith, rest_is ws i w lt at, list_any-append (λ v. nat_le w.level v.level) own (take i ws), append_assoc own (take i ws) (w ∷ []), take_more ws i w lt, at)
 
 -- ---- what was looked up
 
@@ -111,8 +75,7 @@ module _ (locks : List Lock) (ws : List Want) (found : List Found) (i : ℕ)
 
   -- one more
   pub found_more : (more : List Found) (w : Want) (x : Found) → length found ≡ i → more ≡ found ++ x ∷ [] → w ≡ get_or ws i unused_want
-      → IsFound locks w.key x
-      → (j : ℕ) → j < i + 1 → IsFound locks (get_or ws j unused_want).key (get_or more j no_found)
+      → IsFound locks w.key x → (j : ℕ) → j < i + 1 → IsFound locks (get_or ws j unused_want).key (get_or more j no_found)
   found_more more w x long is at here =
       below_more (λ j. IsFound locks (get_or ws j unused_want).key (get_or more j no_found)) i
       (λ j lt.

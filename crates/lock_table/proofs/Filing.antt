@@ -1,6 +1,6 @@
 -- What the code of a table finds and leaves.
 use Rattle.std.proofs.Common.{◌≡◌, ◌≢◌, ◌<◌, ◌∙◌, sym, ap, subst, ℕ, suc, Bool, true, ◌==◌, List, [], length, set, take, drop, get_or, slice_get}
-use Rattle.std.proofs.Common.{Some, zero, inl, inr, refl, arith, false, ◌∷◌, ◌++◌, filter, not, ◌+◌, cond, ◌≤◌, ◌&&◌}
+use Rattle.std.proofs.Common.{Some, zero, inl, inr, refl, arith, false, ◌∷◌, ◌++◌, filter, not, cond, ◌≤◌, ◌&&◌}
 use Rattle.std.specs.List.{All, list_all, position_or_len, remove, list_any}
 use Rattle.std.proofs.lemmas.Bool.{and_parts, cases_eq, false_from_ne_true, both_ways, ne_eqb}
 use Rattle.std.proofs.lemmas.List.{get_or_past, get_or-set_same, get_or-set_other, nil_from_length, length-append}
@@ -79,8 +79,7 @@ module _ (locks more : List Lock) (n : ℕ) (q : KeptQueue) (lt : n < length loc
 
 module _ (store : Stored) (locks : List Lock) where
   -- what is used stands within the lists
-  pub lock_within : (x n : ℕ) → IsKept (state_of store locks) → Stands (state_of store locks) x n
-      → n < length locks
+  pub lock_within : (x n : ℕ) → IsKept (state_of store locks) → Stands (state_of store locks) x n → n < length locks
   lock_within x n kept st = grind (arith, stands_in_queue (state_of store locks) x n kept st, get_or_past locks n unused_lock)
 
   pub own_within : (x : ℕ) → IsKept (state_of store locks) → is_there x store.order ≡ true
@@ -92,14 +91,10 @@ module _ (store : Stored) (locks : List Lock) where
   place_within p key named = grind (arith, get_or_past store.filed p unused_filed)
 
   -- a queue that lets its next want in
-  pub extended_by : (then : Stored) (more : List Lock) (n p : ℕ) (w : Want) → IsKept (state_of store locks)
-      → FlagsAll (state_of store locks)
-      → IsUsed (state_of store locks) n
-      → slice_get (lock_at locks n).queue.places (lock_at locks n).queue.fitting ≡ Some p
-      → Next (state_of store locks) n p w
-      → fits_next (lock_at locks n).queue w w.pool ≡ true
-      → more ≡ with_queue locks n (admitted (lock_at locks n).queue w)
-      → Renews (state_of store more) (state_of then more) p
+  pub extended_by : (then : Stored) (more : List Lock) (n p : ℕ) (w : Want) → IsKept (state_of store locks) → FlagsAll (state_of store locks)
+      → IsUsed (state_of store locks) n → slice_get (lock_at locks n).queue.places (lock_at locks n).queue.fitting ≡ Some p
+      → Next (state_of store locks) n p w → fits_next (lock_at locks n).queue w w.pool ≡ true
+      → more ≡ with_queue locks n (admitted (lock_at locks n).queue w) → Renews (state_of store more) (state_of then more) p
       → Extended (state_of store locks) (state_of then more) n
   extended_by then more n p w kept flags used at next fits is renews =
       let lt : n < length locks = lock_within used.place n kept used.stands in
@@ -139,10 +134,8 @@ pub record Given (store : Stored) (locks : List Lock) (p k : ℕ) : Type 0 where
   pub place_is : slice_get (lock_at locks (own_at store p k)).queue.places
       (position_or_len (λ m. m == p) (lock_at locks (own_at store p k)).queue.places) ≡ Some p
 
-pub given : (store : Stored) (locks : List Lock) (p k : ℕ) → IsKept (state_of store locks)
-    → is_there p store.order ≡ true
-    → k < length (filed_at store p).queues.items
-    → Given store locks p k
+pub given : (store : Stored) (locks : List Lock) (p k : ℕ) → IsKept (state_of store locks) → is_there p store.order ≡ true
+    → k < length (filed_at store p).queues.items → Given store locks p k
 given store locks p k kept present lt =
     let s : State = state_of store locks in
     let st : Stands s p (own_at store p k) = record { present = present; there = there_at (filed_at store p).queues.items k 0 lt } in
@@ -156,10 +149,8 @@ given store locks p k kept present lt =
       place_is = queued.1;
     }
 
-pub own_within_less : (store : Stored) (locks : List Lock) (p k : ℕ) → IsKept (state_of store locks)
-    → is_there p store.order ≡ true
-    → p < length store.filed
-    → All (λ n. n < length locks) (filed_at (with_filed store p (without_want (filed_at store p) k)) p).queues.items
+pub own_within_less : (store : Stored) (locks : List Lock) (p k : ℕ) → IsKept (state_of store locks) → is_there p store.order ≡ true
+    → p < length store.filed → All (λ n. n < length locks) (filed_at (with_filed store p (without_want (filed_at store p) k)) p).queues.items
 own_within_less store locks p k kept present lt =
     let less : Filed = without_want (filed_at store p) k in
     subst (λ (f : Filed). All (λ n. n < length locks) f.queues.items) (sym (filed_mine store (with_filed store p less) p less lt refl))
@@ -169,14 +160,10 @@ own_within_less store locks p k kept present lt =
     there_removed (get_or ns j d) k (filed_at store p).queues.items (there_at ns j d below) in
     lock_within store locks p (get_or ns j d) kept (record { present = present; there = there }))
 
-pub gives_up_by : (store middle then : Stored) (locks more : List Lock) (p k : ℕ)
-    → IsKept (state_of store locks)
-    → k < length (filed_at store p).queues.items
-    → Given store locks p k
-    → middle ≡ with_filed store p (without_want (filed_at store p) k)
+pub gives_up_by : (store middle then : Stored) (locks more : List Lock) (p k : ℕ) → IsKept (state_of store locks)
+    → k < length (filed_at store p).queues.items → Given store locks p k → middle ≡ with_filed store p (without_want (filed_at store p) k)
     → more ≡ with_queue locks (own_at store p k) (without_place (lock_at locks (own_at store p k)).queue p (want_at store p k))
-    → Renews (state_of middle more) (state_of then more) p
-    → GivesUpAt (state_of store locks) (state_of then more) p k
+    → Renews (state_of middle more) (state_of then more) p → GivesUpAt (state_of store locks) (state_of then more) p k
 gives_up_by store middle then locks more p k kept lt g is lock_is renews =
     let s : State = state_of store locks in
     let n : ℕ = own_at store p k in
@@ -206,15 +193,10 @@ gives_up_by store middle then locks more p k kept lt g is lock_is renews =
     }
 
 -- and so the table stays
-pub given_up : (store middle then : Stored) (locks more : List Lock) (p k : ℕ)
-    → IsKept (state_of store locks)
-    → FlagsAll (state_of store locks)
-    → is_there p store.order ≡ true
-    → k < length (filed_at store p).queues.items
-    → middle ≡ with_filed store p (without_want (filed_at store p) k)
+pub given_up : (store middle then : Stored) (locks more : List Lock) (p k : ℕ) → IsKept (state_of store locks) → FlagsAll (state_of store locks)
+    → is_there p store.order ≡ true → k < length (filed_at store p).queues.items → middle ≡ with_filed store p (without_want (filed_at store p) k)
     → more ≡ with_queue locks (own_at store p k) (without_place (lock_at locks (own_at store p k)).queue p (want_at store p k))
-    → Renews (state_of middle more) (state_of then more) p
-    → IsKept (state_of then more) × FlagsAll (state_of then more)
+    → Renews (state_of middle more) (state_of then more) p → IsKept (state_of then more) × FlagsAll (state_of then more)
     × (CountsAll (state_of store locks) → CountsBut (own_at store p k) (state_of then more)) × IsCounted (state_of then more) (own_at store p k)
 given_up store middle then locks more p k kept flags present lt is lock_is renews =
     let s : State = state_of store locks in
@@ -238,11 +220,8 @@ pub used_where : (s t : State) (m : ℕ) → ((x : ℕ) → Stands s x m → Sta
 used_where s t m still u = record { place = u.place; stands = still u.place u.stands }
 
 -- a request that has given up all its wants leaves the store
-pub left_store : (store : Stored) (locks : List Lock) (p : ℕ) → IsTable (state_of store locks)
-    → is_there p store.order ≡ true
-    → length (filed_at store p).queues.items ≡ 0
-    → p < length store.filed
-    → IsTable (state_of (removed store p) locks)
+pub left_store : (store : Stored) (locks : List Lock) (p : ℕ) → IsTable (state_of store locks) → is_there p store.order ≡ true
+    → length (filed_at store p).queues.items ≡ 0 → p < length store.filed → IsTable (state_of (removed store p) locks)
 left_store store locks p table present none lt =
     let i : ℕ = position_or_len (λ m. m == p) store.order in
     let s : State = state_of store locks in
@@ -277,8 +256,7 @@ left_store store locks p table present none lt =
 -- ---- a request that is taken for granted and gives up a want is still to be taken so
 
 -- a test answers the same of all but one that is not there
-all_same : (f g : ℕ → Bool) (n : ℕ) (xs : List ℕ) → is_there n xs ≡ false → ((m : ℕ) → (m ≡ n → ⊥) → f m ≡ g m)
-    → list_all f xs ≡ list_all g xs
+all_same : (f g : ℕ → Bool) (n : ℕ) (xs : List ℕ) → is_there n xs ≡ false → ((m : ℕ) → (m ≡ n → ⊥) → f m ≡ g m) → list_all f xs ≡ list_all g xs
 all_same f g n [] out same = refl
 all_same f g n (x ∷ xs) out same = grind (arith, same x, all_same f g n xs)
 
@@ -301,12 +279,8 @@ not_named a b w apart =
     none_named test (a ++ b) (grind (arith, one, both, count, filter-append test a b, eq-same_key w.key w.key, nil_from_length (filter test a), nil_from_length (filter test b)))
 
 still_counted : (s : State) (queue : ℕ → KeptQueue) (p n : ℕ) (a b : List Want) (w : Want) (na nb : List ℕ) → IsKept s → is_there p s.order ≡ true
-    → (s.at p).wants.items ≡ a ++ w ∷ b
-    → s.own p ≡ na ++ n ∷ nb
-    → length a ≡ length na
-    → ((m : ℕ) → (m ≡ n → ⊥) → queue m ≡ s.queue m)
-    → all_count s p ≡ true
-    → list_all (λ m. is_counted (queue m) p) (na ++ nb) ≡ true
+    → (s.at p).wants.items ≡ a ++ w ∷ b → s.own p ≡ na ++ n ∷ nb → length a ≡ length na → ((m : ℕ) → (m ≡ n → ⊥) → queue m ≡ s.queue m)
+    → all_count s p ≡ true → list_all (λ m. is_counted (queue m) p) (na ++ nb) ≡ true
 still_counted s queue p n a b w na nb kept present wants owned same others all =
     let queues : QueuesOf (λ v m. s.key m ≡ v.key) (a ++ w ∷ b) (na ++ n ∷ nb) =
     subst (λ l. QueuesOf (λ v m. s.key m ≡ v.key) (a ++ w ∷ b) l) owned
@@ -320,16 +294,11 @@ still_counted s queue p n a b w na nb kept present wants owned same others all =
     all_same (λ m. is_counted (queue m) p) (λ m. is_counted (s.queue m) p) n (na ++ nb) out (λ m ne. ap (λ q. is_counted q p) (others m ne))
     ∙ all_less (λ m. is_counted (s.queue m) p) n na nb (subst (λ l. list_all (λ m. is_counted (s.queue m) p) l ≡ true) owned all)
 
-pub still_granted : (store middle : Stored) (locks more : List Lock) (p k : ℕ)
-    → IsKept (state_of store locks)
-    → FlagsAll (state_of store locks)
-    → is_there p store.order ≡ true
-    → k < length (filed_at store p).queues.items
-    → Given store locks p k
+pub still_granted : (store middle : Stored) (locks more : List Lock) (p k : ℕ) → IsKept (state_of store locks) → FlagsAll (state_of store locks)
+    → is_there p store.order ≡ true → k < length (filed_at store p).queues.items → Given store locks p k
     → middle ≡ with_filed store p (without_want (filed_at store p) k)
     → more ≡ with_queue locks (own_at store p k) (without_place (lock_at locks (own_at store p k)).queue p (want_at store p k))
-    → (filed_at middle p).granted ≡ true
-    → all_count (state_of middle more) p ≡ true
+    → (filed_at middle p).granted ≡ true → all_count (state_of middle more) p ≡ true
 still_granted store middle locks more p k kept flags present lt g is lock_is granted =
     let s : State = state_of store locks in
     let n : ℕ = own_at store p k in
@@ -358,8 +327,7 @@ still a k = grind arith
 -- a request that is present and has wants was and had before: where the same are present with the same wants, and where one gave
 -- up a want
 pub wanting_before : (t u : Stored) (x : ℕ)
-    → (is_there x u.order ≡ true → (is_there x t.order ≡ true) × ((filed_at u x).request ≡ (filed_at t x).request))
-    → is_wanting u x ≡ true
+    → (is_there x u.order ≡ true → (is_there x t.order ≡ true) × ((filed_at u x).request ≡ (filed_at t x).request)) → is_wanting u x ≡ true
     → is_wanting t x ≡ true
 wanting_before t u x same h =
     let both = and_parts (is_there x u.order) (has_wants (filed_at u x).request) h in
@@ -374,9 +342,7 @@ some_before f (w ∷ ws) none h = some_wants w ws
 
 pub wanting_less : (t u : Stored) (p x : ℕ) (f : List Want → List Want) → f [] ≡ [] → (is_there x u.order ≡ true → is_there x t.order ≡ true)
     → (is_there p u.order ≡ true → (filed_at u p).request ≡ with_wants (filed_at t p).request (f (filed_at t p).request.wants.items))
-    → ((y : ℕ) → (y ≡ p → ⊥) → (filed_at u y).request ≡ (filed_at t y).request)
-    → is_wanting u x ≡ true
-    → is_wanting t x ≡ true
+    → ((y : ℕ) → (y ≡ p → ⊥) → (filed_at u y).request ≡ (filed_at t y).request) → is_wanting u x ≡ true → is_wanting t x ≡ true
 wanting_less t u p x f none stays left others h =
     elim (cases_eq x p) [
       | inl is ↦
@@ -393,9 +359,7 @@ pub none_removed : (k : ℕ) → remove {X = Want} [] k ≡ []
 none_removed zero = refl
 none_removed (suc k) = refl
 
-pub turned_then : (s t u : Stored) (l m n : List Bool) → ((x : ℕ) → is_wanting u x ≡ true → is_wanting t x ≡ true)
-    → Turned s t l m
-    → Turned t u m n
+pub turned_then : (s t u : Stored) (l m n : List Bool) → ((x : ℕ) → is_wanting u x ≡ true → is_wanting t x ≡ true) → Turned s t l m → Turned t u m n
     → Turned s u l n
 turned_then s t u l m n stay first second x h =
     grind (arith, second x h, first x (stay x h), twice (filed_at s x).granted (filed_at t x).granted (filed_at u x).granted (mark_at l x))
@@ -432,9 +396,7 @@ remove_filter t u p xs once keeps drops same =
 
 -- the order, where those that have wants left stay
 pub order_step : (t u : ℕ → Bool) (p : ℕ) (first order then : List ℕ) → StandsOnce first → order ≡ filter t first
-    → then ≡ cond (u p) order (remove order (position_or_len (λ m. m == p) order))
-    → t p ≡ true
-    → ((x : ℕ) → (x ≡ p → ⊥) → t x ≡ u x)
+    → then ≡ cond (u p) order (remove order (position_or_len (λ m. m == p) order)) → t p ≡ true → ((x : ℕ) → (x ≡ p → ⊥) → t x ≡ u x)
     → then ≡ filter u first
 order_step t u p first order then once was is keeps same = go (u p) refl is
   where
@@ -452,8 +414,7 @@ absent q (y ∷ ys) f = grind (arith, common_steps, absent q ys)
 
 -- who stays beside one place fewer
 pub beside_next : (before : List ℕ) (p : ℕ) (first order then : List ℕ) → StandsOnce first → order ≡ filter (stays_beside before) first
-    → then ≡ order_without order p
-    → then ≡ filter (stays_beside (before ++ p ∷ [])) first
+    → then ≡ order_without order p → then ≡ filter (stays_beside (before ++ p ∷ [])) first
 beside_next before p first order then once was is = go (is_there p order) refl
   where
     next : (x : ℕ) → x ≢ p → stays_beside before x ≡ stays_beside (before ++ p ∷ []) x
@@ -473,11 +434,7 @@ beside_next before p first order then once was is = go (is_there p order) refl
 
 -- a request that has given up all its wants leaves
 pub gone : (s t u : Stored) (locks : List Lock) (p : ℕ) (l m : List Bool) → IsTable (state_of t locks) → is_there p t.order ≡ true
-    → length (filed_at t p).queues.items ≡ 0
-    → Turned s t l m
-    → p < length t.filed
-    → u ≡ removed t p
-    → IsTable (state_of u locks) × Turned s u l m
+    → length (filed_at t p).queues.items ≡ 0 → Turned s t l m → p < length t.filed → u ≡ removed t p → IsTable (state_of u locks) × Turned s u l m
 gone s t u locks p l m table present none turned lt is =
     let beside : (x : ℕ) → is_there x (order_without t.order p) ≡ true → (x ≢ p) × (is_there x t.order ≡ true) =
     λ x h. there_beside x p t.order table.kept.once h in
@@ -494,9 +451,7 @@ gone s t u locks p l m table present none turned lt is =
 
 -- of the requests that stay, each is as it was
 pub left_next : (s t u : Stored) (before : List ℕ) (p : ℕ) → StandsOnce s.order → IsLeft s t (request_at s) (stays_beside before)
-    → u.order ≡ order_without t.order p
-    → StandsOnce t.order
-    → ((x : ℕ) → (x ≡ p → ⊥) → (filed_at u x).request ≡ (filed_at t x).request)
+    → u.order ≡ order_without t.order p → StandsOnce t.order → ((x : ℕ) → (x ≡ p → ⊥) → (filed_at u x).request ≡ (filed_at t x).request)
     → IsLeft s u (request_at s) (stays_beside (before ++ p ∷ []))
 left_next s t u before p once was order once_t others = record {
   order = beside_next before p s.order t.order u.order once was.order order;

@@ -29,9 +29,7 @@ alone w (Some share) range = grind arith
 
 module _ (s : Stored) (locks : List Lock) (table : IsTable (state_of s locks)) where
   fits_known : (w : Want) (seen : Found) (b : Bool) → IsFound locks w.key seen → Admits locks w → is_in_range w ≡ true
-      → IfSome seen.number (λ n. b ≡ fits_last (lock_at locks n).queue w)
-      → (seen.number ≡ None → b ≡ true)
-      → b ≡ fits (requests_in s) w
+      → IfSome seen.number (λ n. b ≡ fits_last (lock_at locks n).queue w) → (seen.number ≡ None → b ≡ true) → b ≡ fits (requests_in s) w
   fits_known w seen b found admits range some none = go seen.number refl
     where
       go : (o : Option ℕ) → seen.number ≡ o → b ≡ fits (requests_in s) w
@@ -50,13 +48,9 @@ module _ (s : Stored) (locks : List Lock) (table : IsTable (state_of s locks)) w
           ∙ ap (λ l. fits_beside l w w.pool) (sym (unwanted_at s locks w.key table (found.none e)))
 
   -- and so of the k-th want of a call
-  pub fits_at : (wants : List Want) (seen : List Found) (k : ℕ) (w : Want) (b : Bool) → AreFound 0 locks wants seen
-      → AdmitsFrom 0 locks wants
-      → list_all is_in_range wants ≡ true
-      → k < length wants
-      → w ≡ get_or wants k unused_want
-      → IfSome (get_or seen k no_found).number (λ n. b ≡ fits_last (lock_at locks n).queue w)
-      → ((get_or seen k no_found).number ≡ None → b ≡ true)
+  pub fits_at : (wants : List Want) (seen : List Found) (k : ℕ) (w : Want) (b : Bool) → AreFound 0 locks wants seen → AdmitsFrom 0 locks wants
+      → list_all is_in_range wants ≡ true → k < length wants → w ≡ get_or wants k unused_want
+      → IfSome (get_or seen k no_found).number (λ n. b ≡ fits_last (lock_at locks n).queue w) → ((get_or seen k no_found).number ≡ None → b ≡ true)
       → b ≡ fits (requests_in s) w
   fits_at wants seen k w b found admits range within read some none =
       fits_known w (get_or seen k no_found) b

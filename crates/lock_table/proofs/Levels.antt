@@ -40,8 +40,7 @@ level_of_read r key apart named = grind (arith, own_wants_are key r apart, named
 
 -- the first tells of all where all are like it
 first_tells : (test : Want → Bool) (f : ℕ → Want) (xs : List ℕ) → is_there (get_or xs 0 0) xs ≡ true
-    → (test (f (get_or xs 0 0)) ≡ true → list_all test (map f xs) ≡ true)
-    → test (f (get_or xs 0 0)) ≡ list_all test (map f xs)
+    → (test (f (get_or xs 0 0)) ≡ true → list_all test (map f xs) ≡ true) → test (f (get_or xs 0 0)) ≡ list_all test (map f xs)
 first_tells test f [] there like = cc
 first_tells test f (x ∷ xs) there like = grind (arith, like)
 

@@ -59,8 +59,7 @@ remove_key (w ∷ ws) (suc k) key h lt e =
     grind (arith, apart_at (w ∷ ws) zero (suc k) unused_want h (omega arith) lt, same_key-swap key w.key, remove_key ws k key)
 
 -- the k-th want has the key of the k-th queue
-key_at : (key : ℕ → Key) (ws : List Want) (ns : List ℕ) (k n : ℕ) → QueuesOf (λ w m. key m ≡ w.key) ws ns
-    → slice_get ns k ≡ Some n
+key_at : (key : ℕ → Key) (ws : List Want) (ns : List ℕ) (k n : ℕ) → QueuesOf (λ w m. key m ≡ w.key) ws ns → slice_get ns k ≡ Some n
     → (get_or ws k unused_want).key ≡ key n
 key_at key [] [] k n q e = cc
 key_at key (w ∷ ws) (m ∷ ns) zero n q e = grind arith
@@ -74,12 +73,8 @@ pub record StandsAt (s : Stored) (locks : List Lock) (p n k : ℕ) : Type 0 wher
   pub own : own_at s p k ≡ n
 
 pub stands_at : (s : Stored) (locks : List Lock) (p n k : ℕ) (f : Filed) (own : List ℕ) → IsTable (state_of s locks) → is_there p s.order ≡ true
-    → is_open (lock_at locks n).queue ≡ true
-    → names (filed_at s p).request.wants.items (lock_at locks n).key ≡ true
-    → f ≡ filed_at s p
-    → own ≡ f.queues.items
-    → k ≡ position_or_len (λ m. m == n) own
-    → StandsAt s locks p n k
+    → is_open (lock_at locks n).queue ≡ true → names (filed_at s p).request.wants.items (lock_at locks n).key ≡ true → f ≡ filed_at s p
+    → own ≡ f.queues.items → k ≡ position_or_len (λ m. m == n) own → StandsAt s locks p n k
 stands_at s locks p n k f own table present open_is named read is at =
     let queues = (filed_at s p).queues.items in
     let found = position_found n queues (queued_is s locks n table open_is p present ∙ named) in
@@ -97,20 +92,15 @@ stands_at s locks p n k f own table present open_is named read is at =
     })
 
 module _ (store : Stored) (locks : List Lock) (p : ℕ) (key : Key) where
-  pub key_lost : IsTable (state_of store locks) → is_there p store.order ≡ true
-      → names (filed_at store p).request.wants.items key ≡ true
-      → ((n : ℕ) → is_open_for key (lock_at locks n) ≡ false)
-      → ⊥
+  pub key_lost : IsTable (state_of store locks) → is_there p store.order ≡ true → names (filed_at store p).request.wants.items key ≡ true
+      → ((n : ℕ) → is_open_for key (lock_at locks n) ≡ false) → ⊥
   key_lost table present named none =
       let m = open_named store locks p key table.kept present named in
       both_ways _ (none m.0) m.1
 
 -- what is left of a request that gave up the want of a key
-pub key_given : (store later : Stored) (locks more : List Lock) (p k : ℕ) (key : Key)
-    → IsTable (state_of store locks)
-    → is_there p store.order ≡ true
-    → IsWantOf store p key k
-    → LosesWant (state_of store locks) (state_of later more) p k
+pub key_given : (store later : Stored) (locks more : List Lock) (p k : ℕ) (key : Key) → IsTable (state_of store locks) → is_there p store.order ≡ true
+    → IsWantOf store p key k → LosesWant (state_of store locks) (state_of later more) p k
     → (filed_at later p).request ≡ without_key key (filed_at store p).request
 key_given store later locks more p k key table present want lost =
     let s : State = state_of store locks in
@@ -120,10 +110,8 @@ key_given store later locks more p k key table present want lost =
     (remove_key (filed_at store p).request.wants.items k key (table.kept.apart p) (omega (arith, want.within, few)) want.of)
 
 -- a request without wants has no queues
-pub none_left : (store : Stored) (locks : List Lock) (p : ℕ) → IsTable (state_of store locks)
-    → is_there p store.order ≡ true
-    → has_wants (filed_at store p).request ≡ false
-    → length (filed_at store p).queues.items ≡ 0
+pub none_left : (store : Stored) (locks : List Lock) (p : ℕ) → IsTable (state_of store locks) → is_there p store.order ≡ true
+    → has_wants (filed_at store p).request ≡ false → length (filed_at store p).queues.items ≡ 0
 none_left store locks p table present none =
     let few = as_many_queues (λ w n. (lock_at locks n).key ≡ w.key) (filed_at store p).request.wants.items (filed_at store p).queues.items (table.kept.queues p present) in
     grind (arith, few)
@@ -186,8 +174,7 @@ pub record IsNext (s : Stored) (job : ℕ) (named : List Want) (i : ℕ) (w : Wa
   pub more : take (i + 1) named ≡ take i named ++ w ∷ []
 
 pub is_next : (s : Stored) (job : ℕ) (named : List Want) (i : ℕ) → first_refusal (dequeue_fault (requests_in s) job) [] named ≡ None
-    → i < length named
-    → IsNext s job named i (get_or named i unused_want)
+    → i < length named → IsNext s job named i (get_or named i unused_want)
 is_next s job named i passed lt =
     let both = or_else-None _ _ (passes_at (dequeue_fault (requests_in s) job) [] named i passed lt) in
     record {
@@ -262,8 +249,7 @@ module _ (s : Stored) (job : ℕ) (named : List Want) (w : Want) (p : ℕ) where
   left_mine mine = left_more s job named w p ∙ grind arith
 
   pub left_other : JobsAreApart s → is_there p s.order ≡ true → (request_at s p).job ≡ job → names (request_at s p).wants.items w.key ≡ true
-      → (x : ℕ) → is_there x s.order ≡ true → x ≢ p
-      → left_named s job (named ++ w ∷ []) x ≡ left_named s job named x
+      → (x : ℕ) → is_there x s.order ≡ true → x ≢ p → left_named s job (named ++ w ∷ []) x ≡ left_named s job named x
   left_other apart here mine has x there ne = left_more s job named w x ∙ grind (arith, apart x p w.key there here, fewer_named s job named x w.key, filter_none w.key (left_named s job named x).wants.items, eqb-true (request_at s x).job job)
 
 -- one step of the loop
@@ -279,9 +265,7 @@ module _ (s t u : Stored) (job i : ℕ) (named : List Want) (w : Want) (next : I
       let is = left.left h.place present in
       record { place = h.place; present = present; job_is = grind (arith, is, job_named s job (take i named) h.place, h.job_is); named = grind (arith, is, still) }
 
-  pub next_left : (p : ℕ) → JobsAreApart s → is_there p t.order ≡ true
-      → (request_at t p).job ≡ job
-      → names (request_at t p).wants.items w.key ≡ true
+  pub next_left : (p : ℕ) → JobsAreApart s → is_there p t.order ≡ true → (request_at t p).job ≡ job → names (request_at t p).wants.items w.key ≡ true
       → (is_there p u.order ≡ true → (filed_at u p).request ≡ without_key w.key (filed_at t p).request)
       → ((x : ℕ) → (x ≡ p → ⊥) → (filed_at u x).request ≡ (filed_at t x).request)
       → u.order ≡ cond (has_wants (without_key w.key (filed_at t p).request)) t.order (without_place t.order p)
@@ -435,17 +419,10 @@ pub record GivesUpNamed (s t : Stored) (locks : List Lock) (job i : ℕ) (named 
   pub missed : find (λ q. (request_at t q).job == job) places ≡ None → ⊥
 
 pub gives_up_named : (s t : Stored) (locks more : List Lock) (l : Lock) (job i : ℕ) (named : List Want) (found : List Found) (n : ℕ) (places : List ℕ)
-    → IsTable (state_of s locks)
-    → first_refusal (dequeue_fault (requests_in s) job) [] named ≡ None
-    → i < length named
-    → IsTable (state_of t more)
-    → IsLeft s t (left_named s job (take i named)) (λ x. has_wants (left_named s job (take i named) x))
-    → ((j : ℕ) → i ≤ j → j < length named
+    → IsTable (state_of s locks) → first_refusal (dequeue_fault (requests_in s) job) [] named ≡ None → i < length named → IsTable (state_of t more)
+    → IsLeft s t (left_named s job (take i named)) (λ x. has_wants (left_named s job (take i named) x)) → ((j : ℕ) → i ≤ j → j < length named
     → IfSome (get_or found j no_found).number (λ m. is_open_for (get_or named j unused_want).key (lock_at more m) ≡ true))
-    → (get_or found i no_found).number ≡ Some n
-    → l ≡ lock_at more n
-    → places ≡ l.queue.places
-    → GivesUpNamed s t more job i named n places
+    → (get_or found i no_found).number ≡ Some n → l ≡ lock_at more n → places ≡ l.queue.places → GivesUpNamed s t more job i named n places
 gives_up_named s t locks more l job i named found n places was passed lt table left open_still number read is =
     let key : Key = (get_or named i unused_want).key in
     let open_for : is_open_for key (lock_at more n) ≡ true =

@@ -31,8 +31,7 @@ not_open key l closed = grind arith
 
 -- what is found by one test is found by another that says the same
 same_found : (locks most : List Lock) (key : Key) (o : Option ℕ) → ((m : ℕ) → is_open_for key (lock_at most m) ≡ is_open_for key (lock_at locks m))
-    → IfSome o (λ n. is_open_for key (lock_at locks n) ≡ true)
-    → IfSome o (λ n. is_open_for key (lock_at most n) ≡ true)
+    → IfSome o (λ n. is_open_for key (lock_at locks n) ≡ true) → IfSome o (λ n. is_open_for key (lock_at most n) ≡ true)
 same_found locks most key None same found = tt
 same_found locks most key (Some n) same found = same n ∙ found
 

@@ -54,8 +54,7 @@ names_by at [] job key = refl
 names_by at (p ∷ order) job key = grind (arith, names_by at order job key, list_any-append)
 
 -- one result for all
-any_alike : (t : ℕ → Bool) (b : Bool) (xs : List ℕ) → ((x : ℕ) → is_there x xs ≡ true → t x ≡ b) → list_any (λ x. true) xs ≡ true
-    → list_any t xs ≡ b
+any_alike : (t : ℕ → Bool) (b : Bool) (xs : List ℕ) → ((x : ℕ) → is_there x xs ≡ true → t x ≡ b) → list_any (λ x. true) xs ≡ true → list_any t xs ≡ b
 any_alike t b [] same some = cc
 any_alike t b (x ∷ []) same some = grind (arith, same x)
 any_alike t b (x ∷ y ∷ xs) same some =

@@ -26,8 +26,7 @@ pub lock_read : (seen locks : List Lock) (n : ℕ) (l : Lock) → seen ≡ locks
 lock_read seen locks n l same lt is = get_or_read locks n l lt (is ∙ ap (λ s. get_or s n l) same) unused_lock
 
 -- an open queue is that of its key
-pub open_at : (s : State) (n : ℕ) → IsTable s → is_open (s.queue n) ≡ true
-    → IsAt s.at s.order (s.key n) (s.size n) (s.queue n)
+pub open_at : (s : State) (n : ℕ) → IsTable s → is_open (s.queue n) ≡ true → IsAt s.at s.order (s.key n) (s.size n) (s.queue n)
 open_at s n t open_is =
     let u = t.used n open_is in
     let c = t.kept.counts u.place n u.stands in
@@ -68,8 +67,7 @@ pub own_there : (s : Stored) (job : ℕ) (places : List ℕ) (i : ℕ) → place
 own_there s job = place_kept (λ p. (filed_at s p).request.job == job) s.order
 
 -- a filter of elements that are mapped
-pub filter_mapped : {X : Type 0} → (t : X → Bool) (f : ℕ → X) (xs : List ℕ)
-    → filter t (map f xs) ≡ map f (filter (λ x. t (f x)) xs)
+pub filter_mapped : {X : Type 0} → (t : X → Bool) (f : ℕ → X) (xs : List ℕ) → filter t (map f xs) ≡ map f (filter (λ x. t (f x)) xs)
 filter_mapped t f [] = refl
 filter_mapped t f (x ∷ xs) = grind (arith, filter_mapped t f xs)
 

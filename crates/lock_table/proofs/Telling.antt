@@ -136,8 +136,7 @@ module _ (s : Stored) (job : ℕ) (m : MarksGrants s) where
 
 -- ---- one request
 
-pub granted_is : (s : Stored) (i : ℕ) → MarksGrants s → i < length s.order
-    → (filed_at s (get_or s.order i 0)).granted ≡ granted (requests_in s) i
+pub granted_is : (s : Stored) (i : ℕ) → MarksGrants s → i < length s.order → (filed_at s (get_or s.order i 0)).granted ≡ granted (requests_in s) i
 granted_is s i m lt =
     let found = found_within s.order i lt in
     let x : ℕ = found.0 in

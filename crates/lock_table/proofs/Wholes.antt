@@ -75,23 +75,19 @@ right_from_well s well x present =
 -- no job has two requests of a key where they have fewer wants
 pub jobs_left : (s t : Stored) (then : ℕ → Request) (stays : ℕ → Bool) → JobsAreApart s → IsLeft s t then stays
     → ((x : ℕ) (key : Key) → names (then x).wants.items key ≡ true → names (request_at s x).wants.items key ≡ true)
-    → ((x : ℕ) → (then x).job ≡ (request_at s x).job)
-    → JobsAreApart t
+    → ((x : ℕ) → (then x).job ≡ (request_at s x).job) → JobsAreApart t
 jobs_left s t then stays apart left fewer same x y key hx hy nx ny job =
     grind (arith, left.order, left.left, there_kept stays x s.order, there_kept stays y s.order, fewer, same, apart x y key)
 
 -- and a key is still wanted at one level where the requests have fewer wants
 pub levels_left : (s t : Stored) (then : ℕ → Request) (stays : ℕ → Bool) → LevelsAgree s → IsLeft s t then stays
     → ((x : ℕ) (key : Key) → names (then x).wants.items key ≡ true → names (request_at s x).wants.items key ≡ true)
-    → ((x : ℕ) (key : Key) → names (then x).wants.items key ≡ true → level_at (then x) key ≡ level_at (request_at s x) key)
-    → LevelsAgree t
+    → ((x : ℕ) (key : Key) → names (then x).wants.items key ≡ true → level_at (then x) key ≡ level_at (request_at s x) key) → LevelsAgree t
 levels_left s t then stays agree left fewer same x y key hx hy nx ny =
     grind (arith, left.order, left.left, there_kept stays x s.order, there_kept stays y s.order, fewer x key, fewer y key, same x key, same y key, agree x y key)
 
-pub whole_left : (size : ℕ) (s t : Stored) (locks more : List Lock) (stays : ℕ → Bool) → IsWhole size s locks
-    → IsTable (state_of t more)
-    → IsLeft s t (request_at s) stays
-    → IsWhole size t more
+pub whole_left : (size : ℕ) (s t : Stored) (locks more : List Lock) (stays : ℕ → Bool) → IsWhole size s locks → IsTable (state_of t more)
+    → IsLeft s t (request_at s) stays → IsWhole size t more
 whole_left size s t locks more stays w table left = record {
   table = table;
   right =
@@ -108,8 +104,7 @@ pub beside_chosen : (test : ℕ → Bool) (xs places : List ℕ) (x : ℕ) → p
     → stays_beside places x ≡ not (test x)
 beside_chosen test xs places x is h = grind (arith, is, kept_there test x xs h, there_kept test x xs)
 
-pub leaves_where : (s t : Stored) (test : ℕ → Bool) (places : List ℕ) → IsLeft s t (request_at s) (stays_beside places)
-    → places ≡ filter test s.order
+pub leaves_where : (s t : Stored) (test : ℕ → Bool) (places : List ℕ) → IsLeft s t (request_at s) (stays_beside places) → places ≡ filter test s.order
     → LeavesWhere s t test
 leaves_where s t test places left is = record {
   order = left.order ∙ filter_same (stays_beside places) (λ x. not (test x)) s.order (λ x h. beside_chosen test s.order places x is h);
@@ -123,8 +118,7 @@ none_stay (x ∷ xs) = none_stay xs
 
 -- ---- what is left
 
-pub left_requests : (s t : Stored) (then : ℕ → Request) (stays : ℕ → Bool) → IsLeft s t then stays
-    → requests_in t ≡ map then (filter stays s.order)
+pub left_requests : (s t : Stored) (then : ℕ → Request) (stays : ℕ → Bool) → IsLeft s t then stays → requests_in t ≡ map then (filter stays s.order)
 left_requests s t then stays left = map_each (request_at t) then t.order (λ x h. left.left x (Has-there t.order x h)) ∙ ap (map then) left.order
 
 pub left_where : (s t : Stored) (test : Request → Bool) → IsLeft s t (request_at s) (λ x. not (test (request_at s x)))
@@ -139,8 +133,7 @@ all_stay t (x ∷ xs) none = grind (arith, none, all_stay t xs)
 
 -- what is left, and the answer, where the requests for which a test holds are given up
 pub left_dequeued : (s t : Stored) (test : Request → Bool) (some : Bool) → IsLeft s t (request_at s) (λ x. not (test (request_at s x)))
-    → some ≡ list_any (λ x. test (request_at s x)) s.order
-    → (requests_in t ≡ (dequeue_where (requests_in s) test).requests)
+    → some ≡ list_any (λ x. test (request_at s x)) s.order → (requests_in t ≡ (dequeue_where (requests_in s) test).requests)
     × (cond some Done (Refused NotPresent) ≡ (dequeue_where (requests_in s) test).reply)
 left_dequeued s t test true left is =
     let any : list_any test (requests_in s) ≡ true = any_mapped test (request_at s) s.order ∙ sym is in
@@ -153,8 +146,7 @@ left_dequeued s t test false left is =
     (grind (arith, same, none), grind (arith, none))
 
 pub leaves_by : (left : Request → Option Request) (s t : Stored) (then : ℕ → Request) (stays : ℕ → Bool) → IsLeft s t then stays
-    → ((x : ℕ) → left (request_at s x) ≡ staying_if (stays x) (then x))
-    → LeavesBy left s t
+    → ((x : ℕ) → left (request_at s x) ≡ staying_if (stays x) (then x)) → LeavesBy left s t
 leaves_by left s t then stays is each = record {
   stays = stays;
   order = is.order;
@@ -224,8 +216,7 @@ same_test : (was is told : Bool) → ((turned_if (not (beq was is)) false && is)
 same_test was is told = grind arith
 
 -- each request of a table that is right has wants
-turned_all : (s t : Stored) (before after : List Bool) → AreRight t → Turned s t before after
-    → (x : ℕ) → is_there x t.order ≡ true
+turned_all : (s t : Stored) (before after : List Bool) → AreRight t → Turned s t before after → (x : ℕ) → is_there x t.order ≡ true
     → mark_at after x ≡ turned_if (not (beq (filed_at s x).granted (filed_at t x).granted)) (mark_at before x)
 turned_all s t before after right turned x there = turned x (grind (arith, there, some_wants (request_at t x) (right x there)))
 
@@ -298,9 +289,7 @@ only_raised s marks p only once = only_kept (is_raised s marks) p s.order (λ x 
 
 -- the grants, where it is known whether the place is there and is raised
 pub only_grants : (s : Stored) (marks : List Bool) (p : ℕ) (there raised : Bool) → ((x : ℕ) → (x ≡ p → ⊥) → mark_at marks x ≡ false)
-    → StandsOnce s.order
-    → is_there p s.order ≡ there
-    → is_raised s marks p ≡ raised
+    → StandsOnce s.order → is_there p s.order ≡ there → is_raised s marks p ≡ raised
     → grants_marked s marks ≡ cond (there && raised) (grant_of (request_at s p) ∷ []) []
 only_grants s marks p there raised only once a b = grind (arith, only_raised s marks p only once)
 
@@ -332,8 +321,7 @@ withdrawn_is s t waiters m left =
         ∙ ap (λ b. not ((waiters (request_at s p).job && is_blocking (request_at s p).kind) && not b)) (sym (m.marks p present))
         ∙ ap not (and_assoc (waiters (request_at s p).job) (is_blocking (request_at s p).kind) (not (filed_at s p).granted))
 
-refused : (requests l : List Request) (o : Option Refusal) (grants : List Grant)
-    → ((unless_refused requests o (outcome l Done)).reply ≡ Done → ⊥)
+refused : (requests l : List Request) (o : Option Refusal) (grants : List Grant) → ((unless_refused requests o (outcome l Done)).reply ≡ Done → ⊥)
     → [] ≡ unless_refused_grants (unless_refused requests o (outcome l Done)).reply grants
 refused requests l None grants ne = absurd (ne refl)
 refused requests l (Some refusal) grants ne = refl
@@ -470,10 +458,8 @@ module _ (s : Stored) (locks : List Lock) (job : ℕ) (table : IsTable (state_of
       (sym (flags_tell_grants (state_of s locks) table.kept table.full table.flags before after p is))
       ∙ assoc ((request_at s p).job == job) (is_interrupt (request_at s p).kind) (not (request_at s p).told) (filed_at s p).granted
 
-  pub told_is : (t : Stored) (p : ℕ) → find (λ x. is_pending_filed (filed_at s x)) (places_of s job) ≡ Some p
-      → t.order ≡ s.order
-      → (filed_at t p).request ≡ as_told (filed_at s p).request
-      → ((x : ℕ) → (x ≡ p → ⊥) → (filed_at t x).request ≡ (filed_at s x).request)
+  pub told_is : (t : Stored) (p : ℕ) → find (λ x. is_pending_filed (filed_at s x)) (places_of s job) ≡ Some p → t.order ≡ s.order
+      → (filed_at t p).request ≡ as_told (filed_at s p).request → ((x : ℕ) → (x ≡ p → ⊥) → (filed_at t x).request ≡ (filed_at s x).request)
       → requests_in t ≡ told_of (requests_in s) job
   unfolding marks
   told_is t p found order mine others =

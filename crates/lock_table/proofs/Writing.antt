@@ -1,6 +1,6 @@
 -- Changes are made, and what fits then is counted.
 use Rattle.std.proofs.Common.{◌≡◌, ◌≤◌, ◌<◌, ◌∙◌, sym, ap, subst, ℕ, zero, suc, add-one, true, false, ◌==◌, not, cond, List, [], ◌∷◌, ◌++◌, length}
-use Rattle.std.proofs.Common.{take, drop, get_or, slice_get, map, sum_by, min, Some, None, inl, inr, refl, arith, Bool, ◌&&◌, is_some, ◌≢◌, ◌⊎◌, ◌+◌}
+use Rattle.std.proofs.Common.{take, drop, get_or, slice_get, map, sum_by, min, Some, None, inl, inr, refl, arith, Bool, ◌&&◌, is_some, ◌≢◌, ◌⊎◌}
 use Rattle.std.specs.List.{list_all, position_or_len, All, list_any}
 use Rattle.std.proofs.Math.Nat.{le-min, min-le_left, min-le_right}
 use Rattle.std.proofs.lemmas.Bool.{cases_eq, eq-eqb, eqb-true, and_from, and_parts, both_ways, false_from_ne_true, not-false, not-true, or_left}
@@ -48,7 +48,6 @@ use Rattle.lock_queue.proofs.Refusing.{or_else-None, refuse_if-None}
 use Rattle.key_queues.proofs.Orders.{filter_same}
 use Rattle.lock_table.proofs.Named.{has_key}
 use Rattle.std.proofs.lemmas.List.Folds.{list_any-append}
-use Rattle.std.proofs.Math.Seq.{drop-cons}
 use Rattle.lock_queue.specs.declared.call.LockReply.TheVariants.{Done}
 use Rattle.key_queues.proofs.Keeping.{Has-there}
 use Rattle.key_queues.proofs.Moves.{wants_same}
@@ -294,8 +293,7 @@ module _ (s : Stored) (locks : List Lock) (n p job : ℕ) (c : Want) (b : IsBetw
   }
 
   pub written : (u : Stored) (l : List Lock) (j : ℕ) (v : Want) → u ≡ t → l ≡ with_queue locks n (counting (lock_at locks n).queue j v) → j ≡ k
-      → v ≡ want_then s n job c (get_or (lock_at locks n).queue.places 0 0)
-      → IsBetween u l × Altered s u locks l job c
+      → v ≡ want_then s n job c (get_or (lock_at locks n).queue.places 0 0) → IsBetween u l × Altered s u locks l job c
   written u l j v is put count first = rw (is, put, count, first) (between_then, altered_then)
 
 -- ---- from no refusal
@@ -440,8 +438,7 @@ module _ (s t : Stored) (locks more : List Lock) (job : ℕ) (c : Want) (a : Alt
 
   -- and one more is made
   pub altering_more : (s0 : Stored) (locks0 : List Lock) (changes later : List Want) → are_apart (c ∷ later) ≡ true
-      → IsAltering s0 s locks0 locks job changes (c ∷ later)
-      → IsAltering s0 t locks0 more job changes later
+      → IsAltering s0 s locks0 locks job changes (c ∷ later) → IsAltering s0 t locks0 more job changes later
   altering_more s0 locks0 changes later apart i = record {
     order = a.order ∙ i.order;
     at =
@@ -476,14 +473,12 @@ module _ (s t : Stored) (locks more : List Lock) (job : ℕ) (c : Want) (a : Alt
 still_full : (s t : Stored) (locks more : List Lock) (m : ℕ) → (lock_at more m).key ≡ (lock_at locks m).key
     → (lock_at more m).queue ≡ (lock_at locks m).queue
     → wants_at (map (request_at t) t.order) (lock_at locks m).key ≡ wants_at (map (request_at s) s.order) (lock_at locks m).key
-    → IsFull (state_of s locks) m
-    → IsFull (state_of t more) m
+    → IsFull (state_of s locks) m → IsFull (state_of t more) m
 still_full s t locks more m key queue wants full = grind arith
 
 -- the queues of other keys
 pub full_but_changed : (s t : Stored) (locks more : List Lock) (job : ℕ) (changes : List Want) → IsTable (state_of s locks)
-    → IsAltering s t locks more job changes []
-    → IsFullBut t more changes
+    → IsAltering s t locks more job changes [] → IsFullBut t more changes
 full_but_changed s t locks more job changes table i x m stands f =
     let f_s : names changes (lock_at locks m).key ≡ false = subst (λ k. names changes k ≡ false) (i.key m) f in
     let there : is_there x s.order ≡ true = subst (λ l. is_there x l ≡ true) i.order stands.present in
@@ -495,9 +490,7 @@ full_but_changed s t locks more job changes table i x m stands f =
 
 -- a key of which no queue is open is passed over
 pub extending_none : (s0 s : Stored) (locks0 locks : List Lock) (c : Want) (later : List Want) → IsKept (state_of s locks)
-    → IsExtending s0 s locks0 locks (c ∷ later)
-    → ((m : ℕ) → is_open_for c.key (lock_at locks m) ≡ false)
-    → IsExtending s0 s locks0 locks later
+    → IsExtending s0 s locks0 locks (c ∷ later) → ((m : ℕ) → is_open_for c.key (lock_at locks m) ≡ false) → IsExtending s0 s locks0 locks later
 extending_none s0 s locks0 locks c later kept i none = record {
   order = i.order;
   at = i.at;
@@ -508,13 +501,9 @@ extending_none s0 s locks0 locks c later kept i none = record {
 }
 
 -- and of another all wants that fit are counted
-pub extending_more : (s0 s t : Stored) (locks0 locks more : List Lock) (c : Want) (later : List Want) (n : ℕ)
-    → IsBetween s locks
-    → IsExtending s0 s locks0 locks (c ∷ later)
-    → is_open_for c.key (lock_at locks n) ≡ true
-    → Extended (state_of s locks) (state_of t more) n
-    → IsFull (state_of t more) n
-    → IsBetween t more × IsExtending s0 t locks0 more later
+pub extending_more : (s0 s t : Stored) (locks0 locks more : List Lock) (c : Want) (later : List Want) (n : ℕ) → IsBetween s locks
+    → IsExtending s0 s locks0 locks (c ∷ later) → is_open_for c.key (lock_at locks n) ≡ true → Extended (state_of s locks) (state_of t more) n
+    → IsFull (state_of t more) n → IsBetween t more × IsExtending s0 t locks0 more later
 extending_more s0 s t locks0 locks more c later n b i is_for e full = (
   record { kept = e.kept; flags = e.flags; used = open_extended (state_of s locks) (state_of t more) n e used b.used; jobs = jobs },
   record { order = e.order ∙ i.order; at = λ x. e.at x ∙ i.at x; full = λ x m stands f. go x m stands f (cases_eq m n) },
@@ -548,8 +537,7 @@ extending_more s0 s t locks0 locks more c later n b i is_for e full = (
 -- ---- the list
 
 pub changed_all : (s m t : Stored) (locks more last : List Lock) (job : ℕ) (changes : List Want) → IsAltering s m locks more job changes []
-    → IsExtending m t more last []
-    → IsChanged s t job changes
+    → IsExtending m t more last [] → IsChanged s t job changes
 changed_all s m t locks mid last job changes a e = record {
   order = e.order ∙ a.order;
   at = λ x present. e.at x ∙ sym (changed_none job (request_at m x)) ∙ a.at x present;
@@ -564,6 +552,5 @@ requests_changed s t job changes is =
 
 -- what a change that is not refused leaves
 pub modified : (requests : List Request) (job : ℕ) (changes : List Want) → first_refusal (modify_fault requests job) [] changes ≡ None
-    → some_lost requests (with_changes requests job changes) ≡ false
-    → modify requests job changes ≡ outcome (with_changes requests job changes) Done
+    → some_lost requests (with_changes requests job changes) ≡ false → modify requests job changes ≡ outcome (with_changes requests job changes) Done
 modified requests job changes none kept = grind arith

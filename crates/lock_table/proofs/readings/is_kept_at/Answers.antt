@@ -1,8 +1,9 @@
+use Rattle.std.proofs.lemmas.Grind.{common_steps}
 use Rattle.std.proofs.Common.{◌≡◌, ◌∙◌, ◌&&◌, Bool, ap, arith, get_or, lit<, not, refl, rules, sym, true}
 use Rattle.key_queues.specs.declared.filed.Filed.{Filed}
 use Rattle.key_queues.specs.Locks.{lock_at}
 use Rattle.lock_table.specs.Filing.{own_at}
-use Rattle.lock_table.proofs.Keepers.{before_present, kept_is, want_read}
+use Rattle.lock_table.proofs.Keepers.{before_present, kept_is, want_read, lock_open}
 use Rattle.lock_table.proofs.readings.is_kept_at.Goals as goal
 
 kept_where : (b x y : Bool) → b ≡ true → (b && x) ≡ y → x ≡ y
@@ -33,3 +34,9 @@ returns-else-not-counts g c =
     let lock : c.lock_of.result.now ≡ lock_at c.args.keys.now (own_at s c.args.p c.args.k) =
     rw (c.lock_of.ensures, c.as_slice.ensures.value, c.get-f.ensures.value) refl in
     search (rules, kept_is s c.args.keys.now c.args.p c.args.k c.requires.table c.requires.present c.requires.want c.args.job _ _ lock refl)
+
+pub lock_of-requires : goal.lock_of-requires
+lock_of-requires g c = grind (arith, common_steps, kept_is, lock_open)
+
+pub slice_bounds-before-end : goal.slice_bounds-before-end
+slice_bounds-before-end g c = grind (arith, common_steps, kept_is, lock_open)
