@@ -20,16 +20,9 @@ enter-n-requires g c =
     let takes : Admits c.loop-k.keys w = subst (Admits c.loop-k.keys) (sym read) (a.admits k (omega arith) c.loop-k-test.true) in
     let found : IsFound c.loop-k.keys w.key (get_or c.args.found.now k no_found) =
     subst (λ (v : Want). IsFound c.loop-k.keys v.key (get_or c.args.found.now k no_found)) (sym read)
-    (c.loop-k.invariant.found k (omega arith) c.loop-k-test.true) in (
-      lit< tt,
-      (
-        found,
-        (
-          λ all. room_left c.loop-k.store c.loop-k.keys c.args.p c.args.wants.now k a c.loop-k-test.true (omega (arith, all, c.loop-k.invariant.few)),
-          takes.room,
-        ),
-      ),
-    )
+    (c.loop-k.invariant.found k (omega arith) c.loop-k-test.true) in
+    let left = room_left c.loop-k.store c.loop-k.keys c.args.p c.args.wants.now k a c.loop-k-test.true in
+    (lit< tt, (found, (λ all. left (omega (arith, all, c.loop-k.invariant.few)), takes.room)))
 
 pub loop-k-preserved : goal.loop-k-preserved
 loop-k-preserved g c =

@@ -8,13 +8,6 @@ pub is_kept_at-requires : goal.is_kept_at-requires
 is_kept_at-requires g c =
     let s = c.args.store.now in
     let want : c.loop-k.k < length (request_at s c.args.p).wants.items =
-    omega (arith, c.loop-k-test.true, c.len-k-end.ensures.value, ap (λ (f : Filed). length f.request.wants.items) c.get.ensures.value) in (
-      lit< tt,
-      (
-        lit< tt,
-        (
-          c.requires.table,
-          (c.requires.present, (want, queue_within s c.args.keys.now c.args.p c.loop-k.k c.requires.table c.requires.present want)),
-        ),
-      ),
-    )
+    omega (arith, c.loop-k-test.true, c.len-k-end.ensures.value, ap (λ (f : Filed). length f.request.wants.items) c.get.ensures.value) in
+    let within = queue_within s c.args.keys.now c.args.p c.loop-k.k c.requires.table c.requires.present want in
+    (lit< tt, (lit< tt, (c.requires.table, (c.requires.present, (want, within)))))

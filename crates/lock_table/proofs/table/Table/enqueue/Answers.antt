@@ -57,19 +57,10 @@ is_turned_away-requires g c =
     let passed = sym c.refusal_of_enqueue.ensures.refusal ∙ c.in_default.is in
     let fault : first_refusal (enqueue_fault (requests_in s) job) [] asked ≡ None = grind (arith, passed) in
     let come = c.refusal_of_enqueue.ensures in
-    let seen = c.as_slice-found.ensures.value in (
-      lit< tt,
-      (
-        c.requires.whole.table,
-        (
-          ap length seen ∙ come.long c.in_default.is,
-          (
-            subst (AreFound 0 locks asked) (sym seen) (come.found c.in_default.is),
-            admits_from g.row.REQS s locks job asked c.requires.whole (right_job job c.requires.job) fault,
-          ),
-        ),
-      ),
-    )
+    let seen = c.as_slice-found.ensures.value in
+    let found = subst (AreFound 0 locks asked) (sym seen) (come.found c.in_default.is) in
+    let admits = admits_from g.row.REQS s locks job asked c.requires.whole (right_job job c.requires.job) fault in
+    (lit< tt, (c.requires.whole.table, (ap length seen ∙ come.long c.in_default.is, (found, admits))))
 
 pub returns-then-is_turned_away-clause-requests : goal.returns-then-is_turned_away-clause-requests
 returns-then-is_turned_away-clause-requests g c = ap (λ (o : Outcome). o.requests) (sym (nothing_comes g c))

@@ -1,4 +1,5 @@
 use Rattle.std.proofs.Common.{◌≡◌, ◌∙◌, ◌++◌, ◌∷◌, ap, ℕ, zero, suc, Bool, false, List, [], length, arith, refl, length-append}
+use Rattle.std.proofs.Math.Nat.{le_antisymm}
 use Rattle.std.proofs.lemmas.Result.{err_from_is_err_and}
 use Rattle.lock_table.specs.Turns.{mark_at}
 use Rattle.lock_table.proofs.turns.Turns.new.Goals as goal
@@ -18,10 +19,9 @@ loop-preserved g c = record {
 }
 
 pub invariant_of-result : goal.invariant_of-result
-invariant_of-result g c = (
-  omega (arith, c.loop.invariant.long, c.loop.invariant.within, c.loop-test.false),
-  record { none = λ e. c.loop.invariant.none; one = λ e x ne. c.loop.invariant.none x },
-)
+invariant_of-result g c =
+    let long = c.loop.invariant.long ∙ le_antisymm c.loop.invariant.within c.loop-test.false in
+    (long, record { none = λ e. c.loop.invariant.none; one = λ e x ne. c.loop.invariant.none x })
 
 pub returns-in_err-push : goal.returns-in_err-push
 returns-in_err-push g c =
