@@ -54,12 +54,11 @@ impl<const REQS: usize> LockTable for IndexedTable<REQS> {
     ghost well = { λ t. t.well };
 
     fn new(alloc: Global) -> Result<Self, AllocError> {
+        let turns = Turns::new(alloc)?;
+        let keys = Keys::new(alloc)?;
+        let store = Store::new(alloc)?;
         Ok(IndexedTable {
-            table: Table {
-                turns: Turns::new(alloc)?,
-                keys: Keys::new(alloc)?,
-                store: Store::new(alloc)?,
-            },
+            table: Table { store, keys, turns },
             leaving: ArrayVec::new(),
         })
     }

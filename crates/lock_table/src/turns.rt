@@ -53,12 +53,8 @@ impl<const REQS: usize> Turns<REQS> {
     pub fn new(alloc: Global) -> Result<Self, AllocError>
         ensures { IfOk result (λ t. (x : ℕ) → mark_at t x ≡ false) }
     {
-        let mut marks = Vec::with_capacity(alloc, REQS)?;
-        for _ in 0..REQS {
-            marks.push(false)?;
-        }
         Ok(Turns {
-            marks,
+            marks: vec![in alloc; false; REQS]?,
             turned: 0,
             last: 0,
         })

@@ -1,3 +1,4 @@
+use Rattle.std.proofs.lemmas.Grind.{common_steps}
 use Rattle.std.proofs.Common.{ℕ, Bool, ◌≡◌, ◌++◌, ◌∙◌, sym, ap, append-nil, subst, true, drop, length, filter, [], arith}
 use Rattle.std.proofs.lemmas.List.{drop_all}
 use Rattle.std.specs.List.{All}
@@ -24,3 +25,6 @@ returns g c =
     let none : drop c.loop-p.p-index places ≡ [] = drop_all c.loop-p.p-index places (omega (arith, c.loop-p-test.false)) in
     sym (append-nil c.loop-p.leaving.items) ∙ ap (λ l. c.loop-p.leaving.items ++ filter t l) (sym none) ∙ c.loop-p.invariant.chosen
     ∙ ap (filter t) c.may_be_leavers-p-items.ensures ∙ leavers_among c.args.store.now c.args.who.now
+
+pub loop-p-preserved : goal.loop-p-preserved
+loop-p-preserved g c = grind (arith, common_steps)
