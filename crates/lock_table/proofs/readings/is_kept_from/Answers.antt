@@ -1,3 +1,4 @@
+use Rattle.std.proofs.lemmas.Grind.{common_steps}
 use Rattle.std.proofs.Common.{◌<◌, arith, length, lit<, ap}
 use Rattle.key_queues.specs.declared.filed.Filed.{Filed}
 use Rattle.lock_table.specs.Reads.{request_at}
@@ -11,3 +12,6 @@ is_kept_at-requires g c =
     omega (arith, c.loop-k-test.true, c.len-k-end.ensures.value, ap (λ (f : Filed). length f.request.wants.items) c.get.ensures.value) in
     let within = queue_within s c.args.keys.now c.args.p c.loop-k.k c.requires.table c.requires.present want in
     (lit< tt, (lit< tt, (c.requires.table, (c.requires.present, (want, within)))))
+
+pub loop-k-preserved : goal.loop-k-preserved
+loop-k-preserved g c = grind (arith, common_steps)

@@ -15,3 +15,6 @@ returns-then-is_kept_from g c = grind (arith, common_steps)
 
 pub loop-p-preserved : goal.loop-p-preserved
 loop-p-preserved g c = grind (arith, common_steps)
+
+pub loop-p-init : goal.loop-p-init
+loop-p-init g c = grind (arith, own_there, waits_is)

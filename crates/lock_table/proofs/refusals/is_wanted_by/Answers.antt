@@ -13,3 +13,6 @@ stands_in-requires g c = grind (arith, all_present, present_at, wanted_of_job)
 
 pub place_of-requires : goal.place_of-requires
 place_of-requires g c = grind (arith, all_present, present_at, wanted_of_job)
+
+pub returns-then-own-places : goal.returns-then-own-places
+returns-then-own-places g c = grind (arith, all_present, present_at, wanted_of_job)

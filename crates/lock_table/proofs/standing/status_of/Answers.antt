@@ -20,3 +20,9 @@ loop-i-preserved-then-f g c = grind (arith, common_steps)
 
 pub loop-i-preserved : goal.loop-i-preserved
 loop-i-preserved g c = grind (arith, common_steps, status_is, standing_owner, standing_waiter)
+
+pub returns : goal.returns
+returns g c = grind (arith, status_is, standing_owner, standing_waiter)
+
+pub loop-i-init : goal.loop-i-init
+loop-i-init g c = grind (arith, common_steps)

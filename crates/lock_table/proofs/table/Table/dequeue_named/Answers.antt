@@ -1,4 +1,4 @@
-use Rattle.std.proofs.Common.{◌∙◌, sym, ap, []}
+use Rattle.std.proofs.Common.{◌∙◌, sym, ap, [], arith}
 use Rattle.lock_queue.specs.Dequeues.{dequeue_fault}
 use Rattle.lock_queue.specs.Outcomes.{first_refusal}
 use Rattle.lock_table.specs.Whole.{requests_in}
@@ -28,3 +28,6 @@ returns g c =
     named_gone g.row.REQS s c.give_up_named.new.self.store c.args.self.now.keys c.give_up_named.new.self.keys c.args.job
     c.args.named.now c.requires.whole c.give_up_named.ensures.table left none in
     record { whole = all.0; requests = all.1; reply = all.2; left = λ done. all.3; turns = λ done. c.give_up_named.ensures.turns }
+
+pub give_up_named-requires : goal.give_up_named-requires
+give_up_named-requires g c = grind arith

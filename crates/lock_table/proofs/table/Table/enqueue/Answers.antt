@@ -84,3 +84,6 @@ get-requires g c = grind (arith, common_steps)
 
 pub mark_told-requires : goal.mark_told-requires
 mark_told-requires g c = grind (arith, common_steps)
+
+pub refusal_of_enqueue-requires : goal.refusal_of_enqueue-requires
+refusal_of_enqueue-requires g c = grind arith

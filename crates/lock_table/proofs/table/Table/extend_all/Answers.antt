@@ -1,3 +1,4 @@
+use Rattle.std.proofs.lemmas.Grind.{common_steps}
 use Rattle.std.proofs.Common.{◌≡◌, ◌+◌, subst, drop, List, arith, true}
 use Rattle.lock_queue.specs.declared.want.Want.{Want}
 use Rattle.key_queues.specs.Tables.{is_there}
@@ -42,3 +43,6 @@ loop-c-preserved g c =
 
 pub extend-requires : goal.extend-requires
 extend-requires g c = grind arith
+
+pub returns-clause-extended : goal.returns-clause-extended
+returns-clause-extended g c = grind (arith, common_steps)
