@@ -36,7 +36,6 @@ pub fn is_waiting<const REQS: usize>(store: &Store<REQS>, job: u8) -> bool
 }
 
 /// The place of a job's first granted interrupt request of which it was not told.
-#[tactic(auto, using(crate::proofs::Reading::own_there))]
 pub fn first_pending<const REQS: usize>(store: &Store<REQS>, job: u8) -> Option<u16>
     requires { AreRight store.now }
     ensures { result ≡ find (λ p. is_pending_filed (filed_at store.now p)) (places_of store.now job) }
@@ -80,7 +79,6 @@ pub fn is_granted<const REQS: usize>(store: &Store<REQS>, i: usize) -> bool
 }
 
 /// The place of a job's only request, where its only want is of a key.
-#[tactic(auto, using(crate::proofs::Reading::own_there))]
 pub fn sole_of<const REQS: usize>(store: &Store<REQS>, job: u8, key: &Key) -> Option<u16>
     requires { AreRight store.now }
     ensures { IfSome result (IsSole store.now job key.now) }
@@ -115,7 +113,6 @@ fn is_in_the_way_at<const REQS: usize>(
 }
 
 /// Whether the k-th want of a request does not fit, and an earlier want of a job stands in its way.
-#[tactic(auto, using(crate::proofs::Keepers::kept_is, crate::proofs::Keepers::lock_open))]
 fn is_kept_at<const REQS: usize>(
     store: &Store<REQS>,
     keys: &Keys<REQS>,
@@ -152,7 +149,6 @@ fn is_kept_from<const REQS: usize>(store: &Store<REQS>, keys: &Keys<REQS>, p: u1
 
 /// Whether the first job waits for the second: whether one of its requests blocks it, and the second
 /// keeps that from a want.
-#[tactic(auto, using(crate::proofs::Reading::own_there, crate::proofs::Telling::waits_is))]
 pub fn waits_for<const REQS: usize>(
     store: &Store<REQS>,
     keys: &Keys<REQS>,

@@ -39,7 +39,6 @@ fn stands_in<const REQS: usize>(store: &Store<REQS>, places: &[u16], job: u8, n:
 
 /// Whether a job has a want of the key of an open lock, looked for in the shorter of two lists: that of the queue's
 /// places, and that of the job's.
-#[tactic(auto, using(crate::proofs::Queued::all_present, crate::proofs::Reading::present_at, crate::proofs::Queued::wanted_of_job))]
 fn is_wanted_by<const REQS: usize>(store: &Store<REQS>, keys: &Keys<REQS>, job: u8, n: u16) -> bool
     requires table { IsTable (state_of store.now keys.now) }
     requires open { is_open (lock_at keys.now n).queue ≡ true }
@@ -56,7 +55,6 @@ fn is_wanted_by<const REQS: usize>(store: &Store<REQS>, keys: &Keys<REQS>, job: 
 }
 
 /// The open lock of a key of which a job has a want.
-#[tactic(auto, using(key_queues::proofs::Finding::open_parts, crate::proofs::Queued::all_present, crate::proofs::Queued::wanted_at_places, crate::proofs::Queued::pooled_is))]
 fn lock_wanted<'a, const REQS: usize>(
     store: &Store<REQS>,
     keys: &'a Keys<REQS>,
@@ -78,7 +76,6 @@ fn lock_wanted<'a, const REQS: usize>(
 }
 
 /// Why a want is refused beside the present ones of its key. These are alike, so the first is looked at.
-#[tactic(auto, using(key_queues::proofs::Finding::found_open, key_queues::proofs::Finding::open_parts, crate::proofs::Levels::first_alike))]
 fn fault_beside<const REQS: usize>(
     store: &Store<REQS>,
     keys: &Keys<REQS>,
@@ -149,7 +146,6 @@ fn reach_level_at<const REQS: usize>(store: &Store<REQS>, places: &[u16], level:
 
 /// Whether a want without bypass has a level that is not above those of the call's wants before it
 /// and of all present wants of the job.
-#[tactic(auto, using(crate::proofs::Reading::present_at))]
 fn is_some_too_low<const REQS: usize>(store: &Store<REQS>, job: u8, wants: &[Want]) -> bool
     requires { job ≤ JOBS }
     ensures { result ≡ some_too_low (wants_of (requests_in store.now) job) wants.now }

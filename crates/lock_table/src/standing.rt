@@ -27,7 +27,6 @@ fn level_at<const REQS: usize>(store: &Store<REQS>, places: &[u16], key: &Key) -
 
 /// What a job is told of a key. The places at which it is wanted are gone over from the end, so that the first
 /// owner is met last.
-#[tactic(auto, using(crate::proofs::Telling::status_is, lock_queue::proofs::StatusLaws::standing_owner, lock_queue::proofs::StatusLaws::standing_waiter))]
 pub fn status_of<const REQS: usize>(
     store: &Store<REQS>,
     keys: &Keys<REQS>,
