@@ -83,8 +83,7 @@ passed_one s job e w h =
     record { alike = not-false _ (refuse_if-None _ _ both.0); new = (or_parts (names e w.key) _ new).1 }
 
 -- no want is refused
-pub passed_of : (s : Stored) (job : ℕ) (e ws : List Want) (w : Want) → first_refusal (enqueue_fault (requests_in s) job) e ws ≡ None → Has ws w
-    → Passed s job w
+pub passed_of : (s : Stored) (job : ℕ) (e ws : List Want) (w : Want) → first_refusal (enqueue_fault (requests_in s) job) e ws ≡ None → Has ws w → Passed s job w
 passed_of s job e [] w h has = absurd has
 passed_of s job e (v ∷ ws) w h (inl same) = subst (Passed s job) same (passed_one s job e v (or_else-None _ _ h).0)
 passed_of s job e (v ∷ ws) w h (inr has) = passed_of s job (e ++ v ∷ []) ws w (or_else-None _ _ h).1 has

@@ -178,8 +178,7 @@ changed_none job r = go (r.job == job)
 
 -- a want fits in an order where its place stands among the first of its key that fit
 fits_in_order : (at : ℕ → Request) (order before after : List ℕ) (p : ℕ) (size : Option ℕ) (w : Want) → StandsOnce order
-    → ((x : ℕ) → are_apart (at x).wants.items ≡ true) → order ≡ before ++ p ∷ after → Has (at p).wants.items w
-    → Alike size (wants_at (map at order) w.key)
+    → ((x : ℕ) → are_apart (at x).wants.items ≡ true) → order ≡ before ++ p ∷ after → Has (at p).wants.items w → Alike size (wants_at (map at order) w.key)
     → fits (map at before) w ≡ is_there p (take (fitting (wants_at (map at order) w.key)) (places_at at order w.key))
 fits_in_order at order before after p size w once apart is h alike =
     fits_split size [] earlier later w (subst (Alike size) all alike)
@@ -244,8 +243,7 @@ wants_cons at p order key = filter-append (λ w. same_key w.key key) (at p).want
 
 -- requests that are the same to a key where they are present
 pub wants_same_there : (key : Key) (at then : ℕ → Request) (order : List ℕ)
-    → ((x : ℕ) → is_there x order ≡ true → own_wants key (then x) ≡ own_wants key (at x))
-    → wants_at (map then order) key ≡ wants_at (map at order) key
+    → ((x : ℕ) → is_there x order ≡ true → own_wants key (then x) ≡ own_wants key (at x)) → wants_at (map then order) key ≡ wants_at (map at order) key
 wants_same_there key at then [] same = refl
 wants_same_there key at then (p ∷ order) same =
     let here = same p (or_left (p == p) (is_there p order) (eq-eqb p p refl)) in
@@ -319,12 +317,10 @@ module _ (s : State) (job : ℕ) (cs : List Want) (t : IsTable s) where
     same_fitting c h = sym (ap fitting (wants_same c.key (λ x. changed_once job c (s.at x)) then s.order (λ x. own_named job cs c (s.at x) apart h)))
 
     -- where no change takes a grant, each that is taken for granted stays so
-    none_lost : ((c : Want) → Has cs c → is_lost_by s.at s.flag s.order job c ≡ false) → (p : ℕ) → is_there p s.order ≡ true → s.flag p ≡ true
-        → stays p ≡ true
+    none_lost : ((c : Want) → Has cs c → is_lost_by s.at s.flag s.order job c ≡ false) → (p : ℕ) → is_there p s.order ≡ true → s.flag p ≡ true → stays p ≡ true
     none_lost safe p present flag = list_all-each _ (then p).wants.items each
       where
-        each : (w : Want) → Has (then p).wants.items w
-            → is_there p (take (fitting (wants_at (map then s.order) w.key)) (places_at then s.order w.key)) ≡ true
+        each : (w : Want) → Has (then p).wants.items w → is_there p (take (fitting (wants_at (map then s.order) w.key)) (places_at then s.order w.key)) ≡ true
         each w h = go (names cs w.key) refl
           where
             named : names (s.at p).wants.items w.key ≡ true
@@ -373,7 +369,8 @@ module _ (s : State) (job : ℕ) (cs : List Want) (t : IsTable s) where
         subst (λ q. is_there p (take (fitting (wants_at (map then s.order) q)) (places_at then s.order q)) ≡ false) (sym of.2) then_c in
         let falls : stays p ≡ false =
         false_from_ne_true (stays p)
-        (λ all. both_ways _ here
+        (λ all.
+        both_ways (is_there p (take (fitting (wants_at (map then s.order) of.0.key)) (places_at then s.order of.0.key))) here
         (list_all-Has (λ w. is_there p (take (fitting (wants_at (map then s.order) w.key)) (places_at then s.order w.key)))
         (then p).wants.items of.0 all of.1)) in
         list_any-Has (λ p. s.flag p && not (stays p)) s.order p (ap (λ b. b && not (stays p)) found.2 ∙ ap not falls) (there_Has p s.order both.0)
@@ -628,8 +625,7 @@ open_named s locks x key kept present named =
 
 -- it stands among the places of the queue
 pub queued_named : (s : Stored) (locks : List Lock) (n x : ℕ) (key : Key) → IsKept (state_of s locks) → IsUsed (state_of s locks) n
-    → (lock_at locks n).key ≡ key → is_there x s.order ≡ true → names (request_at s x).wants.items key ≡ true
-    → is_there x (lock_at locks n).queue.places ≡ true
+    → (lock_at locks n).key ≡ key → is_there x s.order ≡ true → names (request_at s x).wants.items key ≡ true → is_there x (lock_at locks n).queue.places ≡ true
 queued_named s locks n x key kept used of present named =
     subst (λ l. is_there x l ≡ true) (sym (counts s locks n kept used).places)
     (kept_there (λ y. names (request_at s y).wants.items (lock_at locks n).key) x s.order present (ap (names (request_at s x).wants.items) of ∙ named))

@@ -113,8 +113,7 @@ pub record IsReady (s : State) (w : Want) (n : ℕ) : Type 0 where
 
 module _ (store : Stored) (locks : List Lock) (p : ℕ) (wants : List Want) (k : ℕ) where
   -- there is a lock that is not open
-  pub room_left : IsArriving store locks p wants k → k < length wants → LOCKS_A_CALL * length store.order ≤ length locks
-      → list_any is_closed locks ≡ true
+  pub room_left : IsArriving store locks p wants k → k < length wants → LOCKS_A_CALL * length store.order ≤ length locks → list_any is_closed locks ≡ true
   room_left a more room = go (list_any is_closed locks) refl
     where
       go : (b : Bool) → list_any is_closed locks ≡ b → b ≡ true
@@ -282,8 +281,7 @@ apart_take (suc n) [] h = refl
 apart_take (suc n) (w ∷ ws) h = grind (arith, all_take (λ v. not (same_key w.key v.key)) n ws, apart_take n ws)
 
 -- and two of them have different keys
-pub apart_at : (ws : List Want) (j k : ℕ) (d : Want) → are_apart ws ≡ true → j < k → k < length ws
-    → same_key (get_or ws j d).key (get_or ws k d).key ≡ false
+pub apart_at : (ws : List Want) (j k : ℕ) (d : Want) → are_apart ws ≡ true → j < k → k < length ws → same_key (get_or ws j d).key (get_or ws k d).key ≡ false
 apart_at [] j k d h lt within = absurd (omega arith)
 apart_at (w ∷ ws) j zero d h lt within = absurd (omega arith)
 apart_at (w ∷ ws) zero (suc k) d h lt within = grind (arith, all_at (λ v. not (same_key w.key v.key)) ws k d)
@@ -398,8 +396,7 @@ module _ (store later : Stored) (locks most : List Lock) (p n k : ℕ) (wants : 
       short x h = grind (arith, own_length, a.own, a.few, others x, a.short x, same_order)
 
       -- the open lock of a want that is entered later is what it was
-      as_before : (j m : ℕ) → k < j → j < length wants → is_open_for (get_or wants j unused_want).key (lock_at most m) ≡ true
-          → lock_at most m ≡ lock_at locks m
+      as_before : (j m : ℕ) → k < j → j < length wants → is_open_for (get_or wants j unused_want).key (lock_at most m) ≡ true → lock_at most m ≡ lock_at locks m
       as_before j m lt in_wants t =
           elim (cases_eq m n) [
             | inl e ↦
@@ -517,8 +514,7 @@ module _ (store later : Stored) (locks : List Lock) (p : ℕ) (wants : List Want
   pub present_last : IsArriving store locks p wants (length wants) → is_there p store.order ≡ true
   present_last a = subst (λ l. is_there p l ≡ true) (sym a.last.1) (there_split p a.last.0 [])
 
-  pub arrived_by : IsArriving store locks p wants (length wants) → Renews (state_of store locks) (state_of later locks) p
-      → IsTable (state_of later locks)
+  pub arrived_by : IsArriving store locks p wants (length wants) → Renews (state_of store locks) (state_of later locks) p → IsTable (state_of later locks)
   arrived_by a renews = record {
     kept = both.0;
     flags = both.1 a.flags;

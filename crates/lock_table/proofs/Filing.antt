@@ -82,8 +82,7 @@ module _ (store : Stored) (locks : List Lock) where
   pub lock_within : (x n : ℕ) → IsKept (state_of store locks) → Stands (state_of store locks) x n → n < length locks
   lock_within x n kept st = grind (arith, stands_in_queue (state_of store locks) x n kept st, get_or_past locks n unused_lock)
 
-  pub own_within : (x : ℕ) → IsKept (state_of store locks) → is_there x store.order ≡ true
-      → All (λ n. n < length locks) (filed_at store x).queues.items
+  pub own_within : (x : ℕ) → IsKept (state_of store locks) → is_there x store.order ≡ true → All (λ n. n < length locks) (filed_at store x).queues.items
   own_within x kept present k d lt =
       lock_within x (get_or (filed_at store x).queues.items k d) kept (record { present = present; there = there_at (filed_at store x).queues.items k d lt })
 
@@ -364,8 +363,7 @@ pub turned_then : (s t u : Stored) (l m n : List Bool) → ((x : ℕ) → is_wan
 turned_then s t u l m n stay first second x h =
     grind (arith, second x h, first x (stay x h), twice (filed_at s x).granted (filed_at t x).granted (filed_at u x).granted (mark_at l x))
 
-pub turned_still : (s t : Stored) (m : List Bool) → ((x : ℕ) → is_wanting t x ≡ true → (filed_at t x).granted ≡ (filed_at s x).granted)
-    → Turned s t m m
+pub turned_still : (s t : Stored) (m : List Bool) → ((x : ℕ) → is_wanting t x ≡ true → (filed_at t x).granted ≡ (filed_at s x).granted) → Turned s t m m
 turned_still s t m same x h =
     subst (λ b. mark_at m x ≡ turned_if (not (beq (filed_at s x).granted b)) (mark_at m x)) (sym (same x h)) (still (filed_at s x).granted (mark_at m x))
 
@@ -396,8 +394,7 @@ remove_filter t u p xs once keeps drops same =
 
 -- the order, where those that have wants left stay
 pub order_step : (t u : ℕ → Bool) (p : ℕ) (first order then : List ℕ) → StandsOnce first → order ≡ filter t first
-    → then ≡ cond (u p) order (remove order (position_or_len (λ m. m == p) order)) → t p ≡ true → ((x : ℕ) → (x ≡ p → ⊥) → t x ≡ u x)
-    → then ≡ filter u first
+    → then ≡ cond (u p) order (remove order (position_or_len (λ m. m == p) order)) → t p ≡ true → ((x : ℕ) → (x ≡ p → ⊥) → t x ≡ u x) → then ≡ filter u first
 order_step t u p first order then once was is keeps same = go (u p) refl is
   where
     go : (b : Bool) → u p ≡ b → then ≡ cond b order (remove order (position_or_len (λ m. m == p) order)) → then ≡ filter u first
@@ -465,8 +462,7 @@ pub left_none : (s : Stored) → IsLeft s s (request_at s) (stays_beside [])
 left_none s = record { order = sym (filter_each (stays_beside []) s.order (λ x h. refl)); left = λ x h. refl }
 
 -- who is there after a place stays or leaves was there
-pub stays_in : (b : Bool) (x p : ℕ) (xs then : List ℕ) → StandsOnce xs → then ≡ cond b xs (order_without xs p) → is_there x then ≡ true
-    → is_there x xs ≡ true
+pub stays_in : (b : Bool) (x p : ℕ) (xs then : List ℕ) → StandsOnce xs → then ≡ cond b xs (order_without xs p) → is_there x then ≡ true → is_there x xs ≡ true
 stays_in b x p xs then once is h = grind (arith, there_beside x p xs once)
 
 -- ---- the requests that leave as a whole are all among those that may (Everyone is Leavers::All)
@@ -476,8 +472,7 @@ filter_twice : (a t : ℕ → Bool) (xs : List ℕ) → filter t (filter a xs) �
 filter_twice a t [] = refl
 filter_twice a t (x ∷ xs) = grind (arith, filter_twice a t xs)
 
-pub leavers_among : (s : Stored) (who : Leavers)
-    → filter (λ x. is_chosen who (filed_at s x)) (may_be_leavers s who) ≡ filter (is_leaver_at s who) s.order
+pub leavers_among : (s : Stored) (who : Leavers) → filter (λ x. is_chosen who (filed_at s x)) (may_be_leavers s who) ≡ filter (is_leaver_at s who) s.order
 leavers_among s Everyone = refl
 leavers_among s (Job job) = filter_each (λ x. true) (filter (is_of s job) s.order) (λ x h. refl)
 leavers_among s (Id job id) = filter_twice (is_of s job) (λ x. (filed_at s x).request.id == id) s.order

@@ -27,15 +27,13 @@ use Rattle.std.proofs.Common.{arith}
 use Rattle.lock_table.specs.Filing.{want_filed}
 
 -- the level of a request at a key is that of its want of it
-pub level_of_want : (r : Request) (key : Key) (w : Want) → are_apart r.wants.items ≡ true → Has r.wants.items w → w.key ≡ key
-    → level_at r key ≡ w.level
+pub level_of_want : (r : Request) (key : Key) (w : Want) → are_apart r.wants.items ≡ true → Has r.wants.items w → w.key ≡ key → level_at r key ≡ w.level
 level_of_want r key w apart has is =
     ap (λ l. unwrap_or (first_level (filter (λ v. same_key v.key key) l)) 0) (append-nil r.wants.items)
     ∙ ap (λ l. unwrap_or (first_level l) 0) (subst (λ k. filter (λ v. same_key v.key k) r.wants.items ≡ w ∷ []) is (one_of_key r.wants.items w apart has))
 
 -- and so it is of what is read as that want
-pub level_of_read : (r : Request) (key : Key) → are_apart r.wants.items ≡ true → names r.wants.items key ≡ true
-    → (want_of key r).level ≡ level_at r key
+pub level_of_read : (r : Request) (key : Key) → are_apart r.wants.items ≡ true → names r.wants.items key ≡ true → (want_of key r).level ≡ level_at r key
 level_of_read r key apart named = grind (arith, own_wants_are key r apart, named, append-nil r.wants.items)
 
 -- the first tells of all where all are like it

@@ -192,8 +192,7 @@ named_apart (w ∷ named) zero (suc j) lt within key new = grind (arith, new)
 named_apart (w ∷ named) (suc i) (suc j) lt within key new = grind (arith, new, named_apart named i j)
 
 -- wants of other keys stay
-names_left : (ws named : List Want) (key : Key) → names ws key ≡ true → names named key ≡ false
-    → names (filter (λ w. not (names named w.key)) ws) key ≡ true
+names_left : (ws named : List Want) (key : Key) → names ws key ≡ true → names named key ≡ false → names (filter (λ w. not (names named w.key)) ws) key ≡ true
 names_left ws named key h new =
     let of = names-found ws key h in
     let passes : not (names named of.0.key) ≡ true = ap not (subst (λ k. names named k ≡ false) (sym of.2) new) in

@@ -62,13 +62,11 @@ any_alike t b (x ∷ y ∷ xs) same some =
     grind (arith, rest, same x)
 
 -- what passes at each
-pub all_mapped : (test : Want → Bool) (f : ℕ → Want) (xs : List ℕ) (x : ℕ) → list_all test (map f xs) ≡ true → is_there x xs ≡ true
-    → test (f x) ≡ true
+pub all_mapped : (test : Want → Bool) (f : ℕ → Want) (xs : List ℕ) (x : ℕ) → list_all test (map f xs) ≡ true → is_there x xs ≡ true → test (f x) ≡ true
 all_mapped test f [] x all there = cc
 all_mapped test f (y ∷ xs) x all there = grind (arith, all_mapped test f xs x)
 
-pub mapped_all : (test : Want → Bool) (f : ℕ → Want) (xs : List ℕ) → ((x : ℕ) → is_there x xs ≡ true → test (f x) ≡ true)
-    → list_all test (map f xs) ≡ true
+pub mapped_all : (test : Want → Bool) (f : ℕ → Want) (xs : List ℕ) → ((x : ℕ) → is_there x xs ≡ true → test (f x) ≡ true) → list_all test (map f xs) ≡ true
 mapped_all test f [] each = refl
 mapped_all test f (y ∷ xs) each =
     let rest = mapped_all test f xs (λ x h. each x (or_right (y == x) (is_there x xs) h)) in

@@ -33,8 +33,7 @@ open_at s n t open_is =
     record { places = c.places; queue = record { counts = c.counts; all = t.full u.place n u.stands } }
 
 -- where no open queue is of a key, no request has a want of it
-pub shut_at : (s : State) (key : Key) → IsTable s → ((n : ℕ) → (is_open (s.queue n) && same_key (s.key n) key) ≡ false)
-    → places_at s.at s.order key ≡ []
+pub shut_at : (s : State) (key : Key) → IsTable s → ((n : ℕ) → (is_open (s.queue n) && same_key (s.key n) key) ≡ false) → places_at s.at s.order key ≡ []
 shut_at s key t shut = none_kept wanted s.order (false_from_ne_true (list_any wanted s.order) (λ e.
     let found = list_any-found wanted s.order e in
     let x : ℕ = found.0 in
@@ -57,13 +56,11 @@ pub present_at : (t : ℕ → Bool) (order places : List ℕ) → places ≡ fil
 present_at t order places is = subst (All (λ p. is_there p order ≡ true)) (sym is) (kept_present t order)
 
 -- and stands at each of its indices
-pub place_kept : (t : ℕ → Bool) (order places : List ℕ) (i : ℕ) → places ≡ filter t order → i < length places
-    → is_there (get_or places i 0) order ≡ true
+pub place_kept : (t : ℕ → Bool) (order places : List ℕ) (i : ℕ) → places ≡ filter t order → i < length places → is_there (get_or places i 0) order ≡ true
 place_kept t order places i is lt = present_at t order places is i 0 lt
 
 -- so do a job's requests
-pub own_there : (s : Stored) (job : ℕ) (places : List ℕ) (i : ℕ) → places ≡ places_of s job → i < length places
-    → is_there (get_or places i 0) s.order ≡ true
+pub own_there : (s : Stored) (job : ℕ) (places : List ℕ) (i : ℕ) → places ≡ places_of s job → i < length places → is_there (get_or places i 0) s.order ≡ true
 own_there s job = place_kept (λ p. (filed_at s p).request.job == job) s.order
 
 -- a filter of elements that are mapped
@@ -94,13 +91,11 @@ wants_at_places_of at (p ∷ order) key job =
     grind (arith, wants_at_places_of at order key job, filter-append, none_kept (λ w. same_key w.key key) (at p).wants.items)
 
 -- the requests of a job are those of its places
-pub requests_of_places : (at : ℕ → Request) (order : List ℕ) (job : ℕ)
-    → requests_of (map at order) job ≡ map at (filter (λ p. (at p).job == job) order)
+pub requests_of_places : (at : ℕ → Request) (order : List ℕ) (job : ℕ) → requests_of (map at order) job ≡ map at (filter (λ p. (at p).job == job) order)
 requests_of_places at order job = filter_mapped (λ r. r.job == job) at order
 
 -- there are as many
-pub count_is : (s : Stored) (job : ℕ) (own : List ℕ) → own ≡ places_of s job
-    → length own ≡ length (requests_of (map (λ p. (filed_at s p).request) s.order) job)
+pub count_is : (s : Stored) (job : ℕ) (own : List ℕ) → own ≡ places_of s job → length own ≡ length (requests_of (map (λ p. (filed_at s p).request) s.order) job)
 count_is s job own is =
     let at : ℕ → Request = λ p. (filed_at s p).request in
     ap length is ∙ sym (ap length (requests_of_places at s.order job) ∙ length-map (places_of s job) at)

@@ -100,8 +100,7 @@ whole_left size s t locks more stays w table left = record {
 }
 
 -- who stays beside those that a test chooses
-pub beside_chosen : (test : ℕ → Bool) (xs places : List ℕ) (x : ℕ) → places ≡ filter test xs → is_there x xs ≡ true
-    → stays_beside places x ≡ not (test x)
+pub beside_chosen : (test : ℕ → Bool) (xs places : List ℕ) (x : ℕ) → places ≡ filter test xs → is_there x xs ≡ true → stays_beside places x ≡ not (test x)
 beside_chosen test xs places x is h = grind (arith, is, kept_there test x xs h, there_kept test x xs)
 
 pub leaves_where : (s t : Stored) (test : ℕ → Bool) (places : List ℕ) → IsLeft s t (request_at s) (stays_beside places) → places ≡ filter test s.order
@@ -225,8 +224,7 @@ module _ (s t : Stored) (locks more : List Lock) (left : Request → Option Requ
     (leaves : LeavesBy left s t) (none : (x : ℕ) → mark_at before x ≡ false)
     (turned : (x : ℕ) → is_there x t.order ≡ true
     → mark_at after x ≡ turned_if (not (beq (filed_at s x).granted (filed_at t x).granted)) (mark_at before x)) where
-  raised_is : (x : ℕ) → is_there x s.order ≡ true → leaves.stays x ≡ true
-      → is_raised t after x ≡ rises (state_of s locks) (state_of t more) leaves.stays x
+  raised_is : (x : ℕ) → is_there x s.order ≡ true → leaves.stays x ≡ true → is_raised t after x ≡ rises (state_of s locks) (state_of t more) leaves.stays x
   raised_is x present stay =
       let there : is_there x t.order ≡ true = ap (is_there x) leaves.order ∙ kept_there leaves.stays x s.order present stay in
       let same = same_test (filed_at s x).granted (filed_at t x).granted (is_told_of (request_at s x).kind) in
@@ -267,8 +265,7 @@ module _ (s t : Stored) (locks more : List Lock) (job : ℕ) (before after : Lis
 -- ---- where one place at most is marked
 
 -- a test that only one place passes keeps that place, where it is there
-only_kept : (t : ℕ → Bool) (p : ℕ) (xs : List ℕ) → ((x : ℕ) → (x ≡ p → ⊥) → t x ≡ false) → StandsOnce xs
-    → filter t xs ≡ cond (is_there p xs && t p) (p ∷ []) []
+only_kept : (t : ℕ → Bool) (p : ℕ) (xs : List ℕ) → ((x : ℕ) → (x ≡ p → ⊥) → t x ≡ false) → StandsOnce xs → filter t xs ≡ cond (is_there p xs && t p) (p ∷ []) []
 only_kept t p [] only once = refl
 only_kept t p (x ∷ xs) only once =
     let rest =
@@ -326,8 +323,7 @@ refused : (requests l : List Request) (o : Option Refusal) (grants : List Grant)
 refused requests l None grants ne = absurd (ne refl)
 refused requests l (Some refusal) grants ne = refl
 
-none_found : (requests l : List Request) (b : Bool) (grants : List Grant)
-    → ((cond b (outcome l Done) (outcome requests (Refused NotPresent))).reply ≡ Done → ⊥)
+none_found : (requests l : List Request) (b : Bool) (grants : List Grant) → ((cond b (outcome l Done) (outcome requests (Refused NotPresent))).reply ≡ Done → ⊥)
     → [] ≡ unless_refused_grants (cond b (outcome l Done) (outcome requests (Refused NotPresent))).reply grants
 none_found requests l true grants ne = absurd (ne refl)
 none_found requests l false grants ne = refl

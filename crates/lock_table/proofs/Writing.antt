@@ -470,8 +470,7 @@ module _ (s t : Stored) (locks more : List Lock) (job : ℕ) (c : Want) (a : Alt
 -- ---- all that fits is counted once all changes are made
 
 -- a queue whose wants stay as they were counts all that fit, as it did
-still_full : (s t : Stored) (locks more : List Lock) (m : ℕ) → (lock_at more m).key ≡ (lock_at locks m).key
-    → (lock_at more m).queue ≡ (lock_at locks m).queue
+still_full : (s t : Stored) (locks more : List Lock) (m : ℕ) → (lock_at more m).key ≡ (lock_at locks m).key → (lock_at more m).queue ≡ (lock_at locks m).queue
     → wants_at (map (request_at t) t.order) (lock_at locks m).key ≡ wants_at (map (request_at s) s.order) (lock_at locks m).key
     → IsFull (state_of s locks) m → IsFull (state_of t more) m
 still_full s t locks more m key queue wants full = grind arith
@@ -543,8 +542,7 @@ changed_all s m t locks mid last job changes a e = record {
   at = λ x present. e.at x ∙ sym (changed_none job (request_at m x)) ∙ a.at x present;
 }
 
-pub requests_changed : (s t : Stored) (job : ℕ) (changes : List Want) → IsChanged s t job changes
-    → requests_in t ≡ with_changes (requests_in s) job changes
+pub requests_changed : (s t : Stored) (job : ℕ) (changes : List Want) → IsChanged s t job changes → requests_in t ≡ with_changes (requests_in s) job changes
 requests_changed s t job changes is =
     ap (map (request_at t)) is.order
     ∙ map_each (request_at t) (λ x. changed job changes (request_at s x)) s.order (λ x h. is.at x (Has-there s.order x h))

@@ -13,7 +13,6 @@ use lock_queue::steps::{level_in, with_owner, with_waiter};
 use lock_queue::{Key, Level, Status};
 
 /// The level of the first want of a key, which is wanted at these places.
-#[tactic(auto, using(crate::proofs::Reading::place_kept, crate::proofs::Telling::level_none))]
 fn level_at<const REQS: usize>(store: &Store<REQS>, places: &[u16], key: &Key) -> Level
     requires { places.now ≡ places_at (request_at store.now) store.now.order key.now }
     ensures { result ≡ level_of (requests_in store.now) key.now }
