@@ -69,7 +69,6 @@ pub fn request_of<const REQS: usize>(store: &Store<REQS>, i: usize) -> &Request
 }
 
 /// Whether that request is granted.
-#[tactic(auto, using(crate::proofs::Telling::granted_is))]
 pub fn is_granted<const REQS: usize>(store: &Store<REQS>, i: usize) -> bool
     requires within { i < length store.now.order }
     requires marks { MarksGrants store.now }

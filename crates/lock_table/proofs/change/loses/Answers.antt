@@ -1,4 +1,5 @@
-use Rattle.std.proofs.Common.{◌∙◌, sym, ap, ℕ, List, is_some, drop, map, refl, lit<}
+use Rattle.std.proofs.lemmas.Grind.{common_steps}
+use Rattle.std.proofs.Common.{◌∙◌, sym, ap, ℕ, List, is_some, drop, map, refl, lit<, arith}
 use Rattle.std.specs.List.{list_any}
 use Rattle.key_queues.specs.declared.lock.Lock.{Lock}
 use Rattle.key_queues.specs.Beginnings.{fitting}
@@ -56,3 +57,6 @@ returns g c =
     ∙ ap (λ (l : List ℕ). list_any (λ p. (filed_at s p).granted) (drop (fitting (map (want_then s c.in-Some.n c.args.job c.args.c.now) l)) l))
     f.places_is
     ∙ sym (lost_is s locks c.in-Some.n c.requires.table.kept f.used c.args.job c.args.c.now f.key_is)
+
+pub bounds-locks-n : goal.bounds-locks-n
+bounds-locks-n g c = grind (arith, common_steps)
