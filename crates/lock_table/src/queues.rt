@@ -14,7 +14,6 @@ use key_queues::{Keys, Lock, Store, want_in};
 use lock_queue::{Key, Want};
 
 /// An open lock, by its number.
-#[tactic(auto, using(crate::proofs::Reading::lock_read, key_queues::proofs::Finding::open_within))]
 pub fn lock_of<const REQS: usize>(keys: &Keys<REQS>, n: u16) -> &Lock
     requires { is_open (lock_at keys.now n).queue ≡ true }
     ensures { result.now ≡ lock_at keys.now n }

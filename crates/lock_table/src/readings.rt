@@ -50,7 +50,6 @@ pub fn first_pending<const REQS: usize>(store: &Store<REQS>, job: u8) -> Option<
 }
 
 /// The id of that request.
-#[tactic(auto, using(crate::proofs::Telling::pending_is))]
 pub fn pending_of<const REQS: usize>(store: &Store<REQS>, job: u8) -> Option<RequestId>
     requires right { AreRight store.now }
     requires marks { MarksGrants store.now }
