@@ -76,8 +76,7 @@ first_named (d ∷ cs) c w apart (inr h) e =
     grind (arith, list_all-Has (λ v. not (same_key d.key v.key)) cs c, same_key-eq w.key d.key, first_named cs c w, h)
 
 -- the first change, and then the others
-pub changed_first : (c : Want) (later : List Want) (w : Want) → names later c.key ≡ false
-    → changed_want later (changed_want (c ∷ []) w) ≡ changed_want (c ∷ later) w
+pub changed_first : (c : Want) (later : List Want) (w : Want) → names later c.key ≡ false → changed_want later (changed_want (c ∷ []) w) ≡ changed_want (c ∷ later) w
 changed_first c later w f = grind (arith, unnamed_stays later (changed_by c w) c.key, same_key-eq w.key c.key)
 
 -- ---- the wants of a request
@@ -125,8 +124,7 @@ set_is_changed c (v ∷ ws) (suc i) w apart at e =
     grind (arith, list_all-Has (λ u. not (same_key v.key u.key)) ws w, found_Has ws i w at, set_is_changed c ws i w)
 
 -- keys stay apart
-all_keys_changed : (key : Key) (cs ws : List Want)
-    → list_all (λ v. not (same_key key v.key)) (map (changed_want cs) ws) ≡ list_all (λ v. not (same_key key v.key)) ws
+all_keys_changed : (key : Key) (cs ws : List Want) → list_all (λ v. not (same_key key v.key)) (map (changed_want cs) ws) ≡ list_all (λ v. not (same_key key v.key)) ws
 all_keys_changed key cs [] = refl
 all_keys_changed key cs (w ∷ ws) = grind (arith, changed_key cs w, all_keys_changed key cs ws)
 
@@ -229,8 +227,7 @@ module _ (job : ℕ) (cs : List Want) (at : ℕ → Request) (order : List ℕ) 
       ap (λ (t : ℕ → Bool). filter t order) (λ i x. named_changed job cs (at x) key i)
 
   -- wants are of the pools that they were of
-  pools_of : (size : Option ℕ) (ws : List Want)
-      → list_all (λ w. is_share_of size w.pool) (map (changed_want cs) ws) ≡ list_all (λ w. is_share_of size w.pool) ws
+  pools_of : (size : Option ℕ) (ws : List Want) → list_all (λ w. is_share_of size w.pool) (map (changed_want cs) ws) ≡ list_all (λ w. is_share_of size w.pool) ws
   pools_of size [] = refl
   pools_of size (w ∷ ws) = grind (arith, changed_pool cs w, pools_of size ws)
 

@@ -178,8 +178,7 @@ module _ (store : Stored) (locks : List Lock) (p : ℕ) (wants : List Want) (k :
       }
 
   begun_is_ready : (more : List Lock) (w : Want) (n : ℕ) → IsArriving store locks p wants k
-      → ((m : ℕ) → (m ≡ n → ⊥) → lock_at more m ≡ lock_at locks m) → IsBegun locks more w n
-      → IsReady (state_of store more) w n × FlagsBut p (state_of store more)
+      → ((m : ℕ) → (m ≡ n → ⊥) → lock_at more m ≡ lock_at locks m) → IsBegun locks more w n → IsReady (state_of store more) w n × FlagsBut p (state_of store more)
   begun_is_ready more w n a others begun = (ready, both.2 a.flags)
     where
       s : State

@@ -326,8 +326,7 @@ still a k = grind arith
 -- a request that is present and has wants was and had before: where the same are present with the same wants, and where one gave
 -- up a want
 pub wanting_before : (t u : Stored) (x : ℕ)
-    → (is_there x u.order ≡ true → (is_there x t.order ≡ true) × ((filed_at u x).request ≡ (filed_at t x).request)) → is_wanting u x ≡ true
-    → is_wanting t x ≡ true
+    → (is_there x u.order ≡ true → (is_there x t.order ≡ true) × ((filed_at u x).request ≡ (filed_at t x).request)) → is_wanting u x ≡ true → is_wanting t x ≡ true
 wanting_before t u x same h =
     let both = and_parts (is_there x u.order) (has_wants (filed_at u x).request) h in
     grind (arith, both.0, both.1, same both.0)
@@ -358,8 +357,7 @@ pub none_removed : (k : ℕ) → remove {X = Want} [] k ≡ []
 none_removed zero = refl
 none_removed (suc k) = refl
 
-pub turned_then : (s t u : Stored) (l m n : List Bool) → ((x : ℕ) → is_wanting u x ≡ true → is_wanting t x ≡ true) → Turned s t l m → Turned t u m n
-    → Turned s u l n
+pub turned_then : (s t u : Stored) (l m n : List Bool) → ((x : ℕ) → is_wanting u x ≡ true → is_wanting t x ≡ true) → Turned s t l m → Turned t u m n → Turned s u l n
 turned_then s t u l m n stay first second x h =
     grind (arith, second x h, first x (stay x h), twice (filed_at s x).granted (filed_at t x).granted (filed_at u x).granted (mark_at l x))
 

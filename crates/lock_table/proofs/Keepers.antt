@@ -25,8 +25,7 @@ use Rattle.lock_table.proofs.Reading.{present_at, open_at, wants_at_places_of}
 use Rattle.lock_table.proofs.Telling.{before_is, front_at}
 
 -- the k-th want and the k-th queue
-queues_at_k : (R : Want → ℕ → Type 0) (ws : List Want) (ns : List ℕ) (k : ℕ) (v : Want) (d : ℕ) → QueuesOf R ws ns → k < length ws
-    → R (get_or ws k v) (get_or ns k d)
+queues_at_k : (R : Want → ℕ → Type 0) (ws : List Want) (ns : List ℕ) (k : ℕ) (v : Want) (d : ℕ) → QueuesOf R ws ns → k < length ws → R (get_or ws k v) (get_or ns k d)
 queues_at_k R [] ns k v d q lt = absurd (omega arith)
 queues_at_k R (w ∷ ws) (n ∷ ns) zero v d q lt = q.0
 queues_at_k R (w ∷ ws) (n ∷ ns) (suc k) v d q lt = queues_at_k R ws ns k v d q.1 (omega arith)

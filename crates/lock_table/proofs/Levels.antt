@@ -62,8 +62,7 @@ module _ (s : Stored) (locks : List Lock) (n : ℕ) (t : IsTable (state_of s loc
       ∙ sym (level_of_read (request_at s p) key (t.kept.apart p) a.1) in
       grind (arith, level, is, share_is s locks n t open_is p hp, share_is s locks n t open_is x hx)
 
-  pub first_alike : (lock_at locks n).key ≡ w.key
-      → are_alike (want_filed s (get_or places 0 0) n) w ≡ list_all (λ v. are_alike v w) (wants_at (requests_in s) w.key)
+  pub first_alike : (lock_at locks n).key ≡ w.key → are_alike (want_filed s (get_or places 0 0) n) w ≡ list_all (λ v. are_alike v w) (wants_at (requests_in s) w.key)
   first_alike same =
       let first = first_there s locks n t open_is in
       let all : wants_at (requests_in s) w.key ≡ map of places =

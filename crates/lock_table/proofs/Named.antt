@@ -100,8 +100,7 @@ module _ (store : Stored) (locks : List Lock) (p : ℕ) (key : Key) where
 
 -- what is left of a request that gave up the want of a key
 pub key_given : (store later : Stored) (locks more : List Lock) (p k : ℕ) (key : Key) → IsTable (state_of store locks) → is_there p store.order ≡ true
-    → IsWantOf store p key k → LosesWant (state_of store locks) (state_of later more) p k
-    → (filed_at later p).request ≡ without_key key (filed_at store p).request
+    → IsWantOf store p key k → LosesWant (state_of store locks) (state_of later more) p k → (filed_at later p).request ≡ without_key key (filed_at store p).request
 key_given store later locks more p k key table present want lost =
     let s : State = state_of store locks in
     let few = as_many_queues (λ w n. s.key n ≡ w.key) (s.at p).wants.items (s.own p) (table.kept.queues p present) in
@@ -377,8 +376,7 @@ module _ (s : Stored) (job : ℕ) (named : List Want) (p : ℕ) (is : IsSoleName
   other_left x there ne = grind (arith, others_of x there ne)
 
   pub sole_left : (t : Stored) → AreRight s → StandsOnce s.order → t.order ≡ without_place s.order p
-      → ((x : ℕ) → (x ≡ p → ⊥) → (filed_at t x).request ≡ (filed_at s x).request)
-      → IsLeft s t (left_named s job named) (λ x. has_wants (left_named s job named x))
+      → ((x : ℕ) → (x ≡ p → ⊥) → (filed_at t x).request ≡ (filed_at s x).request) → IsLeft s t (left_named s job named) (λ x. has_wants (left_named s job named x))
   sole_left t right once order others = record {
     order = left.order ∙ filter_same (stays_beside (p ∷ [])) (λ x. has_wants (left_named s job named x)) s.order stays;
     left =

@@ -75,10 +75,8 @@ module _ (locks most : List Lock) (p n : ℕ) (w : Want) (key : Key) (e : IsEnte
 -- the locks of the keys that are named later stay open
 pub later_open : (locks more : List Lock) (n i : ℕ) (named : List Want) (found : List Found) → KeepsLocks locks more n
     → (lock_at locks n).key ≡ (get_or named i unused_want).key
-    → ((j : ℕ) → i < j → j < length named → same_key (get_or named i unused_want).key (get_or named j unused_want).key ≡ false)
-    → ((j : ℕ) → i ≤ j → j < length named
-    → IfSome (get_or found j no_found).number (λ m. is_open_for (get_or named j unused_want).key (lock_at locks m) ≡ true))
-    → (j : ℕ) → i + 1 ≤ j → j < length named
+    → ((j : ℕ) → i < j → j < length named → same_key (get_or named i unused_want).key (get_or named j unused_want).key ≡ false) → ((j : ℕ) → i ≤ j → j < length named
+    → IfSome (get_or found j no_found).number (λ m. is_open_for (get_or named j unused_want).key (lock_at locks m) ≡ true)) → (j : ℕ) → i + 1 ≤ j → j < length named
     → IfSome (get_or found j no_found).number (λ m. is_open_for (get_or named j unused_want).key (lock_at more m) ≡ true)
 later_open locks more n i named found keeps is apart was j above within = go (get_or found j no_found).number (was j (omega (arith, above)) within)
   where

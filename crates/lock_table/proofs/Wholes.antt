@@ -293,8 +293,7 @@ only_grants s marks p there raised only once a b = grind (arith, only_raised s m
 -- ---- what is seen of the parts of a table
 
 -- what a caller may rely on
-pub seen_whole : (size : ℕ) (s : Stored) (locks : List Lock) → (1 ≤ size) × (size ≤ MOST_REQUESTS) → IsWhole size s locks
-    → ((1 ≤ size) × (size ≤ MOST_REQUESTS))
+pub seen_whole : (size : ℕ) (s : Stored) (locks : List Lock) → (1 ≤ size) × (size ≤ MOST_REQUESTS) → IsWhole size s locks → ((1 ≤ size) × (size ≤ MOST_REQUESTS))
     × ((length (requests_in s) ≤ size) × (IsTrue (are_well_formed (requests_in s)) × Unit {0}))
 seen_whole size s locks sized whole =
     (sized, (omega (arith, whole.few, length-map s.order (request_at s)), (well_from_right s whole.right, tt)))

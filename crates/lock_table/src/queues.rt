@@ -22,7 +22,6 @@ pub fn lock_of<const REQS: usize>(keys: &Keys<REQS>, n: u16) -> &Lock
 }
 
 /// The places of the requests with a want of a key, in order of arrival.
-#[tactic(auto, using(key_queues::proofs::Finding::open_parts, crate::proofs::Queued::queue_is))]
 pub fn places_of<'a, const REQS: usize>(keys: &'a Keys<REQS>, key: &Key) -> &'a [u16]
     ensures few { length result.now ≤ JOBS }
     ensures places { (s : Stored) → IsTable (state_of s keys.now)

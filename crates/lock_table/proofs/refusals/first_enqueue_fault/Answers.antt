@@ -21,14 +21,11 @@ is_named-requires-clause-hashes g c =
 
 pub returns-then-is_named : goal.returns-then-is_named
 returns-then-is_named g c =
-    record {
-      fault =
-          none_here (requests_in c.args.store.now) c.args.job c.args.wants.now c.loop-i.i c.index-wants-i.result c.loop-i-test.true c.index-wants-i.is
-          c.loop-i.invariant.fault true (ap is_some (sym c.fault_beside-fault.ensures) ∙ sym c.is_some.ensures ∙ c.if-is_some.false)
-          (sym c.is_named.ensures ∙ c.if-is_named.true);
-      long = λ e. absurd (none-some _ (sym e));
-      found = λ e. absurd (none-some _ (sym e));
-    }
+    let told =
+    none_here (requests_in c.args.store.now) c.args.job c.args.wants.now c.loop-i.i c.index-wants-i.result c.loop-i-test.true c.index-wants-i.is
+    c.loop-i.invariant.fault true (ap is_some (sym c.fault_beside-fault.ensures) ∙ sym c.is_some.ensures ∙ c.if-is_some.false)
+    (sym c.is_named.ensures ∙ c.if-is_named.true) in
+    record { fault = told; long = λ e. absurd (none-some _ (sym e)); found = λ e. absurd (none-some _ (sym e)) }
 
 pub loop-i-preserved : goal.loop-i-preserved
 loop-i-preserved g c =

@@ -1,4 +1,4 @@
-use Rattle.std.proofs.Common.{◌∙◌, ap, append-nil, List, arith, ◌<◌, length}
+use Rattle.std.proofs.Common.{◌∙◌, ap, append-nil, List, arith}
 use Rattle.lock_queue.specs.declared.want.Want.{Want}
 use Rattle.lock_queue.specs.Enqueues.{some_too_low}
 use Rattle.lock_queue.specs.Queue.{all_wants}
@@ -16,12 +16,8 @@ reach_level_at-requires g c = grind (arith, present_at)
 
 pub loop-i-preserved : goal.loop-i-preserved
 loop-i-preserved g c =
-    let lt : c.loop-i.i < length c.args.wants.now = omega (arith, c.loop-i-test.true) in
-    let here = too_low_at (all_wants (requests_at c.args.store.now c.of_job-own.result.now)) c.args.wants.now c.loop-i.i c.index-wants-i.result lt c.index-wants-i.is in
-    grind (arith, here)
+    grind (arith, too_low_at (all_wants (requests_at c.args.store.now c.of_job-own.result.now)) c.args.wants.now c.loop-i.i c.index-wants-i.result c.loop-i-test.true c.index-wants-i.is)
 
 pub returns-then-reach_level : goal.returns-then-reach_level
 returns-then-reach_level g c =
-    let lt : c.loop-i.i < length c.args.wants.now = omega (arith, c.loop-i-test.true) in
-    let here = too_low_at (all_wants (requests_at c.args.store.now c.of_job-own.result.now)) c.args.wants.now c.loop-i.i c.index-wants-i.result lt c.index-wants-i.is in
-    grind (arith, here)
+    grind (arith, too_low_at (all_wants (requests_at c.args.store.now c.of_job-own.result.now)) c.args.wants.now c.loop-i.i c.index-wants-i.result c.loop-i-test.true c.index-wants-i.is)

@@ -21,14 +21,11 @@ is_named-requires-clause-hashes g c =
 
 pub returns-then-is_named : goal.returns-then-is_named
 returns-then-is_named g c =
-    record {
-      refusal =
-          given_here (requests_in c.args.store.now) c.args.job c.args.named.now c.loop-i.i c.index-named-i.result c.loop-i-test.true c.index-named-i.is true
-          (names (wants_of (requests_in c.args.store.now) c.args.job) c.index-named-i.result.key) (sym c.is_named.ensures ∙ c.if-is_named.true) refl
-          c.loop-i.invariant.fault;
-      long = λ e. absurd (none-some _ (sym e));
-      found = λ e. absurd (none-some _ (sym e));
-    }
+    let told =
+    given_here (requests_in c.args.store.now) c.args.job c.args.named.now c.loop-i.i c.index-named-i.result c.loop-i-test.true c.index-named-i.is true
+    (names (wants_of (requests_in c.args.store.now) c.args.job) c.index-named-i.result.key) (sym c.is_named.ensures ∙ c.if-is_named.true) refl
+    c.loop-i.invariant.fault in
+    record { refusal = told; long = λ e. absurd (none-some _ (sym e)); found = λ e. absurd (none-some _ (sym e)) }
 
 -- the lock that was found is open, and of the key
 parts : (g : Over) (c : goal.In-Some g) → (is_open (lock_at c.args.keys.now c.in-Some.n).queue ≡ true) × ((lock_at c.args.keys.now c.in-Some.n).key ≡ c.index-named-i.result.key)
@@ -41,28 +38,22 @@ is_wanted_by-requires g c = (lit< tt, (lit< tt, (c.requires.table, ((parts g c).
 
 pub returns-in_default : goal.returns-in_default
 returns-in_default g c =
-    record {
-      refusal =
-          given_here (requests_in c.args.store.now) c.args.job c.args.named.now c.loop-i.i c.index-named-i.result c.loop-i-test.true c.index-named-i.is false
-          false (sym c.is_named.ensures ∙ c.if-is_named.false)
-          (unwanted_by c.args.store.now c.args.keys.now c.index-named-i.result.key c.requires.table (c.look_up-seen.ensures.none c.in_default.is) c.args.job)
-          c.loop-i.invariant.fault;
-      long = λ e. absurd (none-some _ (sym e));
-      found = λ e. absurd (none-some _ (sym e));
-    }
+    let told =
+    given_here (requests_in c.args.store.now) c.args.job c.args.named.now c.loop-i.i c.index-named-i.result c.loop-i-test.true c.index-named-i.is false
+    false (sym c.is_named.ensures ∙ c.if-is_named.false)
+    (unwanted_by c.args.store.now c.args.keys.now c.index-named-i.result.key c.requires.table (c.look_up-seen.ensures.none c.in_default.is) c.args.job)
+    c.loop-i.invariant.fault in
+    record { refusal = told; long = λ e. absurd (none-some _ (sym e)); found = λ e. absurd (none-some _ (sym e)) }
 
 pub returns-then-not-is_wanted_by : goal.returns-then-not-is_wanted_by
 returns-then-not-is_wanted_by g c =
     let key = (parts g c.before.before).1 in
-    record {
-      refusal =
-          given_here (requests_in c.args.store.now) c.args.job c.args.named.now c.loop-i.i c.index-named-i.result c.loop-i-test.true c.index-named-i.is false
-          false (sym c.is_named.ensures ∙ c.if-is_named.false)
-          (ap (names (wants_of (requests_in c.args.store.now) c.args.job)) (sym key) ∙ sym c.is_wanted_by.ensures ∙ c.if-not-is_wanted_by.true)
-          c.loop-i.invariant.fault;
-      long = λ e. absurd (none-some _ (sym e));
-      found = λ e. absurd (none-some _ (sym e));
-    }
+    let told =
+    given_here (requests_in c.args.store.now) c.args.job c.args.named.now c.loop-i.i c.index-named-i.result c.loop-i-test.true c.index-named-i.is false
+    false (sym c.is_named.ensures ∙ c.if-is_named.false)
+    (ap (names (wants_of (requests_in c.args.store.now) c.args.job)) (sym key) ∙ sym c.is_wanted_by.ensures ∙ c.if-not-is_wanted_by.true)
+    c.loop-i.invariant.fault in
+    record { refusal = told; long = λ e. absurd (none-some _ (sym e)); found = λ e. absurd (none-some _ (sym e)) }
 
 pub loop-i-preserved : goal.loop-i-preserved
 loop-i-preserved g c =
