@@ -68,16 +68,13 @@ lock_read locks now n l view lt read =
 
 -- the numbers there are those of locks
 pub number_within : (buckets : List Bucket) (locks : List Lock) (h i : ℕ) (b : Bucket) → IsIndex buckets locks → h < HASHES
-    → b ≡ get_or buckets h b
-    → i < length b.numbers.items
-    → get_or b.numbers.items i 0 < length locks
+    → b ≡ get_or buckets h b → i < length b.numbers.items → get_or b.numbers.items i 0 < length locks
 number_within buckets locks h i b index below read lt = grind (arith, common_steps, bucket_read, index.within h i 0)
 
 -- where a bucket that is not crowded has no number of the key, none has
 pub none_found : (buckets : List Bucket) (locks : List Lock) (key : Key) → IsIndex buckets locks
     → find (λ n. is_open_for key (lock_at locks n)) (bucket_at buckets (hash_of key)).numbers.items ≡ None
-    → (bucket_at buckets (hash_of key)).crowded ≡ false
-    → (n : ℕ) → is_open_for key (lock_at locks n) ≡ false
+    → (bucket_at buckets (hash_of key)).crowded ≡ false → (n : ℕ) → is_open_for key (lock_at locks n) ≡ false
 none_found buckets locks key index missed plain n = grind (arith, common_steps, find_misses, open_parts, index.hashes n, index.holds n)
 
 -- a queue that has places is open
@@ -86,8 +83,7 @@ open_below q k lt = ap not (ne_eqb (length q.places) 0 (λ e. absurd (omega (ari
 
 -- an open lock whose queue is changed
 pub keyed_queue : (size : ℕ) (locks : List Lock) (most : ℕ) (buckets : List Bucket) (n : ℕ) (l : Lock) (q : KeptQueue) → IsKeyed size locks most buckets
-    → is_open (lock_at locks n).queue ≡ true
-    → l ≡ get_or locks n l
+    → is_open (lock_at locks n).queue ≡ true → l ≡ get_or locks n l
     → IsKeyed size (set locks n (record l { queue = q })) most buckets
 keyed_queue size locks most buckets n l q k some read = grind (arith, common_steps, open_within locks n some)
 
@@ -96,17 +92,12 @@ same_more : (locks : List Lock) (n : ℕ) → lock_at (locks ++ unused_lock ∷ 
 same_more locks n = grind (arith, common_steps)
 
 pub keyed_more : (size : ℕ) (locks : List Lock) (most : ℕ) (buckets : List Bucket) → IsKeyed size locks most buckets
-    → length locks < LOCKS_A_CALL * size
-    → IsKeyed size (locks ++ unused_lock ∷ []) most buckets
+    → length locks < LOCKS_A_CALL * size → IsKeyed size (locks ++ unused_lock ∷ []) most buckets
 keyed_more size locks most buckets k room = grind (arith, common_steps, same_more locks, k.index.hashes, k.index.holds)
 
 -- a lock that becomes that of another key, whose number is put at the hash of that
 pub keyed_lock : (size : ℕ) (locks : List Lock) (most : ℕ) (buckets : List Bucket) (n h : ℕ) (l : Lock) (b then : Bucket) → IsKeyed size locks most buckets
-    → n < length locks
-    → l.hash ≡ hash_of l.key
-    → h ≡ l.hash
-    → b ≡ get_or buckets h b
-    → then ≡ numbered b n
+    → n < length locks → l.hash ≡ hash_of l.key → h ≡ l.hash → b ≡ get_or buckets h b → then ≡ numbered b n
     → IsKeyed size (set locks n l) most (set buckets h then)
 keyed_lock size locks most buckets n h l b then k lt hash is read put = grind (arith, common_steps)
 
@@ -145,8 +136,7 @@ spare_made locks old more n l view pushed unused at =
 
 -- a want that comes last in the queue of an open lock
 pub entered_open : (locks old : List Lock) (p : ℕ) (w : Want) (n : ℕ) (l : Lock) (q : KeptQueue) → is_open_for w.key (lock_at locks n) ≡ true
-    → old ≡ locks → l ≡ get_or old n l → q ≡ appended l.queue p w
-    → IsEntered locks (set old n (record l { queue = q })) p w n
+    → old ≡ locks → l ≡ get_or old n l → q ≡ appended l.queue p w → IsEntered locks (set old n (record l { queue = q })) p w n
 entered_open locks old p w n l q some view read is =
     let within = open_within locks n (open_parts w.key (lock_at locks n) some).0 in
     let at = lock_read old locks n l view within read in

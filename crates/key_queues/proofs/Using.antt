@@ -32,8 +32,7 @@ there_kept t x xs h = (there_filter t x xs h, filter_passes t x xs h)
 
 -- a request names the key of each of its queues
 pub named_there : (key : ℕ → Key) (ws : List Want) (ns : List ℕ) (n : ℕ) → QueuesOf (λ w m. key m ≡ w.key) ws ns
-    → is_there n ns ≡ true
-    → names ws (key n) ≡ true
+    → is_there n ns ≡ true → names ws (key n) ≡ true
 named_there key [] [] n q h = cc
 named_there key (w ∷ ws) (m ∷ ns) n q h = grind (arith, common_steps, named_there key ws ns n, eq-same_key w.key (key n))
 named_there key [] (m ∷ ns) n q h = absurd q
@@ -48,8 +47,7 @@ stands_in_queue s x n kept st =
 
 -- each want has a queue
 pub queue_of_want : (key : ℕ → Key) (ws : List Want) (ns : List ℕ) (w : Want) → QueuesOf (λ w m. key m ≡ w.key) ws ns
-    → Has ws w
-    → (m : ℕ) × (is_there m ns ≡ true) × (key m ≡ w.key)
+    → Has ws w → (m : ℕ) × (is_there m ns ≡ true) × (key m ≡ w.key)
 queue_of_want key (v ∷ ws) (m ∷ ns) w q (inl e) = (m, grind (arith, common_steps), q.0 ∙ ap (λ (u : Want). u.key) e)
 queue_of_want key (v ∷ ws) (m ∷ ns) w q (inr h) =
     let found = queue_of_want key ws ns w q.1 h in (found.0, grind (arith, common_steps), found.2)
@@ -106,8 +104,7 @@ full_at_end s n kept used e =
     grind (arith, common_steps, fitting_most, past_none (s.queue n).places (s.queue n).fitting e)
 
 pub full_where_unfit : (s : State) (n p : ℕ) (w : Want) → IsKept s → IsUsed s n → Next s n p w
-    → fits_next (s.queue n) w w.pool ≡ false
-    → IsFull s n
+    → fits_next (s.queue n) w w.pool ≡ false → IsFull s n
 full_where_unfit s n p w kept used next f =
     (counts_all (s.size n) (wants_at (map s.at s.order) (s.key n)) (s.queue n) w (kept.counts used.place n used.stands).counts next.found f).all
 
@@ -153,9 +150,7 @@ owned_before s t p k x m gives there =
 
 -- a queue that is not empty after that is used
 pub used_after : (s t : State) (p k : ℕ) → IsKept s → IsKept t → is_there p s.order ≡ true → k < length (s.own p)
-    → GivesUpAt s t p k
-    → IsCounted t (get_or (s.own p) k 0)
-    → (length (t.queue (get_or (s.own p) k 0)).places == 0) ≡ false
+    → GivesUpAt s t p k → IsCounted t (get_or (s.own p) k 0) → (length (t.queue (get_or (s.own p) k 0)).places == 0) ≡ false
     → IsUsed t (get_or (s.own p) k 0)
 used_after s t p k kept_s kept_t present lt gives counted some =
     let n : ℕ = get_or (s.own p) k 0 in

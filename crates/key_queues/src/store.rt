@@ -120,7 +120,7 @@ impl<const REQS: usize> Store<REQS> {
 
     /// Takes the request of a place out.
     #[inline(always)]
-    #[tactic(auto, using(crate::proofs::Keeps::number_small, crate::proofs::Keeps::seen_within))]
+    #[tactic(auto, using(crate::proofs::Keeps::number_small))]
     pub fn remove(&mut self, p: u16)
         requires { is_there p self.old.order ≡ true }
         ensures value { self.new ≡ removed self.old p }
@@ -136,7 +136,7 @@ impl<const REQS: usize> Store<REQS> {
     }
 
     /// Sets whether the request of a place is granted.
-    #[tactic(auto, using(crate::proofs::Keeps::number_small, crate::proofs::Keeps::seen_within))]
+    #[tactic(auto, using(crate::proofs::Keeps::number_small))]
     pub fn set_granted(&mut self, p: u16, granted: bool)
         requires { is_there p self.old.order ≡ true }
         ensures value { self.new ≡ with_filed self.old p (with_granted (filed_at self.old p) granted) }
@@ -151,7 +151,6 @@ impl<const REQS: usize> Store<REQS> {
     }
 
     /// The job of the request at a place knows of its grant.
-    #[tactic(auto, using(crate::proofs::Keeps::seen_within))]
     pub fn set_told(&mut self, p: u16)
         requires { is_there p self.old.order ≡ true }
         ensures value { self.new ≡ with_filed self.old p (with_told (filed_at self.old p)) }
@@ -161,7 +160,7 @@ impl<const REQS: usize> Store<REQS> {
     }
 
     /// The request of a place takes one more want, in a queue.
-    #[tactic(auto, using(crate::proofs::Keeps::seen_filed, crate::proofs::Keeps::seen_within))]
+    #[tactic(auto, using(crate::proofs::Keeps::seen_filed))]
     pub fn push_want(&mut self, p: u16, w: &Want, n: u16)
         requires present { is_there p self.old.order ≡ true }
         requires wants { length (filed_at self.old p).request.wants.items < LOCKS_A_CALL }
@@ -175,7 +174,7 @@ impl<const REQS: usize> Store<REQS> {
     }
 
     /// Takes the k-th want out of the request at a place.
-    #[tactic(auto, using(crate::proofs::Keeps::seen_filed, crate::proofs::Keeps::seen_within))]
+    #[tactic(auto, using(crate::proofs::Keeps::seen_filed))]
     pub fn take_want(&mut self, p: u16, k: usize)
         requires present { is_there p self.old.order ≡ true }
         requires wants { k < length (filed_at self.old p).request.wants.items }
@@ -189,7 +188,7 @@ impl<const REQS: usize> Store<REQS> {
     }
 
     /// Writes another want over the k-th of the request at a place.
-    #[tactic(auto, using(crate::proofs::Keeps::seen_filed, crate::proofs::Keeps::seen_within))]
+    #[tactic(auto, using(crate::proofs::Keeps::seen_filed))]
     pub fn set_want(&mut self, p: u16, k: usize, w: &Want)
         requires present { is_there p self.old.order ≡ true }
         requires wants { k < length (filed_at self.old p).request.wants.items }

@@ -1,7 +1,13 @@
-use Rattle.std.proofs.Common.{◌≡◌, ap, length, arith}
+use Rattle.std.proofs.Common.{◌≡◌, ◌∙◌, ap, get_or, length, arith}
 use Rattle.std.proofs.lemmas.Grind.{common_steps}
-use Rattle.lock_queue.proofs.Removing.{left_on, moved_all, moved_on}
+use Rattle.lock_queue.proofs.Removing.{left_on, moved_all, moved_on, none_moved}
 use Rattle.key_queues.proofs.queue.remove_at.Goals as goal
+
+pub loop-k-init : goal.loop-k-init
+loop-k-init g c =
+    let same = c.as_mut_slice-numbers.ensures.value in
+    let none = none_moved c.args.list.now.items c.args.i c.requires in
+    record { done = λ m lt. ap (λ l. get_or l m 0) same ∙ none m lt; rest = λ m le. ap (λ l. get_or l m 0) same }
 
 pub loop-k-preserved : goal.loop-k-preserved
 loop-k-preserved g c =

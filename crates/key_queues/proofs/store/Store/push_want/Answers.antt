@@ -1,7 +1,7 @@
-use Rattle.std.proofs.Common.{refl, rules}
+use Rattle.std.proofs.Common.{lit<, refl, rules}
 use Rattle.key_queues.specs.declared.filed.Filed.{Filed}
 use Rattle.key_queues.specs.Filing.{with_more}
-use Rattle.key_queues.proofs.Keeps.{change_kept, seen_change}
+use Rattle.key_queues.proofs.Keeps.{change_kept, seen_change, seen_filled, seen_within}
 use Rattle.key_queues.proofs.store.Store.push_want.Goals as goal
 
 pub invariant_of-self : goal.invariant_of-self
@@ -11,3 +11,9 @@ invariant_of-self g c =
 pub returns-clause-value : goal.returns-clause-value
 returns-clause-value g c =
     seen_change _ _ _ c.args.p c.self.view_is (λ (f : Filed). with_more f c.args.w.now c.args.n) _ _ c.get_mut-filed.ensures.value (search rules)
+
+pub get_mut-filed-requires : goal.get_mut-filed-requires
+get_mut-filed-requires g c = (lit< tt, seen_filled _ _ _ _ _ _ c.self.invariant _ c.args.p c.self.view_is c.requires.present)
+
+pub returns-clause-within : goal.returns-clause-within
+returns-clause-within g c = seen_within _ _ _ _ _ _ c.self.invariant _ c.args.p c.self.view_is c.requires.present

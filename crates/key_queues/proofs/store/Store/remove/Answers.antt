@@ -1,7 +1,7 @@
 use Rattle.std.proofs.Common.{None, ◌≡◌, ◌∙◌, ap, lit<}
 use Rattle.key_queues.specs.declared.filed.Filed.{Filed}
 use Rattle.key_queues.specs.Stores.{without_place, blocked_at, is_blocked, job_at}
-use Rattle.key_queues.proofs.Keeps.{in_list, list_once, list_read, present, remove_keeps, seen_filled, seen_then}
+use Rattle.key_queues.proofs.Keeps.{in_list, list_once, list_read, present, remove_keeps, seen_filled, seen_then, seen_within}
 use Rattle.key_queues.proofs.Orders.{there_within}
 use Rattle.key_queues.proofs.store.Store.remove.Goals as goal
 
@@ -33,3 +33,6 @@ invariant_of-self g c =
 pub returns-clause-value : goal.returns-clause-value
 returns-clause-value g c =
     seen_then _ _ c.args.self.now c.args.p c.self.view_is _ _ None (λ l. without_place l c.args.p) c.remove.ensures.slots c.take_out.ensures
+
+pub returns-clause-within : goal.returns-clause-within
+returns-clause-within g c = seen_within _ _ _ _ _ _ c.self.invariant _ c.args.p c.self.view_is c.requires

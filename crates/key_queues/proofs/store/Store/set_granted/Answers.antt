@@ -2,7 +2,7 @@ use Rattle.std.proofs.Common.{◌≡◌, ◌∙◌, ap, refl}
 use Rattle.key_queues.specs.declared.filed.Filed.{Filed}
 use Rattle.key_queues.specs.Filing.{with_granted}
 use Rattle.key_queues.specs.Stores.{blocked_at, is_blocked}
-use Rattle.key_queues.proofs.Keeps.{grant_keeps, seen_change, seen_filled}
+use Rattle.key_queues.proofs.Keeps.{grant_keeps, seen_change, seen_filled, seen_within}
 use Rattle.key_queues.proofs.store.Store.set_granted.Goals as goal
 
 pub invariant_of-self : goal.invariant_of-self
@@ -17,3 +17,6 @@ invariant_of-self g c =
 pub returns-clause-value : goal.returns-clause-value
 returns-clause-value g c =
     seen_change _ _ _ c.args.p c.self.view_is (λ (f : Filed). with_granted f c.args.granted) _ _ c.get_mut-filed.ensures.value refl
+
+pub returns-clause-within : goal.returns-clause-within
+returns-clause-within g c = seen_within _ _ _ _ _ _ c.self.invariant _ c.args.p c.self.view_is c.requires
