@@ -1,5 +1,5 @@
-use Rattle.std.proofs.lemmas.Grind.{common_steps}
 use Rattle.std.proofs.Common.{◌≡◌, ◌<◌, ◌+◌, ◌∙◌, sym, ap, [], ◌∷◌, ◌++◌, None, get_or, length, map, take, true, arith}
+use Rattle.std.proofs.lemmas.Grind.{common_steps}
 use Rattle.std.proofs.lemmas.List.{map-append, take_more}
 use Rattle.lock_queue.specs.declared.want.Want.{Want}
 use Rattle.key_queues.specs.Beginnings.{is_share_of}

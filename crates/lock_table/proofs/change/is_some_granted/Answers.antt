@@ -1,5 +1,5 @@
-use Rattle.std.proofs.lemmas.Grind.{common_steps}
 use Rattle.std.proofs.Common.{arith}
+use Rattle.std.proofs.lemmas.Grind.{common_steps}
 use Rattle.lock_table.proofs.change.is_some_granted.Goals as goal
 
 pub loop-i-preserved : goal.loop-i-preserved

@@ -1,5 +1,5 @@
-use Rattle.key_queues.proofs.Finding.{open_within}
 use Rattle.std.proofs.Common.{arith}
+use Rattle.key_queues.proofs.Finding.{open_within}
 use Rattle.lock_table.proofs.queues.lock_of.Goals as goal
 
 pub bounds-locks-n : goal.bounds-locks-n

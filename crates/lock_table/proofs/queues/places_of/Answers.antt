@@ -1,6 +1,6 @@
+use Rattle.std.proofs.Common.{sym, refl, arith}
 use Rattle.lock_table.proofs.Queued.{queue_is}
 use Rattle.key_queues.proofs.Finding.{open_parts}
-use Rattle.std.proofs.Common.{sym, refl, arith}
 use Rattle.lock_table.specs.Filing.{state_of}
 use Rattle.lock_table.proofs.Reading.{shut_at}
 use Rattle.lock_table.proofs.queues.places_of.Goals as goal

@@ -1,5 +1,5 @@
-use Rattle.lock_table.proofs.Telling.{granted_is}
 use Rattle.std.proofs.Common.{arith}
+use Rattle.lock_table.proofs.Telling.{granted_is}
 use Rattle.lock_table.proofs.readings.is_granted.Goals as goal
 
 pub returns : goal.returns

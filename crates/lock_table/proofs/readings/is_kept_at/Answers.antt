@@ -1,5 +1,5 @@
-use Rattle.std.proofs.lemmas.Grind.{common_steps}
 use Rattle.std.proofs.Common.{◌≡◌, ◌∙◌, ◌&&◌, Bool, ap, arith, get_or, lit<, not, refl, rules, sym, true}
+use Rattle.std.proofs.lemmas.Grind.{common_steps}
 use Rattle.key_queues.specs.declared.filed.Filed.{Filed}
 use Rattle.key_queues.specs.Locks.{lock_at}
 use Rattle.lock_table.specs.Filing.{own_at}

@@ -1,5 +1,5 @@
-use Rattle.std.proofs.lemmas.Grind.{common_steps}
 use Rattle.std.proofs.Common.{◌<◌, arith, length, lit<, ap}
+use Rattle.std.proofs.lemmas.Grind.{common_steps}
 use Rattle.key_queues.specs.declared.filed.Filed.{Filed}
 use Rattle.lock_table.specs.Reads.{request_at}
 use Rattle.lock_table.proofs.Keepers.{queue_within}

@@ -1,6 +1,6 @@
+use Rattle.std.proofs.Common.{arith}
 use Rattle.std.proofs.lemmas.Grind.{common_steps}
 use Rattle.lock_table.proofs.Reading.{own_there}
-use Rattle.std.proofs.Common.{arith}
 use Rattle.lock_table.proofs.readings.sole_of.Goals as goal
 
 pub get-requires : goal.get-requires

@@ -1,7 +1,7 @@
+use Rattle.std.proofs.Common.{arith}
 use Rattle.std.proofs.lemmas.Grind.{common_steps}
 use Rattle.lock_table.proofs.Telling.{waits_is}
 use Rattle.lock_table.proofs.Reading.{own_there}
-use Rattle.std.proofs.Common.{arith}
 use Rattle.lock_table.proofs.readings.waits_for.Goals as goal
 
 pub is_kept_from-requires : goal.is_kept_from-requires

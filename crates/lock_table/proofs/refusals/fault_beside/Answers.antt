@@ -1,6 +1,6 @@
+use Rattle.std.proofs.Common.{refl, arith}
 use Rattle.lock_table.proofs.Levels.{first_alike}
 use Rattle.key_queues.proofs.Finding.{found_open, open_parts}
-use Rattle.std.proofs.Common.{refl, arith}
 use Rattle.lock_table.proofs.Queued.{unwanted_at, unwanted_by}
 use Rattle.lock_table.proofs.refusals.fault_beside.Goals as goal
 

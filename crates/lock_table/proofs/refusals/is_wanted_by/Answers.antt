@@ -1,5 +1,5 @@
-use Rattle.lock_table.proofs.Reading.{present_at}
 use Rattle.std.proofs.Common.{arith}
+use Rattle.lock_table.proofs.Reading.{present_at}
 use Rattle.lock_table.proofs.Queued.{wanted_by_place, all_present, wanted_of_job}
 use Rattle.lock_table.proofs.refusals.is_wanted_by.Goals as goal
 

@@ -1,6 +1,6 @@
+use Rattle.std.proofs.Common.{◌∙◌, sym, ap, refl, is_some, arith}
 use Rattle.std.proofs.lemmas.Grind.{common_steps}
 use Rattle.key_queues.proofs.Finding.{open_parts}
-use Rattle.std.proofs.Common.{◌∙◌, sym, ap, refl, is_some, arith}
 use Rattle.lock_table.proofs.Queued.{unwanted_by, all_present, pooled_is, wanted_at_places}
 use Rattle.lock_table.proofs.refusals.lock_wanted.Goals as goal
 

@@ -1,5 +1,5 @@
-use Rattle.std.proofs.lemmas.Grind.{common_steps}
 use Rattle.std.proofs.Common.{arith}
+use Rattle.std.proofs.lemmas.Grind.{common_steps}
 use Rattle.lock_table.proofs.refusals.refusal_of_modify.Goals as goal
 
 pub returns-in_default : goal.returns-in_default

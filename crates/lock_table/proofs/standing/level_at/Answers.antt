@@ -1,5 +1,5 @@
-use Rattle.lock_table.proofs.Reading.{place_kept}
 use Rattle.std.proofs.Common.{◌<◌, arith, length, sym}
+use Rattle.lock_table.proofs.Reading.{place_kept}
 use Rattle.lock_table.specs.Reads.{request_at}
 use Rattle.lock_table.proofs.Telling.{level_first, level_none}
 use Rattle.lock_table.proofs.standing.level_at.Goals as goal

@@ -1,7 +1,7 @@
+use Rattle.std.proofs.Common.{arith, lit<}
 use Rattle.lock_queue.proofs.StatusLaws.{standing_owner, standing_waiter}
 use Rattle.lock_table.proofs.Telling.{status_is}
 use Rattle.std.proofs.lemmas.Grind.{common_steps}
-use Rattle.std.proofs.Common.{arith, lit<}
 use Rattle.lock_queue.specs.Queue.{names}
 use Rattle.lock_table.specs.Reads.{request_at}
 use Rattle.lock_table.proofs.Reading.{place_kept}

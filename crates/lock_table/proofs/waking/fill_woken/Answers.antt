@@ -1,5 +1,5 @@
-use Rattle.std.proofs.lemmas.Grind.{common_steps}
 use Rattle.std.proofs.Common.{◌≡◌, ◌∙◌, sym, ap, ℕ, List, [], ◌∷◌, ◌++◌, map, true, false, refl, arith}
+use Rattle.std.proofs.lemmas.Grind.{common_steps}
 use Rattle.lock_queue.specs.declared.grant.Grant.{Grant}
 use Rattle.lock_queue.specs.Grants.{grant_of}
 use Rattle.key_queues.specs.declared.filed.Filed.{Filed}

@@ -1,5 +1,5 @@
-use Rattle.std.proofs.lemmas.Grind.{common_steps}
 use Rattle.std.proofs.Common.{◌≡◌, ◌+◌, subst, drop, List, arith, true}
+use Rattle.std.proofs.lemmas.Grind.{common_steps}
 use Rattle.lock_queue.specs.declared.want.Want.{Want}
 use Rattle.key_queues.specs.Tables.{is_there}
 use Rattle.lock_table.specs.Changing.{IsExtending}

@@ -1,5 +1,5 @@
-use Rattle.std.proofs.lemmas.Grind.{common_steps}
 use Rattle.std.proofs.Common.{arith}
+use Rattle.std.proofs.lemmas.Grind.{common_steps}
 use Rattle.lock_table.proofs.turns.Turns.new.Goals as goal
 
 pub invariant_of-result : goal.invariant_of-result

@@ -1,5 +1,5 @@
-use Rattle.std.proofs.lemmas.Grind.{common_steps}
 use Rattle.std.proofs.Common.{arith}
+use Rattle.std.proofs.lemmas.Grind.{common_steps}
 use Rattle.lock_table.proofs.turns.Turns.turn_if.Goals as goal
 
 pub returns-else-self-lt2-clause-value : goal.returns-else-self-lt2-clause-value
