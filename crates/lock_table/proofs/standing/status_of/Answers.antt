@@ -15,9 +15,6 @@ get-f-requires g c =
           (omega (arith, c.loop-i-test.true, c.loop-i.invariant.there)),
     )
 
-pub loop-i-preserved-then-f : goal.loop-i-preserved-then-f
-loop-i-preserved-then-f g c = grind (arith, common_steps)
-
 pub loop-i-preserved : goal.loop-i-preserved
 loop-i-preserved g c = grind (arith, common_steps, status_is, standing_owner, standing_waiter)
 
