@@ -1,7 +1,7 @@
 //! Steps that are generated, the same from the same start, on both tables.
 ghost use Rattle.std.specs.Prelude.{◌≡◌, ◌<◌, ◌≤◌, length, nat_le, IsTrue};
 ghost use Rattle.std.specs.List.{list_all};
-ghost use Rattle.word36.specs.declared.sizes.TheConstants.{JOBS};
+ghost use Rattle.word36.specs.declared.sizes.TheConstants.{JOBS, MOST_REQUESTS};
 ghost use Rattle.lock_queue.specs.WellFormed.{names_locks, shares_rightly, all_share_rightly};
 
 use crate::alike::{are_alike, hold_the_same};
@@ -12,7 +12,7 @@ use lock_queue::{
 };
 use lock_table::IndexedTable;
 use plain_table::PlainTable;
-use std::alloc::AllocError;
+use std::alloc::{AllocError, Global};
 use std::process::Abort;
 
 /// Numbers in no order.
@@ -214,12 +214,25 @@ fn most_present<L: LockTable, M: LockTable>(
     most
 }
 
+/// Makes generated steps from this start on both tables, which have room for so many requests, and gives the
+/// most that were present.
+fn most_of<const REQS: usize>(
+    rt: &impl Abort,
+    alloc: Global,
+    start: u64,
+) -> Result<usize, AllocError>
+    requires least { 1 ≤ REQS }
+    requires most { REQS ≤ MOST_REQUESTS }
+{
+    let mut plain: PlainTable<REQS> = PlainTable::new(alloc)?;
+    let mut indexed: IndexedTable<REQS> = IndexedTable::new(alloc)?;
+    let mut numbers = Numbers::new(start);
+    Ok(most_present(rt, &mut plain, &mut indexed, &mut numbers))
+}
+
 #[test]
 fn generated_steps_do_the_same(rt: HostRuntime) -> Result<(), AllocError> {
-    let mut plain: PlainTable<256> = PlainTable::new(rt.alloc())?;
-    let mut indexed: IndexedTable<256> = IndexedTable::new(rt.alloc())?;
-    let mut numbers = Numbers::new(1);
-    let most = most_present(&rt, &mut plain, &mut indexed, &mut numbers);
+    let most = most_of::<256>(&rt, rt.alloc(), 1)?;
     assert!(rt; most > 12, "{most} requests at most");
     Ok(())
 }
@@ -227,10 +240,7 @@ fn generated_steps_do_the_same(rt: HostRuntime) -> Result<(), AllocError> {
 /// Generated steps do the same on both tables where these are often full.
 #[test]
 fn generated_steps_do_the_same_where_few_fit(rt: HostRuntime) -> Result<(), AllocError> {
-    let mut plain: PlainTable<5> = PlainTable::new(rt.alloc())?;
-    let mut indexed: IndexedTable<5> = IndexedTable::new(rt.alloc())?;
-    let mut numbers = Numbers::new(2);
-    let most = most_present(&rt, &mut plain, &mut indexed, &mut numbers);
+    let most = most_of::<5>(&rt, rt.alloc(), 2)?;
     assert_eq!(rt; most, 5);
     Ok(())
 }

@@ -9,12 +9,12 @@ use crate::walk::Row::{Calls, Tells};
 use crate::walk::{Row, indexed_table, plain_table};
 use lock_queue::EnqueueKind::{AtOnce, Blocking, Interrupt};
 use lock_queue::LockReply::{Done, Granted, Refused};
-use lock_queue::{LockTable, Refusal};
+use lock_queue::{LockReply, LockTable, Refusal};
 use std::alloc::Global;
 use std::process::Abort;
 
 /// Two calls of job 1, whose requests differ in one thing.
-const DIFFERING: [(Call, Call); 12] = [
+static DIFFERING: [(Call, Call); 12] = [
     // the id
     (
         Asks(AtOnce, 1, One(Alone(1, 1))),
@@ -92,6 +92,8 @@ fn are_alike_behind(rt: &impl Abort, alloc: Global, first: &[Row], second: &[Row
     alike
 }
 
+const NOT_GRANTED: LockReply = Refused(Refusal::NotGranted);
+
 #[test]
 fn requests_that_differ_are_told_apart(rt: HostRuntime) {
     for (first, second) in DIFFERING.iter() {
@@ -129,17 +131,39 @@ fn lists_that_differ_are_told_apart(rt: HostRuntime) {
     assert!(rt; are_alike_behind(&rt, alloc, &[one, two], &[one, two]));
 }
 
+/// The rows of `what_a_job_was_told_is_told_apart`.
+static WHAT_A_JOB_WAS_TOLD_IS_TOLD_APART: [Row; 4] = [
+    Calls(1, Asks(AtOnce, 1, One(Alone(1, 0))), Granted),
+    Calls(2, Asks(Interrupt, 9, One(Alone(1, 0))), NOT_GRANTED),
+    Calls(1, GivesUpAll, Done),
+    Tells(2),
+];
+
 #[test]
 fn what_a_job_was_told_is_told_apart(rt: HostRuntime) {
     let alloc = rt.alloc();
-    let not_granted = Refused(Refusal::NotGranted);
-    let rows = [
-        Calls(1, Asks(AtOnce, 1, One(Alone(1, 0))), Granted),
-        Calls(2, Asks(Interrupt, 9, One(Alone(1, 0))), not_granted),
-        Calls(1, GivesUpAll, Done),
-        Tells(2),
-    ];
-    assert!(rt; are_alike_behind(&rt, alloc, &rows, &rows));
-    assert!(rt; !are_alike_behind(&rt, alloc, &rows, &rows[..3]));
-    assert!(rt; !are_alike_behind(&rt, alloc, &rows[..2], &rows[..3]));
+    assert!(rt;
+        are_alike_behind(
+            &rt,
+            alloc,
+            &WHAT_A_JOB_WAS_TOLD_IS_TOLD_APART,
+            &WHAT_A_JOB_WAS_TOLD_IS_TOLD_APART
+        )
+    );
+    assert!(rt;
+        !are_alike_behind(
+            &rt,
+            alloc,
+            &WHAT_A_JOB_WAS_TOLD_IS_TOLD_APART,
+            &WHAT_A_JOB_WAS_TOLD_IS_TOLD_APART[..3]
+        )
+    );
+    assert!(rt;
+        !are_alike_behind(
+            &rt,
+            alloc,
+            &WHAT_A_JOB_WAS_TOLD_IS_TOLD_APART[..2],
+            &WHAT_A_JOB_WAS_TOLD_IS_TOLD_APART[..3]
+        )
+    );
 }

@@ -1,4 +1,6 @@
 //! The rows of a test, and how they are walked on both tables.
+ghost use Rattle.std.specs.Prelude.{◌≤◌};
+ghost use Rattle.word36.specs.declared.sizes.TheConstants.{MOST_REQUESTS};
 
 use crate::alike::are_alike;
 use crate::build::{Call, key, lock_call};
@@ -186,9 +188,17 @@ pub fn indexed_table(rt: &impl Abort, alloc: Global) -> IndexedTable<ROOM> {
     IndexedTable::new(alloc).expect(rt, "memory for the indexed table")
 }
 
+/// Walks the rows on both tables without requests, which have room for so many.
+pub fn walk_for<const REQS: usize>(rt: &impl Abort, alloc: Global, rows: &[Row])
+    requires least { 1 ≤ REQS }
+    requires most { REQS ≤ MOST_REQUESTS }
+{
+    let mut plain: PlainTable<REQS> = PlainTable::new(alloc).expect(rt, "memory for a table");
+    let mut indexed: IndexedTable<REQS> = IndexedTable::new(alloc).expect(rt, "memory for a table");
+    walk_on(rt, &mut plain, &mut indexed, rows);
+}
+
 /// Walks the rows on both tables without requests.
 pub fn walk(rt: &impl Abort, alloc: Global, rows: &[Row]) {
-    let mut plain = plain_table(rt, alloc);
-    let mut indexed = indexed_table(rt, alloc);
-    walk_on(rt, &mut plain, &mut indexed, rows);
+    walk_for::<ROOM>(rt, alloc, rows);
 }
