@@ -100,14 +100,21 @@ fn ask_for_tape(rt: &impl Abort, scope: Scope) -> LockCall
     }
 }
 
+/// Three jobs ask for the lock `TAPE` of three scopes: each is granted.
+fn ask_by_scopes<L: LockTable>(rt: &impl Abort, table: &mut L) {
+    for (job, scope) in [(1, Scope::Job(1)), (2, Scope::Job(2)), (3, Scope::All)] {
+        assert_eq!(rt;
+            table.call(job, &ask_for_tape(rt, scope)),
+            LockReply::Granted
+        );
+    }
+}
+
 #[test]
 fn names_are_told_apart_by_scope(rt: HostRuntime) {
     let mut plain = plain_table(&rt, rt.alloc());
     let mut indexed = indexed_table(&rt, rt.alloc());
-    for (job, scope) in [(1, Scope::Job(1)), (2, Scope::Job(2)), (3, Scope::All)] {
-        let call = ask_for_tape(&rt, scope);
-        assert_eq!(rt; plain.call(job, &call), LockReply::Granted);
-        assert_eq!(rt; indexed.call(job, &call), LockReply::Granted);
-    }
+    ask_by_scopes(&rt, &mut plain);
+    ask_by_scopes(&rt, &mut indexed);
     assert!(rt; are_alike(&plain, &indexed));
 }

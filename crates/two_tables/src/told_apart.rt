@@ -77,19 +77,33 @@ static DIFFERING: [(Call, Call); 12] = [
     ),
 ];
 
+/// Walks rows on a table: each must hold of it.
+fn walk_one<L: LockTable>(rt: &impl Abort, table: &mut L, rows: &[Row]) {
+    for row in rows {
+        assert!(rt; row.holds(table), "{row:?}");
+    }
+}
+
+/// Walks rows on one table and others on another, and tells whether the two are alike then.
+fn are_alike_on<L: LockTable, M: LockTable>(
+    rt: &impl Abort,
+    plain: &mut L,
+    indexed: &mut M,
+    first: &[Row],
+    second: &[Row],
+) -> bool {
+    walk_one(rt, plain, first);
+    walk_one(rt, indexed, second);
+    let alike = are_alike(plain, indexed);
+    assert_eq!(rt; alike, hold_the_same(plain, indexed));
+    alike
+}
+
 /// Walks rows on the plain table and others on the indexed one, and tells whether the two are alike then.
 fn are_alike_behind(rt: &impl Abort, alloc: Global, first: &[Row], second: &[Row]) -> bool {
     let mut plain = plain_table(rt, alloc);
     let mut indexed = indexed_table(rt, alloc);
-    for row in first {
-        assert!(rt; row.holds(&mut plain), "on the plain table: {row:?}");
-    }
-    for row in second {
-        assert!(rt; row.holds(&mut indexed), "on the indexed table: {row:?}");
-    }
-    let alike = are_alike(&plain, &indexed);
-    assert_eq!(rt; alike, hold_the_same(&plain, &indexed));
-    alike
+    are_alike_on(rt, &mut plain, &mut indexed, first, second)
 }
 
 const NOT_GRANTED: LockReply = Refused(Refusal::NotGranted);
