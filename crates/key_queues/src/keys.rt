@@ -1,5 +1,5 @@
 //! The locks of a table, which are found by hashes of their keys.
-ghost use Rattle.std.specs.Prelude.{IfOk, IfSome, None, ◌≡◌, ◌<◌, ◌≤◌, ◌*◌, ◌^◌, ◌==◌, [], ℕ, true, false, if◌then◌else◌, length, slice_get};
+ghost use Rattle.std.specs.Prelude.{IfOk, IfSome, None, ◌≡◌, ◌<◌, ◌≤◌, ◌*◌, ◌^◌, ◌==◌, [], ℕ, true, false, if◌then◌else◌, length, min, slice_get};
 ghost use Rattle.std.specs.List.{All, list_all, list_any, position_or_len};
 ghost use Rattle.word36.specs.declared.sizes.TheConstants.{JOBS, LOCKS_A_CALL, MOST_REQUESTS};
 ghost use Rattle.key_queues.specs.Found.{IsEntered, IsFound, IsSpare};
@@ -194,11 +194,12 @@ impl<const REQS: usize> Keys<REQS> {
         self.locks[n as usize].queue.let_in(w)
     }
 
-    /// Counts k wants of a queue's front, no more than before, of the party of the first.
+    /// Counts k wants of a queue's front, but no more than before, of the party of the first. What may fit beside those is
+    /// not yet counted: `let_in` does so.
     pub fn recount(&mut self, n: u16, k: usize, first: &Want)
-        requires lock { n < length self.old }
-        requires fewer { k ≤ (lock_at self.old n).queue.fitting }
-        ensures { self.new ≡ with_queue self.old n (counting (lock_at self.old n).queue k first.now) }
+        requires { n < length self.old }
+        ensures { self.new ≡ with_queue self.old n
+            (counting (lock_at self.old n).queue (min k (lock_at self.old n).queue.fitting) first.now) }
     {
         self.locks[n as usize].queue.recount(k, first);
     }
@@ -257,6 +258,6 @@ impl<const REQS: usize> Keys<REQS> {
         requires { n < length self.now }
         ensures { result ≡ (length (lock_at self.now n).queue.places == 0) }
     {
-        self.locks[n as usize].is_closed()
+        self.locks[n as usize].queue.as_slice().is_empty()
     }
 }

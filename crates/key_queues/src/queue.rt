@@ -1,5 +1,5 @@
 //! The queue of one key.
-ghost use Rattle.std.specs.Prelude.{◌≡◌, ◌≤◌, ◌<◌, ◌+◌, ◌-◌, ◌^◌, ◌==◌, [], ℕ, Option, true, if◌then◌else◌, length, slice_index, take};
+ghost use Rattle.std.specs.Prelude.{◌≡◌, ◌≤◌, ◌<◌, ◌+◌, ◌-◌, ◌^◌, ◌==◌, [], ℕ, Option, true, if◌then◌else◌, length, min, slice_index, take};
 ghost use Rattle.std.specs.List.{position_or_len, remove};
 ghost use Rattle.word36.specs.declared.sizes.TheConstants.{JOBS};
 ghost use Rattle.lock_queue.specs.Queue.{amount_of};
@@ -201,12 +201,12 @@ impl Queue {
         fits
     }
 
-    /// Counts k wants of the front, of the party of the first.
+    /// Counts k wants of the front, but no more than before, of the party of the first. What may fit beside those is
+    /// not yet counted: `let_in` does so.
     pub fn recount(&mut self, k: usize, first: &Want)
-        requires { k ≤ self.old.fitting }
-        ensures { self.new ≡ counting self.old k first.now }
+        ensures { self.new ≡ counting self.old (min k self.old.fitting) first.now }
     {
-        self.fitting = k;
+        self.fitting = k.min(self.fitting);
         self.shared = first.shared;
         self.group = first.group;
     }

@@ -1,5 +1,5 @@
 //! Wants that are made shared or exclusive.
-ghost use Rattle.std.specs.Prelude.{◌≡◌, ◌≤◌, ◌<◌, [], ◌==◌, drop, is_some, length, map, min, true};
+ghost use Rattle.std.specs.Prelude.{◌≡◌, ◌≤◌, ◌<◌, [], ◌==◌, drop, is_some, length, map, true};
 ghost use Rattle.std.specs.List.{All, find, list_any, position_or_len};
 ghost use Rattle.word36.specs.declared.sizes.TheConstants.{JOBS};
 ghost use Rattle.key_queues.specs.Beginnings.{fitting};
@@ -145,7 +145,7 @@ fn alter<const REQS: usize>(store: &mut Store<REQS>, keys: &mut Keys<REQS>, job:
         return;
     }
     let places = lock.queue.as_slice();
-    let k = fitting_then(store, places, n, job, c).min(lock.queue.fitting());
+    let k = fitting_then(store, places, n, job, c);
     let first = want_then(store, places[0], n, job, c);
     if let Some(p) = place_of(store, places, job) {
         alter_want(store, p, n, c);

@@ -35,8 +35,8 @@ returns-then-is_some-clause-altered g c =
       others = λ m ne. refl;
     }
 
-pub fitting_then-requires : goal.fitting_then-requires
-fitting_then-requires g c =
+pub fitting_then-k-requires : goal.fitting_then-k-requires
+fitting_then-k-requires g c =
     let b = c.requires.between in
     let f =
     found c.args.store.now c.args.keys.now c.locks.result.now c.in-Some.n c.args.c.now.key c.index-locks-n.result c.as_slice-places.result.now b.kept b.used
@@ -87,13 +87,12 @@ returns-in-Some-place_of g c =
     let p = c.in-Some-place_of.p in
     let then = want_then s n c.args.job c.args.c.now in
     let mine = found_of_job s c.args.job c.as_slice-places.result.now p (sym c.place_of.ensures ∙ c.in-Some-place_of.is) in
-    let fit = c.fitting_then.ensures.value ∙ ap (λ (l : List ℕ). fitting (map then l)) f.places_is in
-    let count =
-    c.min-k.ensures ∙ ap (λ (j : ℕ). min j c.fitting.result) fit
-    ∙ ap (min (fitting (map then (lock_at locks n).queue.places))) (c.fitting.ensures.value ∙ ap (λ (l : Lock). l.queue.fitting) f.is) in
+    let fit = c.fitting_then-k.ensures.value ∙ ap (λ (l : List ℕ). fitting (map then l)) f.places_is in
+    let count = ap (λ (j : ℕ). min j (lock_at locks n).queue.fitting) fit in
     let both =
     written s locks n p c.args.job c.args.c.now b c.in-Some.ensures.found (f.none (sym c.is_some.ensures ∙ c.if-is_some.false))
-    (ap (is_there p) (sym f.places_is) ∙ mine.0) mine.1 c.requires.sound.safe c.alter_want.new.store c.recount.new.self c.min-k.result
+    (ap (is_there p) (sym f.places_is) ∙ mine.0) mine.1 c.requires.sound.safe c.alter_want.new.store c.recount.new.self
+    (min c.fitting_then-k.result (lock_at locks n).queue.fitting)
     c.want_then-first.result c.alter_want.ensures c.recount.ensures count
     (c.want_then-first.ensures ∙ ap (λ (l : List ℕ). then (get_or l 0 0)) f.places_is) in
     record { between = both.0; altered = both.1 }
