@@ -14,7 +14,7 @@ use word36::MOST_REQUESTS;
 pub const ANY_QUOTA: u16 = MOST_REQUESTS as u16 + 1;
 
 /// A lock that is asked for: a user code of all jobs, and its level.
-#[derive(Clone, Copy, Debug)]
+#[derive(Clone, Copy)]
 pub enum Lock {
     /// For oneself.
     Alone(u32, u8),
@@ -29,14 +29,14 @@ pub enum Lock {
 }
 
 /// The locks of a call.
-#[derive(Clone, Copy, Debug)]
+#[derive(Clone, Copy)]
 pub enum Locks {
     One(Lock),
     Two(Lock, Lock),
 }
 
 /// A call on the queue.
-#[derive(Clone, Copy, Debug)]
+#[derive(Clone, Copy)]
 pub enum Call {
     /// ENQ. of this kind, functions 0 to 2, with an id.
     Asks(EnqueueKind, u16, Locks),

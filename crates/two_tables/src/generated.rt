@@ -1,18 +1,17 @@
 //! Steps that are generated, the same from the same start, on both tables.
 ghost use Rattle.std.specs.Prelude.{◌≡◌, ◌<◌, ◌≤◌, length, nat_le, IsTrue};
 ghost use Rattle.std.specs.List.{list_all};
-ghost use Rattle.word36.specs.declared.sizes.TheConstants.{JOBS, MOST_REQUESTS};
+ghost use Rattle.word36.specs.declared.sizes.TheConstants.{JOBS};
 ghost use Rattle.lock_queue.specs.WellFormed.{names_locks, shares_rightly, all_share_rightly};
 
 use crate::alike::{are_alike, hold_the_same};
 use crate::build::add;
+use crate::trial::Trial::Generated;
+use crate::trial::on_both;
 use lock_queue::{
     Asking, EnqueueKind, Group, Key, Level, LockCall, LockTable, Name, Pool, RequestId, Scope,
     UserCode, Want, Wants, Woken,
 };
-use lock_table::IndexedTable;
-use plain_table::PlainTable;
-use std::alloc::{AllocError, Global};
 use std::process::Abort;
 
 /// Numbers in no order.
@@ -194,17 +193,18 @@ fn step<L: LockTable, M: LockTable>(a: &mut L, b: &mut M, numbers: &mut Numbers)
     true
 }
 
-/// Makes generated steps on both tables, and compares after each what they hold, and every so often all
-/// that they tell. The most requests that were present.
-fn most_present<L: LockTable, M: LockTable>(
+/// Makes 10,000 steps on both tables, which are generated from a start, and compares after each what they hold, and
+/// every so often all that they tell. The most requests that were present.
+pub fn most_present<L: LockTable, M: LockTable>(
     rt: &impl Abort,
     a: &mut L,
     b: &mut M,
-    numbers: &mut Numbers,
+    start: u64,
 ) -> usize {
+    let mut numbers = Numbers::new(start);
     let mut most = 0usize;
     for n in 0..10_000 {
-        assert!(rt; step(a, b, numbers), "step {n}");
+        assert!(rt; step(a, b, &mut numbers), "step {n}");
         assert!(rt; hold_the_same(a, b), "step {n}");
         if n % 10 == 0 {
             assert!(rt; are_alike(a, b), "step {n}");
@@ -214,33 +214,13 @@ fn most_present<L: LockTable, M: LockTable>(
     most
 }
 
-/// Makes generated steps from this start on both tables, which have room for so many requests, and gives the
-/// most that were present.
-fn most_of<const REQS: usize>(
-    rt: &impl Abort,
-    alloc: Global,
-    start: u64,
-) -> Result<usize, AllocError>
-    requires least { 1 ≤ REQS }
-    requires most { REQS ≤ MOST_REQUESTS }
-{
-    let mut plain: PlainTable<REQS> = PlainTable::new(alloc)?;
-    let mut indexed: IndexedTable<REQS> = IndexedTable::new(alloc)?;
-    let mut numbers = Numbers::new(start);
-    Ok(most_present(rt, &mut plain, &mut indexed, &mut numbers))
-}
-
 #[test]
-fn generated_steps_do_the_same(rt: HostRuntime) -> Result<(), AllocError> {
-    let most = most_of::<256>(&rt, rt.alloc(), 1)?;
-    assert!(rt; most > 12, "{most} requests at most");
-    Ok(())
+fn generated_steps_do_the_same(rt: HostRuntime) {
+    on_both::<256>(&rt, rt.alloc(), Generated(1, 13, 256));
 }
 
 /// Generated steps do the same on both tables where these are often full.
 #[test]
-fn generated_steps_do_the_same_where_few_fit(rt: HostRuntime) -> Result<(), AllocError> {
-    let most = most_of::<5>(&rt, rt.alloc(), 2)?;
-    assert_eq!(rt; most, 5);
-    Ok(())
+fn generated_steps_do_the_same_where_few_fit(rt: HostRuntime) {
+    on_both::<5>(&rt, rt.alloc(), Generated(2, 5, 5));
 }

@@ -3,8 +3,9 @@
 use crate::build::Call::{Asks, Changes, GivesUp, GivesUpAll};
 use crate::build::Lock::{Alone, OfPool, Shared};
 use crate::build::Locks::One;
+use crate::trial::walk;
+use crate::walk::Row;
 use crate::walk::Row::{Calls, Grants, ReleaseGrants};
-use crate::walk::{Row, walk};
 use lock_queue::EnqueueKind::{Blocking, Interrupt};
 use lock_queue::LockReply::{Done, Granted, Queued};
 use lock_queue::{LockReply, Refusal};

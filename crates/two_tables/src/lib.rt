@@ -22,4 +22,6 @@ mod shows;
 #[cfg(test)]
 mod told_apart;
 #[cfg(test)]
+mod trial;
+#[cfg(test)]
 mod walk;

@@ -1,68 +1,26 @@
 //! How much a queue and a job may have, groups, waits that end together, and a list of calls.
-ghost use Rattle.std.specs.Prelude.{◌≤◌};
-ghost use Rattle.word36.specs.declared.sizes.TheConstants.{MOST_REQUESTS};
 
-use crate::alike::are_alike;
 use crate::build::Call::{Asks, AsksUnarmed, AsksWithin, Changes, GivesUp, GivesUpId};
 use crate::build::Lock::{Alone, Bypassing, Grouped, Shared};
 use crate::build::Locks::{One, Two};
-use crate::build::{Call, Locks, lock_call};
+use crate::build::{Call, Locks};
+use crate::trial::Trial::Rows;
+use crate::trial::{on_both, walk};
+use crate::walk::Row;
 use crate::walk::Row::{
-    Calls, Code, Granted as AreGranted, Grants, Releases, Requests, WithdrawsAll,
+    Calls, Code, Fills, FillsQuota, Granted as AreGranted, Grants, IsFull, Lists, Releases,
+    Requests, WithdrawsAll,
 };
-use crate::walk::{Row, indexed_table, plain_table, walk, walk_for, walk_on};
 use lock_queue::EnqueueKind::{AtOnce, Blocking, Interrupt};
 use lock_queue::LockReply::{Done, Granted, Queued};
-use lock_queue::{LockReply, LockTable, Refusal, run_calls};
-use lock_table::IndexedTable;
-use plain_table::PlainTable;
-use std::alloc::{AllocError, Global};
-use std::process::Abort;
+use lock_queue::{LockReply, Refusal};
 use word36::{JOBS, MOST_REQUESTS};
 
-/// The quota of a job that was just logged in.
-const LOGIN_QUOTA: u16 = 64;
+/// A request for a lock of its own, which counts as the next one behind those that fill a table.
+const NEXT: Call = Asks(AtOnce, 0, One(Bypassing(0, 0)));
 
-/// A request of job 1 for a lock of its own, of this number.
-fn ask(number: usize) -> Call
-    requires { number ≤ MOST_REQUESTS }
-{
-    Asks(AtOnce, number as u16, One(Bypassing(number as u32, 0)))
-}
-
-/// Fills both tables with requests of job 1, and looks that they take no more before one leaves.
-fn fill<L: LockTable, M: LockTable>(rt: &impl Abort, plain: &mut L, indexed: &mut M) {
-    for i in 1..=L::REQS {
-        let row = Calls(1, ask(i), Granted);
-        assert!(rt; row.holds(plain) && row.holds(indexed), "request {i}");
-    }
-    let full = LockReply::Refused(Refusal::QueueFull);
-    let rows = [
-        Requests(L::REQS),
-        Calls(1, ask(0), full),
-        Requests(L::REQS),
-        Calls(1, GivesUpId(1), Done),
-        Calls(1, ask(0), Granted),
-        Calls(1, ask(1), full),
-    ];
-    walk_on(rt, plain, indexed, &rows);
-}
-
-/// Both tables of a size are filled by job 1, and then these rows are walked on them.
-fn full_tables<const REQS: usize>(
-    rt: &impl Abort,
-    alloc: Global,
-    rows: &[Row],
-) -> Result<(), AllocError>
-    requires least { 1 ≤ REQS }
-    requires most { REQS ≤ MOST_REQUESTS }
-{
-    let mut plain: PlainTable<REQS> = PlainTable::new(alloc)?;
-    let mut indexed: IndexedTable<REQS> = IndexedTable::new(alloc)?;
-    fill(rt, &mut plain, &mut indexed);
-    walk_on(rt, &mut plain, &mut indexed, rows);
-    Ok(())
-}
+/// The first of the requests that fill a table.
+const FIRST: Call = Asks(AtOnce, 1, One(Bypassing(1, 0)));
 
 const FULL: LockReply = LockReply::Refused(Refusal::QueueFull);
 
@@ -79,14 +37,26 @@ const AGAIN: LockReply = LockReply::Refused(Refusal::NamedAlready);
 
 const LOST: LockReply = LockReply::Refused(Refusal::WouldLose);
 
+/// A table that one job fills takes no more, and one again when one has left.
+static FILLED: [Row; 7] = [
+    Fills(1),
+    IsFull,
+    Calls(1, NEXT, FULL),
+    IsFull,
+    Calls(1, GivesUpId(1), Done),
+    Calls(1, NEXT, Granted),
+    Calls(1, FIRST, FULL),
+];
+
 /// 256 requests of one job, each of which bypasses the rule of levels, and then one more.
 #[test]
-fn full_queue_takes_no_more(rt: HostRuntime) -> Result<(), AllocError> {
-    full_tables::<256>(&rt, rt.alloc(), &[])
+fn full_queue_takes_no_more(rt: HostRuntime) {
+    walk(&rt, rt.alloc(), &FILLED);
 }
 
-/// The rows of `limits_table`.
-static LIMITS_TABLE: [Row; 6] = [
+/// One request of a table of one is over the quota of its own job and finds the queue full of another's.
+static FULL_OF_ONE: [Row; 7] = [
+    Fills(1),
     Calls(1, AsksWithin(1, Blocking, 2, LOCK), MUCH),
     Calls(1, AsksWithin(1, AtOnce, 2, LOCK), MUCH),
     Calls(1, AsksWithin(1, Interrupt, 2, LOCK), UNARMED),
@@ -95,13 +65,13 @@ static LIMITS_TABLE: [Row; 6] = [
     Calls(JOBS, AsksWithin(1, AtOnce, 2, LOCK), FULL),
 ];
 
-/// The least and the greatest tables. One request of a table of one is over the quota of its own job and
-/// finds the queue full of another's.
+/// The least and the greatest tables.
 #[test]
-fn limits_table(rt: HostRuntime) -> Result<(), AllocError> {
-    full_tables::<1>(&rt, rt.alloc(), &LIMITS_TABLE)?;
-    full_tables::<2>(&rt, rt.alloc(), &[])?;
-    full_tables::<MOST_REQUESTS>(&rt, rt.alloc(), &[])
+fn limits_table(rt: HostRuntime) {
+    on_both::<1>(&rt, rt.alloc(), Rows(&FILLED));
+    on_both::<1>(&rt, rt.alloc(), Rows(&FULL_OF_ONE));
+    on_both::<2>(&rt, rt.alloc(), Rows(&FILLED));
+    on_both::<MOST_REQUESTS>(&rt, rt.alloc(), Rows(&FILLED));
 }
 
 /// The rows of `full_table_is_called`.
@@ -136,7 +106,7 @@ static FULL_TABLE_IS_CALLED: [Row; 25] = [
 /// Of a full table: which code comes before that of the full queue, and what can still be done.
 #[test]
 fn full_table_is_called(rt: HostRuntime) {
-    walk_for::<2>(&rt, rt.alloc(), &FULL_TABLE_IS_CALLED);
+    on_both::<2>(&rt, rt.alloc(), Rows(&FULL_TABLE_IS_CALLED));
 }
 
 /// The rows of `quotas`.
@@ -170,18 +140,17 @@ fn quotas(rt: HostRuntime) {
     walk(&rt, rt.alloc(), &QUOTAS);
 }
 
+/// The rows of `quota_of_a_new_job`.
+static QUOTA_OF_A_NEW_JOB: [Row; 3] = [
+    FillsQuota(1, 64),
+    Code(1, AsksWithin(64, AtOnce, 0, One(Bypassing(0, 0))), 16),
+    Requests(64),
+];
+
 /// A job that was just logged in has as many requests as it may have.
 #[test]
 fn quota_of_a_new_job(rt: HostRuntime) {
-    let mut plain = plain_table(&rt, rt.alloc());
-    let mut indexed = indexed_table(&rt, rt.alloc());
-    for i in 1..=LOGIN_QUOTA {
-        let ask = AsksWithin(LOGIN_QUOTA, AtOnce, i, One(Bypassing(u32::from(i), 0)));
-        walk_on(&rt, &mut plain, &mut indexed, &[Calls(1, ask, Granted)]);
-    }
-    let more = AsksWithin(LOGIN_QUOTA, AtOnce, 0, One(Bypassing(0, 0)));
-    let rows = [Code(1, more, 16), Requests(usize::from(LOGIN_QUOTA))];
-    walk_on(&rt, &mut plain, &mut indexed, &rows);
+    walk(&rt, rt.alloc(), &QUOTA_OF_A_NEW_JOB);
 }
 
 /// The rows of `groups`.
@@ -224,21 +193,10 @@ fn waits_end_together(rt: HostRuntime) {
     walk(&rt, rt.alloc(), &WAITS_END_TOGETHER);
 }
 
+/// The rows of `list_of_calls`.
+static LIST_OF_CALLS: [Row; 2] = [Lists, Requests(1)];
+
 #[test]
 fn list_of_calls(rt: HostRuntime) {
-    let mut plain = plain_table(&rt, rt.alloc());
-    let mut indexed = indexed_table(&rt, rt.alloc());
-    let calls = [
-        (1, lock_call(Asks(AtOnce, 1, One(Bypassing(1, 0))))),
-        (1, lock_call(GivesUpId(1))),
-        (2, lock_call(Asks(AtOnce, 2, One(Bypassing(1, 0))))),
-    ];
-    let mut replies = [LockReply::Queued; 3];
-    run_calls(&mut plain, &calls, &mut replies);
-    assert_eq!(rt; replies, [Granted, Done, Granted]);
-    let mut replies = [LockReply::Queued; 3];
-    run_calls(&mut indexed, &calls, &mut replies);
-    assert_eq!(rt; replies, [Granted, Done, Granted]);
-    assert_eq!(rt; plain.len(), 1);
-    assert!(rt; are_alike(&plain, &indexed));
+    walk(&rt, rt.alloc(), &LIST_OF_CALLS);
 }

@@ -3,8 +3,9 @@
 use crate::build::Call::{Asks, AsksUnarmed, Changes, GivesUp, GivesUpAll, GivesUpId};
 use crate::build::Lock::{Alone, OfPool, Shared};
 use crate::build::Locks::{One, Two};
+use crate::trial::walk;
+use crate::walk::Row;
 use crate::walk::Row::{Code, Granted, Requests};
-use crate::walk::{Row, walk};
 use lock_queue::EnqueueKind::{AtOnce, Blocking};
 
 /// The rows of `each_code`.

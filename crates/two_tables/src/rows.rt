@@ -3,8 +3,9 @@
 use crate::build::Call::{Asks, Changes, GivesUp};
 use crate::build::Lock::{Alone, Bypassing, OfPool, Shared};
 use crate::build::Locks::{One, Two};
+use crate::trial::walk;
+use crate::walk::Row;
 use crate::walk::Row::{Calls, Granted, Releases, Requests, Status, Waits, WaitsFor};
-use crate::walk::{Row, walk};
 use lock_queue::EnqueueKind::{AtOnce, Blocking};
 use lock_queue::{LockReply, Refusal};
 

@@ -2,15 +2,16 @@
 ghost use Rattle.std.specs.Prelude.{IsTrue};
 ghost use Rattle.lock_queue.specs.WellFormed.{names_locks, all_share_rightly};
 
-use crate::alike::are_alike;
 use crate::build::Call::{Asks, GivesUpAll, GivesUpId};
 use crate::build::Lock::{Alone, Bypassing};
 use crate::build::Locks::{One, Two};
 use crate::build::{ANY_QUOTA, alone, one};
+use crate::trial::Trial::Scopes;
+use crate::trial::{on_tables, walk};
+use crate::walk::Row;
 use crate::walk::Row::{
     Calls, Clears, Granted as GrantedIds, Pending, Requests, Status, Tells, Withdraws,
 };
-use crate::walk::{Row, indexed_table, plain_table, walk};
 use lock_queue::EnqueueKind::{AtOnce, Blocking, Interrupt};
 use lock_queue::LockReply::{Done, Granted, Queued};
 use lock_queue::{
@@ -101,7 +102,7 @@ fn ask_for_tape(rt: &impl Abort, scope: Scope) -> LockCall
 }
 
 /// Three jobs ask for the lock `TAPE` of three scopes: each is granted.
-fn ask_by_scopes<L: LockTable>(rt: &impl Abort, table: &mut L) {
+pub fn ask_by_scopes<L: LockTable>(rt: &impl Abort, table: &mut L) {
     for (job, scope) in [(1, Scope::Job(1)), (2, Scope::Job(2)), (3, Scope::All)] {
         assert_eq!(rt;
             table.call(job, &ask_for_tape(rt, scope)),
@@ -112,9 +113,5 @@ fn ask_by_scopes<L: LockTable>(rt: &impl Abort, table: &mut L) {
 
 #[test]
 fn names_are_told_apart_by_scope(rt: HostRuntime) {
-    let mut plain = plain_table(&rt, rt.alloc());
-    let mut indexed = indexed_table(&rt, rt.alloc());
-    ask_by_scopes(&rt, &mut plain);
-    ask_by_scopes(&rt, &mut indexed);
-    assert!(rt; are_alike(&plain, &indexed));
+    on_tables(&rt, rt.alloc(), Scopes);
 }

@@ -1,19 +1,19 @@
-//! The rows of a test, and how they are walked on both tables.
-ghost use Rattle.std.specs.Prelude.{◌≤◌};
-ghost use Rattle.word36.specs.declared.sizes.TheConstants.{MOST_REQUESTS};
+//! The rows of a test, and how they are walked on two tables.
 
 use crate::alike::are_alike;
-use crate::build::{Call, key, lock_call};
-use lock_queue::{Grant, LockReply, LockTable, Woken};
-use lock_table::IndexedTable;
-use plain_table::PlainTable;
-use std::alloc::Global;
+use crate::build::Call::{Asks, AsksWithin, GivesUpId};
+use crate::build::Lock::Bypassing;
+use crate::build::Locks::One;
+use crate::build::{ANY_QUOTA, Call, key, lock_call};
+use lock_queue::EnqueueKind::AtOnce;
+use lock_queue::LockReply::{Done, Granted, Queued};
+use lock_queue::{Grant, LockReply, LockTable, Woken, run_calls};
 use std::process::Abort;
 use word36::JOBS;
 
 /// A call and its answer, something else that is done, or something that must be seen. The number of a
 /// job comes first.
-#[derive(Clone, Copy, Debug)]
+#[derive(Clone, Copy)]
 pub enum Row<'a> {
     /// A call, and its answer.
     Calls(u8, Call, LockReply),
@@ -21,6 +21,13 @@ pub enum Row<'a> {
     Code(u8, Call, u8),
     /// A call, its answer, and the jobs and ids of the grants that it makes, in order of arrival.
     Grants(u8, Call, LockReply, &'a [(u8, u32)]),
+    /// A job fills the table with requests for locks of their own, which are granted. Their ids count from 1.
+    Fills(u8),
+    /// A job makes as many such requests as this, which is its quota, and they are granted.
+    FillsQuota(u8, u16),
+    /// A list of three calls, each of which is answered: one job asks for a lock and gives it up, and then another asks
+    /// for it.
+    Lists,
     /// A job's requests are taken out.
     Releases(u8),
     /// A job's requests are taken out, and the grants that this makes.
@@ -37,6 +44,8 @@ pub enum Row<'a> {
     Granted(&'a [u32]),
     /// How many requests there are.
     Requests(usize),
+    /// There are as many requests as the table has room for.
+    IsFull,
     /// Whether a job waits.
     Waits(u8, bool),
     /// Whether a job waits for another.
@@ -61,6 +70,30 @@ fn code<L: LockTable>(table: &mut L, job: u8, call: Call) -> Option<u8> {
         LockReply::Refused(refusal) => Some(refusal.code()),
         LockReply::Granted | LockReply::Queued | LockReply::Done => Some(0),
     }
+}
+
+/// Makes so many requests of a job that has this quota, with ids from 1 on, each for a lock of its own, and tells
+/// whether all are granted.
+fn fills<L: LockTable>(table: &mut L, job: u8, quota: u16, count: u16) -> bool {
+    for i in 1..=count {
+        let ask = AsksWithin(quota, AtOnce, i, One(Bypassing(u32::from(i), 0)));
+        if reply(table, job, ask) != Some(Granted) {
+            return false;
+        }
+    }
+    true
+}
+
+/// Whether a list of calls is answered: a job asks for a lock and gives it up, and then another asks for it.
+fn lists<L: LockTable>(table: &mut L) -> bool {
+    let calls = [
+        (1, lock_call(Asks(AtOnce, 1, One(Bypassing(1, 0))))),
+        (1, lock_call(GivesUpId(1))),
+        (2, lock_call(Asks(AtOnce, 2, One(Bypassing(1, 0))))),
+    ];
+    let mut replies = [Queued; 3];
+    run_calls(table, &calls, &mut replies);
+    replies == [Granted, Done, Granted]
 }
 
 /// Whether a grant is of this job and id.
@@ -131,6 +164,9 @@ impl Row<'_> {
             Row::Code(job, call, number) => code(table, *job, *call) == Some(*number),
             Row::Grants(job, call, answer, pairs) => grants(table, *job, *call, *answer, pairs),
             Row::ReleaseGrants(job, pairs) => release_grants(table, *job, pairs),
+            Row::Fills(job) => fills(table, *job, ANY_QUOTA, L::REQS as u16),
+            Row::FillsQuota(job, quota) => fills(table, *job, *quota, *quota),
+            Row::Lists => lists(table),
             Row::Releases(job) => {
                 table.release(*job);
                 true
@@ -153,6 +189,7 @@ impl Row<'_> {
             }
             Row::Granted(ids) => are_granted(table, ids),
             Row::Requests(count) => table.len() == *count,
+            Row::IsFull => table.len() == L::REQS,
             Row::Waits(job, waits) => table.waiting(*job) == *waits,
             Row::WaitsFor(job, other, waits) => table.waits_for(*job, *other) == *waits,
             Row::Pending(job, id) => table.pending(*job).map(|id| id.number()) == *id,
@@ -161,44 +198,23 @@ impl Row<'_> {
     }
 }
 
-/// Walks the rows on two tables: each row holds of both, and after it both are alike.
-pub fn walk_on<L: LockTable, M: LockTable>(
+/// Walks rows on a table: each must hold of it.
+pub fn walk_one<L: LockTable>(rt: &impl Abort, table: &mut L, rows: &[Row]) {
+    for (i, row) in rows.iter().enumerate() {
+        assert!(rt; row.holds(table), "row {i}");
+    }
+}
+
+/// Walks rows on two tables: each holds of both, and after it both are alike.
+pub fn walk_both<L: LockTable, M: LockTable>(
     rt: &impl Abort,
     plain: &mut L,
     indexed: &mut M,
     rows: &[Row],
 ) {
     for (i, row) in rows.iter().enumerate() {
-        assert!(rt; row.holds(plain), "row {i} on the plain table: {row:?}");
-        assert!(rt; row.holds(indexed), "row {i} on the indexed table: {row:?}");
-        assert!(rt; are_alike(plain, indexed), "behind row {i}: {row:?}");
+        assert!(rt; row.holds(plain), "row {i} on the plain table");
+        assert!(rt; row.holds(indexed), "row {i} on the indexed table");
+        assert!(rt; are_alike(plain, indexed), "behind row {i}");
     }
-}
-
-/// The size of the tables that most rows are walked on.
-const ROOM: usize = 256;
-
-/// A plain table without requests.
-pub fn plain_table(rt: &impl Abort, alloc: Global) -> PlainTable<ROOM> {
-    PlainTable::new(alloc).expect(rt, "memory for the plain table")
-}
-
-/// An indexed table without requests.
-pub fn indexed_table(rt: &impl Abort, alloc: Global) -> IndexedTable<ROOM> {
-    IndexedTable::new(alloc).expect(rt, "memory for the indexed table")
-}
-
-/// Walks the rows on both tables without requests, which have room for so many.
-pub fn walk_for<const REQS: usize>(rt: &impl Abort, alloc: Global, rows: &[Row])
-    requires least { 1 ≤ REQS }
-    requires most { REQS ≤ MOST_REQUESTS }
-{
-    let mut plain: PlainTable<REQS> = PlainTable::new(alloc).expect(rt, "memory for a table");
-    let mut indexed: IndexedTable<REQS> = IndexedTable::new(alloc).expect(rt, "memory for a table");
-    walk_on(rt, &mut plain, &mut indexed, rows);
-}
-
-/// Walks the rows on both tables without requests.
-pub fn walk(rt: &impl Abort, alloc: Global, rows: &[Row]) {
-    walk_for::<ROOM>(rt, alloc, rows);
 }
