@@ -20,11 +20,23 @@ fn is_same_want(v: &Want, w: &Want) -> bool {
         && v.pool == w.pool
 }
 
+/// Whether two lists of wants are the same.
+fn are_same_wants(vs: &[Want], ws: &[Want]) -> bool {
+    if vs.len() != ws.len() {
+        return false;
+    }
+    for (i, v) in vs.iter().enumerate() {
+        if !is_same_want(v, &ws[i]) {
+            return false;
+        }
+    }
+    true
+}
+
 /// Whether two requests are the same.
 fn is_same_request(a: &Request, b: &Request) -> bool {
     let is_same_head = a.job == b.job && a.id == b.id && a.kind == b.kind && a.told == b.told;
-    let mut pairs = a.wants.iter().zip(b.wants.iter());
-    is_same_head && a.wants.len() == b.wants.len() && pairs.all(|(v, w)| is_same_want(v, w))
+    is_same_head && are_same_wants(a.wants.as_slice(), b.wants.as_slice())
 }
 
 /// Whether two tables hold the same requests in the same order, granted alike.

@@ -216,11 +216,21 @@ pub fn most_present<L: LockTable, M: LockTable>(
 
 #[test]
 fn generated_steps_do_the_same(rt: HostRuntime) {
-    on_both::<256>(&rt, rt.alloc(), Generated(1, 13, 256));
+    let trial = Generated {
+        start: 1,
+        least: 13,
+        most: 256,
+    };
+    on_both::<256>(&rt, rt.alloc(), trial);
 }
 
 /// Generated steps do the same on both tables where these are often full.
 #[test]
 fn generated_steps_do_the_same_where_few_fit(rt: HostRuntime) {
-    on_both::<5>(&rt, rt.alloc(), Generated(2, 5, 5));
+    let trial = Generated {
+        start: 2,
+        least: 5,
+        most: 5,
+    };
+    on_both::<5>(&rt, rt.alloc(), trial);
 }

@@ -80,7 +80,12 @@ static DIFFERING: [(Call, Call); 12] = [
 
 /// Walks rows on the plain table and others on the indexed one: the two are alike then, or are not.
 fn compare(rt: &impl Abort, alloc: Global, first: &[Row], second: &[Row], alike: bool) {
-    on_tables(rt, alloc, Apart(first, second, alike));
+    let trial = Apart {
+        first,
+        second,
+        alike,
+    };
+    on_tables(rt, alloc, trial);
 }
 
 const NOT_GRANTED: LockReply = Refused(Refusal::NotGranted);
@@ -97,18 +102,30 @@ fn requests_that_differ_are_told_apart(rt: HostRuntime) {
     }
 }
 
+/// A request of job 1, and one of job 2 for another lock.
+static TWO: [Row; 2] = [
+    Calls(1, Asks(AtOnce, 1, One(Alone(1, 0))), Granted),
+    Calls(2, Asks(AtOnce, 1, One(Alone(2, 0))), Granted),
+];
+
+/// The same two in the other order.
+static TURNED: [Row; 2] = [
+    Calls(2, Asks(AtOnce, 1, One(Alone(2, 0))), Granted),
+    Calls(1, Asks(AtOnce, 1, One(Alone(1, 0))), Granted),
+];
+
+/// The request of job 1 is one of job 2.
+static OTHER_JOB: [Row; 1] = [Calls(2, Asks(AtOnce, 1, One(Alone(1, 0))), Granted)];
+
 #[test]
 fn lists_that_differ_are_told_apart(rt: HostRuntime) {
     let alloc = rt.alloc();
-    let one = Calls(1, Asks(AtOnce, 1, One(Alone(1, 0))), Granted);
-    let two = Calls(2, Asks(AtOnce, 1, One(Alone(2, 0))), Granted);
-    let other_job = Calls(2, Asks(AtOnce, 1, One(Alone(1, 0))), Granted);
     // whose request it is, how many there are, and in which order
-    compare(&rt, alloc, &[one], &[other_job], false);
-    compare(&rt, alloc, &[one], &[], false);
-    compare(&rt, alloc, &[one], &[one, two], false);
-    compare(&rt, alloc, &[one, two], &[two, one], false);
-    compare(&rt, alloc, &[one, two], &[one, two], true);
+    compare(&rt, alloc, &TWO[..1], &OTHER_JOB, false);
+    compare(&rt, alloc, &TWO[..1], &[], false);
+    compare(&rt, alloc, &TWO[..1], &TWO, false);
+    compare(&rt, alloc, &TWO, &TURNED, false);
+    compare(&rt, alloc, &TWO, &TWO, true);
 }
 
 /// The rows of `what_a_job_was_told_is_told_apart`.

@@ -18,24 +18,37 @@ pub enum Trial<'a> {
     /// Rows are walked on both.
     Rows(&'a [Row<'a>]),
     /// Rows are walked on the plain table and others on the indexed one, and then the two are alike, or are not.
-    Apart(&'a [Row<'a>], &'a [Row<'a>], bool),
-    /// Steps are generated from this start. The most requests that are present lie between two numbers.
-    Generated(u64, usize, usize),
+    Apart {
+        first: &'a [Row<'a>],
+        second: &'a [Row<'a>],
+        alike: bool,
+    },
+    /// Steps are generated from a start. The most requests that are present lie between two numbers.
+    Generated {
+        start: u64,
+        least: usize,
+        most: usize,
+    },
     /// Three jobs ask for the lock of one name in three scopes.
     Scopes,
 }
 
 /// Makes a trial of two tables.
-fn make<L: LockTable, M: LockTable>(rt: &impl Abort, plain: &mut L, indexed: &mut M, trial: Trial) {
+fn make<L: LockTable, M: LockTable>(rt: &impl Abort, mut plain: L, mut indexed: M, trial: Trial) {
+    let (plain, indexed) = (&mut plain, &mut indexed);
     match trial {
         Trial::Rows(rows) => walk_both(rt, plain, indexed, rows),
-        Trial::Apart(first, second, alike) => {
+        Trial::Apart {
+            first,
+            second,
+            alike,
+        } => {
             walk_one(rt, plain, first);
             walk_one(rt, indexed, second);
-            assert_eq!(rt; are_alike(plain, indexed), alike);
-            assert_eq!(rt; hold_the_same(plain, indexed), alike);
+            assert!(rt; are_alike(plain, indexed) == alike);
+            assert!(rt; hold_the_same(plain, indexed) == alike);
         }
-        Trial::Generated(start, least, most) => {
+        Trial::Generated { start, least, most } => {
             let present = most_present(rt, plain, indexed, start);
             assert!(rt;
                 least <= present && present <= most,
@@ -55,9 +68,9 @@ pub fn on_both<const REQS: usize>(rt: &impl Abort, alloc: Global, trial: Trial)
     requires least { 1 ≤ REQS }
     requires most { REQS ≤ MOST_REQUESTS }
 {
-    let mut plain: PlainTable<REQS> = PlainTable::new(alloc).expect(rt, "memory for a table");
-    let mut indexed: IndexedTable<REQS> = IndexedTable::new(alloc).expect(rt, "memory for a table");
-    make(rt, &mut plain, &mut indexed, trial);
+    let plain: PlainTable<REQS> = PlainTable::new(alloc).expect(rt, "memory for a table");
+    let indexed: IndexedTable<REQS> = IndexedTable::new(alloc).expect(rt, "memory for a table");
+    make(rt, plain, indexed, trial);
 }
 
 /// Makes a trial of both tables with room for as many requests as most rows are made for.

@@ -7,7 +7,7 @@ use crate::build::Locks::One;
 use crate::build::{ANY_QUOTA, Call, key, lock_call};
 use lock_queue::EnqueueKind::AtOnce;
 use lock_queue::LockReply::{Done, Granted, Queued};
-use lock_queue::{Grant, LockReply, LockTable, Woken, run_calls};
+use lock_queue::{LockReply, LockTable, Woken, run_calls};
 use std::process::Abort;
 use word36::JOBS;
 
@@ -96,19 +96,18 @@ fn lists<L: LockTable>(table: &mut L) -> bool {
     replies == [Granted, Done, Granted]
 }
 
-/// Whether a grant is of this job and id.
-fn is_grant(grant: &Grant, pair: &(u8, u32)) -> bool {
-    (grant.job, grant.id.number()) == *pair
-}
-
 /// Whether the grants are of these jobs and ids.
 fn are_grants(woken: &Woken, pairs: &[(u8, u32)]) -> bool {
     let grants = woken.as_slice();
-    grants.len() == pairs.len()
-        && grants
-            .iter()
-            .zip(pairs)
-            .all(|(grant, pair)| is_grant(grant, pair))
+    if grants.len() != pairs.len() {
+        return false;
+    }
+    for (i, (job, id)) in pairs.iter().enumerate() {
+        if grants[i].job != *job || grants[i].id.number() != *id {
+            return false;
+        }
+    }
+    true
 }
 
 /// Whether a call of a job answers so and makes these grants.
