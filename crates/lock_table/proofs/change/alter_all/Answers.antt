@@ -1,4 +1,5 @@
 use Rattle.std.proofs.Common.{◌≡◌, ◌<◌, ◌+◌, subst, ◌∷◌, drop, length, List, arith, lit<}
+use Rattle.std.proofs.lemmas.Grind.{common_steps}
 use Rattle.lock_queue.specs.declared.want.Want.{Want}
 use Rattle.lock_table.specs.Changing.{AreSound, IsAltering}
 use Rattle.lock_table.proofs.Writing.{altering_more, later_sound}
@@ -36,3 +37,6 @@ loop-c-preserved g c =
           c.alter.ensures.altered c.args.store.now c.args.keys.now
           changes (drop (i + 1) changes) sound.apart altered;
     }
+
+pub returns-clause-altered : goal.returns-clause-altered
+returns-clause-altered g c = grind (arith, common_steps)

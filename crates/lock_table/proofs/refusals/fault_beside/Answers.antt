@@ -22,3 +22,9 @@ returns-then-is_wanted_by g c = grind (arith, found_open, open_parts, first_alik
 
 pub returns-then-not-is_alike : goal.returns-then-not-is_alike
 returns-then-not-is_alike g c = grind (arith, found_open, open_parts, first_alike)
+
+pub first_want-requires : goal.first_want-requires
+first_want-requires g c = grind arith
+
+pub is_wanted_by-requires : goal.is_wanted_by-requires
+is_wanted_by-requires g c = grind arith

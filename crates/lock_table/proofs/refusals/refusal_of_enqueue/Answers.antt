@@ -14,3 +14,10 @@ returns-then-count_of-asking g c = record { refusal = grind (arith, common_steps
 
 pub returns-then-len : goal.returns-then-len
 returns-then-len g c = record { refusal = grind (arith, common_steps); long = λ e. absurd (none-some _ (sym e)); found = λ e. absurd (none-some _ (sym e)) }
+
+pub returns-else-len : goal.returns-else-len
+returns-else-len g c = record {
+  refusal = grind (arith, common_steps);
+  long = λ e. c.first_enqueue_fault-fault.ensures.long (grind arith);
+  found = λ e. c.first_enqueue_fault-fault.ensures.found (grind arith);
+}

@@ -23,3 +23,6 @@ returns g c = grind (arith, status_is, standing_owner, standing_waiter)
 
 pub loop-i-init : goal.loop-i-init
 loop-i-init g c = grind (arith, common_steps)
+
+pub loop-i-preserved-then-f : goal.loop-i-preserved-then-f
+loop-i-preserved-then-f g c = grind (arith, common_steps)

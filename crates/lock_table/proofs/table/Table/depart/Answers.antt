@@ -2,9 +2,11 @@ use Rattle.std.proofs.Common.{◌≡◌, ◌==◌, ◌∙◌, sym, ap, subst, �
 use Rattle.key_queues.specs.Locks.{lock_at}
 use Rattle.lock_table.specs.Departures.{KeepsLocks}
 use Rattle.lock_table.specs.Filing.{own_at, state_of}
+use Rattle.key_queues.specs.Tables.{is_there}
 use Rattle.key_queues.specs.States.{State, IsTable, IsUsed, OpenAreUsed, CountsBut}
 use Rattle.key_queues.proofs.Using.{used_after, full_empty, full_extended}
 use Rattle.key_queues.proofs.Opening.{open_given_up, open_extended}
+use Rattle.lock_table.proofs.Filing.{turned_then, wanting_before}
 use Rattle.lock_table.proofs.table.Table.depart.Goals as goal
 
 pub extend-requires : goal.extend-requires
@@ -68,3 +70,11 @@ returns-else-is_empty-clause-locks g c =
       keys = λ m. more.key m ∙ gives.key m;
       queues = λ m ne. more.others m (λ e. ne (e ∙ c.give_up-n.ensures.number)) ∙ gives.others m ne;
     }
+
+pub returns-else-is_empty-clause-turns : goal.returns-else-is_empty-clause-turns
+returns-else-is_empty-clause-turns g c =
+    let t = c.give_up-n.new.self.store in
+    let u = c.extend.new.self.store in
+    let more = c.extend.ensures.extended in
+    turned_then c.args.self.now.store t u c.args.self.now.turns c.give_up-n.new.self.turns c.extend.new.self.turns
+    (λ x h. wanting_before t u x (λ there. (subst (λ l. is_there x l ≡ true) more.order there, more.at x)) h) c.give_up-n.ensures.turns c.extend.ensures.turns

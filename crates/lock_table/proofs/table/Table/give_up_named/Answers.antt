@@ -1,4 +1,5 @@
 use Rattle.std.proofs.Common.{◌≡◌, ◌∙◌, sym, subst, refl, arith, true, get_or, lit<, filter, not}
+use Rattle.std.proofs.lemmas.Grind.{common_steps}
 use Rattle.lock_queue.specs.declared.key.Key.{Key}
 use Rattle.lock_queue.specs.Dequeues.{has_wants}
 use Rattle.lock_queue.specs.Queue.{names}
@@ -87,3 +88,6 @@ loop-i-preserved g c =
           (λ j lt within. named_apart named i j lt within (get_or named j unused_want).key (is_next s c.args.job named j c.requires.passed within).new)
           inv.open_still;
     }
+
+pub returns-clause-left : goal.returns-clause-left
+returns-clause-left g c = grind (arith, common_steps)

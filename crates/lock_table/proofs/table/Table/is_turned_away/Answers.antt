@@ -22,3 +22,6 @@ returns-then-not-fits_last g c = grind (arith, common_steps, known g c.before, c
 
 pub loop-k-preserved : goal.loop-k-preserved
 loop-k-preserved g c = grind (arith, common_steps, known g c.before, c.loop-k.invariant)
+
+pub fits_last-requires : goal.fits_last-requires
+fits_last-requires g c = grind (arith, common_steps)
