@@ -12,8 +12,7 @@ use Rattle.lock_queue.specs.Keys.{same_key}
 use Rattle.lock_queue.specs.Queue.{names, all_wants, fits, granted_behind, wants_at, is_pooled, requests_of}
 use Rattle.lock_queue.specs.WellFormed.{are_apart, shares_rightly}
 use Rattle.lock_queue.proofs.Fitting.{eq-same_key, same_key-eq, same_key-swap, names-Has, names-found}
-use Rattle.lock_queue.proofs.Lists.{Has, list_all-Has, Pairs-across, list_all-each, list_any-Has, list_any-found, list_any-none, Has-filter}
-use Rattle.lock_queue.proofs.Lists.{Has-flat_map, Has-map}
+use Rattle.lock_queue.proofs.Lists.{Has, list_all-Has, Pairs-across, list_all-each, list_any-Has, list_any-found, list_any-none, Has-filter, Has-flat_map, Has-map}
 use Rattle.key_queues.specs.Tables.{own_wants, StandsOnce, is_there, places_at, CountsAt, is_counted}
 use Rattle.lock_table.specs.Changing.{changed_by, changed_once, fitting_then, is_lost_by, IsFreeAt, SparesPools, loses_by, want_then}
 use Rattle.std.proofs.lemmas.List.{map-id, map-append, take-append-drop, get_or_read}
@@ -21,7 +20,7 @@ use Rattle.key_queues.proofs.Lists.{found_Has}
 use Rattle.std.proofs.lemmas.List.Elements.{filter-append}
 use Rattle.std.proofs.lemmas.List.Folds.{list_any-append, list_all-append}
 use Rattle.key_queues.specs.Beginnings.{Alike, fitting, is_share_of}
-use Rattle.key_queues.specs.States.{State, IsTable, FlagsAll, IsKept, IsUsed, OpenAreUsed, Stands, all_count}
+use Rattle.key_queues.specs.States.{State, IsTable, FlagsAll, IsKept, IsUsed, OpenAreUsed, Stands, all_count, is_open}
 use Rattle.key_queues.proofs.Beginnings.{fits_split, alike-Has}
 use Rattle.key_queues.proofs.Counted.{as_many, counted_split, filter_around, none_kept, not_kept, want_of, wants_by_places}
 use Rattle.key_queues.proofs.Keeping.{Has-there, flags_tell_grants, once_pairs, split_there}
@@ -41,7 +40,6 @@ use Rattle.lock_table.specs.Reads.{request_at}
 use Rattle.lock_table.specs.Whole.{AreRight, requests_in}
 use Rattle.key_queues.proofs.Opening.{used_open}
 use Rattle.lock_table.proofs.Telling.{find_there}
-use Rattle.key_queues.specs.States.{is_open}
 
 -- ---- wants that are changed, and the wants of a key among them
 

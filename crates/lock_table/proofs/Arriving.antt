@@ -2,8 +2,7 @@
 use Rattle.std.proofs.Common.{◌≡◌, ◌≤◌, ◌<◌, ◌+◌, ◌*◌, ◌∙◌, sym, ap, subst, ℕ, zero, suc, Bool, true, false, ◌==◌, List, [], ◌∷◌, ◌++◌, length}
 use Rattle.std.proofs.Common.{get_or, inl, inr, refl, arith, length-append, Option, Some, None, not, set, take, ◌≢◌, map}
 use Rattle.std.specs.List.{list_any, list_all, All}
-use Rattle.std.proofs.lemmas.Bool.{or_left, or_right, or_cases, eq-eqb, eqb-true, both_ways, cases_eq, false≢true, not-true, not-false}
-use Rattle.std.proofs.lemmas.Bool.{false_from_ne_true}
+use Rattle.std.proofs.lemmas.Bool.{or_left, or_right, or_cases, eq-eqb, eqb-true, both_ways, cases_eq, false≢true, not-true, not-false, false_from_ne_true}
 use Rattle.std.proofs.lemmas.List.Folds.{list_any-append}
 use Rattle.word36.specs.declared.sizes.TheConstants.{LOCKS_A_CALL, JOBS}
 use Rattle.key_queues.specs.Tables.{is_there, IsAt}
@@ -21,8 +20,7 @@ use Rattle.key_queues.specs.Beginnings.{is_share_of, fitting}
 use Rattle.key_queues.specs.Locks.{lock_at, unused_lock}
 use Rattle.key_queues.specs.Stores.{Stored, filed_at, with_filed, inserted}
 use Rattle.key_queues.specs.Kept.{IsQueueOf, no_queue, appended, KeptQueue}
-use Rattle.key_queues.specs.States.{State, Stands, IsKept, CountsAll, FlagsBut, OpenAreUsed, IsUsed, is_open, Begins, TakesWant, FlagsAll, IsTable}
-use Rattle.key_queues.specs.States.{Enters, Renews}
+use Rattle.key_queues.specs.States.{State, Stands, IsKept, CountsAll, FlagsBut, OpenAreUsed, IsUsed, is_open, Begins, TakesWant, FlagsAll, IsTable, Enters, Renews}
 use Rattle.key_queues.proofs.Arriving.{beginning_keeps, taking_keeps, entering_keeps}
 use Rattle.key_queues.proofs.Counted.{fresh_queue}
 use Rattle.lock_table.specs.Filing.{state_of}

@@ -24,8 +24,7 @@ use Rattle.key_queues.specs.Tables.{is_counted, is_there, QueuesOf, StandsOnce}
 use Rattle.key_queues.proofs.Keeping.{letting_in_keeps, giving_up_keeps, leaving_keeps, queues_at, queues_without}
 use Rattle.key_queues.proofs.Moves.{there_without}
 use Rattle.key_queues.proofs.Lists.{split_at, length_take}
-use Rattle.key_queues.proofs.Using.{Next, as_many_queues, named_there, position_found, stands_in_queue, there_at, there_removed, kept_there}
-use Rattle.key_queues.proofs.Using.{there_kept}
+use Rattle.key_queues.proofs.Using.{Next, as_many_queues, named_there, position_found, stands_in_queue, there_at, there_removed, kept_there, there_kept}
 use Rattle.std.proofs.lemmas.Grind.{common_steps}
 use Rattle.std.proofs.lemmas.List.Elements.{filter-append}
 use Rattle.std.proofs.lemmas.List.Folds.{list_all-append}

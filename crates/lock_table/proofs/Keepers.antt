@@ -1,6 +1,5 @@
 -- Who keeps a request from a want, as the want's queue tells.
-use Rattle.std.proofs.Common.{◌≡◌, ◌<◌, ◌∙◌, sym, ap, subst, ℕ, zero, suc, Bool, true, ◌&&◌, ◌==◌, not, List, []}
-use Rattle.std.proofs.Common.{◌∷◌, ◌++◌, length, get_or, filter, inl, inr, refl, arith}
+use Rattle.std.proofs.Common.{◌≡◌, ◌<◌, ◌∙◌, sym, ap, subst, ℕ, zero, suc, Bool, true, ◌&&◌, ◌==◌, not, List, [], ◌∷◌, ◌++◌, length, get_or, filter, inl, inr, refl, arith}
 use Rattle.std.specs.List.{All, list_any, position_or_len}
 use Rattle.std.proofs.lemmas.List.Elements.{All-take}
 use Rattle.std.proofs.lemmas.List.{get_or_read}

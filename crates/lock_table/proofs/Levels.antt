@@ -1,6 +1,5 @@
 -- The wants of a key are of one level and of one pool, so the first tells of all.
-use Rattle.std.proofs.Common.{◌≡◌, ◌∙◌, sym, ap, subst, ℕ, Bool, true, List, [], ◌∷◌, filter, get_or, map}
-use Rattle.std.proofs.Common.{append-nil, unwrap_or}
+use Rattle.std.proofs.Common.{◌≡◌, ◌∙◌, sym, ap, subst, ℕ, Bool, true, List, [], ◌∷◌, filter, get_or, map, append-nil, unwrap_or, arith}
 use Rattle.std.specs.List.{list_all}
 use Rattle.lock_queue.specs.declared.key.Key.{Key}
 use Rattle.lock_queue.specs.declared.request.Request.{Request}
@@ -11,20 +10,17 @@ use Rattle.lock_queue.specs.Queue.{names, wants_at}
 use Rattle.lock_queue.specs.StatusWords.{first_level}
 use Rattle.lock_queue.specs.WellFormed.{are_apart}
 use Rattle.lock_queue.proofs.Lists.{Has}
-use Rattle.key_queues.specs.States.{IsTable}
+use Rattle.key_queues.specs.States.{IsTable, is_open}
 use Rattle.key_queues.specs.Tables.{is_there}
 use Rattle.key_queues.proofs.Counted.{own_wants_are, want_of, wants_by_places}
 use Rattle.key_queues.proofs.Standing.{one_of_key}
 use Rattle.key_queues.specs.declared.lock.Lock.{Lock}
 use Rattle.key_queues.specs.Stores.{Stored}
-use Rattle.lock_table.specs.Filing.{state_of}
+use Rattle.lock_table.specs.Filing.{state_of, want_filed}
 use Rattle.lock_table.specs.Reads.{request_at}
 use Rattle.lock_table.specs.Whole.{LevelsAgree, level_at, requests_in}
 use Rattle.lock_table.proofs.Queued.{first_there, mapped_all, queue_is, share_is, there_parts, want_is}
 use Rattle.key_queues.specs.Locks.{lock_at}
-use Rattle.key_queues.specs.States.{is_open}
-use Rattle.std.proofs.Common.{arith}
-use Rattle.lock_table.specs.Filing.{want_filed}
 
 -- the level of a request at a key is that of its want of it
 pub level_of_want : (r : Request) (key : Key) (w : Want) → are_apart r.wants.items ≡ true → Has r.wants.items w → w.key ≡ key → level_at r key ≡ w.level

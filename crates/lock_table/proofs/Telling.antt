@@ -9,8 +9,7 @@ use Rattle.word36.specs.declared.sizes.TheConstants.{JOBS}
 use Rattle.lock_queue.specs.declared.key.Key.{Key}
 use Rattle.lock_queue.specs.declared.request.Request.{Request}
 use Rattle.lock_queue.specs.declared.want.Want.{Want}
-use Rattle.lock_queue.specs.Jobs.{first_id, is_blocked_by, is_pending, is_waiting_job, pending, waits_for}
-use Rattle.lock_queue.specs.Jobs.{is_blocked as is_blocked_behind}
+use Rattle.lock_queue.specs.Jobs.{first_id, is_blocked_by, is_pending, is_waiting_job, pending, waits_for, is_blocked as is_blocked_behind}
 use Rattle.lock_queue.specs.Keys.{same_key}
 use Rattle.lock_queue.specs.Queue.{all_wants, chosen, granted, granted_behind, is_granted, is_owner, is_waiter, names, owners, some_behind, waiters}
 use Rattle.lock_queue.specs.StatusWords.{first_level, level_of, standing, status_of}
@@ -28,8 +27,7 @@ use Rattle.key_queues.proofs.Lists.{found_within, split_at}
 use Rattle.key_queues.proofs.Using.{there_kept}
 use Rattle.key_queues.specs.Stores.{Stored, filed_at, is_blocked, places_of}
 use Rattle.lock_table.specs.Filing.{state_of}
-use Rattle.lock_table.specs.Reads.{MarksGrants, before_of, id_at, is_blocked_from, is_pending_filed}
-use Rattle.lock_table.specs.Reads.{owners_among, request_at, requests_at, standing_at, waiters_among}
+use Rattle.lock_table.specs.Reads.{MarksGrants, before_of, id_at, is_blocked_from, is_pending_filed, owners_among, request_at, requests_at, standing_at, waiters_among}
 use Rattle.lock_table.specs.Whole.{AreRight, requests_in}
 use Rattle.lock_table.proofs.Reading.{wants_at_places}
 

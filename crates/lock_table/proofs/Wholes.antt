@@ -44,8 +44,7 @@ use Rattle.lock_queue.specs.declared.grant.Grant.{Grant}
 use Rattle.lock_queue.specs.declared.refusal.Refusal.{Refusal}
 use Rattle.lock_queue.specs.declared.refusal.Refusal.TheVariants.{NotPresent}
 use Rattle.lock_queue.specs.Calls.{outcome_of}
-use Rattle.lock_queue.specs.Jobs.{is_blocking, is_not_blocked_where, released, withdrawn_where, as_told, is_interrupt, is_pending, told_behind}
-use Rattle.lock_queue.specs.Jobs.{told_of}
+use Rattle.lock_queue.specs.Jobs.{is_blocking, is_not_blocked_where, released, withdrawn_where, as_told, is_interrupt, is_pending, told_behind, told_of}
 use Rattle.word36.specs.declared.sizes.TheConstants.{MOST_REQUESTS}
 use Rattle.key_queues.proofs.Marks.{marks_choose}
 use Rattle.lock_table.proofs.Telling.{any_mapped, before_is}
@@ -326,6 +325,10 @@ none_found : (requests l : List Request) (b : Bool) (grants : List Grant) → ((
     → [] ≡ unless_refused_grants (cond b (outcome l Done) (outcome requests (Refused NotPresent))).reply grants
 none_found requests l true grants ne = absurd (ne refl)
 none_found requests l false grants ne = refl
+
+-- who is refused is not done
+pub refused_done : (refusal : Refusal) → Refused refusal ≡ Done → ⊥
+refused_done refusal e = cc
 
 -- another makes no grants that are told
 pub quiet : (size : ℕ) (requests : List Request) (job : ℕ) (call : LockCall) → ((outcome_of size requests job call).reply ≡ Done → ⊥)

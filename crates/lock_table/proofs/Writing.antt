@@ -3,8 +3,7 @@ use Rattle.std.proofs.Common.{◌≡◌, ◌≤◌, ◌<◌, ◌∙◌, sym, ap,
 use Rattle.std.proofs.Common.{take, drop, get_or, slice_get, map, sum_by, min, Some, None, inl, inr, refl, arith, Bool, ◌&&◌, is_some, ◌≢◌, ◌⊎◌}
 use Rattle.std.specs.List.{list_all, position_or_len, All, list_any}
 use Rattle.std.proofs.Math.Nat.{le-min, min-le_left, min-le_right}
-use Rattle.std.proofs.lemmas.Bool.{cases_eq, eq-eqb, eqb-true, and_from, and_parts, both_ways, false_from_ne_true, not-false, not-true, or_left}
-use Rattle.std.proofs.lemmas.Bool.{or_right, or_from}
+use Rattle.std.proofs.lemmas.Bool.{cases_eq, eq-eqb, eqb-true, and_from, and_parts, both_ways, false_from_ne_true, not-false, not-true, or_left, or_right, or_from}
 use Rattle.std.proofs.lemmas.List.{length-map}
 use Rattle.std.proofs.lemmas.Option.{slice_get-get_or}
 use Rattle.lock_queue.specs.declared.request.Request.{Request}

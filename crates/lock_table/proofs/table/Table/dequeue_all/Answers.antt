@@ -3,7 +3,7 @@ use Rattle.lock_queue.specs.declared.call.LockCall.TheVariants.{DequeueAll}
 use Rattle.lock_queue.specs.Dequeues.{is_of_job}
 use Rattle.lock_queue.specs.Grants.{left_of}
 use Rattle.lock_table.specs.Reads.{request_at}
-use Rattle.lock_table.proofs.Wholes.{leaves_by, left_dequeued}
+use Rattle.lock_table.proofs.Wholes.{leaves_by, left_dequeued, refused_done}
 use Rattle.lock_table.proofs.table.Table.dequeue_all.Goals as goal
 
 pub returns : goal.returns
@@ -26,4 +26,4 @@ returns-then-not-release g c =
     let both =
     left_dequeued c.args.self.now.store c.release.new.self.store (is_of_job c.args.job) false c.release.ensures.left
     (sym c.if-not-release.true ∙ c.release.ensures.some) in
-    record { whole = c.release.ensures.whole; requests = both.0; reply = both.1; left = λ done. absurd (cc); turns = λ done. c.release.ensures.turns }
+    record { whole = c.release.ensures.whole; requests = both.0; reply = both.1; left = λ done. absurd (refused_done _ done); turns = λ done. c.release.ensures.turns }

@@ -42,7 +42,7 @@ loop-c-preserved g c =
     }
 
 pub extend-requires : goal.extend-requires
-extend-requires g c = grind arith
+extend-requires g c = grind (arith, c.loop-c.invariant, c.in-Some.ensures)
 
 pub returns-clause-extended : goal.returns-clause-extended
 returns-clause-extended g c = grind (arith, common_steps)
