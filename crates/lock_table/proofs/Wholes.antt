@@ -227,7 +227,8 @@ module _ (s t : Stored) (locks more : List Lock) (left : Request → Option Requ
   raised_is x present stay =
       let there : is_there x t.order ≡ true = ap (is_there x) leaves.order ∙ kept_there leaves.stays x s.order present stay in
       let same = same_test (filed_at s x).granted (filed_at t x).granted (is_told_of (request_at s x).kind) in
-      grind (arith, turned x there, none x, leaves.left_is x present, kinds (request_at s x) (request_at t x), same)
+      let kind = kinds (request_at s x) (request_at t x) (leaves.left_is x present ∙ ap (λ b. staying_if b (request_at t x)) stay) in
+      rw (turned x there, none x, kind, stay) same
 
   raised_all : (xs : List ℕ) → ((x : ℕ) → is_there x xs ≡ true → is_there x s.order ≡ true)
       → map grant_of (requests_at t (filter (is_raised t after) (filter leaves.stays xs)))

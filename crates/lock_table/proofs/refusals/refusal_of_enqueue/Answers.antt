@@ -16,8 +16,6 @@ pub returns-then-len : goal.returns-then-len
 returns-then-len g c = record { refusal = grind (arith, common_steps); long = λ e. absurd (none-some _ (sym e)); found = λ e. absurd (none-some _ (sym e)) }
 
 pub returns-else-len : goal.returns-else-len
-returns-else-len g c = record {
-  refusal = grind (arith, common_steps);
-  long = λ e. c.first_enqueue_fault-fault.ensures.long (grind arith);
-  found = λ e. c.first_enqueue_fault-fault.ensures.found (grind arith);
-}
+returns-else-len g c =
+    let come = c.first_enqueue_fault-fault.ensures in
+    record { refusal = grind (arith, common_steps); long = λ e. come.long (grind arith); found = λ e. come.found (grind arith) }

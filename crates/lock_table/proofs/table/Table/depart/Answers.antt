@@ -1,4 +1,4 @@
-use Rattle.std.proofs.Common.{◌≡◌, ◌==◌, ◌∙◌, sym, ap, subst, ℕ, true, false, not, length, lit<}
+use Rattle.std.proofs.Common.{◌≡◌, ◌==◌, ◌∙◌, sym, ap, subst, ℕ, true, false, not, length, lit<, arith}
 use Rattle.key_queues.specs.Locks.{lock_at}
 use Rattle.lock_table.specs.Departures.{KeepsLocks}
 use Rattle.lock_table.specs.Filing.{own_at, state_of}
@@ -36,45 +36,41 @@ returns-then-is_empty-clause-table g c =
           c.give_up-n.ensures.counts c.requires.table.used;
     })
 
-pub returns-else-is_empty-clause-table : goal.returns-else-is_empty-clause-table
-returns-else-is_empty-clause-table g c =
-    let s : State = state_of c.args.self.now.store c.args.self.now.keys in
-    let m : State = state_of c.give_up-n.new.self.store c.give_up-n.new.self.keys in
-    let t : State = state_of c.extend.new.self.store c.extend.new.self.keys in
-    let some : (length (lock_at c.give_up-n.new.self.keys c.give_up-n.result).queue.places == 0) ≡ false = sym c.is_empty.ensures ∙ c.if-is_empty.false in
-    let stay : OpenAreUsed m =
-    open_given_up s m c.args.p c.args.k c.requires.table.kept c.give_up-n.ensures.kept c.requires.present c.requires.want
-    c.give_up-n.ensures.gives c.give_up-n.ensures.counts c.requires.table.used in
-    let used : IsUsed m c.give_up-n.result = stay c.give_up-n.result (ap not some) in
-    record {
-      kept = c.extend.ensures.extended.kept;
-      flags = c.extend.ensures.extended.flags;
-      full =
-          full_extended m t c.give_up-n.result
-          (subst (λ j. CountsBut j m) (sym c.give_up-n.ensures.number) (c.give_up-n.ensures.full c.requires.table.full))
-          c.extend.ensures.extended c.extend.ensures.full;
-      used = open_extended m t c.give_up-n.result c.extend.ensures.extended used stay;
-    }
-
 pub returns-then-is_empty-clause-locks : goal.returns-then-is_empty-clause-locks
 returns-then-is_empty-clause-locks g c =
     let gives = c.give_up-n.ensures.gives in
     subst (λ l. KeepsLocks c.args.self.now.keys l (own_at c.args.self.now.store c.args.p c.args.k)) (sym c.close_if_shut.ensures)
     (record { keys = gives.key; queues = gives.others })
 
-pub returns-else-is_empty-clause-locks : goal.returns-else-is_empty-clause-locks
-returns-else-is_empty-clause-locks g c =
+pub returns-else-is_empty : goal.returns-else-is_empty
+returns-else-is_empty g c =
+    let s : State = state_of c.args.self.now.store c.args.self.now.keys in
+    let m : State = state_of c.give_up-n.new.self.store c.give_up-n.new.self.keys in
+    let t : State = state_of c.extend.new.self.store c.extend.new.self.keys in
+    let some : (length (lock_at c.give_up-n.new.self.keys c.give_up-n.result).queue.places == 0) ≡ false = sym c.is_empty.ensures ∙ c.if-is_empty.false in
     let gives = c.give_up-n.ensures.gives in
     let more = c.extend.ensures.extended in
+    let stay : OpenAreUsed m =
+    open_given_up s m c.args.p c.args.k c.requires.table.kept c.give_up-n.ensures.kept c.requires.present c.requires.want
+    gives c.give_up-n.ensures.counts c.requires.table.used in
+    let used : IsUsed m c.give_up-n.result = stay c.give_up-n.result (ap not some) in
     record {
-      keys = λ m. more.key m ∙ gives.key m;
-      queues = λ m ne. more.others m (λ e. ne (e ∙ c.give_up-n.ensures.number)) ∙ gives.others m ne;
+      table = record {
+        kept = more.kept;
+        flags = more.flags;
+        full =
+            full_extended m t c.give_up-n.result
+            (subst (λ j. CountsBut j m) (sym c.give_up-n.ensures.number) (c.give_up-n.ensures.full c.requires.table.full))
+            more c.extend.ensures.full;
+        used = open_extended m t c.give_up-n.result more used stay;
+      };
+      left = grind arith;
+      locks = record {
+        keys = λ n. more.key n ∙ gives.key n;
+        queues = λ n ne. more.others n (λ e. ne (e ∙ c.give_up-n.ensures.number)) ∙ gives.others n ne;
+      };
+      turns =
+          turned_then c.args.self.now.store c.give_up-n.new.self.store c.extend.new.self.store c.args.self.now.turns c.give_up-n.new.self.turns c.extend.new.self.turns
+          (λ x h. wanting_before c.give_up-n.new.self.store c.extend.new.self.store x (λ there. (subst (λ l. is_there x l ≡ true) more.order there, more.at x)) h)
+          c.give_up-n.ensures.turns c.extend.ensures.turns;
     }
-
-pub returns-else-is_empty-clause-turns : goal.returns-else-is_empty-clause-turns
-returns-else-is_empty-clause-turns g c =
-    let t = c.give_up-n.new.self.store in
-    let u = c.extend.new.self.store in
-    let more = c.extend.ensures.extended in
-    turned_then c.args.self.now.store t u c.args.self.now.turns c.give_up-n.new.self.turns c.extend.new.self.turns
-    (λ x h. wanting_before t u x (λ there. (subst (λ l. is_there x l ≡ true) more.order there, more.at x)) h) c.give_up-n.ensures.turns c.extend.ensures.turns

@@ -1,4 +1,4 @@
-use Rattle.std.proofs.Common.{◌≡◌, true, subst, ◌<◌, ◌-◌, ◌∙◌, sym, ap, length, arith}
+use Rattle.std.proofs.Common.{◌≡◌, true, subst, ◌<◌, ◌-◌, ◌∙◌, sym, ap, length, arith, rules}
 use Rattle.std.specs.List.{remove}
 use Rattle.std.proofs.lemmas.List.Edits.{length-remove}
 use Rattle.key_queues.specs.Tables.{is_there}
@@ -30,16 +30,11 @@ loop-left-preserved g c =
 pub returns-then-not-contains-clause-order : goal.returns-then-not-contains-clause-order
 returns-then-not-contains-clause-order g c = sym (absent c.args.p c.args.self.now.store.order (sym c.contains.ensures ∙ c.if-not-contains.true))
 
-pub returns-clause-table : goal.returns-clause-table
-returns-clause-table g c =
+pub returns : goal.returns
+returns g c =
     let inv = c.loop-left.invariant in
     let present = ap (is_there c.args.p) inv.order ∙ sym c.contains.ensures ∙ c.if-not-contains.false in
-    (gone c.args.self.now.store c.loop-left.self.store c.remove.new.self c.loop-left.self.keys c.args.p c.args.self.now.turns c.loop-left.self.turns
-    inv.table present (omega (arith, inv.left, c.loop-left-test.false)) inv.turns c.remove.ensures.within c.remove.ensures.value).0
-
-pub returns-clause-turns : goal.returns-clause-turns
-returns-clause-turns g c =
-    let inv = c.loop-left.invariant in
-    let present = ap (is_there c.args.p) inv.order ∙ sym c.contains.ensures ∙ c.if-not-contains.false in
-    (gone c.args.self.now.store c.loop-left.self.store c.remove.new.self c.loop-left.self.keys c.args.p c.args.self.now.turns c.loop-left.self.turns
-    inv.table present (omega (arith, inv.left, c.loop-left-test.false)) inv.turns c.remove.ensures.within c.remove.ensures.value).1
+    let both =
+    gone c.args.self.now.store c.loop-left.self.store c.remove.new.self c.loop-left.self.keys c.args.p c.args.self.now.turns c.loop-left.self.turns
+    inv.table present (omega (arith, inv.left, c.loop-left-test.false)) inv.turns c.remove.ensures.within c.remove.ensures.value in
+    record { table = both.0; order = search rules; others = search rules; turns = both.1 }
