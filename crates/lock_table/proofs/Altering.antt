@@ -41,9 +41,7 @@ use Rattle.lock_table.specs.Whole.{AreRight, requests_in}
 use Rattle.key_queues.proofs.Opening.{used_open}
 use Rattle.lock_table.proofs.Telling.{find_there}
 
--- ---- wants that are changed, and the wants of a key among them
-
--- ---- one want
+-- ---- wants that are changed, and the wants of a key among them: one want
 
 pub changed_key : (cs : List Want) (w : Want) → (changed_want cs w).key ≡ w.key
 changed_key [] w = refl

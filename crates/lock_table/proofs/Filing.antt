@@ -311,8 +311,6 @@ still_granted store middle locks more p k kept flags present lt g is lock_is gra
     (length_take (s.at p).wants.items k (want_at store p k) want ∙ sym (length_take (s.own p) k n own))
     (λ m ne. ap (λ (l : Lock). l.queue) (others m ne)) all
 
--- ---- some requests leave
-
 -- ---- marks tell whose flags turned
 
 -- what turns twice is as it was

@@ -1,6 +1,5 @@
 -- What holds between two calls, and what is seen of it.
-use Rattle.std.proofs.Common.{◌≡◌, ◌≤◌, ◌∙◌, sym, ap, subst, ℕ, Bool, true, false, not, List, [], None, ◌∷◌, length, map, filter, Option, Some, refl}
-use Rattle.std.proofs.Common.{arith, ◌&&◌, ◌==◌, cond, ◌++◌, IsTrue, ◌<◌, append_assoc}
+use Rattle.std.proofs.Common.{◌≡◌, ◌≤◌, ◌∙◌, sym, ap, subst, ℕ, Bool, true, false, not, List, [], None, ◌∷◌, length, map, filter, Option, Some, refl, arith, ◌&&◌, ◌==◌, cond, ◌++◌, IsTrue, ◌<◌, append_assoc}
 use Rattle.lock_queue.specs.declared.request.Request.{Request}
 use Rattle.lock_queue.specs.declared.key.Key.{Key}
 use Rattle.lock_queue.specs.Queue.{names, all_wants, wants_at}
@@ -196,8 +195,6 @@ changed_leaves s t job changes is = record {
   order = is.order ∙ sym (filter_each (λ x. true) s.order (λ x h. refl));
   left_is = λ x h. ap (λ (r : Request). Some r) (sym (is.at x h));
 }
-
--- ---- the grants that a call makes, and what is seen of a table
 
 -- ---- what is left keeps its kind
 

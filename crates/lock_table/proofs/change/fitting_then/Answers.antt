@@ -28,8 +28,5 @@ loop-p-preserved g c =
 pub append-requires : goal.append-requires
 append-requires g c = grind (arith, common_steps)
 
-pub returns-clause-value : goal.returns-clause-value
-returns-clause-value g c = grind (arith, common_steps)
-
-pub returns-clause-most : goal.returns-clause-most
-returns-clause-most g c = grind (arith, common_steps)
+pub returns : goal.returns
+returns g c = record { value = grind (arith, common_steps); most = grind (arith, common_steps) }

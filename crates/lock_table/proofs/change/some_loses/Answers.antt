@@ -4,6 +4,3 @@ use Rattle.lock_table.proofs.change.some_loses.Goals as goal
 
 pub loop-c-preserved : goal.loop-c-preserved
 loop-c-preserved g c = grind (arith, common_steps)
-
-pub loses-requires : goal.loses-requires
-loses-requires g c = grind arith

@@ -15,8 +15,5 @@ stands_in-requires g c = grind (arith, open_parts, all_present, wanted_at_places
 pub returns-else-stands_in-clause-wanted : goal.returns-else-stands_in-clause-wanted
 returns-else-stands_in-clause-wanted g c = grind (arith, open_parts, all_present, wanted_at_places, pooled_is)
 
-pub returns-then-stands_in-clause-pooled : goal.returns-then-stands_in-clause-pooled
-returns-then-stands_in-clause-pooled g c = grind (arith, open_parts, all_present, wanted_at_places, pooled_is)
-
-pub returns-then-stands_in-clause-wanted : goal.returns-then-stands_in-clause-wanted
-returns-then-stands_in-clause-wanted g c = grind (arith, common_steps, open_parts, all_present, wanted_at_places, pooled_is)
+pub returns-then-stands_in : goal.returns-then-stands_in
+returns-then-stands_in g c = record { wanted = grind (arith, common_steps, open_parts, all_present, wanted_at_places, pooled_is); pooled = grind (arith, open_parts, all_present, wanted_at_places, pooled_is) }

@@ -1,10 +1,11 @@
-use Rattle.std.proofs.Common.{◌≡◌, true, ◌<◌, ◌∙◌, sym, ap, subst, length, arith, lit<, rules}
+use Rattle.std.proofs.Common.{◌≡◌, true, ◌<◌, ◌∙◌, sym, ap, subst, length, arith, lit<, refl, rules}
 use Rattle.std.proofs.lemmas.List.{length-set}
 use Rattle.std.specs.List.{All}
+use Rattle.key_queues.specs.declared.filed.Filed.{Filed}
 use Rattle.key_queues.specs.Tables.{is_there}
 use Rattle.key_queues.specs.Stores.{Stored, filed_at}
 use Rattle.lock_table.specs.Filing.{own_at}
-use Rattle.lock_table.proofs.Filing.{given, own_within_less, gives_up_by, given_up, still_granted}
+use Rattle.lock_table.proofs.Filing.{filed_like, given, own_within_less, gives_up_by, given_up, still_granted}
 use Rattle.lock_table.proofs.table.Table.give_up.Goals as goal
 
 pub leave_queue_of-n-requires : goal.leave_queue_of-n-requires
@@ -44,6 +45,7 @@ returns g c =
     given_up s c.take_want.new.self c.renew_marked.new.store locks c.leave_queue_of-n.new.keys c.args.p
     c.args.k c.requires.kept c.requires.flags c.requires.present c.requires.want c.take_want.ensures.value
     c.leave_queue_of-n.ensures.after c.renew_marked.ensures.renews in
+    let like = filed_like s c.take_want.new.self c.args.p _ a.filed_in (ap (λ (v : Stored). v.filed) c.take_want.ensures.value) in
     record {
       number = c.leave_queue_of-n.ensures.number;
       kept = all.0;
@@ -55,5 +57,5 @@ returns g c =
       counts = all.3;
       lock = omega (arith, a.lock_in, ap length c.leave_queue_of-n.ensures.after ∙ length-set locks (own_at s c.args.p c.args.k) _);
       request = search rules;
-      turns = search rules;
+      turns = λ x h. grind (arith, c.renew_marked.ensures.turns x h, like (λ (v : Filed). v.granted) refl x);
     }

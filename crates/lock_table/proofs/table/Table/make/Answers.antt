@@ -1,4 +1,4 @@
-use Rattle.std.proofs.Common.{sym, subst, arith}
+use Rattle.std.proofs.Common.{sym, subst}
 use Rattle.lock_queue.specs.Grants.{left_of}
 use Rattle.lock_table.specs.Changing.{IsChanged}
 use Rattle.lock_table.specs.Departures.{LeavesBy}
@@ -11,6 +11,3 @@ returns-in-Modify-clause-left g c done =
     subst (IsChanged c.args.self.now.store c.modify.new.self.store c.args.job) c.as_slice.ensures.value (c.modify.ensures.changed done) in
     subst (λ k. LeavesBy (left_of c.args.job k) c.args.self.now.store c.modify.new.self.store) (sym c.in-Modify.is)
     (changed_leaves c.args.self.now.store c.modify.new.self.store c.args.job c.in-Modify.changes is)
-
-pub enqueue-requires : goal.enqueue-requires
-enqueue-requires g c = grind arith

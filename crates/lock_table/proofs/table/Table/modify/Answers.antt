@@ -7,7 +7,7 @@ use Rattle.lock_table.specs.Changing.{IsChanged}
 use Rattle.lock_table.proofs.Admitting.{levels_changed}
 use Rattle.lock_table.proofs.Writing.{changed_all, full_but_changed, modified, requests_changed, all_spare, are_sound, tells_lost}
 use Rattle.lock_table.proofs.table.Table.modify.Goals as goal
-use Rattle.lock_table.proofs.Wholes.{right_from_well, well_from_right}
+use Rattle.lock_table.proofs.Wholes.{refused_done, right_from_well, well_from_right}
 
 pub some_loses-requires : goal.some_loses-requires
 some_loses-requires g c =
@@ -17,19 +17,18 @@ some_loses-requires g c =
     (sym c.refusal_of_modify.ensures ∙ c.in_default.is) in
     (lit< tt, (lit< tt, (w.table, (w.right, spare))))
 
-pub returns-then-some_loses-clause-requests : goal.returns-then-some_loses-clause-requests
-returns-then-some_loses-clause-requests g c =
+pub returns-then-some_loses : goal.returns-then-some_loses
+returns-then-some_loses g c =
     let none = sym c.refusal_of_modify.ensures ∙ c.in_default.is in
     let w = c.requires.whole in
     let tells = tells_lost c.args.self.now.store c.args.self.now.keys c.args.job w.table w.right c.args.changes.now none in
-    grind (arith, none, tells, c.some_loses.ensures, c.if-some_loses.true)
-
-pub returns-then-some_loses-clause-reply : goal.returns-then-some_loses-clause-reply
-returns-then-some_loses-clause-reply g c =
-    let none = sym c.refusal_of_modify.ensures ∙ c.in_default.is in
-    let w = c.requires.whole in
-    let tells = tells_lost c.args.self.now.store c.args.self.now.keys c.args.job w.table w.right c.args.changes.now none in
-    grind (arith, none, tells, c.some_loses.ensures, c.if-some_loses.true)
+    record {
+      whole = w;
+      requests = grind (arith, none, tells, c.some_loses.ensures, c.if-some_loses.true);
+      reply = grind (arith, none, tells, c.some_loses.ensures, c.if-some_loses.true);
+      changed = λ done. absurd (refused_done _ done);
+      turns = search rules;
+    }
 
 pub alter_all-requires : goal.alter_all-requires
 alter_all-requires g c =
