@@ -1,10 +1,9 @@
 -- What is found by a key's hash, and how that is kept.
-use Rattle.std.proofs.Common.{◌≡◌, ◌<◌, ◌+◌, ◌*◌, ◌++◌, ◌∙◌, ℕ, Bool, true, false, not, ◌==◌, List, [], ◌∷◌, length, get_or, set, take, drop, suc}
-use Rattle.std.proofs.Common.{Some, None, IfSome, sym, ap, subst, refl, arith}
+use Rattle.std.proofs.Common.{◌≡◌, ◌<◌, ◌+◌, ◌*◌, ◌++◌, ◌∙◌, ℕ, Bool, true, false, not, ◌==◌, List, [], ◌∷◌, length, get_or, set, take, drop, suc, Some, None, IfSome, sym, ap, subst, refl, arith}
 use Rattle.std.proofs.lemmas.Bool.{ne_eqb}
 use Rattle.std.specs.List.{All, find, list_any, position_or_len, remove}
-use Rattle.std.proofs.lemmas.Grind.{common_steps}
-use Rattle.std.proofs.lemmas.List.{get_or_default, set-set}
+use Rattle.std.proofs.lemmas.Grind.{common_steps, get_or-set_at}
+use Rattle.std.proofs.lemmas.List.{get_or_default, get_or_past, get_or-set_same, get_or-set_other, length-set, length_push, set-set}
 use Rattle.std.proofs.lemmas.List.Elements.{All-append, All-take, All-drop}
 use Rattle.word36.specs.declared.sizes.TheConstants.{LOCKS_A_CALL}
 use Rattle.lock_queue.specs.declared.key.Key.{Key}
@@ -18,7 +17,7 @@ use Rattle.key_queues.specs.States.{is_open}
 use Rattle.key_queues.specs.Tables.{is_there}
 use Rattle.key_queues.specs.declared.hash.TheConstants.{HASHES}
 use Rattle.key_queues.specs.declared.buckets.Bucket.{Bucket}
-use Rattle.key_queues.specs.Found.{bucket_at, numbered, without_number, Holds, IsEntered, IsFound, IsIndex, IsKeyed, IsSpare}
+use Rattle.key_queues.specs.Found.{bucket_at, no_bucket, numbered, without_number, Holds, IsEntered, IsFound, IsIndex, IsKeyed, IsSpare}
 use Rattle.key_queues.specs.Hashes.{hash_of}
 use Rattle.key_queues.specs.Opened.{fresh_lock, is_closed, is_open_for}
 use Rattle.key_queues.proofs.Orders.{without_other}
@@ -26,26 +25,26 @@ use Rattle.key_queues.proofs.Orders.{without_other}
 -- what is found passes
 pub find_passes : (t : ℕ → Bool) (xs : List ℕ) (n : ℕ) → find t xs ≡ Some n → t n ≡ true
 find_passes t [] n e = cc
-find_passes t (x ∷ xs) n e = grind (arith, common_steps, find_passes t xs n)
+find_passes t (x ∷ xs) n e = grind (arith, find_passes t xs n)
 
 -- and where nothing is found, nothing does
 pub find_misses : (t : ℕ → Bool) (xs : List ℕ) (n : ℕ) → find t xs ≡ None → is_there n xs ≡ true → t n ≡ false
 find_misses t [] n e h = cc
-find_misses t (x ∷ xs) n e h = grind (arith, common_steps, find_misses t xs n)
+find_misses t (x ∷ xs) n e h = grind (arith, find_misses t xs n)
 
 -- the first lock that is not open
 pub closed_found : (locks : List Lock) → list_any is_closed locks ≡ true
     → (position_or_len is_closed locks < length locks) × (is_closed (lock_at locks (position_or_len is_closed locks)) ≡ true)
 closed_found [] h = cc
-closed_found (l ∷ locks) h = grind (arith, common_steps, closed_found locks)
+closed_found (l ∷ locks) h = grind (arith, closed_found locks)
 
 -- an open lock is there
 pub open_within : (locks : List Lock) (n : ℕ) → is_open (lock_at locks n).queue ≡ true → n < length locks
-open_within locks n some = grind (arith, common_steps)
+open_within locks n some = grind (arith, get_or_past locks n unused_lock)
 
 -- the parts of an open lock of a key
 pub open_parts : (key : Key) (l : Lock) → is_open_for key l ≡ true → (is_open l.queue ≡ true) × (l.key ≡ key)
-open_parts key l t = grind (arith, common_steps, same_key-eq)
+open_parts key l t = grind (arith, same_key-eq)
 
 -- the lock of a number that was found
 pub found_open : (locks : List Lock) (key : Key) (seen : Found) (n : ℕ) → IsFound locks key seen → seen.number ≡ Some n
@@ -59,7 +58,7 @@ hash_below h key is = omega (arith, is)
 -- what is read at a hash is the bucket there
 pub bucket_read : (buckets : List Bucket) (h : ℕ) (b : Bucket) → length buckets ≡ HASHES → h < HASHES → b ≡ get_or buckets h b
     → b ≡ bucket_at buckets h
-bucket_read buckets h b long below read = grind (arith, common_steps)
+bucket_read buckets h b long below read = read ∙ get_or_default buckets h b no_bucket (omega arith)
 
 -- what is read of the locks is the lock there
 pub lock_read : (locks now : List Lock) (n : ℕ) (l : Lock) → locks ≡ now → n < length now → l ≡ get_or locks n l → l ≡ lock_at now n
@@ -69,13 +68,13 @@ lock_read locks now n l view lt read =
 -- the numbers there are those of locks
 pub number_within : (buckets : List Bucket) (locks : List Lock) (h i : ℕ) (b : Bucket) → IsIndex buckets locks → h < HASHES
     → b ≡ get_or buckets h b → i < length b.numbers.items → get_or b.numbers.items i 0 < length locks
-number_within buckets locks h i b index below read lt = grind (arith, common_steps, bucket_read, index.within h i 0)
+number_within buckets locks h i b index below read lt = grind (arith, bucket_read, index.within h i 0)
 
 -- where a bucket that is not crowded has no number of the key, none has
 pub none_found : (buckets : List Bucket) (locks : List Lock) (key : Key) → IsIndex buckets locks
     → find (λ n. is_open_for key (lock_at locks n)) (bucket_at buckets (hash_of key)).numbers.items ≡ None
     → (bucket_at buckets (hash_of key)).crowded ≡ false → (n : ℕ) → is_open_for key (lock_at locks n) ≡ false
-none_found buckets locks key index missed plain n = grind (arith, common_steps, find_misses, open_parts, index.hashes n, index.holds n)
+none_found buckets locks key index missed plain n = grind (arith, find_misses, open_parts, index.hashes n, index.holds n)
 
 -- a queue that has places is open
 pub open_below : (q : KeptQueue) (k : ℕ) → k < length q.places → is_open q ≡ true
@@ -93,7 +92,7 @@ same_more locks n = grind (arith, common_steps)
 
 pub keyed_more : (size : ℕ) (locks : List Lock) (most : ℕ) (buckets : List Bucket) → IsKeyed size locks most buckets
     → length locks < LOCKS_A_CALL * size → IsKeyed size (locks ++ unused_lock ∷ []) most buckets
-keyed_more size locks most buckets k room = grind (arith, common_steps, same_more locks, k.index.hashes, k.index.holds)
+keyed_more size locks most buckets k room = grind (arith, length_push locks unused_lock, same_more locks, k.index.hashes, k.index.holds)
 
 -- a lock that becomes that of another key, whose number is put at the hash of that
 pub keyed_lock : (size : ℕ) (locks : List Lock) (most : ℕ) (buckets : List Bucket) (n h : ℕ) (l : Lock) (b then : Bucket) → IsKeyed size locks most buckets
@@ -106,7 +105,7 @@ index_set : (buckets : List Bucket) (locks : List Lock) (h : ℕ) (b : Bucket) �
     → All (λ m. m < length locks) b.numbers.items
     → ((m : ℕ) → is_open (lock_at locks m).queue ≡ true → Holds (bucket_at buckets h) m → Holds b m)
     → IsIndex (set buckets h b) locks
-index_set buckets locks h b index below within keeps = grind (arith, common_steps)
+index_set buckets locks h b index below within keeps = grind (arith, get_or-set_at, get_or-set_other, length-set)
 
 all_less : (P : ℕ → Type 0) (xs : List ℕ) (i : ℕ) → All P xs → All P (remove xs i)
 all_less P xs i all = All-append P (take i xs) (drop (suc i) xs) (All-take P i xs all) (All-drop P (suc i) xs all)
@@ -123,7 +122,7 @@ keyed_closed size locks most buckets n l b then k lt is shut read gone =
     let within : All (λ m. m < length locks) (without_number b n).numbers.items =
     less (subst (λ (x : Bucket). All (λ m. m < length locks) x.numbers.items) (sym same) (k.index.within l.hash)) in
     let keeps : (m : ℕ) → is_open (lock_at locks m).queue ≡ true → Holds (bucket_at buckets l.hash) m → Holds (without_number b n) m =
-    λ m some held plain. grind (arith, common_steps, without_other n b.numbers.items m) in
+    λ m some held plain. grind (arith, without_other n b.numbers.items m) in
     subst (λ x. IsKeyed size locks most (set buckets l.hash x)) (sym gone)
     record { small = k.small; reserved = k.reserved; index = index_set buckets locks l.hash (without_number b n) k.index below within keeps }
 
@@ -132,7 +131,7 @@ pub spare_made : (locks old more : List Lock) (n : ℕ) (l : Lock) → old ≡ l
     → IsSpare locks more n
 spare_made locks old more n l view pushed unused at =
     let is : more ≡ locks ++ unused_lock ∷ [] = pushed ∙ (λ i. view i ++ unused i ∷ []) in
-    grind (arith, common_steps, same_more locks)
+    grind (arith, length_push locks unused_lock, same_more locks, get_or_past locks n unused_lock)
 
 -- a want that comes last in the queue of an open lock
 pub entered_open : (locks old : List Lock) (p : ℕ) (w : Want) (n : ℕ) (l : Lock) (q : KeptQueue) → is_open_for w.key (lock_at locks n) ≡ true
@@ -140,7 +139,7 @@ pub entered_open : (locks old : List Lock) (p : ℕ) (w : Want) (n : ℕ) (l : L
 entered_open locks old p w n l q some view read is =
     let within = open_within locks n (open_parts w.key (lock_at locks n) some).0 in
     let at = lock_read old locks n l view within read in
-    record { middle = locks; ready = grind (arith, common_steps); after = grind (arith, common_steps) }
+    record { middle = locks; ready = grind arith; after = grind arith }
 
 -- a want that comes last in the queue of a lock that is begun for its key
 pub entered_begun : (locks mid : List Lock) (p : ℕ) (w : Want) (n : ℕ) → IsSpare locks mid n
@@ -148,6 +147,6 @@ pub entered_begun : (locks mid : List Lock) (p : ℕ) (w : Want) (n : ℕ) → I
     → IsEntered locks (set mid n (record (fresh_lock w) { queue = appended no_queue p w })) p w n
 entered_begun locks mid p w n spare none = record {
   middle = set mid n (fresh_lock w);
-  ready = grind (arith, common_steps);
-  after = grind (arith, common_steps, set-set);
+  ready = grind (arith, get_or-set_at, get_or-set_other, length-set);
+  after = rw (get_or-set_same mid n (fresh_lock w) unused_lock spare.within) (sym (set-set mid n (fresh_lock w) _));
 }

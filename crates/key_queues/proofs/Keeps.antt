@@ -9,12 +9,10 @@ use Rattle.word36.specs.declared.sizes.TheConstants.{JOBS, MOST_REQUESTS}
 use Rattle.key_queues.specs.declared.filed.Filed.{Filed}
 use Rattle.key_queues.specs.Filing.{unused_filed}
 use Rattle.key_queues.specs.Shelves.{slot, is_filled, with_slot}
-use Rattle.key_queues.specs.Stores.{one_if, without_place, Stored, filed_at, with_filed, filed_or, job_at}
+use Rattle.key_queues.specs.Stores.{one_if, without_place, Stored, filed_at, with_filed, filed_or, job_at, list_of, IsStored, blocked_at, blocked_of, is_blocked, places_of, number_of, recounted}
 use Rattle.key_queues.specs.Tables.{is_there, StandsOnce}
-use Rattle.key_queues.specs.Stores.{list_of, IsStored, blocked_at, blocked_of, is_blocked, places_of, number_of, recounted}
 use Rattle.key_queues.proofs.Orders.{there_filter, filter_passes, count_changed, count_last, count_without, there_last, stands_filter, filter_same, filter_short}
 use Rattle.key_queues.proofs.Orders.{filter_there, stands_last, without_other, without_gone, without_once, without_length, without_kept, without_left}
-use Rattle.std.proofs.lemmas.Grind.{common_steps}
 use Rattle.key_queues.proofs.Slots.{within}
 
 -- the request of a place, from what stands there
@@ -81,11 +79,11 @@ module _ (n : ℕ) (slots : List (Option Filed)) (len : ℕ) (order : List ℕ) 
       → number_of (slice_set counts job more) j ≡ length (filter (blocked_at (with_slot slots p o)) (list_of own_then j))
   other_number o own_then more j job le ne list away =
       let same = filter_same (blocked_at slots) (blocked_at (with_slot slots p o)) (list_of own j) (λ x t. sym (block_other o x (away x t))) in
-      grind (arith, common_steps, get_or-set_other counts job j more 0 ne, k.blocked j le, same, list)
+      grind (arith, get_or-set_other counts job j more 0 ne, k.blocked j le, same, list)
 
   -- a place that stands in another job's list
   away_from : (j : ℕ) → j ≤ JOBS → j ≢ job_at slots p → (x : ℕ) → is_there x (list_of own j) ≡ true → x ≢ p
-  away_from j le ne x t s = grind (arith, common_steps, filter_passes (λ y. job_at slots y == j) x order, k.each j le, t, s, ne)
+  away_from j le ne x t s = grind (arith, filter_passes (λ y. job_at slots y == j) x order, k.each j le, t, s, ne)
 
   pub filled_within : is_filled slots p ≡ true → p < n
   filled_within h = within n slots p k.long h
@@ -93,10 +91,10 @@ module _ (n : ℕ) (slots : List (Option Filed)) (len : ℕ) (order : List ℕ) 
   -- a request is changed, and not its job
   module _ (f : Filed) (h : is_filled slots p ≡ true) (same : f.request.job ≡ job_at slots p) where
     job_kept : (q : ℕ) → job_at (with_slot slots p (Some f)) q ≡ job_at slots q
-    job_kept q = grind (arith, common_steps, same, job_same (Some f) (filled_within h), job_other (Some f) q)
+    job_kept q = grind (arith, same, job_same (Some f) (filled_within h), job_other (Some f) q)
 
     filled_kept : (q : ℕ) → is_filled (with_slot slots p (Some f)) q ≡ is_filled slots q
-    filled_kept q = grind (arith, common_steps, h, same_slot (Some f) (filled_within h), other_slot (Some f) q)
+    filled_kept q = grind (arith, h, same_slot (Some f) (filled_within h), other_slot (Some f) q)
 
     change_keeps_by : (numbers : List ℕ) → length numbers ≡ JOBS + 1
         → ((j : ℕ) → j ≤ JOBS → number_of numbers j ≡ length (filter (blocked_at (with_slot slots p (Some f))) (list_of own j)))
@@ -148,7 +146,7 @@ module _ (n : ℕ) (slots : List (Option Filed)) (len : ℕ) (order : List ℕ) 
               let counted : recounted (number_of counts job) (blocked_at slots p) (is_blocked f) ≡ length (filter new (list_of own job)) =
               omega (arith, changed, mine, k.blocked job (k.jobs p)) in
               let number = get_or-set_same counts job (recounted (number_of counts job) (blocked_at slots p) (is_blocked f)) 0 (numbered job (k.jobs p)) in
-              grind (arith, common_steps, counted, number)
+              grind (arith, counted, number)
           | inr ne ↦
               other_number (Some f) own (recounted (number_of counts (job_at slots p)) (blocked_at slots p) (is_blocked f)) j
               (job_at slots p) le ne refl (away_from j le ne)
@@ -160,13 +158,13 @@ module _ (n : ℕ) (slots : List (Option Filed)) (len : ℕ) (order : List ℕ) 
     out_is = k.there p ∙ ap is_some e
 
     not_here : (x : ℕ) → is_there x order ≡ true → x ≢ p
-    not_here x t s = grind (arith, common_steps, out_is, t, s)
+    not_here x t s = grind (arith, out_is, t, s)
 
     there_then : (q : ℕ) → is_there q (order ++ p ∷ []) ≡ is_filled (with_slot slots p (Some f)) q
-    there_then q = grind (arith, common_steps, there_last q p order, same_slot (Some f) lt, other_slot (Some f) q, k.there q)
+    there_then q = grind (arith, there_last q p order, same_slot (Some f) lt, other_slot (Some f) q, k.there q)
 
     jobs_then : (q : ℕ) → job_at (with_slot slots p (Some f)) q ≤ JOBS
-    jobs_then q = grind (arith, common_steps, job_same (Some f) lt, job_other (Some f) q, most, k.jobs q)
+    jobs_then q = grind (arith, job_same (Some f) lt, job_other (Some f) q, most, k.jobs q)
 
     each_then : (j : ℕ) → j ≤ JOBS
         → list_of (slice_set own f.request.job (list_of own f.request.job ++ p ∷ [])) j
@@ -178,7 +176,7 @@ module _ (n : ℕ) (slots : List (Option Filed)) (len : ℕ) (order : List ℕ) 
         let last = filter-append new order (p ∷ []) in
         let here = job_same (Some f) lt in
         let there : f.request.job < length own = omega (arith, k.lists, most) in
-        grind (arith, common_steps, k.each j le, front, last, here, there, get_or-set_same, get_or-set_other, append-nil)
+        grind (arith, k.each j le, front, last, here, there, get_or-set_same, get_or-set_other, append-nil)
 
     pub insert_keeps : IsStored n (with_slot slots p (Some f)) (len + 1) (order ++ p ∷ []) (slice_set own f.request.job (list_of own f.request.job ++ p ∷ []))
         (slice_set counts f.request.job (recounted (number_of counts f.request.job) false (is_blocked f)))
@@ -197,7 +195,7 @@ module _ (n : ℕ) (slots : List (Option Filed)) (len : ℕ) (order : List ℕ) 
             let counted : recounted (number_of counts job) false (is_blocked f) ≡ length (filter new list) =
             omega (arith, count_last new (list_of own job) p, front, mine, k.blocked job most) in
             let at = get_or-set_same own job list [] (job_listed job most) in
-            grind (arith, common_steps, counted, at, get_or-set_same counts job (recounted (number_of counts job) false (is_blocked f)) 0 (numbered job most))
+            grind (arith, counted, at, get_or-set_same counts job (recounted (number_of counts job) false (is_blocked f)) 0 (numbered job most))
         | inr ne ↦
             other_number (Some f) (slice_set own f.request.job (list_of own f.request.job ++ p ∷ []))
             (recounted (number_of counts f.request.job) false (is_blocked f)) j f.request.job le ne
@@ -232,13 +230,13 @@ module _ (n : ℕ) (slots : List (Option Filed)) (len : ℕ) (order : List ℕ) 
     there_left q =
         let gone = without_gone p order k.once in
         let other = without_other p order q in
-        grind (arith, common_steps, gone, other, same_slot None (filled_within h), other_slot None q, k.there q)
+        grind (arith, gone, other, same_slot None (filled_within h), other_slot None q, k.there q)
 
     jobs_left : (q : ℕ) → job_at (with_slot slots p None) q ≤ JOBS
-    jobs_left q = grind (arith, common_steps, job_same None (filled_within h), job_other None q, k.jobs q)
+    jobs_left q = grind (arith, job_same None (filled_within h), job_other None q, k.jobs q)
 
     gone_from : (x : ℕ) → is_there x (without_place order p) ≡ true → x ≢ p
-    gone_from x t s = grind (arith, common_steps, without_gone p order k.once, t, s)
+    gone_from x t s = grind (arith, without_gone p order k.once, t, s)
 
     each_left : (j : ℕ) → j ≤ JOBS
         → list_of (slice_set own (job_at slots p) (without_place (list_of own (job_at slots p)) p)) j
@@ -249,7 +247,7 @@ module _ (n : ℕ) (slots : List (Option Filed)) (len : ℕ) (order : List ℕ) 
         filter_same was (λ x. job_at (with_slot slots p None) x == j) (without_place order p)
         (λ x t. ap (λ y. y == j) (sym (job_other None x (gone_from x t)))) in
         let there = job_listed (job_at slots p) (k.jobs p) in
-        grind (arith, common_steps, k.each j le, same, there, without_kept p order was, without_left p order was, get_or-set_same, get_or-set_other)
+        grind (arith, k.each j le, same, there, without_kept p order was, without_left p order was, get_or-set_same, get_or-set_other)
 
     pub remove_keeps : (left : ℕ) → left + 1 ≡ len
         → IsStored n (with_slot slots p None) left (without_place order p) (slice_set own (job_at slots p) (without_place (list_of own (job_at slots p)) p))
@@ -269,7 +267,7 @@ module _ (n : ℕ) (slots : List (Option Filed)) (len : ℕ) (order : List ℕ) 
             omega (arith, count_without (blocked_at slots) p (list_of own job) in_list, same, k.blocked job (k.jobs p)) in
             let at = get_or-set_same own job list [] (job_listed job (k.jobs p)) in
             let number = get_or-set_same counts job (recounted (number_of counts job) (blocked_at slots p) false) 0 (numbered job (k.jobs p)) in
-            grind (arith, common_steps, counted, at, number)
+            grind (arith, counted, at, number)
         | inr ne ↦
             other_number None (slice_set own (job_at slots p) (without_place (list_of own (job_at slots p)) p))
             (recounted (number_of counts (job_at slots p)) (blocked_at slots p) false) j (job_at slots p) le ne

@@ -10,7 +10,7 @@ use Rattle.key_queues.proofs.Using.{stands_in_queue, used_after}
 
 -- what stands around a number that is not it
 pub there_around : (m n : ℕ) (a b : List ℕ) → m ≢ n → is_there m (a ++ n ∷ b) ≡ true → is_there m (a ++ b) ≡ true
-there_around m n a b ne h = grind (arith, common_steps, list_any-append)
+there_around m n a b ne h = grind (arith, list_any-append)
 
 pub open_given_up : (s t : State) (p k : ℕ) → IsKept s → IsKept t → is_there p s.order ≡ true → k < length (s.own p)
     → GivesUpAt s t p k
@@ -24,13 +24,13 @@ open_given_up s t p k kept_s kept_t present lt gives counted used m some =
           let u : IsUsed s m = used m (rw (gives.others m ne) at some) in
           record {
             place = u.place;
-            stands = grind (arith, common_steps, cases_eq u.place p, gives.own u.place, there_around);
+            stands = grind (arith, cases_eq u.place p, gives.own u.place, there_around);
           }
     ]
 
 -- a queue that is used stays so where the order and the queues of requests stay
 pub used_same : (s t : State) (m : ℕ) → t.order ≡ s.order → ((x : ℕ) → t.own x ≡ s.own x) → IsUsed s m → IsUsed t m
-used_same s t m order own u = grind (arith, common_steps)
+used_same s t m order own u = grind arith
 
 pub open_extended : (s t : State) (n : ℕ) → Extended s t n → IsUsed s n → OpenAreUsed s → OpenAreUsed t
 open_extended s t n e used_n used m some =

@@ -1,6 +1,5 @@
 -- Lists of places.
-use Rattle.std.proofs.Common.{nat_lt, ◌≡◌, ◌≢◌, ◌≤◌, ◌<◌, ◌+◌, ◌-◌, ◌∙◌, sym, ap, subst, ℕ, zero, suc, Bool, true, false, not, ◌||◌, ◌==◌, cond}
-use Rattle.std.proofs.Common.{List, [], ◌∷◌, ◌++◌, length, take, drop, filter, get_or, inl, inr, refl, arith}
+use Rattle.std.proofs.Common.{nat_lt, ◌≡◌, ◌≢◌, ◌≤◌, ◌<◌, ◌+◌, ◌-◌, ◌∙◌, sym, ap, subst, ℕ, zero, suc, Bool, true, false, not, ◌||◌, ◌==◌, cond, List, [], ◌∷◌, ◌++◌, length, take, drop, filter, get_or, inl, inr, refl, arith}
 use Rattle.std.specs.List.{list_any, position_or_len, remove}
 use Rattle.std.proofs.lemmas.Bool.{both_ways, cases_eq, eq-eqb, false_from_ne_true, ltb-true, ne_eqb, or_parts, or_right}
 use Rattle.std.proofs.lemmas.List.{nil_from_length, length-append, drop-drop, length-drop}
@@ -14,34 +13,34 @@ use Rattle.key_queues.proofs.Lists.{Sub-remove}
 
 -- one more place at the end
 pub there_last : (q p : ℕ) (xs : List ℕ) → is_there q (xs ++ p ∷ []) ≡ (is_there q xs || (p == q))
-there_last q p xs = grind (arith, common_steps, list_any-append (λ x. x == q) xs (p ∷ []))
+there_last q p xs = grind (arith, list_any-append (λ x. x == q) xs (p ∷ []))
 
 pub filter_same : (t u : ℕ → Bool) (xs : List ℕ) → ((x : ℕ) → is_there x xs ≡ true → t x ≡ u x) → filter t xs ≡ filter u xs
 filter_same t u [] same = refl
 filter_same t u (x ∷ xs) same =
     let rest = filter_same t u xs (λ y h. same y (or_right (x == y) (is_there y xs) h)) in
-    grind (arith, common_steps, same x, rest)
+    grind (arith, same x, rest)
 
 pub filter_short : (t : ℕ → Bool) (xs : List ℕ) → length (filter t xs) ≤ length xs
 filter_short t xs = Sub-length (Sub-filter t xs)
 
 pub filter_there : (t : ℕ → Bool) (x : ℕ) (xs : List ℕ) → is_there x xs ≡ true → t x ≡ true → is_there x (filter t xs) ≡ true
 filter_there t x [] h is = cc
-filter_there t x (y ∷ xs) h is = grind (arith, common_steps, filter_there t x xs)
+filter_there t x (y ∷ xs) h is = grind (arith, filter_there t x xs)
 
 pub there_filter : (t : ℕ → Bool) (x : ℕ) (xs : List ℕ) → is_there x (filter t xs) ≡ true → is_there x xs ≡ true
 there_filter t x [] h = cc
-there_filter t x (y ∷ xs) h = grind (arith, common_steps, there_filter t x xs)
+there_filter t x (y ∷ xs) h = grind (arith, there_filter t x xs)
 
 pub there_at : (xs : List ℕ) (i d : ℕ) → i < length xs → is_there (get_or xs i d) xs ≡ true
 there_at [] i d lt = absurd (omega arith)
-there_at (x ∷ xs) zero d lt = grind (arith, common_steps)
-there_at (x ∷ xs) (suc i) d lt = grind (arith, common_steps, there_at xs i d)
+there_at (x ∷ xs) zero d lt = grind arith
+there_at (x ∷ xs) (suc i) d lt = grind (arith, there_at xs i d)
 
 -- a place is there where it has an index
 pub there_by_index : (p : ℕ) (xs : List ℕ) → nat_lt (position_or_len (λ x. x == p) xs) (length xs) ≡ is_there p xs
 there_by_index p [] = refl
-there_by_index p (x ∷ xs) = grind (arith, common_steps, there_by_index p xs)
+there_by_index p (x ∷ xs) = grind (arith, there_by_index p xs)
 
 pub there_within : (p : ℕ) (xs : List ℕ) → is_there p xs ≡ true → position_or_len (λ x. x == p) xs < length xs
 there_within p xs h = ltb-true _ _ (there_by_index p xs ∙ h)
@@ -86,7 +85,7 @@ once_to (x ∷ xs) once = (
 )
 
 pub there_split : (p : ℕ) (before after : List ℕ) → is_there p (before ++ p ∷ after) ≡ true
-there_split p before after = grind (arith, common_steps, list_any-append (λ x. x == p) before (p ∷ after))
+there_split p before after = grind (arith, list_any-append (λ x. x == p) before (p ∷ after))
 
 -- each place once, by pairs
 pub Has-there : (xs : List ℕ) (x : ℕ) → Has xs x → is_there x xs ≡ true
@@ -95,8 +94,8 @@ Has-there xs x h = list_any-Has (λ y. y == x) xs x (eq-eqb x x refl) h
 pub once_pairs : (xs : List ℕ) → StandsOnce xs → Pairs (λ x y. x ≢ y) xs
 once_pairs [] once = tt
 once_pairs (x ∷ xs) once = (
-  λ y h e. let out = (once [] xs x refl).1 in let there = Has-there xs y h in grind (arith, common_steps),
-  once_pairs xs (λ before after p is. let both = once (x ∷ before) after p (ap (λ l. x ∷ l) is) in grind (arith, common_steps)),
+  λ y h e. let out = (once [] xs x refl).1 in let there = Has-there xs y h in grind arith,
+  once_pairs xs (λ before after p is. let both = once (x ∷ before) after p (ap (λ l. x ∷ l) is) in grind arith),
 )
 
 pub pairs_once : (xs : List ℕ) → Pairs (λ x y. x ≢ y) xs → StandsOnce xs
@@ -124,28 +123,28 @@ stands_last xs p out once =
 drop_other : (p q : ℕ) (xs : List ℕ) → q ≢ p → is_there q (drop_first p xs) ≡ is_there q xs
 unfolding drop_first
 drop_other p q [] ne = refl
-drop_other p q (x ∷ xs) ne = grind (arith, common_steps, drop_other p q xs)
+drop_other p q (x ∷ xs) ne = grind (arith, drop_other p q xs)
 
 drop_gone : (p : ℕ) (xs : List ℕ) → Once xs → is_there p (drop_first p xs) ≡ false
 unfolding drop_first Once
 drop_gone p [] once = refl
-drop_gone p (x ∷ xs) once = grind (arith, common_steps, drop_gone p xs, once)
+drop_gone p (x ∷ xs) once = grind (arith, drop_gone p xs, once)
 
 drop_length : (p : ℕ) (xs : List ℕ) → is_there p xs ≡ true → length (drop_first p xs) + 1 ≡ length xs
 unfolding drop_first
 drop_length p [] h = cc
-drop_length p (x ∷ xs) h = grind (arith, common_steps, drop_length p xs)
+drop_length p (x ∷ xs) h = grind (arith, drop_length p xs)
 
 -- what a filter keeps when one has gone
 drop_kept : (t : ℕ → Bool) (p : ℕ) (xs : List ℕ) → t p ≡ true → filter t (drop_first p xs) ≡ drop_first p (filter t xs)
 unfolding drop_first
 drop_kept t p [] is = refl
-drop_kept t p (x ∷ xs) is = grind (arith, common_steps, drop_kept t p xs)
+drop_kept t p (x ∷ xs) is = grind (arith, drop_kept t p xs)
 
 drop_left : (t : ℕ → Bool) (p : ℕ) (xs : List ℕ) → t p ≡ false → filter t (drop_first p xs) ≡ filter t xs
 unfolding drop_first
 drop_left t p [] isnt = refl
-drop_left t p (x ∷ xs) isnt = grind (arith, common_steps, drop_left t p xs)
+drop_left t p (x ∷ xs) isnt = grind (arith, drop_left t p xs)
 
 -- the same of the list without a place
 module _ (p : ℕ) (xs : List ℕ) where
@@ -172,14 +171,14 @@ pub position_past : (p k : ℕ) (xs : List ℕ) → k ≤ length xs → is_there
     → position_or_len (λ x. x == p) xs ≡ k + position_or_len (λ x. x == p) (drop k xs)
 position_past p zero xs le h = omega arith
 position_past p (suc k) [] le h = absurd (omega arith)
-position_past p (suc k) (x ∷ xs) le h = grind (arith, common_steps, position_past p k xs)
+position_past p (suc k) (x ∷ xs) le h = grind (arith, position_past p k xs)
 
 -- the last place, where each stands once
 last_dropped : (p n d : ℕ) (xs : List ℕ) → Once xs → n + 1 ≡ length xs → get_or xs n d ≡ p → drop_first p xs ≡ take n xs
 unfolding drop_first Once
 last_dropped p n d [] once long is = absurd (omega arith)
-last_dropped p zero d (x ∷ xs) once long is = grind (arith, common_steps, nil_from_length xs)
-last_dropped p (suc n) d (x ∷ xs) once long is = grind (arith, common_steps, last_dropped p n d xs once.1, there_at xs n d, once)
+last_dropped p zero d (x ∷ xs) once long is = grind (arith, nil_from_length xs)
+last_dropped p (suc n) d (x ∷ xs) once long is = grind (arith, last_dropped p n d xs once.1, there_at xs n d, once)
 
 pub without_last : (p n d : ℕ) (xs : List ℕ) → StandsOnce xs → n + 1 ≡ length xs → get_or xs n d ≡ p → without_place xs p ≡ take n xs
 without_last p n d xs once long is = without_is p xs ∙ last_dropped p n d xs (once_to xs once) long is
@@ -191,11 +190,11 @@ pub passed_on : (p from k : ℕ) (xs : List ℕ) → from + k ≤ length xs → 
     → from + position_or_len (λ x. x == p) (drop from xs) ≡ position_or_len (λ x. x == p) xs
     → from + k + position_or_len (λ x. x == p) (drop (from + k) xs) ≡ position_or_len (λ x. x == p) xs
 passed_on p from k xs le out is =
-    grind (arith, common_steps, position_past p k (drop from xs), drop-drop k from xs, length-drop from xs)
+    grind (arith, position_past p k (drop from xs), drop-drop k from xs, length-drop from xs)
 
 -- how many of a list pass
 count_cons : (t : ℕ → Bool) (x : ℕ) (xs : List ℕ) → length (filter t (x ∷ xs)) ≡ length (filter t xs) + one_if (t x)
-count_cons t x xs = grind (arith, common_steps)
+count_cons t x xs = grind arith
 
 pub count_changed : (t u : ℕ → Bool) (p : ℕ) (xs : List ℕ) → StandsOnce xs → is_there p xs ≡ true → ((x : ℕ) → x ≢ p → t x ≡ u x)
     → length (filter u xs) + one_if (t p) ≡ length (filter t xs) + one_if (u p)
@@ -219,11 +218,11 @@ count_changed t u p xs once h same = go xs (once_to xs once) h
 pub count_without : (t : ℕ → Bool) (p : ℕ) (xs : List ℕ) → is_there p xs ≡ true
     → length (filter t (without_place xs p)) + one_if (t p) ≡ length (filter t xs)
 count_without t p xs h =
-    grind (arith, common_steps, without_kept p xs t, without_left p xs t, without_length p (filter t xs), filter_there t p xs)
+    grind (arith, without_kept p xs t, without_left p xs t, without_length p (filter t xs), filter_there t p xs)
 
 pub count_last : (t : ℕ → Bool) (xs : List ℕ) (p : ℕ) → length (filter t (xs ++ p ∷ [])) ≡ length (filter t xs) + one_if (t p)
-count_last t xs p = grind (arith, common_steps, filter-append t xs (p ∷ []), length-append)
+count_last t xs p = grind (arith, filter-append t xs (p ∷ []), length-append)
 
 pub filter_passes : (t : ℕ → Bool) (x : ℕ) (xs : List ℕ) → is_there x (filter t xs) ≡ true → t x ≡ true
 filter_passes t x [] h = cc
-filter_passes t x (y ∷ xs) h = grind (arith, common_steps, filter_passes t x xs)
+filter_passes t x (y ∷ xs) h = grind (arith, filter_passes t x xs)

@@ -1,11 +1,9 @@
 -- What stands in the places of a slab.
-use Rattle.std.proofs.Common.{◌≡◌, ◌≤◌, ◌<◌, ◌∙◌, sym, ap, ℕ, Bool, true, false, List, [], length, Option, Some}
-use Rattle.std.proofs.Common.{None, is_some, inl, inr, refl, arith, IsSome, IsTrue, zero-add, cond, ◌+◌}
+use Rattle.std.proofs.Common.{◌≡◌, ◌≤◌, ◌<◌, ◌∙◌, sym, ap, ℕ, Bool, true, false, List, [], length, Option, Some, None, is_some, inl, inr, refl, arith, IsSome, IsTrue, zero-add, cond, ◌+◌}
 use Rattle.std.proofs.lemmas.Bool.{cases_eq}
 use Rattle.std.proofs.lemmas.List.{get_or_past, get_or-set_same, get_or-set_other, length-set}
 use Rattle.std.proofs.lemmas.List.Sums.{sum_by-set}
 use Rattle.std.proofs.lemmas.List.FromFn.{length-map-range_with_len, get_or-map-range_with_len, fill_by_all}
-use Rattle.std.proofs.lemmas.Grind.{common_steps}
 use Rattle.std.specs.Global.{Global}
 use Rattle.std.specs.declared.boxed.Box.{Box}
 use Rattle.slab.specs.Slab.{Slab, get, slab_len, Updates, with_value}
@@ -21,7 +19,7 @@ pub slot_is : (n : ℕ) (slab : Slab (Box Filed Global)) (p : ℕ) → p < n →
 slot_is n slab p lt = get_or-map-range_with_len (λ p. unboxed (get slab p)) 0 n p p None lt (zero-add p)
 
 pub within : (n : ℕ) (slots : List (Option Filed)) (p : ℕ) → length slots ≡ n → is_filled slots p ≡ true → p < n
-within n slots p is h = grind (arith, common_steps, get_or_past slots p None, is, h)
+within n slots p is h = grind (arith, get_or_past slots p None, is, h)
 
 some_unboxed : (o : Option (Box Filed Global)) → is_some (unboxed o) ≡ is_some o
 some_unboxed (Some b) = refl
@@ -90,7 +88,7 @@ module _ (n : ℕ) (slab : Slab (Box Filed Global)) (s : Shelved) (view : record
         λ i. record { slots = slots i; len = len i }
 
 pub empty_slot : (n : ℕ) (slab : Slab (Box Filed Global)) (p : ℕ) → slab.slots ≡ [] → slot (places_in n slab) p ≡ None
-empty_slot n slab p e = grind (arith, common_steps, slot_is n slab p, get_or_past (places_in n slab) p None, long n slab, e)
+empty_slot n slab p e = grind (arith, slot_is n slab p, get_or_past (places_in n slab) p None, long n slab, e)
 
 pub same_truth : (a b : Bool) → (IsTrue a → b ≡ true) → (b ≡ true → IsTrue a) → a ≡ b
 same_truth true b f h = sym (f refl)

@@ -1,7 +1,5 @@
 -- What is found of queues that are used.
-use Rattle.std.proofs.lemmas.Grind.{common_steps}
-use Rattle.std.proofs.Common.{◌≡◌, ◌≤◌, ◌<◌, ◌+◌, ◌∙◌, sym, ap, subst, ℕ, zero, suc, Bool, true, false, ◌==◌, cond, List, [], ◌∷◌}
-use Rattle.std.proofs.Common.{length, get_or, map, filter, slice_get, Some, None, inl, inr, refl, arith}
+use Rattle.std.proofs.Common.{◌≡◌, ◌≤◌, ◌<◌, ◌+◌, ◌∙◌, sym, ap, subst, ℕ, zero, suc, Bool, true, false, ◌==◌, cond, List, [], ◌∷◌, length, get_or, map, filter, slice_get, Some, None, inl, inr, refl, arith}
 use Rattle.std.specs.List.{position_or_len, remove}
 use Rattle.std.proofs.lemmas.Bool.{cases_eq, eqb-false}
 use Rattle.std.proofs.lemmas.List.{get_or-set_same, get_or-set_other, nil_from_length}
@@ -34,7 +32,7 @@ there_kept t x xs h = (there_filter t x xs h, filter_passes t x xs h)
 pub named_there : (key : ℕ → Key) (ws : List Want) (ns : List ℕ) (n : ℕ) → QueuesOf (λ w m. key m ≡ w.key) ws ns
     → is_there n ns ≡ true → names ws (key n) ≡ true
 named_there key [] [] n q h = cc
-named_there key (w ∷ ws) (m ∷ ns) n q h = grind (arith, common_steps, named_there key ws ns n, eq-same_key w.key (key n))
+named_there key (w ∷ ws) (m ∷ ns) n q h = grind (arith, named_there key ws ns n, eq-same_key w.key (key n))
 named_there key [] (m ∷ ns) n q h = absurd q
 named_there key (w ∷ ws) [] n q h = absurd q
 
@@ -43,14 +41,14 @@ pub stands_in_queue : (s : State) (x n : ℕ) → IsKept s → Stands s x n → 
 stands_in_queue s x n kept st =
     let queues = kept.queues x st.present in
     let c = kept.counts x n st in
-    grind (arith, common_steps, named_there s.key (s.at x).wants.items (s.own x) n, kept_there)
+    grind (arith, named_there s.key (s.at x).wants.items (s.own x) n, kept_there)
 
 -- each want has a queue
 pub queue_of_want : (key : ℕ → Key) (ws : List Want) (ns : List ℕ) (w : Want) → QueuesOf (λ w m. key m ≡ w.key) ws ns
     → Has ws w → (m : ℕ) × (is_there m ns ≡ true) × (key m ≡ w.key)
-queue_of_want key (v ∷ ws) (m ∷ ns) w q (inl e) = (m, grind (arith, common_steps), q.0 ∙ ap (λ (u : Want). u.key) e)
+queue_of_want key (v ∷ ws) (m ∷ ns) w q (inl e) = (m, grind arith, q.0 ∙ ap (λ (u : Want). u.key) e)
 queue_of_want key (v ∷ ws) (m ∷ ns) w q (inr h) =
-    let found = queue_of_want key ws ns w q.1 h in (found.0, grind (arith, common_steps), found.2)
+    let found = queue_of_want key ws ns w q.1 h in (found.0, grind arith, found.2)
 queue_of_want key [] ns w q h = absurd h
 queue_of_want key (v ∷ ws) [] w q h = absurd q
 
@@ -59,7 +57,7 @@ pub want_at_queue : (key : ℕ → Key) (ws : List Want) (ns : List ℕ) (n : �
     → is_there n ns ≡ true
     → (position_or_len (λ m. m == n) ns < length ws) × Has ws (want_in ns ws n) × ((want_in ns ws n).key ≡ key n)
 want_at_queue key [] [] n q h = cc
-want_at_queue key (v ∷ ws) (m ∷ ns) n q h = grind (arith, common_steps, want_at_queue key ws ns n q.1)
+want_at_queue key (v ∷ ws) (m ∷ ns) n q h = grind (arith, want_at_queue key ws ns n q.1)
 want_at_queue key [] (m ∷ ns) n q h = absurd q
 want_at_queue key (v ∷ ws) [] n q h = absurd q
 
@@ -101,7 +99,7 @@ pub full_at_end : (s : State) (n : ℕ) → IsKept s → IsUsed s n → slice_ge
     → IsFull s n
 full_at_end s n kept used e =
     let c = kept.counts used.place n used.stands in
-    grind (arith, common_steps, fitting_most, past_none (s.queue n).places (s.queue n).fitting e)
+    grind (arith, fitting_most, past_none (s.queue n).places (s.queue n).fitting e)
 
 pub full_where_unfit : (s : State) (n p : ℕ) (w : Want) → IsKept s → IsUsed s n → Next s n p w
     → fits_next (s.queue n) w w.pool ≡ false → IsFull s n
@@ -111,26 +109,26 @@ full_where_unfit s n p w kept used next f =
 -- a lock with its queue changed, and the others
 pub lock_with : (locks : List Lock) (n m : ℕ) (q : KeptQueue) → n < length locks
     → lock_at (with_queue locks n q) m ≡ cond (m == n) (record (lock_at locks n) { queue = q }) (lock_at locks m)
-lock_with locks n m q lt = grind (arith, common_steps, get_or-set_other, get_or-set_same)
+lock_with locks n m q lt = grind (arith, get_or-set_other, get_or-set_same)
 
 -- one want fewer is left to count
 pub one_fewer : (locks more : List Lock) (n : ℕ) (w : Want) → n < length locks
     → (lock_at locks n).queue.fitting < length (lock_at locks n).queue.places
     → more ≡ with_queue locks n (admitted (lock_at locks n).queue w)
     → uncounted (lock_at more n).queue + 1 ≤ uncounted (lock_at locks n).queue
-one_fewer locks more n w lt next is = grind (arith, common_steps, lock_with)
+one_fewer locks more n w lt next is = grind (arith, lock_with)
 
 -- the first place of a number that is there
 pub position_found : (p : ℕ) (xs : List ℕ) → is_there p xs ≡ true
     → (position_or_len (λ m. m == p) xs < length xs) × (slice_get xs (position_or_len (λ m. m == p) xs) ≡ Some p)
 position_found p [] h = cc
-position_found p (x ∷ xs) h = grind (arith, common_steps, position_found p xs)
+position_found p (x ∷ xs) h = grind (arith, position_found p xs)
 
 pub there_removed : (m k : ℕ) (ns : List ℕ) → is_there m (remove ns k) ≡ true → is_there m ns ≡ true
 there_removed m zero [] h = h
 there_removed m (suc k) [] h = h
-there_removed m zero (n ∷ ns) h = grind (arith, common_steps)
-there_removed m (suc k) (n ∷ ns) h = grind (arith, common_steps, there_removed m k ns)
+there_removed m zero (n ∷ ns) h = grind arith
+there_removed m (suc k) (n ∷ ns) h = grind (arith, there_removed m k ns)
 
 pub as_many_queues : (R : Want → ℕ → Type 0) (ws : List Want) (ns : List ℕ) → QueuesOf R ws ns → length ws ≡ length ns
 as_many_queues R [] [] q = refl
@@ -170,7 +168,7 @@ used_after s t p k kept_s kept_t present lt gives counted some =
 
 -- all queues are full again where the one that was not is, or is empty
 pub full_extended : (s t : State) (n : ℕ) → CountsBut n s → Extended s t n → IsFull t n → CountsAll t
-full_extended s t n but e full x m st = grind (arith, common_steps)
+full_extended s t n but e full x m st = grind arith
 
 pub full_empty : (s : State) (n : ℕ) → IsKept s → CountsBut n s → (length (s.queue n).places == 0) ≡ true → CountsAll s
-full_empty s n kept but none x m st = grind (arith, common_steps, nil_from_length, stands_in_queue)
+full_empty s n kept but none x m st = grind (arith, nil_from_length, stands_in_queue)

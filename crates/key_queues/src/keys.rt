@@ -108,7 +108,6 @@ impl<const REQS: usize> Keys<REQS> {
 
     /// The number of the open lock of a key with this hash.
     #[inline(always)]
-    #[tactic(auto, using(crate::proofs::Finding::number_within))]
     fn find_at(&self, hash: u16, key: &Key) -> Option<u16>
         requires { hash ≡ hash_of key.now }
         ensures found { IfSome result (λ n. is_open_for key.now (lock_at self.now n) ≡ true) }
@@ -128,7 +127,6 @@ impl<const REQS: usize> Keys<REQS> {
 
     /// The number of a lock that is not open: one that was kept, which may be that of an open one by now
     /// and is looked at; or of one more lock, as long as there is memory for it; or of the first.
-    #[tactic(auto, using(crate::proofs::Finding::closed_found))]
     fn take_free(&mut self) -> u16
         requires { LOCKS_A_CALL * REQS ≤ length self.old → list_any is_closed self.old ≡ true }
         ensures { IsSpare self.old self.new result }
@@ -170,7 +168,6 @@ impl<const REQS: usize> Keys<REQS> {
     /// Whether a want of a key that `look_up` found fits behind all that stand in the queue of that key. Where
     /// none does, there is nothing to fit behind.
     #[inline(always)]
-    #[tactic(auto, using(crate::proofs::Finding::found_open, crate::proofs::Finding::open_parts, crate::proofs::Finding::open_within))]
     pub fn fits_last(&self, w: &Want, found: Found) -> bool
         requires { IsFound self.now w.now.key found }
         ensures found { IfSome found.number (λ n. result ≡ fits_last (lock_at self.now n).queue w.now) }

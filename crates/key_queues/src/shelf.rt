@@ -48,7 +48,6 @@ impl<const REQS: usize> Shelf<REQS> {
     ghost use Rattle.key_queues.specs.Lends.{lends_request};
 
     /// A shelf without requests.
-    #[tactic(auto, using(crate::proofs::Slots::empty_slot, crate::proofs::Slots::long))]
     pub fn new(alloc: Global) -> Result<Self, AllocError>
         ensures none { IfOk result (λ s. (p : ℕ) → slot s.slots p ≡ None) }
         ensures long { IfOk result (λ s. length s.slots ≡ REQS) }
@@ -101,7 +100,6 @@ impl<const REQS: usize> Shelf<REQS> {
     }
 
     /// Takes the request of a place out.
-    #[tactic(auto, using(crate::proofs::Slots::key_there))]
     pub fn remove(&mut self, p: u16)
         requires { is_filled self.old.slots p ≡ true }
         ensures slots { self.new.slots ≡ with_slot self.old.slots p None }
@@ -113,7 +111,6 @@ impl<const REQS: usize> Shelf<REQS> {
 
     /// Lends the request in a place, to be changed. After the loan what was left there stands in the
     /// place, and all else is as it was.
-    #[tactic(auto, using(crate::proofs::Slots::key_there))]
     pub fn get_mut(&mut self, p: u16) -> &mut Filed
         requires { is_filled self.old.slots p ≡ true }
         ensures* writes_back { sem 𝓛 (lends_request REQS.row self.entry p result) }

@@ -91,7 +91,6 @@ impl<const REQS: usize> Store<REQS> {
     }
 
     /// The request at a place.
-    #[tactic(auto, using(crate::proofs::Keeps::seen_small, crate::proofs::Keeps::seen_within))]
     pub fn get(&self, p: u16) -> &Filed
         requires { is_there p self.now.order ≡ true }
         ensures value { result.now ≡ filed_at self.now p }
@@ -102,7 +101,6 @@ impl<const REQS: usize> Store<REQS> {
     }
 
     /// Takes in a request, which comes last and has no wants yet.
-    #[tactic(auto, using(crate::proofs::Keeps::job_listed, crate::proofs::Keeps::list_room, crate::proofs::Keeps::number_small))]
     pub fn insert(&mut self, job: u8, asking: &Asking, told: bool) -> u16
         requires room { length self.old.order < REQS }
         requires job { job ≤ JOBS }
@@ -120,7 +118,6 @@ impl<const REQS: usize> Store<REQS> {
 
     /// Takes the request of a place out.
     #[inline(always)]
-    #[tactic(auto, using(crate::proofs::Keeps::number_small))]
     pub fn remove(&mut self, p: u16)
         requires { is_there p self.old.order ≡ true }
         ensures value { self.new ≡ removed self.old p }
@@ -160,7 +157,6 @@ impl<const REQS: usize> Store<REQS> {
     }
 
     /// The request of a place takes one more want, in a queue.
-    #[tactic(auto, using(crate::proofs::Keeps::seen_filed))]
     pub fn push_want(&mut self, p: u16, w: &Want, n: u16)
         requires present { is_there p self.old.order ≡ true }
         requires wants { length (filed_at self.old p).request.wants.items < LOCKS_A_CALL }
@@ -174,7 +170,6 @@ impl<const REQS: usize> Store<REQS> {
     }
 
     /// Takes the k-th want out of the request at a place.
-    #[tactic(auto, using(crate::proofs::Keeps::seen_filed))]
     pub fn take_want(&mut self, p: u16, k: usize)
         requires present { is_there p self.old.order ≡ true }
         requires wants { k < length (filed_at self.old p).request.wants.items }
@@ -188,7 +183,6 @@ impl<const REQS: usize> Store<REQS> {
     }
 
     /// Writes another want over the k-th of the request at a place.
-    #[tactic(auto, using(crate::proofs::Keeps::seen_filed))]
     pub fn set_want(&mut self, p: u16, k: usize, w: &Want)
         requires present { is_there p self.old.order ≡ true }
         requires wants { k < length (filed_at self.old p).request.wants.items }

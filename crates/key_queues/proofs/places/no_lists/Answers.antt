@@ -8,3 +8,6 @@ loop-preserved g c = (repeated_more c.loop.counter [] _ _ _ c.push_reserved.ensu
 
 pub returns-clause-long : goal.returns-clause-long
 returns-clause-long g c = omega (arith, ap length c.loop.invariant.0, length-replicate {A = List ℕ} c.loop.counter [])
+
+pub push_reserved-requires : goal.push_reserved-requires
+push_reserved-requires g c = omega (arith, c.loop.own.ok.0, ap length c.loop.invariant.0, length-replicate {A = List ℕ} c.loop.counter [])

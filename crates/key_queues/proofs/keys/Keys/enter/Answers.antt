@@ -1,8 +1,8 @@
-use Rattle.std.proofs.Common.{refl}
+use Rattle.std.proofs.Common.{refl, arith}
 use Rattle.key_queues.specs.Kept.{appended, no_queue}
 use Rattle.key_queues.specs.Locks.{lock_at}
 use Rattle.key_queues.specs.Opened.{fresh_lock}
-use Rattle.key_queues.proofs.Finding.{entered_begun, entered_open, found_open, keyed_lock, keyed_queue, open_parts}
+use Rattle.key_queues.proofs.Finding.{entered_begun, entered_open, found_open, keyed_lock, keyed_queue, lock_read, open_parts, open_within}
 use Rattle.key_queues.proofs.keys.Keys.enter.Goals as goal
 
 pub invariant_of-self : goal.invariant_of-self
@@ -28,3 +28,9 @@ pub returns-in-Some : goal.returns-in-Some
 returns-in-Some g c =
     let some = found_open c.args.self.now c.args.w.now.key c.args.found c.in-Some.n c.requires.number c.in-Some.is in
     entered_open _ _ c.args.p c.args.w.now c.in-Some.n _ _ some c.self.view_is c.index_mut.ensures.value c.append.ensures
+
+pub index_mut-requires : goal.index_mut-requires
+index_mut-requires g c = grind (arith, found_open, open_parts, open_within)
+
+pub append-requires : goal.append-requires
+append-requires g c = grind (arith, found_open, lock_read, open_parts, open_within, c.requires.few)

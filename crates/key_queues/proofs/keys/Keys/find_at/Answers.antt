@@ -1,10 +1,17 @@
 use Rattle.std.proofs.Common.{arith}
 use Rattle.std.proofs.lemmas.Grind.{common_steps}
-use Rattle.key_queues.proofs.Finding.{bucket_read, hash_below, none_found}
+use Rattle.std.proofs.lemmas.List.{drop_more}
+use Rattle.key_queues.proofs.Finding.{bucket_read, hash_below, lock_read, none_found, number_within}
 use Rattle.key_queues.proofs.keys.Keys.find_at.Goals as goal
 
 pub returns-then-not-bucket-clause-none : goal.returns-then-not-bucket-clause-none
-returns-then-not-bucket-clause-none g c e =
-    let below = hash_below c.args.hash c.args.key.now c.requires in
-    let is = bucket_read _ _ _ c.self.invariant.index.long below c.index-bucket.ensures in
-    grind (arith, common_steps, none_found c.self.inside.buckets.items c.self.inside.locks.items c.args.key.now c.self.invariant.index)
+returns-then-not-bucket-clause-none g c e = grind (arith, common_steps, bucket_read, hash_below, none_found c.self.inside.buckets.items c.self.inside.locks.items c.args.key.now)
+
+pub index-requires : goal.index-requires
+index-requires g c = grind (arith, hash_below c.args.hash c.args.key.now c.requires, number_within)
+
+pub returns-then-is_open_for-clause-found : goal.returns-then-is_open_for-clause-found
+returns-then-is_open_for-clause-found g c = grind (arith, hash_below c.args.hash c.args.key.now c.requires, lock_read, number_within)
+
+pub loop-n-preserved : goal.loop-n-preserved
+loop-n-preserved g c = grind (arith, hash_below c.args.hash c.args.key.now c.requires, drop_more, lock_read, number_within)

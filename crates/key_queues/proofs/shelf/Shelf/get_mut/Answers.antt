@@ -1,6 +1,6 @@
 use Rattle.std.proofs.Common.{◌∙◌, refl}
 use Rattle.std.specs.Box.{with_value}
-use Rattle.key_queues.proofs.Slots.{was, written}
+use Rattle.key_queues.proofs.Slots.{key_there, was, written}
 use Rattle.key_queues.proofs.shelf.Shelf.get_mut.Goals as goal
 
 pub returns : goal.returns
@@ -10,3 +10,6 @@ returns g c =
       (refl, λ w. written g.row.REQS c.self.inside.slab _ view c.args.p c.requires (with_value box w)),
       record { writes_back = tt; value = c.deref_mut.ensures.value ∙ was g.row.REQS c.self.inside.slab _ view c.args.p c.requires box c.index_mut.ensures.value },
     )
+
+pub index_mut-requires : goal.index_mut-requires
+index_mut-requires g c = key_there g.row.REQS c.self.inside.slab _ c.self.view_is c.args.p c.requires

@@ -1,14 +1,11 @@
 use Rattle.std.proofs.Common.{◌<◌, ◌∙◌, ap, Some, arith}
 use Rattle.key_queues.specs.declared.filed.Filed.{Filed}
-use Rattle.key_queues.specs.Shelves.{unboxed, with_slot}
+use Rattle.key_queues.specs.Shelves.{with_slot}
 use Rattle.key_queues.proofs.Slots.{seen_at, updates_seen}
 use Rattle.key_queues.proofs.shelf.Shelf.insert.Goals as goal
 
 pub returns-clause-free : goal.returns-clause-free
-returns-clause-free g c =
-    let below : c.insert_reserved.result < g.row.REQS =
-    omega (arith, c.insert_reserved.ensures.key_in_range, c.insert_reserved.ensures.capacity, c.self.invariant.capacity) in
-    seen_at g.row.REQS c.self.inside.slab _ c.self.view_is c.insert_reserved.result below ∙ ap unboxed c.insert_reserved.ensures.was_vacant
+returns-clause-free g c = grind (arith, seen_at g.row.REQS c.self.inside.slab _ c.self.view_is c.insert_reserved.result)
 
 pub returns-clause-slots : goal.returns-clause-slots
 returns-clause-slots g c =

@@ -1,8 +1,9 @@
-use Rattle.std.proofs.Common.{Some, [], ◌∷◌, ◌++◌, ◌<◌, ◌∙◌, sym, ap, arith, length, lit<}
+use Rattle.std.proofs.Common.{Some, is_some, [], ◌∷◌, ◌++◌, ◌<◌, ◌∙◌, sym, ap, arith, length, lit<}
 use Rattle.lock_queue.specs.Jobs.{is_blocking}
 use Rattle.key_queues.specs.Filing.{arrived}
 use Rattle.key_queues.specs.Stores.{Stored}
-use Rattle.key_queues.proofs.Keeps.{and_true, insert_keeps, list_read, list_room, seen_then}
+use Rattle.key_queues.specs.Tables.{is_there}
+use Rattle.key_queues.proofs.Keeps.{and_true, insert_keeps, job_listed, list_read, list_room, number_small, numbered, seen_then}
 use Rattle.key_queues.proofs.store.Store.insert.Goals as goal
 
 pub push-requires-2 : goal.push-requires-2
@@ -26,3 +27,17 @@ pub returns-clause-value : goal.returns-clause-value
 returns-clause-value g c =
     seen_then _ _ c.args.self.now c.insert-place.result c.self.view_is _ _ (Some (arrived c.args.job c.args.asking.now c.args.told))
     (λ l. l ++ c.insert-place.result ∷ []) c.insert-place.ensures.slots c.push.ensures
+
+pub recount-requires-clause-room : goal.recount-requires-clause-room
+recount-requires-clause-room g c = number_small _ _ _ _ _ _ c.self.invariant 0 c.args.job c.requires.job
+
+pub index_mut-requires : goal.index_mut-requires
+index_mut-requires g c = omega (arith, job_listed _ _ _ _ _ _ c.self.invariant 0 c.args.job c.requires.job, c.self.inside.own.ok.0)
+
+pub recount-requires-clause-job : goal.recount-requires-clause-job
+recount-requires-clause-job g c = numbered _ _ _ _ _ _ c.self.invariant 0 c.args.job c.requires.job
+
+pub returns-clause-out : goal.returns-clause-out
+returns-clause-out g c =
+    ap (λ (s : Stored). is_there c.insert-place.result s.order) (sym c.self.view_is) ∙ c.self.invariant.there c.insert-place.result
+    ∙ ap is_some c.insert-place.ensures.free

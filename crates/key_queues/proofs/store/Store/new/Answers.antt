@@ -1,5 +1,5 @@
 use Rattle.std.proofs.Common.{◌≤◌, ◌∙◌, ◌==◌, ◌∷◌, sym, ap, subst, length, filter, is_some, arith}
-use Rattle.std.proofs.lemmas.List.{length-append}
+use Rattle.std.proofs.lemmas.List.{length-append, length-map}
 use Rattle.word36.specs.declared.sizes.TheConstants.{JOBS}
 use Rattle.key_queues.specs.Stores.{blocked_at, filed_or, job_at}
 use Rattle.key_queues.specs.Tables.{is_there}
@@ -29,3 +29,9 @@ invariant_of-result g c =
 
 pub returns-clause-filed : goal.returns-clause-filed
 returns-clause-filed g c = λ p. filed_is c.in_ok-new-2.field-0.slots p ∙ ap filed_or (c.in_ok-new-2.ensures.none p)
+
+pub returns-clause-order : goal.returns-clause-order
+returns-clause-order g c = c.in_ok-new.ensures
+
+pub returns-clause-long : goal.returns-clause-long
+returns-clause-long g c = length-map c.in_ok-new-2.field-0.slots filed_or ∙ c.in_ok-new-2.ensures.long

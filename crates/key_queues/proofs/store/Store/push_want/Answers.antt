@@ -1,7 +1,7 @@
-use Rattle.std.proofs.Common.{lit<, refl, rules}
+use Rattle.std.proofs.Common.{lit<, refl, arith, rules}
 use Rattle.key_queues.specs.declared.filed.Filed.{Filed}
 use Rattle.key_queues.specs.Filing.{with_more}
-use Rattle.key_queues.proofs.Keeps.{change_kept, seen_change, seen_filled, seen_within}
+use Rattle.key_queues.proofs.Keeps.{change_kept, seen_change, seen_filed, seen_filled, seen_within}
 use Rattle.key_queues.proofs.store.Store.push_want.Goals as goal
 
 pub invariant_of-self : goal.invariant_of-self
@@ -17,3 +17,9 @@ get_mut-filed-requires g c = (lit< tt, seen_filled _ _ _ _ _ _ c.self.invariant 
 
 pub returns-clause-within : goal.returns-clause-within
 returns-clause-within g c = seen_within _ _ _ _ _ _ c.self.invariant _ c.args.p c.self.view_is c.requires.present
+
+pub push-requires : goal.push-requires
+push-requires g c = grind (arith, seen_filed _ _ _ c.args.p c.self.view_is)
+
+pub push-requires-2 : goal.push-requires-2
+push-requires-2 g c = grind (arith, seen_filed _ _ _ c.args.p c.self.view_is)

@@ -1,7 +1,7 @@
-use Rattle.std.proofs.Common.{None, ◌≡◌, ◌∙◌, ap, lit<}
+use Rattle.std.proofs.Common.{None, ◌≡◌, ◌∙◌, ap, arith, lit<}
 use Rattle.key_queues.specs.declared.filed.Filed.{Filed}
 use Rattle.key_queues.specs.Stores.{without_place, blocked_at, is_blocked, job_at}
-use Rattle.key_queues.proofs.Keeps.{in_list, list_once, list_read, present, remove_keeps, seen_filled, seen_then, seen_within}
+use Rattle.key_queues.proofs.Keeps.{in_list, list_once, list_read, number_small, present, remove_keeps, seen_filled, seen_then, seen_within}
 use Rattle.key_queues.proofs.Orders.{there_within}
 use Rattle.key_queues.proofs.store.Store.remove.Goals as goal
 
@@ -36,3 +36,6 @@ returns-clause-value g c =
 
 pub returns-clause-within : goal.returns-clause-within
 returns-clause-within g c = seen_within _ _ _ _ _ _ c.self.invariant _ c.args.p c.self.view_is c.requires
+
+pub recount-requires-clause-room : goal.recount-requires-clause-room
+recount-requires-clause-room g c = grind (arith, number_small)

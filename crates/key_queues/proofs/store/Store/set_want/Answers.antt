@@ -1,4 +1,4 @@
-use Rattle.std.proofs.Common.{◌<◌, ◌∙◌, sym, ap, subst, length, refl, List}
+use Rattle.std.proofs.Common.{ap, refl, arith, List}
 use Rattle.lock_queue.specs.declared.want.Want.{Want}
 use Rattle.key_queues.specs.declared.filed.Filed.{Filed}
 use Rattle.key_queues.specs.Filing.{with_want, with_wants}
@@ -17,10 +17,7 @@ returns-clause-value g c =
     (written_in was.request.wants.items c.deref_mut.result.now c.args.k c.args.w.now c.deref_mut.ensures.value))
 
 pub bounds-deref_mut-k : goal.bounds-deref_mut-k
-bounds-deref_mut-k g c =
-    let is = c.get_mut.ensures.value ∙ sym (seen_filed _ _ _ c.args.p c.self.view_is) in
-    let read = c.deref_mut.ensures.value ∙ ap (λ (f : Filed). f.request.wants.items) is in
-    subst (λ (ws : List Want). c.args.k < length ws) (sym read) c.requires.wants
+bounds-deref_mut-k g c = grind (arith, seen_filed _ _ _ c.args.p c.self.view_is)
 
 pub returns-clause-within : goal.returns-clause-within
 returns-clause-within g c = seen_within _ _ _ _ _ _ c.self.invariant _ c.args.p c.self.view_is c.requires.present

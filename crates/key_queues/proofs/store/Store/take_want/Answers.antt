@@ -1,4 +1,4 @@
-use Rattle.std.proofs.Common.{lit<, ◌<◌, ◌∙◌, sym, subst, length, refl, rules}
+use Rattle.std.proofs.Common.{lit<, refl, arith, rules}
 use Rattle.key_queues.specs.declared.filed.Filed.{Filed}
 use Rattle.key_queues.specs.Filing.{without_want}
 use Rattle.key_queues.proofs.Keeps.{change_kept, seen_change, seen_filed, seen_filled, seen_within}
@@ -19,11 +19,7 @@ pub get_mut-filed-requires : goal.get_mut-filed-requires
 get_mut-filed-requires g c = (lit< tt, seen_filled _ _ _ _ _ _ c.self.invariant _ c.args.p c.self.view_is c.requires.present)
 
 pub take_out-requires : goal.take_out-requires
-take_out-requires g c =
-    let is = c.get_mut-filed.ensures.value ∙ sym (seen_filed _ _ _ c.args.p c.self.view_is) in
-    (lit< tt, subst (λ (f : Filed). c.args.k < length f.queues.items) (sym is) c.requires.queues)
+take_out-requires g c = grind (arith, seen_filed _ _ _ c.args.p c.self.view_is)
 
 pub take_out-requires-2 : goal.take_out-requires-2
-take_out-requires-2 g c =
-    let is = c.get_mut-filed.ensures.value ∙ sym (seen_filed _ _ _ c.args.p c.self.view_is) in
-    (lit< tt, subst (λ (f : Filed). c.args.k < length f.request.wants.items) (sym is) c.requires.wants)
+take_out-requires-2 g c = grind (arith, seen_filed _ _ _ c.args.p c.self.view_is)
