@@ -1,6 +1,5 @@
 -- A call's wants are judged one by one, and their keys looked up.
-use Rattle.std.proofs.Common.{◌≡◌, ◌∙◌, ◌<◌, ◌+◌, ◌++◌, ◌∷◌, ◌||◌, sym, ap, subst, ℕ, suc, Bool, true, false, not, List, [], Option, add-one}
-use Rattle.std.proofs.Common.{length, get_or, take, drop, arith, below_more, is_some, append_assoc, nat_le, ◌&&◌}
+use Rattle.std.proofs.Common.{◌≡◌, ◌∙◌, ◌<◌, ◌+◌, ◌++◌, ◌∷◌, ◌||◌, sym, ap, subst, ℕ, suc, Bool, true, false, not, List, [], Option, add-one, length, get_or, take, drop, arith, below_more, is_some, append_assoc, nat_le, ◌&&◌}
 use Rattle.std.specs.List.{list_any}
 use Rattle.std.proofs.lemmas.List.{get_or_append_left, get_or_push, get_or-take, length-take, take_more}
 use Rattle.std.proofs.lemmas.List.Folds.{list_any-append}

@@ -18,8 +18,7 @@ use Rattle.key_queues.specs.Stores.{Stored, filed_at, removed, with_filed, witho
 use Rattle.key_queues.specs.Filing.{unused_filed, without_want}
 use Rattle.lock_table.specs.Filing.{own_at, want_at, state_of}
 use Rattle.key_queues.specs.Kept.{KeptQueue, fits_next, admitted}
-use Rattle.key_queues.specs.States.{State, Stands, all_count, IsKept, FlagsAll, CountsAll, CountsBut, IsCounted, Renews, LetsIn, GivesUpAt, IsUsed}
-use Rattle.key_queues.specs.States.{IsTable, Leaves, Extended, OpenAreUsed}
+use Rattle.key_queues.specs.States.{State, Stands, all_count, IsKept, FlagsAll, CountsAll, CountsBut, IsCounted, Renews, LetsIn, GivesUpAt, IsUsed, IsTable, Leaves, Extended, OpenAreUsed}
 use Rattle.key_queues.specs.Tables.{is_counted, is_there, QueuesOf, StandsOnce}
 use Rattle.key_queues.proofs.Keeping.{letting_in_keeps, giving_up_keeps, leaving_keeps, queues_at, queues_without}
 use Rattle.key_queues.proofs.Moves.{there_without}

@@ -35,8 +35,7 @@ use Rattle.key_queues.proofs.Lists.{split_at, take_Has}
 use Rattle.lock_table.specs.Filing.{state_of, want_filed}
 use Rattle.lock_table.specs.Reads.{request_at}
 use Rattle.lock_table.specs.Whole.{requests_in, AreRight, JobsAreApart}
-use Rattle.lock_table.specs.Changing.{Altered, IsBetween, altered_at, changed_by, changed_once, loses_by, want_then, AreSound, IsAltering, IsSound}
-use Rattle.lock_table.specs.Changing.{SparesPools, fitting_then, is_lost_by, IsChanged, IsExtending, IsFullBut}
+use Rattle.lock_table.specs.Changing.{Altered, IsBetween, altered_at, changed_by, changed_once, loses_by, want_then, AreSound, IsAltering, IsSound, SparesPools, fitting_then, is_lost_by, IsChanged, IsExtending, IsFullBut}
 use Rattle.lock_table.proofs.Altering.{job_changed, named_changed, set_is_changed, unnamed_wants, alike_changed, there_Has, there_parts, wants_same_there, IsWantedAt, counts, lost_is, wanted_at}
 use Rattle.lock_table.proofs.Altering.{wants_then, changed_then, map_each, own_of_changed, own_unnamed, changed_none, map_twice, changes_tell, pool_same}
 use Rattle.lock_table.proofs.Filing.{place_within, filed_mine, filed_other, filed_like, lock_mine, lock_other, lock_like}
