@@ -255,6 +255,7 @@ impl<const REQS: usize> Keys<REQS> {
         requires { n < length self.now }
         ensures { result ≡ (length (lock_at self.now n).queue.places == 0) }
     {
-        self.locks[n as usize].queue.as_slice().is_empty()
+        let left = &self.locks[n as usize];
+        left.is_closed()
     }
 }

@@ -7,7 +7,7 @@ ghost use Rattle.lock_queue.specs.WellFormed.{names_locks, shares_rightly, all_s
 use crate::alike::{are_alike, hold_the_same};
 use crate::build::add;
 use crate::trial::Trial::Generated;
-use crate::trial::on_both;
+use crate::trial::{ROOM, on_both, on_tables};
 use lock_queue::{
     Asking, EnqueueKind, Group, Key, Level, LockCall, LockTable, Name, Pool, RequestId, Scope,
     UserCode, Want, Wants, Woken,
@@ -219,9 +219,9 @@ fn generated_steps_do_the_same(rt: HostRuntime) {
     let trial = Generated {
         start: 1,
         least: 13,
-        most: 256,
+        most: ROOM,
     };
-    on_both::<256>(&rt, rt.alloc(), trial);
+    on_tables(&rt, rt.alloc(), trial);
 }
 
 /// Generated steps do the same on both tables where these are often full.

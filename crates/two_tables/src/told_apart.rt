@@ -108,13 +108,13 @@ static TWO: [Row; 2] = [
     Calls(2, Asks(AtOnce, 1, One(Alone(2, 0))), Granted),
 ];
 
-/// The same two in the other order.
+/// The two requests of `TWO` in the other order.
 static TURNED: [Row; 2] = [
     Calls(2, Asks(AtOnce, 1, One(Alone(2, 0))), Granted),
     Calls(1, Asks(AtOnce, 1, One(Alone(1, 0))), Granted),
 ];
 
-/// The request of job 1 is one of job 2.
+/// The first request of `TWO`, made by job 2.
 static OTHER_JOB: [Row; 1] = [Calls(2, Asks(AtOnce, 1, One(Alone(1, 0))), Granted)];
 
 #[test]

@@ -12,6 +12,9 @@ use plain_table::PlainTable;
 use std::alloc::Global;
 use std::process::Abort;
 
+/// How many requests the tables have room for on which most rows are walked.
+pub const ROOM: usize = 256;
+
 /// What is done to two tables without requests.
 #[derive(Clone, Copy)]
 pub enum Trial<'a> {
@@ -73,9 +76,9 @@ pub fn on_both<const REQS: usize>(rt: &impl Abort, alloc: Global, trial: Trial)
     make(rt, plain, indexed, trial);
 }
 
-/// Makes a trial of both tables with room for as many requests as most rows are made for.
+/// Makes a trial of both tables with room for `ROOM` requests.
 pub fn on_tables(rt: &impl Abort, alloc: Global, trial: Trial) {
-    on_both::<256>(rt, alloc, trial);
+    on_both::<ROOM>(rt, alloc, trial);
 }
 
 /// Walks rows on both tables.
