@@ -1,0 +1,102 @@
+"""The edits that must fail: wrong bodies of functions, each of which the prover has to refuse.
+
+Those in crates/NAME/must-fail are tried by each run of the gate. The others, in crates/NAME/must-fail-recorded, have the same form, and `rt ci` does not
+read them. What an edit comes to depends on the kit, its crate, the crates below and its own text alone, so tests/refused_edits.txt has the sum of these
+for each edit that was seen refused. A run of the gate tries the edits whose sum is another one now, and some whose sum is the same, so that a false
+record is found."""
+
+import contextlib
+import hashlib
+import os
+import random
+import re
+import shutil
+
+import crates
+
+GATE = "must-fail"
+RECORDED = "must-fail-recorded"
+RECORD = f"{crates.TOP}/tests/refused_edits.txt"
+
+# So many edits whose sum is the recorded one are tried nevertheless.
+TRIED_AGAIN = 10
+
+# What `rt ci` says of an edit that was tried.
+SAID = re.compile(r"^rt: must-fail (\S+)/(\S+)\.edit: (.*)")
+
+
+class Edit:
+    """An edit of a crate, and whether each run of the gate tries it."""
+
+    def __init__(self, crate, folder, file):
+        self.crate, self.name, self.is_of_gate = crate, file.removesuffix(".edit"), folder == GATE
+        self.path = f"{crates.TOP}/crates/{crate}/{folder}/{file}"
+
+    def __str__(self):
+        return f"{self.crate}/{self.name}"
+
+    def sum(self):
+        """Gives the sum of all that the verdict on it rests on."""
+        own = (crates.sum_of(self.crate), self.name, crates.text_of(self.path))
+        return hashlib.sha256(repr(own).encode()).hexdigest()
+
+
+def all_edits():
+    """Gives each edit, by crates in the order of crates.txt."""
+    found = []
+    for crate in crates.libraries():
+        for folder in (GATE, RECORDED):
+            at = f"{crates.TOP}/crates/{crate}/{folder}"
+            files = sorted(os.listdir(at)) if os.path.isdir(at) else []
+            found += [Edit(crate, folder, it) for it in files if it.endswith(".edit")]
+    return found
+
+
+def recorded():
+    """Gives the recorded sum of each edit that was refused, by its name."""
+    if not os.path.exists(RECORD):
+        return {}
+    lines = [it.split() for it in crates.text_of(RECORD).splitlines() if not it.startswith("#")]
+    return {name: sum for name, sum in lines}
+
+
+def write_record(refused, tried):
+    """Writes the record anew: an edit that was tried has its sum there if it was refused, and none else; the others keep theirs."""
+    kept = recorded()
+    lines = ["# The edits that the prover was seen to refuse, each with the sum of what that rests on. `./check --edits` writes this file."]
+    for it in all_edits():
+        sum = it.sum() if str(it) in refused else None if str(it) in tried else kept.get(str(it))
+        lines += [f"{it} {sum}"] if sum else []
+    with open(RECORD, "w", encoding="utf-8") as to:
+        to.write("\n".join(lines) + "\n")
+
+
+def borrowed(commit):
+    """Gives the edits outside the gate that a run of it tries: those whose sum is not the recorded one; and some of the others, chosen by the commit's
+    name. These are of as few crates as can be, since the first edit of a crate is the dear one."""
+    known = recorded()
+    others = [it for it in all_edits() if not it.is_of_gate]
+    changed = [it for it in others if known.get(str(it)) != it.sum()]
+    same = [it for it in others if it not in changed]
+    order = sorted({it.crate for it in same})
+    random.Random(commit).shuffle(order)
+    return changed, sorted(same, key=lambda it: order.index(it.crate))[:TRIED_AGAIN]
+
+
+@contextlib.contextmanager
+def lent_to_the_gate(edits):
+    """Puts edits where `rt ci` reads them, for as long as it runs."""
+    lent = []
+    try:
+        for it in edits:
+            to = f"{crates.TOP}/crates/{it.crate}/{GATE}/{it.name}.edit"
+            if not os.path.exists(to):
+                os.makedirs(os.path.dirname(to), exist_ok=True)
+                lent.append(to)
+                shutil.copyfile(it.path, to)
+        yield
+    finally:
+        for it in lent:
+            with contextlib.suppress(OSError):
+                os.remove(it)
+                os.rmdir(os.path.dirname(it))

@@ -1,0 +1,111 @@
+"""What the parts of the gate take: kept beside git's own files, shown as a table, and written into docs/MAINTAINING.md."""
+
+import collections
+import json
+import re
+import subprocess
+
+import crates
+
+PAGE = f"{crates.TOP}/docs/MAINTAINING.md"
+MARKS = "<!-- written by ./check --minutes -->", "<!-- end of what ./check --minutes writes -->"
+
+# The head of a function.
+FUNCTION = re.compile(r"^ *(?:pub(?:\([a-z]+\))? )?fn ", re.MULTILINE)
+
+
+class Minutes:
+    """The parts of the last run of the gate, each with its minutes of a processor and of the clock, and the seconds of each crate as they were last measured:
+    what a run did not prove anew keeps its earlier figure."""
+
+    def __init__(self, parts=(), seconds=()):
+        self.parts, self.seconds = dict(parts), {tuple(key.split(" ", 1)): it for key, it in dict(seconds).items()}
+
+
+def file():
+    where = subprocess.run(["git", "rev-parse", "--absolute-git-dir"], cwd=crates.TOP, capture_output=True, text=True, check=True)
+    return f"{where.stdout.strip()}/check_minutes.json"
+
+
+def last():
+    try:
+        return Minutes(**json.loads(crates.text_of(file())))
+    except (OSError, ValueError, TypeError):
+        return Minutes()
+
+
+def keep(took, seconds):
+    """Keeps what a run took, and gives its table."""
+    known = last()
+    known.parts = {name: (processor, clock) for name, processor, clock in took}
+    proved = {crate for crate, kind in seconds if kind == "proof"}
+    known.seconds = {key: it for key, it in known.seconds.items() if key[0] not in proved} | dict(seconds)
+    with open(file(), "w", encoding="utf-8") as to:
+        json.dump({"parts": known.parts, "seconds": {" ".join(key): it for key, it in known.seconds.items()}}, to)
+    return table(known.parts, seconds)
+
+
+def kinds(seconds):
+    """Gives minutes of a processor by the kinds of a process, in words."""
+    found = collections.Counter()
+    for (_, kind), it in seconds.items():
+        found["edits" if kind.startswith("edit ") or kind == "edit alone" else kind] += it / 60
+    return found
+
+
+def table(parts, seconds):
+    """Gives the table of a run: what was done in it, and what was kept from an earlier one costs nothing."""
+    lines = [f"{'part':<40}{'processor':>10}{'clock':>8}   (minutes)"]
+    for name, (processor, clock) in parts.items():
+        lines.append(f"{name:<40}{processor:>10.1f}{clock:>8.1f}")
+        if name == "rt ci":
+            lines += [f"{'  ' + kind:<40}{it:>10.1f}" for kind, it in sorted(kinds(seconds).items())]
+    total = [sum(it) for it in zip(*parts.values())]
+    return "\n".join([*lines, f"{'all':<40}{total[0]:>10.1f}{total[1]:>8.1f}"])
+
+
+def of_edits(seconds, every):
+    """Gives the processor seconds of each edit that was tried just now, the dearest first."""
+    numbered = {}
+    for crate in {it.crate for it in every}:
+        own = sorted((it for it in every if it.crate == crate), key=lambda it: f"{it.name}.edit")
+        numbered |= {(crate, f"edit {number}"): it for number, it in enumerate(own)}
+    lines = [(it, str(numbered[key])) for key, it in seconds.items() if key in numbered]
+    lines += [(it, f"{crate}: {kind}") for (crate, kind), it in seconds.items() if kind in ("edits' start", "edit alone")]
+    return "\n".join(f"{it:8.1f} s {name}" for it, name in sorted(lines, reverse=True))
+
+
+def lines_in(crate, part, end):
+    """Gives how many lines the files of a folder of the crate have."""
+    return sum(crates.text_of(it).count("\n") for it in crates.files_of(crate) if f"/{crate}/{part}/" in it and it.endswith(end))
+
+
+def functions_in(crate):
+    sources = [crates.text_of(it) for it in crates.files_of(crate) if it.endswith(".rt")]
+    return sum(len(FUNCTION.findall(it)) for it in sources)
+
+
+def row(crate, seconds):
+    """Gives the row of a crate in the page's table."""
+    own = kinds({key: it for key, it in seconds.items() if key[0] == crate})
+    minutes = [own["proof"], own["tests"], own["build"], own["edits' start"] + own["edits"]]
+    shown = [f"{it:.1f}" if it >= 0.05 else "" for it in minutes]
+    sizes = [functions_in(crate), *(lines_in(crate, *it) for it in (("src", ".rt"), ("specs", ".antt"), ("proofs", ".antt")))]
+    return sum(minutes), f"| `{crate}` | {' | '.join(shown)} | {' | '.join(f'{it:,}' if it else '' for it in sizes)} |"
+
+
+def write():
+    """Writes the tables of docs/MAINTAINING.md: the parts of the last run, and each crate."""
+    known = last()
+    rows = sorted((row(it, known.seconds) for it in crates.libraries()), reverse=True)
+    lines = ["| Part of the gate | Processor | Clock |", "|---|---|---|"]
+    lines += [f"| `{name}` | {processor:.1f} | {clock:.1f} |" for name, (processor, clock) in known.parts.items()]
+    lines += ["", "| Of `rt ci`, nothing kept | Processor |", "|---|---|"]
+    lines += [f"| {kind} | {it:.1f} |" for kind, it in sorted(kinds(known.seconds).items())]
+    lines += ["", "| Crate | Proof | Tests | Builds | Edits | Functions | Code | Definitions | Proofs |", "|---|---|---|---|---|---|---|---|---|"]
+    page = crates.text_of(PAGE)
+    before, _, rest = page.partition(MARKS[0])
+    behind = rest.partition(MARKS[1])[2]
+    with open(PAGE, "w", encoding="utf-8") as to:
+        to.write("\n".join([before + MARKS[0], "", *lines, *[it for _, it in rows], "", MARKS[1] + behind]))
+    return 0
