@@ -94,6 +94,16 @@ def row(crate, seconds):
     return sum(minutes), f"| `{crate}` | {' | '.join(shown)} | {' | '.join(f'{it:,}' if it else '' for it in sizes)} |"
 
 
+def longest_chain(seconds):
+    """Gives the chain of crates that takes longest to prove, each of which waits for the one before it, and its minutes of a processor."""
+    best = {}
+    for crate in sorted(crates.libraries(), key=lambda it: len(crates.below(it))):
+        took = max(seconds.get((crate, "proof"), 0) + seconds.get((crate, "build"), 0), seconds.get((crate, "tests"), 0))
+        before = max((best[it] for it in crates.libraries()[crate] if it in best), default=(0, []))
+        best[crate] = before[0] + took / 60, [*before[1], crate]
+    return max(best.values())
+
+
 def write():
     """Writes the tables of docs/MAINTAINING.md: the parts of the last run, and each crate."""
     known = last()
@@ -102,6 +112,8 @@ def write():
     lines += [f"| `{name}` | {processor:.1f} | {clock:.1f} |" for name, (processor, clock) in known.parts.items()]
     lines += ["", "| Of `rt ci`, nothing kept | Processor |", "|---|---|"]
     lines += [f"| {kind} | {it:.1f} |" for kind, it in sorted(kinds(known.seconds).items())]
+    chain, names = longest_chain(known.seconds)
+    lines += ["", f"The longest chain of proofs takes {chain:.1f} minutes: {', '.join(f'`{it}`' for it in names)}."]
     lines += ["", "| Crate | Proof | Tests | Builds | Edits | Functions | Code | Definitions | Proofs |", "|---|---|---|---|---|---|---|---|---|"]
     page = crates.text_of(PAGE)
     before, _, rest = page.partition(MARKS[0])
