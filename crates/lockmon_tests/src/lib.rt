@@ -1,11 +1,7 @@
-//! Tests of `lockmon` that need its calls: ports in memory, long inputs, and lines that are generated.
+//! Tests of `lockmon` that need its calls: lines that are generated, and words for which there was no memory.
 #![tactic(auto)]
 
 #[cfg(test)]
 mod grammar;
-#[cfg(test)]
-mod ports;
-#[cfg(test)]
-mod told;
 #[cfg(test)]
 mod unread_words;

@@ -1,23 +1,14 @@
-//! Words of the command line that could not be read.
+//! Words of the command line for which there was no memory.
 
-use command_line::unread_words;
+use command_line::{FAILED, unread_words};
 use script_io::TestOut;
 use std::io::ErrorKind;
 
 #[test]
-fn words_that_are_no_text(rt: HostRuntime) {
-    let rows = [
-        (
-            ErrorKind::InvalidData,
-            2,
-            "error: invalid UTF-8 was detected in one or more arguments\n",
-        ),
-        (ErrorKind::OutOfMemory, 3, "lockmon: memory\n"),
-    ];
-    for (kind, status, told) in rows {
-        let mut room = [0u8; 128];
-        let mut errors = TestOut::new(&mut room, 100, 100);
-        assert_eq!(rt; unread_words(kind, &mut errors), status);
-        assert_eq!(rt; errors.as_slice(), told.as_bytes());
-    }
+fn no_memory_for_words(rt: HostRuntime) {
+    let mut room = [0u8; 32];
+    let mut errors = TestOut::new(&mut room, 32, 1);
+    let status = unread_words(ErrorKind::OutOfMemory, &mut errors);
+    assert_eq!(rt; status, FAILED);
+    assert_eq!(rt; errors.as_slice(), b"lockmon: memory\n".as_slice());
 }

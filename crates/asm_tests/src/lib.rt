@@ -1,5 +1,0 @@
-//! Tests of the assembler that need its calls; the others are the files in `tests/assembler`.
-#![tactic(auto)]
-
-#[cfg(test)]
-mod sources;
