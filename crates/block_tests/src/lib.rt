@@ -2,4 +2,8 @@
 #![tactic(auto)]
 
 #[cfg(test)]
+mod job;
+#[cfg(test)]
+mod rows;
+#[cfg(test)]
 mod tests;

@@ -1,10 +1,10 @@
 //! CORE, the time of day, the job's number, and the words that all jobs share.
 
-use crate::machine::{Machine, NEXT, SKIPPED};
+use crate::machine::{NEXT, SKIPPED};
 use crate::rows::Act::{Comes, Day, DayGoesOn, PutsAc, Stores};
 use crate::rows::Row::{Asks, Calls, Does, Sees};
 use crate::rows::Sight::{Blocks, WaitsFor, Word};
-use crate::rows::{walk, walk_on};
+use crate::rows::{Row, walk, walk_in};
 use job_sched::Wait;
 use uuo_calls::CallOutcome::Done;
 use word36::{JOBS, LINES};
@@ -24,100 +24,105 @@ const DATWR: u32 = 0o777_775;
 /// .JBREL, which tells the highest legal address.
 const JBREL: u32 = 0o44;
 
+/// The rows of `core_grows_and_shrinks`.
+static CORE_GROWS_AND_SHRINKS: [Row; 8] = [
+    Does(Stores(1, 0o1777, &[5])),
+    Asks(1, CORE, 0o3777, (SKIPPED, 0o76)),
+    Sees(Word(1, JBREL, Some(0o3777))),
+    Sees(Word(1, 0o1777, Some(5))),
+    Sees(Word(1, 0o3777, Some(0))),
+    Asks(1, CORE, 1, (SKIPPED, 0o77)),
+    Sees(Word(1, JBREL, Some(0o1777))),
+    Sees(Word(1, 0o2000, None)),
+];
+
 #[test]
 fn core_grows_and_shrinks(rt: HostRuntime) {
-    let rows = [
-        Does(Stores(1, 0o1777, &[5])),
-        Asks(1, CORE, 0o3777, (SKIPPED, 0o76)),
-        Sees(Word(1, JBREL, Some(0o3777))),
-        Sees(Word(1, 0o1777, Some(5))),
-        Sees(Word(1, 0o3777, Some(0))),
-        Asks(1, CORE, 1, (SKIPPED, 0o77)),
-        Sees(Word(1, JBREL, Some(0o1777))),
-        Sees(Word(1, 0o2000, None)),
-    ];
-    walk(&rt, rt.alloc(), &rows);
+    walk(&rt, rt.alloc(), &CORE_GROWS_AND_SHRINKS);
 }
 
 /// A left half that is not 0, no address, and more blocks than are free: AC tells the free blocks, and
 /// nothing else changes.
+static CORE_IS_REFUSED: [Row; 13] = [
+    Does(Stores(1, JBREL as usize, &[7])),
+    Asks(1, CORE, 0, (NEXT, 0o77)),
+    Sees(Word(1, JBREL, Some(7))),
+    Sees(Blocks(1, 1)),
+    Asks(1, CORE, 0o1_000000, (NEXT, 0o77)),
+    Sees(Word(1, JBREL, Some(7))),
+    Sees(Blocks(1, 1)),
+    Asks(1, CORE, 0o1_003777, (NEXT, 0o77)),
+    Sees(Word(1, JBREL, Some(7))),
+    Sees(Blocks(1, 1)),
+    Asks(1, CORE, 0o200000, (NEXT, 0o77)),
+    Sees(Word(1, JBREL, Some(7))),
+    Sees(Blocks(1, 1)),
+];
+
 #[test]
 fn core_is_refused(rt: HostRuntime) {
-    let rows = [
-        Does(Stores(1, JBREL as usize, &[7])),
-        Asks(1, CORE, 0, (NEXT, 0o77)),
-        Sees(Word(1, JBREL, Some(7))),
-        Sees(Blocks(1, 1)),
-        Asks(1, CORE, 0o1_000000, (NEXT, 0o77)),
-        Sees(Word(1, JBREL, Some(7))),
-        Sees(Blocks(1, 1)),
-        Asks(1, CORE, 0o1_003777, (NEXT, 0o77)),
-        Sees(Word(1, JBREL, Some(7))),
-        Sees(Blocks(1, 1)),
-        Asks(1, CORE, 0o200000, (NEXT, 0o77)),
-        Sees(Word(1, JBREL, Some(7))),
-        Sees(Blocks(1, 1)),
-    ];
-    walk(&rt, rt.alloc(), &rows);
+    walk(&rt, rt.alloc(), &CORE_IS_REFUSED);
 }
 
 /// A machine of one block, which job 1 has.
+static CORE_IS_NOT_THERE: [Row; 3] = [
+    Asks(1, CORE, 0o3777, (NEXT, 0)),
+    Sees(Word(1, 0o2000, None)),
+    Sees(Word(1, JBREL, Some(0))),
+];
+
 #[test]
 fn core_is_not_there(rt: HostRuntime) {
-    let rows = [
-        Does(Comes(1, 0)),
-        Asks(1, CORE, 0o3777, (NEXT, 0)),
-        Sees(Word(1, 0o2000, None)),
-        Sees(Word(1, JBREL, Some(0))),
-    ];
-    let mut small = Machine::new(rt.alloc(), 1).expect(&rt, "memory for the machine");
-    walk_on(&rt, &mut small, &rows);
+    walk_in(&rt, rt.alloc(), 1, &CORE_IS_NOT_THERE);
 }
 
 /// 100 ticks are 1666 milliseconds, 3202 octal; the last tick of a day is millisecond 86399983.
+static TIME_NUMBER_AND_SLEEP: [Row; 19] = [
+    Does(Comes(JOBS, LINES - 1)),
+    Does(Day(100)),
+    Asks(1, MSTIME, 0, (NEXT, 0o3202)),
+    Does(Day(5_183_999)),
+    Asks(1, MSTIME, 0, (NEXT, 86_399_983)),
+    Does(DayGoesOn),
+    Asks(1, MSTIME, 0, (NEXT, 0)),
+    Asks(1, PJOB, 0, (NEXT, 1)),
+    Asks(JOBS, PJOB, 0, (NEXT, JOBS as u64)),
+    Asks(1, SLEEP, 1, (NEXT, 1)),
+    Sees(WaitsFor(1, Wait::Sleep(60))),
+    Asks(1, SLEEP, 0, (NEXT, 0)),
+    Sees(WaitsFor(1, Wait::Sleep(1))),
+    Asks(1, SLEEP, 0o777777_000002, (NEXT, 0o777777_000002)),
+    Sees(WaitsFor(1, Wait::Sleep(120))),
+    Asks(1, SLEEP, 0o777777_000000, (NEXT, 0o777777_000000)),
+    Sees(WaitsFor(1, Wait::Sleep(1))),
+    Asks(1, SLEEP, 0o777777, (NEXT, 0o777777)),
+    Sees(WaitsFor(1, Wait::Sleep(15_728_580))),
+];
+
 #[test]
 fn time_number_and_sleep(rt: HostRuntime) {
-    let rows = [
-        Does(Comes(JOBS, LINES - 1)),
-        Does(Day(100)),
-        Asks(1, MSTIME, 0, (NEXT, 0o3202)),
-        Does(Day(5_183_999)),
-        Asks(1, MSTIME, 0, (NEXT, 86_399_983)),
-        Does(DayGoesOn),
-        Asks(1, MSTIME, 0, (NEXT, 0)),
-        Asks(1, PJOB, 0, (NEXT, 1)),
-        Asks(JOBS, PJOB, 0, (NEXT, u64::from(JOBS))),
-        Asks(1, SLEEP, 1, (NEXT, 1)),
-        Sees(WaitsFor(1, Wait::Sleep(60))),
-        Asks(1, SLEEP, 0, (NEXT, 0)),
-        Sees(WaitsFor(1, Wait::Sleep(1))),
-        Asks(1, SLEEP, 0o777777_000002, (NEXT, 0o777777_000002)),
-        Sees(WaitsFor(1, Wait::Sleep(120))),
-        Asks(1, SLEEP, 0o777777_000000, (NEXT, 0o777777_000000)),
-        Sees(WaitsFor(1, Wait::Sleep(1))),
-        Asks(1, SLEEP, 0o777777, (NEXT, 0o777777)),
-        Sees(WaitsFor(1, Wait::Sleep(15_728_580))),
-    ];
-    walk(&rt, rt.alloc(), &rows);
+    walk(&rt, rt.alloc(), &TIME_NUMBER_AND_SLEEP);
 }
+
+/// The rows of `shared_words`.
+static SHARED_WORDS: [Row; 13] = [
+    Does(Comes(2, 1)),
+    Does(PutsAc(1, 2, 0o123456_654321)),
+    Asks(1, DATWR, 0o777, (SKIPPED, 0o777)),
+    Asks(2, DATRD, 0o777, (SKIPPED, 0o123456_654321)),
+    Asks(2, DATRD, 0o1777, (SKIPPED, 0)),
+    Asks(1, DATWR, 0o5_001777, (SKIPPED, 0o5_001777)),
+    Asks(2, DATRD, 0o1777, (SKIPPED, 0o123456_654321)),
+    Asks(1, DATWR, 0o2000, (NEXT, 1)),
+    Asks(1, DATRD, 0o777_777, (NEXT, 1)),
+    // AC+1 after 17 is 0.
+    Does(PutsAc(1, 0, 3)),
+    Does(PutsAc(1, 0o17, 5)),
+    Calls(1, 0o17, DATWR, (Done, SKIPPED)),
+    Asks(2, DATRD, 5, (SKIPPED, 3)),
+];
 
 #[test]
 fn shared_words(rt: HostRuntime) {
-    let rows = [
-        Does(Comes(2, 1)),
-        Does(PutsAc(1, 2, 0o123456_654321)),
-        Asks(1, DATWR, 0o777, (SKIPPED, 0o777)),
-        Asks(2, DATRD, 0o777, (SKIPPED, 0o123456_654321)),
-        Asks(2, DATRD, 0o1777, (SKIPPED, 0)),
-        Asks(1, DATWR, 0o5_001777, (SKIPPED, 0o5_001777)),
-        Asks(2, DATRD, 0o1777, (SKIPPED, 0o123456_654321)),
-        Asks(1, DATWR, 0o2000, (NEXT, 1)),
-        Asks(1, DATRD, 0o777_777, (NEXT, 1)),
-        // AC+1 after 17 is 0.
-        Does(PutsAc(1, 0, 3)),
-        Does(PutsAc(1, 0o17, 5)),
-        Calls(1, 0o17, DATWR, (Done, SKIPPED)),
-        Asks(2, DATRD, 5, (SKIPPED, 3)),
-    ];
-    walk(&rt, rt.alloc(), &rows);
+    walk(&rt, rt.alloc(), &SHARED_WORDS);
 }

@@ -38,12 +38,12 @@ pub struct Machine {
 }
 
 impl Machine {
-    /// A machine of so many blocks without jobs, at midnight.
-    pub fn new(alloc: Global, blocks: u32) -> Result<Machine, AllocError>
+    /// A machine of so many blocks with job 1, of one block, at line 0, at midnight.
+    pub fn with_job(alloc: Global, blocks: u32) -> Result<Machine, AllocError>
         requires least { 1 ≤ blocks }
         requires most { blocks ≤ MOST_BLOCKS }
     {
-        Ok(Machine {
+        let mut machine = Machine {
             table: JobTable::new(),
             lines: Lines::new(alloc)?,
             locks: PlainTable::new(alloc)?,
@@ -51,12 +51,7 @@ impl Machine {
             shared: [Word::new(0); DATA_WORDS],
             room: CallRoom::new(),
             time: TimeOfDay::new(0),
-        })
-    }
-
-    /// A machine of 64 blocks with job 1, of one block, at line 0.
-    pub fn with_job(alloc: Global) -> Result<Machine, AllocError> {
-        let mut machine = Machine::new(alloc, 64)?;
+        };
         machine.log_in(1, 0, 1);
         Ok(machine)
     }

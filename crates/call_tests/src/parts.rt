@@ -1,13 +1,16 @@
 //! What is done with the single parts of a machine, and what is seen of them.
 
-use crate::locks::{BLOCK, ENQ};
-use crate::machine::Machine;
+use crate::locks::{BLOCK, DEQ, ENQ, ENQC};
+use crate::machine::{Machine, SKIPPED};
 use crate::rows::Lock;
 use core_store::CoreStore;
 use job_sched::{TICKS_A_DAY, TimeOfDay};
 use lock_queue::LockTable;
 use tty_lines::{Char7, LineNumber};
 use word36::{JOBS, LINES};
+
+/// The calls of locks.
+static LOCK_CALLS: [u32; 3] = [ENQ, DEQ, ENQC];
 
 impl Machine {
     /// Lets so many ticks of the day have gone by.
@@ -43,6 +46,43 @@ impl Machine {
     pub fn ask_for(&mut self, lock: Lock) -> (u32, u64) {
         self.put_block(1, BLOCK, 1, &[lock]);
         self.ask(1, ENQ, 0o1_000300)
+    }
+
+    /// Makes such an ENQ. 1 of this user code, which bypasses the order of levels; the PC and AC 1.
+    pub fn ask_bypassing(&mut self, code: u64) -> (u32, u64) {
+        self.ask_for([0o200000_777777, 0o500000_000000 | code, 0])
+    }
+
+    /// Makes such ENQ. 1 of the user codes below a number, and tells whether each is granted and adds a request to none.
+    pub fn fills(&mut self, count: usize) -> bool {
+        for i in 0..count {
+            if self.ask_bypassing(i as u64) != (SKIPPED, 0o1_000300) || self.requests() != i + 1 {
+                return false;
+            }
+        }
+        true
+    }
+
+    /// Whether ENQ., DEQ. and ENQC. of job 1 with this word in AC 1 each leave this PC and AC 1.
+    pub fn lock_calls(&mut self, word: u64, answer: (u32, u64)) -> bool {
+        for call in &LOCK_CALLS {
+            if self.ask(1, *call, word) != answer {
+                return false;
+            }
+        }
+        true
+    }
+
+    /// Types characters A at line 0, one by one, and tells whether job 1 is ready behind the last of so many, and
+    /// behind none before.
+    pub fn is_ready_behind(&mut self, count: u32) -> bool {
+        for i in 1..=count {
+            self.type_in(b"A");
+            if self.is_ready(1) != (i == count) {
+                return false;
+            }
+        }
+        true
     }
 
     /// How many requests there are.

@@ -1,7 +1,11 @@
 //! The rows of a test, and how they are walked on a machine.
 
+ghost use Rattle.std.specs.Prelude.{◌≤◌};
+ghost use Rattle.word36.specs.declared.sizes.TheConstants.{MOST_BLOCKS};
+
+use crate::listed::{calls_rightly, is_listed};
 use crate::machine::Machine;
-use job_sched::{Interrupts, JobError, Stop, Wait};
+use job_sched::{JobError, NO_INTERRUPTS, Stop, Wait};
 use std::alloc::Global;
 use std::process::Abort;
 use uuo_calls::CallOutcome;
@@ -10,16 +14,16 @@ use uuo_calls::CallOutcome;
 pub type Lock = [u64; 3];
 
 /// Something that is done to a machine. The numbers come first: of a job, or of a line.
-#[derive(Clone, Copy, Debug)]
-pub enum Act<'a> {
+#[derive(Clone, Copy)]
+pub enum Act {
     /// A job of one block comes at a line, and is not stopped.
     Comes(u8, u8),
     /// A job is taken away.
     Goes(u8),
     /// Words are stored in a job's core from a place on.
-    Stores(u8, usize, &'a [u64]),
+    Stores(u8, usize, &'static [u64]),
     /// A block is stored in a job's core at a place, with an id and at most 16 locks.
-    Block(u8, usize, u64, &'a [Lock]),
+    Block(u8, usize, u64, &'static [Lock]),
     /// A word is put in an AC of a job.
     PutsAc(u8, u8, u64),
     /// So many ticks of the day have gone by.
@@ -33,7 +37,7 @@ pub enum Act<'a> {
     /// A job is at its call again, and an interrupt of it is in progress.
     Interrupts(u8),
     /// A text is typed at line 0.
-    Types(&'a [u8]),
+    Types(&'static [u8]),
     /// So many characters X are put in the output of line 0, each by itself.
     Outputs(u32),
     /// The input of line 0 is cleared.
@@ -47,7 +51,7 @@ pub enum Act<'a> {
 }
 
 /// Something that is seen of a machine. The number of a job comes first.
-#[derive(Clone, Copy, Debug)]
+#[derive(Clone, Copy)]
 pub enum Sight {
     /// The word at a place of a job's core, if the place is legal.
     Word(u8, u32, Option<u64>),
@@ -75,8 +79,8 @@ pub enum Sight {
     IsReady(u8, bool),
     /// Whether the interrupts of a job are on, if it has a vector.
     Switch(u8, Option<bool>),
-    /// How a job takes interrupts.
-    TakesInterrupts(u8, Interrupts),
+    /// A job has no vector, and takes no interrupts.
+    NoInterrupts(u8),
     /// Whether an interrupt of a job is in progress.
     InProgress(u8, bool),
     /// Job 1 is stopped at its call as an illegal instruction, and nothing else has changed.
@@ -88,22 +92,37 @@ pub enum Sight {
 }
 
 /// Something that is done, something that is asked and its answer, or something that must be seen.
-#[derive(Clone, Copy, Debug)]
-pub enum Row<'a> {
-    Does(Act<'a>),
+#[derive(Clone, Copy)]
+pub enum Row {
+    Does(Act),
     /// A job makes a CALLI of this number with AC field 1 and this word in AC 1; the PC and AC 1 after it.
     Asks(u8, u32, u64, (u32, u64)),
     /// Job 1 makes an ENQ. 1 of this lock, by a block at 300 octal with the id 1; the PC and AC 1 after it,
     /// and how many requests there are then.
     AsksFor(Lock, (u32, u64), usize),
+    /// Job 1 makes such an ENQ. 1 of this user code, which bypasses the order of levels.
+    AsksBypassing(u64, (u32, u64), usize),
+    /// Job 1, without requests, makes such ENQ. 1 of the user codes below a number, and all are granted.
+    Fills(usize),
+    /// ENQ., DEQ. and ENQC. of job 1 with this word in AC 1; the PC and AC 1 after each.
+    LockCalls(u64, (u32, u64)),
     /// A job makes a CALLI of this AC field and number; how it ends, and the PC.
     Calls(u8, u8, u32, (CallOutcome, u32)),
+    /// A CALLI of this AC field and number stops job 1 as an illegal instruction.
+    Refuses(u8, u32),
+    /// A CALLI of this number stops job 1 so exactly where it is not listed, and takes it away exactly where it is
+    /// LOGOUT.
+    Calli(u32),
+    /// A TTCALL of this function stops job 1 so exactly where it is not listed.
+    Ttcall(u8),
     /// Job 1 makes a TTCALL of this function and E; how it ends, the PC and the wait.
     Tty(u8, u32, (CallOutcome, u32, Wait)),
     /// At most so many characters are taken from the output of line 0: these.
-    Takes(usize, &'a [u8]),
+    Takes(usize, &'static [u8]),
+    /// Characters A are typed at line 0, one by one: job 1 is ready behind the last of so many, and behind none before.
+    ReadyBehind(u32),
     /// Steps of the scheduler with this quantum, each followed by a tick: the jobs that run, 0 for none.
-    Turns(u8, &'a [u8]),
+    Turns(u8, &'static [u8]),
     /// A step of the scheduler with this quantum and no tick: the job that runs, 0 for none.
     Runs(u8, u8),
     /// A job starts, or why it cannot.
@@ -113,7 +132,7 @@ pub enum Row<'a> {
     Sees(Sight),
 }
 
-impl Act<'_> {
+impl Act {
     /// Does it.
     fn does(&self, machine: &mut Machine) {
         match self {
@@ -154,7 +173,7 @@ impl Sight {
             Sight::IsThere(job, there) => machine.is_there(*job) == *there,
             Sight::IsReady(job, ready) => machine.is_ready(*job) == *ready,
             Sight::Switch(job, on) => machine.switch(*job) == *on,
-            Sight::TakesInterrupts(job, interrupts) => machine.interrupts(*job) == *interrupts,
+            Sight::NoInterrupts(job) => machine.interrupts(*job) == NO_INTERRUPTS,
             Sight::InProgress(job, progress) => machine.interrupts(*job).in_progress == *progress,
             Sight::IsRefused => machine.is_refused(),
             Sight::Room(count) => machine.room() == *count,
@@ -163,7 +182,7 @@ impl Sight {
     }
 }
 
-impl Row<'_> {
+impl Row {
     /// Whether the row holds of a machine.
     fn holds(&self, machine: &mut Machine) -> bool {
         match self {
@@ -175,9 +194,24 @@ impl Row<'_> {
             Row::AsksFor(lock, answer, requests) => {
                 machine.ask_for(*lock) == *answer && machine.requests() == *requests
             }
+            Row::AsksBypassing(code, answer, requests) => {
+                machine.ask_bypassing(*code) == *answer && machine.requests() == *requests
+            }
+            Row::Fills(count) => machine.fills(*count),
+            Row::LockCalls(word, answer) => machine.lock_calls(*word, *answer),
             Row::Calls(job, ac, call, answer) => machine.calls(*job, *ac, *call) == *answer,
+            Row::Refuses(ac, call) => {
+                machine.calls(1, *ac, *call);
+                machine.is_refused()
+            }
+            Row::Calli(call) => calls_rightly(machine, *call),
+            Row::Ttcall(function) => {
+                machine.tty(*function, 0o200);
+                machine.is_refused() != is_listed(*function)
+            }
             Row::Tty(function, e, answer) => machine.tty(*function, *e) == *answer,
             Row::Takes(most, text) => machine.takes(*most, text),
+            Row::ReadyBehind(count) => machine.is_ready_behind(*count),
             Row::Turns(quantum, jobs) => machine.turns(*quantum, jobs),
             Row::Runs(quantum, job) => machine.step(*quantum) == *job,
             Row::Starts(job, answer) => machine.table.start(*job) == *answer,
@@ -187,20 +221,36 @@ impl Row<'_> {
     }
 }
 
-/// Walks the rows on a machine.
-pub fn walk_on(rt: &impl Abort, machine: &mut Machine, rows: &[Row]) {
+/// The first of the rows that does not hold on a machine.
+fn first_wrong_on(mut machine: Machine, rows: &[Row]) -> Option<usize> {
     for (i, row) in rows.iter().enumerate() {
-        assert!(rt; row.holds(machine), "row {i}: {row:?}");
+        if !row.holds(&mut machine) {
+            return Some(i);
+        }
+    }
+    None
+}
+
+/// The first of the rows that does not hold on a new machine of so many blocks with job 1 at line 0.
+pub fn first_wrong(rt: &impl Abort, alloc: Global, blocks: u32, rows: &[Row]) -> Option<usize>
+    requires least { 1 ≤ blocks }
+    requires most { blocks ≤ MOST_BLOCKS }
+{
+    let machine = Machine::with_job(alloc, blocks).expect(rt, "memory for the machine");
+    first_wrong_on(machine, rows)
+}
+
+/// Walks the rows on a machine of so many blocks with job 1 at line 0: each must hold.
+pub fn walk_in(rt: &impl Abort, alloc: Global, blocks: u32, rows: &[Row])
+    requires least { 1 ≤ blocks }
+    requires most { blocks ≤ MOST_BLOCKS }
+{
+    if let Some(i) = first_wrong(rt, alloc, blocks, rows) {
+        panic!(rt; "row {i}");
     }
 }
 
-/// A machine of 64 blocks with job 1 at line 0.
-pub fn with_job(rt: &impl Abort, alloc: Global) -> Machine {
-    Machine::with_job(alloc).expect(rt, "memory for the machine")
-}
-
-/// Walks the rows on a machine of 64 blocks with job 1 at line 0.
+/// Walks the rows on a machine of 64 blocks with job 1 at line 0: each must hold.
 pub fn walk(rt: &impl Abort, alloc: Global, rows: &[Row]) {
-    let mut machine = with_job(rt, alloc);
-    walk_on(rt, &mut machine, rows);
+    walk_in(rt, alloc, 64, rows);
 }

@@ -1,13 +1,12 @@
 //! Requests that interrupt.
 
+use crate::rows::Act::{Continue, Kill, Step, Typed};
 use crate::rows::Reply::{Done, Idle};
 use crate::rows::Row::{Begins, Happens, Job, Locks, Rounds, Steps, Turns, Word};
-use crate::rows::walk;
+use crate::rows::{Table, walk};
 use job_sched::{Stop, Wait};
 use ka_cpu::StopReason::IllegalAddress;
 use lock_queue::EnqueueKind::{AtOnce, Interrupt};
-use monitor::Event::{Continue, Kill, Step, Typed};
-use tty_lines::Char7;
 
 /// Owns two locks, waits for a character, and gives both up by one DEQ.
 const OWNER: &str =
@@ -23,10 +22,15 @@ const ASKER: &str =
     TWO: 1,,5\n 0,,10\n 200000,,777777\n 500000,,2\n 0\n LOC 174\n DEBRK.\n JRST .\n\
     LOC 200\n 174\n BLOCK 3\n END\n";
 
-#[test]
-fn two_grants_interrupt_in_order(rt: HostRuntime) {
-    let at_152 = Some(0o010000_000152);
-    let rows = [
+/// The flags and the PC of the asker at 152 octal.
+const AT_152: Option<u64> = Some(0o010000_000152);
+
+/// The rows of `two_grants_interrupt_in_order`.
+static TWO_GRANTS_INTERRUPT_IN_ORDER: Table = Table {
+    name: "two_grants_interrupt_in_order",
+    blocks: 64,
+    quantum: 1,
+    rows: &[
         Begins(0, OWNER, 1),
         Rounds(3, 3),
         Begins(1, ASKER, 2),
@@ -38,14 +42,14 @@ fn two_grants_interrupt_in_order(rt: HostRuntime) {
         ]),
         Job(2, 0o152, None, Wait::Char),
         // Both are granted, and the job goes on waiting for its character.
-        Happens(Typed(0, Char7::new(b'A')), Done),
+        Happens(Typed(0, b'A'), Done),
         Turns(&[1, 1, 1, 1, 1, 1]),
         Locks(&[(2, Interrupt, 7, true), (2, Interrupt, 0o10, true)]),
         Word(2, 0o201, Some(0)),
-        Happens(Typed(1, Char7::new(b'B')), Done),
+        Happens(Typed(1, b'B'), Done),
         Turns(&[2]),
         Job(2, 0o174, None, Wait::None),
-        Word(2, 0o201, at_152),
+        Word(2, 0o201, AT_152),
         Word(2, 0o203, Some(7)),
         // DEBRK. comes before the second.
         Turns(&[1, 2]),
@@ -53,15 +57,19 @@ fn two_grants_interrupt_in_order(rt: HostRuntime) {
         Word(2, 0o203, Some(7)),
         Turns(&[1, 2]),
         Job(2, 0o174, None, Wait::None),
-        Word(2, 0o201, at_152),
+        Word(2, 0o201, AT_152),
         Word(2, 0o203, Some(0o10)),
         // Each is told once.
         Turns(&[1, 2, 1, 2, 1, 2, 1]),
         Job(2, 0o153, None, Wait::None),
         Word(2, 0o203, Some(0o10)),
         Word(2, 7, Some(0o102)),
-    ];
-    walk(&rt, rt.alloc(), &rows);
+    ],
+};
+
+#[test]
+fn two_grants_interrupt_in_order(rt: HostRuntime) {
+    walk(&rt, rt.alloc(), &TWO_GRANTS_INTERRUPT_IN_ORDER);
 }
 
 /// Owns the lock 1, and gives it up when a character is typed.
@@ -75,16 +83,18 @@ const WATCHER: &str =
     JRST .\n JRST .\nBLK: 1,,5\n 0,,7\n 777777\n 500000,,1\n 0\n LOC 174\n DEBRK.\n LOC 200\n 174\n BLOCK 3\n END\n";
 
 /// A grant stores the flags, the PC and the id of its request, and the job goes on at its vector.
-#[test]
-fn interrupts(rt: HostRuntime) {
-    let rows = [
+static INTERRUPTS: Table = Table {
+    name: "interrupts",
+    blocks: 64,
+    quantum: 1,
+    rows: &[
         Begins(0, HOLDER, 1),
         Rounds(3, 3),
         Begins(1, WATCHER, 2),
         Rounds(9, 9),
         Job(2, 0o151, None, Wait::None),
         Word(2, 1, Some(1)),
-        Happens(Typed(0, Char7::new(b'A')), Done),
+        Happens(Typed(0, b'A'), Done),
         Turns(&[1, 2, 1, 2, 1, 2]),
         Word(2, 0o201, Some(0o010000_000151)),
         Word(2, 0o203, Some(7)),
@@ -93,35 +103,54 @@ fn interrupts(rt: HostRuntime) {
         Job(2, 0o151, None, Wait::None),
         Turns(&[1, 2]),
         Job(2, 0o151, None, Wait::None),
-    ];
-    walk(&rt, rt.alloc(), &rows);
-}
+    ],
+};
 
 #[test]
-fn a_grant_at_once_is_told(rt: HostRuntime) {
-    // The request skips the JFCL, and nothing interrupts.
-    let rows = [
+fn interrupts(rt: HostRuntime) {
+    walk(&rt, rt.alloc(), &INTERRUPTS);
+}
+
+/// The request skips the JFCL, and nothing interrupts.
+static A_GRANT_AT_ONCE_IS_TOLD: Table = Table {
+    name: "a_grant_at_once_is_told",
+    blocks: 64,
+    quantum: 1,
+    rows: &[
         Begins(0, WATCHER, 1),
         Steps(10, 10),
         Job(1, 0o151, None, Wait::None),
         Word(1, 0o203, Some(0)),
         Locks(&[(1, Interrupt, 7, true)]),
-    ];
-    walk(&rt, rt.alloc(), &rows);
-}
+    ],
+};
 
 #[test]
-fn an_interrupt_wants_a_vector(rt: HostRuntime) {
-    let source = " MOVE 1,[2,,BLK]\n ENQ. 1,\n JRST .\n JRST .\n\
-        BLK: 1,,5\n 0,,7\n 777777\n 500000,,1\n 0\n END\n";
-    let rows = [
-        Begins(0, source, 1),
+fn a_grant_at_once_is_told(rt: HostRuntime) {
+    walk(&rt, rt.alloc(), &A_GRANT_AT_ONCE_IS_TOLD);
+}
+
+/// Asks for the lock 1 by a request that interrupts, and has set no vector.
+const NO_VECTOR: &str = " MOVE 1,[2,,BLK]\n ENQ. 1,\n JRST .\n JRST .\n\
+    BLK: 1,,5\n 0,,7\n 777777\n 500000,,1\n 0\n END\n";
+
+/// The rows of `an_interrupt_wants_a_vector`.
+static AN_INTERRUPT_WANTS_A_VECTOR: Table = Table {
+    name: "an_interrupt_wants_a_vector",
+    blocks: 64,
+    quantum: 1,
+    rows: &[
+        Begins(0, NO_VECTOR, 1),
         Steps(2, 2),
         Job(1, 0o142, None, Wait::None),
         Word(1, 1, Some(0o17)),
         Locks(&[]),
-    ];
-    walk(&rt, rt.alloc(), &rows);
+    ],
+};
+
+#[test]
+fn an_interrupt_wants_a_vector(rt: HostRuntime) {
+    walk(&rt, rt.alloc(), &AN_INTERRUPT_WANTS_A_VECTOR);
 }
 
 /// As the watcher, with a vector at 3000 octal in a second block, which it gives back afterwards.
@@ -130,11 +159,14 @@ const SHRINKER: &str =
     MOVE 1,[2,,BLK]\n ENQ. 1,\n JFCL\n MOVEI 1,1777\n CORE 1,\n HALT\n JRST .\n\
     BLK: 1,,5\n 0,,7\n 777777\n 500000,,1\n 0\n END\n";
 
-#[test]
-fn a_vector_that_is_gone(rt: HostRuntime) {
-    // The job stops, and the request is not told: it would interrupt again.
-    let stopped = Some(Stop::Fault(IllegalAddress));
-    let rows = [
+const STOPPED: Option<Stop> = Some(Stop::Fault(IllegalAddress));
+
+/// The job stops, and the request is not told: it would interrupt again.
+static A_VECTOR_THAT_IS_GONE: Table = Table {
+    name: "a_vector_that_is_gone",
+    blocks: 64,
+    quantum: 1,
+    rows: &[
         Begins(0, HOLDER, 1),
         Rounds(3, 3),
         Begins(1, SHRINKER, 2),
@@ -142,14 +174,18 @@ fn a_vector_that_is_gone(rt: HostRuntime) {
         Job(2, 0o157, None, Wait::None),
         Happens(Kill(1), Done),
         Steps(2, 1),
-        Job(2, 0o157, stopped, Wait::None),
+        Job(2, 0o157, STOPPED, Wait::None),
         Locks(&[(2, Interrupt, 7, true)]),
         Happens(Continue(2), Done),
         Steps(2, 1),
-        Job(2, 0o157, stopped, Wait::None),
+        Job(2, 0o157, STOPPED, Wait::None),
         Happens(Step, Idle),
-    ];
-    walk(&rt, rt.alloc(), &rows);
+    ],
+};
+
+#[test]
+fn a_vector_that_is_gone(rt: HostRuntime) {
+    walk(&rt, rt.alloc(), &A_VECTOR_THAT_IS_GONE);
 }
 
 /// As the watcher, but its interrupts are off until a character is typed.
@@ -157,16 +193,19 @@ const LATE: &str =
     " MOVEI 1,200\n PIINI. 1,\n HALT\n MOVE 1,[2,,BLK]\n ENQ. 1,\n JFCL\n INCHRW 7\n MOVEI 1,1\n PISYS. 1,\n \
     HALT\n JRST .\nBLK: 1,,5\n 0,,7\n 777777\n 500000,,1\n 0\n LOC 200\n 174\n BLOCK 3\n END\n";
 
-#[test]
-fn interrupts_that_are_off(rt: HostRuntime) {
-    let rows = [
+/// The rows of `interrupts_that_are_off`.
+static INTERRUPTS_THAT_ARE_OFF: Table = Table {
+    name: "interrupts_that_are_off",
+    blocks: 64,
+    quantum: 1,
+    rows: &[
         Begins(0, HOLDER, 1),
         Rounds(3, 3),
         Begins(1, LATE, 2),
         Rounds(7, 6),
         Job(2, 0o146, None, Wait::Char),
         Happens(Kill(1), Done),
-        Happens(Typed(1, Char7::new(b'A')), Done),
+        Happens(Typed(1, b'A'), Done),
         Steps(3, 3),
         Job(2, 0o152, None, Wait::None),
         Word(2, 0o203, Some(0)),
@@ -174,6 +213,10 @@ fn interrupts_that_are_off(rt: HostRuntime) {
         Job(2, 0o174, None, Wait::None),
         Word(2, 0o201, Some(0o010000_000152)),
         Word(2, 0o203, Some(7)),
-    ];
-    walk(&rt, rt.alloc(), &rows);
+    ],
+};
+
+#[test]
+fn interrupts_that_are_off(rt: HostRuntime) {
+    walk(&rt, rt.alloc(), &INTERRUPTS_THAT_ARE_OFF);
 }

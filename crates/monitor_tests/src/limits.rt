@@ -1,14 +1,11 @@
 //! Requests that wait for a limited time.
 
+use crate::rows::Act::{Continue, Start, Step, Tick, Typed};
 use crate::rows::Reply::{Done, Idle};
 use crate::rows::Row::{Begins, Happens, Job, Locks, Repeats, Rounds, Steps, Turns, Word};
-use crate::rows::{CTRL_C, walk};
+use crate::rows::{CTRL_C, Table, walk};
 use job_sched::{Stop, Wait};
 use lock_queue::EnqueueKind::{AtOnce, Blocking};
-use monitor::Event::{Continue, Start, Step, Tick, Typed};
-use std::alloc::Global;
-use std::process::Abort;
-use tty_lines::Char7;
 
 /// Owns the lock 12 by a request of id 1, and gives it up when a character is typed.
 const OWNER: &str =
@@ -43,8 +40,11 @@ const SHARED_FOUR_TICKS: &str = " MOVEI 1,BLK\n ENQ. 1,\n INCHRW 7\n INCHRW 6\n\
 
 /// Job 2 waits for the lock of job 1. At the fifth tick it goes on behind its ENQ. with code 17, and its
 /// request is gone.
-fn expect_an_end(rt: &impl Abort, alloc: Global) {
-    let rows = [
+static AN_END: Table = Table {
+    name: "an_end",
+    blocks: 64,
+    quantum: 1,
+    rows: &[
         Begins(0, OWNER, 1),
         Steps(3, 3),
         Begins(1, FIVE_TICKS, 2),
@@ -63,18 +63,20 @@ fn expect_an_end(rt: &impl Abort, alloc: Global) {
         Steps(2, 1),
         Job(2, 0o142, None, Wait::Char),
         // It asks again, and waits as long again.
-        Happens(Typed(1, Char7::new(CTRL_C)), Done),
+        Happens(Typed(1, CTRL_C), Done),
         Happens(Start(2), Done),
         Steps(2, 2),
         Job(2, 0o143, None, Wait::Queue(5, 1)),
-    ];
-    walk(rt, alloc, &rows);
-}
+    ],
+};
 
 /// Job 2, alone, and job 3, shared, wait for the lock that job 1 shares. Both limits end at the third tick,
 /// and both requests leave: job 3 does not get the lock by the leaving of job 2.
-fn expect_two_ends(rt: &impl Abort, alloc: Global) {
-    let rows = [
+static TWO_ENDS: Table = Table {
+    name: "two_ends",
+    blocks: 64,
+    quantum: 1,
+    rows: &[
         Begins(0, SHARER, 1),
         Steps(3, 3),
         Begins(1, THREE_TICKS, 2),
@@ -91,20 +93,22 @@ fn expect_two_ends(rt: &impl Abort, alloc: Global) {
         Word(3, 1, Some(0o21)),
         Locks(&[(1, AtOnce, 1, true)]),
         Steps(3, 2),
-        Happens(Typed(0, Char7::new(b'A')), Done),
+        Happens(Typed(0, b'A'), Done),
         Steps(4, 4),
         Job(1, 0o150, None, Wait::None),
         Word(1, 0o300, Some(0o200000_000001)),
         Word(1, 0o301, Some(0o000001_000000)),
         Word(1, 0o302, Some(0)),
-    ];
-    walk(rt, alloc, &rows);
-}
+    ],
+};
 
 /// As before, but job 3 waits for one tick more: at the third tick it gets the lock by the leaving of job 2,
 /// and its limit counts no longer.
-fn expect_an_end_and_a_grant(rt: &impl Abort, alloc: Global) {
-    let rows = [
+static AN_END_AND_A_GRANT: Table = Table {
+    name: "an_end_and_a_grant",
+    blocks: 64,
+    quantum: 1,
+    rows: &[
         Begins(0, SHARER, 1),
         Steps(3, 3),
         Begins(1, THREE_TICKS, 2),
@@ -127,18 +131,20 @@ fn expect_an_end_and_a_grant(rt: &impl Abort, alloc: Global) {
         Steps(3, 2),
         Job(2, 0o142, None, Wait::Char),
         Job(3, 0o143, None, Wait::Char),
-    ];
-    walk(rt, alloc, &rows);
-}
+    ],
+};
 
 /// The limit of a stopped job ends too, and the job stays stopped.
-fn expect_an_end_in_a_stop(rt: &impl Abort, alloc: Global) {
-    let rows = [
+static AN_END_IN_A_STOP: Table = Table {
+    name: "an_end_in_a_stop",
+    blocks: 64,
+    quantum: 1,
+    rows: &[
         Begins(0, OWNER, 1),
         Steps(3, 3),
         Begins(1, FIVE_TICKS, 2),
         Steps(2, 2),
-        Happens(Typed(1, Char7::new(CTRL_C)), Done),
+        Happens(Typed(1, CTRL_C), Done),
         Job(2, 0o143, Some(Stop::Typed), Wait::Queue(5, 1)),
         Rounds(4, 0),
         Job(2, 0o143, Some(Stop::Typed), Wait::Queue(1, 1)),
@@ -150,26 +156,28 @@ fn expect_an_end_in_a_stop(rt: &impl Abort, alloc: Global) {
         Happens(Continue(2), Done),
         Steps(2, 1),
         Job(2, 0o142, None, Wait::Char),
-    ];
-    walk(rt, alloc, &rows);
-}
+    ],
+};
 
 /// A job that is stopped and goes on has what is left of its limit, which stands still from the grant on.
-fn expect_a_limit_that_stands_still(rt: &impl Abort, alloc: Global) {
-    let rows = [
+static A_LIMIT_THAT_STANDS_STILL: Table = Table {
+    name: "a_limit_that_stands_still",
+    blocks: 64,
+    quantum: 1,
+    rows: &[
         Begins(0, OWNER, 1),
         Steps(3, 3),
         Begins(1, FIVE_TICKS, 2),
         Steps(2, 2),
         Repeats(2, Tick, Done),
-        Happens(Typed(1, Char7::new(CTRL_C)), Done),
+        Happens(Typed(1, CTRL_C), Done),
         Happens(Tick, Done),
         Happens(Continue(2), Done),
         Job(2, 0o143, None, Wait::Queue(2, 1)),
         Happens(Tick, Done),
         Job(2, 0o143, None, Wait::Queue(1, 1)),
-        Happens(Typed(1, Char7::new(CTRL_C)), Done),
-        Happens(Typed(0, Char7::new(b'A')), Done),
+        Happens(Typed(1, CTRL_C), Done),
+        Happens(Typed(0, b'A'), Done),
         Steps(3, 3),
         Job(2, 0o143, Some(Stop::Typed), Wait::None),
         Repeats(9, Tick, Done),
@@ -179,19 +187,21 @@ fn expect_a_limit_that_stands_still(rt: &impl Abort, alloc: Global) {
         Happens(Continue(2), Done),
         Steps(3, 2),
         Job(2, 0o143, None, Wait::Char),
-    ];
-    walk(rt, alloc, &rows);
-}
+    ],
+};
 
 /// A start ends the wait, and so its limit.
-fn expect_a_limit_that_a_start_ends(rt: &impl Abort, alloc: Global) {
-    let rows = [
+static A_LIMIT_THAT_A_START_ENDS: Table = Table {
+    name: "a_limit_that_a_start_ends",
+    blocks: 64,
+    quantum: 1,
+    rows: &[
         Begins(0, OWNER, 1),
         Steps(3, 3),
         Begins(1, FIVE_TICKS, 2),
         Steps(2, 2),
         Repeats(2, Tick, Done),
-        Happens(Typed(1, Char7::new(CTRL_C)), Done),
+        Happens(Typed(1, CTRL_C), Done),
         Happens(Start(2), Done),
         Job(2, 0o140, None, Wait::None),
         Locks(&[(1, AtOnce, 1, true)]),
@@ -199,13 +209,15 @@ fn expect_a_limit_that_a_start_ends(rt: &impl Abort, alloc: Global) {
         Job(2, 0o140, None, Wait::None),
         Word(2, 1, Some(0o144)),
         Locks(&[(1, AtOnce, 1, true)]),
-    ];
-    walk(rt, alloc, &rows);
-}
+    ],
+};
 
 /// A limit counts while another job runs in many rounds.
-fn expect_an_end_in_rounds(rt: &impl Abort, alloc: Global) {
-    let rows = [
+static AN_END_IN_ROUNDS: Table = Table {
+    name: "an_end_in_rounds",
+    blocks: 64,
+    quantum: 1,
+    rows: &[
         Begins(0, LOOPER, 1),
         Turns(&[1, 1]),
         Begins(1, FIVE_TICKS, 2),
@@ -220,24 +232,23 @@ fn expect_an_end_in_rounds(rt: &impl Abort, alloc: Global) {
         Turns(&[2, 1, 1]),
         Job(2, 0o142, None, Wait::Char),
         // The end comes in the middle of the rounds.
-        Happens(Typed(1, Char7::new(CTRL_C)), Done),
+        Happens(Typed(1, CTRL_C), Done),
         Happens(Start(2), Done),
         Turns(&[2, 1, 2]),
         Rounds(9, 9),
         Job(2, 0o142, None, Wait::Char),
         Word(2, 1, Some(0o21)),
         Locks(&[(1, AtOnce, 1, true)]),
-    ];
-    walk(rt, alloc, &rows);
-}
+    ],
+};
 
 #[test]
 fn limits(rt: HostRuntime) {
-    expect_an_end(&rt, rt.alloc());
-    expect_two_ends(&rt, rt.alloc());
-    expect_an_end_and_a_grant(&rt, rt.alloc());
-    expect_an_end_in_a_stop(&rt, rt.alloc());
-    expect_a_limit_that_stands_still(&rt, rt.alloc());
-    expect_a_limit_that_a_start_ends(&rt, rt.alloc());
-    expect_an_end_in_rounds(&rt, rt.alloc());
+    walk(&rt, rt.alloc(), &AN_END);
+    walk(&rt, rt.alloc(), &TWO_ENDS);
+    walk(&rt, rt.alloc(), &AN_END_AND_A_GRANT);
+    walk(&rt, rt.alloc(), &AN_END_IN_A_STOP);
+    walk(&rt, rt.alloc(), &A_LIMIT_THAT_STANDS_STILL);
+    walk(&rt, rt.alloc(), &A_LIMIT_THAT_A_START_ENDS);
+    walk(&rt, rt.alloc(), &AN_END_IN_ROUNDS);
 }

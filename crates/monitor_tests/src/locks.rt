@@ -1,12 +1,11 @@
 //! Jobs that wait for locks.
 
+use crate::rows::Act::{Continue, Kill, Start, Typed};
 use crate::rows::Reply::Done;
 use crate::rows::Row::{Begins, Happens, Job, Locks, NoJob, Turns, Word};
-use crate::rows::{CTRL_C, walk};
+use crate::rows::{CTRL_C, Table, walk};
 use job_sched::{Stop, Wait};
 use lock_queue::EnqueueKind::{AtOnce, Blocking};
-use monitor::Event::{Continue, Kill, Start, Typed};
-use tty_lines::Char7;
 
 /// ENQ. 0 of a lock and DEQ. of it; a request that is refused halts.
 const OWNER: &str = " MOVE 1,[BLK]\n ENQ. 1,\n HALT\n MOVE 1,[BLK]\n DEQ. 1,\n HALT\n JRST .\n\
@@ -16,9 +15,12 @@ const OWNER: &str = " MOVE 1,[BLK]\n ENQ. 1,\n HALT\n MOVE 1,[BLK]\n DEQ. 1,\n H
 const SHARER: &str = " MOVE 1,[BLK]\n ENQ. 1,\n HALT\n JRST .\n\
     BLK: 1,,5\n 0,,10\n 400000,,777777\n 500000,,12\n 0\n END\n";
 
-#[test]
-fn wake(rt: HostRuntime) {
-    let rows = [
+/// The rows of `wake`.
+static WAKE: Table = Table {
+    name: "wake",
+    blocks: 64,
+    quantum: 1,
+    rows: &[
         Begins(0, OWNER, 1),
         Begins(1, OWNER, 2),
         Turns(&[1, 2, 1, 2]),
@@ -32,13 +34,20 @@ fn wake(rt: HostRuntime) {
         Turns(&[2, 1, 2]),
         Job(2, 0o146, None, Wait::None),
         Locks(&[]),
-    ];
-    walk(&rt, rt.alloc(), &rows);
-}
+    ],
+};
 
 #[test]
-fn release_wakes_all(rt: HostRuntime) {
-    let rows = [
+fn wake(rt: HostRuntime) {
+    walk(&rt, rt.alloc(), &WAKE);
+}
+
+/// The rows of `release_wakes_all`.
+static RELEASE_WAKES_ALL: Table = Table {
+    name: "release_wakes_all",
+    blocks: 64,
+    quantum: 1,
+    rows: &[
         Begins(0, OWNER, 1),
         Begins(1, SHARER, 2),
         Begins(2, SHARER, 3),
@@ -48,13 +57,20 @@ fn release_wakes_all(rt: HostRuntime) {
         Turns(&[1, 1]),
         Locks(&[(2, Blocking, 0o10, true), (3, Blocking, 0o10, true)]),
         Turns(&[2, 3, 1]),
-    ];
-    walk(&rt, rt.alloc(), &rows);
-}
+    ],
+};
 
 #[test]
-fn kill_waiter(rt: HostRuntime) {
-    let rows = [
+fn release_wakes_all(rt: HostRuntime) {
+    walk(&rt, rt.alloc(), &RELEASE_WAKES_ALL);
+}
+
+/// The rows of `kill_waiter`.
+static KILL_WAITER: Table = Table {
+    name: "kill_waiter",
+    blocks: 64,
+    quantum: 1,
+    rows: &[
         Begins(0, SHARER, 1),
         Turns(&[1, 1]),
         Begins(1, OWNER, 2),
@@ -73,40 +89,54 @@ fn kill_waiter(rt: HostRuntime) {
         // A job that owns leaves no request either.
         Happens(Kill(1), Done),
         Locks(&[(3, Blocking, 0o10, true)]),
-    ];
-    walk(&rt, rt.alloc(), &rows);
-}
+    ],
+};
 
 #[test]
-fn stopped_waiter(rt: HostRuntime) {
-    let rows = [
+fn kill_waiter(rt: HostRuntime) {
+    walk(&rt, rt.alloc(), &KILL_WAITER);
+}
+
+/// The rows of `stopped_waiter`.
+static STOPPED_WAITER: Table = Table {
+    name: "stopped_waiter",
+    blocks: 64,
+    quantum: 1,
+    rows: &[
         Begins(0, OWNER, 1),
         Begins(1, OWNER, 2),
         Turns(&[1, 2, 1, 2]),
-        Happens(Typed(1, Char7::new(CTRL_C)), Done),
+        Happens(Typed(1, CTRL_C), Done),
         Job(2, 0o143, Some(Stop::Typed), Wait::Queue(0, 1)),
         Happens(Continue(2), Done),
         Job(2, 0o143, None, Wait::Queue(0, 1)),
-        Happens(Typed(1, Char7::new(CTRL_C)), Done),
+        Happens(Typed(1, CTRL_C), Done),
         // A start takes the request back.
         Happens(Start(2), Done),
         Job(2, 0o140, None, Wait::None),
         Locks(&[(1, Blocking, 7, true)]),
         // What a stopped job owns it keeps.
-        Happens(Typed(0, Char7::new(CTRL_C)), Done),
+        Happens(Typed(0, CTRL_C), Done),
         Happens(Start(1), Done),
         Locks(&[(1, Blocking, 7, true)]),
-    ];
-    walk(&rt, rt.alloc(), &rows);
+    ],
+};
+
+#[test]
+fn stopped_waiter(rt: HostRuntime) {
+    walk(&rt, rt.alloc(), &STOPPED_WAITER);
 }
 
 /// ENQ. 1 of the lock, executed by XCT.
 const BY_XCT: &str = " MOVE 1,[1,,BLK]\n XCT [ENQ. 1,]\n HALT\n JRST .\n\
     BLK: 1,,5\n 0,,7\n 777777\n 500000,,12\n 0\n END\n";
 
-#[test]
-fn enq_by_xct(rt: HostRuntime) {
-    let rows = [
+/// The rows of `enq_by_xct`.
+static ENQ_BY_XCT: Table = Table {
+    name: "enq_by_xct",
+    blocks: 64,
+    quantum: 1,
+    rows: &[
         Begins(0, BY_XCT, 1),
         Turns(&[1, 1]),
         // Two past the XCT.
@@ -118,6 +148,10 @@ fn enq_by_xct(rt: HostRuntime) {
         Job(2, 0o142, None, Wait::None),
         Word(2, 1, Some(1)),
         Locks(&[(1, AtOnce, 7, true)]),
-    ];
-    walk(&rt, rt.alloc(), &rows);
+    ],
+};
+
+#[test]
+fn enq_by_xct(rt: HostRuntime) {
+    walk(&rt, rt.alloc(), &ENQ_BY_XCT);
 }

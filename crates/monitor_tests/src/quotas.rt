@@ -1,15 +1,11 @@
 //! How many requests a job may have, and how many the machine holds.
 
+use crate::rows::Act::{Kill, Restart, Start, Typed};
 use crate::rows::Reply::Done;
-use crate::rows::Row::{Begins, Happens, Job, Locks, Requests, Steps, Word};
-use crate::rows::{CTRL_C, machine, walk, walk_rows};
-use core_store::PlainCore;
+use crate::rows::Row::{Begins, Fills, Happens, Job, Locks, Requests, Steps, Word};
+use crate::rows::{CTRL_C, Table, walk, walk_with};
 use job_sched::Wait;
 use lock_queue::EnqueueKind::AtOnce;
-use monitor::Event::{Kill, Restart, Start, Typed};
-use monitor::{Config, System};
-use plain_table::PlainTable;
-use tty_lines::Char7;
 
 /// Has 64 requests that bypass the order of levels, and asks once more, by AC 1. ENQC. 1 of itself by AC 3,
 /// and again, behind a RESET, by AC 4.
@@ -23,9 +19,12 @@ const LOWERER: &str =
     " MOVSI 1,1\n ENQC. 1,\n HALT\n MOVE 2,[2,,5]\n ENQC. 2,\n HALT\n RESET\n MOVSI 3,1\n ENQC. 3,\n HALT\n \
     INCHRW 7\n END\n";
 
-#[test]
-fn quotas(rt: HostRuntime) {
-    let rows = [
+/// The rows of `quotas`.
+static QUOTAS: Table = Table {
+    name: "quotas",
+    blocks: 64,
+    quantum: 1,
+    rows: &[
         Begins(0, ASKER, 1),
         Steps(324, 324),
         Word(1, 1, Some(0o000000_000020)),
@@ -42,7 +41,7 @@ fn quotas(rt: HostRuntime) {
         Word(1, 2, Some(0o000002_000005)),
         Word(1, 3, Some(0o000005_000000)),
         // A start keeps it, and a new job has the first quota.
-        Happens(Typed(0, Char7::new(CTRL_C)), Done),
+        Happens(Typed(0, CTRL_C), Done),
         Happens(Start(1), Done),
         Steps(2, 2),
         Word(1, 1, Some(0o000005_000000)),
@@ -54,8 +53,12 @@ fn quotas(rt: HostRuntime) {
         Begins(0, LOWERER, 1),
         Steps(2, 2),
         Word(1, 1, Some(0o000100_000000)),
-    ];
-    walk(&rt, rt.alloc(), &rows);
+    ],
+};
+
+#[test]
+fn quotas(rt: HostRuntime) {
+    walk(&rt, rt.alloc(), &QUOTAS);
 }
 
 /// Asks for one lock by AC 1, and then for another by AC 2, and by ENQ. 0 by AC 3. ENQC. 1 of itself by AC 4.
@@ -65,10 +68,12 @@ const TWO_LOCKS: &str =
     ONE: 1,,5\n 0,,7\n 200000,,777777\n 500000,,1\n 0\n\
     TWO: 1,,5\n 0,,10\n 200000,,777777\n 500000,,2\n 0\n END\n";
 
-#[test]
-fn limits_table(rt: HostRuntime) {
-    let rows = [
-        // The quota of a job is no more than the machine holds.
+/// The quota of a job is no more than the machine holds, which is one request.
+static LIMITS_TABLE: Table = Table {
+    name: "limits_table",
+    blocks: 64,
+    quantum: 1,
+    rows: &[
         Begins(0, TWO_LOCKS, 1),
         Steps(11, 11),
         Job(1, 0o154, None, Wait::Char),
@@ -83,13 +88,12 @@ fn limits_table(rt: HostRuntime) {
         Word(2, 3, Some(0o16)),
         Word(2, 4, Some(0o000001_000000)),
         Locks(&[(1, AtOnce, 7, true)]),
-    ];
-    let config = Config::new(64, 1).expect(&rt, "no machine is of that size");
-    let mut system: System<PlainTable<1>, PlainCore> = System::boot(rt.alloc(), config).expect(
-        &rt,
-        "memory for the machine",
-    );
-    walk_rows(&rt, rt.alloc(), &mut system, &rows);
+    ],
+};
+
+#[test]
+fn limits_table(rt: HostRuntime) {
+    walk_with::<1>(&rt, rt.alloc(), &LIMITS_TABLE);
 }
 
 /// Asks for 64 locks of its own, and waits for a character: at AC 6 where it has them, else at AC 7.
@@ -98,25 +102,22 @@ const FILLER: &str =
     AOS BLK+1\n AOS BLK+3\n SOJG 5,L\n INCHRW 6\n\
     BLK: 1,,5\n 0,,1\n 200000,,777777\n 500000,,1\n 0\n END\n";
 
-#[test]
-fn full_table(rt: HostRuntime) {
-    // Sixteen jobs have all that the largest table holds; the request of the next is refused.
-    let mut system = machine(&rt, rt.alloc(), 64, 1);
-    for line in 0..16 {
-        let rows = [
-            Begins(line, FILLER, line + 1),
-            Steps(325, 325),
-            Job(line + 1, 0o152, None, Wait::Char),
-            Requests((line as usize + 1) * 64),
-        ];
-        walk_rows(&rt, rt.alloc(), &mut system, &rows);
-    }
-    let rows = [
+/// Sixteen jobs have all that the largest table holds; the request of the next is refused.
+static FULL_TABLE: Table = Table {
+    name: "full_table",
+    blocks: 64,
+    quantum: 1,
+    rows: &[
+        Fills(16, FILLER, 325, 0o152, 64),
         Begins(16, FILLER, 17),
         Steps(7, 7),
         Job(17, 0o146, None, Wait::Char),
         Word(17, 1, Some(0o16)),
         Requests(1024),
-    ];
-    walk_rows(&rt, rt.alloc(), &mut system, &rows);
+    ],
+};
+
+#[test]
+fn full_table(rt: HostRuntime) {
+    walk(&rt, rt.alloc(), &FULL_TABLE);
 }

@@ -1,148 +1,230 @@
 //! The table of operations, and a word as a line.
 
-ghost use Rattle.std.specs.Prelude.{◌<◌, ◌^◌};
-
 use ka_isa::{
     Change, Family, Fields, Named, classify, decode, encode, mnemonic, name_count, name_round_trip,
     named, text_of,
 };
+use std::process::Abort;
 use word36::Word;
 
-/// The word of an operation with these fields.
-fn instruction(op: u16, ac: u8, i: bool, x: u8, y: u32) -> Word
-    requires op { op < 2 ^ 9 }
-    requires ac { ac < 2 ^ 4 }
-    requires x { x < 2 ^ 4 }
-    requires y { y < 2 ^ 18 }
-{
-    encode(Fields { op, ac, i, x, y })
+/// The halves of a word.
+type Halves = (u32, u32);
+
+/// The fields of a word: its operation, accumulator, indirect bit, index register and address.
+type FieldsOf = (u16, u8, bool, u8, u32);
+
+/// What is told of an operation, a name or a word.
+enum Row {
+    /// The fields of a word.
+    Decodes(Halves, FieldsOf),
+    /// The word of some fields.
+    Encodes(FieldsOf, Halves),
+    /// The name of an operation, which means its word.
+    Operation(u16, &'static str),
+    /// No name is that of this operation, and it is of no family.
+    NoOperation(u16),
+    /// How many names there are.
+    NameCount(usize),
+    /// A name, the word that it means, and whether an accumulator and an address may follow.
+    Call(&'static str, Halves, bool, bool),
+    /// No name.
+    NoName(&'static str),
+    /// The line of a word.
+    Line(Halves, &'static str),
+    /// The family of an operation.
+    FamilyOf(u16, Family),
 }
 
+/// The word of two halves.
+fn word(halves: Halves) -> Word {
+    Word::join(halves.0 & 0o777_777, halves.1 & 0o777_777)
+}
+
+/// Whether a word has these fields.
+fn decodes(word: Word, wanted: FieldsOf) -> bool {
+    let fields = decode(word);
+    fields.op == wanted.0
+        && fields.ac == wanted.1
+        && fields.i == wanted.2
+        && fields.x == wanted.3
+        && fields.y == wanted.4
+}
+
+/// The word of some fields.
+fn instruction(fields: FieldsOf) -> Word {
+    encode(Fields {
+        op: fields.0 & 0o777,
+        ac: fields.1 & 0o17,
+        i: fields.2,
+        x: fields.3 & 0o17,
+        y: fields.4 & 0o777_777,
+    })
+}
+
+/// Whether this is what may be known of a name: its word, and that an accumulator and an address may follow.
+fn means(known: Option<Named>, word: Word, ac: bool, addr: bool) -> bool {
+    known == Some(Named { word, ac, addr })
+}
+
+/// Whether an operation has this name, which means its word.
 fn is_named(op: u16, name: &str) -> bool {
-    match mnemonic(op) {
+    let word = Word::low_bits(u64::from(op) << 27);
+    let known = match mnemonic(op) {
         Some(known) => known == name,
         None => false,
+    };
+    known && means(named(name), word, true, true) && means(name_round_trip(op), word, true, true)
+}
+
+impl Row {
+    /// Whether it is told so.
+    fn holds(&self) -> bool {
+        match self {
+            Row::Decodes(halves, fields) => decodes(word(*halves), *fields),
+            Row::Encodes(fields, halves) => instruction(*fields).halves() == *halves,
+            Row::Operation(op, name) => is_named(*op, name),
+            Row::NoOperation(op) => mnemonic(*op).is_none() && classify(*op) == Family::Other,
+            Row::NameCount(count) => name_count() == *count,
+            Row::Call(name, halves, ac, addr) => means(named(name), word(*halves), *ac, *addr),
+            Row::NoName(name) => named(name).is_none(),
+            Row::Line(halves, line) => text_of(word(*halves)).as_str() == *line,
+            Row::FamilyOf(op, family) => classify(*op) == *family,
+        }
     }
 }
+
+/// Walks rows: each must hold.
+fn walk(rt: &impl Abort, rows: &[Row]) {
+    for (i, row) in rows.iter().enumerate() {
+        assert!(rt; row.holds(), "row {i}");
+    }
+}
+
+/// The rows of `fields_of_words`.
+static FIELDS: [Row; 5] = [
+    Row::Decodes((0o201040, 5), (0o201, 1, false, 0, 5)),
+    Row::Decodes((0o777777, 0o777777), (0o777, 0o17, true, 0o17, 0o777777)),
+    Row::Encodes((0, 0, true, 0, 0), (0o20, 0)),
+    Row::Encodes((0, 0, false, 1, 0), (1, 0)),
+    Row::Encodes((0o254, 4, false, 0, 0o140), (0o254200, 0o140)),
+];
 
 #[test]
 fn fields_of_words(rt: HostRuntime) {
-    let fields = decode(Word::join(0o201040, 5));
-    assert_eq!(rt;
-        (fields.op, fields.ac, fields.i, fields.x, fields.y),
-        (0o201, 1, false, 0, 5)
-    );
-    let fields = decode(Word::join(0o777777, 0o777777));
-    assert_eq!(rt;
-        (fields.op, fields.ac, fields.i, fields.x, fields.y),
-        (0o777, 0o17, true, 0o17, 0o777777)
-    );
-    assert_eq!(rt; instruction(0, 0, true, 0, 0).halves(), (0o20, 0));
-    assert_eq!(rt; instruction(0, 0, false, 1, 0).halves(), (1, 0));
-    assert_eq!(rt;
-        instruction(0o254, 4, false, 0, 0o140).halves(),
-        (0o254200, 0o140)
-    );
+    walk(&rt, &FIELDS);
 }
+
+/// The rows of `names_by_code_and_back`.
+static NAMES: [Row; 40] = [
+    Row::Operation(0o047, "CALLI"),
+    Row::Operation(0o133, "IBP"),
+    Row::Operation(0o200, "MOVE"),
+    Row::Operation(0o211, "MOVNI"),
+    Row::Operation(0o223, "IMULB"),
+    Row::Operation(0o240, "ASH"),
+    Row::Operation(0o246, "LSHC"),
+    Row::Operation(0o250, "EXCH"),
+    Row::Operation(0o253, "AOBJN"),
+    Row::Operation(0o260, "PUSHJ"),
+    Row::Operation(0o265, "JSP"),
+    Row::Operation(0o272, "ADDM"),
+    Row::Operation(0o305, "CAIGE"),
+    Row::Operation(0o316, "CAMN"),
+    Row::Operation(0o323, "JUMPLE"),
+    Row::Operation(0o334, "SKIPA"),
+    Row::Operation(0o344, "AOJA"),
+    Row::Operation(0o377, "SOSG"),
+    Row::Operation(0o443, "ANDCBB"),
+    Row::Operation(0o476, "SETOM"),
+    Row::Operation(0o523, "HLLOS"),
+    Row::Operation(0o602, "TRNE"),
+    Row::Operation(0o650, "TDC"),
+    Row::Operation(0o625, "TLZA"),
+    Row::Operation(0o677, "TSON"),
+    Row::NoOperation(0),
+    Row::NoOperation(0o37),
+    Row::NoOperation(0o46),
+    Row::NoOperation(0o50),
+    Row::NoOperation(0o132),
+    Row::NoOperation(0o140),
+    Row::NoOperation(0o177),
+    Row::NoOperation(0o234),
+    Row::NoOperation(0o244),
+    Row::NoOperation(0o247),
+    Row::NoOperation(0o257),
+    Row::NoOperation(0o700),
+    Row::NoOperation(0o777),
+    Row::NoOperation(0o1000),
+    // 2 calls, 5 of bytes, 16 moves, 12 of multiplying and dividing, 6 shifts with JFFO, 7 from EXCH
+    // to XCT, 8 from PUSHJ to JRA, 8 sums, and 64 comparisons, Booleans, halves and tests each; 28 calls
+    Row::NameCount(2 + 5 + 16 + 12 + 6 + 7 + 8 + 8 + 4 * 64 + 28),
+];
 
 #[test]
 fn names_by_code_and_back(rt: HostRuntime) {
-    for (op, name) in [
-        (0o047, "CALLI"),
-        (0o133, "IBP"),
-        (0o200, "MOVE"),
-        (0o211, "MOVNI"),
-        (0o223, "IMULB"),
-        (0o240, "ASH"),
-        (0o246, "LSHC"),
-        (0o250, "EXCH"),
-        (0o253, "AOBJN"),
-        (0o260, "PUSHJ"),
-        (0o265, "JSP"),
-        (0o272, "ADDM"),
-        (0o305, "CAIGE"),
-        (0o316, "CAMN"),
-        (0o323, "JUMPLE"),
-        (0o334, "SKIPA"),
-        (0o344, "AOJA"),
-        (0o377, "SOSG"),
-        (0o443, "ANDCBB"),
-        (0o476, "SETOM"),
-        (0o523, "HLLOS"),
-        (0o602, "TRNE"),
-        (0o650, "TDC"),
-        (0o625, "TLZA"),
-        (0o677, "TSON"),
-    ] {
-        assert!(rt; is_named(op, name));
-        let meaning = Some(Named {
-            word: Word::low_bits((op as u64) << 27),
-            ac: true,
-            addr: true,
-        });
-        assert_eq!(rt; named(name), meaning);
-        assert_eq!(rt; name_round_trip(op), meaning);
-    }
-    for op in [
-        0, 0o37, 0o46, 0o50, 0o132, 0o140, 0o177, 0o234, 0o244, 0o247, 0o257, 0o700, 0o777, 0o1000,
-    ] {
-        assert!(rt; mnemonic(op).is_none());
-        assert_eq!(rt; classify(op), Family::Other);
-    }
-    // 2 calls, 5 of bytes, 16 moves, 12 of multiplying and dividing, 6 shifts with JFFO, 7 from EXCH
-    // to XCT, 8 from PUSHJ to JRA, 8 sums, and 64 comparisons, Booleans, halves and tests each; 28 calls
-    assert_eq!(rt; name_count(), 2 + 5 + 16 + 12 + 6 + 7 + 8 + 8 + 4 * 64 + 28);
+    walk(&rt, &NAMES);
 }
+
+/// The rows of `calls_by_name`.
+static CALLS: [Row; 20] = [
+    Row::Call("RESET", (0o047000, 0), true, false),
+    Row::Call("ENQ.", (0o047000, 0o151), true, false),
+    Row::Call("DATRD.", (0o047000, 0o777776), true, false),
+    Row::Call("DATWR.", (0o047000, 0o777775), true, false),
+    Row::Call("MONRT.", (0o047040, 0o12), false, false),
+    Row::Call("INCHRW", (0o051000, 0), false, true),
+    Row::Call("OUTSTR", (0o051140, 0), false, true),
+    Row::Call("SKPINL", (0o051600, 0), false, true),
+    Row::Call("HALT", (0o254200, 0), false, true),
+    Row::Call("JRSTF", (0o254100, 0), false, true),
+    Row::NoName(""),
+    Row::NoName("A"),
+    Row::NoName("MOV"),
+    Row::NoName("MOVEE"),
+    Row::NoName("move"),
+    Row::NoName("ENQ"),
+    Row::NoName("ENQ.X"),
+    Row::NoName("MOVE "),
+    Row::NoName("ZZZZZZ"),
+    Row::NoName("END"),
+];
 
 #[test]
 fn calls_by_name(rt: HostRuntime) {
-    for (name, left, right, ac, addr) in [
-        ("RESET", 0o047000, 0, true, false),
-        ("ENQ.", 0o047000, 0o151, true, false),
-        ("DATRD.", 0o047000, 0o777776, true, false),
-        ("DATWR.", 0o047000, 0o777775, true, false),
-        ("MONRT.", 0o047040, 0o12, false, false),
-        ("INCHRW", 0o051000, 0, false, true),
-        ("OUTSTR", 0o051140, 0, false, true),
-        ("SKPINL", 0o051600, 0, false, true),
-        ("HALT", 0o254200, 0, false, true),
-        ("JRSTF", 0o254100, 0, false, true),
-    ] {
-        let word = Word::join(left, right);
-        assert_eq!(rt; named(name), Some(Named { word, ac, addr }));
-    }
-    for name in [
-        "", "A", "MOV", "MOVEE", "move", "ENQ", "ENQ.X", "MOVE ", "ZZZZZZ", "END",
-    ] {
-        assert_eq!(rt; named(name), None);
-    }
+    walk(&rt, &CALLS);
 }
+
+/// The rows of `words_as_lines`.
+static LINES: [Row; 11] = [
+    Row::Line((0o201040, 5), "MOVEI 1,5"),
+    Row::Line((0o047040, 0o151), "CALLI 1,151"),
+    Row::Line((0o254000, 0o140), "JRST 140"),
+    Row::Line((0o051140, 0o143), "TTCALL 3,143"),
+    Row::Line((0o550057, 4), "HRRZ 1,4(17)"),
+    Row::Line((0o350020, 0), "AOS @0"),
+    Row::Line((0o051777, 0o777777), "TTCALL 17,@777777(17)"),
+    Row::Line((0, 0), "XWD 0,0"),
+    Row::Line((0o777777, 0o777777), "XWD 777777,777777"),
+    Row::Line((0o000001, 0o10), "XWD 1,10"),
+    Row::Line((0o442220, 0), "ANDCBM 4,@0"),
+];
 
 #[test]
 fn words_as_lines(rt: HostRuntime) {
-    for (left, right, text) in [
-        (0o201040, 5, "MOVEI 1,5"),
-        (0o047040, 0o151, "CALLI 1,151"),
-        (0o254000, 0o140, "JRST 140"),
-        (0o051140, 0o143, "TTCALL 3,143"),
-        (0o550057, 4, "HRRZ 1,4(17)"),
-        (0o350020, 0, "AOS @0"),
-        (0o051777, 0o777777, "TTCALL 17,@777777(17)"),
-        (0, 0, "XWD 0,0"),
-        (0o777777, 0o777777, "XWD 777777,777777"),
-        (0o000001, 0o10, "XWD 1,10"),
-        (0o442220, 0, "ANDCBM 4,@0"),
-    ] {
-        assert_eq!(rt; text_of(Word::join(left, right)).as_str(), text);
-    }
+    walk(&rt, &LINES);
 }
+
+/// The rows of `families`.
+static FAMILIES: [Row; 6] = [
+    Row::FamilyOf(0o137, Family::Byte),
+    Row::FamilyOf(0o242, Family::Shift),
+    Row::FamilyOf(0o353, Family::SkipOn(Change::Up)),
+    Row::FamilyOf(0o360, Family::JumpOn(Change::Down)),
+    Row::FamilyOf(0o577, Family::Half),
+    Row::FamilyOf(0o677, Family::Test),
+];
 
 #[test]
 fn families(rt: HostRuntime) {
-    assert_eq!(rt; classify(0o137), Family::Byte);
-    assert_eq!(rt; classify(0o242), Family::Shift);
-    assert_eq!(rt; classify(0o353), Family::SkipOn(Change::Up));
-    assert_eq!(rt; classify(0o360), Family::JumpOn(Change::Down));
-    assert_eq!(rt; classify(0o577), Family::Half);
-    assert_eq!(rt; classify(0o677), Family::Test);
+    walk(&rt, &FAMILIES);
 }
