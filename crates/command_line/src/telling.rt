@@ -100,7 +100,7 @@ fn source_reason(
     if lines.is_lost() {
         return Err(AllocError);
     }
-    explain(alloc, Refused::Asm(code), lines.line(number).unwrap_or(b""))
+    source_faults::explain(alloc, code, lines.line(number).unwrap_or(b""))
 }
 
 /// Adds which line is spoken of.

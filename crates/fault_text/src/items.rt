@@ -2,6 +2,7 @@
 
 use crate::fault::{Fault, Reason};
 use script_io::LINE_LENGTH;
+use source_faults::{NOT_ASCII, column_not_ascii};
 
 /// A part of a line, and the column where it begins.
 #[derive(Clone, Copy)]
@@ -112,21 +113,11 @@ impl<'a> Items<'a> {
 
 const COMMENT: &str = "a comment stands on a line of its own";
 
-/// Looks that all bytes of a line are ASCII.
-pub fn check_ascii(line: &[u8]) -> Result<(), Fault<'_>> {
-    for (i, byte) in line.iter().enumerate() {
-        let column = i.saturating_add(1);
-        if *byte >= 128 {
-            let reason = Reason::Said("a byte that is not ASCII");
-            return Err(Fault::at(column, reason));
-        }
-    }
-    Ok(())
-}
-
 /// What is wrong with the form of a line, whatever it asks for.
 pub fn check_form(line: &[u8]) -> Result<(), Fault<'_>> {
-    check_ascii(line)?;
+    if let Some(column) = column_not_ascii(line) {
+        return Err(Fault::at(column, Reason::Said(NOT_ASCII)));
+    }
     if line.len() > LINE_LENGTH {
         return Err(Fault::at(0, Reason::TooLong));
     }

@@ -1,23 +1,18 @@
-//! What is wrong with a line that was refused, in words for a person: worked out from the line alone.
+//! What is wrong with a line of a script that was refused, in words for a person: worked out from the
+//! line alone.
 #![tactic(auto)]
 
 ghost use Rattle.std.specs.Prelude.{◌≤◌, ◌+◌, length};
 
-mod cursor;
 mod fault;
 mod items;
-mod located;
 mod locks;
-mod operands;
 mod params;
 mod queue_lines;
 mod run_lines;
-mod sources;
-mod statements;
 mod tables;
 
 use fault::Fault;
-pub use located::{Located, locate};
 use std::alloc::{AllocError, Global};
 
 /// Whose line was refused.
@@ -27,8 +22,6 @@ pub enum Refused {
     Queue,
     /// A script of `lockmon run`: the line is not in its grammar, or there is no image of its name.
     Run,
-    /// A source of the assembler: the line has a fault of this code, 1 to 7.
-    Asm(u8),
 }
 
 /// What is told where a script ends before ENDASM.
@@ -47,7 +40,6 @@ fn fault_of(refused: Refused, line: &[u8]) -> Fault<'_>
     let fault = match refused {
         Refused::Queue => queue_lines::fault_of(line),
         Refused::Run => run_lines::fault_of(line),
-        Refused::Asm(code) => sources::fault_of(line, code),
     };
     fault.within(line.len())
 }

@@ -1,6 +1,6 @@
 //! Lines of `lockmon queue`.
 
-use crate::fault::Fault;
+use crate::fault::{Fault, Reason};
 use crate::items::{Item, Items, check_blanks, check_form, is_number};
 use crate::params::{Param, check_each, check_param, check_params};
 use crate::tables::{QUEUE_COMMANDS, QUEUE_NAMES, params_of, unknown};
@@ -10,7 +10,7 @@ use script_io::is_silent;
 pub fn fault_of(line: &[u8]) -> Fault<'_> {
     match check(line) {
         Err(fault) => fault,
-        Ok(()) => Fault::whole("not a line of `lockmon queue`"),
+        Ok(()) => Fault::whole(Reason::Said("not a line of `lockmon queue`")),
     }
 }
 

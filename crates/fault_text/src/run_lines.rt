@@ -12,7 +12,7 @@ pub fn fault_of(line: &[u8]) -> Fault<'_> {
         Err(fault) => fault,
         Ok(()) => match line.strip_prefix(b"LOGIN ".as_slice()) {
             Some(rest) => no_image(rest),
-            None => Fault::whole("not a line of `lockmon run`"),
+            None => Fault::whole(Reason::Said("not a line of `lockmon run`")),
         },
     }
 }
@@ -43,7 +43,7 @@ fn check(line: &[u8]) -> Result<(), Fault<'_>> {
         });
     }
     if line == b"ENDASM".as_slice() {
-        return Err(Fault::whole(ENDASM));
+        return Err(Fault::whole(Reason::Said(ENDASM)));
     }
     check_blanks(line)?;
     check_command(Item {

@@ -82,7 +82,7 @@ fn source_text(alloc: Global, script: &[u8], fault: SourceFault) -> Result<Strin
     } else {
         line_at(script, whole)
     };
-    let text = explain(alloc, Refused::Asm(fault.code), refused)?;
+    let text = source_faults::explain(alloc, fault.code, refused)?;
     format!(in alloc; "lockview: line {whole}, line {line} of its source: {text}\n")
 }
 

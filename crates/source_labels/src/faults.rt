@@ -4,9 +4,9 @@
 use crate::advice::advice_of;
 use crate::lines::{behind_labels, line_at, start_of_line};
 use crate::sources::Source;
-use fault_text::{Refused, locate};
 use mac_asm::{AsmCode, AsmError, assemble};
 use mac_text::{Statement, parse};
+use source_faults::locate;
 use std::alloc::{AllocError, Global};
 
 /// So many faults are told at most.
@@ -100,7 +100,7 @@ fn push_fault(
     let whole = source.text.as_slice();
     let line = line_at(whole, fault.line);
     let code = fault.code.number();
-    let located = locate(alloc, Refused::Asm(code), line)?;
+    let located = locate(alloc, code, line)?;
     let (file, number, column) = (source.file, fault.line.max(1), located.column);
     let reason = located.text.as_str();
     let head = format!(in alloc; "{file}:{number}:{column}: error: {reason} (code {code})\n")?;

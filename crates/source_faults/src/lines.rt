@@ -1,21 +1,28 @@
-//! Lines of a source.
+//! Lines of a source, by the code of their fault.
+ghost use Rattle.std.specs.Prelude.{◌≤◌, ◌+◌, length};
 
 use crate::cursor::{Cursor, Cut, Kind};
 use crate::fault::{Fault, Reason};
-use crate::items::check_ascii;
+use crate::quoted::{NOT_ASCII, column_not_ascii};
 use crate::statements::{read_labels, read_statement};
 
-/// What is wrong with a line that has a fault of this code.
-pub fn fault_of(line: &[u8], code: u8) -> Fault<'_> {
-    match code {
+/// What is wrong with a line that has a fault of this code, 1 to 7. The column is one of the line, or the
+/// one just behind it.
+pub fn fault_of(line: &[u8], code: u8) -> Fault<'_>
+    ensures { result.column ≤ length line.now + 1 }
+{
+    let fault = match code {
         1 => syntax_of(line),
         2 => unknown_name(line),
         3 => twice(line),
-        4 => Fault::whole(limit_of(seen(line).kind)),
-        5 => Fault::whole("LOC and BLOCK take numbers and labels of earlier lines, and no literal"),
-        6 => Fault::whole("a word or a label would stand behind place 777777"),
-        _ => Fault::whole("the source has no END"),
-    }
+        4 => Fault::whole(Reason::Said(limit_of(seen(line).kind))),
+        5 => Fault::whole(Reason::Said(
+            "LOC and BLOCK take numbers and labels of earlier lines, and no literal",
+        )),
+        6 => Fault::whole(Reason::Said("a word or a label would stand behind place 777777")),
+        _ => Fault::whole(Reason::Said("the source has no END")),
+    };
+    fault.within(line.len())
 }
 
 /// Reads a line whose numbers are of this radix, and then its literals.
@@ -59,8 +66,8 @@ fn seen(line: &[u8]) -> Cursor<'_> {
 /// What is not in the grammar. The radix in which the line was read is not known: the first that
 /// shows a fault is taken, of ten, eight and two.
 fn syntax_of(line: &[u8]) -> Fault<'_> {
-    if let Err(fault) = check_ascii(line) {
-        return fault;
+    if let Some(column) = column_not_ascii(line) {
+        return Fault::at(column, Reason::Said(NOT_ASCII));
     }
     for radix in [10, 8, 2] {
         let (_, outcome) = read(line, radix);
@@ -68,7 +75,7 @@ fn syntax_of(line: &[u8]) -> Fault<'_> {
             return fault;
         }
     }
-    Fault::whole("not a line of this assembler")
+    Fault::whole(Reason::Said("not a line of this assembler"))
 }
 
 fn unknown_name(line: &[u8]) -> Fault<'_> {
@@ -91,7 +98,7 @@ fn twice(line: &[u8]) -> Fault<'_> {
             0,
             Reason::Is(label, "is defined twice, or its place has a word already"),
         ),
-        None => Fault::whole("the place of this word has a word already"),
+        None => Fault::whole(Reason::Said("the place of this word has a word already")),
     }
 }
 

@@ -2,7 +2,7 @@
 ghost use Rattle.std.specs.Prelude.{◌≤◌, ◌+◌, IfOk, length};
 
 use crate::fault::{Fault, Reason};
-use crate::{Refused, fault_of};
+use crate::lines::fault_of;
 use std::alloc::{AllocError, Global};
 
 /// What is wrong with a line, and where to look.
@@ -47,15 +47,22 @@ fn column_of(line: &[u8], fault: &Fault<'_>) -> usize
     start.min(line.len()).saturating_add(1)
 }
 
-/// Says what is wrong with a line, which stands without its line end, and which column to look at. It
-/// fails for want of memory alone.
-pub fn locate(alloc: Global, refused: Refused, line: &[u8]) -> Result<Located, AllocError>
+/// Says what is wrong with a line, which stands without its line end and has a fault of this code, 1 to
+/// 7, and which column to look at. It fails for want of memory alone.
+pub fn locate(alloc: Global, code: u8, line: &[u8]) -> Result<Located, AllocError>
     ensures { IfOk result (λ located. located.column ≤ length line.now + 1) }
 {
-    let fault = fault_of(refused, line);
+    let fault = fault_of(line, code);
     let reason = fault.reason;
     Ok(Located {
         column: column_of(line, &fault),
         text: format!(in alloc; "{reason}")?,
     })
+}
+
+/// Says what is wrong with such a line, and in which column where that is known. It fails for want of
+/// memory alone.
+pub fn explain(alloc: Global, code: u8, line: &[u8]) -> Result<String, AllocError> {
+    let fault = fault_of(line, code);
+    format!(in alloc; "{fault}")
 }

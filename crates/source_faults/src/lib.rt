@@ -1,0 +1,16 @@
+//! What is wrong with a source of the assembler, in words for a person: worked out from a line and the
+//! code of its fault alone.
+#![tactic(auto)]
+
+mod any_fault;
+mod cursor;
+mod fault;
+mod lines;
+mod located;
+mod operands;
+mod quoted;
+mod statements;
+
+pub use any_fault::FaultOf;
+pub use located::{Located, explain, locate};
+pub use quoted::{Found, NOT_ASCII, Quoted, column_not_ascii};
