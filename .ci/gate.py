@@ -119,12 +119,14 @@ class Teller:
         self.tell(f"{self.done} of {self.whole} proofs: {crate}{tests or ''} {found} ({took:.0f} s of a processor)")
 
     def take_edit(self, crate, name, found):
-        self.tried.add(f"{crate}/{name}")
+        edit = f"{crate}/{name}"
+        self.tried.add(edit)
+        # (one that is refused since a proof file names what is gone shows nothing of a contract, and is not put on record)
         if found.startswith("refused, as it must be") and "only because a proof file" not in found:
-            self.refused.add(f"{crate}/{name}")
-        else:
-            self.bad.append(f"{crate}/{name}: {found}")
-        self.tell(f"{crate}/{name}: {found}")
+            self.refused.add(edit)
+        elif found.startswith("BAD EDIT"):
+            self.bad.append(edit)
+        self.tell(f"{edit}: {found}")
 
 
 def run(names=()):

@@ -1,5 +1,5 @@
 #!/usr/bin/env bash
-# Refuses each growth of crates/growth_run in turn, counting up until a run meets none. A run has to end with
+# Refuses each growth of `machine_check growth` in turn, counting up until a run meets none. A run has to end with
 # status 3, where something was refused, or with status 0 and all lines `whole`, and never with a line WRONG:
 # of words that are wrong a suggestion is left out where there is no memory for it. The argument is the
 # program; without it the one that `rt ci` built. (`rt try --fail-alloc` builds the program anew for each number,
@@ -7,7 +7,7 @@
 set -eu
 export LC_ALL=C
 cd "$(dirname "$(readlink -f "$0")")/.."
-program=$(readlink -f "${1:-crates/growth_run/out/growth_run}")
+program=$(readlink -f "${1:-crates/machine_check/out/machine_check}")
 compiler=$(command -v cc || command -v clang || echo /opt/rattle/toolchain/bin/clang)
 folder=$(mktemp -d)
 trap 'rm -rf "$folder"' EXIT
@@ -46,7 +46,7 @@ END
 # The run in which the growth of this number is refused: what is wrong with it, and whether one was refused.
 refuse() {
     local here=$folder/$1 status=0
-    REFUSE=$1 REFUSED=$here.refused LD_PRELOAD=$folder/refuse.so "$program" >"$here.out" 2>"$here.errors" || status=$?
+    REFUSE=$1 REFUSED=$here.refused LD_PRELOAD=$folder/refuse.so "$program" growth >"$here.out" 2>"$here.errors" || status=$?
     if grep -q WRONG "$here.out" || { [ "$status" != 3 ] && ! { [ "$status" = 0 ] && cmp -s "$here.out" "$whole"; }; }; then
         echo "wrong: growth $1: status $status" && cat "$here.out" "$here.errors"
     elif [ -e "$here.refused" ]; then
@@ -57,7 +57,8 @@ refuse() {
     rm -f "$here".*
 }
 
-whole=$(readlink -f crates/growth_run/stdout)
+whole=$folder/whole
+grep ' whole$' crates/machine_check/stdout >"$whole"
 export -f refuse
 export folder program whole
 first=1

@@ -4,8 +4,8 @@
 # the difference of two lengths).
 set -eu
 cd "$(dirname "$0")"
-program=../crates/monitor_run/out/monitor_run
-counted() { valgrind --tool=callgrind --callgrind-out-file=/dev/null "$program" "$@" 2>&1 >/dev/null | sed -n 's/.*Collected : *//p'; }
+program=../crates/machine_check/out/machine_check
+counted() { valgrind --tool=callgrind --callgrind-out-file=/dev/null "$program" bench "$@" 2>&1 >/dev/null | sed -n 's/.*Collected : *//p'; }
 for load in "bare 1 1" "steps 1 60" "steps 16 1" "ticked 1 1" "ticked 1 60" "ticked 16 1" "ticked 16 60" "pairs 16 1" "pairs 1 60" "ticks 1 1"; do
     set -- $load
     short=$(counted "$1" 100000 "$2" "$3")

@@ -6,6 +6,7 @@ ghost use Rattle.word36.specs.declared.sizes.TheConstants.{MOST_BLOCKS};
 use crate::{set_blocks, write_in};
 use core_store::CoreStore;
 use std::alloc::{AllocError, Global};
+use std::process::Abort;
 use word36::{JOBS, MOST_BLOCKS, Word};
 
 /// What is done with a store, or asked of it.
@@ -77,7 +78,7 @@ fn has<C: CoreStore>(cores: &C, job: u8) -> Option<u64> {
 }
 
 /// The first row that a new store of so many blocks answers otherwise.
-pub fn first_wrong<C: CoreStore>(
+fn first_wrong<C: CoreStore>(
     alloc: Global,
     blocks: u32,
     rows: &[Row],
@@ -92,6 +93,24 @@ pub fn first_wrong<C: CoreStore>(
         }
     }
     Ok(None)
+}
+
+/// Walks the rows of a table on a new store of so many blocks: it answers each so.
+pub fn walk<C: CoreStore>(
+    rt: &impl Abort,
+    alloc: Global,
+    blocks: u32,
+    rows: &[Row],
+    store: &str,
+    table: &str,
+)
+    requires least { 1 ≤ blocks }
+    requires most { blocks ≤ MOST_BLOCKS }
+{
+    let wrong = first_wrong::<C>(alloc, blocks, rows).expect(rt, "memory for the store");
+    if let Some(i) = wrong {
+        panic!(rt; "{store}, {table}, row {i}");
+    }
 }
 
 /// A number of 48 bits that follows another in no visible order.

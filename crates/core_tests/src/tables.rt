@@ -5,7 +5,7 @@ use crate::acts::Row;
 use word36::JOBS;
 
 /// All 256 blocks in one job, and one more than there are.
-pub const ALL_IN_ONE: [Row; 16] = [
+pub static ALL_IN_ONE: [Row; 16] = [
     (Free, Some(256)),
     (Blocks(JOBS, 257), None),
     (Blocks(JOBS, 256), Some(0)),
@@ -26,7 +26,7 @@ pub const ALL_IN_ONE: [Row; 16] = [
 
 /// In 4 blocks, job 2 goes from between jobs 1 and 3 and comes back with two blocks, for which no
 /// hole is large enough: all words of the others stay, and job 1 may have no more.
-pub const MOVED_TOGETHER: [Row; 28] = [
+pub static MOVED_TOGETHER: [Row; 28] = [
     (Blocks(1, 1), Some(3)),
     (Blocks(2, 1), Some(2)),
     (Blocks(3, 1), Some(1)),
@@ -59,7 +59,7 @@ pub const MOVED_TOGETHER: [Row; 28] = [
 
 /// In 8 blocks, a job grows in its place, then where those behind it are another's, by a hole
 /// elsewhere, and at last where all must be moved.
-pub const GROWN: [Row; 32] = [
+pub static GROWN: [Row; 32] = [
     (Blocks(1, 1), Some(7)),
     (Write(1, 1023, 1), Some(1)),
     (Blocks(1, 2), Some(6)),
@@ -97,7 +97,7 @@ pub const GROWN: [Row; 32] = [
 ];
 
 /// New core holds no words of the job itself from before, nor of another.
-pub const NEW_CORE: [Row; 17] = [
+pub static NEW_CORE: [Row; 17] = [
     (Blocks(1, 2), Some(2)),
     (Write(1, 0, 1), Some(1)),
     (Write(1, 1023, 2), Some(2)),

@@ -2,30 +2,28 @@
 
 ghost use Rattle.std.specs.Prelude.{◌<◌, ◌^◌};
 
-use crate::acts::{Act, answer, first_difference, first_word_apart, first_wrong};
+use crate::acts::{Act, answer, first_difference, first_word_apart, walk};
 use crate::tables::{ALL_IN_ONE, GROWN, MOVED_TOGETHER, NEW_CORE};
 use crate::{come_and_go, copy_word, fetch_in, hand_over, log_in, step_beside, step_in, write_in};
 use core_store::{BlockCore, CoreStore, NoCore, PlainCore};
 use ka_cpu::{CoreWords, Flags, JobMemory, Outcome, Regs};
 use std::alloc::{AllocError, Global};
+use std::process::Abort;
 use std::test::Fail;
 use word36::{Address, JOBS, Word};
 
-/// The first row of each table that a store answers otherwise.
-fn wrong_rows<C: CoreStore>(alloc: Global) -> Result<[Option<usize>; 4], AllocError> {
-    Ok([
-        first_wrong::<C>(alloc, 256, &ALL_IN_ONE)?,
-        first_wrong::<C>(alloc, 4, &MOVED_TOGETHER)?,
-        first_wrong::<C>(alloc, 8, &GROWN)?,
-        first_wrong::<C>(alloc, 4, &NEW_CORE)?,
-    ])
+/// Walks each table on a store, which the message of a wrong row names.
+fn walk_tables<C: CoreStore>(rt: &impl Abort, alloc: Global, store: &str) {
+    walk::<C>(rt, alloc, 256, &ALL_IN_ONE, store, "ALL_IN_ONE");
+    walk::<C>(rt, alloc, 4, &MOVED_TOGETHER, store, "MOVED_TOGETHER");
+    walk::<C>(rt, alloc, 8, &GROWN, store, "GROWN");
+    walk::<C>(rt, alloc, 4, &NEW_CORE, store, "NEW_CORE");
 }
 
 #[test]
-fn rows_are_answered(rt: HostRuntime) -> Result<(), Fail> {
-    assert_eq!(rt; wrong_rows::<PlainCore>(rt.alloc())?, [None; 4]);
-    assert_eq!(rt; wrong_rows::<BlockCore>(rt.alloc())?, [None; 4]);
-    Ok(())
+fn rows_are_answered(rt: HostRuntime) {
+    walk_tables::<PlainCore>(&rt, rt.alloc(), "PlainCore");
+    walk_tables::<BlockCore>(&rt, rt.alloc(), "BlockCore");
 }
 
 /// All jobs with 4 blocks each, of which one then grows to 8: the first that has not its words.
@@ -48,26 +46,39 @@ fn first_disturbed<C: CoreStore>(alloc: Global, grows: u8) -> Result<Option<u8>,
     Ok((cores.free() != 0 || grown != Some(0)).then_some(0))
 }
 
-#[test]
-fn all_jobs_share_256_blocks(rt: HostRuntime) -> Result<(), Fail> {
-    for grows in [1, 5, JOBS].iter() {
-        assert_eq!(rt; first_disturbed::<PlainCore>(rt.alloc(), *grows)?, None);
-        assert_eq!(rt; first_disturbed::<BlockCore>(rt.alloc(), *grows)?, None);
+/// The jobs that grow.
+static GROW: [u8; 3] = [1, 5, JOBS];
+
+/// Expects that no job is disturbed where one of them grows.
+fn expect_undisturbed<C: CoreStore>(rt: &impl Abort, alloc: Global, store: &str) {
+    for grows in &GROW {
+        let disturbed = first_disturbed::<C>(alloc, *grows);
+        assert!(rt; disturbed == Ok(None), "{store}: job {grows} grows");
     }
-    Ok(())
+}
+
+#[test]
+fn all_jobs_share_256_blocks(rt: HostRuntime) {
+    expect_undisturbed::<PlainCore>(&rt, rt.alloc(), "PlainCore");
+    expect_undisturbed::<BlockCore>(&rt, rt.alloc(), "BlockCore");
 }
 
 #[test]
 fn stores_answer_alike(rt: HostRuntime) -> Result<(), Fail> {
     let mut plain = PlainCore::new(rt.alloc(), 96)?;
     let mut block = BlockCore::new(rt.alloc(), 96)?;
-    assert_eq!(rt; first_difference(&mut plain, &mut block, 20_000), None);
-    assert_eq!(rt; first_word_apart(&plain, &block), None);
+    let act = first_difference(&mut plain, &mut block, 20_000);
+    assert!(rt; act.is_none(), "act {act:?}");
+    assert!(rt;
+        first_word_apart(&plain, &block).is_none(),
+        "a word differs"
+    );
     Ok(())
 }
 
-/// The callers of this crate in a store of 14 blocks: what jobs have at the end.
-fn callers_run<C: CoreStore>(alloc: Global) -> Result<([u32; 4], [Option<Word>; 2]), Fail> {
+/// Whether the callers of this crate leave jobs 1, 2 and 3 of a store of 14 blocks one, one and two of them, and a
+/// word each at two places of job 2.
+fn callers_run<C: CoreStore>(alloc: Global) -> Result<bool, Fail> {
     let mut cores = C::new(alloc, 14)?;
     let word = Word::new(0o254_020_000_144);
     log_in(&mut cores, 2, 1, word)?;
@@ -78,24 +89,16 @@ fn callers_run<C: CoreStore>(alloc: Global) -> Result<([u32; 4], [Option<Word>; 
     if cores.blocks(3) == 0 && cores.blocks(1) > 1 {
         hand_over(&mut cores, 1, 3, 1)?;
     }
-    Ok((
-        [
-            cores.blocks(1),
-            cores.blocks(2),
-            cores.blocks(3),
-            cores.free(),
-        ],
-        [cores.read(2, 0), cores.read(2, 5)],
-    ))
+    let blocks = cores.blocks(1) == 1 && cores.blocks(2) == 1 && cores.blocks(3) == 2;
+    let words = cores.read(2, 0) == Some(word) && cores.read(2, 5) == Some(Word::new(5));
+    Ok(blocks && words && cores.free() == 10)
 }
 
 #[test]
 fn generic_callers_run(rt: HostRuntime) -> Result<(), Fail> {
-    let words = [Some(Word::new(0o254_020_000_144)), Some(Word::new(5))];
-    let wanted = ([1, 1, 2, 10], words);
-    assert_eq!(rt; callers_run::<PlainCore>(rt.alloc())?, wanted);
-    assert_eq!(rt; callers_run::<BlockCore>(rt.alloc())?, wanted);
-    assert_eq!(rt; NoCore.code(), 1);
+    assert!(rt; callers_run::<PlainCore>(rt.alloc())?, "PlainCore");
+    assert!(rt; callers_run::<BlockCore>(rt.alloc())?, "BlockCore");
+    assert!(rt; NoCore.code() == 1);
     Ok(())
 }
 
@@ -117,9 +120,9 @@ fn regs_at(place: u32) -> Regs
 }
 
 /// Job 2 executes MOVEI 1,5 and MOVEM 1,100 with a move of its core in between, beside jobs 1 and 3,
-/// where a zero is no instruction. The words at 100 of jobs 1 and 2, what job 2 finds at places 1
-/// and 100, and whether all was executed.
-fn steps_run<C: CoreStore>(alloc: Global) -> Result<([Option<Word>; 4], bool), AllocError> {
+/// where a zero is no instruction. Whether all was executed, and the word at 100 is 0 of job 1 and 5 of
+/// job 2, which finds 5 at places 1 and 100.
+fn steps_run<C: CoreStore>(alloc: Global) -> Result<bool, AllocError> {
     let mut cores = C::new(alloc, 4)?;
     for job in 1..=3 {
         answer(&mut cores, Act::Blocks(job, 1));
@@ -135,34 +138,30 @@ fn steps_run<C: CoreStore>(alloc: Global) -> Result<([Option<Word>; 4], bool), A
     let done = matches!(first, Outcome::Done)
         && matches!(second, Outcome::Done)
         && matches!(third, Outcome::Stop(_));
-    let places = [
-        cores.read(1, 0o100),
-        cores.read(2, 0o100),
-        fetch_in(&mut cores, 2, &regs, 1),
-        fetch_in(&mut cores, 2, &regs, 0o100),
-    ];
-    Ok((places, done))
+    let five = Some(Word::new(5));
+    let read = cores.read(1, 0o100) == Some(Word::new(0)) && cores.read(2, 0o100) == five;
+    let fetched = fetch_in(&mut cores, 2, &regs, 1) == five
+        && fetch_in(&mut cores, 2, &regs, 0o100) == five;
+    Ok(done && read && fetched)
 }
 
 #[test]
 fn moved_core(rt: HostRuntime) -> Result<(), Fail> {
-    let five = Some(Word::new(5));
-    let wanted = ([Some(Word::new(0)), five, five, five], true);
-    assert_eq!(rt; steps_run::<PlainCore>(rt.alloc())?, wanted);
-    assert_eq!(rt; steps_run::<BlockCore>(rt.alloc())?, wanted);
+    assert!(rt; steps_run::<PlainCore>(rt.alloc())?, "PlainCore");
+    assert!(rt; steps_run::<BlockCore>(rt.alloc())?, "BlockCore");
     Ok(())
 }
 
 #[test]
-fn window_is_a_memory(rt: HostRuntime) -> Result<(), Fail> {
+fn window_is_a_memory(rt: HostRuntime) {
     let mut words = [Word::new(3), Word::new(4)];
     let mut window = CoreWords { words: &mut words };
     assert!(rt;
         window.size() == 2 && window.write(1, Word::new(5)) && !window.write(2, Word::new(6))
     );
-    assert_eq!(rt;
-        (window.read(0), window.read(1), window.read(2)),
-        (Some(Word::new(3)), Some(Word::new(5)), None)
+    assert!(rt;
+        window.read(0) == Some(Word::new(3))
+            && window.read(1) == Some(Word::new(5))
+            && window.read(2).is_none()
     );
-    Ok(())
 }

@@ -177,7 +177,12 @@ impl CallLook {
 
 /// Whether one of some wants is of a lock of this name.
 fn has_name(wants: &[Want], name: &Name) -> bool {
-    wants.iter().any(|want| want.key.name.is_same(name))
+    for want in wants {
+        if want.key.name.is_same(name) {
+            return true;
+        }
+    }
+    false
 }
 
 /// The meaning of a refusal's code.
@@ -207,7 +212,6 @@ fn code_meaning(code: u32) -> &'static str {
 
 /// Adds locks, each with how many requests own it and wait for it.
 fn push_statuses(
-    alloc: Global,
     text: &mut String,
     machine: &Machine,
     number: u8,
@@ -217,70 +221,55 @@ fn push_statuses(
         let status = machine.status(&want.key, number);
         let lock = LockText { want };
         let (owners, waiters) = (status.owner_count, status.waiter_count);
-        let told = format!(in alloc; ", {lock} (owners {owners}, waiters {waiters})")?;
-        text.push_str(told.as_str())?;
+        write!(text, ", {lock} (owners {owners}, waiters {waiters})")?;
     }
     Ok(())
 }
 
 /// Adds wants.
-pub fn push_wants(alloc: Global, text: &mut String, wants: &[Want]) -> Result<(), AllocError> {
+pub fn push_wants(text: &mut String, wants: &[Want]) -> Result<(), AllocError> {
     for want in wants {
-        let lock = format!(in alloc; ", {}", LockText { want })?;
-        text.push_str(lock.as_str())?;
+        let lock = LockText { want };
+        write!(text, ", {lock}")?;
     }
     Ok(())
 }
 
-/// What a block names, `, request 7., limit 5 ticks, X/S, Y`.
-fn block_text(
-    alloc: Global,
+/// Adds what a block names: `, request 7., limit 5 ticks, X/S, Y`.
+fn push_block(
+    text: &mut String,
     machine: &Machine,
     number: u8,
     call: &CallLook,
     block: &Block,
-) -> Result<String, AllocError> {
-    let mut text = String::new(alloc);
+) -> Result<(), AllocError> {
+    let mut added = Ok(());
     if call.service.block_use(call.asked.left()) != BlockUse::Named {
         let id = IdText(block.id.number());
-        let head = format!(in alloc; ", request {id}")?;
-        text.push_str(head.as_str())?;
+        added = write!(text, ", request {id}");
     }
     if block.limit > 0 {
-        let limit = format!(in alloc; ", limit {} ticks", block.limit)?;
-        text.push_str(limit.as_str())?;
+        let limit = block.limit;
+        added = added.and(write!(text, ", limit {limit} ticks"));
     }
     let wants = block.wants.as_slice();
-    if call.service == LockService::Enqc {
-        push_statuses(alloc, &mut text, machine, number, wants)?;
+    let named = if call.service == LockService::Enqc {
+        push_statuses(text, machine, number, wants)
     } else {
-        push_wants(alloc, &mut text, wants)?;
-    }
-    Ok(text)
+        push_wants(text, wants)
+    };
+    added.and(named)
 }
 
-/// What a call names besides its block: `, request 7.`, `, job 3` or `, to 5`.
-fn other_text(alloc: Global, number: u8, call: &CallLook) -> Result<String, AllocError> {
+/// Adds what a call names besides its block: `, request 7.`, `, job 3` or `, to 5`.
+fn push_other(text: &mut String, number: u8, call: &CallLook) -> Result<(), AllocError> {
     let named = call.asked.right();
     match (call.service, call.asked.left()) {
-        (LockService::Deq, 2) => format!(in alloc; ", request {}", IdText(named)),
-        (LockService::Enqc, 1) if named == 0 => format!(in alloc; ", job {number}"),
-        (LockService::Enqc, 1) => format!(in alloc; ", job {named}"),
-        (LockService::Enqc, 2) => format!(in alloc; ", to {named}"),
-        _ => Ok(String::new(alloc)),
-    }
-}
-
-/// What a call names: nothing where its block is refused.
-fn named_text(
-    alloc: Global,
-    machine: &Machine,
-    number: u8,
-    call: &CallLook,
-) -> Result<String, AllocError> {
-    match &call.block {
-        Some(block) => block_text(alloc, machine, number, call, block),
-        None => other_text(alloc, number, call),
+        (LockService::Deq, 2) => write!(text, ", request {}", IdText(named)),
+        (LockService::Enqc, 1) if named == 0 => write!(text, ", job {number}"),
+        (LockService::Enqc, 1) => write!(text, ", job {named}"),
+        (LockService::Enqc, 2) => write!(text, ", to {named}"),
+        _ => Ok(()),
     }
 }
 
@@ -296,27 +285,51 @@ fn answer_in(job: &JobView, before: &Snapshot, call: &CallLook, left: Word) -> C
     })
 }
 
-/// What a call answered.
-fn answer_text(
-    alloc: Global,
+/// Adds what a call answered.
+fn push_answer(
+    text: &mut String,
     answer: CallAnswer,
     call: &CallLook,
     left: Word,
-) -> Result<String, AllocError> {
-    match answer {
-        CallAnswer::Stopped => String::from_str(alloc, "the job is stopped"),
-        CallAnswer::Waits => String::from_str(alloc, "queued, the job waits"),
-        CallAnswer::Granted => String::from_str(alloc, "granted"),
-        CallAnswer::ToldLater => String::from_str(alloc, "queued, it will be told (code 1)"),
+) -> Result<(), AllocError> {
+    let said = match answer {
+        CallAnswer::Stopped => "the job is stopped",
+        CallAnswer::Waits => "queued, the job waits",
+        CallAnswer::Granted => "granted",
+        CallAnswer::ToldLater => "queued, it will be told (code 1)",
         CallAnswer::Refused(code) => {
-            format!(in alloc; "refused, code {code}: {}", code_meaning(code))
+            let meaning = code_meaning(code);
+            return write!(text, "refused, code {code}: {meaning}");
         }
         CallAnswer::Done if call.service == LockService::Enqc && call.asked.left() == 1 => {
             let (quota, requests) = (left.left(), left.right());
-            format!(in alloc; "done, quota {quota}, requests {requests}")
+            return write!(text, "done, quota {quota}, requests {requests}");
         }
-        CallAnswer::Done => String::from_str(alloc, "done"),
-    }
+        CallAnswer::Done => "done",
+    };
+    text.push_str(said)
+}
+
+/// Adds the line on a lock call, but for its end. What a call names is nothing where its block is refused.
+fn push_call(
+    text: &mut String,
+    machine: &Machine,
+    tick: u64,
+    number: u8,
+    call: &CallLook,
+) -> Result<(), AllocError> {
+    let function = call.asked.left();
+    let name = call.service.name();
+    let meaning = call.service.meaning(function);
+    let head = write!(
+        text,
+        "tick {tick}, job {number}: {name} {function:o} ({meaning})"
+    );
+    let named = match &call.block {
+        Some(block) => push_block(text, machine, number, call, block),
+        None => push_other(text, number, call),
+    };
+    head.and(named)
 }
 
 /// The line on a lock call that a job has made; an empty text where the job is gone.
@@ -328,21 +341,18 @@ pub fn call_line(
     before: &Snapshot,
     call: &CallLook,
 ) -> Result<String, AllocError> {
+    let mut text = String::new(alloc);
     let Some(job) = machine.job(number) else {
-        return Ok(String::new(alloc));
+        return Ok(text);
     };
-    let locks = named_text(alloc, machine, number, call)?;
-    let left = machine
-        .peek(number, u32::from(call.ac))
-        .unwrap_or(Word::new(0));
+    let left = match machine.peek(number, u32::from(call.ac)) {
+        Some(left) => left,
+        None => Word::new(0),
+    };
     let answer = answer_in(&job, before, call, left);
-    let answer = answer_text(alloc, answer, call, left)?;
-    let function = call.asked.left();
-    let name = call.service.name();
-    let meaning = call.service.meaning(function);
-    format!(in alloc;
-        "tick {tick}, job {number}: {name} {function:o} ({meaning}){}: {}\n",
-        locks.as_str(),
-        answer.as_str()
-    )
+    push_call(&mut text, machine, tick, number, call)
+        .and(text.push_str(": "))
+        .and(push_answer(&mut text, answer, call, left))
+        .and(text.push_str("\n"))
+        .and(Ok(text))
 }

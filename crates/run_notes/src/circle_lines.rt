@@ -1,6 +1,7 @@
 //! Circles of waits, in words.
 
 use crate::locks::NameText;
+use lock_queue::Request;
 use run_facts::{LockBetween, circle_through, is_in_circle, lock_between};
 use run_machine::Machine;
 use std::alloc::{AllocError, Global};
@@ -29,33 +30,50 @@ pub fn has_circle(machine: &Machine) -> bool {
     false
 }
 
-/// What a job of a circle has that the one before it waits for: `has A`, or `is in front for A` where
-/// it does not own it.
-fn has_text(alloc: Global, between: Option<LockBetween<'_>>) -> Result<String, AllocError> {
+/// Adds what a job of a circle has that the one before it waits for: `has A`, or `is in front for A`
+/// where it does not own it.
+fn push_has(text: &mut String, between: Option<LockBetween<'_>>) -> Result<(), AllocError> {
     let Some(between) = between else {
-        return String::from_str(alloc, "is in front");
+        return text.push_str("is in front");
     };
     let name = NameText {
         key: &between.want.key,
     };
-    if between.is_held {
-        format!(in alloc; "has {name}")
+    let has = if between.is_held {
+        "has"
     } else {
-        format!(in alloc; "is in front for {name}")
-    }
+        "is in front for"
+    };
+    write!(text, "{has} {name}")
 }
 
-/// What a job of a circle waits for from the next.
-fn waits_text(alloc: Global, between: Option<LockBetween<'_>>) -> Result<String, AllocError> {
+/// Adds what a job of a circle waits for from the next.
+fn push_waits(text: &mut String, between: Option<LockBetween<'_>>) -> Result<(), AllocError> {
     match between {
         Some(between) => {
             let name = NameText {
                 key: &between.want.key,
             };
-            format!(in alloc; "waits for {name}")
+            write!(text, "waits for {name}")
         }
-        None => String::from_str(alloc, "waits for a lock"),
+        None => text.push_str("waits for a lock"),
     }
+}
+
+/// Adds a job of a circle, between that which waits for it and that for which it waits:
+/// ` job 1 (has A, waits for B)`.
+fn push_job(
+    text: &mut String,
+    requests: &[Request],
+    before: u8,
+    job: u8,
+    next: u8,
+) -> Result<(), AllocError> {
+    write!(text, " job {job} (")
+        .and(push_has(text, lock_between(requests, before, job)))
+        .and(text.push_str(", "))
+        .and(push_waits(text, lock_between(requests, job, next)))
+        .and(text.push_str(")"))
 }
 
 /// The job at a place of a circle, which begins anew behind its end.
@@ -75,6 +93,21 @@ fn least_place(circle: &[u8]) -> usize {
     least
 }
 
+/// Adds the jobs of a circle, from its least on.
+fn push_jobs(text: &mut String, requests: &[Request], circle: &[u8]) -> Result<(), AllocError> {
+    let first = least_place(circle);
+    let mut before = at(circle, first.saturating_add(circle.len()).saturating_sub(1));
+    for step in 0..circle.len() {
+        let job = at(circle, first.saturating_add(step));
+        let next = at(circle, first.saturating_add(step).saturating_add(1));
+        let comma = if step == 0 { "" } else { "," };
+        text.push_str(comma)
+            .and(push_job(text, requests, before, job, next))?;
+        before = job;
+    }
+    Ok(())
+}
+
 /// The line on a circle, from its least job on: `tick 94: circle: job 1 (has A, waits for B), job 2 (has B, waits for A)`.
 pub fn circle_line(
     alloc: Global,
@@ -83,20 +116,9 @@ pub fn circle_line(
     circle: &[u8],
 ) -> Result<String, AllocError> {
     let requests = machine.requests(alloc)?;
-    let requests = requests.as_slice();
-    let mut text = format!(in alloc; "tick {tick}: circle:")?;
-    let first = least_place(circle);
-    let mut before = at(circle, first.saturating_add(circle.len()).saturating_sub(1));
-    for step in 0..circle.len() {
-        let job = at(circle, first.saturating_add(step));
-        let next = at(circle, first.saturating_add(step).saturating_add(1));
-        let has = has_text(alloc, lock_between(requests, before, job))?;
-        let waits = waits_text(alloc, lock_between(requests, job, next))?;
-        let comma = if step == 0 { "" } else { "," };
-        let told = format!(in alloc; "{comma} job {job} ({}, {})", has.as_str(), waits.as_str())?;
-        text.push_str(told.as_str())?;
-        before = job;
-    }
-    text.push_str("\n")?;
-    Ok(text)
+    let mut text = String::new(alloc);
+    write!(text, "tick {tick}: circle:")
+        .and(push_jobs(&mut text, requests.as_slice(), circle))
+        .and(text.push_str("\n"))
+        .and(Ok(text))
 }

@@ -6,7 +6,7 @@ use std::fmt;
 /// A lock as scripts of `lockmon queue` spell it: its name, or its user code in octal behind `#`, and
 /// what is special about the want: `/S` shared, `/Gn` in the group n of those who share, `/B` out of
 /// level order, `/Ln` the level, `/Pn:m` m of a pool of n, `/J` a name of the job's own.
-#[derive(Drop)]
+#[derive(Clone, Copy)]
 pub struct LockText<'a> {
     /// The want.
     pub want: &'a Want,
@@ -58,7 +58,7 @@ fn write_options<W: fmt::Write>(f: &mut fmt::Formatter<W>, want: &Want) -> fmt::
 }
 
 /// A lock's name alone, as it stands in `LockText`.
-#[derive(Drop)]
+#[derive(Clone, Copy)]
 pub struct NameText<'a> {
     /// The lock.
     pub key: &'a Key,

@@ -79,6 +79,14 @@ pub fn effective_address(machine: &Machine, number: u8, word: Word) -> Option<u3
     None
 }
 
+/// The word of a job at an address, where there is one and it is legal.
+fn word_at(machine: &Machine, number: u8, address: Option<u32>) -> Option<Word> {
+    match address {
+        Some(address) => machine.peek(number, address),
+        None => None,
+    }
+}
+
 /// What an instruction of a job executes in the end: itself, unless it is XCT.
 fn executed(machine: &Machine, number: u8, instruction: Word) -> Word {
     let mut word = instruction;
@@ -86,10 +94,7 @@ fn executed(machine: &Machine, number: u8, instruction: Word) -> Word {
         if classify(decode(word).op) != Family::Xct {
             return word;
         }
-        let next = effective_address(machine, number, word).and_then(|address| machine.peek(
-            number, address,
-        ));
-        match next {
+        match word_at(machine, number, effective_address(machine, number, word)) {
             Some(next) => word = next,
             None => return word,
         }
@@ -118,7 +123,7 @@ pub fn snapshot_of(machine: &Machine, number: u8, place: Address) -> Snapshot {
         instruction,
         executed,
         address,
-        operand: address.and_then(|address| machine.peek(number, address)),
+        operand: word_at(machine, number, address),
         registers: registers_of(machine, number),
         requests: requests_of(machine, number),
     }

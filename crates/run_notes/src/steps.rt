@@ -24,59 +24,58 @@ fn may_skip(before: &Snapshot) -> bool {
     }
 }
 
-/// Where a job goes from a place, and that it waits or stops.
-fn way_text(
-    alloc: Global,
+/// Adds where a job goes from a place, and that it waits or stops.
+fn push_way(
+    text: &mut String,
     job: &ToldJob,
     before: &Snapshot,
     after: &JobView,
-) -> Result<String, AllocError> {
+) -> Result<(), AllocError> {
     if let Some(stop) = after.stop {
-        return format!(in alloc; "  {}", stop_text(stop));
+        let stop = stop_text(stop);
+        return write!(text, "  {stop}");
     }
-    if after.wait != Wait::None && after.pc == before.place {
-        return String::from_str(alloc, "  waits");
-    }
-    let way = if after.pc == before.place.plus(1) {
-        String::new(alloc)
+    let waits = if after.wait == Wait::None {
+        ""
+    } else {
+        "  waits"
+    };
+    let stays = after.pc == before.place && after.wait != Wait::None;
+    if stays || after.pc == before.place.plus(1) {
+        text.push_str(waits)
     } else if after.pc == before.place.plus(2) && may_skip(before) {
-        String::from_str(alloc, "  skips")?
+        write!(text, "  skips{waits}")
     } else {
         let place = job.spot(after.pc);
-        format!(in alloc; "  to {place}")?
-    };
-    if after.wait == Wait::None {
-        return Ok(way);
+        write!(text, "  to {place}{waits}")
     }
-    format!(in alloc; "{}  waits", way.as_str())
 }
 
-/// The tick, the job and the place of a step: `tick 12, job 1, LOOP+1`.
-fn spot_text(
-    alloc: Global,
+/// Adds the tick, the job and the place of a step: `tick 12, job 1, LOOP+1: `.
+fn push_spot(
+    text: &mut String,
     tick: u64,
     job: &ToldJob,
     place: Address,
-) -> Result<String, AllocError> {
+) -> Result<(), AllocError> {
     let number = job.number;
     let spot = job.spot(place);
-    format!(in alloc; "tick {tick}, job {number}, {spot}")
+    write!(text, "tick {tick}, job {number}, {spot}: ")
 }
 
-/// The head of a step's line, with its instruction.
-fn head_text(
-    alloc: Global,
-    tick: u64,
-    job: &ToldJob,
-    before: &Snapshot,
-) -> Result<String, AllocError> {
-    let spot = spot_text(alloc, tick, job, before.place)?;
+/// Adds the instruction of a step to the head of its line, and the effective address.
+fn push_instruction(text: &mut String, job: &ToldJob, before: &Snapshot) -> Result<(), AllocError> {
     let instruction = InstructionText {
         places: &job.places,
         word: before.instruction,
     };
-    let head = format!(in alloc; "{}: {instruction}", spot.as_str())?;
-    format!(in alloc; "{:<HEAD_WIDTH$}", head.as_str())
+    let told = write!(text, "{instruction}");
+    let blanks = HEAD_WIDTH.saturating_sub(text.len());
+    let padded = write!(text, "{:blanks$}", "");
+    match before.address {
+        Some(address) => told.and(padded).and(write!(text, "  E {address:o}")),
+        None => told.and(padded),
+    }
 }
 
 /// The line on a job whose wait for locks has ended with its limit of time, and that goes on at the error
@@ -87,9 +86,33 @@ pub fn time_limit_line(
     job: &ToldJob,
     after: &JobView,
 ) -> Result<String, AllocError> {
-    let spot = spot_text(alloc, tick, job, job.last)?;
+    let mut text = String::new(alloc);
     let next = job.spot(after.pc);
-    format!(in alloc; "{}: time limit ended  to {next}\n", spot.as_str())
+    push_spot(&mut text, tick, job, job.last)
+        .and(write!(text, "time limit ended  to {next}\n"))
+        .and(Ok(text))
+}
+
+/// Adds what is told of a step, behind its place: what was executed, what changed, and where the job goes
+/// where that is not the next place.
+fn push_step(
+    text: &mut String,
+    machine: &Machine,
+    job: &ToldJob,
+    before: &Snapshot,
+) -> Result<(), AllocError> {
+    let Some(after) = machine.job(job.number) else {
+        return text.push_str("LOGOUT");
+    };
+    if before.is_interrupted(machine, job.number) {
+        let next = job.spot(after.pc);
+        return write!(text, "interrupt  to {next}");
+    }
+    let mut added = push_instruction(text, job, before);
+    if !matches!(after.stop, Some(Stop::Fault(_))) {
+        added = added.and(push_changes(text, machine, job, before));
+    }
+    added.and(push_way(text, job, before, &after))
 }
 
 /// The line on a step: `tick 12, job 1, LOOP+1: MOVE 1,BLK  E 150  1/ 000001,,000005`, with the
@@ -102,25 +125,9 @@ pub fn step_line(
     job: &ToldJob,
     before: &Snapshot,
 ) -> Result<String, AllocError> {
-    let Some(after) = machine.job(job.number) else {
-        let spot = spot_text(alloc, tick, job, before.place)?;
-        return format!(in alloc; "{}: LOGOUT\n", spot.as_str());
-    };
-    if before.is_interrupted(machine, job.number) {
-        let spot = spot_text(alloc, tick, job, before.place)?;
-        let next = job.spot(after.pc);
-        return format!(in alloc; "{}: interrupt  to {next}\n", spot.as_str());
-    }
-    let mut text = head_text(alloc, tick, job, before)?;
-    if let Some(address) = before.address {
-        let effective = format!(in alloc; "  E {address:o}")?;
-        text.push_str(effective.as_str())?;
-    }
-    if !matches!(after.stop, Some(Stop::Fault(_))) {
-        push_changes(alloc, machine, job, before, &mut text)?;
-    }
-    let way = way_text(alloc, job, before, &after)?;
-    text.push_str(way.as_str())?;
-    text.push_str("\n")?;
-    Ok(text)
+    let mut text = String::new(alloc);
+    push_spot(&mut text, tick, job, before.place)
+        .and(push_step(&mut text, machine, job, before))
+        .and(text.push_str("\n"))
+        .and(Ok(text))
 }

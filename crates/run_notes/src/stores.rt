@@ -5,7 +5,7 @@ use crate::snapshot::{Snapshot, effective_address};
 use crate::told_job::ToldJob;
 use ka_isa::{Family, classify, decode};
 use run_machine::Machine;
-use std::alloc::{AllocError, Global};
+use std::alloc::AllocError;
 use word36::Word;
 
 /// The operations of the family of bytes that store one.
@@ -14,34 +14,25 @@ const IDPB: u16 = 0o136;
 const DPB: u16 = 0o137;
 
 /// Adds that a place has a word now: `  WORD/ 000000,,000005`.
-fn push_word(
-    alloc: Global,
-    job: &ToldJob,
-    address: u32,
-    word: Word,
-    text: &mut String,
-) -> Result<(), AllocError> {
+fn push_word(text: &mut String, job: &ToldJob, address: u32, word: Word) -> Result<(), AllocError> {
     let place = Reference {
         places: &job.places,
         address,
     };
-    let change = format!(in alloc; "  {place}/ {}", word.octal().as_str())?;
-    text.push_str(change.as_str())
+    write!(text, "  {place}/ {}", word.octal().as_str())
 }
 
 /// Adds the registers that a step has changed.
 fn push_registers(
-    alloc: Global,
+    text: &mut String,
     machine: &Machine,
     job: &ToldJob,
     before: &Snapshot,
-    text: &mut String,
 ) -> Result<(), AllocError> {
     for (register, old) in before.registers.iter().enumerate() {
         if let Some(new) = machine.peek(job.number, register as u32) {
             if new != *old {
-                let change = format!(in alloc; "  {register:o}/ {}", new.octal().as_str())?;
-                text.push_str(change.as_str())?;
+                write!(text, "  {register:o}/ {}", new.octal().as_str())?;
             }
         }
     }
@@ -50,11 +41,10 @@ fn push_registers(
 
 /// Adds the word at the effective address, where a step has changed it and it is no register's.
 fn push_operand(
-    alloc: Global,
+    text: &mut String,
     machine: &Machine,
     job: &ToldJob,
     before: &Snapshot,
-    text: &mut String,
 ) -> Result<(), AllocError> {
     let Some(address) = before.address else {
         return Ok(());
@@ -63,7 +53,7 @@ fn push_operand(
         return Ok(());
     }
     match machine.peek(job.number, address) {
-        Some(new) if before.operand != Some(new) => push_word(alloc, job, address, new, text),
+        Some(new) if before.operand != Some(new) => push_word(text, job, address, new),
         _ => Ok(()),
     }
 }
@@ -98,45 +88,55 @@ fn block_of(before: &Snapshot) -> Option<(u32, u32)> {
 
 /// Adds the block that BLT has stored: its first word, and up to where it reaches.
 fn push_block(
-    alloc: Global,
+    text: &mut String,
     machine: &Machine,
     job: &ToldJob,
     first: u32,
     last: u32,
-    text: &mut String,
 ) -> Result<(), AllocError> {
-    if let Some(word) = machine.peek(job.number, first) {
-        push_word(alloc, job, first, word, text)?;
-    }
+    let added = match machine.peek(job.number, first) {
+        Some(word) => push_word(text, job, first, word),
+        None => Ok(()),
+    };
     if first == last {
-        return Ok(());
+        return added;
     }
     let reference = Reference {
         places: &job.places,
         address: last,
     };
-    let end = format!(in alloc; " .. {reference}")?;
-    text.push_str(end.as_str())
+    added.and(write!(text, " .. {reference}"))
+}
+
+/// Adds the word, beside the one at the effective address, that a step has stored.
+fn push_beside(
+    text: &mut String,
+    machine: &Machine,
+    job: &ToldJob,
+    before: &Snapshot,
+) -> Result<(), AllocError> {
+    let Some(address) = place_beside(machine, job, before) else {
+        return Ok(());
+    };
+    match machine.peek(job.number, address) {
+        Some(word) => push_word(text, job, address, word),
+        None => Ok(()),
+    }
 }
 
 /// Adds what a step has changed: registers, the word at the effective address, and what PUSH, PUSHJ,
 /// IDPB, DPB and BLT store.
 pub fn push_changes(
-    alloc: Global,
+    text: &mut String,
     machine: &Machine,
     job: &ToldJob,
     before: &Snapshot,
-    text: &mut String,
 ) -> Result<(), AllocError> {
-    push_registers(alloc, machine, job, before, text)?;
-    if let Some((first, last)) = block_of(before) {
-        return push_block(alloc, machine, job, first, last, text);
+    let added = push_registers(text, machine, job, before);
+    match block_of(before) {
+        Some((first, last)) => added.and(push_block(text, machine, job, first, last)),
+        None => added
+            .and(push_operand(text, machine, job, before))
+            .and(push_beside(text, machine, job, before)),
     }
-    push_operand(alloc, machine, job, before, text)?;
-    if let Some(address) = place_beside(machine, job, before) {
-        if let Some(word) = machine.peek(job.number, address) {
-            push_word(alloc, job, address, word, text)?;
-        }
-    }
-    Ok(())
 }

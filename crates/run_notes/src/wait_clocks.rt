@@ -8,6 +8,9 @@ use run_facts::{is_granted_in, is_left_of};
 use run_machine::Machine;
 use std::alloc::{AllocError, Global};
 
+/// So many columns of the table have the name of a lock.
+const NAME_WIDTH: usize = 20;
+
 /// Since when a request is there.
 #[derive(Clone, Copy, Debug)]
 struct Clock {
@@ -45,25 +48,32 @@ pub struct WaitClocks {
     rows: Vec<LockRow>,
 }
 
+/// The place of a lock's row, which is behind the last where it has none.
+fn place_of(rows: &[LockRow], key: &Key) -> usize {
+    for (place, row) in rows.iter().enumerate() {
+        if row.key.is_same(key) {
+            return place;
+        }
+    }
+    rows.len()
+}
+
 /// The row of a lock, which may be new.
 fn row_of<'r>(
     rows: &'r mut Vec<LockRow>,
     key: &Key,
 ) -> Result<Option<&'r mut LockRow>, AllocError> {
-    let place = match rows.as_slice().iter().position(|row| row.key.is_same(key)) {
-        Some(place) => place,
-        None => {
-            rows.push(LockRow {
-                key: *key,
-                requests: 0,
-                waited: 0,
-                longest: 0,
-                total: 0,
-                waiting: 0,
-            })?;
-            rows.len().saturating_sub(1)
-        }
-    };
+    let place = place_of(rows.as_slice(), key);
+    if place == rows.len() {
+        rows.push(LockRow {
+            key: *key,
+            requests: 0,
+            waited: 0,
+            longest: 0,
+            total: 0,
+            waiting: 0,
+        })?;
+    }
     Ok(rows.get_mut(place))
 }
 
@@ -82,21 +92,49 @@ impl LockRow {
             .unwrap_or(0)
     }
 
-    /// Its line of the table.
-    fn line(&self, alloc: Global) -> Result<String, AllocError> {
-        let name = format!(in alloc; "{}", NameText { key: &self.key })?;
+    /// Adds its line of the table.
+    fn push_line(&self, text: &mut String) -> Result<(), AllocError> {
+        let name = NameText { key: &self.key };
+        let before = text.len();
+        let named = write!(text, "{name}");
+        let blanks = (before.saturating_add(NAME_WIDTH)).saturating_sub(text.len());
         let tenths = self.mean_tenths();
-        let mean = format!(in alloc; "{}.{}", tenths / 10, tenths % 10)?;
-        format!(in alloc;
-            "{:<20}{:>9}{:>9}{:>9}{:>9}{:>15}\n",
-            name.as_str(),
+        let counted = write!(
+            text,
+            "{:blanks$}{:>9}{:>9}{:>9}{:>7}.{}{:>15}\n",
+            "",
             self.requests,
             self.waited,
             self.longest,
-            mean.as_str(),
+            tenths / 10,
+            tenths % 10,
             self.waiting
-        )
+        );
+        named.and(counted)
     }
+}
+
+/// Whether a request is present no more.
+fn has_left(old: &Request, requests: &[Request]) -> bool {
+    for request in requests {
+        if is_left_of(request, old) {
+            return false;
+        }
+    }
+    true
+}
+
+/// Adds the line on a request that is granted after so many ticks.
+fn push_granted(
+    text: &mut String,
+    tick: u64,
+    ticks: u64,
+    request: &Request,
+) -> Result<(), AllocError> {
+    let job = request.job;
+    write!(text, "tick {tick}, job {job}: granted after {ticks} ticks")
+        .and(push_wants(text, request.wants.as_slice()))
+        .and(text.push_str("\n"))
 }
 
 impl WaitClocks {
@@ -134,44 +172,35 @@ impl WaitClocks {
     /// it is granted since.
     fn clock_of(
         &mut self,
-        alloc: Global,
         tick: u64,
         known: Option<Clock>,
-        requests: &[Request],
-        place: usize,
+        request: &Request,
+        is_granted: bool,
         text: &mut String,
     ) -> Result<Clock, AllocError> {
-        let is_granted = is_granted_in(requests, place);
-        let Some(request) = requests.get(place) else {
-            return Ok(Clock {
-                since: tick,
-                is_granted,
-                is_told: false,
-            });
+        let mut noted = Ok(());
+        let clock = match known {
+            Some(clock) if is_granted && !clock.is_granted => {
+                let ticks = tick.saturating_sub(clock.since);
+                noted = self
+                    .add_wait(request, ticks)
+                    .and(push_granted(text, tick, ticks, request));
+                clock
+            }
+            Some(clock) => clock,
+            None => {
+                noted = self.count(request, is_granted);
+                Clock {
+                    since: tick,
+                    is_granted,
+                    is_told: false,
+                }
+            }
         };
-        let Some(clock) = known else {
-            self.count(request, is_granted)?;
-            return Ok(Clock {
-                since: tick,
-                is_granted,
-                is_told: false,
-            });
-        };
-        if is_granted && !clock.is_granted {
-            let ticks = tick.saturating_sub(clock.since);
-            self.add_wait(request, ticks)?;
-            let head = format!(in alloc;
-                "tick {tick}, job {}: granted after {ticks} ticks",
-                request.job
-            )?;
-            text.push_str(head.as_str())?;
-            push_wants(alloc, text, request.wants.as_slice())?;
-            text.push_str("\n")?;
-        }
-        Ok(Clock {
+        noted.and(Ok(Clock {
             is_granted,
             ..clock
-        })
+        }))
     }
 
     /// The requests that were present before are these now: tells how long each grant took.
@@ -185,21 +214,41 @@ impl WaitClocks {
         let mut text = String::new(alloc);
         let mut clocks = Vec::new(alloc);
         for (place, request) in requests.iter().enumerate() {
-            let was = before.iter().position(|old| is_left_of(request, old));
-            let known = was.and_then(|was| self.clocks.get(was).copied());
-            let clock = self.clock_of(alloc, tick, known, requests, place, &mut text)?;
+            let known = self.known_clock(before, request);
+            let is_granted = is_granted_in(requests, place);
+            let clock = self.clock_of(tick, known, request, is_granted, &mut text)?;
             clocks.push(clock)?;
         }
+        self.add_left(tick, before, requests)?;
+        self.clocks = clocks;
+        Ok(text)
+    }
+
+    /// The clock of a request, if it was present before.
+    fn known_clock(&self, before: &[Request], request: &Request) -> Option<Clock> {
+        for (old, clock) in before.iter().zip(&self.clocks) {
+            if is_left_of(request, old) {
+                return Some(*clock);
+            }
+        }
+        None
+    }
+
+    /// Adds the waits of requests that have left since, to the rows of their locks.
+    fn add_left(
+        &mut self,
+        tick: u64,
+        before: &[Request],
+        requests: &[Request],
+    ) -> Result<(), AllocError> {
         for (was, old) in before.iter().enumerate() {
-            let has_left = !requests.iter().any(|request| is_left_of(request, old));
             if let Some(clock) = self.clocks.get(was).copied() {
-                if has_left && !clock.is_granted {
+                if !clock.is_granted && has_left(old, requests) {
                     self.add_wait(old, tick.saturating_sub(clock.since))?;
                 }
             }
         }
-        self.clocks = clocks;
-        Ok(text)
+        Ok(())
     }
 
     /// The lines on jobs that wait for longer than is to be told, each once. The requests are those of
@@ -219,13 +268,9 @@ impl WaitClocks {
                 continue;
             }
             clock.is_told = true;
-            let waits = lock_wait_text(alloc, machine, request.job)?;
-            let line = format!(in alloc;
-                "tick {tick}, job {}: {}, for {ticks} ticks\n",
-                request.job,
-                waits.as_str()
-            )?;
-            text.push_str(line.as_str())?;
+            let job = request.job;
+            let waits = lock_wait_text(alloc, machine, job)?;
+            write!(text, "tick {tick}, job {job}: {waits}, for {ticks} ticks\n")?;
         }
         Ok(text)
     }
@@ -251,8 +296,7 @@ impl WaitClocks {
         }
         text.push_str("lock                 requests   waited  longest     mean  still waiting\n")?;
         for row in &self.rows {
-            let line = row.line(alloc)?;
-            text.push_str(line.as_str())?;
+            row.push_line(&mut text)?;
         }
         Ok(text)
     }

@@ -101,7 +101,12 @@ impl Pair {
     /// Whether the registers and the core of a job of so many blocks are the same, and the place behind
     /// them is legal on neither.
     fn has_same_words(&self, job: u8, blocks: u32) -> bool {
-        (0..=blocks.min(BLOCKS) * 1024).all(|a| self.plain.peek(job, a) == self.block.peek(job, a))
+        for a in 0..=blocks.min(BLOCKS) * 1024 {
+            if self.plain.peek(job, a) != self.block.peek(job, a) {
+                return false;
+            }
+        }
+        true
     }
 
     /// Whether a job is there on both with the same line, blocks, PC, stop, wait and words, or on neither.
@@ -115,7 +120,12 @@ impl Pair {
 
     /// Whether all jobs are the same.
     fn has_same_jobs(&self) -> bool {
-        (1..=JOBS).all(|job| self.has_same_job(job))
+        for job in 1..=JOBS {
+            if !self.has_same_job(job) {
+                return false;
+            }
+        }
+        true
     }
 
     /// Makes what a number stands for happen to both, and tells whether they answer alike. Of 128, four

@@ -83,9 +83,12 @@ impl<C: CoreStore> Place<C> {
 
     /// Whether the jobs of two machines have the same registers and the same words in core.
     fn has_words_of(&self, other: &Place<C>) -> bool {
-        (0..0o4000).all(|a| {
-            self.system.peek(self.number, a) == other.system.peek(other.number, a)
-        })
+        for a in 0..0o4000 {
+            if self.system.peek(self.number, a) != other.system.peek(other.number, a) {
+                return false;
+            }
+        }
+        true
     }
 }
 
@@ -148,7 +151,10 @@ const TAKES: [Event<'static>; 2] = [Event::Take(0, 1), Event::Take(3, 1)];
 /// The character that is taken, if there is one.
 fn character<C: CoreStore>(place: &mut Place<C>, take: &Event) -> Option<u8> {
     match place.system.event(take) {
-        Answer::Text(taken) => taken.as_slice().first().map(|c| c.number()),
+        Answer::Text(taken) => match taken.as_slice() {
+            [first, ..] => Some(first.number()),
+            [] => None,
+        },
         _ => None,
     }
 }

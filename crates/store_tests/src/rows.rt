@@ -7,10 +7,20 @@ use monitor::{Answer, Config, Event, RefusedEvent, System};
 use plain_table::PlainTable;
 use std::alloc::Global;
 use std::process::Abort;
+use tty_lines::Char7;
 use word36::{Image, MOST_REQUESTS};
 
+/// An event that happens to the machine, as plain data.
+#[derive(Clone, Copy)]
+pub enum Act {
+    Kill(u8),
+    Restart,
+    /// A character is typed at a line.
+    Typed(u8, u8),
+}
+
 /// What an event must answer.
-#[derive(Clone, Copy, Debug)]
+#[derive(Clone, Copy)]
 pub enum Reply {
     Done,
     JobNumber(u8),
@@ -18,16 +28,15 @@ pub enum Reply {
 }
 
 /// Something that happens to the machine and what it must answer, or something that must be seen.
-#[derive(Clone, Copy, Debug)]
-pub enum Row<'a> {
+pub enum Row {
     /// The image of a source begins at a line as the job of this number, and starts.
-    Begins(u8, &'a str, u8),
+    Begins(u8, &'static str, u8),
     /// The image of a source comes at a line, and the answer.
-    LogsIn(u8, &'a str, Reply),
+    LogsIn(u8, &'static str, Reply),
     /// An event, and its answer.
-    Happens(Event<'a>, Reply),
+    Happens(Act, Reply),
     /// Steps with a tick behind each: the numbers of the jobs that run, 0 where none does.
-    Turns(&'a [u8]),
+    Turns(&'static [u8]),
     /// So many steps with a tick behind each, in so many of which a job runs.
     Rounds(u32, u32),
     /// A job's PC, why it is stopped, and the wait that holds.
@@ -36,6 +45,19 @@ pub enum Row<'a> {
     Word(u8, u32, Option<u64>),
     /// All words of a job from a place on and below another are this one.
     All(u8, u32, u32, u64),
+}
+
+impl Act {
+    /// The event.
+    fn event(self) -> Event<'static> {
+        match self {
+            Act::Kill(job) => Event::Kill(job),
+            Act::Restart => Event::Restart,
+            Act::Typed(line, character) => {
+                Event::Typed(line, Char7::low_bits(u64::from(character)))
+            }
+        }
+    }
 }
 
 impl Reply {
@@ -155,7 +177,11 @@ fn is_word<C: CoreStore>(
     place: u32,
     word: Option<u64>,
 ) -> bool {
-    system.peek(number, place).map(|word| word.number()) == word
+    match (system.peek(number, place), word) {
+        (Some(there), Some(word)) => there.number() == word,
+        (None, None) => true,
+        _ => false,
+    }
 }
 
 /// Whether all words of a job from a place on and below another are this one.
@@ -166,10 +192,15 @@ fn are_words<C: CoreStore>(
     until: u32,
     word: u64,
 ) -> bool {
-    (from..until).all(|place| is_word(system, number, place, Some(word)))
+    for place in from..until {
+        if !is_word(system, number, place, Some(word)) {
+            return false;
+        }
+    }
+    true
 }
 
-impl Row<'_> {
+impl Row {
     /// Whether the row holds of the machine.
     fn holds<C: CoreStore>(
         &self,
@@ -183,7 +214,7 @@ impl Row<'_> {
             Row::LogsIn(line, source, reply) => {
                 logs_in_source(system, alloc, *line, source, *reply)
             }
-            Row::Happens(event, reply) => answers(system, event, *reply),
+            Row::Happens(act, reply) => answers(system, &act.event(), *reply),
             Row::Turns(numbers) => turns(system, numbers),
             Row::Rounds(most, ran) => system.steps(*most, true) == *ran,
             Row::Job(number, pc, stop, wait) => is_at(system, *number, *pc, *stop, *wait),
@@ -209,7 +240,7 @@ pub fn machine<C: CoreStore>(
 fn walk_on<C: CoreStore>(rt: &impl Abort, alloc: Global, store: &str, blocks: u32, rows: &[Row]) {
     let mut system: System<PlainTable<MOST_REQUESTS>, C> = machine(rt, alloc, blocks);
     for (i, row) in rows.iter().enumerate() {
-        assert!(rt; row.holds(&mut system, alloc), "{store}, row {i}: {row:?}");
+        assert!(rt; row.holds(&mut system, alloc), "{store}, row {i}");
     }
 }
 

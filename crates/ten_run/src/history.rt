@@ -1,7 +1,6 @@
 //! The last steps of a job.
 
-use line_ports::{Answers, Failure};
-use script_io::ByteOut;
+use crate::pending_text::PendingText;
 use std::alloc::{AllocError, Global};
 
 /// The lines on the last steps of a job, so many at most.
@@ -39,14 +38,13 @@ impl History {
         Ok(())
     }
 
-    /// Writes the lines, the oldest first.
-    pub fn write<E: ByteOut + Drop>(&self, errors: &mut Answers<E>) -> Result<(), Failure> {
+    /// Tells the lines, the oldest first.
+    pub fn tell(&self, errors: &mut PendingText) {
         for i in 0..self.lines.len() {
             let place = self.next.saturating_add(i).checked_rem(self.lines.len());
-            if let Some(line) = place.and_then(|place| self.lines.get(place)) {
-                errors.write(line.as_str().as_bytes())?;
+            if let Some(line) = self.lines.get(place.unwrap_or(0)) {
+                errors.say(line.as_str());
             }
         }
-        Ok(())
     }
 }

@@ -1,37 +1,22 @@
 //! The jobs of a run.
 
-use crate::history::History;
+use crate::pending_text::PendingText;
 use crate::terminal::Terminal;
 use job_sched::{Stop, Wait};
 use run_facts::Standing;
 use run_machine::Machine;
-use run_notes::{CallLook, Snapshot, ToldJob, lock_wait_text, stop_text};
-use std::alloc::{AllocError, Global};
-
-/// What a job does next, as it stands before that.
-#[derive(Drop)]
-pub struct Look {
-    /// What it executes, and what it finds there.
-    pub snapshot: Snapshot,
-    /// The lock call that it makes, if it makes one and these are told.
-    pub call: Option<CallLook>,
-}
+use run_notes::{ToldJob, lock_wait_text, stop_text};
+use word36::Address;
 
 /// A job of a run.
 #[derive(Drop)]
-pub struct RunningJob<'a> {
+pub struct RunningJob {
     /// What is told of it.
     pub told: ToldJob,
-    /// The name of its source's file.
-    pub file: &'a str,
     /// Its terminal line.
     pub terminal: Terminal,
     /// In how many steps it ran.
     pub steps: u64,
-    /// Its last steps, where these are kept.
-    pub history: History,
-    /// What it does next, where that is told.
-    pub look: Option<Look>,
 }
 
 /// How a job stands.
@@ -45,61 +30,72 @@ pub fn standing_of(machine: &Machine, number: u8) -> Standing {
     }
 }
 
-/// What a job waits for.
-fn wait_text(
-    alloc: Global,
-    machine: &Machine,
-    number: u8,
-    wait: Wait,
-) -> Result<String, AllocError> {
+/// Tells what a job waits for.
+fn tell_wait(machine: &Machine, number: u8, wait: Wait, errors: &mut PendingText) {
     match wait {
-        Wait::None => String::from_str(alloc, "still runs"),
-        Wait::Sleep(ticks) => format!(in alloc; "sleeps for {ticks} ticks more"),
-        Wait::Char => String::from_str(alloc, "waits for a character"),
-        Wait::Line => String::from_str(alloc, "waits for a line"),
-        Wait::Room(_) => String::from_str(alloc, "waits for its output to be taken"),
-        Wait::Queue(0, _) => lock_wait_text(alloc, machine, number),
+        Wait::None => errors.say("still runs"),
+        Wait::Sleep(ticks) => errors.say_number("sleeps for ", u64::from(ticks), " ticks more"),
+        Wait::Char => errors.say("waits for a character"),
+        Wait::Line => errors.say("waits for a line"),
+        Wait::Room(_) => errors.say("waits for its output to be taken"),
         Wait::Queue(limit, _) => {
-            let text = lock_wait_text(alloc, machine, number)?;
-            format!(in alloc; "{}, for {limit} ticks more", text.as_str())
+            errors.say_made(lock_wait_text(errors.alloc, machine, number));
+            if limit > 0 {
+                errors.say_number(", for ", u64::from(limit), " ticks more");
+            }
         }
     }
 }
 
-impl RunningJob<'_> {
-    /// How it stands, in words, and where.
-    fn standing_text(
-        &self,
-        alloc: Global,
-        machine: &Machine,
-        standing: Standing,
-    ) -> Result<String, AllocError> {
-        let last = self.told.spot(self.told.last);
-        let next = self.told.spot(self.told.next);
+/// Tells a place of a job's program.
+fn tell_spot(job: &ToldJob, place: Address, errors: &mut PendingText) {
+    let alloc = errors.alloc;
+    let spot = job.spot(place);
+    errors.say_made(format!(in alloc; " at {spot}"));
+}
+
+impl RunningJob {
+    /// Tells how it stands, and where.
+    fn tell_standing(&self, machine: &Machine, standing: Standing, errors: &mut PendingText) {
+        let mut place = self.told.last;
         match standing {
-            Standing::Gone => format!(in alloc; "LOGOUT at {last}"),
-            Standing::Stopped(Stop::Typed) => {
-                format!(in alloc; "{} at {next}", stop_text(Stop::Typed))
+            Standing::Gone => errors.say("LOGOUT"),
+            Standing::Stopped(stop) => {
+                errors.say(stop_text(stop));
+                if stop == Stop::Typed {
+                    place = self.told.next;
+                }
             }
-            Standing::Stopped(stop) => format!(in alloc; "{} at {last}", stop_text(stop)),
-            Standing::Goes(Wait::None) => format!(in alloc; "still runs at {next}"),
             Standing::Goes(wait) => {
-                let wait = wait_text(alloc, machine, self.told.number, wait)?;
-                format!(in alloc; "{}, at {last}", wait.as_str())
+                tell_wait(machine, self.told.number, wait, errors);
+                if wait == Wait::None {
+                    place = self.told.next;
+                } else {
+                    errors.say(",");
+                }
             }
         }
+        tell_spot(&self.told, place, errors);
     }
 
-    /// The line that says how it stands: `job 1, FILE: HALT at LOOP+3, 12 steps`.
-    pub fn end_line(
+    /// Tells how it stands, in a line that begins with its number and the name of its source's file:
+    /// `job 1, FILE: HALT at LOOP+3, 12 steps`.
+    pub fn tell_end(
         &self,
-        alloc: Global,
         machine: &Machine,
+        file: &str,
         standing: Standing,
-    ) -> Result<String, AllocError> {
-        let text = self.standing_text(alloc, machine, standing)?;
-        let (number, file, steps) = (self.told.number, self.file, self.steps);
-        let unit = if steps == 1 { "step" } else { "steps" };
-        format!(in alloc; "job {number}, {file}: {}, {steps} {unit}\n", text.as_str())
+        errors: &mut PendingText,
+    ) {
+        errors.say_number("job ", u64::from(self.told.number), ", ");
+        errors.say(file);
+        errors.say(": ");
+        self.tell_standing(machine, standing, errors);
+        let unit = if self.steps == 1 {
+            " step\n"
+        } else {
+            " steps\n"
+        };
+        errors.say_number(", ", self.steps, unit);
     }
 }

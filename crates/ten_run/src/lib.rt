@@ -4,17 +4,24 @@
 
 mod asked;
 mod history;
+mod host;
 mod jobs;
+mod loading;
+mod looks;
 mod notes;
+mod pending_text;
+mod picture;
 mod program;
 mod running;
 mod session;
 mod terminal;
 mod texts;
+mod typing;
+mod waits;
 mod words;
 
 pub use asked::Asked;
-pub use program::{ten, unread_words};
+pub use host::{Host, Stream};
+pub use program::{not_begun, ten};
 pub use run_words::Refusal;
-pub use running::{Ran, run_sources};
 pub use words::read_words;

@@ -1,36 +1,44 @@
 //! What is told of a run while it goes on.
 
-use crate::jobs::{Look, RunningJob};
+use crate::asked::Asked;
+use crate::history::History;
+use crate::jobs::RunningJob;
+use crate::looks::Look;
+use crate::pending_text::PendingText;
 use ka_isa::{Family, classify, decode};
-use line_ports::{Answers, Failure};
 use lock_queue::Request;
-use lock_svg::RunCourse;
 use monitor::JobView;
 use run_machine::Machine;
 use run_notes::{
-    CallLook, Snapshot, WaitClocks, call_line, circle_line, circle_of, grant_lines, limit_line,
-    snapshot_of, step_line, time_limit_line,
+    Snapshot, ToldJob, WaitClocks, call_line, circle_line, circle_of, grant_lines, limit_line,
+    step_line, time_limit_line,
 };
-use script_io::ByteOut;
 use std::alloc::{AllocError, Global};
 
 /// What is told of a run while it goes on.
 #[derive(Drop)]
 pub struct Notes {
     /// Whether each step is told.
-    pub trace: bool,
+    trace: bool,
     /// Whether lock calls and grants are told.
-    pub locks: bool,
+    locks: bool,
     /// Whether the last steps of each job are kept.
-    pub history: bool,
+    history: bool,
     /// How long requests wait, where that is told.
-    pub clocks: Option<WaitClocks>,
-    /// What is seen of the locks, where that is drawn.
-    pub course: Option<RunCourse>,
-    /// Whether the locks may have changed since they were drawn last.
-    pub may_differ: bool,
+    clocks: Option<WaitClocks>,
     /// The requests for locks, as they were looked at last.
-    pub requests: Vec<Request>,
+    requests: Vec<Request>,
+    /// What is kept of the jobs, by number from 1 on, where something is told of their steps.
+    jobs: Vec<JobNotes>,
+}
+
+/// What is kept of a job.
+#[derive(Drop)]
+struct JobNotes {
+    /// What it does next.
+    look: Look,
+    /// Its last steps.
+    history: History,
 }
 
 /// Whether a step may have changed the requests for locks: it was a call, or its job goes on no longer.
@@ -44,183 +52,182 @@ fn may_change_requests(machine: &Machine, number: u8, before: &Snapshot) -> bool
     }
 }
 
+/// Tells of a job's lock call, if its turn was one.
+fn tell_call(machine: &Machine, tick: u64, number: u8, look: &Look, errors: &mut PendingText) {
+    if let Some(call) = &look.call {
+        if !look.snapshot.is_interrupted(machine, number) {
+            let line = call_line(errors.alloc, machine, tick, number, &look.snapshot, call);
+            errors.say_made(line);
+        }
+    }
+}
+
+/// Tells of the circle of waits that a job, which waits for locks since this step, has closed, if it
+/// has closed one.
+pub fn tell_circle(machine: &Machine, tick: u64, number: u8, errors: &mut PendingText) {
+    let alloc = errors.alloc;
+    match circle_of(alloc, machine, number) {
+        Ok(Some(circle)) => errors.say_made(circle_line(alloc, tick, machine, circle.as_slice())),
+        Ok(None) => {}
+        Err(_) => errors.fail(),
+    }
+}
+
+impl JobNotes {
+    /// Tells of a job's step, or keeps it among the last where steps are not told.
+    fn note_step(
+        &mut self,
+        machine: &Machine,
+        tick: u64,
+        job: &ToldJob,
+        is_told: bool,
+        errors: &mut PendingText,
+    ) {
+        let line = step_line(errors.alloc, machine, tick, job, &self.look.snapshot);
+        if is_told {
+            errors.say_made(line);
+            return;
+        }
+        let is_kept = match line {
+            Ok(line) => self.history.keep(line).is_ok(),
+            Err(_) => false,
+        };
+        if !is_kept {
+            errors.fail();
+        }
+    }
+}
+
 impl Notes {
+    /// What is asked for is told; nothing was seen yet.
+    pub fn new(alloc: Global, asked: &Asked<'_>) -> Self {
+        let clocks = match asked.waits {
+            Some(most) => Some(WaitClocks::new(alloc, most)),
+            None => None,
+        };
+        Notes {
+            trace: asked.trace,
+            locks: asked.locks,
+            history: asked.history > 0,
+            clocks,
+            requests: Vec::new(alloc),
+            jobs: Vec::new(alloc),
+        }
+    }
+
     /// Whether the requests for locks are looked at.
     fn looks_at_requests(&self) -> bool {
         self.locks || self.clocks.is_some()
     }
 
-    /// Whether each step is looked at.
-    fn looks_at_steps(&self) -> bool {
-        self.trace || self.history || self.looks_at_requests() || self.course.is_some()
-    }
-
-    /// What is kept of a job that has not run since, where something is told.
-    pub fn look(
-        &self,
-        alloc: Global,
-        machine: &Machine,
-        job: &RunningJob<'_>,
-    ) -> Result<Option<Look>, AllocError> {
-        if !self.looks_at_steps() {
-            return Ok(None);
-        }
-        let number = job.told.number;
-        let snapshot = snapshot_of(machine, number, job.told.next);
-        let call = if self.locks {
-            CallLook::of(alloc, machine, number, &snapshot)?
-        } else {
-            None
-        };
-        Ok(Some(Look { snapshot, call }))
-    }
-
-    /// Tells of a turn of a job, as it was looked at before.
-    pub fn tell<E: ByteOut + Drop>(
+    /// Looks at all jobs, of which none has run, where something is told or drawn of their steps.
+    pub fn look_at_all(
         &mut self,
         alloc: Global,
         machine: &Machine,
-        tick: u64,
-        job: &mut RunningJob<'_>,
-        errors: &mut Answers<E>,
-    ) -> Result<(), Failure> {
-        let Some(look) = &job.look else {
-            return Ok(());
-        };
-        if self.trace || self.history {
-            let line = step_line(alloc, machine, tick, &job.told, &look.snapshot)?;
-            if self.trace {
-                errors.write(line.as_str().as_bytes())?;
-            } else {
-                job.history.keep(line)?;
+        jobs: &[RunningJob],
+        asked: &Asked<'_>,
+    ) -> Result<(), AllocError> {
+        let is_told = self.trace || self.history || self.looks_at_requests();
+        if is_told || asked.picture.is_some() {
+            for job in jobs {
+                let look = Look::at(alloc, machine, &job.told, self.locks)?;
+                let history = History::new(alloc, asked.history);
+                self.jobs.push(JobNotes { look, history })?;
             }
         }
-        let number = job.told.number;
-        if self.locks {
-            tell_call(alloc, machine, tick, number, look, errors)?;
-        }
-        if may_change_requests(machine, number, &look.snapshot) {
-            self.tell_grants(alloc, machine, tick, errors)?;
-        }
         Ok(())
+    }
+
+    /// What is kept of a job.
+    fn notes_of(&mut self, number: u8) -> Option<&mut JobNotes> {
+        self.jobs.get_mut(usize::from(number).saturating_sub(1))
+    }
+
+    /// Looks at what a job does next.
+    pub fn look_at(&mut self, machine: &Machine, job: &ToldJob, errors: &mut PendingText) {
+        let with_calls = self.locks;
+        if let Some(notes) = self.notes_of(job.number) {
+            match Look::at(errors.alloc, machine, job, with_calls) {
+                Ok(look) => notes.look = look,
+                Err(_) => errors.fail(),
+            }
+        }
+    }
+
+    /// Tells of a turn of a job, as it was looked at before, and says whether the requests for locks may
+    /// have changed in it, where that is looked at.
+    pub fn tell_turn(
+        &mut self,
+        machine: &Machine,
+        tick: u64,
+        job: &ToldJob,
+        errors: &mut PendingText,
+    ) -> bool {
+        let (trace, history, locks) = (self.trace, self.history, self.locks);
+        let Some(notes) = self.notes_of(job.number) else {
+            return false;
+        };
+        if trace || history {
+            notes.note_step(machine, tick, job, trace, errors);
+        }
+        if locks {
+            tell_call(machine, tick, job.number, &notes.look, errors);
+        }
+        may_change_requests(machine, job.number, &notes.look.snapshot)
     }
 
     /// Tells of a job whose wait for locks has ended with its limit of time: how it stands now.
-    pub fn tell_limit<E: ByteOut + Drop>(
-        &self,
-        alloc: Global,
-        tick: u64,
-        job: &RunningJob<'_>,
-        after: &JobView,
-        errors: &mut Answers<E>,
-    ) -> Result<(), Failure> {
+    pub fn tell_limit(&self, tick: u64, job: &ToldJob, after: &JobView, errors: &mut PendingText) {
+        let alloc = errors.alloc;
         if self.trace {
-            let line = time_limit_line(alloc, tick, &job.told, after)?;
-            errors.write(line.as_str().as_bytes())?;
+            errors.say_made(time_limit_line(alloc, tick, job, after));
         }
         if self.locks {
-            let line = limit_line(alloc, tick, job.told.number, self.requests.as_slice())?;
-            errors.write(line.as_str().as_bytes())?;
+            let requests = self.requests.as_slice();
+            errors.say_made(limit_line(alloc, tick, job.number, requests));
         }
-        Ok(())
-    }
-
-    /// Draws how the locks stand behind the step of this tick, where that is asked for.
-    pub fn draw(&mut self, alloc: Global, machine: &Machine, tick: u64) -> Result<(), AllocError> {
-        if let Some(course) = &mut self.course {
-            course.look(alloc, tick, self.may_differ, machine.locks())?;
-            self.may_differ = false;
-        }
-        Ok(())
     }
 
     /// Tells of the grants that were made since the requests were looked at last, which may have changed.
-    pub fn tell_grants<E: ByteOut + Drop>(
-        &mut self,
-        alloc: Global,
-        machine: &Machine,
-        tick: u64,
-        errors: &mut Answers<E>,
-    ) -> Result<(), Failure> {
-        self.may_differ = true;
+    pub fn tell_grants(&mut self, machine: &Machine, tick: u64, errors: &mut PendingText) {
         if !self.looks_at_requests() {
-            return Ok(());
+            return;
         }
-        let requests = machine.requests(alloc)?;
+        let alloc = errors.alloc;
+        let Ok(requests) = machine.requests(alloc) else {
+            errors.fail();
+            return;
+        };
         let (before, now) = (self.requests.as_slice(), requests.as_slice());
         if self.locks {
-            let lines = grant_lines(alloc, tick, before, now)?;
-            errors.write(lines.as_str().as_bytes())?;
+            errors.say_made(grant_lines(alloc, tick, before, now));
         }
         if let Some(clocks) = &mut self.clocks {
-            let lines = clocks.note(alloc, tick, before, now)?;
-            errors.write(lines.as_str().as_bytes())?;
+            errors.say_made(clocks.note(alloc, tick, before, now));
         }
         self.requests = requests;
-        Ok(())
     }
 
     /// Tells of jobs that wait for locks for longer than is to be told.
-    pub fn tell_overdue<E: ByteOut + Drop>(
-        &mut self,
-        alloc: Global,
-        machine: &Machine,
-        tick: u64,
-        errors: &mut Answers<E>,
-    ) -> Result<(), Failure> {
+    pub fn tell_overdue(&mut self, machine: &Machine, tick: u64, errors: &mut PendingText) {
         if let Some(clocks) = &mut self.clocks {
             let requests = self.requests.as_slice();
-            let lines = clocks.overdue(alloc, tick, machine, requests)?;
-            errors.write(lines.as_str().as_bytes())?;
+            errors.say_made(clocks.overdue(errors.alloc, tick, machine, requests));
         }
-        Ok(())
     }
 
     /// Tells how long requests waited, by lock.
-    pub fn tell_table<E: ByteOut + Drop>(
-        &mut self,
-        alloc: Global,
-        tick: u64,
-        errors: &mut Answers<E>,
-    ) -> Result<(), Failure> {
+    pub fn tell_table(&mut self, tick: u64, errors: &mut PendingText) {
         if let Some(clocks) = &mut self.clocks {
-            let lines = clocks.table(alloc, tick, self.requests.as_slice())?;
-            errors.write(lines.as_str().as_bytes())?;
-        }
-        Ok(())
-    }
-}
-
-/// Tells of a job's lock call, if its turn was one.
-fn tell_call<E: ByteOut + Drop>(
-    alloc: Global,
-    machine: &Machine,
-    tick: u64,
-    number: u8,
-    look: &Look,
-    errors: &mut Answers<E>,
-) -> Result<(), Failure> {
-    if let Some(call) = &look.call {
-        if !look.snapshot.is_interrupted(machine, number) {
-            let line = call_line(alloc, machine, tick, number, &look.snapshot, call)?;
-            errors.write(line.as_str().as_bytes())?;
+            errors.say_made(clocks.table(errors.alloc, tick, self.requests.as_slice()));
         }
     }
-    Ok(())
-}
 
-/// Tells of the circle of waits that a job, which waits for locks since this step, has closed, if it
-/// has closed one.
-pub fn tell_circle<E: ByteOut + Drop>(
-    alloc: Global,
-    machine: &Machine,
-    tick: u64,
-    number: u8,
-    errors: &mut Answers<E>,
-) -> Result<(), Failure> {
-    if let Some(circle) = circle_of(alloc, machine, number)? {
-        let line = circle_line(alloc, tick, machine, circle.as_slice())?;
-        errors.write(line.as_str().as_bytes())?;
+    /// Tells the last steps of a job, where these are kept.
+    pub fn tell_history(&mut self, number: u8, errors: &mut PendingText) {
+        if let Some(notes) = self.notes_of(number) {
+            notes.history.tell(errors);
+        }
     }
-    Ok(())
 }

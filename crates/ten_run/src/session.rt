@@ -1,19 +1,21 @@
-//! A run of programs.
-ghost use Rattle.std.specs.Prelude.{◌≡◌, length, min};
-ghost use Rattle.word36.specs.declared.sizes.TheConstants.{JOBS};
-ghost use Rattle.run_facts.specs.Typing.{line_for, text_for};
+//! A run of programs: its jobs, and what is typed, told and drawn.
 
-use crate::jobs::RunningJob;
+use crate::asked::Asked;
+use crate::jobs::{RunningJob, standing_of};
+use crate::loading::{assemble_all, log_in_all};
 use crate::notes::{Notes, tell_circle};
-use job_sched::Wait;
-use line_ports::{Answers, Failure, LineReader};
-use monitor::{Answer, Event, RefusedEvent};
-use run_facts::{Target, target_of};
+use crate::pending_text::PendingText;
+use crate::picture::Picture;
+use crate::terminal::Terminal;
+use crate::typing::Typing;
+use crate::waits::Waits;
+use monitor::{Answer, Event};
+use run_facts::{Ending, has_ended_well, status_of};
 use run_machine::Machine;
-use script_io::{ByteIn, ByteOut};
-use std::alloc::Global;
-use tty_lines::Char7;
-use word36::{Image, JOBS, OUTPUT_RING, TAKEN_AT_ONCE};
+use run_notes::has_circle;
+use source_labels::Source;
+use std::alloc::{AllocError, Global};
+use word36::{Image, OUTPUT_RING, TAKEN_AT_ONCE};
 
 /// A step, and the tick behind it.
 const ROUND: [Event<'static>; 2] = [Event::Step, Event::Tick];
@@ -21,295 +23,234 @@ const ROUND: [Event<'static>; 2] = [Event::Step, Event::Tick];
 /// So many Take events empty an output ring that is full.
 const MOST_TAKES: usize = OUTPUT_RING / TAKEN_AT_ONCE + 1;
 
-/// A machine with its jobs, and the ports that their terminals are connected to.
+/// A run of programs: its jobs, and what is typed, told and drawn. The machine stands beside it.
 #[derive(Drop)]
-pub struct Session<'a, R: ByteIn + Drop, W: ByteOut + Drop> {
-    /// Where memory comes from.
-    pub alloc: Global,
-    /// The machine.
-    pub machine: Machine,
-    /// Its jobs, by number from 1 on.
-    pub jobs: Vec<RunningJob<'a>>,
-    /// The input.
-    pub input: LineReader<R>,
-    /// The output.
-    pub output: Answers<W>,
-    /// The line of the input that is being typed.
-    pub text: Vec<u8>,
-    /// The terminal line where it is typed.
-    pub line: u8,
-    /// What of it was not typed yet stands from this place on.
-    pub typed: usize,
-    /// Whether a job may wait for characters.
-    pub is_awaited: bool,
+pub struct Session {
+    /// The jobs, by number from 1 on.
+    pub jobs: Vec<RunningJob>,
+    /// What is typed at their terminals.
+    pub typing: Typing,
+    /// What they have typed out.
+    pub output: PendingText,
+    /// What is told.
+    pub errors: PendingText,
     /// Whether a job may wait for locks with a limit of time.
-    pub is_limited: bool,
+    is_limited: bool,
     /// How many ticks went by.
-    pub ticks: u64,
+    ticks: u64,
     /// What is told of the run while it goes on.
-    pub notes: Notes,
+    notes: Notes,
+    /// What is drawn of it.
+    picture: Picture,
 }
 
-/// Types a byte at a line; false where there is no room for it. A byte that is no character is left
-/// out.
-fn type_byte(machine: &mut Machine, line: u8, byte: u8) -> bool {
-    // An event may hold an image, of which this one has none: the prover wants its type to be named.
+/// A job's turn.
+#[derive(Clone, Copy)]
+pub struct Turn {
+    /// The number of the job.
+    job: u8,
+    /// What it waits for since then.
+    waits: Waits,
+}
+
+/// Takes what a job has typed out.
+fn take_output(machine: &mut Machine, terminal: &mut Terminal, output: &mut PendingText) {
+    // An event may hold an image, of which these have none: the prover wants its type to be named.
     let _image: Option<&Image> = None;
-    match Char7::try_new(byte) {
-        None => true,
-        Some(character) => !matches!(
-            machine.event(&Event::Typed(line, character)),
-            Answer::Refused(RefusedEvent::Full)
-        ),
-    }
-}
-
-/// Whether a job waits for characters.
-fn waits_for_input(machine: &Machine, number: u8) -> bool {
-    match machine.job(number) {
-        Some(job) => job.stop.is_none() && matches!(job.wait, Wait::Char | Wait::Line),
-        None => false,
-    }
-}
-
-/// Whether a job waits for locks with a limit of time. That goes down while the job is stopped, too.
-fn is_limited(machine: &Machine, number: u8) -> bool {
-    match machine.job(number) {
-        Some(job) => matches!(job.wait, Wait::Queue(limit, _) if limit > 0),
-        None => false,
-    }
-}
-
-/// Whether a job waits for locks.
-fn waits_for_locks(machine: &Machine, number: u8) -> bool {
-    match machine.job(number) {
-        Some(job) => job.stop.is_none() && matches!(job.wait, Wait::Queue(_, _)),
-        None => false,
-    }
-}
-
-/// Whether a job sleeps.
-fn sleeps(machine: &Machine, number: u8) -> bool {
-    match machine.job(number) {
-        Some(job) => job.stop.is_none() && matches!(job.wait, Wait::Sleep(_)),
-        None => false,
-    }
-}
-
-/// Where a line of the input is typed, by the jobs that there are: each has a terminal line.
-fn target_among<'t>(jobs: &[RunningJob<'_>], text: &'t [u8]) -> Target<'t>
-    ensures line { result.line ≡ line_for (min (length jobs.now) JOBS) text.now }
-    ensures text { result.text.now ≡ text_for (min (length jobs.now) JOBS) text.now }
-{
-    target_of(jobs.len().min(usize::from(JOBS)) as u8, text)
-}
-
-impl<R: ByteIn + Drop, W: ByteOut + Drop> Session<'_, R, W> {
-    /// Looks at all jobs, of which none has run.
-    pub fn look_at_all(&mut self) -> Result<(), Failure> {
-        for job in self.jobs.as_mut_slice().iter_mut() {
-            job.look = self.notes.look(self.alloc, &self.machine, job)?;
+    for _ in 0..MOST_TAKES {
+        let Answer::Text(taken) = machine.event(&Event::Take(terminal.line, TAKEN_AT_ONCE)) else {
+            return;
+        };
+        let text = taken.as_slice();
+        if text.is_empty() {
+            return;
         }
-        Ok(())
+        terminal.print(text, output);
+    }
+}
+
+impl Session {
+    /// A run of which is told and drawn what is asked for, and that has no jobs yet.
+    pub fn new(alloc: Global, asked: &Asked<'_>) -> Self {
+        Session {
+            jobs: Vec::new(alloc),
+            typing: Typing::new(alloc),
+            output: PendingText::new(alloc),
+            errors: PendingText::new(alloc),
+            is_limited: false,
+            ticks: 0,
+            notes: Notes::new(alloc, asked),
+            picture: Picture::new(alloc, asked.picture.is_some()),
+        }
     }
 
-    /// Makes at most so many steps, until no job goes on, and says whether it ended since it made them
-    /// all; what is told of them goes to `errors`.
-    pub fn run<E: ByteOut + Drop>(
+    /// Ends the run, and gives back the memory that it and its machine have.
+    pub fn end(self, _machine: Machine) {}
+
+    /// Assembles sources, and logs a job in for each of them; false where one is refused, which is told.
+    pub fn begin(
         &mut self,
-        most: u64,
-        errors: &mut Answers<E>,
-    ) -> Result<bool, Failure> {
-        for _ in 0..most {
-            if !self.round(errors)? {
-                self.flush()?;
-                return Ok(false);
-            }
+        machine: &mut Machine,
+        sources: &[Source<'_>],
+        asked: &Asked<'_>,
+    ) -> bool {
+        let Some(programs) = assemble_all(sources, &mut self.errors) else {
+            return false;
+        };
+        if !log_in_all(machine, programs, &mut self.jobs, &mut self.errors) {
+            return false;
         }
-        self.flush()?;
-        Ok(true)
+        let (alloc, jobs) = (self.errors.alloc, self.jobs.as_slice());
+        if self.notes.look_at_all(alloc, machine, jobs, asked).is_err() {
+            self.errors.fail();
+        }
+        true
     }
 
-    /// Makes a step, with a tick behind it; false where no job can go on.
-    fn round<E: ByteOut + Drop>(&mut self, errors: &mut Answers<E>) -> Result<bool, Failure> {
-        self.type_awaited()?;
-        match self.machine.event(&ROUND[0]) {
-            Answer::Ran(number) => {
-                self.note_step(number)?;
-                self.tell_step(number, errors)?;
-                if waits_for_locks(&self.machine, number) {
-                    tell_circle(self.alloc, &self.machine, self.ticks, number, errors)?;
-                }
-            }
-            _ => {
-                if !self.can_go_on() {
-                    return Ok(false);
+    /// Makes a step, and gives whose turn it was; what that job has typed out is to be written then.
+    pub fn step(&mut self, machine: &mut Machine) -> Option<Turn> {
+        match machine.event(&ROUND[0]) {
+            Answer::Ran(number) => Some(self.note_step(machine, number)),
+            _ => None,
+        }
+    }
+
+    /// A job ran: counts the step, and takes what it typed out.
+    fn note_step(&mut self, machine: &mut Machine, number: u8) -> Turn {
+        let mut turn = Turn {
+            job: number,
+            waits: Waits::NONE,
+        };
+        let Some(job) = self.jobs.get_mut(usize::from(number).saturating_sub(1)) else {
+            return turn;
+        };
+        job.steps = job.steps.saturating_add(1);
+        job.told.last = job.told.next;
+        if let Some(view) = machine.job(number) {
+            job.told.next = view.pc;
+            turn.waits = Waits::of(&view);
+        }
+        self.typing.is_awaited |= turn.waits.input;
+        self.is_limited |= turn.waits.limit;
+        take_output(machine, &mut job.terminal, &mut self.output);
+        if turn.waits.input {
+            job.terminal.flush(&mut self.output);
+        }
+        turn
+    }
+
+    /// Tells of the turn behind a step, and has a tick go by; false where no job can go on.
+    pub fn end_round(&mut self, machine: &mut Machine, turn: Option<Turn>) -> bool {
+        match turn {
+            Some(turn) => self.tell_turn(machine, turn),
+            None => {
+                if !self.can_go_on(machine) {
+                    return false;
                 }
             }
         }
-        self.notes.draw(self.alloc, &self.machine, self.ticks)?;
-        self.machine.event(&ROUND[1]);
+        let alloc = self.errors.alloc;
+        if self.picture.draw(alloc, machine, self.ticks).is_err() {
+            self.errors.fail();
+        }
+        machine.event(&ROUND[1]);
         self.ticks = self.ticks.saturating_add(1);
         if self.is_limited {
-            self.note_limits(errors)?;
+            self.note_limits(machine);
         }
         self.notes
-            .tell_overdue(self.alloc, &self.machine, self.ticks, errors)?;
-        Ok(true)
+            .tell_overdue(machine, self.ticks, &mut self.errors);
+        true
+    }
+
+    /// Tells of a job's turn, and looks at what it does next.
+    fn tell_turn(&mut self, machine: &Machine, turn: Turn) {
+        let tick = self.ticks;
+        if let Some(job) = self.jobs.get(usize::from(turn.job).saturating_sub(1)) {
+            let told = &job.told;
+            let may_differ = self.notes.tell_turn(machine, tick, told, &mut self.errors);
+            self.notes.look_at(machine, told, &mut self.errors);
+            if may_differ {
+                self.tell_grants(machine);
+            }
+        }
+        if turn.waits.locks {
+            tell_circle(machine, tick, turn.job, &mut self.errors);
+        }
+    }
+
+    /// The requests for locks may have changed: tells of grants, and has the locks drawn anew.
+    fn tell_grants(&mut self, machine: &Machine) {
+        self.picture.may_differ = true;
+        self.notes
+            .tell_grants(machine, self.ticks, &mut self.errors);
     }
 
     /// A tick went by while jobs wait for locks with limits of time: tells of those whose limit ended,
     /// which a tick sets back to the error return of their call, and looks at what they do next.
-    fn note_limits<E: ByteOut + Drop>(&mut self, errors: &mut Answers<E>) -> Result<(), Failure> {
-        let tick = self.ticks;
+    fn note_limits(&mut self, machine: &Machine) {
         let (mut are_limited, mut has_ended) = (false, false);
         for job in self.jobs.as_mut_slice().iter_mut() {
-            let number = job.told.number;
-            let Some(view) = self.machine.job(number) else {
+            let Some(view) = machine.job(job.told.number) else {
                 continue;
             };
-            are_limited |= is_limited(&self.machine, number);
+            are_limited |= Waits::of(&view).limit;
             if view.pc != job.told.next {
                 has_ended = true;
                 job.told.next = view.pc;
-                self.notes.tell_limit(self.alloc, tick, job, &view, errors)?;
-                job.look = self.notes.look(self.alloc, &self.machine, job)?;
+                let (told, errors) = (&job.told, &mut self.errors);
+                self.notes.tell_limit(self.ticks, told, &view, errors);
+                self.notes.look_at(machine, told, errors);
             }
         }
         self.is_limited = are_limited;
         if has_ended {
-            self.notes
-                .tell_grants(self.alloc, &self.machine, tick, errors)?;
+            self.tell_grants(machine);
         }
-        Ok(())
-    }
-
-    /// Tells of a job's step, and looks at what it does next.
-    fn tell_step<E: ByteOut + Drop>(
-        &mut self,
-        number: u8,
-        errors: &mut Answers<E>,
-    ) -> Result<(), Failure> {
-        let Some(job) = self.jobs.get_mut(usize::from(number).saturating_sub(1)) else {
-            return Ok(());
-        };
-        let tick = self.ticks;
-        self.notes
-            .tell(self.alloc, &self.machine, tick, job, errors)?;
-        job.look = self.notes.look(self.alloc, &self.machine, job)?;
-        Ok(())
-    }
-
-    /// A job ran: counts the step, and writes what it typed out.
-    fn note_step(&mut self, number: u8) -> Result<(), Failure> {
-        let waits = waits_for_input(&self.machine, number);
-        self.is_awaited |= waits;
-        self.is_limited |= is_limited(&self.machine, number);
-        let Some(job) = self.jobs.get_mut(usize::from(number).saturating_sub(1)) else {
-            return Ok(());
-        };
-        job.steps = job.steps.saturating_add(1);
-        job.told.last = job.told.next;
-        if let Some(view) = self.machine.job(number) {
-            job.told.next = view.pc;
-        }
-        let line = job.terminal.line;
-        for _ in 0..MOST_TAKES {
-            let Answer::Text(taken) = self.machine.event(&Event::Take(line, TAKEN_AT_ONCE)) else {
-                break;
-            };
-            let text = taken.as_slice();
-            if text.is_empty() {
-                break;
-            }
-            job.terminal.print(self.alloc, text, &mut self.output)?;
-        }
-        if waits {
-            job.terminal.flush(self.alloc, &mut self.output)?;
-        }
-        Ok(())
-    }
-
-    /// Types what there is of the line in hand, as far as there is room for it.
-    fn type_on(&mut self) {
-        let rest = self.text.len().saturating_sub(self.typed);
-        for _ in 0..rest {
-            let Some(byte) = self.text.as_slice().get(self.typed).copied() else {
-                return;
-            };
-            if !type_byte(&mut self.machine, self.line, byte) {
-                return;
-            }
-            self.typed = self.typed.saturating_add(1);
-        }
-    }
-
-    /// Whether the line in hand is typed.
-    fn is_typed(&self) -> bool {
-        self.typed >= self.text.len()
-    }
-
-    /// Takes the next line of the input in hand; false where none comes.
-    fn take_line(&mut self) -> Result<bool, Failure> {
-        let mut line = Vec::new(self.alloc);
-        if !self.input.next_text(&mut line)? {
-            return Ok(false);
-        }
-        line.push(b'\n')?;
-        let target = target_among(self.jobs.as_slice(), line.as_slice());
-        self.line = target.line;
-        self.text.clear();
-        self.text.extend_from_slice(target.text)?;
-        self.typed = 0;
-        Ok(true)
-    }
-
-    /// Types lines of the input as long as jobs wait for characters, and lines come.
-    fn type_awaited(&mut self) -> Result<(), Failure> {
-        self.type_on();
-        for _ in 0..u64::MAX {
-            if !self.is_awaited || !self.is_typed() || self.input.has_ended() {
-                return Ok(());
-            }
-            let machine = &self.machine;
-            self.is_awaited = self
-                .jobs
-                .as_slice()
-                .iter()
-                .any(|job| waits_for_input(machine, job.told.number));
-            if !self.is_awaited || !self.take_line()? {
-                return Ok(());
-            }
-            self.type_on();
-        }
-        Ok(())
     }
 
     /// Whether the machine, of which no job is ready, can go on: a job sleeps, or waits for locks with a
-    /// limit of time, or waits for characters of which more may come. Where what was typed elsewhere
-    /// finds no room, the rest of it is lost.
-    fn can_go_on(&mut self) -> bool {
-        let machine = &self.machine;
-        let jobs = self.jobs.as_slice();
-        let goes_on = jobs.iter().any(|job| {
-            sleeps(machine, job.told.number) || is_limited(machine, job.told.number)
-        });
-        if goes_on {
-            return true;
-        }
-        let is_awaited = jobs
-            .iter()
-            .any(|job| waits_for_input(machine, job.told.number));
-        self.typed = self.text.len();
-        self.is_awaited = is_awaited;
-        is_awaited && !self.input.has_ended()
+    /// limit of time, or waits for characters of which more may come.
+    fn can_go_on(&mut self, machine: &Machine) -> bool {
+        let waits = Waits::of_all(machine, self.jobs.as_slice());
+        waits.sleep || waits.limit || self.typing.goes_on(waits.input)
     }
 
-    /// Writes what there is of lines that are not whole.
-    fn flush(&mut self) -> Result<(), Failure> {
+    /// Has what there is of lines that are not whole written, and ends them.
+    pub fn flush(&mut self) {
         for job in self.jobs.as_mut_slice().iter_mut() {
-            job.terminal.flush(self.alloc, &mut self.output)?;
+            job.terminal.flush(&mut self.output);
         }
-        Ok(())
+    }
+
+    /// Tells how each job stands, and gives the exit status; the run was cut where it made as many steps
+    /// as it was to make. The files are those of the jobs' sources.
+    pub fn tell_ends(&mut self, machine: &Machine, files: &[&str], is_cut: bool) -> u8 {
+        if !self.output.is_line_whole() {
+            self.errors.end_line();
+        }
+        self.notes.tell_table(self.ticks, &mut self.errors);
+        let mut standings = Vec::new(self.errors.alloc);
+        for (job, file) in self.jobs.as_slice().iter().zip(files) {
+            let standing = standing_of(machine, job.told.number);
+            if !has_ended_well(standing) {
+                self.notes.tell_history(job.told.number, &mut self.errors);
+            }
+            job.tell_end(machine, file, standing, &mut self.errors);
+            if standings.push(standing).is_err() {
+                self.errors.fail();
+            }
+        }
+        let ending = Ending {
+            has_circle: has_circle(machine),
+            is_cut,
+        };
+        status_of(ending, standings.as_slice())
+    }
+
+    /// The picture of the run, as SVG, where that is asked for.
+    pub fn take_svg(&mut self, machine: &Machine) -> Result<Option<String>, AllocError> {
+        self.picture
+            .take_svg(self.errors.alloc, machine, self.ticks)
     }
 }

@@ -1,9 +1,7 @@
 //! What jobs type out.
 
+use crate::pending_text::PendingText;
 use arrayvec::ArrayVec;
-use line_ports::{Answers, Failure};
-use script_io::ByteOut;
-use std::alloc::Global;
 use tty_lines::Char7;
 
 /// A line of several terminals that is longer is written in pieces of this length.
@@ -31,12 +29,7 @@ impl Terminal {
     }
 
     /// Writes characters as they come or, where there are several terminals, line by line.
-    pub fn print<W: ByteOut + Drop>(
-        &mut self,
-        alloc: Global,
-        text: &[Char7],
-        out: &mut Answers<W>,
-    ) -> Result<(), Failure> {
+    pub fn print(&mut self, text: &[Char7], output: &mut PendingText) {
         for character in text {
             let byte = character.number();
             let is_whole = self.is_numbered && byte == b'\n';
@@ -44,44 +37,30 @@ impl Terminal {
                 let _ = self.partial.try_push(byte);
             }
             if is_whole || self.partial.is_full() {
-                self.end_line(alloc, out)?;
+                self.end_line(output);
             }
         }
         if !self.is_numbered {
-            self.end_line(alloc, out)?;
+            self.end_line(output);
         }
-        Ok(())
     }
 
     /// Writes what there is of a line that is not whole, and ends it.
-    pub fn flush<W: ByteOut + Drop>(
-        &mut self,
-        alloc: Global,
-        out: &mut Answers<W>,
-    ) -> Result<(), Failure> {
+    pub fn flush(&mut self, output: &mut PendingText) {
         if !self.partial.is_empty() {
-            self.end_line(alloc, out)?;
+            self.end_line(output);
         }
-        Ok(())
     }
 
     /// Writes the line, with its number and an end where there are several terminals.
-    fn end_line<W: ByteOut + Drop>(
-        &mut self,
-        alloc: Global,
-        out: &mut Answers<W>,
-    ) -> Result<(), Failure> {
+    fn end_line(&mut self, output: &mut PendingText) {
         if self.is_numbered {
-            let mut whole = Vec::new(alloc);
-            let number = format!(in alloc; "{}: ", self.line)?;
-            whole.extend_from_slice(number.as_str().as_bytes())?;
-            whole.extend_from_slice(self.partial.as_slice())?;
-            whole.push(b'\n')?;
-            out.write(whole.as_slice())?;
+            output.say_number("", u64::from(self.line), ": ");
+            output.add(self.partial.as_slice());
+            output.end_line();
         } else {
-            out.write(self.partial.as_slice())?;
+            output.add(self.partial.as_slice());
         }
         self.partial.clear();
-        Ok(())
     }
 }

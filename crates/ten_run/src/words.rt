@@ -8,7 +8,6 @@ use run_words::{
     number_of, refused, with_files,
 };
 use std::alloc::{AllocError, Global};
-use std::convert::AsStr;
 
 /// The most steps that `--steps` takes.
 const MOST_STEPS: u64 = 1_000_000_000_000;
@@ -20,15 +19,23 @@ const MOST_HISTORY: u64 = 10_000;
 const PICTURE_END: &str = ".svg";
 
 /// What the words, which begin with the program's name, ask for.
-pub fn read_words<'a, S: AsStr>(alloc: Global, words: &'a [S]) -> Result<Asked<'a>, Refusal> {
-    let mut command = match ten_command(alloc) {
-        Ok(command) => command,
-        Err(_) => return Err(Refusal::Memory),
-    };
-    let matches = matches_of(&mut command, words)?;
+pub fn read_words<'a>(alloc: Global, words: &'a [String]) -> Result<Asked<'a>, Refusal> {
+    match ten_command(alloc) {
+        Ok(mut command) => read_by(alloc, &mut command, words),
+        Err(_) => Err(Refusal::Memory),
+    }
+}
+
+/// What the words ask for by a command line.
+fn read_by<'a>(
+    alloc: Global,
+    command: &mut Command<'a>,
+    words: &'a [String],
+) -> Result<Asked<'a>, Refusal> {
+    let matches = matches_of(command, words)?;
     match read(alloc, &matches) {
         Ok(asked) => Ok(asked),
-        Err(wrong) => Err(refused(alloc, &mut command, wrong)),
+        Err(wrong) => Err(refused(alloc, command, wrong)),
     }
 }
 

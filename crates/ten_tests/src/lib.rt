@@ -1,10 +1,8 @@
-//! Tests of programs that are run in one command, over ports in memory.
+//! Tests of programs that are run in one command, over a host in memory.
 #![tactic(auto)]
 
 #[cfg(test)]
-mod helps;
-#[cfg(test)]
-mod labels;
+mod desk;
 #[cfg(test)]
 mod pictures;
 #[cfg(test)]
@@ -13,5 +11,3 @@ mod ports;
 mod programs;
 #[cfg(test)]
 mod rows;
-#[cfg(test)]
-mod words;

@@ -91,3 +91,22 @@ BLK:    1,,5
         0
         END     140
 ";
+
+/// Takes the lock X for more than 2,000 ticks.
+pub const KEEPER: &str = "\
+        MOVE    1,[BLK]
+        ENQ.    1,
+        HALT
+        MOVEI   2,44
+        SLEEP   2,
+        MOVSI   1,1
+        DEQ.    1,
+        HALT
+        EXIT
+BLK:    1,,5
+        0,,7
+        777777
+        POINT   7,[ASCIZ /X/]
+        0
+        END     140
+";

@@ -1,33 +1,45 @@
-//! A run, and what it must write.
+//! A run, and what must come of it.
 
-use line_ports::Answers;
+use crate::desk::Desk;
+use line_ports::{Answers, LineReader};
 use script_io::{TestIn, TestOut};
-use source_labels::Source;
-use std::alloc::Global;
+use std::alloc::{AllocError, Global};
 use std::process::Abort;
 use std::str;
-use ten_run::{Ran, read_words, run_sources};
+use ten_run::ten;
 
 /// Room for an output.
-pub const ROOM: usize = 2048;
+const ROOM: usize = 2048;
 
-/// A run: the words behind the program's name, of which those that name no option are files, a source
-/// for each file, the input, and what must come of it.
-#[derive(Clone, Copy, Debug)]
-pub struct Row<'a> {
-    pub words: &'a [&'a str],
-    pub sources: &'a [&'a str],
-    pub input: &'a str,
-    pub output: &'a str,
-    pub told: &'a str,
+/// A run, and what must come of it.
+#[derive(Clone, Copy)]
+pub struct Row {
+    /// The words, which begin with the program's name.
+    pub words: &'static [&'static str],
+    /// The files that there are: their names and texts.
+    pub files: &'static [(&'static str, &'static str)],
+    /// The input.
+    pub input: &'static str,
+    /// The calls of ports that pass.
+    pub calls: Calls,
+    /// What is typed out.
+    pub output: &'static str,
+    /// What is told.
+    pub told: &'static str,
+    /// The exit status.
     pub status: u8,
+    /// Parts that the picture of the run has, in this order; none where no picture is written.
+    pub picture: &'static [&'static str],
 }
 
 /// How many calls of a port pass before the one that fails.
-#[derive(Clone, Copy, Debug)]
+#[derive(Clone, Copy)]
 pub struct Calls {
+    /// Of the input.
     pub reader: u64,
+    /// Of the output.
     pub writer: u64,
+    /// Of what is told.
     pub errors: u64,
 }
 
@@ -38,65 +50,69 @@ pub const GOES: Calls = Calls {
     errors: u64::MAX,
 };
 
-/// What came of a run, or nothing where it was cut short. Its input comes two bytes at a time, so that a
-/// line, or a CR and its LF, may come in two parts.
-pub fn outcome_of(
-    alloc: Global,
-    row: &Row,
-    calls: Calls,
-    room: &mut [u8],
-    told: &mut [u8],
-) -> Option<Ran> {
-    let asked = read_words(alloc, row.words).ok()?;
-    let mut sources = Vec::new(alloc);
-    for (file, text) in asked.files.as_slice().iter().zip(row.sources) {
-        let text = Vec::from_slice(alloc, text.as_bytes()).ok()?;
-        sources.push(Source { file: *file, text }).ok()?;
+/// The words of a command line, each with memory of its own.
+fn words_in(alloc: Global, texts: &[&str]) -> Result<Vec<String>, AllocError> {
+    let mut words = Vec::new(alloc);
+    for text in texts {
+        words.push(String::from_str(alloc, text)?)?;
     }
-    let reader = TestIn::new(row.input.as_bytes(), 2, calls.reader);
-    let writer = TestOut::new(room, 3, calls.writer);
-    let mut errors = Answers::new(TestOut::new(told, 100, calls.errors));
-    run_sources(
-        alloc,
-        &asked,
-        sources.as_slice(),
-        reader,
-        writer,
-        &mut errors,
-    )
-    .ok()
+    Ok(words)
 }
 
-/// The status of a run, or nothing where it was cut short.
-pub fn status_of(
+/// Makes a run, and gives its status. Its input comes two bytes at a time, so that a line, or a CR and its
+/// LF, may come in two parts; its output goes three bytes at a time.
+fn status_of(
     alloc: Global,
     row: &Row,
-    calls: Calls,
-    room: &mut [u8],
+    output: &mut [u8],
     told: &mut [u8],
-) -> Option<u8> {
-    outcome_of(alloc, row, calls, room, told).map(|ran| ran.status)
+    written: &mut Vec<u8>,
+) -> Result<u8, AllocError> {
+    let words = words_in(alloc, row.words)?;
+    let reader = TestIn::new(row.input.as_bytes(), 2, row.calls.reader);
+    let mut desk = Desk {
+        alloc,
+        input: LineReader::new(alloc, reader)?,
+        output: Answers::new(TestOut::new(output, 3, row.calls.writer)),
+        errors: Answers::new(TestOut::new(told, 100, row.calls.errors)),
+        files: row.files,
+        written,
+    };
+    Ok(ten(alloc, words.as_slice(), &mut desk))
 }
 
-/// What was written to room that had zeros.
-pub fn written(room: &[u8]) -> &[u8] {
-    match room.iter().position(|byte| *byte == 0) {
+/// The text that was written to room that had zeros.
+fn text(room: &[u8]) -> &str {
+    let end = room.iter().position(|byte| *byte == 0);
+    let written = match end {
         Some(end) => &room[..end],
         None => room,
+    };
+    str::from_utf8(written).unwrap_or("(no text)")
+}
+
+/// Sees that a picture has all of these parts, in this order.
+fn shows(rt: &impl Abort, picture: &str, parts: &[&str]) {
+    let mut rest = picture;
+    for part in parts {
+        let behind = rest.split_once(*part);
+        assert!(rt; behind.is_some(), "{part}");
+        rest = match behind {
+            Some((_before, behind)) => behind,
+            None => "",
+        };
     }
 }
 
-/// Walks a row.
+/// Makes a run, and sees what comes of it.
 pub fn walk(rt: &impl Abort, alloc: Global, row: &Row) {
-    let mut room = [0u8; ROOM];
+    let mut output = [0u8; ROOM];
     let mut told = [0u8; ROOM];
-    let status = status_of(alloc, row, GOES, &mut room, &mut told);
+    let mut written = Vec::new(alloc);
+    let status = status_of(alloc, row, &mut output, &mut told, &mut written);
     assert_eq!(rt; text(&told), row.told);
-    assert_eq!(rt; text(&room), row.output);
-    assert_eq!(rt; status, Some(row.status));
-}
-
-/// What was written to room that had zeros, as text.
-pub fn text(room: &[u8]) -> &str {
-    str::from_utf8(written(room)).unwrap_or("(no text)")
+    assert_eq!(rt; text(&output), row.output);
+    assert_eq!(rt; status, Ok(row.status));
+    assert_eq!(rt; written.is_empty(), row.picture.is_empty());
+    shows(rt, text(written.as_slice()), row.picture);
 }

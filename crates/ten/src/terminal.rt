@@ -1,0 +1,45 @@
+//! The standard streams and the files of the host.
+
+use line_ports::{Answers, Failure, LineReader};
+use script_io::{Failed, HostIn, HostOut, StdReader, StdWriter};
+use std::fs;
+use std::io::{self, Stderr, Stdin, Stdout};
+use ten_run::{Host, Stream};
+
+/// The standard streams and the files of the host.
+#[derive(Drop)]
+pub struct Terminal<'a> {
+    /// The files.
+    pub rt: &'a HostRuntime,
+    /// Standard input, by lines.
+    pub input: LineReader<HostIn<StdReader<Stdin>>>,
+    /// Standard output.
+    pub output: Answers<HostOut<StdWriter<Stdout>>>,
+    /// Standard error.
+    pub errors: Answers<HostOut<StdWriter<Stderr>>>,
+}
+
+impl Host for Terminal<'_> {
+    fn next_line(&mut self, line: &mut Vec<u8>) -> Result<bool, Failure> {
+        self.input.next_text(line)
+    }
+
+    fn has_ended(&self) -> bool {
+        self.input.has_ended()
+    }
+
+    fn write(&mut self, stream: Stream, bytes: &[u8]) -> Result<(), Failed> {
+        match stream {
+            Stream::Output => self.output.write(bytes),
+            Stream::Errors => self.errors.write(bytes),
+        }
+    }
+
+    fn read_file(&self, file: &str) -> io::Result<Vec<u8>> {
+        fs::read(self.rt, file)
+    }
+
+    fn write_file(&mut self, file: &str, bytes: &[u8]) -> io::Result<()> {
+        fs::write(self.rt, file, bytes)
+    }
+}
