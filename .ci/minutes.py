@@ -108,9 +108,12 @@ def write():
     """Writes the tables of docs/MAINTAINING.md: the parts of the last run, and each crate."""
     known = last()
     rows = sorted((row(it, known.seconds) for it in crates.libraries()), reverse=True)
-    lines = ["| Part of the gate | Processor | Clock |", "|---|---|---|"]
-    lines += [f"| `{name}` | {processor:.1f} | {clock:.1f} |" for name, (processor, clock) in known.parts.items()]
-    lines += ["", "| Of `rt ci`, nothing kept | Processor |", "|---|---|"]
+    lines = []
+    if known.parts:
+        lines += ["| Part of the last gate here | Processor | Clock |", "|---|---|---|"]
+        lines += [f"| `{name}` | {processor:.1f} | {clock:.1f} |" for name, (processor, clock) in known.parts.items()]
+        lines += [""]
+    lines += ["| Of `rt ci`, where nothing is kept | Processor |", "|---|---|"]
     lines += [f"| {kind} | {it:.1f} |" for kind, it in sorted(kinds(known.seconds).items())]
     chain, names = longest_chain(known.seconds)
     lines += ["", f"The longest chain of proofs takes {chain:.1f} minutes: {', '.join(f'`{it}`' for it in names)}."]
