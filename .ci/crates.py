@@ -60,8 +60,8 @@ def kit():
 
 @functools.lru_cache(maxsize=None)
 def sum_of(name):
-    """Gives the sum of all that a verdict on the crate rests on: the kit, HANDLES, the crate's line of crates.txt and its files, and the same of
-    the crates below."""
+    """Gives the sum of all that a verdict on the crate rests on: the kit, HANDLES, the crate's line of crates.txt and
+    its files, and the same of the crates below."""
     own = [kit(), text_of(f"{TOP}/HANDLES"), name, sorted(libraries()[name])]
     own += [(os.path.relpath(file, TOP), text_of(file)) for file in files_of(name)]
     own += [sum_of(it) for it in libraries()[name] if it in libraries()]

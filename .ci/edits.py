@@ -1,9 +1,10 @@
 """The edits that must fail: wrong bodies of functions, each of which the prover has to refuse.
 
-Those in crates/NAME/must-fail are tried by each run of the gate. The others, in crates/NAME/must-fail-recorded, have the same form, and `rt ci` does not
-read them. What an edit comes to depends on the kit, its crate, the crates below and its own text alone, so tests/refused_edits.txt has the sum of these
-for each edit that was seen refused. A run of the gate tries the edits whose sum is another one now, and some whose sum is the same, so that a false
-record is found."""
+Those in crates/NAME/must-fail are tried by each run of the gate. The others, in crates/NAME/must-fail-recorded, have
+the same form, and `rt ci` does not read them. What an edit comes to depends on the kit, its crate, the crates below
+and its own text alone, so tests/refused_edits.txt has the sum of these for each edit that was seen refused. A run of
+the gate tries the edits whose sum is another one now, and some whose sum is the same, so that a false record is
+found."""
 
 import contextlib
 import hashlib
@@ -61,7 +62,8 @@ def recorded():
 
 
 def write_record(refused, tried):
-    """Writes the record anew: an edit that was tried has its sum there if it was refused, and none else; the others keep theirs."""
+    """Writes the record anew: an edit that was tried has its sum there if it was refused, and none else; the others
+    keep theirs."""
     kept = recorded()
     lines = ["# The edits that the prover was seen to refuse, each with the sum of what that rests on. `./check --edits` writes this file."]
     for it in all_edits():
@@ -72,8 +74,9 @@ def write_record(refused, tried):
 
 
 def borrowed(commit):
-    """Gives the edits outside the gate that a run of it tries: those whose sum is not the recorded one; and some of the others, chosen by the commit's
-    name. These are of as few crates as can be, since the first edit of a crate is the dear one."""
+    """Gives the edits outside the gate that a run of it tries: those whose sum is not the recorded one; and some of
+    the others, chosen by the commit's name. These are of as few crates as can be, since the first edit of a crate is
+    the dear one."""
     known = recorded()
     others = [it for it in all_edits() if not it.is_of_gate]
     changed = [it for it in others if known.get(str(it)) != it.sum()]

@@ -22,8 +22,8 @@ KEPT = re.compile(r"^rt: (\w+) is kept")
 
 
 class Clock:
-    """Looks at the processes of a run again and again, and adds up the processor seconds of each crate's proof, tests, edits and builds. What ends between
-    two looks is lost, so half a second at the most of each."""
+    """Looks at the processes of a run again and again, and adds up the processor seconds of each crate's proof,
+    tests, edits and builds. What ends between two looks is lost, so half a second at the most of each."""
 
     def __init__(self):
         self.mark, self.seen, self.is_over = f"{os.getpid()}.{time.time_ns()}", {}, threading.Event()
@@ -69,8 +69,8 @@ class Clock:
 
 
 def place_of(words, folder):
-    """Gives the crate that a process works for, if it is known, and what it is at: a proof, tests, an edit (by its number in the crate), what the edits of
-    a crate begin with, a build, or something else."""
+    """Gives the crate that a process works for, if it is known, and what it is at: a proof, tests, an edit (by its
+    number in the crate), what the edits of a crate begin with, a build, or something else."""
     if "--crate-name" not in words:
         return os.path.basename(folder), "build" if os.path.basename(words[0]) in ("clang", "rattle-link") else "else"
     crate = words[words.index("--crate-name") + 1]
@@ -85,7 +85,8 @@ def place_of(words, folder):
 
 
 class Teller:
-    """Takes what `rt ci` says line by line: tells a line for each proof, all that it said of one that failed, and the other lines as they are."""
+    """Takes what `rt ci` says line by line: tells a line for each proof, all that it said of one that failed, and the
+    other lines as they are."""
 
     def __init__(self, whole, clock):
         self.whole, self.clock, self.done, self.block, self.began = whole, clock, 0, None, time.time()

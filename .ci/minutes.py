@@ -15,8 +15,8 @@ FUNCTION = re.compile(r"^ *(?:pub(?:\([a-z]+\))? )?fn ", re.MULTILINE)
 
 
 class Minutes:
-    """The parts of the last run of the gate, each with its minutes of a processor and of the clock, and the seconds of each crate as they were last measured:
-    what a run did not prove anew keeps its earlier figure."""
+    """The parts of the last run of the gate, each with its minutes of a processor and of the clock, and the seconds
+    of each crate as they were last measured: what a run did not prove anew keeps its earlier figure."""
 
     def __init__(self, parts=(), seconds=()):
         self.parts, self.seconds = dict(parts), {tuple(key.split(" ", 1)): it for key, it in dict(seconds).items()}
@@ -95,7 +95,8 @@ def row(crate, seconds):
 
 
 def longest_chain(seconds):
-    """Gives the chain of crates that takes longest to prove, each of which waits for the one before it, and its minutes of a processor."""
+    """Gives the chain of crates that takes longest to prove, each of which waits for the one before it, and its
+    minutes of a processor."""
     best = {}
     for crate in sorted(crates.libraries(), key=lambda it: len(crates.below(it))):
         took = max(seconds.get((crate, "proof"), 0) + seconds.get((crate, "build"), 0), seconds.get((crate, "tests"), 0))
@@ -117,7 +118,7 @@ def write():
     lines += [f"| {kind} | {it:.1f} |" for kind, it in sorted(kinds(known.seconds).items())]
     chain, names = longest_chain(known.seconds)
     lines += ["", f"The longest chain of proofs takes {chain:.1f} minutes: {', '.join(f'`{it}`' for it in names)}."]
-    lines += ["", "| Crate | Proof | Tests | Builds | Edits | Functions | Code | Definitions | Proofs |", "|---|---|---|---|---|---|---|---|---|"]
+    lines += ["", "| Crate | Proof | Tests | Builds | Edits | Functions | Code | Definitions | Proofs |", "|---|" + 8 * "---|"]
     page = crates.text_of(PAGE)
     before, _, rest = page.partition(MARKS[0])
     behind = rest.partition(MARKS[1])[2]
