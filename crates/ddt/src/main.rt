@@ -4,8 +4,8 @@
 mod terminal;
 
 use crate::terminal::Terminal;
-use ddt_run::{ddt, not_begun};
-use line_ports::{Answers, LineReader};
+use ddt_program::{ddt, not_begun};
+use program_shell::{Answers, LineReader};
 use script_io::{HostIn, HostOut};
 use std::env;
 use std::io::{self, ErrorKind, IsTerminal};

@@ -1,7 +1,7 @@
 //! The standard streams and the files of the host.
 
-use ddt_run::{Host, Stream};
-use line_ports::{Answers, Came, Failure, LineReader};
+use ddt_program::{Host, Stream};
+use program_shell::{Answers, Came, Failure, LineReader};
 use script_io::{Failed, HostIn, HostOut, StdReader, StdWriter};
 use std::fs;
 use std::io::{self, Stderr, Stdin, Stdout};

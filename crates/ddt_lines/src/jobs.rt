@@ -2,7 +2,7 @@
 
 use crate::places::ShownJob;
 use job_sched::{Stop, Wait};
-use run_machine::Machine;
+use concrete_machine::Machine;
 use run_notes::{Reference, stop_text};
 use std::alloc::{AllocError, Global};
 

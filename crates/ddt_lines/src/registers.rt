@@ -1,7 +1,7 @@
 //! The registers of a job.
 
 use crate::places::ShownJob;
-use run_machine::Machine;
+use concrete_machine::Machine;
 use run_notes::Reference;
 use std::alloc::{AllocError, Global};
 use std::fmt;

@@ -3,7 +3,7 @@ ghost use Rattle.std.specs.Prelude.{◌≡◌, IfOk};
 ghost use Rattle.queue_script.specs.QueueScripts.{show_text};
 ghost use Rattle.queue_script.specs.WaitPairs.{waits_text};
 
-use run_machine::Machine;
+use concrete_machine::Machine;
 use std::alloc::{AllocError, Global};
 
 /// The lines on all requests, in order of arrival: what SHOW of `lockmon queue` writes.

@@ -1,8 +1,8 @@
 //! Why a run stopped.
 
 use crate::stop_lists::StopList;
-use ddt_session::{LookedAt, Stop};
-use run_machine::Machine;
+use ddt_timeline::{LookedAt, Stop};
+use concrete_machine::Machine;
 use std::alloc::{AllocError, Global};
 use word36::{Address, Word};
 

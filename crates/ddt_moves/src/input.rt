@@ -1,7 +1,7 @@
 //! What is typed where a job waits for characters: lines of a file, one after the other.
 
 use crate::terminals::type_line;
-use ddt_session::Timeline;
+use ddt_timeline::Timeline;
 use run_facts::target_of;
 use std::alloc::{AllocError, Global};
 

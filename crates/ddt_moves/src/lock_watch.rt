@@ -3,10 +3,10 @@
 use crate::causes::Cause;
 use crate::stop_lists::StopList;
 use crate::turns::{NUMBERS, places_of};
-use ddt_session::Watch;
+use ddt_timeline::Watch;
 use lock_queue::{Name, Request};
 use run_facts::is_new_grant;
-use run_machine::Machine;
+use concrete_machine::Machine;
 use run_notes::{CallLook, snapshot_of};
 use std::alloc::{AllocError, Global};
 use word36::{Address, JOBS};

@@ -1,7 +1,7 @@
 //! What has happened to a machine, once more and step by step.
 
-use ddt_session::{Entry, Timeline, let_go, perform, round};
-use run_machine::Machine;
+use ddt_timeline::{Entry, Timeline, let_go, perform, round};
+use concrete_machine::Machine;
 use std::alloc::AllocError;
 
 /// A second machine, to which what has happened to another happens once more.

@@ -3,7 +3,7 @@
 use crate::causes::{Cause, Stops};
 use crate::lock_watch::LockWatch;
 use crate::stop_lists::StopList;
-use ddt_session::{NoWatch, Ran, Timeline};
+use ddt_timeline::{NoWatch, Ran, Timeline};
 use run_notes::grant_lines;
 use std::alloc::AllocError;
 

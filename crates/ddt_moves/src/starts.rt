@@ -4,9 +4,9 @@ use crate::causes::Cause;
 use crate::lock_watch::first_standing;
 use crate::stop_lists::StopList;
 use crate::traces::stands_at;
-use ddt_session::{Entry, Timeline};
+use ddt_timeline::{Entry, Timeline};
 use job_sched::Stop;
-use run_machine::Machine;
+use concrete_machine::Machine;
 use std::alloc::AllocError;
 
 /// Whether a job was not started.

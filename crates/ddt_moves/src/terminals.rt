@@ -1,6 +1,6 @@
 //! What is typed in and out.
 
-use ddt_session::{Entry, Timeline};
+use ddt_timeline::{Entry, Timeline};
 use monitor::{Answer, RefusedEvent};
 use std::alloc::AllocError;
 use tty_lines::Char7;

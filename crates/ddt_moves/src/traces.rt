@@ -1,8 +1,8 @@
 //! Steps that were made, looked for by what they did.
 
 use crate::replays::Replay;
-use ddt_session::Timeline;
-use run_machine::Machine;
+use ddt_timeline::Timeline;
+use concrete_machine::Machine;
 use std::alloc::{AllocError, Global};
 
 /// How many steps were made before the last one, of those made so far, before which a job stood at a

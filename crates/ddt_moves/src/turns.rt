@@ -1,8 +1,8 @@
 //! Whose turn a step was.
 
 use crate::replays::Replay;
-use ddt_session::Timeline;
-use run_machine::Machine;
+use ddt_timeline::Timeline;
+use concrete_machine::Machine;
 use std::alloc::AllocError;
 use word36::{Address, JOBS};
 

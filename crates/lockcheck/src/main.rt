@@ -2,7 +2,7 @@
 //! output, and what is wrong with a line that is refused to standard error.
 #![tactic(auto)]
 
-use lockcheck_run::{Progress, program, unread_words};
+use lockcheck_program::{Progress, program, unread_words};
 use script_io::{HostIn, HostOut};
 use std::env;
 use std::io::IsTerminal;

@@ -2,7 +2,7 @@
 //! line that is refused to standard error.
 #![tactic(auto)]
 
-use lock_picture::{program, unread_words};
+use lockview_program::{program, unread_words};
 use script_io::{HostIn, HostOut};
 use std::env;
 use std::process::ExitCode;

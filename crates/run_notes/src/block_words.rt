@@ -1,6 +1,6 @@
 //! The words that a lock call's block takes, read from a job's core.
 
-use run_machine::Machine;
+use concrete_machine::Machine;
 use std::alloc::{AllocError, Global};
 use word36::{BLOCK_WORDS, LOCKS_A_CALL, Word};
 

@@ -10,7 +10,7 @@ use ka_isa::{Family, classify, decode};
 use lock_queue::{BlockUse, Name, Request, Want};
 use monitor::JobView;
 use run_facts::{CallAnswer, CallSeen, answer_of};
-use run_machine::Machine;
+use concrete_machine::Machine;
 use std::alloc::{AllocError, Global};
 use std::fmt;
 use word36::{Address, Word};

@@ -3,7 +3,7 @@
 use crate::locks::NameText;
 use lock_queue::Request;
 use run_facts::{LockBetween, circle_through, is_in_circle, lock_between};
-use run_machine::Machine;
+use concrete_machine::Machine;
 use std::alloc::{AllocError, Global};
 use word36::JOBS;
 

@@ -1,7 +1,7 @@
 //! A job before its turn.
 
 use ka_isa::{Family, classify, decode};
-use run_machine::Machine;
+use concrete_machine::Machine;
 use word36::{Address, Word};
 
 /// So many indirect words, or XCTs, are followed.

@@ -8,7 +8,7 @@ use crate::told_job::ToldJob;
 use job_sched::{Stop, Wait};
 use ka_isa::{Family, classify, decode};
 use monitor::JobView;
-use run_machine::Machine;
+use concrete_machine::Machine;
 use std::alloc::{AllocError, Global};
 use word36::Address;
 

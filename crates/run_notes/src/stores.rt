@@ -4,7 +4,7 @@ use crate::instructions::Reference;
 use crate::snapshot::{Snapshot, effective_address};
 use crate::told_job::ToldJob;
 use ka_isa::{Family, classify, decode};
-use run_machine::Machine;
+use concrete_machine::Machine;
 use std::alloc::AllocError;
 use word36::Word;
 

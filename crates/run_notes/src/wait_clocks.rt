@@ -5,7 +5,7 @@ use crate::locks::NameText;
 use crate::wait_lines::lock_wait_text;
 use lock_queue::{EnqueueKind, Key, Request};
 use run_facts::{is_granted_in, is_left_of};
-use run_machine::Machine;
+use concrete_machine::Machine;
 use std::alloc::{AllocError, Global};
 
 /// So many columns of the table have the name of a lock.

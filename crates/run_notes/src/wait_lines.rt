@@ -3,7 +3,7 @@
 use crate::locks::LockText;
 use lock_queue::Request;
 use run_facts::{LockWait, lock_wait};
-use run_machine::Machine;
+use concrete_machine::Machine;
 use std::alloc::{AllocError, Global};
 
 /// Adds what a job waits for: `lock X, held by job 2`, or `lock X, behind job 3` where nobody holds it.

@@ -4,12 +4,12 @@
 mod terminal;
 
 use crate::terminal::Terminal;
-use line_ports::{Answers, LineReader};
+use program_shell::{Answers, LineReader};
 use script_io::{HostIn, HostOut};
 use std::env;
 use std::io::{self, ErrorKind};
 use std::process::ExitCode;
-use ten_run::{not_begun, ten};
+use ten_program::{not_begun, ten};
 
 /// The words of the command line, which begin with the program's name.
 fn words_of(rt: &HostRuntime) -> io::Result<Vec<String>> {

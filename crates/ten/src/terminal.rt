@@ -1,10 +1,10 @@
 //! The standard streams and the files of the host.
 
-use line_ports::{Answers, Failure, LineReader};
+use program_shell::{Answers, Failure, LineReader};
 use script_io::{Failed, HostIn, HostOut, StdReader, StdWriter};
 use std::fs;
 use std::io::{self, Stderr, Stdin, Stdout};
-use ten_run::{Host, Stream};
+use ten_program::{Host, Stream};
 
 /// The standard streams and the files of the host.
 #[derive(Drop)]

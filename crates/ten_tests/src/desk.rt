@@ -1,10 +1,10 @@
 //! A host in memory.
 
-use line_ports::{Answers, Failure, LineReader};
+use program_shell::{Answers, Failure, LineReader};
 use script_io::{Failed, TestIn, TestOut};
 use std::alloc::Global;
 use std::io::{self, ErrorKind};
-use ten_run::{Host, Stream};
+use ten_program::{Host, Stream};
 
 /// A host in memory.
 #[derive(Drop)]

@@ -1,12 +1,12 @@
 //! A run, and what must come of it.
 
 use crate::desk::Desk;
-use line_ports::{Answers, LineReader};
+use program_shell::{Answers, LineReader};
 use script_io::{TestIn, TestOut};
 use std::alloc::{AllocError, Global};
 use std::process::Abort;
 use std::str;
-use ten_run::ten;
+use ten_program::ten;
 
 /// Room for an output.
 const ROOM: usize = 2048;

@@ -1,0 +1,90 @@
+//! What is changed by hand: words, places where jobs start, time, and what is typed in and out.
+
+use crate::answer_text::AnswerText;
+use crate::runs::run_from_start;
+use crate::session::Session;
+use ddt_lines::Refusal;
+use ddt_moves::{take_line, type_line};
+use ddt_timeline::{Entry, Timeline};
+use monitor::Answer;
+use word36::{Address, Word};
+
+/// A value: it is put in the place that is open, which is closed by that.
+pub fn deposit(session: &mut Session, timeline: &mut Timeline, word: Word) {
+    if !session.is_open {
+        return session.answer.refuse(Refusal::NotOpen);
+    }
+    if timeline
+        .machine()
+        .peek(session.open, session.here)
+        .is_none()
+    {
+        return session.answer.refuse(Refusal::NoWord);
+    }
+    if !session.is_edited(timeline) {
+        session.edited = Some(timeline.happened());
+    }
+    let entry = Entry::Deposit(session.open, session.here, word);
+    make(&mut session.answer, timeline, entry);
+    session.is_open = false;
+    session.last = word;
+}
+
+/// Makes an entry whose answer tells nothing.
+pub fn make(answer: &mut AnswerText, timeline: &mut Timeline, entry: Entry) {
+    if timeline.make(entry).is_err() {
+        answer.fail();
+    }
+}
+
+/// `a$G`: the open job starts at a place, and the machine runs.
+pub fn start_at(session: &mut Session, timeline: &mut Timeline, place: u32) {
+    let Some(place) = Address::try_new(place) else {
+        return session.answer.refuse(Refusal::NoWord);
+    };
+    match timeline.make(Entry::StartAt(session.open, place)) {
+        Ok(Answer::Refused(_)) => session.answer.refuse(Refusal::NotStopped),
+        Ok(_) => run_from_start(session, timeline),
+        Err(_) => session.answer.fail(),
+    }
+}
+
+/// `.TYPE line text`: types a text and a line end at a line.
+pub fn type_at(answer: &mut AnswerText, timeline: &mut Timeline, line: u8, text: &[u8]) {
+    match type_line(timeline, line, text) {
+        Ok(true) => {}
+        Ok(false) => answer.refuse(Refusal::LineFull),
+        Err(_) => answer.fail(),
+    }
+}
+
+/// Adds what was taken of a line, which is named where there are several.
+fn say_taken(answer: &mut AnswerText, line: u8, is_named: bool, bytes: &[u8]) {
+    let Some(last) = bytes.last() else {
+        return;
+    };
+    if is_named {
+        answer.say_number("line ", u64::from(line), ":\n");
+    }
+    answer.add(bytes);
+    if *last != b'\n' {
+        answer.end_line();
+    }
+}
+
+/// `.TAKE`: tells what jobs have typed out.
+pub fn take(session: &mut Session, timeline: &mut Timeline) {
+    let before = session.answer.len();
+    let is_named = session.jobs.len() > 1;
+    let mut bytes = Vec::new(session.alloc);
+    for line in 0..session.lines() {
+        bytes.clear();
+        match take_line(timeline, line, &mut bytes) {
+            Ok(()) => say_taken(&mut session.answer, line, is_named, bytes.as_slice()),
+            Err(_) => session.answer.fail(),
+        }
+    }
+    if session.answer.len() == before {
+        session.answer.say("nothing was typed out\n");
+    }
+}

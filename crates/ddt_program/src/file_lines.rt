@@ -1,0 +1,66 @@
+//! The lines of a file that is obeyed.
+
+use crate::answer_text::AnswerText;
+use ddt_moves::line_from;
+use program_shell::Came;
+use script_io::LINE_LENGTH;
+use std::alloc::{AllocError, Global};
+
+/// The lines of a file, of which some were obeyed.
+#[derive(Drop)]
+pub struct FileLines {
+    /// The name of the file, while its lines are obeyed.
+    file: Option<String>,
+    text: Vec<u8>,
+    /// Where the next line begins.
+    next: usize,
+}
+
+impl FileLines {
+    /// No file.
+    pub fn none(alloc: Global) -> Self {
+        FileLines {
+            file: None,
+            text: Vec::new(alloc),
+            next: 0,
+        }
+    }
+
+    /// The lines of a file.
+    pub fn new(file: String, text: Vec<u8>) -> Self {
+        FileLines {
+            file: Some(file),
+            text,
+            next: 0,
+        }
+    }
+
+    /// The name of the file whose lines are obeyed, if there is one.
+    pub fn file(&self) -> Option<&str> {
+        match &self.file {
+            Some(file) => Some(file.as_str()),
+            None => None,
+        }
+    }
+
+    /// Puts the next line in place of `line`, and into the answer, ahead of what is answered. At the end no
+    /// file is obeyed any longer.
+    pub fn next_line(
+        &mut self,
+        line: &mut Vec<u8>,
+        answer: &mut AnswerText,
+    ) -> Result<Came, AllocError> {
+        line.clear();
+        let Some((next, behind)) = line_from(self.text.as_slice(), self.next) else {
+            self.file = None;
+            return Ok(Came::End);
+        };
+        self.next = behind;
+        line.extend_from_slice(next)?;
+        answer.echo(next);
+        if line.len() > LINE_LENGTH {
+            return Ok(Came::TooLong);
+        }
+        Ok(Came::Line)
+    }
+}

@@ -1,7 +1,0 @@
-use Rattle.std.proofs.Common.{◌≡◌, drop}
-use Rattle.ddt_session.specs.Timelines.{played}
-use Rattle.ddt_session.proofs.entries.play.Given as goal
-
--- what is left leads where all of it does
-abbrev pub invariant-loop-i : goal.invariant-loop-i
-invariant-loop-i l = played (drop l.i l.entries) l.machine ≡ played l.entries l.fn.machine

@@ -1,7 +1,0 @@
-use Rattle.std.specs.List.{list_all}
-use Rattle.std.proofs.Common.{◌≡◌, drop}
-use Rattle.ddt_session.specs.Stops.{is_within}
-use Rattle.ddt_session.proofs.stops.are_within.Given as goal
-
-abbrev pub invariant-loop-one : goal.invariant-loop-one
-invariant-loop-one l = list_all (is_within l.places) (drop l.one-index l.stops) ≡ list_all (is_within l.places) l.stops

@@ -1,6 +1,0 @@
-use Rattle.std.proofs.Common.{◌≡◌, drop}
-use Rattle.machine.specs.Between.{is_among}
-use Rattle.ddt_session.proofs.stops.is_among.Given as goal
-
-abbrev pub invariant-loop-one : goal.invariant-loop-one
-invariant-loop-one l = is_among (drop l.one-index l.places) l.place ≡ is_among l.places l.place

@@ -1,0 +1,31 @@
+use Rattle.std.proofs.Common.{◌≡◌, ◌<◌, Option, IfSome, length, filter, refl, ap, subst, ◌∙◌}
+use Rattle.state_search.specs.declared.witnesses.Witness.{Witness}
+use Rattle.state_search.specs.Searched.{seen_of, way}
+use Rattle.state_search.specs.Witnesses.{IsWitness}
+use Rattle.lock_queue.specs.Jobs.{waits_for}
+use Rattle.lock_queue.specs.Waits.{is_in_circle}
+use Rattle.lockcheck_orders.specs.Circles.{has_circle, circle_jobs}
+use Rattle.lockcheck_orders.specs.Orders.{first_state, next}
+use Rattle.lockcheck_orders.specs.Packing.{unpacked}
+use Rattle.lockcheck_orders.specs.Programs.{jobs_of}
+use Rattle.lockcheck_orders.proofs.Found.{verdict-some}
+use Rattle.lockcheck_orders.proofs.verdicts.find_circle.Goals as goal
+
+pub returns : goal.returns
+returns c =
+    let lines = c.args.programs.now in
+    let items = c.args.kept.now.met.items in
+    let P : Option Witness → Type 0 =
+    λ o. IfSome o
+    (λ w. (w.place < length c.args.kept.now.met.items)
+    × (w.moves.items
+    ≡ way (seen_of (unpacked c.args.programs.now) (first_state c.args.programs.now) c.args.kept.now.met.items) w.place w.place))
+    in
+    let Q : Option Witness → Type 0 =
+    λ o. IsWitness (length (jobs_of c.args.programs.now)) (next c.args.programs.now) (first_state c.args.programs.now)
+    (has_circle c.args.programs.now) o in
+    let place = subst P c.in-Some.is c.in_ok-found.ensures.place in
+    let witness = subst Q c.in-Some.is c.in_ok-found.ensures.witness in
+    verdict-some lines (has_circle lines) (circle_jobs lines) items c.requires.whole c.in-Some.witness c.index-met.result.now
+    c.index-met.ensures place.0 place.1 witness (record { moves = c.in-Some.witness.moves; jobs = c.in_ok-jobs.jobs }) refl
+    (c.in_ok-jobs.ensures ∙ ap (λ r. filter (is_in_circle (waits_for r)) (jobs_of lines)) c.set_state_out.ensures)

@@ -1,0 +1,185 @@
+//! What is said of all orders.
+ghost use Rattle.std.specs.Prelude.{◌≡◌, ℕ, ◌↔◌, IfOk, IsTrue, length};
+ghost use Rattle.std.specs.BTreeSet as bag;
+ghost use Rattle.std.specs.List.{All};
+ghost use Rattle.std.specs.Ordering.{nat_cmp};
+ghost use Rattle.state_search.specs.Searched.{IsWhole, seen_of};
+ghost use Rattle.lockcheck_orders.specs.Circles.{circle_jobs, has_circle};
+ghost use Rattle.lockcheck_orders.specs.Orders.{first_state, next};
+ghost use Rattle.lockcheck_orders.specs.Origins.{IsKept};
+ghost use Rattle.lockcheck_orders.specs.Packing.{unpacked};
+ghost use Rattle.lockcheck_orders.specs.Programs.{jobs_of};
+ghost use Rattle.lockcheck_orders.specs.Stuck.{is_stuck, waiting_jobs};
+ghost use Rattle.lockcheck_orders.specs.Verdicts.{AreAnswers, IsGiven, IsLooked, IsReport, IsVerdict};
+
+use crate::answers::Answers;
+use crate::circles::{Circle, circle_jobs};
+use crate::desk::Desk;
+use crate::kept::KeptState;
+use crate::orders::set_state_out;
+use crate::programs::Programs;
+use crate::stuck::{Stuck, waiting_jobs};
+use state_search::{Kept, Outcome, Watch, all_labels, find_witness, search};
+use std::alloc::{AllocError, Global};
+use std::collections::BTreeSet;
+
+/// A shortest order that leads to what was looked for, and the jobs that it concerns.
+#[derive(Drop)]
+pub struct Verdict {
+    /// The places among the jobs of those that make a call in turn.
+    pub moves: Vec<usize>,
+    /// The jobs, rising.
+    pub jobs: Vec<u8>,
+}
+
+/// A shortest order that leads to a circle of waits, with its members, if one does.
+pub fn find_circle(
+    alloc: Global,
+    programs: &Programs,
+    kept: &Kept<KeptState>,
+) -> Result<Option<Verdict>, AllocError>
+    requires whole { IsWhole (length (jobs_of programs.now)) (next programs.now) (first_state programs.now)
+        (seen_of (unpacked programs.now) (first_state programs.now) kept.now.met.items) (length kept.now.met.items) }
+    requires sound { All (λ m. IsKept programs.now m.state) kept.now.met.items }
+    ensures { IfOk result (IsVerdict programs.now (has_circle programs.now) (circle_jobs programs.now)) }
+{
+    let found = find_witness(alloc, programs, kept, &Circle)?;
+    let Some(witness) = found else {
+        return Ok(None);
+    };
+    let mut desk = Desk::new(alloc)?;
+    let met = &kept.met[witness.place];
+    set_state_out(programs, &mut desk, &met.state);
+    let jobs = circle_jobs(alloc, programs, &desk)?;
+    Ok(Some(Verdict {
+        moves: witness.moves,
+        jobs,
+    }))
+}
+
+/// A shortest order after which no job can make a call though some wait, with those that wait, if there
+/// is one.
+pub fn find_stuck(
+    alloc: Global,
+    programs: &Programs,
+    kept: &Kept<KeptState>,
+) -> Result<Option<Verdict>, AllocError>
+    requires whole { IsWhole (length (jobs_of programs.now)) (next programs.now) (first_state programs.now)
+        (seen_of (unpacked programs.now) (first_state programs.now) kept.now.met.items) (length kept.now.met.items) }
+    requires sound { All (λ m. IsKept programs.now m.state) kept.now.met.items }
+    ensures { IfOk result (IsVerdict programs.now (is_stuck programs.now) (waiting_jobs programs.now)) }
+{
+    let found = find_witness(alloc, programs, kept, &Stuck)?;
+    let Some(witness) = found else {
+        return Ok(None);
+    };
+    let mut desk = Desk::new(alloc)?;
+    let met = &kept.met[witness.place];
+    set_state_out(programs, &mut desk, &met.state);
+    let jobs = waiting_jobs(alloc, &desk, programs.jobs())?;
+    Ok(Some(Verdict {
+        moves: witness.moves,
+        jobs,
+    }))
+}
+
+/// The answers that some order gives: the number of a line, times `ANSWERS`, and the number of its
+/// answer.
+pub fn all_answers(
+    alloc: Global,
+    programs: &Programs,
+    kept: &Kept<KeptState>,
+) -> Result<BTreeSet<usize>, AllocError>
+    requires whole { IsWhole (length (jobs_of programs.now)) (next programs.now) (first_state programs.now)
+        (seen_of (unpacked programs.now) (first_state programs.now) kept.now.met.items) (length kept.now.met.items) }
+    requires sound { All (λ m. IsKept programs.now m.state) kept.now.met.items }
+    ensures { IfOk result (λ all. (a : ℕ) → (IsTrue (bag.contains nat_cmp all a) ↔ IsGiven programs.now a)) }
+{
+    all_labels(alloc, programs, kept, &Answers)
+}
+
+/// The answers, where they are asked for.
+fn answers_if(
+    alloc: Global,
+    programs: &Programs,
+    kept: &Kept<KeptState>,
+    wanted: bool,
+) -> Result<Option<BTreeSet<usize>>, AllocError>
+    requires whole { IsWhole (length (jobs_of programs.now)) (next programs.now) (first_state programs.now)
+        (seen_of (unpacked programs.now) (first_state programs.now) kept.now.met.items) (length kept.now.met.items) }
+    requires sound { All (λ m. IsKept programs.now m.state) kept.now.met.items }
+    ensures { IfOk result (AreAnswers programs.now) }
+{
+    if !wanted {
+        return Ok(None);
+    }
+    let all = all_answers(alloc, programs, kept)?;
+    Ok(Some(all))
+}
+
+/// What is found where every state is looked at.
+#[derive(Drop)]
+pub struct Report {
+    /// How many states there are.
+    pub states: usize,
+    /// A shortest order that leads to a circle of waits.
+    pub circle: Option<Verdict>,
+    /// A shortest order that leaves jobs waiting.
+    pub stuck: Option<Verdict>,
+    /// All that calls are answered, where that was asked for: the number of a line, times `ANSWERS`, and
+    /// the number of its answer.
+    pub answers: Option<BTreeSet<usize>>,
+}
+
+/// What a look at all orders comes to.
+#[derive(Drop)]
+pub enum Looked {
+    /// Every state was looked at.
+    All(Report),
+    /// There are more states than this, and nothing is said of them.
+    GaveUp(usize),
+}
+
+/// Reports on all orders, of which every state is kept.
+fn report_on(
+    alloc: Global,
+    programs: &Programs,
+    kept: &Kept<KeptState>,
+    with_answers: bool,
+) -> Result<Report, AllocError>
+    requires whole { IsWhole (length (jobs_of programs.now)) (next programs.now) (first_state programs.now)
+        (seen_of (unpacked programs.now) (first_state programs.now) kept.now.met.items) (length kept.now.met.items) }
+    requires sound { All (λ m. IsKept programs.now m.state) kept.now.met.items }
+    ensures report { IfOk result (IsReport programs.now) }
+    ensures states { IfOk result (λ r. r.states ≡ length kept.now.met.items) }
+{
+    let circle = find_circle(alloc, programs, kept)?;
+    let stuck = find_stuck(alloc, programs, kept)?;
+    let answers = answers_if(alloc, programs, kept, with_answers)?;
+    Ok(Report {
+        states: kept.met.len(),
+        circle,
+        stuck,
+        answers,
+    })
+}
+
+/// Looks at every state that some order leads to, or gives up where there are more than `most`.
+pub fn look<W: Watch>(
+    alloc: Global,
+    programs: &Programs,
+    most: usize,
+    with_answers: bool,
+    watch: &mut W,
+) -> Result<Looked, AllocError>
+    ensures { IfOk result (IsLooked programs.now most) }
+{
+    let outcome = search(alloc, programs, most, watch)?;
+    match outcome {
+        Outcome::GaveUp(states) => Ok(Looked::GaveUp(states)),
+        Outcome::All(kept) => {
+            let report = report_on(alloc, programs, &kept, with_answers)?;
+            Ok(Looked::All(report))
+        }
+    }
+}

@@ -1,5 +1,0 @@
-use Rattle.std.proofs.Common.{◌≡◌, take}
-use Rattle.lockcheck_run.proofs.copying.copied_wants.Given as goal
-
-abbrev pub invariant-loop-want : goal.invariant-loop-want
-invariant-loop-want l = l.copy.items ≡ take l.want-index l.want-items

@@ -1,5 +1,0 @@
-use Rattle.profile_laws.proofs.TextLemmas.{text_read}
-use Rattle.profile_laws.proofs.formats.printed_texts_are_read.Goals as goal
-
-pub returns : goal.returns
-returns c = text_read

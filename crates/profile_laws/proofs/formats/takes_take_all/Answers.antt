@@ -1,5 +1,0 @@
-use Rattle.profile_laws.proofs.TakingLemmas.{take_takes_all}
-use Rattle.profile_laws.proofs.formats.takes_take_all.Goals as goal
-
-pub returns : goal.returns
-returns c = take_takes_all

@@ -1,5 +1,0 @@
-use Rattle.queue_laws.proofs.Along.{lines_keep_owners}
-use Rattle.queue_laws.proofs.laws.lines_keep_owners.Goals as goal
-
-pub returns : goal.returns
-returns c = lines_keep_owners

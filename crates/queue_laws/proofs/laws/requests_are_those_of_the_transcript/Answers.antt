@@ -1,5 +1,0 @@
-use Rattle.queue_laws.proofs.Along.{follows_transcript}
-use Rattle.queue_laws.proofs.laws.requests_are_those_of_the_transcript.Goals as goal
-
-pub returns : goal.returns
-returns c = follows_transcript

@@ -1,5 +1,0 @@
-use Rattle.queue_laws.proofs.Along.{scripts_make_no_plain_circle}
-use Rattle.queue_laws.proofs.laws.scripts_make_no_plain_circle.Goals as goal
-
-pub returns : goal.returns
-returns c = scripts_make_no_plain_circle

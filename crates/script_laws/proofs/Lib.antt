@@ -1,0 +1,3 @@
+pub mod Along
+mod TextLemmas
+mod TakingLemmas

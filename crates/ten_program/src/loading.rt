@@ -1,0 +1,114 @@
+//! Sources that are assembled, and jobs that are logged in for them.
+
+use crate::jobs::RunningJob;
+use crate::pending_text::PendingText;
+use crate::terminal::Terminal;
+use monitor::{Answer, Event, RefusedEvent};
+use concrete_machine::Machine;
+use run_notes::ToldJob;
+use source_labels::{Assembled, Program, Source, assemble_source, warnings_of};
+use word36::{Address, Image};
+
+/// Assembles sources, tells what is wrong with each that is refused, and gives the programs where
+/// none is.
+pub fn assemble_all<'a>(
+    sources: &[Source<'a>],
+    errors: &mut PendingText,
+) -> Option<Vec<Program<'a>>> {
+    let alloc = errors.alloc;
+    let mut programs = Vec::new(alloc);
+    let mut are_right = true;
+    for source in sources {
+        match assemble_source(alloc, source) {
+            Ok(Assembled::Program(program)) => {
+                let (file, image, places) = (program.file, &program.image, &program.places);
+                errors.say_made(warnings_of(alloc, file, image, places));
+                if programs.push(program).is_err() {
+                    errors.fail();
+                }
+            }
+            Ok(Assembled::Refused(text)) => {
+                errors.add(text.as_slice());
+                are_right = false;
+            }
+            Err(_) => errors.fail(),
+        }
+    }
+    if are_right { Some(programs) } else { None }
+}
+
+/// Why a program cannot be logged in.
+fn refusal_text(refusal: RefusedEvent) -> &'static str {
+    match refusal {
+        RefusedEvent::NoCore => "it takes more blocks of core than are free",
+        RefusedEvent::BadImage => "it has no words",
+        RefusedEvent::NoLine => "there is no terminal line for it",
+        RefusedEvent::LineBusy => "its terminal line is taken",
+        RefusedEvent::NoJobNumber => "all job numbers are taken",
+        RefusedEvent::NoSuchJob => "there is no such job",
+        RefusedEvent::NotStopped => "it runs already",
+        RefusedEvent::Full => "its terminal line is full",
+    }
+}
+
+/// Logs a job in at a line, and starts it; gives its number, or why it is refused.
+fn log_in(machine: &mut Machine, line: u8, image: &Image) -> Result<u8, RefusedEvent> {
+    match machine.event(&Event::Login(line, image)) {
+        Answer::JobNumber(number) => {
+            machine.event(&Event::Start(number));
+            Ok(number)
+        }
+        Answer::Refused(refusal) => Err(refusal),
+        _ => Err(RefusedEvent::NoJobNumber),
+    }
+}
+
+/// The job of a program, which has this number and has run no step.
+fn job_of(program: Program<'_>, number: u8, terminal: Terminal) -> RunningJob {
+    let start = Address::try_new(program.image.start).unwrap_or(Address::new(0));
+    RunningJob {
+        told: ToldJob {
+            number,
+            places: program.places,
+            last: start,
+            next: start,
+        },
+        terminal,
+        steps: 0,
+    }
+}
+
+/// Tells why a program cannot be logged in.
+fn tell_refusal(file: &str, refusal: RefusedEvent, errors: &mut PendingText) {
+    errors.say(file);
+    errors.say(": ");
+    errors.say(refusal_text(refusal));
+    errors.end_line();
+}
+
+/// Logs programs in, at lines from 0 on, and adds their jobs; false where one is refused, which is told.
+pub fn log_in_all(
+    machine: &mut Machine,
+    programs: Vec<Program<'_>>,
+    jobs: &mut Vec<RunningJob>,
+    errors: &mut PendingText,
+) -> bool {
+    let is_numbered = programs.len() > 1;
+    let mut line = 0u8;
+    for program in programs {
+        match log_in(machine, line, &program.image) {
+            Ok(number) => {
+                let terminal = Terminal::new(line, is_numbered);
+                if jobs.push(job_of(program, number, terminal)).is_err() {
+                    errors.fail();
+                }
+            }
+            Err(refusal) => {
+                tell_refusal(program.file, refusal, errors);
+                return false;
+            }
+        }
+        line = line.saturating_add(1);
+    }
+    true
+}

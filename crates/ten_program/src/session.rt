@@ -1,0 +1,256 @@
+//! A run of programs: its jobs, and what is typed, told and drawn.
+
+use crate::asked::Asked;
+use crate::jobs::{RunningJob, standing_of};
+use crate::loading::{assemble_all, log_in_all};
+use crate::notes::{Notes, tell_circle};
+use crate::pending_text::PendingText;
+use crate::picture::Picture;
+use crate::terminal::Terminal;
+use crate::typing::Typing;
+use crate::waits::Waits;
+use monitor::{Answer, Event};
+use run_facts::{Ending, has_ended_well, status_of};
+use concrete_machine::Machine;
+use run_notes::has_circle;
+use source_labels::Source;
+use std::alloc::{AllocError, Global};
+use word36::{Image, OUTPUT_RING, TAKEN_AT_ONCE};
+
+/// A step, and the tick behind it.
+const ROUND: [Event<'static>; 2] = [Event::Step, Event::Tick];
+
+/// So many Take events empty an output ring that is full.
+const MOST_TAKES: usize = OUTPUT_RING / TAKEN_AT_ONCE + 1;
+
+/// A run of programs: its jobs, and what is typed, told and drawn. The machine stands beside it.
+#[derive(Drop)]
+pub struct Session {
+    /// The jobs, by number from 1 on.
+    pub jobs: Vec<RunningJob>,
+    /// What is typed at their terminals.
+    pub typing: Typing,
+    /// What they have typed out.
+    pub output: PendingText,
+    /// What is told.
+    pub errors: PendingText,
+    /// Whether a job may wait for locks with a limit of time.
+    is_limited: bool,
+    /// How many ticks went by.
+    ticks: u64,
+    /// What is told of the run while it goes on.
+    notes: Notes,
+    /// What is drawn of it.
+    picture: Picture,
+}
+
+/// A job's turn.
+#[derive(Clone, Copy)]
+pub struct Turn {
+    /// The number of the job.
+    job: u8,
+    /// What it waits for since then.
+    waits: Waits,
+}
+
+/// Takes what a job has typed out.
+fn take_output(machine: &mut Machine, terminal: &mut Terminal, output: &mut PendingText) {
+    // An event may hold an image, of which these have none: the prover wants its type to be named.
+    let _image: Option<&Image> = None;
+    for _ in 0..MOST_TAKES {
+        let Answer::Text(taken) = machine.event(&Event::Take(terminal.line, TAKEN_AT_ONCE)) else {
+            return;
+        };
+        let text = taken.as_slice();
+        if text.is_empty() {
+            return;
+        }
+        terminal.print(text, output);
+    }
+}
+
+impl Session {
+    /// A run of which is told and drawn what is asked for, and that has no jobs yet.
+    pub fn new(alloc: Global, asked: &Asked<'_>) -> Self {
+        Session {
+            jobs: Vec::new(alloc),
+            typing: Typing::new(alloc),
+            output: PendingText::new(alloc),
+            errors: PendingText::new(alloc),
+            is_limited: false,
+            ticks: 0,
+            notes: Notes::new(alloc, asked),
+            picture: Picture::new(alloc, asked.picture.is_some()),
+        }
+    }
+
+    /// Ends the run, and gives back the memory that it and its machine have.
+    pub fn end(self, _machine: Machine) {}
+
+    /// Assembles sources, and logs a job in for each of them; false where one is refused, which is told.
+    pub fn begin(
+        &mut self,
+        machine: &mut Machine,
+        sources: &[Source<'_>],
+        asked: &Asked<'_>,
+    ) -> bool {
+        let Some(programs) = assemble_all(sources, &mut self.errors) else {
+            return false;
+        };
+        if !log_in_all(machine, programs, &mut self.jobs, &mut self.errors) {
+            return false;
+        }
+        let (alloc, jobs) = (self.errors.alloc, self.jobs.as_slice());
+        if self.notes.look_at_all(alloc, machine, jobs, asked).is_err() {
+            self.errors.fail();
+        }
+        true
+    }
+
+    /// Makes a step, and gives whose turn it was; what that job has typed out is to be written then.
+    pub fn step(&mut self, machine: &mut Machine) -> Option<Turn> {
+        match machine.event(&ROUND[0]) {
+            Answer::Ran(number) => Some(self.note_step(machine, number)),
+            _ => None,
+        }
+    }
+
+    /// A job ran: counts the step, and takes what it typed out.
+    fn note_step(&mut self, machine: &mut Machine, number: u8) -> Turn {
+        let mut turn = Turn {
+            job: number,
+            waits: Waits::NONE,
+        };
+        let Some(job) = self.jobs.get_mut(usize::from(number).saturating_sub(1)) else {
+            return turn;
+        };
+        job.steps = job.steps.saturating_add(1);
+        job.told.last = job.told.next;
+        if let Some(view) = machine.job(number) {
+            job.told.next = view.pc;
+            turn.waits = Waits::of(&view);
+        }
+        self.typing.is_awaited |= turn.waits.input;
+        self.is_limited |= turn.waits.limit;
+        take_output(machine, &mut job.terminal, &mut self.output);
+        if turn.waits.input {
+            job.terminal.flush(&mut self.output);
+        }
+        turn
+    }
+
+    /// Tells of the turn behind a step, and has a tick go by; false where no job can go on.
+    pub fn end_round(&mut self, machine: &mut Machine, turn: Option<Turn>) -> bool {
+        match turn {
+            Some(turn) => self.tell_turn(machine, turn),
+            None => {
+                if !self.can_go_on(machine) {
+                    return false;
+                }
+            }
+        }
+        let alloc = self.errors.alloc;
+        if self.picture.draw(alloc, machine, self.ticks).is_err() {
+            self.errors.fail();
+        }
+        machine.event(&ROUND[1]);
+        self.ticks = self.ticks.saturating_add(1);
+        if self.is_limited {
+            self.note_limits(machine);
+        }
+        self.notes
+            .tell_overdue(machine, self.ticks, &mut self.errors);
+        true
+    }
+
+    /// Tells of a job's turn, and looks at what it does next.
+    fn tell_turn(&mut self, machine: &Machine, turn: Turn) {
+        let tick = self.ticks;
+        if let Some(job) = self.jobs.get(usize::from(turn.job).saturating_sub(1)) {
+            let told = &job.told;
+            let may_differ = self.notes.tell_turn(machine, tick, told, &mut self.errors);
+            self.notes.look_at(machine, told, &mut self.errors);
+            if may_differ {
+                self.tell_grants(machine);
+            }
+        }
+        if turn.waits.locks {
+            tell_circle(machine, tick, turn.job, &mut self.errors);
+        }
+    }
+
+    /// The requests for locks may have changed: tells of grants, and has the locks drawn anew.
+    fn tell_grants(&mut self, machine: &Machine) {
+        self.picture.may_differ = true;
+        self.notes
+            .tell_grants(machine, self.ticks, &mut self.errors);
+    }
+
+    /// A tick went by while jobs wait for locks with limits of time: tells of those whose limit ended,
+    /// which a tick sets back to the error return of their call, and looks at what they do next.
+    fn note_limits(&mut self, machine: &Machine) {
+        let (mut are_limited, mut has_ended) = (false, false);
+        for job in self.jobs.as_mut_slice().iter_mut() {
+            let Some(view) = machine.job(job.told.number) else {
+                continue;
+            };
+            are_limited |= Waits::of(&view).limit;
+            if view.pc != job.told.next {
+                has_ended = true;
+                job.told.next = view.pc;
+                let (told, errors) = (&job.told, &mut self.errors);
+                self.notes.tell_limit(self.ticks, told, &view, errors);
+                self.notes.look_at(machine, told, errors);
+            }
+        }
+        self.is_limited = are_limited;
+        if has_ended {
+            self.tell_grants(machine);
+        }
+    }
+
+    /// Whether the machine, of which no job is ready, can go on: a job sleeps, or waits for locks with a
+    /// limit of time, or waits for characters of which more may come.
+    fn can_go_on(&mut self, machine: &Machine) -> bool {
+        let waits = Waits::of_all(machine, self.jobs.as_slice());
+        waits.sleep || waits.limit || self.typing.goes_on(waits.input)
+    }
+
+    /// Has what there is of lines that are not whole written, and ends them.
+    pub fn flush(&mut self) {
+        for job in self.jobs.as_mut_slice().iter_mut() {
+            job.terminal.flush(&mut self.output);
+        }
+    }
+
+    /// Tells how each job stands, and gives the exit status; the run was cut where it made as many steps
+    /// as it was to make. The files are those of the jobs' sources.
+    pub fn tell_ends(&mut self, machine: &Machine, files: &[&str], is_cut: bool) -> u8 {
+        if !self.output.is_line_whole() {
+            self.errors.end_line();
+        }
+        self.notes.tell_table(self.ticks, &mut self.errors);
+        let mut standings = Vec::new(self.errors.alloc);
+        for (job, file) in self.jobs.as_slice().iter().zip(files) {
+            let standing = standing_of(machine, job.told.number);
+            if !has_ended_well(standing) {
+                self.notes.tell_history(job.told.number, &mut self.errors);
+            }
+            job.tell_end(machine, file, standing, &mut self.errors);
+            if standings.push(standing).is_err() {
+                self.errors.fail();
+            }
+        }
+        let ending = Ending {
+            has_circle: has_circle(machine),
+            is_cut,
+        };
+        status_of(ending, standings.as_slice())
+    }
+
+    /// The picture of the run, as SVG, where that is asked for.
+    pub fn take_svg(&mut self, machine: &Machine) -> Result<Option<String>, AllocError> {
+        self.picture
+            .take_svg(self.errors.alloc, machine, self.ticks)
+    }
+}

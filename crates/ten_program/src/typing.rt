@@ -1,0 +1,106 @@
+//! What is typed at the terminals of a run.
+ghost use Rattle.std.specs.Prelude.{◌≡◌, length, min};
+ghost use Rattle.word36.specs.declared.sizes.TheConstants.{JOBS};
+ghost use Rattle.run_facts.specs.Typing.{line_for, text_for};
+
+use crate::jobs::RunningJob;
+use crate::waits::Waits;
+use monitor::{Answer, Event, RefusedEvent};
+use run_facts::{Target, target_of};
+use concrete_machine::Machine;
+use std::alloc::{AllocError, Global};
+use tty_lines::Char7;
+use word36::{Image, JOBS};
+
+/// What is typed at the terminals of a run.
+#[derive(Drop)]
+pub struct Typing {
+    /// The line of the input that is being typed.
+    pub text: Vec<u8>,
+    /// What of it was not typed yet stands from this place on.
+    typed: usize,
+    /// The terminal line where it is typed.
+    line: u8,
+    /// Whether a job may wait for characters.
+    pub is_awaited: bool,
+    /// Whether no more lines of the input come.
+    pub has_ended: bool,
+}
+
+/// Types a byte at a line; false where there is no room for it. A byte that is no character is left
+/// out.
+fn type_byte(machine: &mut Machine, line: u8, byte: u8) -> bool {
+    // An event may hold an image, of which this one has none: the prover wants its type to be named.
+    let _image: Option<&Image> = None;
+    match Char7::try_new(byte) {
+        None => true,
+        Some(character) => !matches!(
+            machine.event(&Event::Typed(line, character)),
+            Answer::Refused(RefusedEvent::Full)
+        ),
+    }
+}
+
+/// Where a line of the input is typed, by the jobs that there are: each has a terminal line.
+fn target_among<'t>(jobs: &[RunningJob], text: &'t [u8]) -> Target<'t>
+    ensures line { result.line ≡ line_for (min (length jobs.now) JOBS) text.now }
+    ensures text { result.text.now ≡ text_for (min (length jobs.now) JOBS) text.now }
+{
+    target_of(jobs.len().min(usize::from(JOBS)) as u8, text)
+}
+
+impl Typing {
+    /// Nothing was typed yet, and no job waits for it.
+    pub fn new(alloc: Global) -> Self {
+        Typing {
+            text: Vec::new(alloc),
+            typed: 0,
+            line: 0,
+            is_awaited: false,
+            has_ended: false,
+        }
+    }
+
+    /// Types what there is of the line in hand, as far as there is room for it.
+    pub fn type_on(&mut self, machine: &mut Machine) {
+        let rest = self.text.len().saturating_sub(self.typed);
+        for _ in 0..rest {
+            let Some(byte) = self.text.as_slice().get(self.typed).copied() else {
+                return;
+            };
+            if !type_byte(machine, self.line, byte) {
+                return;
+            }
+            self.typed = self.typed.saturating_add(1);
+        }
+    }
+
+    /// Whether another line of the input is wanted: the line in hand is typed, and a job waits for
+    /// characters of which more may come.
+    pub fn wants_line(&mut self, machine: &Machine, jobs: &[RunningJob]) -> bool {
+        if !self.is_awaited || self.typed < self.text.len() || self.has_ended {
+            return false;
+        }
+        self.is_awaited = Waits::of_all(machine, jobs).input;
+        self.is_awaited
+    }
+
+    /// Types the line of the input that is in hand now, at the terminal line that it names.
+    pub fn begin(&mut self, machine: &mut Machine, jobs: &[RunningJob]) -> Result<(), AllocError> {
+        self.text.push(b'\n')?;
+        let target = target_among(jobs, self.text.as_slice());
+        let (line, rest) = (target.line, target.text.len());
+        self.line = line;
+        self.typed = self.text.len().saturating_sub(rest);
+        self.type_on(machine);
+        Ok(())
+    }
+
+    /// No job is ready, and some wait for characters, or none: whether more come. Where what was typed
+    /// elsewhere finds no room, the rest of it is lost.
+    pub fn goes_on(&mut self, is_awaited: bool) -> bool {
+        self.typed = self.text.len();
+        self.is_awaited = is_awaited;
+        is_awaited && !self.has_ended
+    }
+}

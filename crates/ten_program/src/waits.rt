@@ -1,0 +1,60 @@
+//! What jobs wait for.
+
+use crate::jobs::RunningJob;
+use job_sched::Wait;
+use monitor::JobView;
+use concrete_machine::Machine;
+
+/// What a job waits for, or what there is among the waits of some jobs.
+#[derive(Clone, Copy)]
+pub struct Waits {
+    /// Characters.
+    pub input: bool,
+    /// Locks.
+    pub locks: bool,
+    /// Locks with a limit of time. That goes down while the job is stopped, too.
+    pub limit: bool,
+    /// The end of its sleep.
+    pub sleep: bool,
+}
+
+impl Waits {
+    /// No waits.
+    pub const NONE: Waits = Waits {
+        input: false,
+        locks: false,
+        limit: false,
+        sleep: false,
+    };
+
+    /// What a job waits for.
+    pub fn of(job: &JobView) -> Self {
+        let goes = job.stop.is_none();
+        let mut waits = Waits::NONE;
+        match job.wait {
+            Wait::Char | Wait::Line => waits.input = goes,
+            Wait::Queue(limit, _) => {
+                waits.locks = goes;
+                waits.limit = limit > 0;
+            }
+            Wait::Sleep(_) => waits.sleep = goes,
+            Wait::None | Wait::Room(_) => {}
+        }
+        waits
+    }
+
+    /// What some jobs wait for.
+    pub fn of_all(machine: &Machine, jobs: &[RunningJob]) -> Self {
+        let mut all = Waits::NONE;
+        for job in jobs {
+            if let Some(view) = machine.job(job.told.number) {
+                let waits = Waits::of(&view);
+                all.input |= waits.input;
+                all.locks |= waits.locks;
+                all.limit |= waits.limit;
+                all.sleep |= waits.sleep;
+            }
+        }
+        all
+    }
+}
