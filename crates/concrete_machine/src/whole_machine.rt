@@ -16,7 +16,7 @@ ghost use Rattle.progress_laws.specs.Wakes.{FirstIsGranted, WaitersWaitForOthers
 use core_store::BlockCore;
 use lock_queue::LockTable;
 use monitor::{Answer, Config, Event, JobView, Rounds, System};
-use queue_script::ScriptTable;
+use lock_table::ProgramTable;
 use std::alloc::{AllocError, Global};
 use std::marker::Model;
 use word36::{Address, Word};
@@ -24,7 +24,7 @@ use word36::{Address, Word};
 /// A machine, as `System` is one, with the lock table and the core of the programs.
 #[derive(Drop)]
 pub struct Machine {
-    system: System<ScriptTable, BlockCore>,
+    system: System<ProgramTable, BlockCore>,
 }
 
 impl Model for Machine {
@@ -119,8 +119,8 @@ impl Machine {
     }
 
     /// The table of the requests of all jobs.
-    pub fn locks(&self) -> &ScriptTable
-        ensures { ⟦<ScriptTable as LockTable>⟧.requests result.now ≡ self.now.world.requests }
+    pub fn locks(&self) -> &ProgramTable
+        ensures { ⟦<ProgramTable as LockTable>⟧.requests result.now ≡ self.now.world.requests }
     {
         self.system.locks()
     }

@@ -13,7 +13,7 @@ use crate::graph::Graph;
 use crate::lanes::lanes_of;
 use crate::queue_course::watch_queue;
 use lock_queue::LockTable;
-use queue_script::ScriptTable;
+use lock_table::ProgramTable;
 use std::alloc::Global;
 
 /// The drawing of what was seen along a script, with the waits after the line `at`, where that was
@@ -68,7 +68,7 @@ pub fn draw_script(alloc: Global, script: &[u8], at: Option<usize>) -> Result<Dr
     ensures fault { IfErr result (λ e. IsFaultOf at (length (lines script.now)) (course script.now) e) }
     ensures ends { (course script.now).ending ≡ (transcript script.now).ending }
 {
-    let mut table = ScriptTable::new(alloc)?;
+    let mut table = ProgramTable::new(alloc)?;
     let seen = watch_queue(alloc, &mut table, script, at)?;
     drawing_of(alloc, seen, at, &table)
 }

@@ -16,6 +16,7 @@ use key_queues::{Keys, Store};
 use lock_queue::{Key, LockCall, LockReply, LockTable, Request, RequestId, Status, Woken};
 use std::alloc::{AllocError, Global};
 use std::marker::Model;
+use word36::MOST_REQUESTS;
 
 /// A table with its requests in a slab, a queue for each key, a list for each job, and whether each request
 /// is granted.
@@ -28,6 +29,9 @@ pub struct IndexedTable<const REQS: usize> {
     ghost few: { length (requests table) ≤ REQS },
     ghost well: { IsTrue (are_well_formed (requests table)) },
 }
+
+/// The lock table of all programs. Each names it by this name, so that another table is put in here alone.
+pub type ProgramTable = IndexedTable<MOST_REQUESTS>;
 
 impl<const REQS: usize> Model for IndexedTable<REQS> {
     ghost use Rattle.lock_table.specs.Seen.{Seen};

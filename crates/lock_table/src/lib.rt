@@ -19,4 +19,4 @@ mod told;
 mod turns;
 mod waking;
 
-pub use indexed::IndexedTable;
+pub use indexed::{IndexedTable, ProgramTable};

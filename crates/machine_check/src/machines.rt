@@ -6,7 +6,7 @@ use core_store::{BlockCore, CoreStore, PlainCore};
 use lock_queue::{Key, LockTable, Request, Status};
 use monitor::{Answer, Event, JobView, System};
 use plain_table::PlainTable;
-use queue_script::ScriptTable;
+use lock_table::ProgramTable;
 use std::alloc::{AllocError, Global};
 use std::io;
 use word36::{MOST_REQUESTS, Word};
@@ -114,7 +114,7 @@ fn list_of<L: LockTable>(alloc: Global, locks: &L) -> Result<Vec<Listed<'_>>, Al
 type Plain = System<PlainTable<MOST_REQUESTS>, PlainCore>;
 
 /// The machine that `lockmon run` holds.
-type Fast = System<ScriptTable, BlockCore>;
+type Fast = System<ProgramTable, BlockCore>;
 
 /// Makes a run on machines from a fresh boot, and says whether all holds.
 pub fn on_machines<R: Print + AllocGlobal>(rt: &R, run: Run) -> io::Result<bool> {

@@ -6,7 +6,7 @@ use core_store::PlainCore;
 use mac_asm::{AsmError, assemble};
 use mac_text::{ParseError, parse};
 use monitor::{Config, System};
-use queue_script::ScriptTable;
+use lock_table::ProgramTable;
 use std::alloc::Global;
 
 /// A source of twelve lines and fourteen words, with a label, literals and a text.
@@ -28,7 +28,7 @@ pub fn boot(alloc: Global) -> Finding {
     let Some(config) = Config::new(64, 1) else {
         return Finding::Wrong;
     };
-    match System::<ScriptTable, PlainCore>::boot(alloc, config) {
+    match System::<ProgramTable, PlainCore>::boot(alloc, config) {
         Ok(system) => whole_if(system.job(1).is_none() && system.data_word(1023).is_some()),
         Err(_) => Finding::Refused,
     }

@@ -5,11 +5,11 @@ use crate::sources::Source;
 use core_store::{BlockCore, CoreStore};
 use lock_queue::LockTable;
 use monitor::System;
-use queue_script::ScriptTable;
+use lock_table::ProgramTable;
 use std::marker::Model;
 
 /// The machine of the programs, with the tables that it keeps its locks and its core in.
-pub type Machine = System<ScriptTable, BlockCore>;
+pub type Machine = System<ProgramTable, BlockCore>;
 
 /// What a script works on.
 #[derive(Drop)]

@@ -20,7 +20,7 @@ use core_store::{BlockCore, CoreStore};
 use lock_queue::LockTable;
 use mac_asm::{AsmError, assemble};
 use monitor::{Config, Event};
-use queue_script::ScriptTable;
+use lock_table::ProgramTable;
 use script_io::{
     ByteIn, ByteOut, Ending, LineService, LineSession, ServeError, is_allowed, push_fault,
     serve_script,
@@ -172,7 +172,7 @@ fn obey<L: LockTable, C: CoreStore>(
 #[derive(Drop)]
 pub struct RunService {
     alloc: Global,
-    desk: Desk<ScriptTable, BlockCore>,
+    desk: Desk<ProgramTable, BlockCore>,
 }
 
 impl RunService {

@@ -16,5 +16,5 @@ pub use commands::{Command, read_command};
 pub use locks::{CODE_DIGITS, MOST_CODE};
 pub use options::{MOST_HALF, MOST_LEVEL, read_half};
 pub use printing::{push_code, push_request};
-pub use queue_scripts::{QueueService, ScriptTable, push_requests, serve_queue};
+pub use queue_scripts::{QueueService, push_requests, serve_queue};
 pub use wait_pairs::{pair_table, push_waits, waiting_jobs};

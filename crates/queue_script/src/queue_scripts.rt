@@ -14,16 +14,11 @@ use crate::commands::{Command, read_command};
 use crate::printing::{push_code, push_grants, push_reply, push_request, push_status};
 use crate::wait_pairs::push_waits;
 use lock_queue::{LockCall, LockTable, Refusal, Want, Wants, Woken};
-use lock_table::IndexedTable;
+use lock_table::ProgramTable;
 use script_io::{
     ByteIn, ByteOut, Ending, LineService, LineSession, ServeError, push_fault, serve_script,
 };
 use std::alloc::{AllocError, Global};
-use word36::MOST_REQUESTS;
-
-/// The lock table of the programs. Each of them names it by this name, so that another table is put
-/// in here alone.
-pub type ScriptTable = IndexedTable<MOST_REQUESTS>;
 
 /// Makes a call of a job that does not wait, and adds its answer and the grants that it makes.
 #[tactic(auto, using(std::proofs::Common::append_assoc))]
@@ -265,5 +260,5 @@ pub fn serve_queue<R: ByteIn, W: ByteOut>(
     ensures serves { Serves transcript (R.to_come reader.old) (R.to_come reader.new) (W.written writer.old) (W.written writer.new) (served_as result) }
     ensures blames { IfErr (served_as result) (λ e. Blames e (R.has_failed reader.new) (W.has_failed writer.new)) }
 {
-    serve_on::<ScriptTable, R, W>(alloc, reader, writer)
+    serve_on::<ProgramTable, R, W>(alloc, reader, writer)
 }
