@@ -1,7 +1,13 @@
-//! Tests of the monitor calls and of the scheduler: rows whose results were worked out by hand, on the
-//! plain table and the plain store.
+//! Tests of the monitor calls and of the scheduler, and of the blocks that lock calls read: rows whose results were
+//! worked out by hand, on the plain table and the plain store.
 #![tactic(auto)]
 
+#[cfg(test)]
+mod block_job;
+#[cfg(test)]
+mod block_rows;
+#[cfg(test)]
+mod blocks;
 #[cfg(test)]
 mod core_and_data;
 #[cfg(test)]

@@ -1,7 +1,7 @@
 //! What is done with a store, row by row, with the answers worked out by hand.
 
-use crate::acts::Act::{Blocks, Free, Has, Read, Write};
-use crate::acts::Row;
+use crate::core_acts::Act::{Blocks, Free, Has, Read, Write};
+use crate::core_acts::Row;
 use word36::JOBS;
 
 /// All 256 blocks in one job, and one more than there are.

@@ -1,7 +1,7 @@
 //! The rows of a test: a block in a job's memory, and what calls are told of it.
 
-use crate::job::Fact::{Code, Id, Limit, Locks, NameOf, Refused, Share, Terms};
-use crate::job::{Fact, Halves, JOB, Job};
+use crate::block_job::Fact::{Code, Id, Limit, Locks, NameOf, Refused, Share, Terms};
+use crate::block_job::{Fact, Halves, JOB, Job};
 use lock_queue::BlockUse::{Blocking, Full, Named};
 use lock_queue::{BlockUse, Refusal, Scope};
 use std::alloc::{AllocError, Global};

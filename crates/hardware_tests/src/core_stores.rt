@@ -2,8 +2,8 @@
 
 ghost use Rattle.std.specs.Prelude.{◌<◌, ◌^◌};
 
-use crate::acts::{Act, answer, first_difference, first_word_apart, walk};
-use crate::tables::{ALL_IN_ONE, GROWN, MOVED_TOGETHER, NEW_CORE};
+use crate::core_acts::{Act, answer, first_difference, first_word_apart, walk};
+use crate::core_tables::{ALL_IN_ONE, GROWN, MOVED_TOGETHER, NEW_CORE};
 use crate::{come_and_go, copy_word, fetch_in, hand_over, log_in, step_beside, step_in, write_in};
 use core_store::{BlockCore, CoreStore, NoCore, PlainCore};
 use ka_cpu::{CoreWords, Flags, JobMemory, Outcome, Regs};

@@ -1,7 +1,7 @@
 use Rattle.std.proofs.Common.{◌≡◌, ◌≤◌, ◌+◌, true, length, nat_le}
 use Rattle.std.specs.List.{list_all}
 use Rattle.lock_queue.specs.WellFormed.{shares_rightly}
-use Rattle.two_tables.proofs.generated.wants.Given as goal
+use Rattle.lock_tests.proofs.generated.wants.Given as goal
 
 abbrev pub invariant-loop : goal.invariant-loop
 invariant-loop l =

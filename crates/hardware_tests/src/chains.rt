@@ -1,7 +1,7 @@
 //! Chains of indirect words, and bytes in turn.
 
 use crate::SliceCore;
-use crate::machine::{USER, fresh, look, put};
+use crate::slice_core::{USER, fresh, look, put};
 use ka_cpu::{Outcome, Regs, StopReason, step};
 use word36::Word;
 

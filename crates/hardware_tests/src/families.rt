@@ -1,7 +1,7 @@
 //! Each operation once.
 
 use crate::SliceCore;
-use crate::machine::{USER, fresh, put};
+use crate::slice_core::{USER, fresh, put};
 use ka_cpu::{Outcome, StopReason, step};
 use word36::Word;
 

@@ -1,5 +1,0 @@
-//! Tests of the terminal lines, at their limits.
-#![tactic(auto)]
-
-#[cfg(test)]
-mod tests;
