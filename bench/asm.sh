@@ -3,6 +3,7 @@
 # lines with 20,000 labels and as many references.
 set -eu
 cd "$(dirname "$0")"
+. ./counted.sh
 program=../crates/lockmon/out/lockmon
 source() {
     awk -v n="$1" 'BEGIN {
@@ -14,8 +15,7 @@ source() {
     }'
 }
 for n in 10000 20000; do
-    counted=$(source $n | valgrind --tool=callgrind --callgrind-out-file=/dev/null "$program" asm 2>&1 >/dev/null | sed -n 's/.*Collected : *//p')
-    eval "at_$n=$counted"
+    eval "at_$n=$(source $n | counted "$program" asm)"
 done
 echo "$(((at_20000 - at_10000) / 10000)) host instructions a line"
 time source 100000 | "$program" asm >/dev/null

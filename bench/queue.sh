@@ -5,6 +5,7 @@
 # 31 want each of its locks; and the same of a full table of 1,024, where 63 do.
 set -eu
 cd "$(dirname "$0")"
+. ./counted.sh
 program=${LOCKMON:-../crates/lockmon/out/lockmon}
 turns() { awk -v n="$1" 'BEGIN { for (i = 0; i < n; i += 2) print "ENQ 1 1 1 X\nDEQ 1 0 X" }'; }
 present() { awk -v n="$1" 'BEGIN { for (i = 0; i < n; i++) print "ENQ " 2 + i % 60 " 1 " i " N" i "/B" }'; }
@@ -20,18 +21,18 @@ held() { # requests jobs leaving
         for (job = 1; job <= n; job++) print "DEQ " job " 2 " job
     }'
 }
-counted() { valgrind --tool=callgrind --callgrind-out-file=/dev/null "$program" queue 2>&1 >/dev/null | sed -n 's/.*Collected : *//p'; }
+count_queue() { counted "$program" queue; }
 each() { # what shorter longer commands
     echo "$1: $((($3 - $2) / $4)) host instructions"
 }
-each "by turns" "$(turns 2000 | counted)" "$(turns 12000 | counted)" 10000
+each "by turns" "$(turns 2000 | count_queue)" "$(turns 12000 | count_queue)" 10000
 time turns 1000000 | "$program" queue >/dev/null
 for n in 200 1000; do
-    each "beside $n requests" "$( (present $n; turns 1000) | counted)" "$( (present $n; turns 2000) | counted)" 1000
+    each "beside $n requests" "$( (present $n; turns 1000) | count_queue)" "$( (present $n; turns 2000) | count_queue)" 1000
 done
 busy=$(mktemp)
 trap 'rm -f "$busy"' EXIT
 python3 busy.py 20000 >"$busy"
-each "on a busy table" "$(head -10000 "$busy" | counted)" "$(counted <"$busy")" 10000
-each "leaving a table of 256" "$(held 256 31 10 | counted)" "$(held 256 31 20 | counted)" 10
-each "leaving a full table" "$(held 1024 63 10 | counted)" "$(held 1024 63 20 | counted)" 10
+each "on a busy table" "$(head -10000 "$busy" | count_queue)" "$(counted <"$busy")" 10000
+each "leaving a table of 256" "$(held 256 31 10 | count_queue)" "$(held 256 31 20 | count_queue)" 10
+each "leaving a full table" "$(held 1024 63 10 | count_queue)" "$(held 1024 63 20 | count_queue)" 10

@@ -5,6 +5,7 @@
 # that is typed, or a TAKE.
 set -eu
 cd "$(dirname "$0")"
+. ./counted.sh
 program=${LOCKMON:-../crates/lockmon/out/lockmon}
 sentence='THE QUICK BROWN FOX JUMPS OVER THE LAZY DOG AND SLEEPS. 01'
 
@@ -45,18 +46,18 @@ answers() { # rounds
     local typed=$sentence$sentence
     for ((n = 0; n < $1; n++)); do printf 'TYPE 0 %s\nRUN 4\nTAKE 0\n' "${typed:0:100}"; done
 }
-counted() { valgrind --tool=callgrind --callgrind-out-file=/dev/null "$program" run "$@" 2>&1 >/dev/null | sed -n 's/.*Collected : *//p'; }
+count_run() { counted "$program" run "$@"; }
 # What is measured, and the instructions and the events of a short and of a long run.
 each() { echo "$1: $((($4 - $2) / ($5 - $3))) host instructions an event"; }
 for jobs in 1 16; do
     for quantum in 1 60; do
-        short=$(compute $jobs 100000 | counted --quantum $quantum)
-        long=$(compute $jobs 300000 | counted --quantum $quantum)
+        short=$(compute $jobs 100000 | count_run --quantum $quantum)
+        long=$(compute $jobs 300000 | count_run --quantum $quantum)
         each "$jobs jobs, quantum $quantum" "$short" 100000 "$long" 300000
     done
 done
-each "two jobs that count under a lock" "$(count 1000 | counted)" 22004 "$(count 3000 | counted)" 66004
-each "16 jobs that want one lock" "$(contend 100000 | counted)" 100000 "$(contend 300000 | counted)" 300000
-each "one job that prints among 15" "$(print 500 | counted)" 128500 "$(print 1500 | counted)" 385500
-each "16 jobs that echo what is typed" "$(echoes 50 | counted)" 128800 "$(echoes 150 | counted)" 386400
-each "one job that answers what is typed" "$(answers 1000 | counted)" 105000 "$(answers 3000 | counted)" 315000
+each "two jobs that count under a lock" "$(count 1000 | count_run)" 22004 "$(count 3000 | count_run)" 66004
+each "16 jobs that want one lock" "$(contend 100000 | count_run)" 100000 "$(contend 300000 | count_run)" 300000
+each "one job that prints among 15" "$(print 500 | count_run)" 128500 "$(print 1500 | count_run)" 385500
+each "16 jobs that echo what is typed" "$(echoes 50 | count_run)" 128800 "$(echoes 150 | count_run)" 386400
+each "one job that answers what is typed" "$(answers 1000 | count_run)" 105000 "$(answers 3000 | count_run)" 315000
