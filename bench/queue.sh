@@ -33,6 +33,6 @@ done
 busy=$(mktemp)
 trap 'rm -f "$busy"' EXIT
 python3 busy.py 20000 >"$busy"
-each "on a busy table" "$(head -10000 "$busy" | count_queue)" "$(counted <"$busy")" 10000
+each "on a busy table" "$(head -10000 "$busy" | count_queue)" "$(count_queue <"$busy")" 10000
 each "leaving a table of 256" "$(held 256 31 10 | count_queue)" "$(held 256 31 20 | count_queue)" 10
 each "leaving a full table" "$(held 1024 63 10 | count_queue)" "$(held 1024 63 20 | count_queue)" 10
