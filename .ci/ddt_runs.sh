@@ -5,13 +5,9 @@
 # too long, an answer comes before the next line, and 10,000 lines of chance end in nothing but answers. The argument
 # is the program; without it the one that `rt ci` built. `--write` behind it writes each NAME.out anew.
 set -u
-export LC_ALL=C
-cd "$(dirname "$(readlink -f "$0")")/.."
+. "$(dirname "$(readlink -f "$0")")/common.sh"
 program=$(readlink -f "${1:-crates/ddt/out/ddt}")
 write=${2-}
-top=$PWD
-folder=$(mktemp -d)
-trap 'rm -rf "$folder"' EXIT
 ln -s "$top"/examples/*.mac "$top"/examples/*.ddt "$top"/tests/ddt/* "$folder/"
 cd "$folder"
 wrong=0

@@ -2,8 +2,7 @@
 # Whether contrib/help has what the programs themselves say to --help and --version: ./launch answers from there,
 # and contrib/man.sh makes the manual pages from it. `--write` writes the files anew. Build the programs first.
 set -u
-export LC_ALL=C
-cd "$(dirname "$(readlink -f "$0")")/.."
+. "$(dirname "$(readlink -f "$0")")/common.sh"
 wrong=0
 
 # The text of the words, from whichever stream it comes.

@@ -3,10 +3,7 @@
 # a warning and with the completion: into a folder that goes away again. Build the programs first. What needs `man`
 # or `bash` alone is looked at; the files for zsh and vim only have to be there.
 set -u
-export LC_ALL=C
-cd "$(dirname "$(readlink -f "$0")")/.."
-folder=$(mktemp -d)
-trap 'rm -rf "$folder"' EXIT
+. "$(dirname "$(readlink -f "$0")")/common.sh"
 wrong=0
 
 say() { echo "installed: $*" >&2; wrong=1; }
@@ -18,9 +15,8 @@ completed() {
 }
 
 ./install "$folder" 2>"$folder/told" || { cat "$folder/told" >&2; exit 1; }
-for text in contrib/help/*.txt; do
-    name=$(basename "$text" .txt)
-    [ "${name#*-}" = "$name" ] || continue
+for name in $(programs); do
+    text=contrib/help/$name.txt
     page=$folder/share/man/man1/$name.1
     [ "$("$folder/bin/$name" --version 2>&1)" = "$name $(cat contrib/help/version)" ] || say "$name says another version"
     [ "$(completed "$name" --vers)" = --version ] || say "$name --vers is not completed"

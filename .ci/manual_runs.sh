@@ -3,18 +3,11 @@
 # that `rt ci` built: what each writes has to be what stands below it. A command runs in a folder with the files of
 # examples/, which stand there once more under their names alone.
 set -u
-export LC_ALL=C
-top=$(dirname "$(readlink -f "$0")")/..
-top=$(readlink -f "$top")
-folder=$(mktemp -d)
-trap 'rm -rf "$folder"' EXIT
+. "$(dirname "$(readlink -f "$0")")/common.sh"
 mkdir "$folder/there"
 ln -s "$top/examples" "$folder/there/examples"
 ln -s "$top"/examples/* "$folder/there/"
-for text in "$top"/contrib/help/*.txt; do
-    name=$(basename "$text" .txt)
-    [ "${name#*-}" != "$name" ] || ln -s "$top/crates/$name/out/$name" "$folder/there/$name"
-done
+for name in $(programs); do ln -s "$top/crates/$name/out/$name" "$folder/there/$name"; done
 wrong=0
 
 # The runs of a page: each as its line number, its command, and the file with what should be written on it.

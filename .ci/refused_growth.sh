@@ -5,12 +5,9 @@
 # program; without it the one that `rt ci` built. (`rt try --fail-alloc` builds the program anew for each number,
 # so a library that is loaded before the program counts here.)
 set -eu
-export LC_ALL=C
-cd "$(dirname "$(readlink -f "$0")")/.."
+. "$(dirname "$(readlink -f "$0")")/common.sh"
 program=$(readlink -f "${1:-crates/machine_check/out/machine_check}")
 compiler=$(command -v cc || command -v clang || echo /opt/rattle/toolchain/bin/clang)
-folder=$(mktemp -d)
-trap 'rm -rf "$folder"' EXIT
 cat >"$folder/refuse.c" <<'END'
 /* The allocation of the number REFUSE is refused; where it was, the file REFUSED says so. */
 #define _GNU_SOURCE
