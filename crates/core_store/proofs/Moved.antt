@@ -213,7 +213,7 @@ cut words areas job blocks there less before after =
     let m : k < old.blocks * BLOCK_WORDS = omega arith in
     sym (part-at words base (old.blocks * BLOCK_WORDS) k fits m) ∙ sym (resized-at ws (blocks * BLOCK_WORDS) k l))
 
--- a job's core grows in its place
+-- a job's core grows where it lies
 pub grown : (words news : List ℕ) (areas : List Area) (job had blocks : ℕ) → had ≡ (area_of areas job).blocks → job < length areas
     → had ≤ blocks
     → length news ≡ length words

@@ -1,4 +1,4 @@
--- Sums over two lists of areas that agree but for one place.
+-- Sums over two lists of areas that agree but for one position.
 use Rattle.std.proofs.Common.{◌≡◌, ◌≢◌, ℕ, ◌+◌, ◌<◌, ◌∙◌, sym, ap, List, length, map, get_or, arith, inl, inr}
 use Rattle.std.specs.Prelude.{slice_set, sum_by}
 use Rattle.std.proofs.lemmas.Bool.{cases_eq}
@@ -10,7 +10,7 @@ use Rattle.core_store.specs.Layout.{area_of, no_area}
 at-map : (f : Area → ℕ) (areas : List Area) (k : ℕ) → k < length areas → get_or (map f areas) k 0 ≡ f (area_of areas k)
 at-map f areas k h = get_or-map f areas k no_area 0 h
 
--- they agree in every place
+-- they agree at every position
 pub sum-same : (f g : Area → ℕ) (xs ys : List Area) → length ys ≡ length xs → ((k : ℕ) → k < length xs → g (area_of ys k) ≡ f (area_of xs k))
     → sum_by g ys ≡ sum_by f xs
 sum-same f g xs ys e same =
@@ -23,7 +23,7 @@ sum-same f g xs ys e same =
     at-map g ys k m ∙ same k n ∙ sym (at-map f xs k n)) in
     sym (sum-map g ys) ∙ ap (λ ns. sum_by (λ n. n) ns) all ∙ sum-map f xs
 
--- they agree in every place but one
+-- they agree at every position but one
 pub sum-changed : (f g : Area → ℕ) (xs ys : List Area) (j : ℕ) → length ys ≡ length xs → j < length xs
     → ((k : ℕ) → k < length xs → k ≢ j → g (area_of ys k) ≡ f (area_of xs k))
     → sum_by g ys + f (area_of xs j) ≡ sum_by f xs + g (area_of ys j)

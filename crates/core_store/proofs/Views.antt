@@ -8,7 +8,7 @@ use Rattle.word36.specs.declared.sizes.TheConstants.{BLOCK_WORDS}
 use Rattle.core_store.specs.Plain.{IsPlain}
 use Rattle.core_store.specs.Cores.{IsWhole, IsStore, resized_words}
 
--- the words of the vector at a place
+-- the words of the vector at an address
 pub viewed : (vs : List (Vec ℕ Global)) (i : ℕ) (v : Vec ℕ Global) → i < length vs → v ≡ get_or vs i v → get_or (map (λ v. v.items) vs) i [] ≡ v.items
 viewed vs i v within at = get_or-map (λ v. v.items) vs i v [] within ∙ ap (λ v. v.items) (sym at)
 

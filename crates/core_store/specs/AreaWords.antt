@@ -15,7 +15,8 @@ pub part-at : (xs : List ℕ) (a n k : ℕ) → a + n ≤ length xs → k < n �
 part-at xs a n k h l = grind (arith, common_steps)
 
 -- two parts with the same words
-pub same-part : (xs ys : List ℕ) (a b n : ℕ) → a + n ≤ length xs → b + n ≤ length ys → ((k : ℕ) → k < n → get_or ys (b + k) 0 ≡ get_or xs (a + k) 0)
+pub same-part : (xs ys : List ℕ) (a b n : ℕ) → a + n ≤ length xs → b + n ≤ length ys
+    → ((k : ℕ) → k < n → get_or ys (b + k) 0 ≡ get_or xs (a + k) 0)
     → slice_range ys b (b + n) ≡ slice_range xs a (a + n)
 same-part xs ys a b n hx hy same =
     let lx : length (slice_range xs a (a + n)) ≡ n = length-part xs a n hx in
@@ -34,7 +35,8 @@ part-is xs ws a n h e same =
     part-at xs a n k h m ∙ same k m)
 
 -- the words of a job
-pub core-at : (words : List ℕ) (areas : List Area) (k : ℕ) → k < length areas → get_or (cores_in words areas) k [] ≡ area_words words (area_of areas k)
+pub core-at : (words : List ℕ) (areas : List Area) (k : ℕ) → k < length areas
+    → get_or (cores_in words areas) k [] ≡ area_words words (area_of areas k)
 core-at words areas k h = get_or-map (area_words words) areas k no_area [] h
 
 -- every job has the same words
@@ -64,5 +66,6 @@ cores-set words news areas moved job ws e there same new =
     let n : k < length areas = omega arith in
     elim (cases_eq k job) [
       | inl q ↦ rw q (core-at news moved job jm ∙ new ∙ sym (get_or-set_same (cores_in words areas) job ws [] ja))
-      | inr q ↦ core-at news moved k m ∙ same k n q ∙ sym (core-at words areas k n) ∙ sym (get_or-set_other (cores_in words areas) job k ws [] q)
+      | inr q ↦ core-at news moved k m ∙ same k n q ∙ sym (core-at words areas k n)
+          ∙ sym (get_or-set_other (cores_in words areas) job k ws [] q)
     ])

@@ -13,13 +13,13 @@ use Rattle.core_store.specs.declared.block.BlockCore.{BlockCore}
 abbrev pub meant : BlockCore → Cores
 meant s = record { cores = cores_in s.words.items s.areas; free = s.free }
 
--- the memory with words in the place of a job's
+-- the memory with other words for a job's
 abbrev pub written : BlockCore → ℕ → List ℕ → BlockCore
 written s job ws =
     let after = with_items_from s.words ((area_of s.areas job).base * BLOCK_WORDS) ws in
     record s { words = after; laid_out = subst (λ n. IsBlockCore n s.areas s.blocks s.free) (sym s.words.ok.0 ∙ after.ok.0) s.laid_out }
 
--- words in the place of others of the same list
+-- words that replace others of the same list
 abbrev splice : List ℕ → ℕ → List ℕ → List ℕ
 splice xs i ws = take i xs ++ (ws ++ drop (length ws) (drop i xs))
 
@@ -29,20 +29,24 @@ length-splice xs i ws h = grind (arith, common_steps)
 splice-below : (xs : List ℕ) (i : ℕ) (ws : List ℕ) (k : ℕ) → i + length ws ≤ length xs → k < i → get_or (splice xs i ws) k 0 ≡ get_or xs k 0
 splice-below xs i ws k h l = grind (arith, common_steps)
 
-splice-in : (xs : List ℕ) (i : ℕ) (ws : List ℕ) (k : ℕ) → i + length ws ≤ length xs → k < length ws → get_or (splice xs i ws) (i + k) 0 ≡ get_or ws k 0
+splice-in : (xs : List ℕ) (i : ℕ) (ws : List ℕ) (k : ℕ) → i + length ws ≤ length xs → k < length ws
+    → get_or (splice xs i ws) (i + k) 0 ≡ get_or ws k 0
 splice-in xs i ws k h l = grind (arith, common_steps)
 
-splice-above : (xs : List ℕ) (i : ℕ) (ws : List ℕ) (k : ℕ) → i + length ws ≤ length xs → i + length ws ≤ k → get_or (splice xs i ws) k 0 ≡ get_or xs k 0
+splice-above : (xs : List ℕ) (i : ℕ) (ws : List ℕ) (k : ℕ) → i + length ws ≤ length xs → i + length ws ≤ k
+    → get_or (splice xs i ws) k 0 ≡ get_or xs k 0
 splice-above xs i ws k h l = grind (arith, common_steps)
 
-items-written : (v : Vec ℕ Global) (i : ℕ) (ws : List ℕ) → i + length ws ≤ length v.items → (with_items_from v i ws).items ≡ splice v.items i ws
+items-written : (v : Vec ℕ Global) (i : ℕ) (ws : List ℕ) → i + length ws ≤ length v.items
+    → (with_items_from v i ws).items ≡ splice v.items i ws
 items-written v i ws h =
     let long : v.len ≡ length v.items = v.ok.0 in
     let same : length (splice v.items i ws) ≡ length v.items = length-splice v.items i ws h in
     grind (arith, common_steps)
 
 -- words that lie apart from those written are as before
-splice-apart : (xs : List ℕ) (i : ℕ) (ws : List ℕ) (a n : ℕ) → i + length ws ≤ length xs → a + n ≤ length xs → (a < i + length ws → a + n ≤ i)
+splice-apart : (xs : List ℕ) (i : ℕ) (ws : List ℕ) (a n : ℕ) → i + length ws ≤ length xs → a + n ≤ length xs
+    → (a < i + length ws → a + n ≤ i)
     → (k : ℕ) → k < n → get_or (splice xs i ws) (a + k) 0 ≡ get_or xs (a + k) 0
 splice-apart xs i ws a n h fits apart k l = grind (arith, splice-below xs i ws (a + k) h, splice-above xs i ws (a + k) h)
 

@@ -1,15 +1,16 @@
 -- What a store of core means: words of jobs, and free blocks (this project's profile; core is given
 -- out in whole blocks, and a job's words are numbered from 0, as in the TOPS-10 Monitor Calls
 -- Manual).
-use Rattle.std.specs.Prelude.{ℕ, ◌≡◌, ◌≤◌, ◌+◌, ◌-◌, ◌*◌, ◌/◌, List, [], ◌++◌, length, slice_index_or, slice_set, replicate, take, All, sum_by}
+use Rattle.std.specs.Prelude.{ℕ, ◌≡◌, ◌≤◌, ◌+◌, ◌-◌, ◌*◌, ◌/◌, List, [], ◌++◌}
+use Rattle.std.specs.Prelude.{length, slice_index_or, slice_set, replicate, take, All, sum_by}
 use Rattle.word36.specs.declared.sizes.TheConstants.{JOBS, BLOCK_WORDS, MOST_BLOCKS}
 
--- the words of each job, at the place of its number, and how many blocks are free
+-- the words of each job, by its number, and how many blocks are free
 pub record Cores : Type 0 where
   pub cores : List (List ℕ)
   pub free : ℕ
 
--- jobs are numbered from 1, so the words at place 0 are no job's
+-- jobs are numbered from 1, so the words of number 0 are no job's
 abbrev pub IsJob : ℕ → Type 0
 IsJob job = (1 ≤ job) × (job ≤ JOBS)
 
@@ -54,7 +55,7 @@ IsWhole words = length words / BLOCK_WORDS * BLOCK_WORDS ≡ length words
 
 -- what holds of every store
 pub record IsStore (s : Cores) : Type 0 where
-  -- there is a place for each job, and one before them
+  -- there is a list for each job, and one before them
   pub jobs : length s.cores ≡ JOBS + 1
   -- a job's words are whole blocks
   pub whole : All IsWhole s.cores

@@ -3,7 +3,7 @@ use Rattle.std.specs.Prelude.{ℕ, ◌≡◌, List, length, take, drop, ◌++◌
 use Rattle.std.proofs.Common.{arith}
 use Rattle.std.proofs.lemmas.Grind.{common_steps}
 
--- new words in the place of old ones, cut or filled up so that the length stays
+-- new words that replace old ones, cut or filled up so that the length stays
 abbrev pub fitted : List ℕ → List ℕ → List ℕ
 fitted old new = take (length old) (new ++ drop (length new) old)
 

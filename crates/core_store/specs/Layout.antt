@@ -1,6 +1,7 @@
 -- One memory for all jobs, and where each job's words lie in it (this project's profile; as the
--- machine's relocation had it: a job's place is counted from its base).
-use Rattle.std.specs.Prelude.{ℕ, Bool, ◌≡◌, ◌≢◌, ◌<◌, ◌≤◌, ◌+◌, ◌*◌, List, length, map, slice_range, slice_index_or, cond, nat_le, ◌||◌, ◌&&◌, sum_by}
+-- machine's relocation had it: a job's addresses are counted from its base).
+use Rattle.std.specs.Prelude.{ℕ, Bool, ◌≡◌, ◌≢◌, ◌<◌, ◌≤◌, ◌+◌, ◌*◌, List}
+use Rattle.std.specs.Prelude.{length, map, slice_range, slice_index_or, cond, nat_le, ◌||◌, ◌&&◌, sum_by}
 use Rattle.std.specs.List.{list_all}
 use Rattle.word36.specs.declared.sizes.TheConstants.{JOBS, BLOCK_WORDS, MOST_BLOCKS}
 use Rattle.core_store.specs.declared.areas.Area.{Area}
@@ -42,7 +43,8 @@ pub record IsLaidOut (size : ℕ) (areas : List Area) : Type 0 where
   -- each area is among the words
   pub within : (k : ℕ) → k < length areas → (area_of areas k).base * BLOCK_WORDS + (area_of areas k).blocks * BLOCK_WORDS ≤ size
   -- no two jobs have a block in common: one that begins before another ends ends before it begins
-  pub apart : (i j : ℕ) → i < length areas → j < length areas → i ≢ j → (area_of areas i).base < (area_of areas j).base + (area_of areas j).blocks
+  pub apart : (i j : ℕ) → i < length areas → j < length areas → i ≢ j
+      → (area_of areas i).base < (area_of areas j).base + (area_of areas j).blocks
       → (area_of areas i).base + (area_of areas i).blocks ≤ (area_of areas j).base
   -- a job without blocks is said to be at block 0, where it is in no other's way
   pub bare : (k : ℕ) → k < length areas → (area_of areas k).blocks ≡ 0 → (area_of areas k).base ≡ 0

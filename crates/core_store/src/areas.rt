@@ -67,7 +67,8 @@ pub(crate) fn hole_of(areas: &[Area], all: u32, blocks: u32) -> Option<u32>
 
 /// The job whose area begins at a block.
 pub(crate) fn job_at(areas: &[Area], block: u32) -> Option<usize>
-    ensures found { IfSome result (λ job. (job < length areas.now) × ((area_of areas.now job).base ≡ block) × (1 ≤ (area_of areas.now job).blocks)) }
+    ensures found { IfSome result (λ job. (job < length areas.now)
+        × ((area_of areas.now job).base ≡ block) × (1 ≤ (area_of areas.now job).blocks)) }
     ensures none { result ≡ None → (k : ℕ) → k < length areas.now → (area_of areas.now k).base ≡ block → (area_of areas.now k).blocks ≡ 0 }
 {
     for (job, area) in areas.iter().enumerate() {

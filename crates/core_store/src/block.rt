@@ -5,13 +5,13 @@ ghost use Rattle.std.specs.Prelude.{length};
 ghost use Rattle.std.proofs.Props.{props};
 
 use crate::areas::Area;
-use crate::rooms::{place, resize};
+use crate::rooms::{allot, resize};
 use crate::{CoreStore, NoCore};
 use std::alloc::{AllocError, Global};
 use word36::{BLOCK_WORDS, JOBS, Word};
 
-/// The places of a table of areas: one for each job, and place 0, which is no job's.
-const PLACES: usize = JOBS as usize + 1;
+/// The areas of a table: one for each job, by its number, and number 0, which is no job's.
+const AREAS: usize = JOBS as usize + 1;
 
 /// A store that keeps the words of all jobs in one vector, each job's together, from its base on.
 ///
@@ -21,8 +21,8 @@ const PLACES: usize = JOBS as usize + 1;
 pub struct BlockCore {
     /// The words of all blocks.
     words: Vec<Word>,
-    /// The blocks of each job, at the place of its number.
-    areas: [Area; PLACES],
+    /// The area of each job, by its number.
+    areas: [Area; AREAS],
     /// How many blocks there are.
     blocks: u32,
     /// How many of them no job has.
@@ -41,7 +41,7 @@ impl CoreStore for BlockCore {
         let words = vec![in alloc; Word::new(0); blocks as usize * BLOCK_WORDS]?;
         Ok(BlockCore {
             words,
-            areas: [Area::NONE; PLACES],
+            areas: [Area::NONE; AREAS],
             blocks,
             free: blocks,
         })
@@ -69,7 +69,7 @@ impl CoreStore for BlockCore {
         if blocks > self.free {
             return Err(NoCore);
         }
-        place(
+        allot(
             &mut self.words,
             &mut self.areas,
             self.blocks,

@@ -52,7 +52,8 @@ pub(crate) fn raise(words: &mut [Word], areas: &mut [Area], from: u32, end: u32,
     requires room { end * BLOCK_WORDS + by * BLOCK_WORDS ≤ length words.old }
     requires most { length words.old ≤ MOST_BLOCKS * BLOCK_WORDS }
     requires laid_out { IsLaidOut (length words.old) areas.old }
-    requires sides { (k : ℕ) → k < length areas.old → from < (area_of areas.old k).base + (area_of areas.old k).blocks → from ≤ (area_of areas.old k).base }
+    requires sides { (k : ℕ) → k < length areas.old
+        → from < (area_of areas.old k).base + (area_of areas.old k).blocks → from ≤ (area_of areas.old k).base }
     requires below { (k : ℕ) → k < length areas.old → (area_of areas.old k).base + (area_of areas.old k).blocks ≤ end }
     ensures laid_out { IsLaidOut (length words.old) areas.new }
     ensures areas { areas.new ≡ map (raised from by) areas.old }

@@ -13,7 +13,7 @@ use word36::{BLOCK_WORDS, JOBS, Word};
 /// A store that keeps each job's words in a vector of its own, with room for all blocks.
 #[derive(Drop)]
 pub struct PlainCore {
-    /// The words of each job, at the place of its number.
+    /// The words of each job, by its number.
     cores: Vec<Vec<Word>>,
     /// How many blocks there are.
     blocks: u32,

@@ -40,7 +40,8 @@ fn make_room(words: &mut [Word], areas: &mut [Area], all: u32, job: usize, block
     ensures laid_out { IsLaidOut (length words.old) areas.new }
     ensures cores { cores_in words.new areas.new ≡ cores_in words.old areas.old }
     ensures jobs { length areas.new ≡ length areas.old }
-    ensures room { IsLaidOut (length words.old) (slice_set areas.new job (record { base = (area_of areas.new job).base; blocks = blocks })) }
+    ensures room { IsLaidOut (length words.old)
+        (slice_set areas.new job (record { base = (area_of areas.new job).base; blocks = blocks })) }
 {
     let Area { base, blocks: had } = areas[job];
     let more = Area {
@@ -60,7 +61,7 @@ fn make_room(words: &mut [Word], areas: &mut [Area], all: u32, job: usize, block
 }
 
 /// Gives a job without core so many blocks of zeros.
-pub(crate) fn place(words: &mut [Word], areas: &mut [Area], all: u32, job: usize, blocks: u32)
+pub(crate) fn allot(words: &mut [Word], areas: &mut [Area], all: u32, job: usize, blocks: u32)
     requires job { job < length areas.old }
     requires size { length words.old ≡ all * BLOCK_WORDS }
     requires most { all ≤ MOST_BLOCKS }

@@ -51,7 +51,7 @@ pub trait CoreStore: Drop {
         ensures whole { result * BLOCK_WORDS ≡ length (core_of (meaning self.now) job) }
         ensures most { result + (meaning self.now).free ≤ MOST_BLOCKS };
 
-    /// The word at a place of a job's core, if the job has that place.
+    /// The word at an address of a job's core. None where the job has no such address.
     fn read(&self, job: u8, a: u32) -> Option<Word>
         requires { IsJob job }
         ensures { result ≡ slice_get (core_of (meaning self.now) job) a };

@@ -4,7 +4,7 @@ use Rattle.std.specs.Prelude.{slice_index, slice_get}
 use Rattle.std.proofs.lemmas.Option.{slice_get-get_or, get_or_from_slice_get}
 use Rattle.std.proofs.lemmas.Bool.Decides.{nat_tests}
 use Rattle.std.proofs.Math.ListN.{length-set}
-use Rattle.ka_cpu.specs.Places.{word_at}
+use Rattle.ka_cpu.specs.Memory.{word_at}
 use Rattle.ka_cpu.specs.Blocks.{Store, copied, moved_words, stored}
 
 moved_at : (m k : ℕ) (t u : Store) (s d : ℕ) → k ≡ suc m → u ≡ stored t d (word_at t.ac t.core (s % 2 ^ 18))
@@ -46,7 +46,7 @@ copied_end k i ws s d h = copied_zero (k - i) ws s d (omega arith)
 
 pub ruleset copy_steps = (copied_turn, copied_read, copied_end)
 
--- behind the registers, where no place wraps, the words that are moved are those of core
+-- behind the registers, where no address wraps, the words that are moved are those of core
 stored_core : (ac core : List ℕ) (s d : ℕ) → 16 ≤ s → 16 ≤ d → s < length core → s < 2 ^ 18
     → stored (record { ac = ac; core = core }) d (word_at ac core (s % 2 ^ 18)) ≡ record { ac = ac; core = slice_set core d (slice_index core s) }
 stored_core ac core s d a b l t =

@@ -1,7 +1,7 @@
 use Rattle.std.proofs.Common.{◌≡◌, ℕ, ◌≤◌, ◌⊎◌, suc, zero, Option, Some, None, Ok, Err, Result, List, [], ◌∷◌, length}
 use Rattle.std.proofs.Common.{Bool, true, false, cond, refl, arith, sym, ◌∙◌, inl, inr, ap}
 use Rattle.ka_cpu.specs.declared.limits.TheConstants.{MOST_LINKS}
-use Rattle.ka_cpu.specs.Places.{word_at}
+use Rattle.ka_cpu.specs.Memory.{word_at}
 use Rattle.ka_cpu.specs.Addresses.{Target, target_here, target_from, target_of, is_indirect, direct_address, LeadsTo, reading}
 use Rattle.ka_cpu.specs.declared.outcome.StopReason.{StopReason}
 use Rattle.ka_cpu.specs.declared.outcome.StopReason.TheVariants.{AddressChain}

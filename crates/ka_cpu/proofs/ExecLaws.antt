@@ -18,8 +18,8 @@ use Rattle.ka_cpu.specs.Blocks.{Store, stored, moved_words, blt_after, all_legal
 use Rattle.ka_word.specs.Bytes.{byte_of, deposited, incremented}
 use Rattle.ka_word.specs.Quotients.{no_quotient, quotient_of, remainder_of}
 use Rattle.ka_word.specs.Shifts.{ash_of, ash_overflows, lsh_of, lshc_of, rot_of, rotc_of}
-use Rattle.ka_cpu.specs.Bytes.{byte_after, with_pointer, behind_pointer, byte_done, byte_place, byte_effect, increments, loads}
-use Rattle.ka_cpu.specs.Effects.{After, Effect, Ending, Goes_on, Calls, Halts, Overruns, EndsAs, told, stopped, finished, applied, core_memory, ac_memory}
+use Rattle.ka_cpu.specs.Bytes.{byte_after, with_pointer, behind_pointer, byte_done, located_byte, byte_effect, increments, loads}
+use Rattle.ka_cpu.specs.Effects.{After, Effect, Ending, Goes_on, Calls, Halts, Overruns, EndsAs, outcome_of, stopped, finished, applied, core_memory, ac_memory}
 use Rattle.ka_cpu.specs.Effects.{ac_put, memory_legal, next_pc, next_ac, a_of, goes_on, goes_to, moved_to, moved_operand, computed_to}
 use Rattle.ka_cpu.specs.Exec.{op_of, ac_field, is_listed, row_of, carried_out, at_address, performed, word_performed, exec}
 use Rattle.ka_cpu.specs.Moves.{move_row, transferred, exch_row, negates}
@@ -33,7 +33,7 @@ use Rattle.ka_cpu.specs.Tests.{test_row}
 use Rattle.ka_cpu.specs.Shifts.{shift_row, pair_of, pair_effect}
 use Rattle.ka_cpu.specs.Jumps.{jffo_row, aobj_row, jrst_row, jfcl_row, jsr_row, jsp_row, jsa_row, jra_row, call_row, restored}
 use Rattle.ka_cpu.specs.Stacks.{pushj_row, push_row, pop_row, popj_row}
-use Rattle.ka_cpu.specs.Places.{word_at, ac_with, core_with, is_legal}
+use Rattle.ka_cpu.specs.Memory.{word_at, ac_with, core_with, is_legal}
 use Rattle.ka_cpu.specs.Instructions.{Instruction}
 use Rattle.ka_cpu.specs.declared.outcome.CallKind.{CallKind}
 use Rattle.ka_cpu.specs.declared.outcome.CallKind.TheVariants as call
@@ -102,26 +102,26 @@ keeps-stopped : (g : Regs) (core : List ℕ) (r : StopReason) → Keeps g core (
 keeps-stopped g core r = record { cells = refl; registers = refl; pc = λ h. h; ends = ends-stopped g core r }
 
 -- an effect that is carried out
-ends-told : (g : Regs) (core : List ℕ) (n : Instruction) (m : Option (ℕ × ℕ)) (a x : Option ℕ) (f : Flags) (p : ℕ) (e : Ending)
+ends-outcome_of : (g : Regs) (core : List ℕ) (n : Instruction) (m : Option (ℕ × ℕ)) (a x : Option ℕ) (f : Flags) (p : ℕ) (e : Ending)
     → EndsWith g m a x f p e
-    → EndsAs (told e) g core (record { ac = ac_put (ac_put (ac_memory g.ac m) n.ac a) (next_ac n) x; pc = p; flags = f }) (core_memory core m)
+    → EndsAs (outcome_of e) g core (record { ac = ac_put (ac_put (ac_memory g.ac m) n.ac a) (next_ac n) x; pc = p; flags = f }) (core_memory core m)
 unfolding EndsWith
-ends-told g core n m a x f p Goes_on h = tt
-ends-told g core n m a x f p Overruns h = tt
-ends-told g core n m a x f p Halts h = rw (h.0, h.1, h.2, h.3) (refl, refl)
-ends-told g core n m a x f p (Calls kind k e) h = (h.5, h.6, rw (h.0, h.1, h.2, h.3, h.4) refl, rw h.0 refl)
+ends-outcome_of g core n m a x f p Goes_on h = tt
+ends-outcome_of g core n m a x f p Overruns h = tt
+ends-outcome_of g core n m a x f p Halts h = rw (h.0, h.1, h.2, h.3) (refl, refl)
+ends-outcome_of g core n m a x f p (Calls kind k e) h = (h.5, h.6, rw (h.0, h.1, h.2, h.3, h.4) refl, rw h.0 refl)
 
 keeps-done : (g : Regs) (core : List ℕ) (n : Instruction) (x : Effect) → Fair g x
     → Keeps g core (record {
       regs = record { ac = ac_put (ac_put (ac_memory g.ac x.memory) n.ac x.ac) (next_ac n) x.next; pc = x.pc; flags = x.flags };
       core = core_memory core x.memory;
-      outcome = told x.ending;
+      outcome = outcome_of x.ending;
     })
 keeps-done g core n x h = record {
   cells = length-core_memory core x.memory;
   registers = length-ac_put _ (next_ac n) x.next ∙ (length-ac_put _ n.ac x.ac ∙ length-ac_memory g.ac x.memory);
   pc = λ _. h.pc;
-  ends = ends-told g core n x.memory x.ac x.next x.flags x.pc x.ending h.ends;
+  ends = ends-outcome_of g core n x.memory x.ac x.next x.flags x.pc x.ending h.ends;
 }
 
 keeps-applied : (g : Regs) (core : List ℕ) (n : Instruction) (x : Effect) → Fair g x → Keeps g core (applied g core n x)
@@ -153,7 +153,7 @@ fair-on : (g : Regs) (m : Option (ℕ × ℕ)) (a x : Option ℕ) (f : Flags) (k
 unfolding EndsWith
 fair-on g m a x f k = record { pc = omega arith; ends = tt }
 
--- it goes to a place
+-- it goes to an address
 fair-to : (g : Regs) (m : Option (ℕ × ℕ)) (a x : Option ℕ) (f : Flags) (e : ℕ) → e < 2 ^ 18
     → Fair g (record { memory = m; ac = a; next = x; flags = f; pc = e; ending = Goes_on })
 unfolding EndsWith
@@ -384,7 +384,7 @@ keeps-blt g core n =
     (λ _. record { cells = (length-moved _ _ _ _).0; registers = (length-moved _ _ _ _).1; pc = λ _. omega arith; ends = tt })
     (λ _. keeps-stopped g core reason.IllegalAddress)
 
--- the byte instructions: the place of a byte is legal, so only its search can refuse, and that leaves the old state
+-- the byte instructions: the address of a byte is legal, so only its search can refuse, and that leaves the old state
 legal-by : (b : Bool) (ac core : List ℕ) (e w : ℕ) → cond b (slice_get ac e) (slice_get core e) ≡ Some w → b || nat_lt e (length core) ≡ true
 legal-by true ac core e w h = refl
 legal-by false ac core e w h = legal_by false core e w h
@@ -397,10 +397,10 @@ legal-read (Some w) ac core e p q h =
     let P : ℕ × ℕ → Type 0 = λ x. is_legal core x.0 ≡ true in
     subst P i (legal-by (nat_lt e 16) ac core e w q)
 
-legal-place : (x : Result Target StopReason) (ac core : List ℕ) (p : ℕ × ℕ)
+legal-byte : (x : Result Target StopReason) (ac core : List ℕ) (p : ℕ × ℕ)
     → at_target {A = ℕ × ℕ} x (λ t. reading (word_at ac core t.e) (λ w. Ok (t.e, w))) ≡ Ok p → is_legal core p.0 ≡ true
-legal-place (Err r) ac core p h = cc
-legal-place (Ok t) ac core p h = legal-read (word_at ac core t.e) ac core t.e p refl h
+legal-byte (Err r) ac core p h = cc
+legal-byte (Ok t) ac core p h = legal-read (word_at ac core t.e) ac core t.e p refl h
 
 -- the byte is moved in the state that the stored pointer leaves
 keeps-byte : (old : Regs) (old_core : List ℕ) (g : Regs) (core : List ℕ) (n : Instruction) (x : Effect)
@@ -424,24 +424,24 @@ keeps-effect old old_core g core n p e w c a l =
     (λ _. keeps-byte old old_core g core n (record (goes_on g 1) { memory = Some (e, deposited p (a_of g n) w) }) c a l next refl)
 
 keeps-byte_done : (old : Regs) (old_core : List ℕ) (g : Regs) (core : List ℕ) (n : Instruction) (p : ℕ) (r : Result (ℕ × ℕ) StopReason)
-    → byte_place g.ac core p ≡ r → length core ≡ length old_core → length g.ac ≡ length old.ac
+    → located_byte g.ac core p ≡ r → length core ≡ length old_core → length g.ac ≡ length old.ac
     → Keeps old old_core (byte_done old old_core g core n p r)
 keeps-byte_done old old_core g core n p (Err r) q c a = keeps-stopped old old_core r
 keeps-byte_done old old_core g core n p (Ok b) q c a =
-    keeps-effect old old_core g core n p b.0 b.1 c a (legal-place (target_of g.ac core p) g.ac core b q)
+    keeps-effect old old_core g core n p b.0 b.1 c a (legal-byte (target_of g.ac core p) g.ac core b q)
 
 keeps-behind : (old : Regs) (old_core : List ℕ) (g : Regs) (core : List ℕ) (n : Instruction) (p : ℕ)
     → length core ≡ length old_core → length g.ac ≡ length old.ac → Keeps old old_core (behind_pointer old old_core g core n p)
 keeps-behind old old_core g core n p c a =
     by_test (Keeps old old_core) _ _ _ (λ _. record { cells = c; registers = a; pc = λ _. omega arith; ends = tt })
-    (λ _. keeps-byte_done old old_core g core n p (byte_place g.ac core p) refl c a)
+    (λ _. keeps-byte_done old old_core g core n p (located_byte g.ac core p) refl c a)
 
 keeps-pointer : (g : Regs) (core : List ℕ) (n : Instruction) (o : Option ℕ) → Keeps g core (with_pointer g core n o)
 keeps-pointer g core n None = keeps-stopped g core reason.IllegalAddress
 keeps-pointer g core n (Some p) =
     by_test (Keeps g core) (increments n.op) _ _
     (λ _. keeps-behind g core _ _ n _ (length-core_with core n.e (incremented p)) (length-ac_with g.ac n.e (incremented p)))
-    (λ _. keeps-byte_done g core g core n p (byte_place g.ac core p) refl refl refl)
+    (λ _. keeps-byte_done g core g core n p (located_byte g.ac core p) refl refl refl)
 
 keeps-byte_after : (g : Regs) (core : List ℕ) (n : Instruction) → Keeps g core (byte_after g core n)
 unfolding byte_after

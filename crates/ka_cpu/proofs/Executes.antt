@@ -3,7 +3,7 @@ use Rattle.std.proofs.Common.{false, refl, arith, ap, subst, sym, ◌∙◌, if�
 use Rattle.ka_isa.specs.Families.{family_of}
 use Rattle.ka_isa.specs.declared.Family.{Family}
 use Rattle.ka_cpu.specs.declared.limits.TheConstants.{MOST_EXECUTES}
-use Rattle.ka_cpu.specs.Places.{word_at}
+use Rattle.ka_cpu.specs.Memory.{word_at}
 use Rattle.ka_cpu.specs.Addresses.{Target, target_of, reading, at_target, address_in, used_in}
 use Rattle.ka_cpu.specs.Effects.{stopped}
 use Rattle.ka_isa.specs.declared.Family.TheVariants.{Xct}

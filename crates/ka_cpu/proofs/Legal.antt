@@ -5,13 +5,13 @@ use Rattle.ka_isa.specs.declared.Change.{Change}
 use Rattle.ka_isa.specs.declared.Change.TheVariants.{Keep, Up, Down}
 use Rattle.ka_cpu.specs.Effects.{memory_legal}
 use Rattle.ka_cpu.specs.Conditions.{if_changed}
-use Rattle.ka_cpu.specs.Places.{is_legal}
+use Rattle.ka_cpu.specs.Memory.{is_legal}
 
 pub legal_by : (b : Bool) (core : List ℕ) (e w : ℕ) → slice_get core e ≡ Some w → b || nat_lt e (length core) ≡ true
 legal_by true core e w h = refl
 legal_by false core e w h = let p : e < length core = slice_get_within core e w h in grind (arith, nat_tests)
 
--- a place that was read is legal
+-- an address that was read is legal
 pub legal_from_read : (core : List ℕ) (e w : ℕ) → slice_get core e ≡ Some w → is_legal core e ≡ true
 legal_from_read core e w h = legal_by (nat_lt e 16) core e w h
 

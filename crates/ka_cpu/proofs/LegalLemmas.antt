@@ -1,7 +1,7 @@
--- The last of several places decides whether all of them are legal.
+-- The last of several addresses decides whether all of them are legal.
 use Rattle.std.proofs.Common.{◌≡◌, ℕ, suc, zero, ◌+◌, ◌^◌, ◌<◌, ◌≤◌, List, length, true, ◌&&◌, ◌||◌, refl, arith, nat_le}
 use Rattle.std.proofs.lemmas.Bool.Decides.{nat_tests}
-use Rattle.ka_cpu.specs.Places.{is_legal, are_legal}
+use Rattle.ka_cpu.specs.Memory.{is_legal, are_legal}
 
 pub are_legal-suc : (core : List ℕ) (a n : ℕ)
     → are_legal core a (suc n) ≡ (nat_le (a + suc n) (2 ^ 18) && (nat_le (a + suc n) 16 || nat_le (a + suc n) (length core)))
@@ -23,4 +23,4 @@ legal_within core a n p h from below =
     let last = last_word_decides core a n (omega arith) in
     grind (arith, nat_tests)
 
-pub ruleset legal_places = (last_word_decides, none_is_legal)
+pub ruleset legal_addresses = (last_word_decides, none_is_legal)

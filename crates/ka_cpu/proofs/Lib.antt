@@ -4,7 +4,7 @@ pub mod ExecLaws
 pub mod Executes
 pub mod BlockLegal
 pub mod BlockSteps
-pub mod BytePlaces
+pub mod ByteAddresses
 pub mod Chain
 pub mod ChainLaw
 pub mod ChainRefusals
@@ -12,3 +12,4 @@ pub mod RunSteps
 pub mod RunLaws
 pub mod BlockLaws
 pub mod StackLaws
+pub mod Sums

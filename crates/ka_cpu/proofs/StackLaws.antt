@@ -8,8 +8,8 @@ use Rattle.std.proofs.lemmas.Option.{slice_get-get_or}
 use Rattle.std.proofs.Math.ListN.{length-set}
 use Rattle.word36.specs.Words.{right_half}
 use Rattle.ka_word.specs.Pushdown.{counted_down, counted_up}
-use Rattle.ka_cpu.specs.Places.{ac_with, core_with, is_legal, word_at}
-use Rattle.ka_cpu.specs.Effects.{After, a_of, finished, next_pc, told}
+use Rattle.ka_cpu.specs.Memory.{ac_with, core_with, is_legal, word_at}
+use Rattle.ka_cpu.specs.Effects.{After, a_of, finished, next_pc, outcome_of}
 use Rattle.ka_cpu.specs.Stacks.{pop_ending, pop_row, popped, push_ending, push_row, pushed}
 use Rattle.ka_cpu.specs.declared.registers.Regs.{Regs}
 use Rattle.ka_cpu.specs.Instructions.{Instruction}
@@ -59,7 +59,7 @@ push_is : (g : Regs) (core : List ℕ) (n : Instruction) (w : ℕ) → word_at g
         flags = g.flags;
       };
       core = core_with core (right_half (counted_up (a_of g n))) w;
-      outcome = told (push_ending (a_of g n));
+      outcome = outcome_of (push_ending (a_of g n));
     }
 unfolding push_row
 push_is g core n w e l = rw (e, l) refl
@@ -69,7 +69,7 @@ pop_is : (g : Regs) (core : List ℕ) (n : Instruction) (w : ℕ) → word_at g.
     ≡ record {
       regs = record { ac = slice_set (ac_with g.ac n.e w) n.ac (counted_down (a_of g n)); pc = next_pc g; flags = g.flags };
       core = core_with core n.e w;
-      outcome = told (pop_ending (a_of g n));
+      outcome = outcome_of (pop_ending (a_of g n));
     }
 unfolding pop_row
 pop_is g core n w e l = rw (e, l) refl

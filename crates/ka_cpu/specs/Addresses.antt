@@ -4,11 +4,11 @@ use Rattle.std.specs.Prelude.{◌≡◌, ◌<◌, true, false, [], ◌∷◌, �
 use Rattle.std.specs.Prelude.{if◌then◌else◌, Option, Some, None, List, slice_index, Result, Ok, Err}
 use Rattle.word36.specs.Words.{right_half}
 use Rattle.ka_cpu.specs.declared.limits.TheConstants.{MOST_LINKS}
-use Rattle.ka_cpu.specs.Places.{word_at}
+use Rattle.ka_cpu.specs.Memory.{word_at}
 use Rattle.ka_cpu.specs.declared.outcome.StopReason.{StopReason}
 use Rattle.ka_cpu.specs.declared.outcome.StopReason.TheVariants.{IllegalAddress, AddressChain}
 
--- what follows a read: an illegal place is refused
+-- what follows a read: an illegal address is refused
 abbrev pub reading : {A : Type 0} → Option ℕ → (ℕ → Result A StopReason) → Result A StopReason
 reading None f = Err IllegalAddress
 reading (Some w) f = f w
@@ -26,7 +26,7 @@ abbrev pub direct_address : List ℕ → ℕ → ℕ
 direct_address ac w =
     if nat_eq (index_of w) 0 then right_half w else (right_half w + right_half (slice_index ac (index_of w))) % 2 ^ 18
 
--- the register X is used after the word that names it; with no X what was used before is still the last
+-- register X is used after the word that names it; without X the last use is still that before
 abbrev pub used_after : List ℕ → ℕ → Option ℕ → Option ℕ
 used_after ac w used = if nat_eq (index_of w) 0 then used else Some (slice_index ac (index_of w))
 
@@ -65,10 +65,11 @@ Path Follows w (x ∷ xs) v = Follows w x × Path Follows x xs v
 abbrev pub Links : List ℕ → List ℕ → ℕ → ℕ → Type 0
 Links ac core w v = (is_indirect w ≡ true) × (word_at ac core (direct_address ac w) ≡ Some v)
 
--- fewer than MOST_LINKS links from w lead to an indirect word that names an illegal place
+-- fewer than MOST_LINKS links from w lead to an indirect word that names an illegal address
 abbrev pub LeadsOutside : List ℕ → List ℕ → ℕ → Type 0
 LeadsOutside ac core w =
-    (vs : List ℕ) × (v : ℕ) × (length vs < MOST_LINKS) × Path (Links ac core) w vs v × (is_indirect v ≡ true) × (word_at ac core (direct_address ac v) ≡ None)
+    (vs : List ℕ) × (v : ℕ) × (length vs < MOST_LINKS) × Path (Links ac core) w vs v
+    × (is_indirect v ≡ true) × (word_at ac core (direct_address ac v) ≡ None)
 
 -- MOST_LINKS links from w lead to one more
 abbrev pub LeadsTooFar : List ℕ → List ℕ → ℕ → Type 0

@@ -21,13 +21,15 @@ add_row subtracts g core n = reading (computed_operand g core n) (λ m. Ok (adde
 unfoldable pub imul_row : Regs → List ℕ → Instruction → Result Effect StopReason
 imul_row g core n =
     reading (computed_operand g core n)
-    (λ m. Ok (record (computed_to g n (low_word (a_of g n) m)) { flags = record g.flags { overflow = g.flags.overflow || overflows (a_of g n) m } }))
+    (λ m. Ok (record (computed_to g n (low_word (a_of g n) m)) {
+      flags = record g.flags { overflow = g.flags.overflow || overflows (a_of g n) m };
+    }))
 
 -- AC+1, in all modes but M
 abbrev pub to_next : Instruction → ℕ → Option ℕ
 to_next n w = if nat_eq (n.op % 4) 2 then None else Some w
 
--- MUL: the high word to the mode's places, the low word to AC+1. -2 ^ 35 by -2 ^ 35: Overflow, both words 400000,,000000
+-- MUL: the high word where the mode says, the low word to AC+1. -2 ^ 35 by -2 ^ 35: Overflow, both words 400000,,000000
 unfoldable pub mul_row : Regs → List ℕ → Instruction → Result Effect StopReason
 mul_row g core n =
     reading (computed_operand g core n)
@@ -43,6 +45,6 @@ divided g n m =
     then record (goes_on g 1) { flags = record g.flags { overflow = true; no_divide = true } }
     else record (computed_to g n (quotient_of (a_of g n) m)) { next = to_next n (remainder_of (a_of g n) m) }
 
--- IDIV: A by the operand, quotient to the mode's places, remainder to AC+1
+-- IDIV: A by the operand, quotient where the mode says, remainder to AC+1
 unfoldable pub idiv_row : Regs → List ℕ → Instruction → Result Effect StopReason
 idiv_row g core n = reading (computed_operand g core n) (λ m. Ok (divided g n m))

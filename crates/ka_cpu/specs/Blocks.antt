@@ -2,18 +2,18 @@
 use Rattle.std.specs.Prelude.{◌≡◌, ◌<◌, ◌≤◌, ◌⊎◌, ℕ, zero, suc, ◌+◌, ◌-◌, ◌%◌, ◌^◌, Bool, true, ◌&&◌}
 use Rattle.std.specs.Prelude.{if◌then◌else◌, Option, Some, None, List, slice_index, slice_set}
 use Rattle.word36.specs.Words.{left_half, right_half}
-use Rattle.ka_cpu.specs.Places.{word_at, is_legal, ac_with, core_with}
+use Rattle.ka_cpu.specs.Memory.{word_at, is_legal, ac_with, core_with}
 use Rattle.ka_cpu.specs.Effects.{After, a_of, next_pc, stopped}
 use Rattle.ka_cpu.specs.declared.registers.Regs.{Regs}
 use Rattle.ka_cpu.specs.declared.outcome.StopReason.TheVariants.{IllegalAddress}
 use Rattle.ka_cpu.specs.declared.outcome.Outcome.TheVariants.{Done}
 use Rattle.ka_cpu.specs.Instructions.{Instruction}
 
--- how many words: at least one, up to the first place that is at least E (E is at most 777777 octal)
+-- how many words: at least one, up to the first address that is at least E (E is at most 777777 octal)
 abbrev pub word_count : ℕ → ℕ → ℕ
 word_count d e = e - d + 1
 
--- every place that is read or written is legal; those that are read wrap after 777777 octal
+-- every address that is read or written is legal; those that are read wrap after 777777 octal
 unfoldable pub all_legal : ℕ → List ℕ → ℕ → ℕ → Bool
 all_legal zero core s d = true
 all_legal (suc k) core s d = is_legal core (s % 2 ^ 18) && is_legal core d && all_legal k core (s + 1) (d + 1)
@@ -32,7 +32,7 @@ unfoldable pub moved_words : ℕ → Store → ℕ → ℕ → Store
 moved_words zero t s d = t
 moved_words (suc k) t s d = moved_words k (stored t d (word_at t.ac t.core (s % 2 ^ 18))) (s + 1) (d + 1)
 
--- k words are moved in core alone, where no register is touched and no place wraps
+-- k words are moved in core alone, where no register is touched and no address wraps
 unfoldable pub copied : ℕ → List ℕ → ℕ → ℕ → List ℕ
 copied zero words s d = words
 copied (suc k) words s d = copied k (slice_set words d (slice_index words s)) (s + 1) (d + 1)

@@ -3,7 +3,7 @@ use Rattle.std.specs.Prelude.{ℕ, pos, ◌-◌, ◌%◌, ◌^◌, nat_eq, nat_l
 use Rattle.word36.specs.Words.{signed_value, sum_of}
 use Rattle.ka_word.specs.Conditions.{holds}
 use Rattle.ka_cpu.specs.Addresses.{reading}
-use Rattle.ka_cpu.specs.Places.{word_at}
+use Rattle.ka_cpu.specs.Memory.{word_at}
 use Rattle.ka_cpu.specs.Effects.{Effect, a_of, skips_if, jumps_if, sum_flags}
 use Rattle.ka_cpu.specs.declared.registers.Regs.{Regs}
 use Rattle.ka_cpu.specs.declared.registers.Flags.{Flags}
@@ -43,7 +43,10 @@ if_changed Down x = Some x
 unfoldable pub jump_row : Change → Regs → Instruction → Effect
 jump_row c g n =
     let w = changed_word c (a_of g n) in
-    record (jumps_if g (holds (condition_of n) (signed_value w) (pos 0)) n.e) { ac = if_changed c w; flags = changed_flags c g.flags (a_of g n) }
+    record (jumps_if g (holds (condition_of n) (signed_value w) (pos 0)) n.e) {
+      ac = if_changed c w;
+      flags = changed_flags c g.flags (a_of g n);
+    }
 
 -- SKIP, AOS, SOS: M, M+1, M-1 (stored in E for the last two) compared with 0: skip; the value to AC where AC is not 0
 unfoldable pub skip_row : Change → Regs → List ℕ → Instruction → Result Effect StopReason

@@ -1,7 +1,7 @@
--- What an instruction does: its operand, the places of its result, its flags, and the next PC.
+-- What an instruction does: its operand, where its result goes, its flags, and the next PC.
 use Rattle.std.specs.Prelude.{◌≡◌, ◌<◌, ℕ, ◌+◌, ◌%◌, ◌^◌, nat_eq, nat_lt, Bool, true, ◌||◌, if◌then◌else◌, Option}
 use Rattle.std.specs.Prelude.{Some, None, List, slice_index, slice_set, Result, Ok, Err}
-use Rattle.ka_cpu.specs.Places.{word_at, is_legal, ac_with, core_with}
+use Rattle.ka_cpu.specs.Memory.{word_at, is_legal, ac_with, core_with}
 use Rattle.ka_cpu.specs.declared.registers.Regs.{Regs}
 use Rattle.ka_cpu.specs.declared.registers.Flags.{Flags}
 use Rattle.ka_cpu.specs.declared.outcome.CallKind.{CallKind}
@@ -21,7 +21,7 @@ pub data Ending : Type 0 where
   Halts : Ending
   Overruns : Ending
 
--- what an instruction stores, at a place of memory, in AC and in AC+1, its flags, its next PC and its ending
+-- what an instruction stores, at an address of memory, in AC and in AC+1, its flags, its next PC and its ending
 pub record Effect : Type 0 where
   pub memory : Option (ℕ × ℕ)
   pub ac : Option ℕ
@@ -48,7 +48,7 @@ next_ac n = (n.ac + 1) % 16
 abbrev pub next_pc : Regs → ℕ
 next_pc g = (g.pc + 1) % 2 ^ 18
 
--- nothing is stored, the flags stay, and the program goes on so many places further
+-- nothing is stored, the flags stay, and the PC goes on by so many words
 abbrev pub goes_on : Regs → ℕ → Effect
 goes_on g k = record { memory = None; ac = None; next = None; flags = g.flags; pc = (g.pc + k) % 2 ^ 18; ending = Goes_on }
 
@@ -56,11 +56,11 @@ goes_on g k = record { memory = None; ac = None; next = None; flags = g.flags; p
 abbrev pub skips_if : Regs → Bool → Effect
 skips_if g b = goes_on g (if b then 2 else 1)
 
--- go to a place
+-- go to an address
 abbrev pub goes_to : Regs → ℕ → Effect
 goes_to g e = record (goes_on g 1) { pc = e }
 
--- go to a place where the test holds
+-- go to an address where the test holds
 abbrev pub jumps_if : Regs → Bool → ℕ → Effect
 jumps_if g b e = goes_to g (if b then e else next_pc g)
 
@@ -104,7 +104,7 @@ carried_flags f c0 c1 = record f { overflow = f.overflow || carries_differ c0 c1
 abbrev pub sum_flags : Flags → ℕ → ℕ → ℕ → Flags
 sum_flags f a b c = carried_flags f (carry_0 a b c) (carry_1 a b c)
 
--- the place that is stored in must be legal
+-- the address of the store must be legal
 abbrev pub memory_legal : List ℕ → Option (ℕ × ℕ) → Bool
 memory_legal core None = true
 memory_legal core (Some p) = is_legal core p.0
@@ -121,11 +121,11 @@ abbrev pub ac_put : List ℕ → ℕ → Option ℕ → List ℕ
 ac_put ac k None = ac
 ac_put ac k (Some w) = slice_set ac k w
 
-abbrev pub told : Ending → Outcome
-told Goes_on = outcome.Done
-told (Calls kind ac e) = outcome.Call kind ac e
-told Halts = outcome.Stop reason.Halt
-told Overruns = outcome.Stop reason.Pushdown
+abbrev pub outcome_of : Ending → Outcome
+outcome_of Goes_on = outcome.Done
+outcome_of (Calls kind ac e) = outcome.Call kind ac e
+outcome_of Halts = outcome.Stop reason.Halt
+outcome_of Overruns = outcome.Stop reason.Pushdown
 
 -- How an instruction leaves the registers g and core, as h and rest, by its outcome: at stops 1, 2 and 5 nothing
 -- has changed; at a halt the PC alone has; before a call of the monitor core is unchanged and the PC is that of the
@@ -144,14 +144,14 @@ EndsAs (outcome.Stop reason.AddressChain) g core h rest = (h ≡ g) × (rest ≡
 abbrev pub stopped : Regs → List ℕ → StopReason → After
 stopped g core r = record { regs = g; core = core; outcome = outcome.Stop r }
 
--- results go first to memory, then to AC, then to AC+1; the later wins at one place (this project's profile)
+-- results go first to memory, then to AC, then to AC+1; the later wins at one address (this project's profile)
 abbrev pub applied : Regs → List ℕ → Instruction → Effect → After
 applied g core n x =
     if memory_legal core x.memory
     then record {
       regs = record { ac = ac_put (ac_put (ac_memory g.ac x.memory) n.ac x.ac) (next_ac n) x.next; pc = x.pc; flags = x.flags };
       core = core_memory core x.memory;
-      outcome = told x.ending;
+      outcome = outcome_of x.ending;
     }
     else stopped g core IllegalAddress
 

@@ -1,11 +1,14 @@
 -- One instruction: which word it is, its address, its row.
-use Rattle.std.specs.Prelude.{◌≡◌, ◌<◌, ◌≤◌, ℕ, zero, suc, length, ◌/◌, ◌%◌, ◌^◌, nat_eq, Bool, true, false, ◌||◌, if◌then◌else◌, Option, List, Result, Ok, Err}
+use Rattle.std.specs.Prelude.{◌≡◌, ◌<◌, ◌≤◌, ℕ, zero, suc, length, ◌/◌, ◌%◌, ◌^◌, nat_eq}
+use Rattle.std.specs.Prelude.{Bool, true, false, ◌||◌, if◌then◌else◌, Option, List, Result, Ok, Err}
 use Rattle.ka_isa.specs.Families.{family_of}
 use Rattle.ka_isa.specs.declared.Family.{Family}
-use Rattle.ka_isa.specs.declared.Family.TheVariants.{Byte, Move, Movs, Movn, Movm, Imul, Mul, Idiv, Shift, Jffo, Exch, Blt, Aobj, Jrst, Jfcl, Xct, Pushj}
-use Rattle.ka_isa.specs.declared.Family.TheVariants.{Push, Pop, Popj, Jsr, Jsp, Jsa, Jra, Add, Sub, Compare, JumpOn, SkipOn, Boolean, Half, Test, Calli}
+use Rattle.ka_isa.specs.declared.Family.TheVariants.{Byte, Move, Movs, Movn, Movm, Imul, Mul, Idiv}
+use Rattle.ka_isa.specs.declared.Family.TheVariants.{Shift, Jffo, Exch, Blt, Aobj, Jrst, Jfcl, Xct, Pushj}
+use Rattle.ka_isa.specs.declared.Family.TheVariants.{Push, Pop, Popj, Jsr, Jsp, Jsa, Jra, Add, Sub}
+use Rattle.ka_isa.specs.declared.Family.TheVariants.{Compare, JumpOn, SkipOn, Boolean, Half, Test, Calli}
 use Rattle.ka_isa.specs.declared.Family.TheVariants.{Ttcall, Other}
-use Rattle.ka_cpu.specs.Places.{word_at}
+use Rattle.ka_cpu.specs.Memory.{word_at}
 use Rattle.ka_cpu.specs.Addresses.{Target, Path, reading, target_of, at_target}
 use Rattle.ka_cpu.specs.Effects.{After, Effect, stopped, finished}
 use Rattle.ka_cpu.specs.Moves.{move_row, exch_row}
@@ -34,7 +37,7 @@ op_of w = w / 2 ^ 27
 abbrev pub ac_field : ℕ → ℕ
 ac_field w = w / 2 ^ 23 % 2 ^ 4
 
--- XCT, 256 octal: the word at its E is executed in place, and its own AC field is not looked at. At most n XCTs
+-- XCT, 256 octal: the word at its E is executed in its stead, and its own AC field has no effect. At most n XCTs
 -- are followed (in `exec` MOST_EXECUTES: this project's profile).
 abbrev pub is_execute : Family → Bool
 is_execute Xct = true
@@ -57,14 +60,15 @@ executed_word ac core w = at_target (target_of ac core w) (λ t. reading (word_a
 abbrev pub Executes : List ℕ → List ℕ → ℕ → ℕ → Type 0
 Executes ac core w v = (is_xct w ≡ true) × (executed_word ac core w ≡ Ok v)
 
--- at most MOST_EXECUTES XCTs from w lead to the word v, which is none
+-- at most MOST_EXECUTES XCTs from w lead to the word v, which is no XCT
 abbrev pub ComesTo : List ℕ → List ℕ → ℕ → ℕ → Type 0
 ComesTo ac core w v = (vs : List ℕ) × (length vs ≤ MOST_EXECUTES) × Path (Executes ac core) w vs v × (is_xct v ≡ false)
 
 -- fewer than MOST_EXECUTES XCTs from w lead to one whose word is refused for this reason
 abbrev pub RefusedOnTheWay : List ℕ → List ℕ → ℕ → StopReason → Type 0
 RefusedOnTheWay ac core w r =
-    (vs : List ℕ) × (v : ℕ) × (length vs < MOST_EXECUTES) × Path (Executes ac core) w vs v × (is_xct v ≡ true) × (executed_word ac core v ≡ Err r)
+    (vs : List ℕ) × (v : ℕ) × (length vs < MOST_EXECUTES) × Path (Executes ac core) w vs v
+    × (is_xct v ≡ true) × (executed_word ac core v ≡ Err r)
 
 -- MOST_EXECUTES XCTs from w lead to one more
 abbrev pub ExecutesTooFar : List ℕ → List ℕ → ℕ → Type 0

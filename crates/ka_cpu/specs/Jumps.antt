@@ -5,7 +5,7 @@ use Rattle.std.specs.Int.Count.{count_leading_zeros}
 use Rattle.word36.specs.Words.{is_negative, left_half, joined}
 use Rattle.ka_word.specs.Pushdown.{counted_up}
 use Rattle.ka_cpu.specs.Addresses.{reading}
-use Rattle.ka_cpu.specs.Places.{word_at}
+use Rattle.ka_cpu.specs.Memory.{word_at}
 use Rattle.ka_cpu.specs.Effects.{Effect, Halts, Calls, a_of, goes_on, goes_to, jumps_if, next_pc}
 use Rattle.ka_cpu.specs.declared.registers.Regs.{Regs}
 use Rattle.ka_cpu.specs.declared.registers.Flags.{Flags}
@@ -16,9 +16,10 @@ use Rattle.ka_cpu.specs.Instructions.{Instruction}
 -- the PC word `flags,,PC`: bit 0 Overflow, 1 Carry 0, 2 Carry 1, 5 User, which is always set, 12 No Divide
 unfoldable pub pc_word : Flags → ℕ → ℕ
 pc_word f pc =
-    (if f.overflow then 2 ^ 35 else 0) + (if f.carry0 then 2 ^ 34 else 0) + (if f.carry1 then 2 ^ 33 else 0) + 2 ^ 30 + (if f.no_divide then 2 ^ 23 else 0) + pc
+    (if f.overflow then 2 ^ 35 else 0) + (if f.carry0 then 2 ^ 34 else 0) + (if f.carry1 then 2 ^ 33 else 0)
+    + 2 ^ 30 + (if f.no_divide then 2 ^ 23 else 0) + pc
 
--- the flags in the left half of a PC word; the others of its bits are not looked at
+-- the flags in the left half of a PC word, whose other bits have no effect
 unfoldable pub flags_of : ℕ → Flags
 flags_of w = record {
   overflow = nat_eq (w / 2 ^ 35 % 2) 1;
@@ -37,7 +38,8 @@ jffo_row g n =
 -- A with both halves counted up: AOBJP goes to E where the sum is not negative, AOBJN, the odd operation, where it is
 unfoldable pub aobj_row : Regs → Instruction → Effect
 aobj_row g n =
-    record (jumps_if g (if nat_eq (n.op % 2) 0 then not (is_negative (counted_up (a_of g n))) else is_negative (counted_up (a_of g n))) n.e) {
+    record (jumps_if g
+    (if nat_eq (n.op % 2) 0 then not (is_negative (counted_up (a_of g n))) else is_negative (counted_up (a_of g n))) n.e) {
       ac = Some (counted_up (a_of g n));
     }
 

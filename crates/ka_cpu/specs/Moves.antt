@@ -3,7 +3,7 @@ use Rattle.std.specs.Prelude.{ℕ, if◌then◌else◌, Some, List, Result, Ok}
 use Rattle.word36.specs.Words.{is_negative, complement}
 use Rattle.ka_word.specs.Halves.{swapped}
 use Rattle.ka_word.specs.Sums.{negated}
-use Rattle.ka_cpu.specs.Places.{word_at}
+use Rattle.ka_cpu.specs.Memory.{word_at}
 use Rattle.ka_cpu.specs.Addresses.{reading}
 use Rattle.ka_cpu.specs.Effects.{Effect, a_of, goes_on, moved_operand, moved_to, sum_flags}
 use Rattle.ka_cpu.specs.declared.registers.Regs.{Regs}
@@ -27,6 +27,6 @@ transferred Magnitude g n w = if is_negative w then negates g n w else moved_to 
 unfoldable pub move_row : Transfer → Regs → List ℕ → Instruction → Result Effect StopReason
 move_row transfer g core n = reading (moved_operand g core n) (λ w. Ok (transferred transfer g n w))
 
--- EXCH: A and M change places
+-- EXCH: A and M are exchanged
 unfoldable pub exch_row : Regs → List ℕ → Instruction → Result Effect StopReason
 exch_row g core n = reading (word_at g.ac core n.e) (λ m. Ok (record (goes_on g 1) { memory = Some (n.e, a_of g n); ac = Some m }))

@@ -3,7 +3,7 @@ use Rattle.std.specs.Prelude.{ℕ, if◌then◌else◌, Some, List, Result, Ok}
 use Rattle.word36.specs.Words.{right_half}
 use Rattle.ka_word.specs.Pushdown.{counted_down, counted_up, runs_over, runs_under}
 use Rattle.ka_cpu.specs.Addresses.{reading}
-use Rattle.ka_cpu.specs.Places.{word_at}
+use Rattle.ka_cpu.specs.Memory.{word_at}
 use Rattle.ka_cpu.specs.Effects.{After, Effect, Ending, Goes_on, Overruns, a_of, finished, goes_on, goes_to, next_pc}
 use Rattle.ka_cpu.specs.Jumps.{pc_word}
 use Rattle.ka_cpu.specs.declared.registers.Regs.{Regs}

@@ -5,6 +5,6 @@ use Rattle.ka_cpu.specs.Exec.{is_listed}
 use Rattle.ka_cpu.specs.declared.outcome.StopReason.{StopReason}
 use Rattle.ka_cpu.specs.declared.outcome.StopReason.TheVariants.{IllegalInstruction}
 
--- why a word is refused whose address is not found
+-- why an instruction is refused whose address is not found
 abbrev pub refusal_of : Family → ℕ → StopReason → StopReason
 refusal_of f ac r = if is_listed f ac then r else IllegalInstruction

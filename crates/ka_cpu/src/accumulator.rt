@@ -41,7 +41,7 @@ impl Accumulator {
         self.number
     }
 
-    /// Its place in `Regs::ac`.
+    /// Its index in `Regs::ac`.
     #[inline(always)]
     pub fn index(self) -> usize
         ensures value { result ≡ self }

@@ -21,7 +21,7 @@ fn find_direct(regs: &Regs, word: Word) -> Address
     }
 }
 
-/// The register or word that was used last, once the index of a word is added.
+/// What was used last on the way to an address, once the index register of a word is added.
 fn used_with_index(regs: &Regs, word: Word, used: Option<Word>) -> Option<Word>
     ensures { result ≡ used_after regs.now.ac word used }
 {
@@ -49,6 +49,7 @@ fn is_plain(word: Word) -> bool
 }
 
 /// The address to which a word leads and what was used last on the way, over at most `MOST_LINKS` indirect words.
+#[cold]
 #[inline(never)]
 #[tactic(auto, using(crate::proofs::Chain::chain_steps))]
 fn follow_chain<M: JobMemory>(
@@ -80,7 +81,7 @@ fn follow_chain<M: JobMemory>(
     }
 }
 
-/// The address of a word over indirect words.
+/// The address to which an indirect word leads.
 #[inline(always)]
 #[tactic(auto, using(crate::proofs::Chain::chain_parts))]
 fn find_by_chain<M: JobMemory>(regs: &Regs, memory: &M, word: Word) -> Result<Address, StopReason>
@@ -111,7 +112,7 @@ pub fn find_address<M: JobMemory>(
     }
 }
 
-/// The register or word that was used last in the address of an instruction.
+/// The index register or indirect word that was used last to find the address of an instruction.
 #[tactic(auto, using(crate::proofs::Chain::chain_parts))]
 pub fn find_used<M: JobMemory>(regs: &Regs, memory: &M, word: Word) -> Option<Word>
     ensures { result ≡ used_in (target_of regs.now.ac (M.words memory.now) word) }

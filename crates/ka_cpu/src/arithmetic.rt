@@ -1,9 +1,11 @@
 //! ADD, SUB, IMUL, MUL and IDIV.
 
-ghost use Rattle.std.specs.Prelude.{◌≡◌, ◌%◌};
+ghost use Rattle.std.specs.Prelude.{◌≡◌, ◌%◌, if◌then◌else◌, IfSome};
+ghost use Rattle.ka_cpu.specs.declared.registers.Flags.{Flags as SpecFlags};
+ghost use Rattle.word36.specs.Words.{sum_of};
 ghost use Rattle.ka_cpu.specs.Effects.{finished};
 ghost use Rattle.ka_cpu.specs.Arithmetic.{add_row, imul_row, to_next, mul_row, idiv_row};
-ghost use Rattle.ka_cpu.specs.Effects.{ac_put, next_ac};
+ghost use Rattle.ka_cpu.specs.Effects.{ac_memory, ac_put, computed_to_ac, core_memory, next_ac, sum_flags, to_memory};
 
 use crate::instruction::{ILLEGAL, Instruction, operand_to_compute, put_computed, set_carries};
 use crate::{JobMemory, Outcome, Regs};
@@ -12,6 +14,52 @@ use word36::Word;
 
 /// 2 ^ 35, the magnitude of the least number.
 const LEAST: u64 = 0o400_000_000_000;
+
+/// The sum of two words and a carry, where it is below 2 ^ 35: such a sum has no carry out of bit 0 or bit 1.
+#[inline(always)]
+#[tactic(auto, using(crate::proofs::Sums::small_sums))]
+fn small_sum(a: Word, b: Word, carry: bool) -> Option<Word>
+    ensures sum { IfSome result (λ w. w ≡ sum_of a b (if carry then 1 else 0)) }
+    ensures flags { IfSome result (λ _. (f : SpecFlags) → sum_flags f a b (if carry then 1 else 0) ≡ f) }
+{
+    let total = a.number() + b.number() + carry as u64;
+    if total < LEAST {
+        Some(Word::new(total))
+    } else {
+        None
+    }
+}
+
+/// Stores the sum of two words and a carry where the mode says, and sets the flags of its carries.
+#[inline(always)]
+fn put_sum<M: JobMemory>(
+    mode: u32,
+    regs: &mut Regs,
+    memory: &mut M,
+    n: Instruction,
+    a: Word,
+    b: Word,
+    carry: bool,
+)
+    requires mode { mode ≡ n.op % 4 }
+    ensures regs { regs.new
+        ≡ record regs.old {
+          ac = ac_put (ac_memory regs.old.ac (to_memory n (sum_of a b (if carry then 1 else 0)))) n.ac
+              (computed_to_ac n (sum_of a b (if carry then 1 else 0)));
+          flags = sum_flags regs.old.flags a b (if carry then 1 else 0);
+        } }
+    ensures core { M.words memory.new ≡ core_memory (M.words memory.old) (to_memory n (sum_of a b (if carry then 1 else 0))) }
+    ensures place { M.place memory.new ≡ M.place memory.old }
+{
+    match small_sum(a, b, carry) {
+        Some(sum) => put_computed(mode, regs, memory, n, sum),
+        None => {
+            put_computed(mode, regs, memory, n, a.sum(b, carry));
+            let (zero, one) = a.carries(b, carry);
+            set_carries(regs, zero, one);
+        }
+    }
+}
 
 /// ADD, and SUB where it subtracts.
 #[inline(always)]
@@ -34,14 +82,12 @@ pub fn do_add<M: JobMemory>(
     let next = regs.pc.plus(1);
     let a = regs.ac[n.ac()];
     let term = if subtracts { word.not() } else { word };
-    put_computed(mode, regs, memory, n, a.sum(term, subtracts));
-    let (zero, one) = a.carries(term, subtracts);
-    set_carries(regs, zero, one);
+    put_sum(mode, regs, memory, n, a, term, subtracts);
     regs.pc = next;
     Outcome::Done
 }
 
-/// Puts the second result of MUL and IDIV in AC+1, but in mode M.
+/// Stores the second result of MUL and IDIV in AC+1, except in mode M.
 fn put_next(regs: &mut Regs, n: Instruction, word: Word)
     ensures { regs.new ≡ record regs.old { ac = ac_put regs.old.ac (next_ac n) (to_next n word) } }
 {

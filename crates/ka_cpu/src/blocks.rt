@@ -1,16 +1,16 @@
 //! BLT.
 
 ghost use Rattle.std.specs.Prelude.{◌≡◌, ◌+◌, ◌<◌, ◌≤◌, ◌^◌, IsTrue, length};
-ghost use Rattle.ka_cpu.specs.Places.{word_at};
+ghost use Rattle.ka_cpu.specs.Memory.{word_at};
 ghost use Rattle.ka_cpu.specs.Blocks.{all_legal, blt_after, moved_words, stored};
 
-use crate::instruction::{ILLEGAL, Instruction, is_legal_place};
+use crate::instruction::{ILLEGAL, Instruction, is_legal_address};
 use crate::memory::store;
 use crate::{JobMemory, Outcome, Regs, fetch};
 use word36::ADDRESSES;
 
-/// Whether every place of a transfer is legal: the last places decide, and where the places that are
-/// read wrap, all of them are read up to 777777 octal.
+/// Whether every address of a transfer is legal. The last addresses decide; where those that are read wrap,
+/// the last before the wrap is 777777 octal.
 #[tactic(auto, using(crate::proofs::BlockLegal::legal_by_last))]
 fn are_legal<M: JobMemory>(memory: &M, from: u32, to: u32, count: u32) -> bool
     requires from { from < 2 ^ 18 }
@@ -25,10 +25,10 @@ fn are_legal<M: JobMemory>(memory: &M, from: u32, to: u32, count: u32) -> bool
     } else {
         ADDRESSES - 1
     };
-    is_legal_place(memory, top) && is_legal_place(memory, to + (count - 1))
+    is_legal_address(memory, top) && is_legal_address(memory, to + (count - 1))
 }
 
-/// Moves one word, where there is one.
+/// Moves one word. Where the address that is read is not legal nothing changes.
 fn move_word<M: JobMemory>(regs: &mut Regs, memory: &mut M, from: u32, to: u32)
     ensures moved { record { ac = regs.new.ac; core = M.words memory.new }
         ≡ stored (record { ac = regs.old.ac; core = M.words memory.old }) to (word_at regs.old.ac (M.words memory.old) from) }
@@ -56,17 +56,17 @@ fn move_words<M: JobMemory>(regs: &mut Regs, memory: &mut M, from: u32, to: u32,
     }
 }
 
-/// Whether so many words from a place on lie in core, behind the registers.
-fn are_in_core<M: JobMemory>(memory: &M, place: u32, count: u32) -> bool
-    requires place { place < 2 ^ 18 }
+/// Whether `count` words from an address on lie in core, behind the registers.
+fn are_in_core<M: JobMemory>(memory: &M, address: u32, count: u32) -> bool
+    requires address { address < 2 ^ 18 }
     requires count { count ≤ 2 ^ 18 }
-    ensures { IsTrue result → (16 ≤ place) × (place + count ≤ 2 ^ 18) × (place + count ≤ length (M.words memory.now)) }
+    ensures { IsTrue result → (16 ≤ address) × (address + count ≤ 2 ^ 18) × (address + count ≤ length (M.words memory.now)) }
 {
-    let end = place + count;
-    place >= 16 && end <= ADDRESSES && end as usize <= memory.size()
+    let end = address + count;
+    address >= 16 && end <= ADDRESSES && end as usize <= memory.size()
 }
 
-/// Moves words one after another, in one go where no register is among them and no place wraps.
+/// Moves words one after another; by `copy_words` where no register is among them and no address wraps.
 #[tactic(auto, using(crate::proofs::BlockSteps::moved_core))]
 fn move_block<M: JobMemory>(regs: &mut Regs, memory: &mut M, from: u32, to: u32, count: u32)
     requires from { from < 2 ^ 18 }

@@ -1,9 +1,9 @@
 //! IBP, ILDB, LDB, IDPB and DPB.
 
 ghost use Rattle.std.specs.Prelude.{◌≡◌, true, false, nat_eq, IfOk, ◌<◌};
-ghost use Rattle.ka_cpu.specs.Places.{is_legal};
+ghost use Rattle.ka_cpu.specs.Memory.{is_legal};
 ghost use Rattle.ka_cpu.specs.Effects.{applied};
-ghost use Rattle.ka_cpu.specs.Bytes.{byte_after, byte_effect, byte_place, increments, loads};
+ghost use Rattle.ka_cpu.specs.Bytes.{byte_after, byte_effect, located_byte, increments, loads};
 
 use crate::address::find_address;
 use crate::instruction::{ILLEGAL, Instruction};
@@ -12,15 +12,15 @@ use crate::{JobMemory, Outcome, Regs, StopReason, fetch};
 use ka_word::{deposit_byte, increment, load_byte};
 use word36::{Address, Word};
 
-/// The place of the byte that a pointer names, and the word there.
+/// The address of the byte that a pointer names, and the word there.
 #[inline(always)]
-#[tactic(auto, using(crate::proofs::BytePlaces::byte_places))]
+#[tactic(auto, using(crate::proofs::ByteAddresses::byte_addresses))]
 fn locate_byte<M: JobMemory>(
     regs: &Regs,
     memory: &M,
     pointer: Word,
 ) -> Result<(Address, Word), StopReason>
-    ensures value { result ≡ byte_place regs.now.ac (M.words memory.now) pointer }
+    ensures value { result ≡ located_byte regs.now.ac (M.words memory.now) pointer }
     ensures legal { IfOk result (λ b. is_legal (M.words memory.now) b.0 ≡ true) }
 {
     let e = find_address(regs, memory, pointer)?;
@@ -30,7 +30,7 @@ fn locate_byte<M: JobMemory>(
     }
 }
 
-/// Loads or deposits a byte whose place is known.
+/// Loads or deposits a byte of the word at a known address.
 #[inline(always)]
 fn move_byte<M: JobMemory>(
     is_load: bool,
@@ -97,9 +97,9 @@ pub fn use_byte<M: JobMemory>(
     }
 }
 
-/// ILDB, IDPB: where the byte is refused the old pointer is stored back.
+/// ILDB, IDPB. Where the byte's address is refused the old pointer is stored back.
 #[inline(always)]
-#[tactic(auto, using(crate::proofs::BytePlaces::restore_steps), unfolding(crate::specs::Bytes::byte_after))]
+#[tactic(auto, using(crate::proofs::ByteAddresses::restore_steps), unfolding(crate::specs::Bytes::byte_after))]
 pub fn use_next_byte<M: JobMemory>(
     is_load: bool,
     regs: &mut Regs,

@@ -2,7 +2,7 @@
 
 ghost use Rattle.std.specs.Prelude.{◌≡◌, ℕ, ◌<◌, ◌^◌, ◌%◌, Ok, Some, IfSome, true, nat_lt, if◌then◌else◌};
 ghost use Rattle.ka_cpu.specs.Effects.{finished, ac_memory, core_memory, memory_legal};
-ghost use Rattle.ka_cpu.specs.Places.{word_at};
+ghost use Rattle.ka_cpu.specs.Memory.{word_at};
 ghost use Rattle.ka_cpu.specs.Conditions.{compare_row, jump_row, skip_row, changed_word, changed_flags, if_changed};
 
 use crate::instruction::{ILLEGAL, Instruction, set_carries};
@@ -57,7 +57,7 @@ pub fn do_compare<M: JobMemory>(
     Outcome::Done
 }
 
-/// The word that is compared.
+/// The word after its change, which is what is compared.
 #[inline(always)]
 fn change_word(change: Change, word: Word) -> Word
     ensures { result ≡ changed_word change word }
@@ -65,21 +65,32 @@ fn change_word(change: Change, word: Word) -> Word
     match change {
         Change::Keep => word,
         Change::Up => word.sum(Word::new(1), false),
-        Change::Down => word.sum(Word::new(0o777_777_777_777), false),
+        Change::Down => {
+            if word.number().wrapping_sub(1) < SIGN - 1 {
+                Word::new(word.number() - 1)
+            } else {
+                word.sum(Word::new(0o777_777_777_777), false)
+            }
+        }
     }
 }
 
-/// Sets the flags of the change of a word.
+/// Sets the flags of the carries of a change.
 #[inline(always)]
 fn set_change_flags(change: Change, regs: &mut Regs, word: Word)
     ensures { regs.new ≡ record regs.old { flags = changed_flags change regs.old.flags word } }
 {
     match change {
         Change::Keep => {}
+        Change::Up if word.number() < SIGN - 1 => {}
         Change::Up => {
             let zero = word.number() == 2 * SIGN - 1;
             let one = word.number() % SIGN == SIGN - 1;
             set_carries(regs, zero, one);
+        }
+        Change::Down if word.number().wrapping_sub(1) < SIGN - 1 => {
+            regs.flags.carry0 = true;
+            regs.flags.carry1 = true;
         }
         Change::Down => {
             let zero = word.number() != 0;
@@ -116,7 +127,7 @@ pub fn do_jump<M: JobMemory>(
     Outcome::Done
 }
 
-/// Stores a word that was changed back at its place.
+/// Stores a changed word back at its address.
 #[inline(always)]
 fn store_changed<M: JobMemory>(change: Change, regs: &mut Regs, memory: &mut M, a: u32, word: Word)
     ensures regs { regs.new ≡ record regs.old { ac = ac_memory regs.old.ac (if_changed change (a, word)) } }
@@ -129,7 +140,7 @@ fn store_changed<M: JobMemory>(change: Change, regs: &mut Regs, memory: &mut M, 
     }
 }
 
-/// The word that is changed. Where it is there it can be stored back.
+/// The word that is changed. Where it can be read it can be stored back.
 #[inline(always)]
 #[tactic(auto, using(crate::proofs::Legal::legal_changes))]
 fn read_to_change<M: JobMemory>(change: Change, regs: &Regs, memory: &M, a: u32) -> Option<Word>

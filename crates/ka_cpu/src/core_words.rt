@@ -6,8 +6,8 @@ ghost use Rattle.ka_cpu.specs.Blocks.{copied};
 use crate::JobMemory;
 use word36::Word;
 
-/// Moves so many words of a slice from one place to another, one after the other: what was moved is
-/// seen by later reads. It is not inlined, so that the processor's own loop keeps its registers.
+/// Copies `count` words of a slice from one position to another, one after the other: later reads see
+/// what was copied before. It is not inlined, so that the processor's own loop keeps its registers.
 #[inline(never)]
 #[tactic(auto, using(crate::proofs::BlockSteps::copy_steps))]
 fn copy_within(words: &mut [Word], from: usize, to: usize, count: usize)
@@ -20,10 +20,10 @@ fn copy_within(words: &mut [Word], from: usize, to: usize, count: usize)
     }
 }
 
-/// A slice of words, which is lent, as the core of a job.
+/// A lent slice of words as the core of a job.
 #[derive(Drop)]
 pub struct CoreWords<'a> {
-    /// The words, from place 0 on.
+    /// The words, from address 0 on.
     pub words: &'a mut [Word],
 }
 
@@ -53,6 +53,16 @@ impl<'a> JobMemory for CoreWords<'a> {
             self.words[a as usize] = word;
         }
         inside
+    }
+
+    #[inline(always)]
+    fn get(&self, a: u32) -> Word {
+        self.words[a as usize]
+    }
+
+    #[inline(always)]
+    fn put(&mut self, a: u32, word: Word) {
+        self.words[a as usize] = word;
     }
 
     fn copy_words(&mut self, from: u32, to: u32, count: u32) {

@@ -1,4 +1,4 @@
-//! What each operation does: the bodies of the families, by the number of the operation.
+//! The table of operations: what each one does, in the order of the codes.
 
 ghost use Rattle.std.specs.Prelude.{◌⊎◌, ◌≤◌, ◌≡◌, ◌<◌, ◌^◌, if◌then◌else◌, IfSome, IsNone, ◌↔◌};
 ghost use Rattle.ka_cpu.specs.Addresses.{target_of, used_in};
@@ -30,10 +30,10 @@ pub const STEP: u8 = 0;
 /// The caller is `run_steps`.
 pub const RUN: u8 = 1;
 
-/// The caller executes an instruction in its own place.
+/// The caller has the instruction's code inlined: `run_steps_from` with `IN_PLACE`.
 pub const HERE: u8 = 2;
 
-/// The caller's loop looks at the registers behind each instruction.
+/// The caller is `step_in_loop`.
 pub const LOOP: u8 = 3;
 
 /// Calls the body of a common family in the mode of the instruction, each mode with a copy of its
@@ -87,13 +87,7 @@ fn carry_out_common<M: JobMemory, const CALLER: u8>(
         0o251 => do_blt(regs, memory, n),
         0o252 => do_aobj(regs, memory, n),
         0o253 => do_aobj(regs, memory, n),
-        0o254 => {
-            let ac = n.ac();
-            if ac != 0 && ac != 2 && ac != 4 {
-                return Some(Outcome::Stop(StopReason::IllegalInstruction));
-            }
-            do_jrst(regs, memory, n, word)
-        }
+        0o254 => do_jrst(regs, memory, n, word),
         0o255 => do_jfcl(regs, memory, n),
         0o256 => return None,
         0o257 => Outcome::Stop(refusal(op, n.ac(), StopReason::IllegalInstruction)),
@@ -250,9 +244,9 @@ fn carry_out_rest<M: JobMemory, const CALLER: u8>(
 
 /// Carries out an instruction whose address is known, or, where it is an XCT, does nothing.
 ///
-/// Nothing looks at `CALLER`, which is `STEP`, `RUN`, `HERE` or `LOOP`: it gives each of these callers a copy of
-/// this body, also where they have the same memory, since a body of this size is inlined only where it has
-/// one caller.
+/// `CALLER` is `STEP`, `RUN`, `HERE` or `LOOP`. It changes nothing of what is done: it gives each of these callers
+/// a copy of this body, also where they have the same memory, since a body of this size is inlined only where
+/// it has one caller.
 #[inline(always)]
 pub fn carry_out<M: JobMemory, const CALLER: u8>(
     regs: &mut Regs,
@@ -278,8 +272,8 @@ pub fn carry_out<M: JobMemory, const CALLER: u8>(
     }
 }
 
-/// Why a word is refused whose address is not found. It is not inlined, so that the operations that
-/// are left out have a block of code of their own.
+/// Why an instruction is refused whose address is not found: an operation that is left out is refused as
+/// such first. It is not inlined, so that the operations that are left out have a block of code of their own.
 #[inline(never)]
 pub fn refusal(op: u32, ac: usize, reason: StopReason) -> StopReason
     requires { op < 2 ^ 9 }

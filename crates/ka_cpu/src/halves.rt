@@ -9,7 +9,7 @@ use crate::{JobMemory, Outcome, Regs, fetch};
 use ka_word::move_half;
 use word36::Word;
 
-/// The word that receives the half. Where it is there the result can be stored.
+/// The word that receives the half. Where it can be read the result can be stored.
 #[inline(always)]
 #[tactic(auto, using(crate::proofs::Legal::legal_from_read))]
 fn find_destination<M: JobMemory>(

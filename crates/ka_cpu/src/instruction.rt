@@ -1,11 +1,11 @@
 //! Operands and results of an instruction.
 
-ghost use Rattle.std.specs.Prelude.{◌≡◌, true, ℕ, ◌<◌, ◌^◌, ◌%◌, IfSome};
-ghost use Rattle.ka_cpu.specs.Places.{is_legal};
+ghost use Rattle.std.specs.Prelude.{◌≡◌, true, false, ℕ, ◌<◌, ◌^◌, ◌%◌, IfSome};
+ghost use Rattle.ka_cpu.specs.Memory.{is_legal};
 ghost use Rattle.ka_cpu.specs.Effects.{moved_operand, computed_operand, to_memory, moved_to_ac, computed_to_ac};
 ghost use Rattle.ka_cpu.specs.Effects.{memory_legal, ac_memory, core_memory, ac_put, carried_flags};
 
-use crate::memory::store;
+use crate::memory::{is_in_core, store, try_store};
 use crate::{JobMemory, Outcome, Regs, StopReason, fetch};
 use std::marker::Model;
 use word36::{Address, Word};
@@ -69,7 +69,7 @@ impl Instruction {
     }
 }
 
-/// What comes of an instruction that names an illegal place.
+/// The outcome of an instruction that names an illegal address.
 pub const ILLEGAL: Outcome = Outcome::Stop(StopReason::IllegalAddress);
 
 /// The operand of MOVE to MOVM and of the halfwords, in a mode (the low two bits of the operation).
@@ -90,7 +90,7 @@ pub fn operand_to_move<M: JobMemory>(
     }
 }
 
-/// The operand of the other families with modes. Where it is there the result can be stored.
+/// The operand of the other families with modes. Where it can be read the result can be stored.
 #[inline(always)]
 #[tactic(auto, using(crate::proofs::Legal::legal_from_read))]
 pub fn operand_to_compute<M: JobMemory>(
@@ -110,12 +110,12 @@ pub fn operand_to_compute<M: JobMemory>(
     }
 }
 
-/// Whether a place is legal.
+/// Whether an address is legal.
 #[inline(always)]
-pub fn is_legal_place<M: JobMemory>(memory: &M, a: u32) -> bool
+pub fn is_legal_address<M: JobMemory>(memory: &M, a: u32) -> bool
     ensures { result ≡ is_legal (M.words memory.now) a }
 {
-    a < 16 || (a as usize) < memory.size()
+    is_in_core(memory, a) || a < 16
 }
 
 /// Whether the result of an instruction with modes can be stored.
@@ -124,10 +124,10 @@ pub fn can_store<M: JobMemory>(mode: u32, memory: &M, n: Instruction) -> bool
     requires { mode ≡ n.op % 4 }
     ensures { (w : ℕ) → result ≡ memory_legal (M.words memory.now) (to_memory n w) }
 {
-    mode < 2 || is_legal_place(memory, n.e().number())
+    mode < 2 || is_legal_address(memory, n.e().number())
 }
 
-/// Puts a result where MOVE to MOVM and the halfwords put it.
+/// Stores a result where the mode says, as MOVE to MOVM and the halfwords do.
 #[inline(always)]
 pub fn put_moved<M: JobMemory>(
     mode: u32,
@@ -155,7 +155,40 @@ pub fn put_moved<M: JobMemory>(
     }
 }
 
-/// Puts a result where the other families with modes put it.
+/// Stores a result where the mode says, as MOVE to MOVM and the halfwords do. Where the address is not legal
+/// nothing changes, and the answer is false.
+#[inline(always)]
+pub fn try_put_moved<M: JobMemory>(
+    mode: u32,
+    regs: &mut Regs,
+    memory: &mut M,
+    n: Instruction,
+    word: Word,
+) -> bool
+    requires mode { mode ≡ n.op % 4 }
+    ensures answer { result ≡ memory_legal (M.words memory.old) (to_memory n word) }
+    ensures regs { result ≡ true
+        → regs.new ≡ record regs.old { ac = ac_put (ac_memory regs.old.ac (to_memory n word)) n.ac (moved_to_ac n word) } }
+    ensures core { result ≡ true → M.words memory.new ≡ core_memory (M.words memory.old) (to_memory n word) }
+    ensures kept { result ≡ false → (regs.new ≡ regs.old) × (M.words memory.new ≡ M.words memory.old) }
+    ensures place { M.place memory.new ≡ M.place memory.old }
+{
+    match mode {
+        0 | 1 => regs.ac[n.ac()] = word,
+        2 => return try_store(regs, memory, n.e().number(), word),
+        _ => {
+            if !try_store(regs, memory, n.e().number(), word) {
+                return false;
+            }
+            if n.ac() != 0 {
+                regs.ac[n.ac()] = word;
+            }
+        }
+    }
+    true
+}
+
+/// Stores a result where the mode says, as the other families with modes do.
 #[inline(always)]
 pub fn put_computed<M: JobMemory>(
     mode: u32,
@@ -181,7 +214,7 @@ pub fn put_computed<M: JobMemory>(
     }
 }
 
-/// Sets the flags of carries out of bits 0 and 1.
+/// Sets the flags of the carries out of bits 0 and 1.
 #[inline(always)]
 pub fn set_carries(regs: &mut Regs, zero: bool, one: bool)
     ensures { regs.new ≡ record regs.old { flags = carried_flags regs.old.flags zero one } }

@@ -1,13 +1,16 @@
 //! JFFO, AOBJP, AOBJN, JRST, JFCL, subroutine calls and calls of the monitor.
 
-ghost use Rattle.std.specs.Prelude.{◌≡◌, ◌+◌, ◌%◌, ◌^◌, true, false, Ok};
-ghost use Rattle.ka_cpu.specs.Effects.{finished};
+ghost use Rattle.std.specs.Prelude.{◌≡◌, ◌+◌, ◌%◌, ◌^◌, if◌then◌else◌, true, false, Ok};
+ghost use Rattle.ka_isa.specs.declared.Family.TheVariants.{Jrst};
+ghost use Rattle.ka_cpu.specs.Effects.{finished, stopped};
+ghost use Rattle.ka_cpu.specs.Exec.{is_listed};
+ghost use Rattle.ka_cpu.specs.declared.outcome.StopReason.TheVariants.{IllegalInstruction};
 ghost use Rattle.ka_cpu.specs.Addresses.{target_of, used_in};
-ghost use Rattle.ka_cpu.specs.Places.{ac_with, core_with, is_legal};
+ghost use Rattle.ka_cpu.specs.Memory.{ac_with, core_with, is_legal};
 ghost use Rattle.ka_cpu.specs.Jumps.{jffo_row, aobj_row, jrst_row, jfcl_row, jsr_row, jsp_row, jsa_row, jra_row, call_row};
 
 use crate::address::find_used;
-use crate::instruction::{ILLEGAL, Instruction, is_legal_place};
+use crate::instruction::{ILLEGAL, Instruction, is_legal_address};
 use crate::memory::store;
 use crate::registers::{flags_of, pc_word};
 use crate::{CallKind, Flags, JobMemory, Outcome, Regs, StopReason, fetch};
@@ -49,13 +52,16 @@ pub fn do_aobj<M: JobMemory>(regs: &mut Regs, memory: &mut M, n: Instruction) ->
     Outcome::Done
 }
 
-/// JRST, whose word is `word`, with AC 0, 2 or 4.
+/// JRST, whose word is `word`. With AC 0 it jumps, with 2 it also takes the flags of what its address used last, and
+/// with 4 it halts; any other AC is refused.
 #[inline(always)]
 #[tactic(auto, unfolding(crate::specs::Jumps::jrst_row))]
 pub fn do_jrst<M: JobMemory>(regs: &mut Regs, memory: &mut M, n: Instruction, word: Word) -> Outcome
     ensures after { record { regs = regs.new; core = M.words memory.new; outcome = result }
-        ≡ finished regs.old (M.words memory.old) n
-        (Ok (jrst_row regs.old n (used_in (target_of regs.old.ac (M.words memory.old) word)))) }
+        ≡ (if is_listed Jrst n.ac
+        then finished regs.old (M.words memory.old) n
+        (Ok (jrst_row regs.old n (used_in (target_of regs.old.ac (M.words memory.old) word))))
+        else stopped regs.old (M.words memory.old) IllegalInstruction) }
     ensures place { M.place memory.new ≡ M.place memory.old }
 {
     match n.ac() {
@@ -70,10 +76,11 @@ pub fn do_jrst<M: JobMemory>(regs: &mut Regs, memory: &mut M, n: Instruction, wo
             regs.pc = n.e();
             Outcome::Done
         }
-        _ => {
+        4 => {
             regs.pc = n.e();
             Outcome::Stop(StopReason::Halt)
         }
+        _ => Outcome::Stop(StopReason::IllegalInstruction),
     }
 }
 
@@ -100,7 +107,7 @@ pub fn do_jfcl<M: JobMemory>(regs: &mut Regs, memory: &mut M, n: Instruction) ->
     Outcome::Done
 }
 
-/// Stores a word at E and goes on behind it, where E is legal; whether it is.
+/// Stores a word at E and jumps to E+1. Where E is not legal nothing changes, and the answer is false.
 #[inline(always)]
 fn enter_behind<M: JobMemory>(regs: &mut Regs, memory: &mut M, n: Instruction, word: Word) -> bool
     ensures legal { result ≡ is_legal (M.words memory.old) n.e }
@@ -109,7 +116,7 @@ fn enter_behind<M: JobMemory>(regs: &mut Regs, memory: &mut M, n: Instruction, w
     ensures core { result ≡ true → M.words memory.new ≡ core_with (M.words memory.old) n.e word }
     ensures place { M.place memory.new ≡ M.place memory.old }
 {
-    if !is_legal_place(memory, n.e().number()) {
+    if !is_legal_address(memory, n.e().number()) {
         return false;
     }
     store(regs, memory, n.e().number(), word);

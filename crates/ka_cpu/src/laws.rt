@@ -7,7 +7,7 @@ ghost use Rattle.ka_cpu.specs.Addresses.{LeadsOutside, LeadsTo, LeadsTooFar, Tar
 ghost use Rattle.ka_cpu.specs.Blocks.{IsCopied, blt_after, word_count};
 ghost use Rattle.ka_cpu.specs.Effects.{EndsAs, a_of, next_pc};
 ghost use Rattle.ka_cpu.specs.Exec.{ComesTo, ExecutesTooFar, RefusedOnTheWay, exec, word_behind};
-ghost use Rattle.ka_cpu.specs.Places.{is_legal, word_at};
+ghost use Rattle.ka_cpu.specs.Memory.{is_legal, word_at};
 ghost use Rattle.ka_cpu.specs.Runs.{ran, ran_then};
 ghost use Rattle.ka_cpu.specs.Stacks.{popped, pushed};
 ghost use Rattle.ka_cpu.specs.Instructions.{Instruction};
@@ -20,12 +20,13 @@ use crate::{Regs, StopReason};
 /// An address is what a chain of at most `MOST_LINKS` links leads to, and there is no other.
 #[tactic(auto, using(crate::proofs::ChainLaw::chain_laws))]
 pub fn address_laws()
-    ensures found { (ac core vs : List ℕ) (w : ℕ) (t : Target) → length vs ≤ MOST_LINKS → LeadsTo ac core w None vs t → target_of ac core w ≡ Ok t }
+    ensures found { (ac core vs : List ℕ) (w : ℕ) (t : Target) → length vs ≤ MOST_LINKS → LeadsTo ac core w None vs t
+        → target_of ac core w ≡ Ok t }
     ensures only { (ac core : List ℕ) (w : ℕ) (t : Target) → target_of ac core w ≡ Ok t
         → ((vs : List ℕ) × (length vs ≤ MOST_LINKS) × LeadsTo ac core w None vs t) }
 {}
 
-/// An address is refused as illegal exactly where a link before the limit names an illegal place, and
+/// An address is refused as illegal exactly where a link before the limit names an illegal address, and
 /// as too long a chain exactly where `MOST_LINKS` links lead to one more.
 #[tactic(auto, using(crate::proofs::ChainRefusals::refusal_laws))]
 pub fn refusal_laws()
@@ -33,8 +34,8 @@ pub fn refusal_laws()
     ensures too_long { (ac core : List ℕ) (w : ℕ) → (target_of ac core w ≡ Err AddressChain) ↔ LeadsTooFar ac core w }
 {}
 
-/// What is executed is the word that at most `MOST_EXECUTES` XCTs lead to; it is refused exactly where the
-/// word of one of them is, or, as too long a chain, where so many lead to one more.
+/// The word that is executed is the one that at most `MOST_EXECUTES` XCTs lead to. It is refused exactly where
+/// the word of one of these XCTs is refused, or, as too long a chain, where so many lead to one more.
 pub fn xct_laws()
     ensures found { (ac core : List ℕ) (w v : ℕ) → (word_behind MOST_EXECUTES ac core w ≡ Ok v) ↔ ComesTo ac core w v }
     ensures refused { (ac core : List ℕ) (w : ℕ) (r : StopReason)
@@ -43,8 +44,8 @@ pub fn xct_laws()
 {}
 
 /// An instruction leaves as many registers and words of core as there were, and a PC below 1000000
-/// octal, and each outcome says what it leaves of the state: after a call of the monitor the PC alone
-/// has moved, to the next instruction.
+/// octal, and each outcome says what has changed: at a call of the monitor the PC alone has moved, to the
+/// next instruction.
 #[tactic(auto, using(crate::proofs::ExecLaws::exec_laws))]
 pub fn exec_laws()
     ensures core { (g : Regs) (core : List ℕ) → length (exec g core).core ≡ length core }
@@ -60,7 +61,7 @@ pub fn run_laws()
     ensures split { (j k : ℕ) (g : Regs) (core : List ℕ) → ran (j + k) g core ≡ ran_then k (ran j g core) }
 {}
 
-/// BLT copies a block of core to another with which it shares no place: the words from d on are those
+/// BLT copies a block of core to another with which it shares no address: the words from d on are those
 /// that were from s on, and nothing else changes but the PC.
 pub fn block_laws()
     ensures { (g : Regs) (core : List ℕ) (n : Instruction) (s d k : ℕ) → left_half (a_of g n) ≡ s → right_half (a_of g n) ≡ d
@@ -71,7 +72,7 @@ pub fn block_laws()
 {}
 
 /// POP by the pointer that PUSH left finds the word that was pushed, and leaves the pointer as it was
-/// before, where the places are legal and the pointer's register is not among them.
+/// before, where the addresses are legal and the pointer's register is not among them.
 pub fn stack_laws()
     ensures { (g : Regs) (core : List ℕ) (n m : Instruction) (w : ℕ) → length g.ac ≡ 16 → n.ac < 16 → m.ac ≡ n.ac
         → a_of g n < 2 ^ 36 → word_at g.ac core n.e ≡ Some w → is_legal core (right_half (counted_up (a_of g n))) ≡ true

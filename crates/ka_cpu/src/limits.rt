@@ -1,4 +1,4 @@
-//! How far a chain is followed, each length named here once (this project's profile).
+//! The longest chains that are followed (this project's profile).
 
 /// The most indirect words of one address.
 pub const MOST_LINKS: u32 = 256;

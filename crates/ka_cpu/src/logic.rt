@@ -11,7 +11,7 @@ use crate::{JobMemory, Outcome, Regs, fetch};
 use ka_word::{combine, skips, turn_mask};
 use word36::Word;
 
-/// The operand of a Boolean function, 0 for the four that read no memory.
+/// The operand of a Boolean function; 0 for the four that read no memory.
 #[inline(always)]
 fn boolean_operand<M: JobMemory>(mode: u32, regs: &Regs, memory: &M, n: Instruction) -> Option<Word>
     requires mode { mode ≡ n.op % 4 }

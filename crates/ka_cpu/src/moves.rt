@@ -7,7 +7,7 @@ ghost use Rattle.ka_cpu.specs.Effects.{finished, ac_put, ac_memory, core_memory,
 ghost use Rattle.ka_cpu.specs.Moves.{move_row, exch_row};
 
 use crate::instruction::{
-    ILLEGAL, Instruction, can_store, operand_to_move, put_moved, set_carries,
+    ILLEGAL, Instruction, can_store, operand_to_move, put_moved, set_carries, try_put_moved,
 };
 use crate::memory::store;
 use crate::{JobMemory, Outcome, Regs, fetch};
@@ -27,7 +27,7 @@ pub enum Transfer {
     Magnitude,
 }
 
-/// Puts a word negated where a move puts its result, with the flags of that.
+/// Stores a word negated where the mode says, and sets the flags of the negation.
 #[inline(always)]
 fn put_negated<M: JobMemory>(mode: u32, regs: &mut Regs, memory: &mut M, n: Instruction, word: Word)
     requires mode { mode ≡ n.op % 4 }
@@ -44,7 +44,7 @@ fn put_negated<M: JobMemory>(mode: u32, regs: &mut Regs, memory: &mut M, n: Inst
     set_carries(regs, zero, one);
 }
 
-/// MOVE, MOVS, MOVN, MOVM
+/// MOVE, MOVS, MOVN and MOVM, by what is stored of the operand.
 #[inline(always)]
 #[tactic(auto, unfolding(crate::specs::Moves::move_row))]
 pub fn do_move<M: JobMemory>(
@@ -62,14 +62,27 @@ pub fn do_move<M: JobMemory>(
     let Some(word) = operand_to_move(mode, regs, memory, n) else {
         return ILLEGAL;
     };
-    if !can_store(mode, memory, n) {
-        return ILLEGAL;
-    }
     match transfer {
-        Transfer::Plain => put_moved(mode, regs, memory, n, word),
-        Transfer::Swapped => put_moved(mode, regs, memory, n, word.swapped()),
-        Transfer::Negated => put_negated(mode, regs, memory, n, word),
+        Transfer::Plain => {
+            if !try_put_moved(mode, regs, memory, n, word) {
+                return ILLEGAL;
+            }
+        }
+        Transfer::Swapped => {
+            if !try_put_moved(mode, regs, memory, n, word.swapped()) {
+                return ILLEGAL;
+            }
+        }
+        Transfer::Negated => {
+            if !can_store(mode, memory, n) {
+                return ILLEGAL;
+            }
+            put_negated(mode, regs, memory, n, word);
+        }
         Transfer::Magnitude => {
+            if !can_store(mode, memory, n) {
+                return ILLEGAL;
+            }
             if word.is_negative() {
                 put_negated(mode, regs, memory, n, word);
             } else {

@@ -6,7 +6,7 @@ ghost use Rattle.ka_cpu.specs.Outcomes.{code_of};
 /// Why a job stops.
 #[derive(Clone, Copy, Debug, PartialEq, Eq)]
 pub enum StopReason {
-    /// A place that is not legal was to be read or written; nothing has changed.
+    /// An address that is not legal was to be read or written; nothing has changed.
     IllegalAddress,
     /// An operation that is left out; nothing has changed.
     IllegalInstruction,

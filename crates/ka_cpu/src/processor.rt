@@ -5,12 +5,13 @@ ghost use Rattle.ka_cpu.specs.declared.limits.TheConstants.{MOST_EXECUTES};
 ghost use Rattle.ka_cpu.specs.Addresses.{reading};
 ghost use Rattle.ka_cpu.specs.Effects.{EndsAs};
 ghost use Rattle.ka_cpu.specs.Exec.{ac_field, exec, is_xct, op_of, word_behind, word_performed};
-ghost use Rattle.ka_cpu.specs.Places.{word_at};
+ghost use Rattle.ka_cpu.specs.Memory.{word_at};
 ghost use Rattle.ka_cpu.specs.Runs.{ran};
 
 use crate::address::find_address;
 use crate::dispatch::{HERE, LOOP, RUN, STEP, carry_out, refusal};
 use crate::instruction::{ILLEGAL, Instruction};
+use crate::memory::fetch_code;
 use crate::{CoreWords, JobMemory, MOST_EXECUTES, Outcome, Regs, StopReason, fetch};
 use word36::{Address, Word};
 
@@ -40,11 +41,12 @@ fn is_execute_word(word: Word) -> bool
     operation(word) == 0o256
 }
 
-/// The word that an XCT with this E executes, over at most `MOST_EXECUTES` - 1 XCTs more; it is none itself.
+/// The word that an XCT with this E executes, over at most `MOST_EXECUTES` - 1 XCTs more. It is no XCT.
 #[inline(never)]
 #[tactic(auto, using(crate::proofs::Executes::xct_steps))]
 fn follow_executes<M: JobMemory>(regs: &Regs, memory: &M, e: Address) -> Result<Word, StopReason>
-    ensures value { result ≡ reading (word_at regs.now.ac (M.words memory.now) e) (λ v. word_behind (MOST_EXECUTES - 1) regs.now.ac (M.words memory.now) v) }
+    ensures value { result
+        ≡ reading (word_at regs.now.ac (M.words memory.now) e) (λ v. word_behind (MOST_EXECUTES - 1) regs.now.ac (M.words memory.now) v) }
     ensures plain { IfOk result (λ w. is_xct w ≡ false) }
 {
     let Some(first) = fetch(regs, memory, e.number()) else {
@@ -55,8 +57,8 @@ fn follow_executes<M: JobMemory>(regs: &Regs, memory: &M, e: Address) -> Result<
         if !is_execute_word(word) {
             return Ok(word);
         }
-        let place = find_address(regs, memory, word)?;
-        match fetch(regs, memory, place.number()) {
+        let address = find_address(regs, memory, word)?;
+        match fetch(regs, memory, address.number()) {
             None => return Err(StopReason::IllegalAddress),
             Some(next) => word = next,
         }
@@ -69,10 +71,11 @@ fn follow_executes<M: JobMemory>(regs: &Regs, memory: &M, e: Address) -> Result<
 }
 
 /// The word that an XCT with this E executes. It is inlined, so that its caller, which is inlined too,
-/// keeps no place for what the call of `follow_executes` returns.
+/// keeps no room for what the call of `follow_executes` returns.
 #[inline(always)]
 fn find_executed<M: JobMemory>(regs: &Regs, memory: &M, e: Address) -> Result<Word, StopReason>
-    ensures value { result ≡ reading (word_at regs.now.ac (M.words memory.now) e) (λ v. word_behind (MOST_EXECUTES - 1) regs.now.ac (M.words memory.now) v) }
+    ensures value { result
+        ≡ reading (word_at regs.now.ac (M.words memory.now) e) (λ v. word_behind (MOST_EXECUTES - 1) regs.now.ac (M.words memory.now) v) }
     ensures plain { IfOk result (λ w. is_xct w ≡ false) }
 {
     match follow_executes(regs, memory, e) {
@@ -81,7 +84,7 @@ fn find_executed<M: JobMemory>(regs: &Regs, memory: &M, e: Address) -> Result<Wo
     }
 }
 
-/// Executes a word, and where it is an XCT the word behind it. `CALLER` is that of `carry_out`.
+/// Executes a word; where it is an XCT, the word that it leads to. `CALLER` is that of `carry_out`.
 #[inline(always)]
 #[tactic(auto, using(crate::proofs::Executes::executions))]
 fn execute<M: JobMemory, const CALLER: u8>(regs: &mut Regs, memory: &mut M, word: Word) -> Outcome
@@ -115,7 +118,7 @@ fn execute_next<M: JobMemory, const CALLER: u8>(regs: &mut Regs, memory: &mut M)
     ensures exec { record { regs = regs.new; core = M.words memory.new; outcome = result } ≡ exec regs.old (M.words memory.old) }
     ensures place { M.place memory.new ≡ M.place memory.old }
 {
-    let Some(word) = fetch(regs, memory, regs.pc.number()) else {
+    let Some(word) = fetch_code(regs, memory, regs.pc.number()) else {
         return ILLEGAL;
     };
     execute::<M, CALLER>(regs, memory, word)
@@ -136,7 +139,7 @@ pub fn step<M: JobMemory>(regs: &mut Regs, memory: &mut M) -> Outcome
     execute_next::<M, STEP>(regs, memory)
 }
 
-/// As `step`, where the caller is: for a loop that looks at the registers behind each instruction. A program
+/// As `step`, inlined into its caller: for a loop that looks at the registers after each instruction. A program
 /// has one such caller.
 #[inline(always)]
 pub fn step_in_loop<M: JobMemory>(regs: &mut Regs, memory: &mut M) -> Outcome
@@ -146,13 +149,13 @@ pub fn step_in_loop<M: JobMemory>(regs: &mut Regs, memory: &mut M) -> Outcome
     execute_next::<M, LOOP>(regs, memory)
 }
 
-/// Executes at most so many instructions, one after another, until one calls the monitor or stops, and
-/// says how many were executed, that one included, and how the last one ended. The words are the core
-/// of the job.
+/// Executes at most `most` instructions, one after another, until one calls the monitor or stops. The answer
+/// is how many were executed, that one included, and how the last one ended. `words` is the core of the job.
 #[inline(never)]
 #[tactic(auto, using(crate::proofs::RunSteps::run_turns))]
 pub fn run_steps(regs: &mut Regs, words: &mut [Word], most: u64) -> (u64, Outcome)
-    ensures { record { steps = result.0; after = record { regs = regs.new; core = words.new; outcome = result.1 } } ≡ ran most regs.old words.old }
+    ensures { record { steps = result.0; after = record { regs = regs.new; core = words.new; outcome = result.1 } }
+        ≡ ran most regs.old words.old }
 {
     let mut memory = CoreWords { words };
     for left in (0..most).rev() {
@@ -164,35 +167,38 @@ pub fn run_steps(regs: &mut Regs, words: &mut [Word], most: u64) -> (u64, Outcom
     (most, Outcome::Done)
 }
 
-/// One instruction, where the caller is.
+/// Executes one instruction, inlined into its caller.
 #[inline(always)]
 fn run_one(regs: &mut Regs, words: &mut [Word]) -> (u64, Outcome)
-    ensures { record { steps = result.0; after = record { regs = regs.new; core = words.new; outcome = result.1 } } ≡ ran 1 regs.old words.old }
+    ensures { record { steps = result.0; after = record { regs = regs.new; core = words.new; outcome = result.1 } }
+        ≡ ran 1 regs.old words.old }
 {
     let mut memory = CoreWords { words };
     let outcome = execute_next::<CoreWords, HERE>(regs, &mut memory);
     (1, outcome)
 }
 
-/// Several instructions, by `run_steps`. It is inlined, so that its caller, which is inlined too, keeps no
-/// place for what the call of `run_steps` returns.
+/// Executes several instructions, by `run_steps`. It is inlined, so that its caller, which is inlined too, keeps no
+/// room for what the call of `run_steps` returns.
 #[inline(always)]
 fn run_several(regs: &mut Regs, words: &mut [Word], most: u64) -> (u64, Outcome)
-    ensures { record { steps = result.0; after = record { regs = regs.new; core = words.new; outcome = result.1 } } ≡ ran most regs.old words.old }
+    ensures { record { steps = result.0; after = record { regs = regs.new; core = words.new; outcome = result.1 } }
+        ≡ ran most regs.old words.old }
 {
     run_steps(regs, words, most)
 }
 
-/// As `run_steps`. Where `IN_PLACE`, an instruction that is wanted alone is executed where the caller is,
-/// which saves a third of its time. A program has one such caller: a body of this size is inlined only
-/// where there is one.
+/// As `run_steps`. Where `IN_PLACE` is true, a single instruction is executed by code that is inlined into the
+/// caller, which saves a third of its time. A program has one such caller: a body of this size is inlined
+/// only where there is one.
 #[inline(always)]
 pub fn run_steps_from<const IN_PLACE: bool>(
     regs: &mut Regs,
     words: &mut [Word],
     most: u64,
 ) -> (u64, Outcome)
-    ensures { record { steps = result.0; after = record { regs = regs.new; core = words.new; outcome = result.1 } } ≡ ran most regs.old words.old }
+    ensures { record { steps = result.0; after = record { regs = regs.new; core = words.new; outcome = result.1 } }
+        ≡ ran most regs.old words.old }
 {
     if IN_PLACE && most == 1 {
         run_one(regs, words)

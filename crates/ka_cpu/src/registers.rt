@@ -21,9 +21,9 @@ pub struct Flags {
 /// The registers of a job: sixteen accumulators, the program counter and the flags.
 #[derive(Clone, Copy, Debug)]
 pub struct Regs {
-    /// The accumulators, which are also the places 0 to 17 octal.
+    /// The accumulators, which are also the words at the addresses 0 to 17 octal.
     pub ac: [Word; 16],
-    /// The place of the next instruction.
+    /// The address of the next instruction.
     pub pc: Address,
     /// The flags.
     pub flags: Flags,
@@ -43,7 +43,7 @@ pub fn pc_word(flags: Flags, pc: Address) -> Word
     Word::new(overflow + carry0 + carry1 + (1 << 30) + no_divide + pc.number() as u64)
 }
 
-/// The flags in the left half of a PC word; the others of its bits are not looked at.
+/// The flags in the left half of a PC word, whose other bits have no effect.
 #[tactic(auto, unfolding(crate::specs::Jumps::flags_of))]
 pub fn flags_of(word: Word) -> Flags
     ensures { result ≡ flags_of word }

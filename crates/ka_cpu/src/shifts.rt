@@ -9,7 +9,7 @@ use crate::{JobMemory, Outcome, Regs};
 use ka_word::{shift_pair, shift_signed, shift_word, turn_pair, turn_word};
 use word36::Word;
 
-/// AC and AC+1 as one number.
+/// AC and AC+1 as one number of 72 bits.
 fn read_pair(regs: &Regs, n: Instruction) -> u128
     ensures value { result ≡ pair_of regs.now n }
     ensures below { result < 2 ^ 72 }

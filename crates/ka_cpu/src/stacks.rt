@@ -2,20 +2,20 @@
 
 ghost use Rattle.std.specs.Prelude.{◌≡◌, ◌<◌, ◌^◌, Ok, if◌then◌else◌};
 ghost use Rattle.ka_cpu.specs.Effects.{Goes_on, Overruns, finished};
-ghost use Rattle.ka_cpu.specs.Effects.{told};
+ghost use Rattle.ka_cpu.specs.Effects.{outcome_of};
 ghost use Rattle.ka_cpu.specs.Stacks.{pushj_row, push_row, pop_row, popj_row};
 
-use crate::instruction::{ILLEGAL, Instruction, is_legal_place};
+use crate::instruction::{ILLEGAL, Instruction, is_legal_address};
 use crate::memory::{store, try_store};
 use crate::registers::pc_word;
 use crate::{JobMemory, Outcome, Regs, StopReason, fetch};
 use ka_word::{pop_up, push_down, runs_under};
 use word36::Address;
 
-/// How a pushdown instruction ends whose pointer has run out, or has not.
+/// How a pushdown instruction ends, by whether its pointer ran out.
 #[inline(always)]
 fn ending(runs_out: bool) -> Outcome
-    ensures outcome { result ≡ told (if runs_out then Overruns else Goes_on) }
+    ensures outcome { result ≡ outcome_of (if runs_out then Overruns else Goes_on) }
 {
     if runs_out {
         Outcome::Stop(StopReason::Pushdown)
@@ -56,7 +56,7 @@ pub fn do_push<M: JobMemory>(regs: &mut Regs, memory: &mut M, n: Instruction) ->
     };
     let old = regs.ac[n.ac()];
     let (pointer, runs_out) = push_down(old);
-    if !is_legal_place(memory, pointer.right()) {
+    if !is_legal_address(memory, pointer.right()) {
         return ILLEGAL;
     }
     store(regs, memory, pointer.right(), word);
@@ -77,7 +77,7 @@ pub fn do_pop<M: JobMemory>(regs: &mut Regs, memory: &mut M, n: Instruction) -> 
     let Some(word) = fetch(regs, memory, old.right()) else {
         return ILLEGAL;
     };
-    if !is_legal_place(memory, n.e().number()) {
+    if !is_legal_address(memory, n.e().number()) {
         return ILLEGAL;
     }
     let pointer = pop_up(old);

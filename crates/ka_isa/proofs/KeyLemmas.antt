@@ -119,27 +119,27 @@ pub record IsOperation (key code : ℕ) : Type 0 where
   pub its_code : Some code ≡ code_in operations name
   pub small : code < 512
 
-stands_at : (names : List Name) (keys codes : List ℕ) (place : ℕ) → are_by_name names keys codes ≡ true → place < length keys
-    → (place < length codes) × IsOperation (get_or keys place 0) (get_or codes place 0)
+stands_at : (names : List Name) (keys codes : List ℕ) (position : ℕ) → are_by_name names keys codes ≡ true → position < length keys
+    → (position < length codes) × IsOperation (get_or keys position 0) (get_or codes position 0)
 unfolding are_by_name
-stands_at names keys codes place h within =
+stands_at names keys codes position h within =
     let parts = and_parts _ _ h in
     let tables = and_parts _ _ parts.0 in
     let keyed : have_keys names keys ≡ true = (and_parts _ _ tables.1).0 in
-    let inside : place < length names = omega (arith, as_many names keys keyed) in
-    let code = code_beside operations names codes place tables.0 inside in (
+    let inside : position < length names = omega (arith, as_many names keys keyed) in
+    let code = code_beside operations names codes position tables.0 inside in (
       code.0,
       record {
-        name = get_or names place [];
-        plain = plain_name operations (get_or names place []) (get_or codes place 0) all_plain code.1;
-        its_key = (key_there names keys place keyed inside).1;
+        name = get_or names position [];
+        plain = plain_name operations (get_or names position []) (get_or codes position 0) all_plain code.1;
+        its_key = (key_there names keys position keyed inside).1;
         its_code = code.1;
-        small = code_below (get_or names place []) (get_or codes place 0) code.1;
+        small = code_below (get_or names position []) (get_or codes position 0) code.1;
       },
     )
 
-pub operation_at : (place : ℕ) → place < length KEYS → (place < length CODES) × IsOperation (get_or KEYS place 0) (get_or CODES place 0)
-operation_at place within = stands_at (map (λ name. name.now) NAMES) KEYS CODES place tables_agree within
+pub operation_at : (position : ℕ) → position < length KEYS → (position < length CODES) × IsOperation (get_or KEYS position 0) (get_or CODES position 0)
+operation_at position within = stands_at (map (λ name. name.now) NAMES) KEYS CODES position tables_agree within
 
 pub means : (key code : ℕ) (name : Name) → IsOperation key code → is_plain name ≡ true → sixbit_of name ≡ key
     → Some (operation_meaning code) ≡ option_map operation_meaning (code_in operations name)
@@ -151,11 +151,11 @@ means key code name operation plain e =
     here.1 (sym operation.its_key ∙ sym e) in
     ap (option_map operation_meaning) (operation.its_code ∙ ap (code_in operations) one)
 
-pub means_nothing : (key place : ℕ) (name : Name) → IsBinarySearchResult (λ y. nat_cmp y key) KEYS (Err place)
+pub means_nothing : (key position : ℕ) (name : Name) → IsBinarySearchResult (λ y. nat_cmp y key) KEYS (Err position)
     → sixbit_of name ≡ key
     → None ≡ option_map operation_meaning (code_in operations name)
-means_nothing key place name found e =
-    ap (option_map operation_meaning) (no_code_found (map (λ name. name.now) NAMES) KEYS CODES key place name tables_agree found e)
+means_nothing key position name found e =
+    ap (option_map operation_meaning) (no_code_found (map (λ name. name.now) NAMES) KEYS CODES key position name tables_agree found e)
 
 equal_numbers : (less equal : Bool) → cond less Less (cond equal Equal Greater) ≡ Equal → equal ≡ true
 equal_numbers true equal h = cc

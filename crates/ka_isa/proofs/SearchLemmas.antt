@@ -21,11 +21,11 @@ differ xs ys h e = both_ways _ h ((bytes_eq-Decides xs ys).1 e)
 
 -- ---- a name that stands in the table
 
-pub code_beside : (os : List Operation) (names : List Name) (codes : List ℕ) (place : ℕ) → have_codes os names codes ≡ true
-    → place < length names
-    → (place < length codes) × (Some (get_or codes place 0) ≡ code_in os (get_or names place []))
-code_beside os [] codes place h p = absurd (omega arith)
-code_beside os (n ∷ ns) [] place h p = absurd (false≢true h)
+pub code_beside : (os : List Operation) (names : List Name) (codes : List ℕ) (position : ℕ) → have_codes os names codes ≡ true
+    → position < length names
+    → (position < length codes) × (Some (get_or codes position 0) ≡ code_in os (get_or names position []))
+code_beside os [] codes position h p = absurd (omega arith)
+code_beside os (n ∷ ns) [] position h p = absurd (false≢true h)
 code_beside os (n ∷ ns) (c ∷ cs) zero h p =
     let parts = and_parts (is_code (code_in os n) c) (have_codes os ns cs) h in
     (omega arith, known (code_in os n) c parts.0)
@@ -33,22 +33,22 @@ code_beside os (n ∷ ns) (c ∷ cs) zero h p =
     known : (o : Option ℕ) (code : ℕ) → is_code o code ≡ true → Some code ≡ o
     known None code h = absurd (false≢true h)
     known (Some k) code h = ap Some (sym (eqb-true k code h))
-code_beside os (n ∷ ns) (c ∷ cs) (suc place) h p =
+code_beside os (n ∷ ns) (c ∷ cs) (suc position) h p =
     let parts = and_parts (is_code (code_in os n) c) (have_codes os ns cs) h in
-    let rest = code_beside os ns cs place parts.1 (omega arith) in
+    let rest = code_beside os ns cs position parts.1 (omega arith) in
     (omega (arith, rest.0), rest.1)
 
 abbrev names_of : List (Bor (List ℕ)) → List Name
 names_of table = map (λ x. x.now) table
 
-pub code_found : (table : List (Bor (List ℕ))) (keys codes name : List ℕ) (place : ℕ) (d : Bor (List ℕ))
-    → are_by_name (names_of table) keys codes ≡ true → place < length table → (get_or table place d).now ≡ name
-    → (place < length codes) × (Some (get_or codes place 0) ≡ code_in operations name)
+pub code_found : (table : List (Bor (List ℕ))) (keys codes name : List ℕ) (position : ℕ) (d : Bor (List ℕ))
+    → are_by_name (names_of table) keys codes ≡ true → position < length table → (get_or table position d).now ≡ name
+    → (position < length codes) × (Some (get_or codes position 0) ≡ code_in operations name)
 unfolding are_by_name
-code_found table keys codes name place d h p here =
+code_found table keys codes name position d h p here =
     let parts = and_parts _ _ h in
-    let right = code_beside operations (names_of table) codes place (and_parts _ _ parts.0).0 (omega (arith, length-map table (λ x. x.now))) in
-    let read = get_or-map (λ x. x.now) table place d [] p ∙ here in
+    let right = code_beside operations (names_of table) codes position (and_parts _ _ parts.0).0 (omega (arith, length-map table (λ x. x.now))) in
+    let read = get_or-map (λ x. x.now) table position d [] p ∙ here in
     (right.0, right.1 ∙ ap (code_in operations) read)
 
 -- ---- keys
@@ -92,8 +92,8 @@ not_falling xs h i j le p = elim (cases_lt i j) [
   | inr ge ↦ (let e : i ≡ j = omega arith in let same_key = ap (λ n. get_or xs n 0) e in omega (arith, same_key))
 ]
 
-one_place : (xs : List ℕ) (i j : ℕ) → are_rising xs ≡ true → i < length xs → j < length xs → get_or xs i 0 ≡ get_or xs j 0 → i ≡ j
-one_place xs i j h p q e = elim (cases_lt i j) [
+one_position : (xs : List ℕ) (i j : ℕ) → are_rising xs ≡ true → i < length xs → j < length xs → get_or xs i 0 ≡ get_or xs j 0 → i ≡ j
+one_position xs i j h p q e = elim (cases_lt i j) [
   | inl lt ↦ (let r = rising xs i j h lt q in absurd (omega (arith, r, e)))
   | inr ge ↦ elim (cases_lt j i) [
     | inl lt ↦ (let r = rising xs j i h lt p in absurd (omega (arith, r, e)))
@@ -148,14 +148,14 @@ unfolding are_by_name
 other_name table keys codes name h other = no_code operations (names_of table) name (and_parts _ _ h).1 (none_there table name other)
 
 -- the name beside the key is another
-pub other_beside_key : (table : List (Bor (List ℕ))) (keys codes name : List ℕ) (place : ℕ) (d : Bor (List ℕ))
-    → are_by_name (names_of table) keys codes ≡ true → place < length keys → get_or keys place 0 ≡ sixbit_of name
-    → (get_or table place d).now ≢ name
+pub other_beside_key : (table : List (Bor (List ℕ))) (keys codes name : List ℕ) (position : ℕ) (d : Bor (List ℕ))
+    → are_by_name (names_of table) keys codes ≡ true → position < length keys → get_or keys position 0 ≡ sixbit_of name
+    → (get_or table position d).now ≢ name
     → None ≡ code_in operations name
-other_beside_key table keys codes name place d h p key other = other_name table keys codes name h (λ k e within is.
+other_beside_key table keys codes name position d h p key other = other_name table keys codes name h (λ k e within is.
     let long = as_long table keys codes h in
     let its_key = key_of_name table keys codes k e h within ∙ ap sixbit_of is in
-    let here : k ≡ place = one_place keys k place (keys_of table keys codes h).1 (omega (arith, long)) p (its_key ∙ sym key) in
+    let here : k ≡ position = one_position keys k position (keys_of table keys codes h).1 (omega (arith, long)) p (its_key ∙ sym key) in
     other (ap (λ n. (get_or table n d).now) (sym here) ∙ any_default table k d e within ∙ is))
   where
     any_default : (table : List (Bor (List ℕ))) (k : ℕ) (d e : Bor (List ℕ)) → k < length table → (get_or table k d).now ≡ (get_or table k e).now
@@ -176,15 +176,15 @@ absent (n ∷ ns) (x ∷ xs) name h other =
     (λ e. other 0 (omega arith) (sym (eqb-true (sixbit_of n) x parts.0) ∙ ap sixbit_of (sym (same name n e)))) in
     rw first (absent ns xs name parts.1 (λ k p. other (suc k) (omega arith)))
 
-pub no_code_found : (names : List Name) (keys codes : List ℕ) (key place : ℕ) (name : Name) → are_by_name names keys codes ≡ true
-    → IsBinarySearchResult (λ y. nat_cmp y key) keys (Err place) → sixbit_of name ≡ key
+pub no_code_found : (names : List Name) (keys codes : List ℕ) (key position : ℕ) (name : Name) → are_by_name names keys codes ≡ true
+    → IsBinarySearchResult (λ y. nat_cmp y key) keys (Err position) → sixbit_of name ≡ key
     → None ≡ code_in operations name
 unfolding are_by_name
-no_code_found names keys codes key place name h found e =
+no_code_found names keys codes key position name h found e =
     let parts = and_parts _ _ h in
     let tables = and_parts _ _ (and_parts _ _ parts.0).1 in
-    let parted = searched keys key (Err place) found (not_falling keys tables.1) in
-    no_code operations names name parts.1 (absent names keys name tables.0 (λ k within is. elim (cases_lt k place) [
+    let parted = searched keys key (Err position) found (not_falling keys tables.1) in
+    no_code operations names name parts.1 (absent names keys name tables.0 (λ k within is. elim (cases_lt k position) [
       | inl lt ↦ (let less = parted.1 k lt in omega (arith, less, is))
       | inr le ↦ (let more = parted.2 k le within in omega (arith, more, is))
     ]))

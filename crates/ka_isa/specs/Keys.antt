@@ -2,13 +2,15 @@
 use Rattle.std.specs.Prelude.{ℕ, ◌+◌, ◌-◌, ◌*◌, ◌^◌, ◌%◌, Bool, ◌&&◌, nat_le, nat_lt, List, length, slice_index}
 use Rattle.std.specs.List.{list_all}
 
--- the code of the character at a place in SIXBIT, a blank's where there is none
+-- the code of the character at a position in SIXBIT, a blank's where there is none
 abbrev pub code_at : List ℕ → ℕ → ℕ
 code_at name at = (slice_index name at - 32) % 64
 
 -- the first six characters as one number, six bits each, the first highest; blanks stand behind the last
 abbrev pub sixbit_of : List ℕ → ℕ
-sixbit_of name = code_at name 0 * 2 ^ 30 + code_at name 1 * 2 ^ 24 + code_at name 2 * 2 ^ 18 + code_at name 3 * 2 ^ 12 + code_at name 4 * 2 ^ 6 + code_at name 5
+sixbit_of name =
+    code_at name 0 * 2 ^ 30 + code_at name 1 * 2 ^ 24 + code_at name 2 * 2 ^ 18
+    + code_at name 3 * 2 ^ 12 + code_at name 4 * 2 ^ 6 + code_at name 5
 
 -- a character that has a code in SIXBIT, and is no blank
 abbrev pub has_code : ℕ → Bool

@@ -43,10 +43,12 @@ halves =
 abbrev pub combined : List Name → List Name → List Name
 combined beginnings endings = flat_map (λ beginning. map (λ ending. beginning ++ ending) endings) beginnings
 
--- tests: none, zeros, complement, ones for the change; then the mask right or left, or direct or swapped; never, if equal, always, if not equal for the skip
+-- tests: none, zeros, complement, ones for the change; then the mask right or left, or direct or swapped; never,
+-- if equal, always, if not equal for the skip
 abbrev pub tests_with : Name → Name → Name → List Name
 tests_with change one other =
-    flat_map (λ skip. (codes "T" ++ one ++ change ++ skip) ∷ (codes "T" ++ other ++ change ++ skip) ∷ []) (codes "" ∷ codes "E" ∷ codes "A" ∷ codes "N" ∷ [])
+    flat_map (λ skip. (codes "T" ++ one ++ change ++ skip) ∷ (codes "T" ++ other ++ change ++ skip) ∷ [])
+    (codes "" ∷ codes "E" ∷ codes "A" ∷ codes "N" ∷ [])
 
 abbrev pub tests : List Name
 tests =

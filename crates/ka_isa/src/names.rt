@@ -396,7 +396,7 @@ static CODES: [u16; 320] = [
     0o633, 0o637, 0o51, 0o256, 0o430, 0o433, 0o431, 0o432,
 ];
 
-/// The code in SIXBIT of the character at a place of a name, a blank's behind the last.
+/// The code in SIXBIT of the character at a position of a name, a blank's behind the last.
 fn code_at(name: &[u8], at: usize) -> u64
     ensures value { result ≡ code_at name.now at }
     ensures below { result < 64 }
@@ -426,9 +426,9 @@ fn operation_in(names: &[&'static str], keys: &[u64], codes: &[u16], name: &str)
     ensures { result ≡ code_in operations name.now }
 {
     match keys.binary_search(&key(name)) {
-        Ok(place) => {
-            if names[place] == name {
-                Some(codes[place])
+        Ok(position) => {
+            if names[position] == name {
+                Some(codes[position])
             } else {
                 None
             }
@@ -454,10 +454,11 @@ fn operation_meaning(code: u16) -> Named
 /// operation. No character of it is a blank.
 #[inline(always)]
 pub fn operation_of_key(key: u64) -> Option<Named>
-    ensures { (name : List ℕ) → is_plain name ≡ true → sixbit_of name ≡ key → result ≡ option_map operation_meaning (code_in operations name) }
+    ensures { (name : List ℕ) → is_plain name ≡ true → sixbit_of name ≡ key
+        → result ≡ option_map operation_meaning (code_in operations name) }
 {
     match KEYS.binary_search(&key) {
-        Ok(place) => Some(operation_meaning(CODES[place])),
+        Ok(position) => Some(operation_meaning(CODES[position])),
         Err(_) => None,
     }
 }

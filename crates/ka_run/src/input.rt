@@ -16,7 +16,7 @@ pub enum Line {
     Pc(Address),
     /// The number of blocks of core.
     Size(u32),
-    /// A word and its place.
+    /// A word, after its address.
     Word(u32, Word),
     /// The PC at the start, behind the words.
     Start(Address),
@@ -94,8 +94,8 @@ pub fn read_line(line: &str) -> Option<Line> {
         "size" => Some(Line::Size(read_size(second)?)),
         "START" => Some(Line::Start(read_address(second)?)),
         _ => {
-            let place = read_address(first)?.number();
-            Some(Line::Word(place, read_word(second)?))
+            let address = read_address(first)?.number();
+            Some(Line::Word(address, read_word(second)?))
         }
     }
 }

@@ -1,6 +1,6 @@
 //! Runs bare words on the processor and writes the state that is left.
 //!
-//! Standard input has lines `address word` in octal, places below 20 being registers; before them may
+//! Standard input has lines `address word` in octal, addresses below 20 being registers; before them may
 //! stand `flags f` and `pc a` in octal and `size n`, the blocks of core, in decimal, and behind them
 //! `START a`, as `lockmon asm` writes it. `;` begins a comment. The argument is the greatest number of
 //! instructions, in decimal.
@@ -15,13 +15,13 @@ use std::process::ExitCode;
 use std::{env, io};
 use word36::{Address, BLOCK_WORDS, MOST_BLOCKS, Word};
 
-/// What is told where the arguments are wrong.
+/// What is written where the arguments are wrong.
 const USAGE: &str =
     "usage: ka_run N < words    runs at most N instructions (decimal); the words as \
     `lockmon asm` writes them";
 
-/// How far the input has come: the number of blocks of core, whether a word was read, and whether the
-/// start was.
+/// What the input has said so far: the number of blocks of core, whether a word has come, and whether
+/// `START` has.
 #[derive(Clone, Copy)]
 struct Progress {
     blocks: u32,
@@ -39,16 +39,16 @@ fn take(progress: &mut Progress, regs: &mut Regs, core: &mut [Word], line: Line)
             regs.pc = pc;
             true
         }
-        Line::Word(place, word) => {
+        Line::Word(address, word) => {
             progress.words_begun = true;
-            let inside = (place as usize) < core.len()
-                && place as usize / BLOCK_WORDS < progress.blocks as usize;
-            if place < 16 {
-                regs.ac[place as usize] = word;
+            let inside = (address as usize) < core.len()
+                && address as usize / BLOCK_WORDS < progress.blocks as usize;
+            if address < 16 {
+                regs.ac[address as usize] = word;
             } else if inside {
-                core[place as usize] = word;
+                core[address as usize] = word;
             }
-            place < 16 || inside
+            address < 16 || inside
         }
         _ if progress.words_begun => false,
         Line::Flags(flags) => {
@@ -66,17 +66,17 @@ fn take(progress: &mut Progress, regs: &mut Regs, core: &mut [Word], line: Line)
     }
 }
 
-/// The greatest number of instructions, of words that begin with the program's name.
-fn limit_of(words: &[String]) -> Option<u64> {
-    match words {
+/// The greatest number of instructions, of arguments that begin with the program's name.
+fn limit_of(arguments: &[String]) -> Option<u64> {
+    match arguments {
         [_, most] => most.as_str().parse::<u64>().ok(),
         _ => None,
     }
 }
 
 fn main(rt: HostRuntime) -> io::Result<ExitCode> {
-    let words: Vec<String> = env::args(&rt)?.collect(rt.alloc())?;
-    let Some(most) = limit_of(words.as_slice()) else {
+    let arguments: Vec<String> = env::args(&rt)?.collect(rt.alloc())?;
+    let Some(most) = limit_of(arguments.as_slice()) else {
         eprintln!(rt; "{USAGE}")?;
         return Ok(ExitCode::from(2));
     };

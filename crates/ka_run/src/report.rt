@@ -40,10 +40,10 @@ pub fn write(
         let (left, right) = (word.left(), word.right());
         println!(rt; "AC {number:02o} {left:06o},,{right:06o}")?;
     }
-    for (place, word) in core.iter().enumerate() {
+    for (address, word) in core.iter().enumerate() {
         if word.number() != 0 {
             let (left, right) = (word.left(), word.right());
-            println!(rt; "{place:06o}/ {left:06o},,{right:06o}")?;
+            println!(rt; "{address:06o}/ {left:06o},,{right:06o}")?;
         }
     }
     Ok(())

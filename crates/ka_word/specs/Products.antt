@@ -13,7 +13,9 @@ unfoldable pub high_word : ℕ → ℕ → ℕ
 high_word a b = word_of (int_div_euclid (signed_product a b) (pos (2 ^ 35)))
 
 unfoldable pub low_word : ℕ → ℕ → ℕ
-low_word a b = (if int_lt (signed_product a b) (pos 0) then 2 ^ 35 else 0) + unsigned_abs (int_rem_euclid (signed_product a b) (pos (2 ^ 35)))
+low_word a b =
+    (if int_lt (signed_product a b) (pos 0) then 2 ^ 35 else 0)
+    + unsigned_abs (int_rem_euclid (signed_product a b) (pos (2 ^ 35)))
 
 -- no word holds the product
 unfoldable pub overflows : ℕ → ℕ → Bool

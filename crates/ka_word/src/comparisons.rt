@@ -14,7 +14,7 @@ fn order_key(word: Word) -> u64
     word.number().wrapping_sub(SIGN)
 }
 
-/// Whether a compares with b as a condition's digit says.
+/// Whether a condition holds of a and b, by the low digit of the operation.
 #[inline(always)]
 #[tactic(auto, unfolding(crate::specs::Conditions::holds))]
 pub fn compare(digit: u32, a: Word, b: Word) -> bool
@@ -35,7 +35,7 @@ pub fn compare(digit: u32, a: Word, b: Word) -> bool
     }
 }
 
-/// Whether a compares with 0 as a condition's digit says.
+/// Whether a condition holds of a and 0, by the low digit of the operation.
 #[inline(always)]
 #[tactic(auto, unfolding(crate::specs::Conditions::holds))]
 pub fn compare_zero(digit: u32, a: Word) -> bool

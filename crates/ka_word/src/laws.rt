@@ -16,8 +16,10 @@ ghost use Rattle.ka_word.specs.Sums.{negated, sum_overflows};
 /// it fits the word's value is the result. The least number alone has no negative.
 pub fn sum_laws()
     ensures add_fits { (a b : ℕ) → a < 2 ^ 36 → b < 2 ^ 36 → (sum_overflows a b 0 ≡ false) ↔ FitsWord (signed_value a +ℤ signed_value b) }
-    ensures add { (a b : ℕ) → a < 2 ^ 36 → b < 2 ^ 36 → sum_overflows a b 0 ≡ false → signed_value (sum_of a b 0) ≡ signed_value a +ℤ signed_value b }
-    ensures sub_fits { (a b : ℕ) → a < 2 ^ 36 → b < 2 ^ 36 → (sum_overflows a (complement b) 1 ≡ false) ↔ FitsWord (signed_value a -ℤ signed_value b) }
+    ensures add { (a b : ℕ) → a < 2 ^ 36 → b < 2 ^ 36 → sum_overflows a b 0 ≡ false
+        → signed_value (sum_of a b 0) ≡ signed_value a +ℤ signed_value b }
+    ensures sub_fits { (a b : ℕ) → a < 2 ^ 36 → b < 2 ^ 36
+        → (sum_overflows a (complement b) 1 ≡ false) ↔ FitsWord (signed_value a -ℤ signed_value b) }
     ensures sub { (a b : ℕ) → a < 2 ^ 36 → b < 2 ^ 36 → sum_overflows a (complement b) 1 ≡ false
         → signed_value (sum_of a (complement b) 1) ≡ signed_value a -ℤ signed_value b }
     ensures negate_fits { (a : ℕ) → a < 2 ^ 36 → (sum_overflows (complement a) 1 0 ≡ false) ↔ (a ≢ 2 ^ 35) }
@@ -35,7 +37,8 @@ pub fn product_laws()
         → (is_negative (high_word a b) ≡ int_lt (signed_value a *ℤ signed_value b) (pos 0))
         × (is_negative (low_word a b) ≡ int_lt (signed_value a *ℤ signed_value b) (pos 0)) }
     ensures fits { (a b : ℕ) → a < 2 ^ 36 → b < 2 ^ 36 → (overflows a b ≡ false) ↔ FitsWord (signed_value a *ℤ signed_value b) }
-    ensures whole { (a b : ℕ) → a < 2 ^ 36 → b < 2 ^ 36 → overflows a b ≡ false → signed_value (low_word a b) ≡ signed_value a *ℤ signed_value b }
+    ensures whole { (a b : ℕ) → a < 2 ^ 36 → b < 2 ^ 36 → overflows a b ≡ false
+        → signed_value (low_word a b) ≡ signed_value a *ℤ signed_value b }
 {}
 
 /// IDIV: it is not done exactly where the divisor is 0 or the quotient would be 2^35; otherwise the
@@ -52,15 +55,18 @@ pub fn quotient_laws()
         → signed_value a ≡ signed_value (quotient_of a m) *ℤ signed_value m +ℤ signed_value (remainder_of a m) }
     ensures smaller { (a m : ℕ) → a < 2 ^ 36 → m < 2 ^ 36 → no_quotient a m ≡ false
         → unsigned_abs (signed_value (remainder_of a m)) < unsigned_abs (signed_value m) }
-    ensures sign { (a m : ℕ) → a < 2 ^ 36 → m < 2 ^ 36 → no_quotient a m ≡ false → (remainder_of a m ≡ 0) ⊎ (is_negative (remainder_of a m) ≡ is_negative a) }
+    ensures sign { (a m : ℕ) → a < 2 ^ 36 → m < 2 ^ 36 → no_quotient a m ≡ false
+        → (remainder_of a m ≡ 0) ⊎ (is_negative (remainder_of a m) ≡ is_negative a) }
 {}
 
 /// ASH to the left multiplies by a power of 2, and Overflow is set exactly where the product does not
 /// fit a word; to the right it divides by the power, rounding down. LSH to the right and back to the
 /// left clears the low bits.
 pub fn shift_laws()
-    ensures left_fits { (e w : ℕ) → w < 2 ^ 36 → is_left e ≡ true → (ash_overflows e w ≡ false) ↔ FitsWord (signed_value w *ℤ pos (2 ^ places_of e)) }
-    ensures left { (e w : ℕ) → w < 2 ^ 36 → is_left e ≡ true → ash_overflows e w ≡ false → signed_value (ash_of e w) ≡ signed_value w *ℤ pos (2 ^ places_of e) }
+    ensures left_fits { (e w : ℕ) → w < 2 ^ 36 → is_left e ≡ true
+        → (ash_overflows e w ≡ false) ↔ FitsWord (signed_value w *ℤ pos (2 ^ places_of e)) }
+    ensures left { (e w : ℕ) → w < 2 ^ 36 → is_left e ≡ true → ash_overflows e w ≡ false
+        → signed_value (ash_of e w) ≡ signed_value w *ℤ pos (2 ^ places_of e) }
     ensures right { (e w : ℕ) → w < 2 ^ 36 → is_left e ≡ false
         → ((signed_value (ash_of e w) *ℤ pos (2 ^ places_of e)) ≤ℤ signed_value w)
         × (signed_value w <ℤ ((signed_value (ash_of e w) +ℤ pos 1) *ℤ pos (2 ^ places_of e))) }
@@ -85,7 +91,7 @@ pub fn byte_laws()
 
 /// Increments walk through the bytes of a word from the left to the right and then go on to the next
 /// word: each moves the position down by the size while there is room for another byte, and the next
-/// one after that names the leftmost byte one place further on.
+/// one after that names the leftmost byte of the word at the next address.
 pub fn pointer_laws()
     ensures within { (p n : ℕ) → p < 2 ^ 36 → n * size_of p ≤ position_of p
         → (position_of (times n incremented p) ≡ position_of p - n * size_of p) × (times n incremented p % 2 ^ 30 ≡ p % 2 ^ 30) }
@@ -94,10 +100,10 @@ pub fn pointer_laws()
         × (incremented p % 2 ^ 18 ≡ (p + 1) % 2 ^ 18) }
 {}
 
-/// A pushdown pointer that is counted up and then down is as before; up, it names the next place; and
-/// where there was no word left, it has none to go back to.
+/// A pushdown pointer that is counted up and then down is as before; up, it names the next address; and
+/// where counting up runs over, counting down again runs under.
 pub fn pushdown_laws()
     ensures back { (a : ℕ) → a < 2 ^ 36 → counted_down (counted_up a) ≡ a }
-    ensures place { (a : ℕ) → a < 2 ^ 36 → right_half (counted_up a) ≡ (right_half a + 1) % 2 ^ 18 }
+    ensures address { (a : ℕ) → a < 2 ^ 36 → right_half (counted_up a) ≡ (right_half a + 1) % 2 ^ 18 }
     ensures over { (a : ℕ) → a < 2 ^ 36 → runs_over a ≡ true → runs_under (counted_up a) ≡ true }
 {}

@@ -16,7 +16,7 @@ pub fn count_up(word: Word) -> Word
     word.sum(Word::new(BOTH), false)
 }
 
-/// Whether a pushdown pointer has no word less.
+/// Whether counting a pushdown pointer down borrows out of bit 0.
 #[inline(always)]
 pub fn runs_under(pointer: Word) -> bool
     ensures { result ≡ runs_under pointer }
@@ -24,7 +24,7 @@ pub fn runs_under(pointer: Word) -> bool
     pointer.number() < BOTH
 }
 
-/// A pushdown pointer with one word more, and whether there was none left.
+/// A pushdown pointer counted up, and whether that carries out of bit 0.
 #[inline(always)]
 pub fn push_down(pointer: Word) -> (Word, bool)
     ensures word { result.0 ≡ counted_up pointer }
@@ -34,7 +34,7 @@ pub fn push_down(pointer: Word) -> (Word, bool)
     (word, word.number() < BOTH)
 }
 
-/// A pushdown pointer with one word less.
+/// A pushdown pointer counted down.
 #[inline(always)]
 pub fn pop_up(pointer: Word) -> Word
     ensures { result ≡ counted_down pointer }

@@ -2,7 +2,8 @@
 
 ghost use Rattle.std.specs.Prelude.{◌≡◌, ◌<◌, ◌≤◌, ◌^◌, ◌+◌, ◌-◌, ◌*◌, ◌/◌, ◌%◌, nat_eq, not, if◌then◌else◌};
 ghost use Rattle.word36.specs.Words.{complement, is_negative};
-ghost use Rattle.ka_word.specs.Shifts.{ash_of, ash_overflows, is_left, lsh_of, lshc_of, places_of, rot_of, rotc_of, shifted_left, turned_left};
+ghost use Rattle.ka_word.specs.Shifts.{ash_of, ash_overflows, is_left, lsh_of, lshc_of};
+ghost use Rattle.ka_word.specs.Shifts.{places_of, rot_of, rotc_of, shifted_left, turned_left};
 
 use crate::bytes::low_part;
 use word36::{ADDRESSES, SIGN, Word};

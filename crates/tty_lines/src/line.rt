@@ -1,6 +1,7 @@
 //! One terminal line.
 
-ghost use Rattle.std.specs.Prelude.{◌≡◌, ◌≤◌, ◌<◌, ◌+◌, ◌-◌, ◌++◌, ◌∷◌, [], length, take, drop, min, nat_lt, slice_get, IfOk, IsOk, OnOk, OnErr, ◌↔◌};
+ghost use Rattle.std.specs.Prelude.{◌≡◌, ◌≤◌, ◌<◌, ◌+◌, ◌-◌, ◌++◌, ◌∷◌, [], length};
+ghost use Rattle.std.specs.Prelude.{take, drop, min, nat_lt, slice_get, IfOk, IsOk, OnOk, OnErr, ◌↔◌};
 ghost use Rattle.std.specs.List.{list_any};
 ghost use Rattle.tty_lines.specs.Breaks.{is_break};
 ghost use Rattle.tty_lines.specs.Rings.{no_characters, holds_line};

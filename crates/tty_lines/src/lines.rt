@@ -1,7 +1,8 @@
 //! All terminal lines.
 
 ghost use Rattle.std.specs.Prelude.{◌≡◌, ◌≤◌, ◌<◌, ◌+◌, ◌-◌, ◌++◌, ◌∷◌, [], length, drop, min, nat_lt, slice_get, IfOk, OnOk, OnErr};
-ghost use Rattle.tty_lines.specs.Rings.{IsLines, all_clear, input_of, output_of, with_input, with_output, room_of, holds_line, typing, putting, taking};
+ghost use Rattle.tty_lines.specs.Rings.{IsLines, all_clear, input_of, output_of, with_input};
+ghost use Rattle.tty_lines.specs.Rings.{with_output, room_of, holds_line, typing, putting, taking};
 
 use crate::line::Line;
 use crate::{Char7, LineError, LineNumber, TakenText};
@@ -68,7 +69,7 @@ impl Lines {
         self.lines[line.number() as usize].pop_input()
     }
 
-    /// Puts a whole text last in a line's output. `Full` where the text does not fit in the 512 places
+    /// Puts a whole text last in a line's output. `Full` where more than 512 characters would wait
     /// there, and then none of it is put.
     pub fn put(&mut self, line: LineNumber, text: &[Char7]) -> Result<(), LineError>
         ensures answer { result ≡ putting self.old line (length text.now) }

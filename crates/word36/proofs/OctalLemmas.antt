@@ -15,9 +15,9 @@ use Rattle.std.proofs.lemmas.Bool.{cases_lt, lt-ltb, le-ltb}
 use mathlib.Core.List.{append_assoc}
 use Rattle.word36.specs.Octal.{last_digit, octal, octal_within}
 
--- a digit written before the last `place` ones goes on with them
-pub octal_turn : (place n : ℕ) (digits : List ℕ) → 0 < place → place ≤ length digits
-    → octal (place - 1) (n / 8) ++ drop (place - 1) (set digits (place - 1) (48 + n % 8)) ≡ octal place n ++ drop place digits
+-- a digit written before the last `position` ones goes on with them
+pub octal_turn : (position n : ℕ) (digits : List ℕ) → 0 < position → position ≤ length digits
+    → octal (position - 1) (n / 8) ++ drop (position - 1) (set digits (position - 1) (48 + n % 8)) ≡ octal position n ++ drop position digits
 unfolding octal
 octal_turn zero n digits p h = absurd (omega arith)
 octal_turn (suc k) n digits p h =
@@ -136,3 +136,5 @@ below_more_digits (suc zero) n p h z = absurd (z (omega arith))
 below_more_digits (suc (suc k)) n p h z =
     let e : suc (suc k) - 1 ≡ suc k = omega arith in
     rw e (omega arith, omega (arith, pow-suc 8 (suc k)))
+
+pub ruleset octal_texts = (length_octal, digits_value_octal, IsUtf8_octal)

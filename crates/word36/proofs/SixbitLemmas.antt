@@ -1,4 +1,4 @@
--- The six codes of a text, place by place.
+-- The six codes of a text, position by position.
 use Rattle.std.proofs.Common.{◌≡◌, ℕ, ◌+◌, ◌-◌, ◌*◌, ◌<◌, ◌≤◌, ◌^◌, List, length, length-append, get_or, map, replicate, true, ◌∙◌, add-one, arith}
 use Rattle.std.specs.Prelude.{nat_le}
 use Rattle.std.specs.List.{list_all}
@@ -36,9 +36,11 @@ code_past text i h k =
     get_or-append_right (map (λ c. c - 0o40) text) (replicate (6 - length text) 0) i 0 (omega arith)
     ∙ get_or-replicate (6 - length text) (i - length (map (λ c. c - 0o40) text)) 0 0 (omega arith)
 
--- what has been read fills no more than its places
-pub below_word : (number place : ℕ) → place ≤ 6 → number < 64 ^ place → number < 2 ^ 36
-below_word number place h k = let m = pow-le-pow_right {n = 64} (omega arith) h in omega (arith, m)
+-- what has been read fills no more than its positions
+pub below_word : (number position : ℕ) → position ≤ 6 → number < 64 ^ position → number < 2 ^ 36
+below_word number position h k = let m = pow-le-pow_right {n = 64} (omega arith) h in omega (arith, m)
 
-pub one_more : (number place code : ℕ) → number < 64 ^ place → code < 64 → number * 64 + code < 64 ^ (place + 1)
-one_more number place code h k = rw add-one (omega (arith, pow-suc 64 place))
+pub one_more : (number position code : ℕ) → number < 64 ^ position → code < 64 → number * 64 + code < 64 ^ (position + 1)
+one_more number position code h k = rw add-one (omega (arith, pow-suc 64 position))
+
+pub ruleset sixbit_codes = (code_within, code_past, in_range)

@@ -1,4 +1,4 @@
-//! Places in memory.
+//! Addresses in memory.
 
 ghost use Rattle.std.specs.Prelude.{◌≡◌, ◌+◌, ◌%◌, ◌^◌, ◌<◌, IsSome, IfSome, ◌↔◌, Some};
 ghost use Rattle.word36.specs.Octal.{octal};
@@ -9,7 +9,7 @@ use arrayvec::ArrayString;
 use std::fmt;
 use std::marker::Model;
 
-/// A place in memory: a number of 18 bits, 0 to 777777 octal.
+/// An address in memory: a number of 18 bits, 0 to 777777 octal.
 #[derive(Clone, Copy, Debug, PartialEq, Eq, PartialOrd, Ord)]
 pub struct Address {
     number: u32,
@@ -28,7 +28,7 @@ impl Model for Address {
 }
 
 impl Address {
-    /// The place of this number.
+    /// The address of this number.
     pub fn new(number: u32) -> Address
         requires { number < 2 ^ 18 }
         ensures { result ≡ number }
@@ -36,7 +36,7 @@ impl Address {
         Address { number }
     }
 
-    /// The place of this number, where it is below 1000000 octal.
+    /// The address of this number. None from 1000000 octal on.
     pub fn try_new(number: u32) -> Option<Address>
         ensures variant { IsSome result ↔ (number < 2 ^ 18) }
         ensures value { IfSome result (λ a. a ≡ number) }
@@ -48,7 +48,7 @@ impl Address {
         }
     }
 
-    /// The number of the place.
+    /// The number of the address.
     pub fn number(self) -> u32
         ensures value { result ≡ self }
         ensures below { result < 2 ^ 18 }
@@ -56,7 +56,7 @@ impl Address {
         self.number
     }
 
-    /// The place so many further on; after the last place comes the first.
+    /// The address `more` words further on; 0 follows 777777 octal.
     pub fn plus(self, more: u32) -> Address
         requires { more < 2 ^ 20 }
         ensures { result ≡ (self + more) % 2 ^ 18 }
@@ -66,7 +66,7 @@ impl Address {
         }
     }
 
-    /// The place as the manuals print it, in six octal digits: `000140`.
+    /// The address as the manuals print it, in six octal digits: `000140`.
     pub fn octal(self) -> ArrayString<6>
         ensures { result.bytes ≡ octal 6 self }
     {

@@ -2,13 +2,13 @@
 
 use crate::Word;
 
-/// The words of a program with their places, and the place where it starts: plain data, of which
-/// nothing is promised here (a login refuses an image with no words, or with places that are too
+/// A program's words with their addresses, and the address where it starts: plain data, of which
+/// nothing is promised here (a login refuses an image with no words, or whose addresses are too
 /// large or do not rise).
 #[derive(Debug, Drop)]
 pub struct Image {
-    /// Each word with its place, in order of places.
+    /// Each word with its address, in the order of the addresses.
     pub words: Vec<(u32, Word)>,
-    /// The place of the first instruction.
+    /// The address of the first instruction.
     pub start: u32,
 }

@@ -17,8 +17,8 @@ pub fn octal_digits<const N: usize>(number: u64) -> [u8; N]
 {
     let mut digits = [b'0'; N];
     let mut rest = number;
-    for place in (0..N).rev() {
-        digits[place] = b'0' + (rest % 8) as u8;
+    for position in (0..N).rev() {
+        digits[position] = b'0' + (rest % 8) as u8;
         rest /= 8;
     }
     digits
@@ -34,9 +34,9 @@ fn text_of(digits: &[u8]) -> ArrayString<22>
     ArrayString::from(text).unwrap()
 }
 
-/// The six octal digits of a half of a word, or of a place in memory, as the manuals print them:
+/// The six octal digits of a half of a word, or of an address, as the manuals print them:
 /// `000140`.
-#[tactic(auto, using(crate::proofs::OctalLemmas::length_octal, crate::proofs::OctalLemmas::digits_value_octal, crate::proofs::OctalLemmas::IsUtf8_octal))]
+#[tactic(auto, using(crate::proofs::OctalLemmas::octal_texts))]
 pub fn octal_half(half: u32) -> ArrayString<6>
     requires { half < 2 ^ 18 }
     ensures text { result.bytes ≡ octal 6 half }

@@ -21,17 +21,17 @@ fn are_sixbit(text: &[u8]) -> bool
     text.iter().all(|character| is_sixbit(*character))
 }
 
-/// The code at a place of a full word: spaces follow a shorter text.
-#[tactic(auto, using(crate::proofs::SixbitLemmas::code_within, crate::proofs::SixbitLemmas::code_past, crate::proofs::SixbitLemmas::in_range))]
-fn code_at(text: &[u8], place: usize) -> u8
+/// The code at a position of a full word: spaces follow a shorter text.
+#[tactic(auto, using(crate::proofs::SixbitLemmas::sixbit_codes))]
+fn code_at(text: &[u8], position: usize) -> u8
     requires codes { IsTrue (list_all is_sixbit text.now) }
     requires fits { length text.now ≤ 6 }
-    requires place { place < 6 }
-    ensures value { result ≡ slice_index (six_codes text.now) place }
+    requires position { position < 6 }
+    ensures value { result ≡ slice_index (six_codes text.now) position }
     ensures below { result < 64 }
 {
-    if place < text.len() {
-        text[place] - 0o40
+    if position < text.len() {
+        text[position] - 0o40
     } else {
         0
     }
@@ -47,8 +47,8 @@ pub fn sixbit(text: &[u8]) -> Option<Word>
         return None;
     }
     let mut number = 0;
-    for place in 0..MOST_CHARACTERS {
-        number = number * 64 + code_at(text, place) as u64;
+    for position in 0..MOST_CHARACTERS {
+        number = number * 64 + code_at(text, position) as u64;
     }
     Some(Word::new(number))
 }

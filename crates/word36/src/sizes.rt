@@ -6,7 +6,7 @@ pub const JOBS: u8 = 63;
 /// Terminal lines are numbered from 0 to one less than this.
 pub const LINES: u8 = 64;
 
-/// The places that an address can name: they are numbered from 0 to one less than this, 777777 octal.
+/// The number of addresses: they run from 0 to one less than this, 777777 octal.
 pub const ADDRESSES: u32 = 0o1_000_000;
 
 /// The words of a block of core.

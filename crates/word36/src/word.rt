@@ -117,7 +117,7 @@ impl Word {
         Word::join(self.left(), right)
     }
 
-    /// The word with its halves in each other's place.
+    /// The word with its halves exchanged.
     pub fn swapped(self) -> Word
         ensures { result ≡ joined (right_half self) (left_half self) }
     {
@@ -191,7 +191,7 @@ impl Word {
         }
     }
 
-    /// All 36 bits turned round.
+    /// All 36 bits inverted.
     pub fn not(self) -> Word
         ensures { result ≡ complement self }
     {

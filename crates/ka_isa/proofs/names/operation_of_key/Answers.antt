@@ -4,14 +4,14 @@ use Rattle.ka_isa.proofs.KeyLemmas.{operation_at, means, means_nothing, found_ke
 use Rattle.ka_isa.proofs.names.operation_of_key.Goals as goal
 
 pub operation_meaning-requires : goal.operation_meaning-requires
-operation_meaning-requires c = (operation_at c.in-Ok.place c.in-Ok.ensures.bound).1.small
+operation_meaning-requires c = (operation_at c.in-Ok.position c.in-Ok.ensures.bound).1.small
 
 pub returns-in-Ok : goal.returns-in-Ok
 returns-in-Ok c name plain e =
-    let place = c.in-Ok.place in
-    let here : get_or KEYS place 0 ≡ c.args.key = found_key _ _ (c.in-Ok.ensures.ok 0) in
+    let position = c.in-Ok.position in
+    let here : get_or KEYS position 0 ≡ c.args.key = found_key _ _ (c.in-Ok.ensures.ok 0) in
     ap Some c.operation_meaning.ensures
-    ∙ means (get_or KEYS place 0) (get_or CODES place 0) name (operation_at place c.in-Ok.ensures.bound).1 plain
+    ∙ means (get_or KEYS position 0) (get_or CODES position 0) name (operation_at position c.in-Ok.ensures.bound).1 plain
     (e ∙ sym here)
 
 pub returns-in-Err : goal.returns-in-Err

@@ -4,12 +4,12 @@ use Rattle.word36.proofs.OctalLemmas.{octal_turn}
 use Rattle.word36.specs.Octal.{octal}
 use Rattle.word36.proofs.octal.octal_digits.Goals as goal
 
-pub loop-place-init : goal.loop-place-init
-loop-place-init g c = grind (arith, common_steps)
+pub loop-position-init : goal.loop-position-init
+loop-position-init g c = grind (arith, common_steps)
 
-pub loop-place-preserved : goal.loop-place-preserved
-loop-place-preserved g c =
-    (grind (arith, common_steps), octal_turn _ _ _ c.loop-place-test.true (omega arith) ∙ c.loop-place.invariant.1)
+pub loop-position-preserved : goal.loop-position-preserved
+loop-position-preserved g c =
+    (grind (arith, common_steps), octal_turn _ _ _ c.loop-position-test.true (omega arith) ∙ c.loop-position.invariant.1)
 
 pub returns : goal.returns
 unfolding octal

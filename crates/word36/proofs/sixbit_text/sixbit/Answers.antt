@@ -6,14 +6,14 @@ use Rattle.word36.proofs.sixbit_text.sixbit.Goals as goal
 
 pub overflow_mul-number : goal.overflow_mul-number
 overflow_mul-number c =
-    omega (arith, below_word c.loop-place.number c.loop-place.place (omega arith) c.loop-place.invariant.1)
+    omega (arith, below_word c.loop-position.number c.loop-position.position (omega arith) c.loop-position.invariant.1)
 
 pub overflow_add-number : goal.overflow_add-number
 overflow_add-number c =
-    omega (arith, below_word c.loop-place.number c.loop-place.place (omega arith) c.loop-place.invariant.1)
+    omega (arith, below_word c.loop-position.number c.loop-position.position (omega arith) c.loop-position.invariant.1)
 
-pub loop-place-preserved : goal.loop-place-preserved
-loop-place-preserved c =
-    let l = c.loop-place in
-    let more = number_more 64 (six_codes c.args.text.now) l.place (omega (arith, length_six_codes c.args.text.now (omega arith))) in
-    (omega (arith, more, l.invariant.0, c.code_at.ensures.value), one_more l.number l.place _ l.invariant.1 c.code_at.ensures.below)
+pub loop-position-preserved : goal.loop-position-preserved
+loop-position-preserved c =
+    let l = c.loop-position in
+    let more = number_more 64 (six_codes c.args.text.now) l.position (omega (arith, length_six_codes c.args.text.now (omega arith))) in
+    (omega (arith, more, l.invariant.0, c.code_at.ensures.value), one_more l.number l.position _ l.invariant.1 c.code_at.ensures.below)

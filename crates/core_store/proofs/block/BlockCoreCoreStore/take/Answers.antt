@@ -9,8 +9,8 @@ returns-then-blocks-self-clause-store c = IsStore-laid _ _ _ _ c.args.self.now.l
 pub returns-clause-store : goal.returns-clause-store
 returns-clause-store c = IsStore-laid _ _ _ _ c.args.self.now.laid_out
 
-pub place-requires-clause-none : goal.place-requires-clause-none
-place-requires-clause-none c =
+pub allot-requires-clause-none : goal.allot-requires-clause-none
+allot-requires-clause-none c =
     let s = c.args.self.now in
     let jobs = s.laid_out.jobs in
     let there : c.args.job < length s.areas = omega arith in

@@ -1,13 +1,13 @@
-//! Places of a memory that is borrowed as `&mut` and kept. A caller that lends a window of a larger
-//! memory still knows what the window holds; of one that it lends as `&`, it would not.
+//! Reads of a memory that is lent as `&mut` and left as it was: the `_kept` functions. A caller that lends a
+//! window of a larger memory in this way still knows what the window holds; had it lent it as `&`, it would not.
 
 ghost use Rattle.std.specs.Prelude.{◌≡◌};
-ghost use Rattle.ka_cpu.specs.Places.{word_at, word_below, is_legal, are_legal};
+ghost use Rattle.ka_cpu.specs.Memory.{word_at, word_below, is_legal, are_legal};
 
 use crate::{JobMemory, Regs, fetch};
 use word36::{ADDRESSES, Word};
 
-/// The word at a place, if it is legal: registers lie at the places below 20 octal.
+/// The word at an address, if it is legal: registers lie at the addresses below 20 octal.
 pub fn fetch_kept<M: JobMemory>(regs: &Regs, memory: &mut M, a: u32) -> Option<Word>
     ensures value { result ≡ word_at regs.now.ac (M.words memory.old) a }
     ensures same { memory.new ≡ memory.old }
@@ -15,7 +15,7 @@ pub fn fetch_kept<M: JobMemory>(regs: &Regs, memory: &mut M, a: u32) -> Option<W
     fetch(regs, memory, a)
 }
 
-/// The word at a place that is counted on from another; behind 777777 octal there is none.
+/// The word at an address that was counted on from another. None behind 777777 octal.
 pub fn word_kept<M: JobMemory>(regs: &Regs, memory: &mut M, a: u32) -> Option<Word>
     ensures value { result ≡ word_below regs.now.ac (M.words memory.old) a }
     ensures same { memory.new ≡ memory.old }
@@ -27,7 +27,7 @@ pub fn word_kept<M: JobMemory>(regs: &Regs, memory: &mut M, a: u32) -> Option<Wo
     }
 }
 
-/// Whether a place is legal: below 20 octal, or below the size of core.
+/// Whether an address is legal: below 20 octal, or below the size of core.
 pub fn is_legal_kept<M: JobMemory>(memory: &mut M, a: u32) -> bool
     ensures value { result ≡ is_legal (M.words memory.old) a }
     ensures same { memory.new ≡ memory.old }
@@ -35,9 +35,9 @@ pub fn is_legal_kept<M: JobMemory>(memory: &mut M, a: u32) -> bool
     a < 16 || (a as usize) < memory.size()
 }
 
-/// Whether so many words from a place on are legal; behind 777777 octal there is no place. The legal
-/// places are those below a limit, so the last word decides.
-#[tactic(auto, using(crate::proofs::LegalLemmas::legal_places))]
+/// Whether `count` words from an address on are legal; behind 777777 octal there is no address. The legal
+/// addresses are those below a limit, so the last word decides.
+#[tactic(auto, using(crate::proofs::LegalLemmas::legal_addresses))]
 pub fn are_legal<M: JobMemory>(memory: &M, a: u32, count: u32) -> bool
     ensures { result ≡ are_legal (M.words memory.now) a count }
 {
@@ -48,7 +48,7 @@ pub fn are_legal<M: JobMemory>(memory: &M, a: u32, count: u32) -> bool
     end <= ADDRESSES as u64 && (end <= 16 || end <= memory.size() as u64)
 }
 
-/// Whether so many words from a place on are legal, as `are_legal` says.
+/// Whether `count` words from an address on are legal, as `are_legal` says.
 pub fn are_legal_kept<M: JobMemory>(memory: &mut M, a: u32, count: u32) -> bool
     ensures value { result ≡ are_legal (M.words memory.old) a count }
     ensures same { memory.new ≡ memory.old }

@@ -4,7 +4,7 @@ use Rattle.core_store.specs.declared.areas.Area.{Area}
 use Rattle.core_store.specs.Layout.{area_of, blocks_in, IsLaidOut}
 use Rattle.core_store.proofs.AreaLemmas.{IsLaidOut-hole, same-blocks, same-sum, sum-set}
 use Rattle.core_store.proofs.Moved.{placed}
-use Rattle.core_store.proofs.rooms.place.Goals as goal
+use Rattle.core_store.proofs.rooms.allot.Goals as goal
 
 pub returns-clause-cores : goal.returns-clause-cores
 returns-clause-cores c =
