@@ -13,11 +13,11 @@ use Rattle.script_io.specs.declared.endings.Ending.{Ending}
 use Rattle.script_io.specs.declared.endings.Ending.TheVariants as ending
 use Rattle.lock_bars.specs.Bars.{bars_after}
 use Rattle.lock_bars.specs.Courses.{Course, IsFaultOf, course, course_of, has_line, requests_after, unless_over}
-use Rattle.lock_bars.specs.Graphs.{Shows}
+use Rattle.wait_graph.specs.Graphs.{Shows}
 use Rattle.lock_bars.specs.declared.bars.Bar.{Bar}
 use Rattle.lock_bars.specs.declared.errors.ScriptError.{ScriptError}
 use Rattle.lock_bars.specs.declared.errors.ScriptError.TheVariants.{Memory, Short}
-use Rattle.lock_bars.specs.declared.graph.Graph.{Graph}
+use Rattle.wait_graph.specs.declared.graph.Graph.{Graph}
 
 -- the end is the same in both, where what follows a line ends in the same way
 over-ended : (size : ℕ) (requests : List Request) (text : List ℕ) (o : Option Ending) (n : ℕ) (more : List (List ℕ)) (bars : List Bar) (onward : Course)

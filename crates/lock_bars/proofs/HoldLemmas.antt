@@ -1,6 +1,6 @@
 -- Lemmas on what a table tells.
-use Rattle.std.proofs.Common.{◌≡◌, ◌+◌, ◌++◌, ℕ, List, [], ◌∷◌, take, drop, map, Some, slice_get, unwrap_or, sym, ap, ◌∙◌, append_assoc}
-use Rattle.std.proofs.lemmas.List.{drop_more, take_more}
+use Rattle.std.proofs.Common.{◌≡◌, ◌+◌, ◌++◌, ℕ, List, ◌∷◌, drop, map, Some, slice_get, unwrap_or, sym, ap, ◌∙◌, append_assoc}
+use Rattle.std.proofs.lemmas.List.{drop_more}
 use Rattle.std.proofs.lemmas.Option.{slice_get_within, unwrap_or-slice_get}
 use Rattle.lock_queue.specs.Queue.{granted}
 use Rattle.lock_queue.specs.declared.request.Request.{Request}
@@ -21,11 +21,3 @@ hold-step requests i r sofar new all here pushed before =
     ∙ append_assoc sofar (map (hold_of r.job (granted requests i)) r.wants.items) (holds_from requests (i + 1) (drop (i + 1) requests))
     ∙ ap (λ l. sofar ++ holds_from requests i l) (sym (drop-at requests i r here))
     ∙ before
-
--- a beginning of the requests and the one that stands behind it
-pub take-step : (requests : List Request) (i : ℕ) (r : Request) (sofar new : List Request) → slice_get requests i ≡ Some r
-    → new ≡ sofar ++ r ∷ [] → sofar ≡ take i requests → new ≡ take (i + 1) requests
-take-step requests i r sofar new here pushed before =
-    pushed ∙ ap (λ l. l ++ r ∷ []) before
-    ∙ sym (take_more requests i r (slice_get_within requests i r here)
-    ∙ ap (λ y. take i requests ++ y ∷ []) (sym (unwrap_or-slice_get requests i r) ∙ ap (λ o. unwrap_or o r) here))

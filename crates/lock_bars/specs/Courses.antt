@@ -25,7 +25,7 @@ unless_over (Some e) n bars onward = record { bars = bars; lines = n; ending = e
 unless_over None n bars onward = onward
 
 -- along lines on a queue of some size, where n lines have left these requests and these bars: each line does what it does
--- in the transcript, and the bars are brought over it by the requests that it leaves
+-- in the transcript, and the bars after it are those by the requests that it leaves
 abbrev pub course_of : ℕ → List Request → ℕ → List (List ℕ) → List Bar → Course
 course_of size requests n [] bars = record { bars = bars; lines = n; ending = ending.Done }
 course_of size requests n (line ∷ more) bars =

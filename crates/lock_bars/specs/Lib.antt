@@ -1,4 +1,3 @@
 pub mod Holds
 pub mod Bars
-pub mod Graphs
 pub mod Courses

@@ -2,16 +2,16 @@
 ghost use Rattle.std.specs.Prelude.{◌≡◌, ◌<◌, ◌^◌, ◌++◌, map, OnOk};
 ghost use Rattle.std.specs.List.{flat_map, list_any};
 ghost use Rattle.lock_bars.specs.Holds.{same_hold};
-ghost use Rattle.lock_bars.specs.Bars.{bars_after, begins_with_grant, begun, ends_at_grant, grown, same_lane, says};
+ghost use Rattle.lock_bars.specs.Bars.{bars_after, begins_with_grant, started, ends_at_grant, extended, same_lane, shows};
 
 use crate::holds::{Hold, holds_in};
 use lock_queue::LockTable;
 use std::alloc::{AllocError, Global};
 
-/// Over which columns of a picture a job owned a lock, or waited for it.
+/// A holding, and the columns of a picture over which it lasts.
 #[derive(Drop)]
 pub struct Bar {
-    /// What the job had.
+    /// The job, the lock, and whether the job owns it or waits for it.
     pub hold: Hold,
     /// The first column that shows it, counted from 1.
     pub from: usize,
@@ -19,63 +19,63 @@ pub struct Bar {
     pub until: usize,
 }
 
-/// Whether one of these tells the same.
-fn is_told(told: &[Hold], hold: &Hold) -> bool
-    ensures { result ≡ list_any (same_hold hold.now) told.now }
+/// Whether a holding is one of these.
+fn is_held(holds: &[Hold], hold: &Hold) -> bool
+    ensures { result ≡ list_any (same_hold hold.now) holds.now }
 {
-    told.iter().any(|other| hold.is_same(other))
+    holds.iter().any(|other| hold.is_same(other))
 }
 
-/// Lets a bar that reaches to a line reach over it, where the same is told after it.
-fn grow(bar: &mut Bar, line: usize, told: &[Hold])
+/// Extends a bar over a line, where it reaches to that line and its holding is still there after it.
+fn extend(bar: &mut Bar, line: usize, holds: &[Hold])
     requires { line < 2 ^ 63 }
-    ensures { bar.new ≡ grown line told.now bar.old }
+    ensures { bar.new ≡ extended line holds.now bar.old }
 {
-    if bar.until == line && is_told(told, &bar.hold) {
+    if bar.until == line && is_held(holds, &bar.hold) {
         bar.until = line + 1;
     }
 }
 
-fn grow_all(bars: &mut [Bar], line: usize, told: &[Hold])
+fn extend_all(bars: &mut [Bar], line: usize, holds: &[Hold])
     requires { line < 2 ^ 63 }
-    ensures { bars.new ≡ map (grown line told.now) bars.old }
+    ensures { bars.new ≡ map (extended line holds.now) bars.old }
 {
     for bar in bars.iter_mut() {
-        grow(bar, line, told);
+        extend(bar, line, holds);
     }
 }
 
-/// Whether a bar says this of a line, which is the last that it reaches over.
-fn says(bar: &Bar, line: usize, hold: &Hold) -> bool
+/// Whether a bar shows this holding and ends with this line.
+fn shows(bar: &Bar, line: usize, hold: &Hold) -> bool
     requires { line < 2 ^ 63 }
-    ensures { result ≡ says line hold.now bar.now }
+    ensures { result ≡ shows line hold.now bar.now }
 {
     bar.until == line + 1 && bar.hold.is_same(hold)
 }
 
-fn is_said(bars: &[Bar], line: usize, hold: &Hold) -> bool
+fn is_shown(bars: &[Bar], line: usize, hold: &Hold) -> bool
     requires { line < 2 ^ 63 }
-    ensures { result ≡ list_any (says line hold.now) bars.now }
+    ensures { result ≡ list_any (shows line hold.now) bars.now }
 {
     for bar in bars {
-        if says(bar, line, hold) {
+        if shows(bar, line, hold) {
             return true;
         }
     }
     false
 }
 
-/// Adds the bar that begins at a line for what is told after it, where no bar says it.
-fn push_begun(
+/// Starts a bar at a line for a holding, unless a bar shows it already.
+fn push_started(
     added: &mut Vec<Bar>,
     bars: &[Bar],
     line: usize,
     hold: &Hold,
 ) -> Result<(), AllocError>
     requires { line < 2 ^ 63 }
-    ensures { OnOk result (added.new.items ≡ added.old.items ++ begun line bars.now hold.now) }
+    ensures { OnOk result (added.new.items ≡ added.old.items ++ started line bars.now hold.now) }
 {
-    if !is_said(bars, line, hold) {
+    if !is_shown(bars, line, hold) {
         added.push(Bar {
             hold: hold.copied(),
             from: line,
@@ -85,24 +85,24 @@ fn push_begun(
     Ok(())
 }
 
-/// Adds all bars that begin at a line.
-fn push_all_begun(
+/// Starts a bar at a line for each holding that no bar shows.
+fn push_all_started(
     added: &mut Vec<Bar>,
     bars: &[Bar],
     line: usize,
-    told: &[Hold],
+    holds: &[Hold],
 ) -> Result<(), AllocError>
     requires { line < 2 ^ 63 }
-    ensures { OnOk result (added.new.items ≡ added.old.items ++ flat_map (begun line bars.now) told.now) }
+    ensures { OnOk result (added.new.items ≡ added.old.items ++ flat_map (started line bars.now) holds.now) }
 {
-    for hold in told {
-        push_begun(added, bars, line, hold)?;
+    for hold in holds {
+        push_started(added, bars, line, hold)?;
     }
     Ok(())
 }
 
-/// Brings the bars over a line after which the table is this: those that reach to it and are told
-/// still grow, and a bar begins for what is told and no bar says. Lines are numbered below 2^63.
+/// Extends each bar whose holding lasts past the line; starts one for each new holding. The table is as
+/// the line has left it. Lines are numbered below 2^63.
 pub fn record_line<L: LockTable>(
     alloc: Global,
     bars: &mut Vec<Bar>,
@@ -112,23 +112,23 @@ pub fn record_line<L: LockTable>(
     requires { line < 2 ^ 63 }
     ensures { OnOk result (bars.new.items ≡ bars_after line bars.old.items (L.requests table.now)) }
 {
-    let told = holds_in(alloc, table)?;
-    grow_all(bars.as_mut_slice(), line, told.as_slice());
+    let holds = holds_in(alloc, table)?;
+    extend_all(bars.as_mut_slice(), line, holds.as_slice());
     let mut added = Vec::new(alloc);
-    push_all_begun(&mut added, bars.as_slice(), line, told.as_slice())?;
+    push_all_started(&mut added, bars.as_slice(), line, holds.as_slice())?;
     bars.append(&mut added)?;
     Ok(())
 }
 
 impl Bar {
-    /// Whether another bar is of the same job on the same lock.
+    /// Whether another bar has the same job and the same lock.
     pub fn is_beside(&self, other: &Bar) -> bool
         ensures { result ≡ same_lane self.now other.now }
     {
         self.hold.job == other.hold.job && self.hold.key == other.hold.key
     }
 
-    /// Whether it is owned from the line on to which an earlier one was waited for.
+    /// Whether its job owns the lock from the line on at which an earlier bar, of the wait for it, ends.
     fn is_grant_behind(&self, earlier: &Bar) -> bool
         ensures { result ≡ ends_at_grant self.now earlier.now }
     {
@@ -146,7 +146,7 @@ impl Bar {
         false
     }
 
-    /// Whether it begins with the grant for which its job waited.
+    /// Whether it starts with a grant for which its job waited.
     pub fn is_granted(&self, bars: &[Bar]) -> bool
         ensures { result ≡ begins_with_grant bars.now self.now }
     {

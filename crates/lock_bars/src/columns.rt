@@ -3,7 +3,7 @@ ghost use Rattle.std.specs.Prelude.{◌≡◌};
 
 use std::fmt;
 
-/// A column: a line of the script, or a tick of a line that runs many.
+/// A column: a line of the script, or one tick of a line that runs several.
 #[derive(Clone, Copy, PartialEq, Eq, Debug, Drop)]
 pub struct Column {
     /// The line, counted from 1.

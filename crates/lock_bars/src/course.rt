@@ -1,29 +1,29 @@
-//! What is seen along a script.
+//! What was seen along a script.
 ghost use Rattle.std.specs.Prelude.{◌≡◌, ◌≢◌, ◌+◌, ◌++◌, ◌∷◌, [], Some, None, length, IsSome, IfSome, OnOk};
 ghost use Rattle.lock_bars.specs.Bars.{bars_after};
-ghost use Rattle.lock_bars.specs.Graphs.{Shows};
+ghost use Rattle.wait_graph.specs.Graphs.{Shows};
 
 use crate::bars::{Bar, record_line};
 use crate::columns::Column;
-use crate::graph::Graph;
 use lock_queue::LockTable;
 use std::alloc::{AllocError, Global};
+use wait_graph::Graph;
 
 /// What was seen along a script so far.
 #[derive(Drop)]
 pub struct Course {
-    /// How many lines came.
+    /// How many lines were done.
     pub lines: usize,
-    /// The columns of the picture, each of which shows what a line or a tick of it has left.
+    /// The columns of the picture, each for the table that a line or a tick has left.
     pub columns: Vec<Column>,
-    /// The bars, whose lines are the columns, counted from 1.
+    /// The bars, over columns that are counted from 1.
     pub bars: Vec<Bar>,
-    /// The waits after the line that was asked for, and behind how many columns they stand.
+    /// Who waits for whom after the line that was asked for, and how many columns there were then.
     pub waits: Option<(Graph, usize)>,
 }
 
 impl Course {
-    /// Nothing was seen yet.
+    /// Nothing seen yet.
     pub fn new(alloc: Global) -> Self
         ensures lines { result.lines ≡ 0 }
         ensures columns { result.columns.items ≡ [] }
@@ -38,7 +38,7 @@ impl Course {
         }
     }
 
-    /// Looks at the table that a line or a tick has left.
+    /// Adds a column for the table that a line or a tick has left, and extends the bars over it.
     pub fn look<L: LockTable>(
         &mut self,
         alloc: Global,
@@ -56,7 +56,7 @@ impl Course {
         record_line(alloc, &mut self.bars, columns, table)
     }
 
-    /// The line of this number is done: looks at the waits, where they are asked for after it.
+    /// Ends the line of this number, and keeps who waits for whom where `at` asks for it after this line.
     pub fn end_line<L: LockTable>(
         &mut self,
         alloc: Global,

@@ -2,8 +2,8 @@
 
 use crate::bars::Bar;
 use crate::columns::Column;
-use crate::graph::Graph;
 use crate::lanes::Lane;
+use wait_graph::Graph;
 
 /// What a picture shows: the bars along a script, and who waits for whom after one of its lines.
 #[derive(Drop)]
@@ -12,11 +12,11 @@ pub struct Drawing {
     pub columns: Vec<Column>,
     /// The bars, over columns that are counted from 1.
     pub bars: Vec<Bar>,
-    /// A lane for each job and each lock that it asked for.
+    /// A row for each job and each lock that it asked for.
     pub lanes: Vec<Lane>,
-    /// The line after which the graph stands.
+    /// The line after which `graph` says who waits for whom.
     pub at: usize,
-    /// How many columns stand before it.
+    /// How many columns there are up to then.
     pub at_column: usize,
     /// Who waits for whom then.
     pub graph: Graph,

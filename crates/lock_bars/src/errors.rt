@@ -16,7 +16,7 @@ pub enum ScriptError {
     Line(usize),
     /// It has more than 10,000 lines.
     TooLong,
-    /// It ends at this line, before the one whose waits were asked for.
+    /// It ends at this line, before the one that was asked for.
     Short(usize),
     /// It ends within a source, after this line.
     NoEnd(usize),

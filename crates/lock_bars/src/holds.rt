@@ -1,4 +1,4 @@
-//! What a table tells of each job and each lock that it asked for.
+//! The holdings of a table: which job owns which lock, or waits for it.
 ghost use Rattle.std.specs.Prelude.{◌≡◌, ◌++◌, map, OnOk, IfOk};
 ghost use Rattle.lock_queue.specs.Queue.{amount_of};
 ghost use Rattle.lock_bars.specs.Holds.{hold_of, holds_of, same_hold};
@@ -6,7 +6,7 @@ ghost use Rattle.lock_bars.specs.Holds.{hold_of, holds_of, same_hold};
 use lock_queue::{Group, Key, LockTable, Request, Want};
 use std::alloc::{AllocError, Global};
 
-/// A job that owns a lock or waits for it.
+/// A holding: a job that owns a lock or waits for it.
 #[derive(Drop)]
 pub struct Hold {
     /// The job, 1 to 63.
@@ -15,15 +15,15 @@ pub struct Hold {
     pub key: Key,
     /// Whether others who share may own it at the same time.
     pub shared: bool,
-    /// Among which group of those who share, where it is shared, and else 0.
+    /// The group among which it is shared, or 0 where it is not.
     pub group: Group,
-    /// How much of a pool, or 0 where the lock is none.
+    /// How much of a pool, or 0 where the lock is not a pool.
     pub amount: u32,
     /// Whether the job owns it, and does not wait for it.
     pub owns: bool,
 }
 
-/// How much of its pool a want takes, or 0 where it is of none.
+/// How much of its pool a want takes, or 0 where its lock is not a pool.
 fn amount_of(want: &Want) -> u32
     ensures { result ≡ amount_of want.now }
 {
@@ -34,7 +34,7 @@ fn amount_of(want: &Want) -> u32
 }
 
 impl Hold {
-    /// What a job has by a want.
+    /// The holding of a job by one of its wants.
     fn of(job: u8, owns: bool, want: &Want) -> Self
         ensures { result ≡ hold_of job owns want.now }
     {
@@ -75,7 +75,7 @@ impl Hold {
     }
 }
 
-/// Adds what a job has by each want of a request.
+/// Adds a holding for each want of a request.
 fn push_holds(holds: &mut Vec<Hold>, request: &Request, owns: bool) -> Result<(), AllocError>
     ensures { OnOk result (holds.new.items ≡ holds.old.items ++ map (hold_of request.now.job owns) request.now.wants.items) }
 {
@@ -86,7 +86,7 @@ fn push_holds(holds: &mut Vec<Hold>, request: &Request, owns: bool) -> Result<()
     Ok(())
 }
 
-/// What a table tells: of each request, by order of arrival, each lock that it asks for.
+/// The holdings of a table: of each request, in order of arrival, one for each lock that it asks for.
 pub fn holds_in<L: LockTable>(alloc: Global, table: &L) -> Result<Vec<Hold>, AllocError>
     ensures { IfOk result (λ holds. holds.items ≡ holds_of (L.requests table.now)) }
 {

@@ -1,4 +1,4 @@
-//! The lanes of a picture: one for each job and each lock that it asked for.
+//! The lanes of a picture: a row for each job and each lock that it asked for.
 ghost use Rattle.std.specs.Prelude.{◌≡◌, ◌==◌, ◌&&◌};
 ghost use Rattle.lock_queue.specs.Keys.{same_key};
 
@@ -8,7 +8,7 @@ use lock_queue::Key;
 use std::alloc::{AllocError, Global};
 use word36::JOBS;
 
-/// The place of a job's bars on one lock.
+/// A row of a picture, with the bars of one job on one lock.
 #[derive(Drop)]
 pub struct Lane {
     /// The job.
@@ -20,7 +20,7 @@ pub struct Lane {
 }
 
 impl Lane {
-    /// Whether a bar stands in it.
+    /// Whether a bar is of the lane's job and its lock.
     pub fn has(&self, bar: &Bar) -> bool
         ensures { result ≡ (bar.now.hold.job == self.now.job && same_key bar.now.hold.key self.now.key) }
     {
@@ -50,7 +50,7 @@ fn push_lanes_of(
     Ok(())
 }
 
-/// The lanes of all bars, by rising jobs.
+/// The lanes of all bars, by rising job.
 pub fn lanes_of(alloc: Global, bars: &[Bar]) -> Result<Vec<Lane>, AllocError> {
     let mut lanes = Vec::new(alloc);
     for job in 1..JOBS + 1 {

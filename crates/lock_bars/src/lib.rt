@@ -2,14 +2,10 @@
 #![tactic(auto)]
 
 mod bars;
-mod circles;
 mod columns;
-mod copies;
 mod course;
 mod drawing;
 mod errors;
-mod graph;
-mod hard_waits;
 mod holds;
 mod lanes;
 mod names;
@@ -22,7 +18,6 @@ pub use columns::Column;
 pub use course::Course;
 pub use drawing::Drawing;
 pub use errors::{MOST_LINES, ScriptError, SourceFault};
-pub use graph::{Graph, Wait};
 pub use holds::{Hold, holds_in};
 pub use lanes::{Lane, lanes_of};
 pub use script_lines::ScriptLines;

@@ -1,14 +1,14 @@
 //! What is seen along a script of `lockmon queue`.
 ghost use Rattle.std.specs.Prelude.{◌≡◌, ◌≤◌, ℕ, [], Some, Ok, IsTrue, IfOk, IfErr, IfSome, length, is_some, true, false};
 ghost use Rattle.std.specs.Str.Lines.{lines};
-ghost use Rattle.queue_script.specs.Asks.{asks_right};
-ghost use Rattle.queue_script.specs.Borrowed.{asked_by_line};
+ghost use Rattle.queue_script.specs.WellFormed.{is_well_formed};
+ghost use Rattle.queue_script.specs.Borrowed.{owned_command};
 ghost use Rattle.queue_script.specs.QueueScripts.{effect_of, call_effect, unless_busy};
 ghost use Rattle.script_io.specs.declared.endings.Ending.TheVariants as ending;
 ghost use Rattle.script_io.specs.declared.endings.SourceFault.{SourceFault};
 ghost use Rattle.lock_queue.specs.WellFormed.{is_call};
 ghost use Rattle.lock_bars.specs.Courses.{course_of, has_line, requests_after, IsFaultOf};
-ghost use Rattle.lock_bars.specs.Graphs.{Shows};
+ghost use Rattle.wait_graph.specs.Graphs.{Shows};
 ghost use Rattle.lock_bars.specs.declared.errors.TheConstants.{MOST_LINES};
 
 use crate::columns::Column;
@@ -26,21 +26,21 @@ fn call_unless_busy<L: LockTable>(table: &mut L, job: u8, call: &LockCall)
     ensures { L.requests table.new
         ≡ (unless_busy (L.requests table.old) job (call_effect L.REQS (L.requests table.old) job (Ok call.now))).requests }
 {
-    if !table.waiting(job) {
+    if !table.is_waiting(job) {
         let _ = table.call(job, call);
     }
 }
 
-/// Does what the line of this number asks for. It answers an ending where the script ends there.
+/// Does what the line of this number asks for. The answer is an ending where the script ends there.
 fn follow<L: LockTable>(
     table: &mut L,
     number: usize,
     command: Option<Command<'_>>,
 ) -> Option<Ending>
-    requires { IsTrue (asks_right (asked_by_line command)) }
+    requires { IsTrue (is_well_formed (owned_command command)) }
     ensures requests { (n : ℕ) → L.requests table.new
-        ≡ (effect_of L.REQS n (L.requests table.old) (asked_by_line command.entry)).requests }
-    ensures ending { result ≡ (effect_of L.REQS number (L.requests table.old) (asked_by_line command.entry)).ending }
+        ≡ (effect_of L.REQS n (L.requests table.old) (owned_command command.entry)).requests }
+    ensures ending { result ≡ (effect_of L.REQS number (L.requests table.old) (owned_command command.entry)).ending }
     ensures ended { IfSome result (λ _. L.requests table.new ≡ L.requests table.old) }
     ensures no_source { (fault : SourceFault) → result ≡ Some (ending.Source fault) → false ≡ true }
 {
@@ -60,8 +60,8 @@ fn follow<L: LockTable>(
     None
 }
 
-/// Looks along the lines of a script, each of which works on the table, and at the waits behind the
-/// line `at`, where that is asked for.
+/// Does each line of a script on the table, and gathers the columns, the bars, and who waits for whom
+/// after the line `at`, where that is asked for.
 pub fn watch_queue<L: LockTable>(
     alloc: Global,
     table: &mut L,

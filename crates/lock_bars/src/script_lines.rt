@@ -5,7 +5,7 @@ ghost use Rattle.std.specs.Str.Lines.{lines, lines_of_parts, strip_carriage_retu
 use script_io::Parts;
 use std::marker::Model;
 
-/// The lines of a script that are still to be read. A line ends in LF, and one CR before it is
+/// The lines of a script that are still to be read. A line ends in LF, and one CR before the LF is
 /// dropped; a last line without LF counts where it is not empty.
 #[derive(Drop)]
 pub struct ScriptLines<'a> {

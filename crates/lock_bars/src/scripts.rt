@@ -3,21 +3,21 @@ ghost use Rattle.std.specs.Prelude.{◌≡◌, ◌⊎◌, None, IfOk, IfErr, IfS
 ghost use Rattle.std.specs.Str.Lines.{lines};
 ghost use Rattle.queue_script.specs.QueueScripts.{transcript};
 ghost use Rattle.script_io.specs.declared.endings.Ending.TheVariants as ending;
-ghost use Rattle.lock_bars.specs.Graphs.{Shows};
+ghost use Rattle.wait_graph.specs.Graphs.{Shows};
 ghost use Rattle.lock_bars.specs.Courses.{course, has_line, requests_behind, IsFaultOf};
 
 use crate::course::Course;
 use crate::drawing::Drawing;
 use crate::errors::ScriptError;
-use crate::graph::Graph;
 use crate::lanes::lanes_of;
 use crate::queue_course::watch_queue;
 use lock_queue::LockTable;
 use lock_table::ProgramTable;
 use std::alloc::Global;
+use wait_graph::Graph;
 
-/// The drawing of what was seen along a script, with the waits after the line `at`, where that was
-/// asked for, or else at its end, where the table is this.
+/// The drawing of what was seen along a script. It shows who waits for whom after the line `at`, where that
+/// was asked for, or else at the end, when the table is as given.
 pub fn drawing_of<L: LockTable>(
     alloc: Global,
     seen: Course,
@@ -27,7 +27,8 @@ pub fn drawing_of<L: LockTable>(
     ensures columns { IfOk result (λ drawing. drawing.columns ≡ seen.columns) }
     ensures bars { IfOk result (λ drawing. drawing.bars ≡ seen.bars) }
     ensures asked { IfOk result (λ drawing. IfSome seen.waits (λ w. (drawing.graph ≡ w.0) × (drawing.at_column ≡ w.1))) }
-    ensures end { IfOk result (λ drawing. seen.waits ≡ None → Shows (L.requests table.now) drawing.graph × (drawing.at_column ≡ length seen.columns.items)) }
+    ensures end { IfOk result (λ drawing. seen.waits ≡ None
+        → Shows (L.requests table.now) drawing.graph × (drawing.at_column ≡ length seen.columns.items)) }
     ensures at { IfOk result (λ drawing. drawing.at ≡ unwrap_or at seen.lines) }
     ensures found { IfOk result (λ drawing. IsSome at → IsSome seen.waits) }
     ensures short { IfErr result (λ e. (e ≡ ScriptError.Memory)

@@ -10,7 +10,7 @@ pub enum Along {
 }
 
 impl Along {
-    /// What a column is.
+    /// The word for one column.
     pub fn unit(self) -> &'static str {
         match self {
             Along::Script => "line",
@@ -18,7 +18,7 @@ impl Along {
         }
     }
 
-    /// What the columns are those of.
+    /// The word for all columns together.
     pub fn whole(self) -> &'static str {
         match self {
             Along::Script => "script",

@@ -4,39 +4,43 @@ ghost use Rattle.std.specs.Prelude.{◌<◌};
 
 use lock_bars::{Drawing, Lane};
 
-/// The height of a lane, and of the bars in it.
+/// The height of a lane.
 pub const LANE: usize = 22;
 
+/// The height of a bar.
 pub const BAR: usize = 14;
 
-/// What stands above the lanes, and between the lanes of two jobs.
+/// The height of the room above the lanes.
 pub const TOP: usize = 70;
 
+/// The gap between the lanes of two jobs.
 pub const GAP: usize = 8;
 
-/// The left margin, and the room for `job 63`.
+/// The margin at the left, at the right, and beside the graph.
 pub const MARGIN: usize = 24;
 
+/// The width of the room for `job 63`.
 pub const JOB: usize = 56;
 
-/// The room below the lanes, for the legend.
+/// The height of the room below the lanes, for the legend.
 const BOTTOM: usize = 96;
 
 /// The width of a character of a lock's name.
 const CHARACTER: usize = 8;
 
-/// How wide a column is where there are few, how wide they may be together, and how wide one is at
-/// least.
+/// The width of a column where there are few.
 const WIDE: usize = 24;
 
+/// The most width of all columns together.
 const MOST_WIDTH: usize = 960;
 
+/// The least width of a column.
 const NARROW: usize = 3;
 
-/// The least width of what stands beside the names, for the heading and the legend.
+/// The least width beside the names, for the heading and the legend.
 const LEAST_WIDTH: usize = 420;
 
-/// Where things stand.
+/// The measures of one picture, in pixels.
 #[derive(Clone, Copy, Debug)]
 pub struct Frame {
     /// Where the first column begins.
@@ -47,15 +51,17 @@ pub struct Frame {
     pub columns: usize,
     /// Where the lanes end.
     pub lanes_end: usize,
-    /// Where the graph begins, and how wide it is.
+    /// Where the graph begins.
     pub graph_left: usize,
+    /// The width of the graph.
     pub graph_width: usize,
-    /// The size of the whole.
+    /// The width of the whole.
     pub width: usize,
+    /// The height of the whole.
     pub height: usize,
 }
 
-/// The width of a column where there are so many.
+/// The width of a column, for so many columns.
 fn column_of(columns: usize) -> usize {
     (MOST_WIDTH / columns.max(1)).min(WIDE).max(NARROW)
 }
@@ -117,7 +123,7 @@ impl Frame {
         self.left.saturating_add(before)
     }
 
-    /// Every which line has its number above it.
+    /// One line in how many has its number above it.
     pub fn numbered(&self) -> usize
         ensures { 0 < result }
     {
@@ -136,11 +142,12 @@ pub fn radius_of(jobs: usize) -> usize {
     jobs.saturating_mul(12).max(70)
 }
 
-/// The size of a graph with so many jobs, beside what stands round their circle.
+/// The width of a graph with so many jobs and the room round them.
 fn graph_width(jobs: usize) -> usize {
     radius_of(jobs).saturating_mul(2).saturating_add(120)
 }
 
+/// The height of such a graph.
 fn graph_height(jobs: usize) -> usize {
     if jobs == 0 {
         return 0;

@@ -1,4 +1,4 @@
-//! What is seen along a run.
+//! What was seen along a run.
 
 use crate::along::Along;
 use crate::svg::AsSvg;
@@ -9,10 +9,10 @@ use std::alloc::{AllocError, Global};
 /// A run of at most so many ticks has a column for each of them.
 const MOST_TICKS: usize = 2_000;
 
-/// A longer one has so many columns at most, for ticks in which the locks may have changed.
+/// A longer run has at most so many columns, for ticks in which the locks may have changed.
 const MOST_CHANGES: usize = 5_000;
 
-/// What is seen along a run.
+/// What was seen along a run.
 #[derive(Drop)]
 pub struct RunCourse {
     /// A column for each of the first ticks.
@@ -22,7 +22,7 @@ pub struct RunCourse {
 }
 
 impl RunCourse {
-    /// Nothing was seen yet.
+    /// Nothing seen yet.
     pub fn new(alloc: Global) -> Self {
         RunCourse {
             ticks: Course::new(alloc),
@@ -30,8 +30,8 @@ impl RunCourse {
         }
     }
 
-    /// Looks at the table that the tick of this number has left, which may differ from that of the tick
-    /// before, or does not.
+    /// Looks at the table that a tick has left. `may_differ` is false where it is as the tick before left
+    /// it.
     pub fn look<L: LockTable>(
         &mut self,
         alloc: Global,

@@ -9,7 +9,7 @@ use std::fmt;
 /// The room that a number takes above its column.
 const NUMBER: usize = 30;
 
-/// A picture as one SVG that needs nothing else, on a white ground.
+/// A picture as one SVG that needs no other file, on a white ground.
 #[derive(Clone, Copy)]
 pub struct AsSvg<'a> {
     /// What it shows.
@@ -18,7 +18,7 @@ pub struct AsSvg<'a> {
     pub along: Along,
 }
 
-/// The looks of the parts.
+/// The styles of the parts.
 const STYLE: &str = "<style>
 text{font:13px system-ui,-apple-system,'Segoe UI','DejaVu Sans',sans-serif;fill:#24303d}
 .heading{font-weight:600;font-size:14px}
@@ -108,8 +108,8 @@ fn are_consecutive(columns: &[Column]) -> bool {
     true
 }
 
-/// Writes the numbers of the lines, or of the ticks: where they come one after another of every first,
-/// fifth or twentieth, and else of each that has room.
+/// Writes the numbers of the lines or ticks. Where they follow one another, each, each fifth or each
+/// twentieth has its number; else each for which there is room.
 fn write_numbers<W: fmt::Write>(
     f: &mut fmt::Formatter<W>,
     frame: &Frame,
@@ -149,13 +149,13 @@ fn write_axis<W: fmt::Write>(
     write_numbers(f, frame, columns)
 }
 
-/// What the column of this number shows, counted from 1.
+/// The column of this number, counted from 1.
 fn column_at(columns: &[Column], number: usize) -> Option<Column> {
     columns.get(number.saturating_sub(1)).copied()
 }
 
-/// The last line, or tick, of a bar. Ticks of a run that have no column leave the locks as they were, so
-/// there a bar lasts up to the tick of the next column.
+/// The last line or tick of a bar. A tick of a run that has no column leaves the locks as they were, so a
+/// bar lasts until the tick before that of the next column.
 fn last_of(picture: &AsSvg<'_>, bar: &Bar) -> Option<Column> {
     let columns = picture.drawing.columns.as_slice();
     match (picture.along, column_at(columns, bar.until)) {
@@ -165,7 +165,7 @@ fn last_of(picture: &AsSvg<'_>, bar: &Bar) -> Option<Column> {
     }
 }
 
-/// The words on a bar that a pointer shows.
+/// Writes the text of a bar that a pointer shows.
 fn write_title<W: fmt::Write>(
     f: &mut fmt::Formatter<W>,
     picture: &AsSvg<'_>,
@@ -203,7 +203,7 @@ fn class_of(bar: &Bar) -> &'static str {
     }
 }
 
-/// Writes a bar in a lane that begins at a height.
+/// Writes a bar into the lane that begins at `height`.
 fn write_bar<W: fmt::Write>(
     f: &mut fmt::Formatter<W>,
     frame: &Frame,
@@ -233,7 +233,7 @@ fn write_bar<W: fmt::Write>(
     Ok(())
 }
 
-/// Writes the mark of a grant where a column begins.
+/// Writes the sign of a grant at the beginning of a column.
 fn write_grant<W: fmt::Write>(
     f: &mut fmt::Formatter<W>,
     frame: &Frame,
@@ -248,7 +248,7 @@ fn write_grant<W: fmt::Write>(
     )
 }
 
-/// Writes the bars of a lane, and then the marks on them.
+/// Writes the bars of a lane, and then the signs on them.
 fn write_bars<W: fmt::Write>(
     f: &mut fmt::Formatter<W>,
     frame: &Frame,
@@ -321,7 +321,7 @@ fn write_lanes<W: fmt::Write>(
     Ok(())
 }
 
-/// Writes a rule behind the column after which the graph stands.
+/// Writes a rule behind the column after which the graph shows the waits.
 fn write_rule<W: fmt::Write>(
     f: &mut fmt::Formatter<W>,
     frame: &Frame,
@@ -332,7 +332,7 @@ fn write_rule<W: fmt::Write>(
     write!(f, "<path class=\"at\" d=\"M{x} {top}V{end}\"/>\n")
 }
 
-/// Writes what the signs mean.
+/// Writes the legend.
 fn write_legend<W: fmt::Write>(f: &mut fmt::Formatter<W>, frame: &Frame) -> fmt::Result {
     let y = frame.height.saturating_sub(66);
     write!(f, "<g transform=\"translate({MARGIN} {y})\">\n")?;

@@ -2,9 +2,8 @@
 
 use crate::along::Along;
 use crate::frame::{Frame, TOP, radius_of};
-use lock_bars::{Graph, Wait};
-use queue_script::circles::NUMBERS;
 use std::fmt;
+use wait_graph::{Graph, NUMBERS, Wait};
 
 /// How many parts the radius of a circle has.
 const RADIUS: usize = 1000;
@@ -38,8 +37,8 @@ fn index_of(graph: &Graph, job: usize) -> usize {
     index
 }
 
-/// The sine of an angle of less than half a turn, in thousandths, where half a turn has so many
-/// parts: by the formula of Bhaskara, which is wrong by less than three thousandths.
+/// The sine, in thousandths, of an angle of `part` parts, where half a turn has `half` parts and the angle
+/// is less than that. This is Bhaskara's formula, which is off by less than three thousandths.
 fn sine(part: usize, half: usize) -> usize {
     let square = part.saturating_mul(half.saturating_sub(part));
     let whole = half.saturating_mul(half).saturating_mul(5);
@@ -47,8 +46,8 @@ fn sine(part: usize, half: usize) -> usize {
     square.saturating_mul(16).saturating_mul(RADIUS) / below
 }
 
-/// How far behind the left edge of a circle a point of its rim stands, in thousandths of the radius,
-/// where it is so many parts of the whole turn on from the top, and half a turn has so many.
+/// How far a point of a circle is from the circle's left edge, in thousandths of the radius. The point is
+/// `part` parts of the turn on from the top; half a turn has `half` parts.
 fn across(part: usize, half: usize) -> usize {
     let part = part % half.saturating_mul(2).max(1);
     if part < half {
@@ -58,7 +57,7 @@ fn across(part: usize, half: usize) -> usize {
     }
 }
 
-/// Where a job stands: the jobs stand round a circle at equal distances, the first at the top.
+/// The point of a job. The jobs are round a circle at equal distances, the first at the top.
 fn point_of(graph: &Graph, frame: &Frame, job: usize) -> Point {
     let jobs = jobs_in(graph).max(1);
     let (half, turned) = (
@@ -80,14 +79,13 @@ fn point_of(graph: &Graph, frame: &Frame, job: usize) -> Point {
     }
 }
 
-/// Half of the sum of two places, moved by a sixth of the way from one other place to another.
+/// The middle of two coordinates, moved by a sixth of the distance between two others.
 fn bent(a: usize, b: usize, from: usize, to: usize) -> usize {
     let middle = a.saturating_add(b) / 2;
     middle.saturating_add(to / 6).saturating_sub(from / 6)
 }
 
-/// Writes the arrow of a wait: bent to one side, so that two waits in opposite directions stand
-/// apart.
+/// Writes the arrow of a wait. It is bent to one side, so that two waits in opposite directions are apart.
 fn write_wait<W: fmt::Write>(
     f: &mut fmt::Formatter<W>,
     graph: &Graph,
@@ -154,7 +152,7 @@ fn write_jobs<W: fmt::Write>(
     Ok(())
 }
 
-/// Writes the graph of the waits after the line, or the tick, of this number.
+/// Writes the graph of the waits after the line or tick of this number.
 pub fn write_graph<W: fmt::Write>(
     f: &mut fmt::Formatter<W>,
     graph: &Graph,

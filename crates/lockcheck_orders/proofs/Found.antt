@@ -18,17 +18,17 @@ same-some x y e = cc
 
 pub verdict-some : (lines : List Line) (holds : State → Bool) (members : State → List ℕ) (xs : List (Met StateForm))
     → IsWhole (length (jobs_of lines)) (next lines) (first_state lines) (seen_of (unpacked lines) (first_state lines) xs) (length xs)
-    → (w : Witness) (x : Met StateForm) → x ≡ get_or xs w.place x → w.place < length xs
-    → w.moves.items ≡ way (seen_of (unpacked lines) (first_state lines) xs) w.place w.place
+    → (w : Witness) (x : Met StateForm) → x ≡ get_or xs w.position x → w.position < length xs
+    → w.moves.items ≡ way (seen_of (unpacked lines) (first_state lines) xs) w.position w.position
     → IsWitness (length (jobs_of lines)) (next lines) (first_state lines) holds (Some w)
     → (v : Verdict) → v.moves.items ≡ w.moves.items → v.jobs.items ≡ members (unpacked lines x.state)
     → IsVerdict lines holds members (Some v)
 verdict-some lines holds members xs whole w x e l m found v moves jobs =
     let at = seen_of (unpacked lines) (first_state lines) xs in
     let s : State = unpacked lines x.state in
-    let here : s ≡ (at w.place).state = ap (λ (u : Met State). u.state) (seen_is (unpacked lines) (first_state lines) xs w.place x e l) in
+    let here : s ≡ (at w.position).state = ap (λ (u : Met State). u.state) (seen_is (unpacked lines) (first_state lines) xs w.position x e l) in
     let path : List ℕ → Type 0 = λ ks. Leads (length (jobs_of lines)) (next lines) (first_state lines) ks s in
-    let back : Leads (length (jobs_of lines)) (next lines) (first_state lines) (way at w.place w.place) s = whole.ways_lead w.place l ∙ ap Some (sym here) in
+    let back : Leads (length (jobs_of lines)) (next lines) (first_state lines) (way at w.position w.position) s = whole.ways_lead w.position l ∙ ap Some (sym here) in
     let leads : Leads (length (jobs_of lines)) (next lines) (first_state lines) w.moves.items s = subst path (sym m) back in
     let same : found.0.0 ≡ s = same-some found.0.0 s (sym found.0.1 ∙ leads) in
     let least : List ℕ → Type 0 = λ ms. (ks : List ℕ) (t : State) → IsOrder lines ks t → holds t ≡ true → IsNotBehind ms ks in

@@ -1,4 +1,4 @@
--- The keys by which states are told apart: all of a state in a list of numbers.
+-- The keys by which states are distinguished: all of a state in a list of numbers.
 use Rattle.std.specs.Prelude.{◌≡◌, ℕ, Bool, true, false, if◌then◌else◌, List, [], ◌∷◌, ◌++◌, length}
 use Rattle.std.specs.List.{flat_map}
 use Rattle.std.specs.Ordering.{nat_cmp, is_eq}
@@ -22,7 +22,7 @@ want_numbers w = 1 ∷ w.which ∷ flag w.shared ∷ w.group ∷ []
 
 -- a request, with a 0 behind its wants
 abbrev pub request_numbers : RequestForm → List ℕ
-request_numbers r = (r.line ∷ flag r.told ∷ []) ++ (flat_map want_numbers r.wants ++ 0 ∷ [])
+request_numbers r = (r.line ∷ flag r.notified ∷ []) ++ (flat_map want_numbers r.wants ++ 0 ∷ [])
 
 -- all of a state in a list of numbers
 abbrev pub numbers_of : StateForm → List ℕ
@@ -44,7 +44,8 @@ flag-apart true false h = cc
 flag-apart false true h = cc
 flag-apart false false h = refl
 
-wants-apart : (ws vs : List KeptWant) (s t : List ℕ) → flat_map want_numbers ws ++ 0 ∷ s ≡ flat_map want_numbers vs ++ 0 ∷ t → (ws ≡ vs) × (s ≡ t)
+wants-apart : (ws vs : List KeptWant) (s t : List ℕ)
+    → flat_map want_numbers ws ++ 0 ∷ s ≡ flat_map want_numbers vs ++ 0 ∷ t → (ws ≡ vs) × (s ≡ t)
 wants-apart [] [] s t h = (refl, cc)
 wants-apart [] (v ∷ vs) s t h = absurd (cc)
 wants-apart (w ∷ ws) [] s t h = absurd (cc)
@@ -63,15 +64,15 @@ requests-apart [] (q ∷ qs) h = absurd (cc)
 requests-apart (r ∷ rs) [] h = absurd (cc)
 requests-apart (r ∷ rs) (q ∷ qs) h =
     let line : r.line ≡ q.line = cc in
-    let shown : flag r.told ≡ flag q.told = cc in
-    let told : r.told ≡ q.told = flag-apart r.told q.told shown in
+    let shown : flag r.notified ≡ flag q.notified = cc in
+    let notified : r.notified ≡ q.notified = flag-apart r.notified q.notified shown in
     let more : (flat_map want_numbers r.wants ++ 0 ∷ []) ++ flat_map request_numbers rs
     ≡ (flat_map want_numbers q.wants ++ 0 ∷ []) ++ flat_map request_numbers qs = cc in
     let apart = wants-apart r.wants q.wants (flat_map request_numbers rs) (flat_map request_numbers qs)
     (sym (append_assoc (flat_map want_numbers r.wants) (0 ∷ []) (flat_map request_numbers rs)) ∙ more
     ∙ append_assoc (flat_map want_numbers q.wants) (0 ∷ []) (flat_map request_numbers qs)) in
     let rest : rs ≡ qs = requests-apart rs qs apart.1 in
-    λ i. record { line = line i; told = told i; wants = apart.0 i } ∷ rest i
+    λ i. record { line = line i; notified = notified i; wants = apart.0 i } ∷ rest i
 
 split-apart : (xs ys s t : List ℕ) → length xs ≡ length ys → xs ++ s ≡ ys ++ t → (xs ≡ ys) × (s ≡ t)
 split-apart [] [] s t l h = (refl, h)
@@ -96,7 +97,8 @@ keys_agree lines s k j e f =
     let two : j ≡ numbers_of (packed lines s) = f.numbers ∙ ap numbers_of f.same in
     rw (one, two) (tied_itself nat_list_cmp_total (numbers_of (packed lines s)))
 
-pub keys_tell_apart : (lines : List Line) (s t : State) (k j : List ℕ) → IsKeyOf lines s k → IsKeyOf lines t j → slice_cmp nat_cmp k j ≡ Equal → s ≡ t
+pub keys_tell_apart : (lines : List Line) (s t : State) (k j : List ℕ) → IsKeyOf lines s k → IsKeyOf lines t j
+    → slice_cmp nat_cmp k j ≡ Equal → s ≡ t
 keys_tell_apart lines s t k j e f c =
     let h : k ≡ j = (bytes_eq-Decides k j).0 (sym (is_eq-slice_cmp k j) ∙ ap is_eq c) in
     let forms : e.form ≡ f.form = numbers-apart e.form f.form (e.counted ∙ sym f.counted) (sym e.numbers ∙ h ∙ f.numbers) in

@@ -1,4 +1,4 @@
--- What is said of all orders.
+-- What holds of all orders.
 use Rattle.std.specs.Prelude.{◌≡◌, ◌≢◌, ℕ, ◌<◌, ◌≤◌, ◌↔◌, IsTrue, List, length, Bool, true, false, Option, Some, None}
 use Rattle.std.specs.BTreeSet as bag
 use Rattle.std.specs.BTreeSet.{BTreeSet}
@@ -16,7 +16,7 @@ use Rattle.lockcheck_orders.specs.Circles.{circle_jobs, has_circle}
 use Rattle.lockcheck_orders.specs.Programs.{jobs_of}
 use Rattle.lockcheck_orders.specs.Stuck.{is_stuck, waiting_jobs}
 
--- an order is a list of places among the jobs: the job at the first makes its first call, and so on, each where it can make
+-- an order is a list of positions among the jobs: the job at the first makes its first call, and so on, each where it can make
 -- one; it leads from no requests to a state
 abbrev pub IsOrder : List Line → List ℕ → State → Type 0
 IsOrder lines ks s = Leads (length (jobs_of lines)) (next lines) (first_state lines) ks s

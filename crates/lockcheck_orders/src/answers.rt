@@ -10,12 +10,10 @@ use lock_queue::LockReply;
 use state_search::Labels;
 use std::alloc::{AllocError, Global};
 
-/// More than the number of any answer: a line's number times this, and the answer's number, are one
-/// number.
+/// More than the number of any answer. A line's number times this, plus the answer's number, tells both.
 pub const ANSWERS: usize = 32;
 
-/// The number of the answer WAIT, behind the codes of refusals. That of OK is 0, and that of CODE n is
-/// n.
+/// The number of the answer WAIT, above all codes of refusals. OK has 0, and CODE n has n.
 pub const WAITS: usize = 31;
 
 fn answer_number(reply: LockReply) -> usize
@@ -29,7 +27,7 @@ fn answer_number(reply: LockReply) -> usize
     }
 }
 
-/// What each call is answered.
+/// The answer of each call, as a label.
 #[derive(Drop)]
 pub struct Answers;
 

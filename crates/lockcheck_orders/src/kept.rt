@@ -1,13 +1,13 @@
-//! States as they are kept: small, since a search keeps hundreds of thousands of them, and a request
-//! takes more than a thousand bytes.
+//! States as they are kept. They are small, since a search keeps hundreds of thousands of them and a
+//! request takes more than a thousand bytes.
 
 use lock_queue::Group;
 use std::marker::Model;
 
-/// A want of a request, as a form of a want of the line that the request came from.
+/// A want of a request, by the want of its line from which it differs in these two things at most.
 #[derive(Clone, Copy)]
 pub struct KeptWant {
-    /// Its place among the wants of the line.
+    /// Its position among the wants of the line.
     pub which: u8,
     /// Whether it is shared now.
     pub shared: bool,
@@ -18,10 +18,10 @@ pub struct KeptWant {
 /// A request, by the line that it came from.
 #[derive(Drop)]
 pub struct KeptRequest {
-    /// The place of the line among all lines.
+    /// The position of the line among all lines.
     pub line: u16,
-    /// Whether the job knows of its grant.
-    pub told: bool,
+    /// Whether the job was notified of the grant.
+    pub notified: bool,
     /// The wants that are left.
     pub wants: Vec<KeptWant>,
 }
@@ -31,7 +31,7 @@ impl Model for KeptRequest {
 
     ghost Value = { RequestForm };
 
-    ghost view = { λ r. record { line = r.line; told = r.told; wants = r.wants.items } };
+    ghost view = { λ r. record { line = r.line; notified = r.notified; wants = r.wants.items } };
 }
 
 /// A state: the requests in order of arrival, and how many calls each job has made.

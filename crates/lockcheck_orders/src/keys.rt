@@ -33,7 +33,7 @@ fn push_wants(key: &mut Vec<u32>, wants: &[KeptWant]) -> Result<(), AllocError>
 fn push_request(key: &mut Vec<u32>, r: &KeptRequest) -> Result<(), AllocError>
     ensures { OnOk result (key.new.items ≡ key.old.items ++ request_numbers r.now) }
 {
-    let head = [u32::from(r.line), flag(r.told)];
+    let head = [u32::from(r.line), flag(r.notified)];
     key.extend_from_slice(head.as_slice())?;
     push_wants(key, r.wants.as_slice())?;
     key.push(0)?;

@@ -1,4 +1,4 @@
-//! Orders: the system whose states a search looks at.
+//! Orders of calls, as a system for a search.
 ghost use Rattle.std.specs.Prelude.{◌≡◌, ◌<◌, ◌≤◌, ◌+◌, IfOk, IfSome, MatchOption, None, OnOk, OnSome, Some};
 ghost use Rattle.std.specs.Prelude.{length, map, slice_get, slice_index, slice_set, true};
 ghost use Rattle.std.specs.List.{list_all};
@@ -24,7 +24,7 @@ use std::alloc::{AllocError, Global};
 use std::marker::Model;
 
 /// A state as the contracts speak of it: the requests in order of arrival, and how many calls each of
-/// the jobs has made. None is ever made by the code, which keeps states packed.
+/// the jobs has made. The code keeps states packed and never makes one of these.
 pub struct Seen {
     /// The requests.
     pub requests: Vec<Request>,
@@ -40,7 +40,7 @@ impl Model for Seen {
     ghost view = { λ s. record { requests = s.requests.items; made = s.made.items } };
 }
 
-/// Sets the requests of a state out on the desk.
+/// Fills the desk with the requests of a state.
 pub fn set_state_out(programs: &Programs, desk: &mut Desk, state: &KeptState)
     requires { IsKept programs.now state.now }
     ensures { desk.new ≡ (unpacked programs.now state.now).requests }
@@ -48,8 +48,8 @@ pub fn set_state_out(programs: &Programs, desk: &mut Desk, state: &KeptState)
     set_all_out(desk, programs.lines(), state.requests.as_slice());
 }
 
-/// The place of the line that the job at a place among the jobs makes next, if it can make one. Then the
-/// requests of the state stand on the desk.
+/// The position of the next line of the job at position `by` of the jobs, if the job can make a call. In
+/// that case the desk has the requests of the state.
 pub fn line_to_make(
     programs: &Programs,
     desk: &mut Desk,
@@ -76,7 +76,7 @@ pub fn line_to_make(
     }
 }
 
-/// Does what a line asks for with the requests on the desk.
+/// Does what line `i` asks for, on the desk.
 pub fn perform_line(desk: &mut Desk, lines: &[Line], i: usize) -> LockReply
     requires there { i < length lines.now }
     requires right { are_right_lines lines.now ≡ true }
@@ -91,7 +91,7 @@ pub fn perform_line(desk: &mut Desk, lines: &[Line], i: usize) -> LockReply
     desk.perform(line.job, &line.step)
 }
 
-/// How many calls each job has made when the job at a place has made one more.
+/// The counts of calls when the job at position `by` has made one more.
 fn one_more(made: &Vec<u16>, by: usize) -> Result<Vec<u16>, AllocError>
     requires there { by < length made.now.items }
     requires small { slice_index made.now.items by < MOST_LINES }

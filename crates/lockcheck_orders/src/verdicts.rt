@@ -1,4 +1,4 @@
-//! What is said of all orders.
+//! What holds of all orders.
 ghost use Rattle.std.specs.Prelude.{◌≡◌, ℕ, ◌↔◌, IfOk, IsTrue, length};
 ghost use Rattle.std.specs.BTreeSet as bag;
 ghost use Rattle.std.specs.List.{All};
@@ -23,10 +23,10 @@ use state_search::{Kept, Outcome, Watch, all_labels, find_witness, search};
 use std::alloc::{AllocError, Global};
 use std::collections::BTreeSet;
 
-/// A shortest order that leads to what was looked for, and the jobs that it concerns.
+/// A shortest order that leads to a state that was looked for, and the jobs that this is about.
 #[derive(Drop)]
 pub struct Verdict {
-    /// The places among the jobs of those that make a call in turn.
+    /// For each call in turn, the position of its job among the jobs.
     pub moves: Vec<usize>,
     /// The jobs, rising.
     pub jobs: Vec<u8>,
@@ -48,7 +48,7 @@ pub fn find_circle(
         return Ok(None);
     };
     let mut desk = Desk::new(alloc)?;
-    let met = &kept.met[witness.place];
+    let met = &kept.met[witness.position];
     set_state_out(programs, &mut desk, &met.state);
     let jobs = circle_jobs(alloc, programs, &desk)?;
     Ok(Some(Verdict {
@@ -74,7 +74,7 @@ pub fn find_stuck(
         return Ok(None);
     };
     let mut desk = Desk::new(alloc)?;
-    let met = &kept.met[witness.place];
+    let met = &kept.met[witness.position];
     set_state_out(programs, &mut desk, &met.state);
     let jobs = waiting_jobs(alloc, &desk, programs.jobs())?;
     Ok(Some(Verdict {
@@ -83,8 +83,8 @@ pub fn find_stuck(
     }))
 }
 
-/// The answers that some order gives: the number of a line, times `ANSWERS`, and the number of its
-/// answer.
+/// The answers that some order gives. Each is the number of a line, times `ANSWERS`, plus the number of
+/// its answer.
 pub fn all_answers(
     alloc: Global,
     programs: &Programs,
@@ -117,7 +117,7 @@ fn answers_if(
     Ok(Some(all))
 }
 
-/// What is found where every state is looked at.
+/// What is found where every state was looked at.
 #[derive(Drop)]
 pub struct Report {
     /// How many states there are.
@@ -126,21 +126,21 @@ pub struct Report {
     pub circle: Option<Verdict>,
     /// A shortest order that leaves jobs waiting.
     pub stuck: Option<Verdict>,
-    /// All that calls are answered, where that was asked for: the number of a line, times `ANSWERS`, and
-    /// the number of its answer.
+    /// The answers that some order gives, where these were asked for: each is the number of a line, times
+    /// `ANSWERS`, plus the number of its answer.
     pub answers: Option<BTreeSet<usize>>,
 }
 
-/// What a look at all orders comes to.
+/// The result of a look at all orders.
 #[derive(Drop)]
 pub enum Looked {
     /// Every state was looked at.
     All(Report),
-    /// There are more states than this, and nothing is said of them.
+    /// There are more states than this many; nothing is reported of them.
     GaveUp(usize),
 }
 
-/// Reports on all orders, of which every state is kept.
+/// Reports on all orders, from all their states.
 fn report_on(
     alloc: Global,
     programs: &Programs,

@@ -1,4 +1,4 @@
--- What a lock call came to, by what there is to see behind it (ENQ/DEQ of the TOPS-10 Monitor Calls Manual).
+-- The answer of a lock call, from what is seen after it (ENQ/DEQ of the TOPS-10 Monitor Calls Manual).
 use Rattle.std.specs.Prelude.{◌==◌, ◌&&◌, nat_le, if◌then◌else◌}
 use Rattle.run_facts.specs.declared.answers.CallSeen.{CallSeen}
 use Rattle.run_facts.specs.declared.answers.CallAnswer.{CallAnswer}
@@ -17,5 +17,5 @@ abbrev pub answer_of : CallSeen → CallAnswer
 answer_of seen =
     if seen.is_stopped then answer.Stopped
     else if seen.has_skipped then success_of seen
-    else if seen.is_enqueue && (seen.function == 2 && seen.code == 1) then answer.ToldLater
+    else if seen.is_enqueue && (seen.function == 2 && seen.code == 1) then answer.NotifiedLater
     else answer.Refused seen.code

@@ -9,7 +9,7 @@ is_colon c = c == 58
 abbrev pub line_number : ℕ → List ℕ → Option ℕ
 line_number lines text = if nat_lt lines 2 then None else number 10 (lines - 1) text
 
--- the number before the colon at a place, if one stands there
+-- the number before the colon at a position, if one stands there
 abbrev pub number_before : ℕ → List ℕ → Option ℕ → Option ℕ
 number_before lines text None = None
 number_before lines text (Some i) = line_number lines (take i text)
@@ -26,7 +26,7 @@ line_or_first (Some n) = n
 abbrev pub line_for : ℕ → List ℕ → ℕ
 line_for lines text = line_or_first (number_in lines text)
 
--- what stands behind the colon at a place
+-- what stands behind the colon at a position
 abbrev pub behind : List ℕ → Option ℕ → List ℕ
 behind text None = text
 behind text (Some i) = drop (i + 1) text

@@ -1,8 +1,8 @@
-//! What a lock call came to.
+//! The answer of a lock call.
 ghost use Rattle.std.specs.Prelude.{◌≡◌};
 ghost use Rattle.run_facts.specs.Answers.{answer_of, success_of};
 
-/// What there is to see of a lock call and of its job behind it.
+/// A lock call, and what is seen of its job after it.
 #[derive(Clone, Copy, Debug, PartialEq, Eq)]
 pub struct CallSeen {
     /// Whether the call is ENQ.
@@ -13,13 +13,13 @@ pub struct CallSeen {
     pub is_stopped: bool,
     /// Whether the job waits for locks.
     pub is_waiting: bool,
-    /// Whether the job goes on at the call's other return, behind the next place.
+    /// Whether the job goes on one instruction further than behind the call.
     pub has_skipped: bool,
-    /// What the call has left in the right half of its accumulator.
+    /// The right half of the call's accumulator after it.
     pub code: u32,
 }
 
-/// What a lock call came to.
+/// The answer of a lock call.
 #[derive(Clone, Copy, Debug, PartialEq, Eq)]
 pub enum CallAnswer {
     /// It stopped its job.
@@ -30,13 +30,13 @@ pub enum CallAnswer {
     Granted,
     /// It did what it was to do.
     Done,
-    /// Its request stays, and the job will be told of the grant.
-    ToldLater,
+    /// Its request stays, and the job will be notified of the grant.
+    NotifiedLater,
     /// It was refused, with this code.
     Refused(u32),
 }
 
-/// What a call came to that has skipped.
+/// The answer of a call that has skipped.
 fn success_of(seen: CallSeen) -> CallAnswer
     ensures { result ≡ success_of seen }
 {
@@ -49,7 +49,7 @@ fn success_of(seen: CallSeen) -> CallAnswer
     }
 }
 
-/// What a lock call came to, by what there is to see behind it.
+/// The answer of a lock call, from what is seen after it.
 pub fn answer_of(seen: CallSeen) -> CallAnswer
     ensures { result ≡ answer_of seen }
 {
@@ -58,7 +58,7 @@ pub fn answer_of(seen: CallSeen) -> CallAnswer
     } else if seen.has_skipped {
         success_of(seen)
     } else if seen.is_enqueue && seen.function == 2 && seen.code == 1 {
-        CallAnswer::ToldLater
+        CallAnswer::NotifiedLater
     } else {
         CallAnswer::Refused(seen.code)
     }

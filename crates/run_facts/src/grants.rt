@@ -1,4 +1,4 @@
-//! Requests that were granted meanwhile.
+//! Requests that were granted between two looks at a table.
 ghost use Rattle.std.specs.Prelude.{◌≡◌, ◌<◌, [], length, take, slice_get, IfSome, IsNone};
 ghost use Rattle.std.specs.List.{list_any};
 ghost use Rattle.lock_queue.specs.Queue.{granted, names, some_behind};
@@ -15,7 +15,7 @@ fn has_lock_of(r: &Request, old: &Request) -> bool
     r.wants.as_slice().iter().any(|w| names_key(locks, &w.key))
 }
 
-/// Whether a request is what is left of an earlier one: it has its job and its id, and one of its locks.
+/// Whether a request is what is left of an earlier one: the same job and id, and one lock in common.
 pub fn is_left_of(r: &Request, old: &Request) -> bool
     ensures { result ≡ is_left_of r.now old.now }
 {
@@ -40,19 +40,18 @@ fn was_waiting(before: &[Request], r: &Request) -> bool
     false
 }
 
-/// Whether the request at a place is granted now, and was not granted before, when these other requests
-/// were present.
-pub fn is_new_grant(before: &[Request], requests: &[Request], place: usize) -> bool
-    requires { place < length requests.now }
-    ensures { IfSome (slice_get requests.now place) (λ r. result ≡ is_new_grant before.now (take place requests.now) r) }
+/// Whether the request at a position of `requests` is granted, and was in `before` and not granted there.
+pub fn is_new_grant(before: &[Request], requests: &[Request], position: usize) -> bool
+    requires { position < length requests.now }
+    ensures { IfSome (slice_get requests.now position) (λ r. result ≡ is_new_grant before.now (take position requests.now) r) }
 {
-    let r = &requests[place];
-    is_granted(&requests[..place], r) && was_waiting(before, r)
+    let r = &requests[position];
+    is_granted(&requests[..position], r) && was_waiting(before, r)
 }
 
-/// Whether the request at a place is granted; none is behind the last.
-pub fn is_granted_in(requests: &[Request], place: usize) -> bool
-    ensures { result ≡ granted requests.now place }
+/// Whether there is a request at a position, and it is granted.
+pub fn is_granted_in(requests: &[Request], position: usize) -> bool
+    ensures { result ≡ granted requests.now position }
 {
-    place < requests.len() && is_granted(&requests[..place], &requests[place])
+    position < requests.len() && is_granted(&requests[..position], &requests[position])
 }

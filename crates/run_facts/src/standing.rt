@@ -1,4 +1,4 @@
-//! How jobs stand at the end of a run.
+//! How jobs ended, and the exit status for it.
 ghost use Rattle.std.specs.Prelude.{◌≡◌};
 ghost use Rattle.std.specs.List.{list_all, list_any};
 ghost use Rattle.run_facts.specs.Ends.{is_at_fault, is_end, has_ended_well, status_of};
@@ -7,14 +7,14 @@ use crate::statuses::{CIRCLE, CUT, DONE, FAULT, REFUSED};
 use job_sched::{Stop, Wait};
 use ka_cpu::StopReason;
 
-/// How a job stands.
+/// How a job stands at the end of a run.
 #[derive(Clone, Copy, Debug, PartialEq, Eq)]
 pub enum Standing {
     /// It has logged out.
     Gone,
     /// It is stopped.
     Stopped(Stop),
-    /// It goes on, or waits.
+    /// It is ready to run, or waits.
     Goes(Wait),
 }
 
@@ -56,25 +56,24 @@ fn is_at_fault(standing: Standing) -> bool
     }
 }
 
-/// Whether one of some jobs was stopped so.
+/// Whether the processor stopped one of some jobs at a fault.
 fn is_some_at_fault(standings: &[Standing]) -> bool
     ensures { result ≡ list_any is_at_fault standings.now }
 {
     standings.iter().any(|standing| is_at_fault(*standing))
 }
 
-/// How a run ended, but for its jobs.
+/// What else is known of the end of a run.
 #[derive(Clone, Copy, Debug, PartialEq, Eq)]
 pub struct Ending {
     /// Whether jobs wait in a circle.
     pub has_circle: bool,
-    /// Whether it ended since it made as many steps as it was to make.
+    /// Whether it was cut after as many steps as it was allowed.
     pub is_cut: bool,
 }
 
-/// The exit status of a run that ended so, whose jobs stand so: 4 where jobs wait in a circle; else 6
-/// where a job was stopped at a fault; else 0 where all of them ended well; else 5 where the run was
-/// cut; else 1.
+/// The exit status of a run: 4 where jobs wait in a circle; else 6 where a job was stopped at a fault;
+/// else 0 where all jobs ended well; else 5 where the run was cut; else 1.
 pub fn status_of(ending: Ending, standings: &[Standing]) -> u8
     ensures { result ≡ status_of ending.has_circle ending.is_cut standings.now }
 {

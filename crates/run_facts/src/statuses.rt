@@ -1,21 +1,16 @@
-//! The exit statuses of the program.
+//! The exit statuses that tell how the jobs of a run ended; that of wrong arguments and that of a failure are those of
+//! every program.
 
-/// All jobs ended by EXIT, LOGOUT or HALT, or the help or the version was asked for and told.
+/// All jobs ended by EXIT, LOGOUT or HALT, or the help or the version was asked for and written.
 pub const DONE: u8 = 0;
 
 /// A source was refused, or a job was left waiting, outside a circle, or stopped by CTRL-C.
 pub const REFUSED: u8 = 1;
 
-/// The words of the command line were refused.
-pub const USAGE: u8 = 2;
-
-/// Reading, writing or memory failed.
-pub const FAILED: u8 = 3;
-
 /// Jobs wait for each other's locks in a circle.
 pub const CIRCLE: u8 = 4;
 
-/// The run ended after as many steps as it was to have.
+/// The run ended after as many steps as it was allowed.
 pub const CUT: u8 = 5;
 
 /// The processor stopped a job: an illegal instruction or address, a pushdown list that ran over, or a

@@ -13,7 +13,7 @@ pub struct Target<'a> {
     pub text: &'a [u8],
 }
 
-/// The place of the first colon.
+/// The position of the first colon.
 fn find_colon(text: &[u8]) -> Option<usize>
     ensures value { result ≡ position is_colon text.now }
     ensures within { IfSome result (λ i. i < length text.now) }
@@ -21,8 +21,7 @@ fn find_colon(text: &[u8]) -> Option<usize>
     text.iter().position(|c| *c == b':')
 }
 
-/// The number of a line that a text spells, where the lines are those below `lines`, and there are
-/// several.
+/// The number of a terminal line that a text spells, below `lines`. None where there are fewer than two.
 fn line_number(lines: u8, text: &[u8]) -> Option<u8>
     ensures { result ≡ line_number lines text.now }
 {
@@ -35,9 +34,8 @@ fn line_number(lines: u8, text: &[u8]) -> Option<u8>
     }
 }
 
-/// Where a line of the input is typed, where there are so many terminal lines, and what is typed
-/// there: at line n what stands behind `n:`, where there are several lines and n is one of them, and
-/// all else whole at line 0.
+/// Where a line of the input is typed, and what is typed there: `n:TEXT` is TEXT at terminal line n, where
+/// there are at least two terminal lines and n is below `lines`; all else is typed whole at line 0.
 pub fn target_of(lines: u8, text: &[u8]) -> Target<'_>
     ensures line { result.line ≡ line_for lines text.now }
     ensures text { result.text.now ≡ text_for lines text.now }

@@ -1,17 +1,17 @@
 use Rattle.std.proofs.Common.{◌≡◌, ◌≤◌, ◌+◌, ◌∙◌, [], None, suc, is_some, length, true, sym, subst, ap, arith, rules}
 use Rattle.std.proofs.lemmas.Grind.{common_steps}
 use Rattle.std.specs.Str.Lines.{lines}
-use Rattle.queue_script.specs.Asks.{asks_right}
+use Rattle.queue_script.specs.WellFormed.{is_well_formed}
 use Rattle.queue_script.specs.Commands.{command_of}
 use Rattle.queue_script.specs.QueueScripts.{effect_of}
-use Rattle.queue_script.proofs.Asking.{line-right}
+use Rattle.queue_script.proofs.WellFormedLemmas.{line-right}
 use Rattle.lock_bars.specs.Courses.{has_line, requests_after}
 use Rattle.lock_bars.specs.declared.errors.TheConstants.{MOST_LINES}
 use Rattle.lock_bars.proofs.CourseLemmas.{behind_next, behind_now, kept_next, passed_next, seen_least}
 use Rattle.lock_bars.proofs.queue_course.watch_queue.Goals as goal
 
 pub follow-requires : goal.follow-requires
-follow-requires g c = subst (λ a. asks_right a ≡ true) (sym c.read_command-command.ensures) (line-right c.in-Some.line.now)
+follow-requires g c = subst (λ a. is_well_formed a ≡ true) (sym c.read_command-command.ensures) (line-right c.in-Some.line.now)
 
 pub returns-then-seen-ge-MOST_LINES-clause-fault : goal.returns-then-seen-ge-MOST_LINES-clause-fault
 returns-then-seen-ge-MOST_LINES-clause-fault g c =

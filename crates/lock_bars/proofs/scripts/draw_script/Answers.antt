@@ -2,7 +2,7 @@ use Rattle.std.proofs.Common.{◌∙◌, ℕ, unwrap_or, length, sym, ap, subst}
 use Rattle.std.proofs.lemmas.Result.{IfErr-weaker, IfOk-weaker}
 use Rattle.std.specs.Str.Lines.{lines}
 use Rattle.lock_bars.specs.Courses.{course, has_line, requests_behind}
-use Rattle.lock_bars.specs.Graphs.{Shows}
+use Rattle.wait_graph.specs.Graphs.{Shows}
 use Rattle.lock_bars.proofs.CourseLemmas.{both_ok, drawn, script_ends, short_fault}
 use Rattle.lock_bars.proofs.scripts.draw_script.Goals as goal
 

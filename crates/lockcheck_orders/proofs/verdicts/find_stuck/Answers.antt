@@ -16,16 +16,16 @@ returns c =
     let items = c.args.kept.now.met.items in
     let P : Option Witness → Type 0 =
     λ o. IfSome o
-    (λ w. (w.place < length c.args.kept.now.met.items)
+    (λ w. (w.position < length c.args.kept.now.met.items)
     × (w.moves.items
-    ≡ way (seen_of (unpacked c.args.programs.now) (first_state c.args.programs.now) c.args.kept.now.met.items) w.place w.place))
+    ≡ way (seen_of (unpacked c.args.programs.now) (first_state c.args.programs.now) c.args.kept.now.met.items) w.position w.position))
     in
     let Q : Option Witness → Type 0 =
     λ o. IsWitness (length (jobs_of c.args.programs.now)) (next c.args.programs.now) (first_state c.args.programs.now)
     (is_stuck c.args.programs.now) o in
-    let place = subst P c.in-Some.is c.in_ok-found.ensures.place in
+    let position = subst P c.in-Some.is c.in_ok-found.ensures.position in
     let witness = subst Q c.in-Some.is c.in_ok-found.ensures.witness in
     verdict-some lines (is_stuck lines) (waiting_jobs lines) items c.requires.whole c.in-Some.witness c.index-met.result.now
-    c.index-met.ensures place.0 place.1 witness (record { moves = c.in-Some.witness.moves; jobs = c.in_ok-jobs.jobs }) refl
+    c.index-met.ensures position.0 position.1 witness (record { moves = c.in-Some.witness.moves; jobs = c.in_ok-jobs.jobs }) refl
     (c.in_ok-jobs.ensures ∙ ap (filter (is_waiting_job c.set_state_out.new.desk)) c.jobs.ensures.value
     ∙ ap (λ r. filter (is_waiting_job r) (jobs_of lines)) c.set_state_out.ensures)

@@ -1,7 +1,0 @@
-use Rattle.std.proofs.Common.{◌≡◌, drop}
-use Rattle.std.specs.List.{list_any}
-use Rattle.lock_bars.specs.Bars.{says}
-use Rattle.lock_bars.proofs.bars.is_said.Given as goal
-
-abbrev pub invariant-loop-bar : goal.invariant-loop-bar
-invariant-loop-bar l = list_any (says l.line l.hold) (drop l.bar-index l.bars) ≡ list_any (says l.line l.hold) l.bars

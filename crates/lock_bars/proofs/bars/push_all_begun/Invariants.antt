@@ -1,9 +1,0 @@
-use Rattle.std.proofs.Common.{◌≡◌, ◌++◌, drop}
-use Rattle.std.specs.List.{flat_map}
-use Rattle.lock_bars.specs.Bars.{begun}
-use Rattle.lock_bars.proofs.bars.push_all_begun.Given as goal
-
-abbrev pub invariant-loop-hold : goal.invariant-loop-hold
-invariant-loop-hold l =
-    l.added.items ++ flat_map (begun l.line l.bars) (drop l.hold-index l.told)
-    ≡ l.initial.added.items ++ flat_map (begun l.line l.bars) l.told

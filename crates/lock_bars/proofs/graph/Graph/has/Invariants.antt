@@ -1,9 +1,0 @@
-use Rattle.std.proofs.Common.{◌≡◌, ◌-◌}
-use Rattle.std.specs.List.{list_any}
-use Rattle.lock_queue.specs.Waits.{jobs, numbers_from}
-use Rattle.queue_script.specs.declared.circles.TheConstants.{NUMBERS}
-use Rattle.lock_bars.specs.Graphs.{is_between}
-use Rattle.lock_bars.proofs.graph.Graph.has.Given as goal
-
-abbrev pub invariant-loop-other : goal.invariant-loop-other
-invariant-loop-other l = list_any (is_between l.self l.job) (numbers_from l.other (NUMBERS - l.other)) ≡ list_any (is_between l.self l.job) jobs

@@ -1,4 +1,0 @@
-pub mod RequestLemmas
-pub mod TestLemmas
-pub mod StepLemmas
-pub mod KeeperLemmas

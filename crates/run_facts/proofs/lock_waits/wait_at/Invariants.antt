@@ -1,9 +1,0 @@
-use Rattle.std.proofs.Common.{◌≡◌, take, drop}
-use Rattle.std.specs.List.{list_any}
-use Rattle.run_facts.specs.LockWaits.{has_keeper}
-use Rattle.run_facts.proofs.lock_waits.wait_at.Given as goal
-
-abbrev pub invariant-loop-want : goal.invariant-loop-want
-invariant-loop-want l =
-    list_any (has_keeper l.is_held l.requests l.job (take l.place l.requests)) (drop l.want-index l.want-items)
-    ≡ list_any (has_keeper l.is_held l.requests l.job (take l.place l.requests)) l.r.wants.items

@@ -1,0 +1,9 @@
+use Rattle.std.proofs.Common.{◌≡◌, ◌-◌}
+use Rattle.std.specs.List.{list_any}
+use Rattle.lock_queue.specs.Waits.{jobs, numbers_from}
+use Rattle.wait_graph.specs.declared.pairs.TheConstants.{NUMBERS}
+use Rattle.wait_graph.specs.Graphs.{is_between}
+use Rattle.wait_graph.proofs.graph.Graph.has.Given as goal
+
+abbrev pub invariant-loop-other : goal.invariant-loop-other
+invariant-loop-other l = list_any (is_between l.self l.job) (numbers_from l.other (NUMBERS - l.other)) ≡ list_any (is_between l.self l.job) jobs
