@@ -1,6 +1,6 @@
 pub mod Lists
 pub mod Beginnings
-pub mod Standing
+pub mod Fronts
 pub mod Coming
 pub mod Counting
 pub mod Counted
@@ -11,9 +11,9 @@ pub mod Using
 pub mod Changing
 pub mod Marks
 pub mod Room
-pub mod Opening
+pub mod LockUseLaws
 pub mod Waking
 pub mod Finding
-pub mod Slots
+pub mod Contents
 pub mod Orders
 pub mod Keeps

@@ -1,4 +1,4 @@
--- What stands at a place of a list, before it and behind it.
+-- What stands at a position of a list, before it and behind it.
 use Rattle.std.proofs.Common.{◌≡◌, ◌≤◌, ◌<◌, ◌+◌, ◌-◌, ◌∙◌, ap, subst, ℕ, zero, suc, List, [], ◌∷◌, ◌++◌, length, drop_of_length-le, take, drop, get_or, replicate, slice_get, Some, None, inl, inr, refl, arith}
 use Rattle.std.specs.List.{remove}
 use Rattle.std.proofs.lemmas.List.{get_or_past, get_or-replicate, length-replicate, replicate_more, take-append-drop, append-nil}
@@ -11,7 +11,7 @@ module _ {X : Type 0} where
   slice_get_split [] b x = refl
   slice_get_split (y ∷ a) b x = slice_get_split a b x
 
-  -- the element at a place, with what is before and behind it
+  -- the element at a position, with what is before and behind it
   pub split_at : (xs : List X) (i : ℕ) (x : X) → slice_get xs i ≡ Some x → xs ≡ take i xs ++ x ∷ drop (suc i) xs
   split_at [] i x e = cc
   split_at (y ∷ xs) zero x e = cc
@@ -38,7 +38,7 @@ module _ {X : Type 0} where
   pub take_Has : (n : ℕ) (xs : List X) (x : X) → Has (take n xs) x → Has xs x
   take_Has n xs x h = subst (λ l. Has l x) (take-append-drop n xs) (Has-left (take n xs) (drop n xs) x h)
 
-  -- a list without the element at a place
+  -- a list without the element at a position
   pub Sub-remove : (xs : List X) (i : ℕ) → Sub (remove xs i) xs
   Sub-remove [] zero = nil
   Sub-remove [] (suc i) = nil

@@ -1,4 +1,4 @@
--- Lists of places.
+-- Lists of slots.
 use Rattle.std.proofs.Common.{nat_lt, ◌≡◌, ◌≢◌, ◌≤◌, ◌<◌, ◌+◌, ◌-◌, ◌∙◌, sym, ap, subst, ℕ, zero, suc, Bool, true, false, not, ◌||◌, ◌==◌, cond, List, [], ◌∷◌, ◌++◌, length, take, drop, filter, get_or, inl, inr, refl, arith}
 use Rattle.std.specs.List.{list_any, position_or_len, remove}
 use Rattle.std.proofs.lemmas.Bool.{both_ways, cases_eq, eq-eqb, false_from_ne_true, ltb-true, ne_eqb, or_parts, or_right}
@@ -7,11 +7,11 @@ use Rattle.std.proofs.lemmas.List.Folds.{list_any-append}
 use Rattle.std.proofs.lemmas.List.Elements.{filter-append}
 use Rattle.lock_queue.proofs.Lists.{Has, Pairs, Pairs-across, Pairs-append, Pairs-right, Sub-Pairs, Sub-length, Sub-filter, list_any-Has, list_any-found}
 use Rattle.std.proofs.lemmas.Grind.{common_steps}
-use Rattle.key_queues.specs.Stores.{one_if, without_place}
-use Rattle.key_queues.specs.Tables.{is_there, StandsOnce}
+use Rattle.key_queues.specs.Stores.{one_if, without_slot}
+use Rattle.key_queues.specs.Tables.{is_there, AreDistinct}
 use Rattle.key_queues.proofs.Lists.{Sub-remove}
 
--- one more place at the end
+-- one more slot at the end
 pub there_last : (q p : ℕ) (xs : List ℕ) → is_there q (xs ++ p ∷ []) ≡ (is_there q xs || (p == q))
 there_last q p xs = grind (arith, list_any-append (λ x. x == q) xs (p ∷ []))
 
@@ -37,7 +37,7 @@ there_at [] i d lt = absurd (omega arith)
 there_at (x ∷ xs) zero d lt = grind arith
 there_at (x ∷ xs) (suc i) d lt = grind (arith, there_at xs i d)
 
--- a place is there where it has an index
+-- a slot is there where it has an index
 pub there_by_index : (p : ℕ) (xs : List ℕ) → nat_lt (position_or_len (λ x. x == p) xs) (length xs) ≡ is_there p xs
 there_by_index p [] = refl
 there_by_index p (x ∷ xs) = grind (arith, there_by_index p xs)
@@ -53,12 +53,12 @@ turned_out (x ∷ xs) zero n long le = grind (arith, common_steps)
 turned_out (x ∷ xs) (suc i) zero long le = absurd (omega arith)
 turned_out (x ∷ xs) (suc i) (suc n) long le = ap (λ l. x ∷ l) (turned_out xs i n (omega arith) (omega arith))
 
--- a list without the first that is a place, by recursion
+-- a list without the first that is a slot, by recursion
 drop_first : ℕ → List ℕ → List ℕ
 drop_first p [] = []
 drop_first p (x ∷ xs) = cond (x == p) xs (x ∷ drop_first p xs)
 
-without_is : (p : ℕ) (xs : List ℕ) → without_place xs p ≡ drop_first p xs
+without_is : (p : ℕ) (xs : List ℕ) → without_slot xs p ≡ drop_first p xs
 unfolding drop_first
 without_is p [] = refl
 without_is p (x ∷ xs) = go (x == p) (without_is p xs)
@@ -70,12 +70,12 @@ without_is p (x ∷ xs) = go (x == p) (without_is p xs)
     go true later = refl
     go false later = let one : 1 + rest ≡ suc rest = omega arith in rw one (ap (λ l. x ∷ l) later)
 
--- each place once, by recursion
+-- each slot once, by recursion
 Once : List ℕ → Type 0
 Once [] = Unit {0}
 Once (x ∷ xs) = (is_there x xs ≡ false) × Once xs
 
-once_to : (xs : List ℕ) → StandsOnce xs → Once xs
+once_to : (xs : List ℕ) → AreDistinct xs → Once xs
 unfolding Once
 once_to [] once = tt
 once_to (x ∷ xs) once = (
@@ -87,18 +87,18 @@ once_to (x ∷ xs) once = (
 pub there_split : (p : ℕ) (before after : List ℕ) → is_there p (before ++ p ∷ after) ≡ true
 there_split p before after = grind (arith, list_any-append (λ x. x == p) before (p ∷ after))
 
--- each place once, by pairs
+-- each slot once, by pairs
 pub Has-there : (xs : List ℕ) (x : ℕ) → Has xs x → is_there x xs ≡ true
 Has-there xs x h = list_any-Has (λ y. y == x) xs x (eq-eqb x x refl) h
 
-pub once_pairs : (xs : List ℕ) → StandsOnce xs → Pairs (λ x y. x ≢ y) xs
+pub once_pairs : (xs : List ℕ) → AreDistinct xs → Pairs (λ x y. x ≢ y) xs
 once_pairs [] once = tt
 once_pairs (x ∷ xs) once = (
   λ y h e. let out = (once [] xs x refl).1 in let there = Has-there xs y h in grind arith,
   once_pairs xs (λ before after p is. let both = once (x ∷ before) after p (ap (λ l. x ∷ l) is) in grind arith),
 )
 
-pub pairs_once : (xs : List ℕ) → Pairs (λ x y. x ≢ y) xs → StandsOnce xs
+pub pairs_once : (xs : List ℕ) → Pairs (λ x y. x ≢ y) xs → AreDistinct xs
 pairs_once xs pairs before after p is =
     let all : Pairs (λ x y. x ≢ y) (before ++ p ∷ after) = subst (Pairs (λ x y. x ≢ y)) is pairs in (
       list_any-absent (λ y. y == p) before (λ y h. ne_eqb y p (Pairs-across (λ x y. x ≢ y) before (p ∷ after) all y p h (inl refl))),
@@ -110,7 +110,7 @@ pairs_once xs pairs before after p is =
         false_from_ne_true (list_any test ys) (λ t. let found = list_any-found test ys t in both_ways (test found.0) (f found.0 found.1) found.2)
 
 -- one more that is not there
-pub stands_last : (xs : List ℕ) (p : ℕ) → is_there p xs ≡ false → StandsOnce xs → StandsOnce (xs ++ p ∷ [])
+pub stands_last : (xs : List ℕ) (p : ℕ) → is_there p xs ≡ false → AreDistinct xs → AreDistinct (xs ++ p ∷ [])
 stands_last xs p out once =
     pairs_once (xs ++ p ∷ [])
     (Pairs-append (λ x y. x ≢ y) xs (p ∷ []) (once_pairs xs once) (λ y h. absurd h, tt) (λ x y h k e.
@@ -146,44 +146,44 @@ unfolding drop_first
 drop_left t p [] isnt = refl
 drop_left t p (x ∷ xs) isnt = grind (arith, drop_left t p xs)
 
--- the same of the list without a place
+-- the same of the list without a slot
 module _ (p : ℕ) (xs : List ℕ) where
-  pub without_other : (q : ℕ) → q ≢ p → is_there q (without_place xs p) ≡ is_there q xs
+  pub without_other : (q : ℕ) → q ≢ p → is_there q (without_slot xs p) ≡ is_there q xs
   without_other q ne = ap (is_there q) (without_is p xs) ∙ drop_other p q xs ne
 
-  pub without_gone : StandsOnce xs → is_there p (without_place xs p) ≡ false
+  pub without_gone : AreDistinct xs → is_there p (without_slot xs p) ≡ false
   without_gone once = ap (is_there p) (without_is p xs) ∙ drop_gone p xs (once_to xs once)
 
-  pub without_once : StandsOnce xs → StandsOnce (without_place xs p)
-  without_once once = pairs_once (without_place xs p) (Sub-Pairs (λ x y. x ≢ y) (Sub-remove xs _) (once_pairs xs once))
+  pub without_once : AreDistinct xs → AreDistinct (without_slot xs p)
+  without_once once = pairs_once (without_slot xs p) (Sub-Pairs (λ x y. x ≢ y) (Sub-remove xs _) (once_pairs xs once))
 
-  pub without_length : is_there p xs ≡ true → length (without_place xs p) + 1 ≡ length xs
+  pub without_length : is_there p xs ≡ true → length (without_slot xs p) + 1 ≡ length xs
   without_length h = ap (λ l. length l + 1) (without_is p xs) ∙ drop_length p xs h
 
-  pub without_kept : (t : ℕ → Bool) → t p ≡ true → filter t (without_place xs p) ≡ without_place (filter t xs) p
+  pub without_kept : (t : ℕ → Bool) → t p ≡ true → filter t (without_slot xs p) ≡ without_slot (filter t xs) p
   without_kept t is = ap (filter t) (without_is p xs) ∙ drop_kept t p xs is ∙ sym (without_is p (filter t xs))
 
-  pub without_left : (t : ℕ → Bool) → t p ≡ false → filter t (without_place xs p) ≡ filter t xs
+  pub without_left : (t : ℕ → Bool) → t p ≡ false → filter t (without_slot xs p) ≡ filter t xs
   without_left t isnt = ap (filter t) (without_is p xs) ∙ drop_left t p xs isnt
 
--- a list that begins with places that are not the one
+-- a list that begins with slots that are not the one
 pub position_past : (p k : ℕ) (xs : List ℕ) → k ≤ length xs → is_there p (take k xs) ≡ false
     → position_or_len (λ x. x == p) xs ≡ k + position_or_len (λ x. x == p) (drop k xs)
 position_past p zero xs le h = omega arith
 position_past p (suc k) [] le h = absurd (omega arith)
 position_past p (suc k) (x ∷ xs) le h = grind (arith, position_past p k xs)
 
--- the last place, where each stands once
+-- the last slot, where each stands once
 last_dropped : (p n d : ℕ) (xs : List ℕ) → Once xs → n + 1 ≡ length xs → get_or xs n d ≡ p → drop_first p xs ≡ take n xs
 unfolding drop_first Once
 last_dropped p n d [] once long is = absurd (omega arith)
 last_dropped p zero d (x ∷ xs) once long is = grind (arith, nil_from_length xs)
 last_dropped p (suc n) d (x ∷ xs) once long is = grind (arith, last_dropped p n d xs once.1, there_at xs n d, once)
 
-pub without_last : (p n d : ℕ) (xs : List ℕ) → StandsOnce xs → n + 1 ≡ length xs → get_or xs n d ≡ p → without_place xs p ≡ take n xs
+pub without_last : (p n d : ℕ) (xs : List ℕ) → AreDistinct xs → n + 1 ≡ length xs → get_or xs n d ≡ p → without_slot xs p ≡ take n xs
 without_last p n d xs once long is = without_is p xs ∙ last_dropped p n d xs (once_to xs once) long is
 
-pub stands_filter : (t : ℕ → Bool) (xs : List ℕ) → StandsOnce xs → StandsOnce (filter t xs)
+pub stands_filter : (t : ℕ → Bool) (xs : List ℕ) → AreDistinct xs → AreDistinct (filter t xs)
 stands_filter t xs once = pairs_once (filter t xs) (Sub-Pairs (λ x y. x ≢ y) (Sub-filter t xs) (once_pairs xs once))
 
 pub passed_on : (p from k : ℕ) (xs : List ℕ) → from + k ≤ length xs → is_there p (take (from + k - from) (drop from xs)) ≡ false
@@ -196,7 +196,7 @@ passed_on p from k xs le out is =
 count_cons : (t : ℕ → Bool) (x : ℕ) (xs : List ℕ) → length (filter t (x ∷ xs)) ≡ length (filter t xs) + one_if (t x)
 count_cons t x xs = grind arith
 
-pub count_changed : (t u : ℕ → Bool) (p : ℕ) (xs : List ℕ) → StandsOnce xs → is_there p xs ≡ true → ((x : ℕ) → x ≢ p → t x ≡ u x)
+pub count_changed : (t u : ℕ → Bool) (p : ℕ) (xs : List ℕ) → AreDistinct xs → is_there p xs ≡ true → ((x : ℕ) → x ≢ p → t x ≡ u x)
     → length (filter u xs) + one_if (t p) ≡ length (filter t xs) + one_if (u p)
 unfolding Once
 count_changed t u p xs once h same = go xs (once_to xs once) h
@@ -216,7 +216,7 @@ count_changed t u p xs once h same = go xs (once_to xs once) h
         ]
 
 pub count_without : (t : ℕ → Bool) (p : ℕ) (xs : List ℕ) → is_there p xs ≡ true
-    → length (filter t (without_place xs p)) + one_if (t p) ≡ length (filter t xs)
+    → length (filter t (without_slot xs p)) + one_if (t p) ≡ length (filter t xs)
 count_without t p xs h =
     grind (arith, without_kept p xs t, without_left p xs t, without_length p (filter t xs), filter_there t p xs)
 

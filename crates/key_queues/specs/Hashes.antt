@@ -12,7 +12,7 @@ use Rattle.key_queues.specs.declared.hash.TheConstants.{FACTORS, HASHES}
 abbrev pub wrapped_sum : ℕ → ℕ → ℕ
 wrapped_sum a b = (a + b) % 2 ^ 64
 
--- one of a text's numbers times the factor of its place, in 64 bits
+-- the i-th number of a text times the i-th factor, in 64 bits
 abbrev pub product_at : List ℕ → ℕ → ℕ
 product_at numbers i = (slice_index numbers i * slice_index FACTORS i) % 2 ^ 64
 

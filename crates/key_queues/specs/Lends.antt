@@ -1,11 +1,11 @@
--- What a shelf is once the loan of a request ends (this project's profile).
+-- What a slab of entries is once the loan of an entry ends (this project's profile).
 use Rattle.std.specs.Prelude.{ℕ}
 use Rattle.std.specs.Borrow.{Fml, Lends, MutBor, RattleType}
-use Rattle.key_queues.specs.Shelves.{Shelved, with_request}
-use Rattle.key_queues.specs.declared.filed.Filed.{Filed}
-use Rattle.key_queues.specs.contracts.filed.Filed.{the_row as filed_row}
-use Rattle.key_queues.specs.contracts.shelf.Shelf.{the_row}
+use Rattle.key_queues.specs.EntrySlabs.{SlabContents, with_request}
+use Rattle.key_queues.specs.declared.entry.Entry.{Entry}
+use Rattle.key_queues.specs.contracts.entry.Entry.{the_row as entry_row}
+use Rattle.key_queues.specs.contracts.entry_slab.EntrySlab.{the_row}
 
--- the place has what was left behind r, and all else is as it was
-abbrev pub lends_request : RattleType → MutBor Shelved → ℕ → MutBor Filed → Fml
-lends_request REQS s p r = Lends (the_row REQS) filed_row s r (with_request s.now p)
+-- the slot holds what r left behind, and all else is as it was
+abbrev pub lends_request : RattleType → MutBor SlabContents → ℕ → MutBor Entry → Fml
+lends_request REQS s p r = Lends (the_row REQS) entry_row s r (with_request s.now p)

@@ -6,9 +6,9 @@ pub mod Locks
 pub mod Laws
 pub mod Waking
 pub mod Hashes
-pub mod Opened
+pub mod LockUse
 pub mod Found
-pub mod Filing
+pub mod Entries
 pub mod Lends
-pub mod Shelves
+pub mod EntrySlabs
 pub mod Stores

@@ -12,7 +12,7 @@ unused_lock = record { key = unused_want.key; hash = 0; size = None; queue = no_
 abbrev pub lock_at : List Lock → ℕ → Lock
 lock_at locks n = slice_index_or locks n unused_lock
 
--- the want that stands in a queue
+-- that of a request's wants which is in a queue
 abbrev pub want_in : List ℕ → List Want → ℕ → Want
 want_in queues wants n = slice_index_or wants (position_or_len (λ m. m == n) queues) unused_want
 
@@ -22,8 +22,8 @@ with_queue locks n q = slice_set locks n (record (lock_at locks n) { queue = q }
 
 -- how many wants of a queue are not counted
 abbrev pub uncounted : KeptQueue → ℕ
-uncounted q = length q.places - q.fitting
+uncounted q = length q.slots - q.fitting
 
--- a queue without the want of a place
-abbrev pub without_place : KeptQueue → ℕ → Want → KeptQueue
-without_place q p w = without q (position_or_len (λ m. m == p) q.places) w
+-- a queue without the want of a slot
+abbrev pub without_slot : KeptQueue → ℕ → Want → KeptQueue
+without_slot q p w = without q (position_or_len (λ m. m == p) q.slots) w

@@ -1,4 +1,4 @@
-//! Numbers of open locks, by hashes of their keys.
+//! The numbers of locks in use, by the hashes of their keys.
 ghost use Rattle.std.specs.Prelude.{IfOk, ◌≡◌, ◌<◌, ℕ, length};
 ghost use Rattle.key_queues.specs.Found.{bucket_at, no_bucket, numbered, without_number};
 
@@ -7,18 +7,20 @@ use crate::queue::remove_at;
 use arrayvec::ArrayVec;
 use std::alloc::{AllocError, Global};
 
-/// How many numbers stand at a hash.
+/// How many numbers a bucket has room for.
 const ROOM: usize = 4;
 
-/// The numbers of open locks whose keys have one hash. Where there was no room for one, it is crowded.
+/// The numbers of locks in use whose keys have one hash. A bucket that had no room for one is crowded.
 #[derive(Drop)]
 pub struct Bucket {
+    /// The numbers, four at most.
     pub numbers: ArrayVec<u16, ROOM>,
+    /// Whether there was no room for one.
     pub crowded: bool,
 }
 
 impl Bucket {
-    /// Puts a number in, where there is room.
+    /// Puts a number in; where there is no room the bucket becomes crowded instead.
     pub fn put(&mut self, n: u16)
         ensures { self.new ≡ numbered self.old n }
     {
@@ -29,7 +31,7 @@ impl Bucket {
         }
     }
 
-    /// Takes a number out, where it is there.
+    /// Takes a number out, if it is there.
     pub fn take_out(&mut self, n: u16)
         ensures { self.new ≡ without_number self.old n }
     {
@@ -40,7 +42,7 @@ impl Bucket {
     }
 }
 
-/// So many buckets without numbers.
+/// A number of empty buckets.
 pub fn no_buckets(alloc: Global, count: usize) -> Result<Vec<Bucket>, AllocError>
     ensures long { IfOk result (λ buckets. length buckets.items ≡ count) }
     ensures none { IfOk result (λ buckets. (h : ℕ) → bucket_at buckets.items h ≡ no_bucket) }

@@ -1,8 +1,10 @@
-//! What a look-up of a key gives.
+//! The result of looking a key up.
 
-/// Where a key is looked for: its hash, and the number of its open lock, if there is one.
+/// The result of looking a key up: its hash, and the number of its lock in use, if there is one.
 #[derive(Clone, Copy, Default)]
 pub struct Found {
+    /// The hash of the key.
     pub hash: u16,
+    /// The number of its lock in use, if there is one.
     pub number: Option<u16>,
 }

@@ -1,4 +1,4 @@
-//! A number for each key, its hash.
+//! The hash of a key.
 ghost use Rattle.std.specs.Prelude.{◌≡◌, ◌<◌};
 ghost use Rattle.key_queues.specs.declared.hash.TheConstants.{HASHES};
 ghost use Rattle.key_queues.specs.Hashes.{hash_text, hash_of};
@@ -8,7 +8,7 @@ use lock_queue::{Key, NAME_NUMBERS, Name, NameText, Scope};
 /// How many hashes there are.
 pub const HASHES: usize = 8192;
 
-/// What the numbers that a name's text makes are multiplied by: odd, and without a pattern in their bits.
+/// The factors of the numbers that make up a name's text: odd, and without a pattern in their bits.
 const FACTORS: [u64; NAME_NUMBERS] = [
     0x9E37_79B9_7F4A_7C15,
     0xC2B2_AE3D_27D4_EB4F,
@@ -16,10 +16,10 @@ const FACTORS: [u64; NAME_NUMBERS] = [
     0xD6E8_FEB8_6659_FD93,
 ];
 
-/// The highest bits of a sum of 64 bits, as many as a hash has, are what is left when it is divided by this.
+/// Dividing a sum of 64 bits by this leaves its 13 highest bits, as many as a hash has.
 const LOWER: u64 = 1 << 51;
 
-/// A number made of a name's text, eight bytes at a time.
+/// The hash of a name's text, made of eight bytes at a time.
 #[inline]
 #[tactic(auto, unfolding(crate::specs::Hashes::hash_text))]
 fn hash_text(text: &NameText) -> u64
@@ -35,7 +35,7 @@ fn hash_text(text: &NameText) -> u64
     sum / LOWER
 }
 
-/// A number made of a key's scope and name.
+/// The hash of a key, made of its scope and name.
 #[inline]
 pub fn hash_of(key: &Key) -> u16
     ensures value { result ≡ hash_of key.now }

@@ -1,21 +1,21 @@
-//! What a lock table keeps: the requests, in the boxes of a slab, and for each key the queue of the places at
-//! which it is wanted, found by a hash of the key. How many wants from a queue's front on fit tells who is
-//! granted.
+//! What a lock table keeps: the requests, in the boxes of a slab, and for each key a queue of the slots whose
+//! requests want it, found by the hash of the key. A request is granted where each of its wants is among the
+//! first ones of its queue that fit.
 #![tactic(auto)]
 
 mod buckets;
-mod filed;
+mod entry;
+mod entry_slab;
 mod found;
 mod hash;
 mod keys;
 mod laws;
 mod lock;
-mod places;
 mod queue;
-mod shelf;
+mod slot_list;
 mod store;
 
-pub use filed::Filed;
+pub use entry::Entry;
 pub use found::Found;
 pub use keys::Keys;
 pub use laws::{

@@ -1,25 +1,29 @@
-//! What a table keeps of a key.
+//! A lock: what a table keeps of a key.
 ghost use Rattle.std.specs.Prelude.{◌≡◌};
 ghost use Rattle.key_queues.specs.Hashes.{hash_of};
 ghost use Rattle.key_queues.specs.Kept.{appended, no_queue};
 ghost use Rattle.key_queues.specs.Locks.{unused_lock};
-ghost use Rattle.key_queues.specs.Opened.{fresh_lock, is_closed, is_open_for};
+ghost use Rattle.key_queues.specs.LockUse.{fresh_lock, is_free, in_use_for};
 
 use crate::Queue;
 use lock_queue::{Key, Name, Scope, UserCode, Want};
 
-/// A key, its hash, the size of its pool, if it is one, and its queue.
+/// A key, its hash, the size of its pool, if it is one, and its queue. It is in use where its queue has wants,
+/// and else free: then it may become the lock of another key.
 #[derive(Drop)]
 pub struct Lock {
+    /// The key.
     pub key: Key,
-    /// The hash of its key.
+    /// The hash of the key.
     pub hash: u16,
+    /// The size of the pool, if its wants are of one.
     pub size: Option<u32>,
+    /// The queue of the wants of the key.
     pub queue: Queue,
 }
 
 impl Lock {
-    /// A lock that is not open.
+    /// A free lock.
     pub(crate) fn unused() -> Self
         ensures { result ≡ unused_lock }
     {
@@ -34,22 +38,22 @@ impl Lock {
         }
     }
 
-    /// Whether it is open and of a key.
-    pub(crate) fn is_open_for(&self, key: &Key) -> bool
-        ensures { result ≡ is_open_for key.now self.now }
+    /// Whether it is in use and of a key.
+    pub(crate) fn in_use_for(&self, key: &Key) -> bool
+        ensures { result ≡ in_use_for key.now self.now }
     {
-        !self.is_closed() && self.key.is_same(key)
+        !self.is_free() && self.key.is_same(key)
     }
 
-    /// Whether it is not open.
-    pub(crate) fn is_closed(&self) -> bool
-        ensures { result ≡ is_closed self.now }
+    /// Whether it is free.
+    pub(crate) fn is_free(&self) -> bool
+        ensures { result ≡ is_free self.now }
     {
         self.queue.as_slice().is_empty()
     }
 
-    /// Becomes that of a want's key, whose hash this is. The want alone stands in its queue, of the request at
-    /// this place.
+    /// Becomes the lock of a want's key, which has this hash. Its queue is that want alone, of the request in
+    /// slot `p`.
     pub(crate) fn begin(&mut self, p: u16, w: &Want, hash: u16)
         requires { hash ≡ hash_of w.now.key }
         ensures { self.new ≡ record (fresh_lock w.now) { queue = appended no_queue p w.now } }

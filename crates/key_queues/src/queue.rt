@@ -1,10 +1,11 @@
 //! The queue of one key.
-ghost use Rattle.std.specs.Prelude.{◌≡◌, ◌≤◌, ◌<◌, ◌+◌, ◌-◌, ◌^◌, ◌==◌, [], ℕ, Option, true, if◌then◌else◌, length, min, slice_index, take};
+ghost use Rattle.std.specs.Prelude.{◌≡◌, ◌≤◌, ◌<◌, ◌+◌, ◌-◌, ◌^◌, ◌==◌, [], ℕ};
+ghost use Rattle.std.specs.Prelude.{Option, true, if◌then◌else◌, length, min, slice_index, take};
 ghost use Rattle.std.specs.List.{position_or_len, remove};
 ghost use Rattle.word36.specs.declared.sizes.TheConstants.{JOBS};
 ghost use Rattle.lock_queue.specs.Queue.{amount_of};
 ghost use Rattle.key_queues.specs.Tables.{is_counted};
-ghost use Rattle.key_queues.specs.Locks.{want_in, without_place};
+ghost use Rattle.key_queues.specs.Locks.{want_in, without_slot};
 ghost use Rattle.key_queues.specs.Kept.{IsQueueOf, admitted, appended, counting, fits_last, fits_next, no_queue};
 
 use arrayvec::ArrayVec;
@@ -15,16 +16,16 @@ use word36::JOBS;
 /// How many wants of a key there may be: at most one of each job.
 const WANTS: usize = JOBS as usize;
 
-/// The wants of a key, by the places of their requests, in order of arrival. Those of the front fit,
-/// and no others.
+/// The wants of a key, by the slots of their requests, in order of arrival. The first ones of them fit, and
+/// the others do not.
 #[derive(Drop)]
 pub struct Queue {
-    places: ArrayVec<u16, WANTS>,
-    /// How many fit.
+    slots: ArrayVec<u16, WANTS>,
+    /// How many fit, as far as that is counted.
     fitting: usize,
-    /// What they take of the pool.
+    /// What those take of the pool.
     taken: u32,
-    /// Whether they are shared, where they have no pool, and their group.
+    /// Whether those are shared, where they are of no pool, and in which group.
     shared: bool,
     group: Group,
 }
@@ -36,9 +37,9 @@ impl Model for Queue {
 
     ghost Value = { KeptQueue };
 
-    ghost view = { λ q. record { places = q.places.items; fitting = q.fitting; taken = q.taken; shared = q.shared; group = q.group } };
+    ghost view = { λ q. record { slots = q.slots.items; fitting = q.fitting; taken = q.taken; shared = q.shared; group = q.group } };
 
-    ghost invariant = { λ q. (q.fitting ≤ length q.places.items) × (length q.places.items ≤ JOBS) × (q.taken < 2 ^ 18) };
+    ghost invariant = { λ q. (q.fitting ≤ length q.slots.items) × (length q.slots.items ≤ JOBS) × (q.taken < 2 ^ 18) };
 }
 
 /// What a want takes of its pool.
@@ -51,7 +52,7 @@ fn amount(w: &Want) -> u32
     }
 }
 
-/// Where a number stands in a list, or the list's length.
+/// The position of a number in a list, or the list's length.
 pub fn index_of(list: &[u16], n: u16) -> usize
     ensures { result ≡ position_or_len (λ m. m == n) list.now }
 {
@@ -63,7 +64,7 @@ pub fn index_of(list: &[u16], n: u16) -> usize
     list.len()
 }
 
-/// The want of a request that stands in a queue.
+/// That of a request's wants which is in a queue; `queues` has the queue of each.
 pub fn want_in<'a>(queues: &[u16], wants: &'a [Want], n: u16) -> &'a Want
     requires { position_or_len (λ m. m == n) queues.now < length wants.now }
     ensures { result.now ≡ want_in queues.now wants.now n }
@@ -71,7 +72,7 @@ pub fn want_in<'a>(queues: &[u16], wants: &'a [Want], n: u16) -> &'a Want
     &wants[index_of(queues, n)]
 }
 
-/// Takes the i-th number out of a list: those behind it move one place up.
+/// Removes the i-th number of a list; those behind it move up.
 pub fn remove_at<const N: usize>(list: &mut ArrayVec<u16, N>, i: usize)
     requires { i < length list.old.items }
     ensures { list.new.items ≡ remove list.old.items i }
@@ -84,13 +85,13 @@ pub fn remove_at<const N: usize>(list: &mut ArrayVec<u16, N>, i: usize)
 }
 
 impl Queue {
-    /// The queue of no wants.
+    /// An empty queue.
     pub fn new() -> Self
         ensures value { result ≡ no_queue }
         ensures queue { (size : Option ℕ) → IsQueueOf size [] result }
     {
         Queue {
-            places: ArrayVec::new(),
+            slots: ArrayVec::new(),
             fitting: 0,
             taken: 0,
             shared: false,
@@ -98,50 +99,50 @@ impl Queue {
         }
     }
 
-    /// Becomes the queue of no wants.
+    /// Empties the queue.
     pub fn clear(&mut self)
         ensures { self.new ≡ no_queue }
     {
-        self.places.clear();
+        self.slots.clear();
         self.fitting = 0;
         self.taken = 0;
         self.shared = false;
         self.group = Group::new(0);
     }
 
-    /// The places.
+    /// The slots.
     pub fn as_slice(&self) -> &[u16]
-        ensures value { result.now ≡ self.now.places }
+        ensures value { result.now ≡ self.now.slots }
         ensures few { length result.now ≤ JOBS }
     {
-        self.places.as_slice()
+        self.slots.as_slice()
     }
 
-    /// How many of the front fit.
+    /// How many wants are counted: the first ones, which fit.
     pub fn fitting(&self) -> usize
         ensures value { result ≡ self.now.fitting }
-        ensures most { result ≤ length self.now.places }
+        ensures most { result ≤ length self.now.slots }
     {
         self.fitting
     }
 
-    /// The i-th place.
-    pub fn place(&self, i: usize) -> u16
-        requires { i < length self.now.places }
-        ensures { result ≡ slice_index self.now.places i }
+    /// The i-th slot.
+    pub fn slot(&self, i: usize) -> u16
+        requires { i < length self.now.slots }
+        ensures { result ≡ slice_index self.now.slots i }
     {
-        self.places[i]
+        self.slots[i]
     }
 
-    /// Whether the want of a place is counted.
+    /// Whether the want of a slot is counted.
     #[inline(always)]
-    pub fn counts(&self, place: u16) -> bool
-        ensures { result ≡ is_counted self.now place }
+    pub fn counts(&self, slot: u16) -> bool
+        ensures { result ≡ is_counted self.now slot }
     {
-        index_of(&self.places.as_slice()[..self.fitting], place) < self.fitting
+        index_of(&self.slots.as_slice()[..self.fitting], slot) < self.fitting
     }
 
-    /// Whether a want of the key fits behind those that are counted.
+    /// Whether a want of the key fits behind those that are counted, as the next one.
     fn fits_next(&self, w: &Want) -> bool
         ensures value { result ≡ fits_next self.now w.now w.now.pool }
         ensures room { result ≡ true → self.now.taken + amount_of w.now < 2 ^ 18 }
@@ -152,42 +153,41 @@ impl Queue {
         }
     }
 
-    /// Whether a want of the key fits behind all.
+    /// Whether a want of the key fits behind all wants of the queue.
     pub fn fits_last(&self, w: &Want) -> bool
         ensures { result ≡ fits_last self.now w.now }
     {
-        self.fitting == self.places.len() && self.fits_next(w)
+        self.fitting == self.slots.len() && self.fits_next(w)
     }
 
-    /// A want of the key comes last, of the request at this place.
-    pub fn append(&mut self, place: u16, w: &Want)
-        requires { length self.old.places < JOBS }
-        ensures { self.new ≡ appended self.old place w.now }
+    /// Appends a want of the key, of the request in a slot, and counts it where it fits.
+    pub fn append(&mut self, slot: u16, w: &Want)
+        requires { length self.old.slots < JOBS }
+        ensures { self.new ≡ appended self.old slot w.now }
     {
-        let all_fit = self.fitting == self.places.len();
-        self.places.push(place);
+        let all_fit = self.fitting == self.slots.len();
+        self.slots.push(slot);
         if all_fit {
             self.let_in(w);
         }
     }
 
-    /// The want of a place, which stands there, leaves. What may fit for that is not yet counted: `let_in`
-    /// does so.
-    pub fn give_up(&mut self, place: u16, w: &Want)
-        requires { position_or_len (λ m. m == place) self.old.places < length self.old.places }
-        ensures { self.new ≡ without_place self.old place w.now }
+    /// Removes the want of a slot, which is in the queue. Wants that fit now are left to `let_in`.
+    pub fn give_up(&mut self, slot: u16, w: &Want)
+        requires { position_or_len (λ m. m == slot) self.old.slots < length self.old.slots }
+        ensures { self.new ≡ without_slot self.old slot w.now }
     {
-        let i = index_of(self.places.as_slice(), place);
-        remove_at(&mut self.places, i);
+        let i = index_of(self.slots.as_slice(), slot);
+        remove_at(&mut self.slots, i);
         if i < self.fitting {
             self.fitting -= 1;
             self.taken = self.taken.saturating_sub(amount(w));
         }
     }
 
-    /// Counts the first want that is not counted, where it fits.
+    /// Counts the first want that is not counted yet, if it fits; true if it does. `w` is that want.
     pub fn let_in(&mut self, w: &Want) -> bool
-        requires { self.old.fitting < length self.old.places }
+        requires { self.old.fitting < length self.old.slots }
         ensures value { result ≡ fits_next self.old w.now w.now.pool }
         ensures after { self.new ≡ (if result then admitted self.old w.now else self.old) }
     {
@@ -201,8 +201,8 @@ impl Queue {
         fits
     }
 
-    /// Counts k wants of the front, but no more than before, of the party of the first. What may fit beside those is
-    /// not yet counted: `let_in` does so.
+    /// Counts the first k wants, but no more than before; `first`, the first of them, says whether they are shared,
+    /// and their group. Further wants that fit are left to `let_in`.
     pub fn recount(&mut self, k: usize, first: &Want)
         ensures { self.new ≡ counting self.old (min k self.old.fitting) first.now }
     {

@@ -1,68 +1,71 @@
-//! The requests of a table.
+//! The entries of a table.
 ghost use Rattle.std.specs.Prelude.{ℕ, ◌≡◌, ◌<◌, ◌≤◌, [], length, true, false, IfOk};
 ghost use Rattle.word36.specs.declared.sizes.TheConstants.{JOBS, LOCKS_A_CALL};
-ghost use Rattle.key_queues.specs.Filing.{arrived, unused_filed, with_granted, with_more, with_told, with_want, without_want};
-ghost use Rattle.key_queues.specs.Stores.{blocked_of, filed_at, inserted, places_of, removed, with_filed};
-ghost use Rattle.key_queues.specs.Tables.{StandsOnce, is_there};
+ghost use Rattle.key_queues.specs.Entries.{arrived, unused_entry, with_granted, with_more, with_notified, with_want, without_want};
+ghost use Rattle.key_queues.specs.Stores.{blocked_of, entry_at, inserted, slots_of, removed, with_entry};
+ghost use Rattle.key_queues.specs.Tables.{AreDistinct, is_there};
 
-use crate::filed::{Filed, is_blocking, take_out};
-use crate::places::{Places, no_counts, no_lists, recount};
-use crate::shelf::Shelf;
+use crate::entry::{Entry, is_blocking, take_out};
+use crate::entry_slab::EntrySlab;
+use crate::slot_list::{SlotList, no_counts, no_lists, recount};
 use lock_queue::{Asking, Want};
 use std::alloc::{AllocError, Global};
 use std::marker::Model;
 use word36::JOBS;
 
-/// The requests of a table by their places, in order of arrival, with a list for each job. No memory
-/// is taken after `new`.
+/// The entries of a table by their slots; the order of arrival; for each job the slots of its requests, and by
+/// how many of them it waits. No memory is taken after `new`.
 #[derive(Drop)]
 pub struct Store<const REQS: usize> {
-    shelf: Shelf<REQS>,
-    order: Places<REQS>,
-    own: Vec<Places<REQS>>,
+    entry_slab: EntrySlab<REQS>,
+    /// The slots of all requests, in order of arrival.
+    order: SlotList<REQS>,
+    /// For each job, by its number, the slots of its requests.
+    own: Vec<SlotList<REQS>>,
+    /// For each job, by its number, by how many of its requests it waits.
     blocked: Vec<u16>,
 }
 
 impl<const REQS: usize> Model for Store<REQS> {
     ghost use Rattle.std.specs.Prelude.{map};
-    ghost use Rattle.key_queues.specs.Stores.{IsStored, Stored, filed_or};
+    ghost use Rattle.key_queues.specs.Stores.{IsStored, Stored, entry_or};
 
     ghost Value = { Stored };
 
-    ghost view = { λ s. record { filed = map filed_or s.shelf.slots; order = s.order } };
+    ghost view = { λ s. record { entries = map entry_or s.entry_slab.contents; order = s.order } };
 
-    ghost invariant = { λ s. IsStored REQS s.shelf.slots s.shelf.len s.order s.own.items s.blocked.items };
+    ghost invariant = { λ s. IsStored REQS s.entry_slab.contents s.entry_slab.len s.order s.own.items s.blocked.items };
 }
 
 impl<const REQS: usize> Store<REQS> {
-    /// A store without requests, with room for all. There is no memory for more than 1,024, nor where
-    /// the slab's capacity is another.
+    /// An empty store, with room for all. There is no memory for more than 1,024 requests, nor where the slab has
+    /// another capacity.
     pub fn new(alloc: Global) -> Result<Self, AllocError>
         ensures order { IfOk result (λ s. s.order ≡ []) }
-        ensures filed { IfOk result (λ s. (p : ℕ) → filed_at s p ≡ unused_filed) }
-        ensures long { IfOk result (λ s. length s.filed ≡ REQS) }
+        ensures entries { IfOk result (λ s. (p : ℕ) → entry_at s p ≡ unused_entry) }
+        ensures long { IfOk result (λ s. length s.entries ≡ REQS) }
     {
         Ok(Store {
             blocked: no_counts(alloc, JOBS as usize + 1)?,
-            order: Places::new(alloc)?,
+            order: SlotList::new(alloc)?,
             own: no_lists(alloc, JOBS as usize + 1)?,
-            shelf: Shelf::new(alloc)?,
+            entry_slab: EntrySlab::new(alloc)?,
         })
     }
 
-    /// The places of the requests that are present, in order of arrival.
+    /// The slots of the requests that are present, in order of arrival.
     pub fn order(&self) -> &[u16]
         ensures value { result.now ≡ self.now.order }
-        ensures once { StandsOnce self.now.order }
+        ensures once { AreDistinct self.now.order }
         ensures few { length self.now.order ≤ REQS }
     {
         self.order.as_slice()
     }
 
-    /// The places of a job's requests, in order of arrival.
+    /// The slots of a job's requests, in order of arrival.
     pub fn of_job(&self, job: u8) -> &[u16]
         requires { job ≤ JOBS }
-        ensures { result.now ≡ places_of self.now job }
+        ensures { result.now ≡ slots_of self.now job }
     {
         self.own[job as usize].as_slice()
     }
@@ -83,112 +86,112 @@ impl<const REQS: usize> Store<REQS> {
         self.order.as_slice().len()
     }
 
-    /// Whether a request is present at a place.
+    /// Whether there is a request in a slot.
     pub fn contains(&self, p: u16) -> bool
         ensures { result ≡ is_there p self.now.order }
     {
-        self.shelf.contains(p)
+        self.entry_slab.contains(p)
     }
 
-    /// The request at a place.
-    pub fn get(&self, p: u16) -> &Filed
+    /// The entry in a slot.
+    pub fn get(&self, p: u16) -> &Entry
         requires { is_there p self.now.order ≡ true }
-        ensures value { result.now ≡ filed_at self.now p }
-        ensures within { p < length self.now.filed }
+        ensures value { result.now ≡ entry_at self.now p }
+        ensures within { p < length self.now.entries }
         ensures small { p < REQS }
     {
-        self.shelf.get(p)
+        self.entry_slab.get(p)
     }
 
-    /// Takes in a request, which comes last and has no wants yet.
-    pub fn insert(&mut self, job: u8, asking: &Asking, told: bool) -> u16
+    /// Takes in a request, which comes last in the order of arrival and has no wants yet. Returns its slot.
+    pub fn insert(&mut self, job: u8, asking: &Asking, notified: bool) -> u16
         requires room { length self.old.order < REQS }
         requires job { job ≤ JOBS }
         ensures out { is_there result self.old.order ≡ false }
-        ensures within { result < length self.old.filed }
-        ensures value { self.new ≡ inserted self.old result (arrived job asking.now told) }
+        ensures within { result < length self.old.entries }
+        ensures value { self.new ≡ inserted self.old result (arrived job asking.now notified) }
     {
-        let place = self.shelf.insert(job, asking, told);
-        self.order.push(place);
-        self.own[job as usize].push(place);
+        let slot = self.entry_slab.insert(job, asking, notified);
+        self.order.push(slot);
+        self.own[job as usize].push(slot);
         let is = is_blocking(asking.kind);
         recount(&mut self.blocked, job, false, is);
-        place
+        slot
     }
 
-    /// Takes the request of a place out.
+    /// Removes the request of a slot.
     #[inline(always)]
     pub fn remove(&mut self, p: u16)
         requires { is_there p self.old.order ≡ true }
         ensures value { self.new ≡ removed self.old p }
-        ensures within { p < length self.old.filed }
+        ensures within { p < length self.old.entries }
     {
-        let filed = self.shelf.get(p);
-        let job = filed.request.job;
-        let was = filed.is_blocked();
-        self.shelf.remove(p);
+        let entry = self.entry_slab.get(p);
+        let job = entry.request.job;
+        let was = entry.is_blocked();
+        self.entry_slab.remove(p);
         self.order.take_out(p);
         self.own[job as usize].take_out(p);
         recount(&mut self.blocked, job, was, false);
     }
 
-    /// Sets whether the request of a place is granted.
+    /// Sets whether the request of a slot is granted, and corrects by how many requests its job waits.
     #[tactic(auto, using(crate::proofs::Keeps::number_small))]
     pub fn set_granted(&mut self, p: u16, granted: bool)
         requires { is_there p self.old.order ≡ true }
-        ensures value { self.new ≡ with_filed self.old p (with_granted (filed_at self.old p) granted) }
-        ensures within { p < length self.old.filed }
+        ensures value { self.new ≡ with_entry self.old p (with_granted (entry_at self.old p) granted) }
+        ensures within { p < length self.old.entries }
     {
-        let filed = self.shelf.get_mut(p);
-        let job = filed.request.job;
-        let was = filed.is_blocked();
-        filed.granted = granted;
-        let is = filed.is_blocked();
+        let entry = self.entry_slab.get_mut(p);
+        let job = entry.request.job;
+        let was = entry.is_blocked();
+        entry.granted = granted;
+        let is = entry.is_blocked();
         recount(&mut self.blocked, job, was, is);
     }
 
-    /// The job of the request at a place knows of its grant.
-    pub fn set_told(&mut self, p: u16)
+    /// Marks the grant of the request in a slot as notified.
+    pub fn set_notified(&mut self, p: u16)
         requires { is_there p self.old.order ≡ true }
-        ensures value { self.new ≡ with_filed self.old p (with_told (filed_at self.old p)) }
-        ensures within { p < length self.old.filed }
+        ensures value { self.new ≡ with_entry self.old p (with_notified (entry_at self.old p)) }
+        ensures within { p < length self.old.entries }
     {
-        self.shelf.get_mut(p).request.told = true;
+        self.entry_slab.get_mut(p).request.notified = true;
     }
 
-    /// The request of a place takes one more want, in a queue.
+    /// Appends a want to the request in a slot, and its queue to the entry's queues.
     pub fn push_want(&mut self, p: u16, w: &Want, n: u16)
         requires present { is_there p self.old.order ≡ true }
-        requires wants { length (filed_at self.old p).request.wants.items < LOCKS_A_CALL }
-        requires queues { length (filed_at self.old p).queues.items < LOCKS_A_CALL }
-        ensures value { self.new ≡ with_filed self.old p (with_more (filed_at self.old p) w.now n) }
-        ensures within { p < length self.old.filed }
+        requires wants { length (entry_at self.old p).request.wants.items < LOCKS_A_CALL }
+        requires queues { length (entry_at self.old p).queues.items < LOCKS_A_CALL }
+        ensures value { self.new ≡ with_entry self.old p (with_more (entry_at self.old p) w.now n) }
+        ensures within { p < length self.old.entries }
     {
-        let filed = self.shelf.get_mut(p);
-        filed.request.wants.push(*w);
-        filed.queues.push(n);
+        let entry = self.entry_slab.get_mut(p);
+        entry.request.wants.push(*w);
+        entry.queues.push(n);
     }
 
-    /// Takes the k-th want out of the request at a place.
+    /// Removes the k-th want of the request in a slot, and its queue from the entry's queues.
     pub fn take_want(&mut self, p: u16, k: usize)
         requires present { is_there p self.old.order ≡ true }
-        requires wants { k < length (filed_at self.old p).request.wants.items }
-        requires queues { k < length (filed_at self.old p).queues.items }
-        ensures value { self.new ≡ with_filed self.old p (without_want (filed_at self.old p) k) }
-        ensures within { p < length self.old.filed }
+        requires wants { k < length (entry_at self.old p).request.wants.items }
+        requires queues { k < length (entry_at self.old p).queues.items }
+        ensures value { self.new ≡ with_entry self.old p (without_want (entry_at self.old p) k) }
+        ensures within { p < length self.old.entries }
     {
-        let filed = self.shelf.get_mut(p);
-        take_out(&mut filed.queues, k);
-        take_out(&mut filed.request.wants, k);
+        let entry = self.entry_slab.get_mut(p);
+        take_out(&mut entry.queues, k);
+        take_out(&mut entry.request.wants, k);
     }
 
-    /// Writes another want over the k-th of the request at a place.
+    /// Writes another want over the k-th of the request in a slot.
     pub fn set_want(&mut self, p: u16, k: usize, w: &Want)
         requires present { is_there p self.old.order ≡ true }
-        requires wants { k < length (filed_at self.old p).request.wants.items }
-        ensures value { self.new ≡ with_filed self.old p (with_want (filed_at self.old p) k w.now) }
-        ensures within { p < length self.old.filed }
+        requires wants { k < length (entry_at self.old p).request.wants.items }
+        ensures value { self.new ≡ with_entry self.old p (with_want (entry_at self.old p) k w.now) }
+        ensures within { p < length self.old.entries }
     {
-        self.shelf.get_mut(p).request.wants[k] = *w;
+        self.entry_slab.get_mut(p).request.wants[k] = *w;
     }
 }

@@ -21,7 +21,7 @@ use Rattle.lock_laws.specs.Claims.{Claim, claim_of, claims_of, claims}
 use Rattle.lock_queue.proofs.Fitting.{eq-same_key, keys-apart}
 use Rattle.lock_queue.proofs.Lists.{Has, Has-left, Has-right, Has-filter, Has-flat_map, Pairs, Pairs-map, map-Has, flat_map-Has, list_all-Has, list_any-none}
 use Rattle.lock_queue.proofs.Refusing.{refuse_if-None, or_else-None}
-use Rattle.lock_laws.proofs.Places.{push-append, nil-append, split_Has}
+use Rattle.lock_laws.proofs.Positions.{push-append, nil-append, split_Has}
 use Rattle.lock_laws.proofs.Steps.{Ordered, Grows, stays, arrives}
 
 -- each want has passed behind the call's wants before it
@@ -153,10 +153,10 @@ module _ (size : ℕ) (requests : List Request) (job : ℕ) (wants : List Want) 
 
 module _ (size : ℕ) (requests : List Request) (job : ℕ) (asking : Asking) (wants : ArrayVec Want) where
   -- a request that has passed arrives, or does not stay
-  arrived : Passed size requests job wants.items → (told : Bool)
-      → Grows size job requests (with_arrival requests job asking told wants)
-  arrived p told =
-      arrives (request_of job asking told wants) refl
+  arrived : Passed size requests job wants.items → (notified : Bool)
+      → Grows size job requests (with_arrival requests job asking notified wants)
+  arrived p notified =
+      arrives (request_of job asking notified wants) refl
       (record { by = refl; room = p.room; own = own_claims size requests job wants.items p; behind = claims_behind size requests job wants.items p })
 
   step-not_granted : Passed size requests job wants.items → (k : EnqueueKind)

@@ -1,4 +1,4 @@
--- Which jobs are told in a circle.
+-- Which jobs are reported in a circle.
 use Rattle.std.proofs.Common.{◌≡◌, ◌≤◌, ◌<◌, ◌+◌, sym, subst, ℕ, zero, suc, Bool, true, false, not, ◌||◌, ◌==◌, nat_eq, nat_le, List, [], ◌∷◌, refl, arith}
 use Rattle.std.specs.List.{list_all, list_any}
 use Rattle.std.proofs.lemmas.Bool.{and_parts, both_ways, eqb-true, eqb-false, false_from_ne_true, leb-true}
@@ -13,7 +13,7 @@ use Rattle.lock_queue.proofs.Lists.{Has, Has-left, filter-Has, flat_map-Has, lis
 use Rattle.lock_queue.proofs.WellKept.{job_number}
 use Rattle.lock_laws.specs.Circles.{has_one_plain_want, is_plain, CirclesAreTold, PlainJobsAreInNoCircle}
 use Rattle.lock_laws.proofs.EveryChange.{safe_jobs_make_no_circle}
-use Rattle.lock_laws.proofs.Places.{some_found}
+use Rattle.lock_laws.proofs.Positions.{some_found}
 use Rattle.lock_laws.proofs.Walks.{is_among, ForJobs, circle-leads, leads-circle}
 
 -- a job's number is among them

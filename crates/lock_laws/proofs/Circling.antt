@@ -10,8 +10,8 @@ use Rattle.lock_laws.specs.Circles.{WaitsByLatest}
 use Rattle.lock_laws.proofs.CallSteps.{Step, grows, releases}
 use Rattle.lock_queue.proofs.Fitting.{granted_behind-fewer}
 use Rattle.lock_queue.proofs.Lists.{Has, Has-cases, map-Has}
-use Rattle.lock_laws.proofs.Places.{some-split, split_at, Has-drop, Has-slice_get, slice_get-split, slice_get-behind, take-split}
-use Rattle.lock_laws.proofs.Retold.{Retold, Retold-back, Retold-place, Retold-jobs}
+use Rattle.lock_laws.proofs.Positions.{some-split, split_at, Has-drop, Has-slice_get, slice_get-split, slice_get-behind, take-split}
+use Rattle.lock_laws.proofs.SameButNotified.{SameButNotified, SameButNotified-back, SameButNotified-position, SameButNotified-jobs}
 use Rattle.lock_laws.proofs.Steps.{Grows, stays, arrives, changes, Leaves, is_job_of, Releases-source, Releases-jobs}
 
 -- a request by which its job waits is the job's last
@@ -20,7 +20,7 @@ WaitsLast rs =
     (a b : List Request) (r : Request) → rs ≡ a ++ r ∷ b → is_blocking r.kind ≡ true → granted_behind a r ≡ false → (q : Request) → Has b q
     → q.job ≢ r.job
 
--- the places of a list with one more item
+-- the positions of a list with one more item
 push-split : {X : Type 0} (xs a b : List X) (q r : X) → xs ++ q ∷ [] ≡ a ++ r ∷ b
     → (b ≡ []) ⊎ ((m : List X) × (b ≡ m ++ q ∷ []) × (xs ≡ a ++ r ∷ m))
 push-split [] [] b q r is = inl (cc)
@@ -35,7 +35,7 @@ push-split (x ∷ xs) (y ∷ a) b q r is =
       | inr m ↦ inr (m.0, m.1, ap (λ l. x ∷ l) m.2 ∙ ap (λ u. u ∷ (a ++ r ∷ m.0)) same)
     ]
 
--- the places of a changed list
+-- the positions of a changed list
 record MapSplit {X Y : Type 0} (f : X → Y) (xs : List X) (a : List Y) (y : Y) (b : List Y) : Type 0 where
   before : List X
   item : X
@@ -59,7 +59,7 @@ map-split-behind f x xs z a y b same s = record {
   after_is = s.after_is;
 }
 
--- a place of a changed list comes from a place of the list
+-- a position of a changed list comes from a position of the list
 map-split : {X Y : Type 0} (f : X → Y) (xs : List X) (a : List Y) (y : Y) (b : List Y) → map f xs ≡ a ++ y ∷ b
     → MapSplit f xs a y b
 map-split f [] [] y b is = absurd (cc)
@@ -78,7 +78,7 @@ map-split f (x ∷ xs) (z ∷ a) y b is =
     let rest : map f xs ≡ a ++ y ∷ b = cc in
     map-split-behind f x xs z a y b same (map-split f xs a y b rest)
 
--- a job that does not wait may add a request; changes leave jobs in their places
+-- a job that does not wait may add a request; changes leave jobs in their positions
 waits-grows : {size : ℕ} (job : ℕ) (before after : List Request) → Grows size job before after → is_waiting_job before job ≡ false
     → WaitsLast before → WaitsLast after
 unfolding WaitsLast
@@ -137,16 +137,16 @@ unfolding WaitsLast
 waits-none [] b r is = absurd (cc)
 waits-none (x ∷ a) b r is = absurd (cc)
 
--- it does not look at what jobs were told
-pub waits-retold : (before after : List Request) → Retold before after → WaitsLast before → WaitsLast after
+-- it does not look at the grants of which jobs were notified
+pub waits-notified : (before after : List Request) → SameButNotified before after → WaitsLast before → WaitsLast after
 unfolding WaitsLast
-waits-retold before after s w a b r is blocking waits q h =
-    let p = Retold-place (Retold-back s) a b r is in
-    let from = Retold-jobs (Retold-back p.rest) q h in
+waits-notified before after s w a b r is blocking waits q h =
+    let p = SameButNotified-position (SameButNotified-back s) a b r is in
+    let from = SameButNotified-jobs (SameButNotified-back p.rest) q h in
     λ mine. w p.earlier p.later p.request p.is (subst (λ n. is_blocking n ≡ true) (sym p.kind) blocking) (p.granted ∙ waits) from.0 from.1
     (sym from.2 ∙ mine ∙ sym p.job)
 
--- a job waits by its latest request, by places
+-- a job waits by its latest request, by positions
 pub by_latest : (rs : List Request) → WaitsLast rs → WaitsByLatest rs
 unfolding WaitsLast
 by_latest rs w i j r s lt at_i at_j blocking waits =

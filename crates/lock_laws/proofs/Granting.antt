@@ -15,8 +15,8 @@ use Rattle.lock_laws.specs.Safe.{ExclusiveAlone, OwnersAgree, AllOrNone, FitsInF
 use Rattle.lock_queue.proofs.Fitting.{eq-same_key, names-found, wants_at-append, Has-wants_at, overtaken}
 use Rattle.lock_queue.proofs.Lists.{Has, Has-right, Has-map, Has-flat_map, Pairs, Pairs-both, Pairs-weaker, Sub, Sub-refl}
 use Rattle.lock_queue.proofs.Lists.{Sub-none, Sub-append, list_all-Has, sum-append, sum-cons, list_any-Has}
-use Rattle.lock_laws.proofs.Places.{Split, chosen-Has, Has-chosen, chosen_none, chosen_behind-append}
-use Rattle.lock_laws.proofs.Places.{slice_get-Has, between, push-append, nil-append, Has-middle}
+use Rattle.lock_laws.proofs.Positions.{Split, chosen-Has, Has-chosen, chosen_none, chosen_behind-append}
+use Rattle.lock_laws.proofs.Positions.{slice_get-Has, between, push-append, nil-append, Has-middle}
 use Rattle.lock_laws.proofs.Steps.{Ordered}
 use Rattle.lock_laws.proofs.Words.{Contains-Has, Has-Contains}
 

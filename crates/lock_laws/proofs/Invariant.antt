@@ -9,7 +9,7 @@ use Rattle.lock_laws.specs.Safe.{Safe}
 use Rattle.lock_laws.proofs.CallSteps.{Step, grows, releases, step_of}
 use Rattle.lock_laws.proofs.Granting.{alone, owners_agree, all_or_none, fits_in_front, no_overtaking}
 use Rattle.lock_queue.proofs.Lists.{Has, Pairs, Pairs-append, Pairs-joined, Pairs-weaker, Sub-Pairs, flat_map-append}
-use Rattle.lock_laws.proofs.Places.{nil-append}
+use Rattle.lock_laws.proofs.Positions.{nil-append}
 use Rattle.lock_laws.proofs.PoolSums.{pools_suffice}
 use Rattle.lock_laws.proofs.Steps.{Ordered, Grows, stays, arrives, changes, Leaves, is_job_of, Releases-claims, Releases-length}
 use Rattle.lock_laws.proofs.Telling.{told_alike}

@@ -5,7 +5,7 @@ use Rattle.std.proofs.lemmas.List.{map-append}
 use Rattle.lock_queue.specs.declared.call.LockCall.{LockCall}
 use Rattle.lock_queue.specs.declared.key.Key.{Key}
 use Rattle.lock_queue.specs.declared.request.Request.{Request}
-use Rattle.lock_queue.specs.Jobs.{is_blocking, is_not_blocked_where, is_pending, released, withdrawn_where, told_of}
+use Rattle.lock_queue.specs.Jobs.{is_blocking, is_not_blocked_where, is_pending, released, withdrawn_where, job_notified}
 use Rattle.lock_queue.specs.Queue.{all_wants, granted_behind, names, is_owner, owners, chosen_behind}
 use Rattle.lock_laws.specs.Owning.{owns, is_dequeue, KeepsOwners}
 use Rattle.lock_laws.proofs.CallSteps.{Step, grows, releases, step_of}
@@ -13,11 +13,11 @@ use Rattle.lock_laws.proofs.Departures.{releases-released}
 use Rattle.lock_queue.proofs.Fitting.{granted_behind-fewer, names-found}
 use Rattle.lock_queue.proofs.Lists.{Has, list_any-Has, list_any-found, Sub, Sub-refl, Sub-flat_map}
 use Rattle.lock_queue.proofs.WellKept.{Sub-chosen}
-use Rattle.lock_laws.proofs.Places.{Split, chosen-Has, Has-chosen, chosen-place}
-use Rattle.lock_laws.proofs.Retold.{Retold-told, Retold-place}
+use Rattle.lock_laws.proofs.Positions.{Split, chosen-Has, Has-chosen, chosen-position}
+use Rattle.lock_laws.proofs.SameButNotified.{SameButNotified-notified, SameButNotified-position}
 use Rattle.lock_laws.proofs.Steps.{Grows, stays, arrives, changes, Releases, is_job_of, Releases-target}
 
--- a granted request with a want of the key, and its place
+-- a granted request with a want of the key, and its position
 record Owning (requests : List Request) (job : ℕ) (key : Key) : Type 0 where
   request : Request
   split : Split requests request
@@ -108,14 +108,14 @@ owns-withdrawn requests waiters job key h =
     owns-at (withdrawn_where requests waiters) (chosen_behind (is_not_blocked_where waiters) [] a)
     (chosen_behind (is_not_blocked_where waiters) (a ++ o.request ∷ []) o.split.after) o.request job key
     (ap (chosen_behind (is_not_blocked_where waiters) []) o.split.is
-    ∙ chosen-place (is_not_blocked_where waiters) [] a o.split.after o.request stays) o.by o.named
+    ∙ chosen-position (is_not_blocked_where waiters) [] a o.split.after o.request stays) o.by o.named
     (granted_behind-fewer (chosen_behind (is_not_blocked_where waiters) [] a) a o.request o.request front (Sub-refl o.request.wants.items) o.granted)
 
--- telling a job changes no grant
-pub owns-told : (requests : List Request) (told job : ℕ) (key : Key) → owns requests job key ≡ true
-    → owns (told_of requests told) job key ≡ true
-owns-told requests told job key h =
+-- notifying a job changes no grant
+pub owns-notified : (requests : List Request) (notified job : ℕ) (key : Key) → owns requests job key ≡ true
+    → owns (job_notified requests notified) job key ≡ true
+owns-notified requests notified job key h =
     let o : Owning requests job key = owning requests job key h in
-    let p = Retold-place (Retold-told (is_pending told) [] requests) o.split.before o.split.after o.request o.split.is in
-    owns-at (told_of requests told) p.earlier p.later p.request job key p.is (p.job ∙ o.by) (ap (λ ws. names ws key) p.wants ∙ o.named)
+    let p = SameButNotified-position (SameButNotified-notified (is_pending notified) [] requests) o.split.before o.split.after o.request o.split.is in
+    owns-at (job_notified requests notified) p.earlier p.later p.request job key p.is (p.job ∙ o.by) (ap (λ ws. names ws key) p.wants ∙ o.named)
     (p.granted ∙ o.granted)

@@ -1,11 +1,11 @@
 pub mod Words
-pub mod Places
+pub mod Positions
 pub mod Steps
 pub mod Arrivals
 pub mod Departures
 pub mod Modifications
 pub mod CallSteps
-pub mod Retold
+pub mod SameButNotified
 pub mod Granting
 pub mod PoolSums
 pub mod Telling

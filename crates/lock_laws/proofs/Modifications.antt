@@ -18,7 +18,7 @@ use Rattle.lock_laws.specs.Claims.{Claim, claim_of, claims_of, claims}
 use Rattle.lock_queue.proofs.Refusing.{refuse_if-None, or_else-None}
 use Rattle.lock_queue.proofs.Fitting.{names-found, names-Has}
 use Rattle.lock_queue.proofs.Lists.{Has-map, Pairs, Pairs-map}
-use Rattle.lock_laws.proofs.Places.{push-append, nil-append}
+use Rattle.lock_laws.proofs.Positions.{push-append, nil-append}
 use Rattle.lock_laws.proofs.Steps.{Ordered, Changes, Grows, stays, changes}
 
 -- what a change of a want keeps

@@ -10,7 +10,7 @@ use Rattle.lock_laws.specs.Claims.{Claim, claim_of, claims}
 use Rattle.lock_laws.specs.Safe.{IsOneParty, OneParty}
 use Rattle.lock_laws.proofs.Granting.{Owner, owner, owners_agree, alone, kin, kin-no_pool, Has-claims}
 use Rattle.lock_laws.proofs.Invariant.{kept-safe}
-use Rattle.lock_laws.proofs.Places.{Split, slice_get-split, take-split, Has-middle}
+use Rattle.lock_laws.proofs.Positions.{Split, slice_get-split, take-split, Has-middle}
 use Rattle.lock_laws.proofs.Steps.{Ordered}
 use Rattle.lock_laws.proofs.Words.{Contains-Has}
 

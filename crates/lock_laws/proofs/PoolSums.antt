@@ -14,7 +14,7 @@ use Rattle.lock_laws.specs.Safe.{PoolsSuffice}
 use Rattle.lock_queue.proofs.Fitting.{eq-same_key, same_key-eq, names-found, wants_at-append}
 use Rattle.lock_laws.proofs.Granting.{Kin, kin}
 use Rattle.lock_queue.proofs.Lists.{Has, Has-map, flat_map-Has, filter-Has, Pairs, Pairs-left, Pairs-right, list_all-Has, sum-append, sum-cons}
-use Rattle.lock_laws.proofs.Places.{nil-append}
+use Rattle.lock_laws.proofs.Positions.{nil-append}
 use Rattle.lock_laws.proofs.Steps.{Ordered}
 use Rattle.lock_laws.proofs.Words.{Contains-Has}
 

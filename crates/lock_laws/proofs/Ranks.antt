@@ -1,4 +1,4 @@
--- Along a circle of plain jobs that wait, levels rise, or stay the same while the place in the list falls.
+-- Along a circle of plain jobs that wait, levels rise, or stay the same while the position in the list falls.
 use Rattle.std.proofs.Common.{◌≡◌, ◌≢◌, ◌<◌, ◌∙◌, sym, ap, subst, ℕ, true, false, not, ◌&&◌, ◌==◌, List, [], ◌∷◌, ◌++◌}
 use Rattle.std.proofs.Common.{length, ◌⊎◌, inl, inr, refl, arith, append_assoc, length-append}
 use Rattle.std.specs.List.{list_all, list_any}
@@ -15,16 +15,16 @@ use Rattle.lock_laws.proofs.Circling.{WaitsLast}
 use Rattle.lock_queue.proofs.Fitting.{same_key-eq}
 use Rattle.lock_laws.proofs.Granting.{Kin, kin, Has-claims}
 use Rattle.lock_queue.proofs.Lists.{Has, Has-filter, filter-Has, flat_map-Has, Pairs, Pairs-across, list_all-Has, list_any-found, flat_map-append}
-use Rattle.lock_laws.proofs.Places.{split_Has, some_found, Has-middle}
+use Rattle.lock_laws.proofs.Positions.{split_Has, some_found, Has-middle}
 use Rattle.lock_laws.proofs.Steps.{Ordered}
 
--- two places in one list: the same, the first before the second, or behind it
+-- two positions in one list: the same, the first before the second, or behind it
 data Compared {X : Type 0} (a : List X) (x : X) (b c : List X) (y : X) (d : List X) : Type 0 where
   at_one : length a ≡ length c → x ≡ y → Compared a x b c y d
   in_front : length a < length c → Has c x → Has b y → Compared a x b c y d
   in_back : Has d x → Compared a x b c y d
 
--- any two places compare
+-- any two positions compare
 compared : {X : Type 0} (a b c d : List X) (x y : X) → a ++ x ∷ b ≡ c ++ y ∷ d → Compared a x b c y d
 compared [] b [] d x y is = at_one refl (cc)
 compared [] b (z ∷ c) d x y is =
@@ -113,11 +113,11 @@ link rs job other waits plain h =
       behind = record { request = s.0; want = v.0; there = his.1; by = eqb-true s.0.job other his.0; has = s.2; key = same_key-eq v.0.key w.key at.0 };
     }
 
--- a place lies within its list
+-- a position lies within its list
 longer : {X : Type 0} (xs a b : List X) (x : X) → xs ≡ a ++ x ∷ b → length a < length xs
 longer xs a b x is = omega (arith, ap length is, length-append a (x ∷ b))
 
--- the level rises, or stays the same while the place falls
+-- the level rises, or stays the same while the position falls
 abbrev Rises : {rs : List Request} {j k : ℕ} → Waiting rs j → Waiting rs k → Type 0
 Rises w v = (w.want.level < v.want.level) ⊎ ((w.want.level ≡ v.want.level) × (length v.before < length w.before))
 

@@ -34,7 +34,7 @@ use Rattle.lock_laws.specs.Simple.{simple_arrival, simple_modify, simple_outcome
 use Rattle.lock_laws.specs.Simple.{simply_changed, simply_changed_want, simply_fits, simply_fits_beside, simply_granted, simply_granted_behind}
 use Rattle.lock_laws.specs.Simple.{some_simply_lost_behind, with_simple_changes}
 use Rattle.lock_laws.proofs.CallSteps.{Step, grows, releases, step_of}
-use Rattle.lock_laws.proofs.Places.{slice_get-Has}
+use Rattle.lock_laws.proofs.Positions.{slice_get-Has}
 use Rattle.lock_laws.proofs.Steps.{Grows, stays, arrives, changes, Releases-length, is_job_of}
 
 -- tests that say the same of each element say the same of a list
@@ -228,8 +228,8 @@ lost-simply before after (r ∷ rest) (s ∷ later) a b c d =
 -- a call leaves and answers the same
 module _ (size : ℕ) (rs : List Request) (b : BareAll rs) (job : ℕ) where
   module _ (asking : Asking) (wants : ArrayVec Want) (own : Bare wants.items) where
-    arrival-bare : (told : Bool) → BareAll (with_arrival rs job asking told wants)
-    arrival-bare told = bare-push rs (request_of job asking told wants) b own
+    arrival-bare : (notified : Bool) → BareAll (with_arrival rs job asking notified wants)
+    arrival-bare notified = bare-push rs (request_of job asking notified wants) b own
 
     not_granted-bare : (kind : EnqueueKind) → BareAll (not_granted rs (with_arrival rs job asking false wants) kind).requests
     not_granted-bare Blocking = arrival-bare false

@@ -19,7 +19,7 @@ pub record Arrives (size job : ℕ) (before : List Request) (r : Request) : Type
   pub own : Pairs Ordered (claims_of r)
   pub behind : (c d : Claim) → Has (claims before) c → Has (claims_of r) d → Ordered c d
 
--- each request stays in its place, with its job, its kind and its claims but for whether they are shared; each that is
+-- each request stays in its position, with its job, its kind and its claims but for whether they are shared; each that is
 -- granted stays granted
 pub record Changes (before : List Request) (f : Request → Request) : Type 0 where
   pub job : (r : Request) → (f r).job ≡ r.job

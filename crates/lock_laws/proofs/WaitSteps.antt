@@ -28,8 +28,8 @@ use Rattle.lock_laws.proofs.CallSteps.{Step, grows, releases, step_of}
 use Rattle.lock_laws.proofs.Departures.{releases-named, releases-all, releases-id}
 use Rattle.lock_queue.proofs.Fitting.{granted_behind-fewer}
 use Rattle.lock_queue.proofs.Lists.{Has, Has-cases, list_any-Has, list_any-found, filter-Has, map-Has, Has-right}
-use Rattle.lock_laws.proofs.Places.{some_found, some-split, nil-append, push-append}
-use Rattle.lock_laws.proofs.Retold.{Retold, Retold-back, Retold-place, Retold-jobs}
+use Rattle.lock_laws.proofs.Positions.{some_found, some-split, nil-append, push-append}
+use Rattle.lock_laws.proofs.SameButNotified.{SameButNotified, SameButNotified-back, SameButNotified-position, SameButNotified-jobs}
 use Rattle.lock_laws.proofs.Steps.{Grows, stays, arrives, changes, Changes, Leaves, is_job_of, Releases-source, Releases-jobs}
 
 -- what a waiting job's request is
@@ -86,12 +86,12 @@ waits-releases whose before after n s h =
           (granted_behind-fewer w.before o.earlier w.request o.request o.fewer o.wants t));
     })
 
--- nor does telling
-pub waits-retold : (before after : List Request) (n : ℕ) → Retold before after → is_waiting_job after n ≡ true
+-- nor does notifying
+pub waits-notified : (before after : List Request) (n : ℕ) → SameButNotified before after → is_waiting_job after n ≡ true
     → is_waiting_job before n ≡ true
-waits-retold before after n s h =
+waits-notified before after n s h =
     let w = waits_found after n h in
-    let p = Retold-place (Retold-back s) w.before w.after w.request w.is in
+    let p = SameButNotified-position (SameButNotified-back s) w.before w.after w.request w.is in
     found_waits before n (record {
       request = p.request;
       before = p.earlier;
@@ -102,7 +102,7 @@ waits-retold before after n s h =
       late = p.granted ∙ w.late;
     })
 
--- the places of a changed list
+-- the positions of a changed list
 record MapSplit {X Y : Type 0} (f : X → Y) (xs : List X) (a : List Y) (y : Y) (b : List Y) : Type 0 where
   before : List X
   item : X
@@ -255,8 +255,8 @@ jobs-from before after n from h =
 pub jobs-releases : (whose : ℕ → Type 0) (before after : List Request) (n : ℕ) → Leaves whose before after → has_job after n ≡ true → has_job before n ≡ true
 jobs-releases whose before after n s h = jobs-from before after n (Releases-jobs whose s) h
 
-pub jobs-retold : (before after : List Request) (n : ℕ) → Retold before after → has_job after n ≡ true → has_job before n ≡ true
-jobs-retold before after n s h = jobs-from before after n (Retold-jobs s) h
+pub jobs-notified : (before after : List Request) (n : ℕ) → SameButNotified before after → has_job after n ≡ true → has_job before n ≡ true
+jobs-notified before after n s h = jobs-from before after n (SameButNotified-jobs s) h
 
 jobs-grows : {size : ℕ} (caller : ℕ) (before after : List Request) (n : ℕ) → Grows size caller before after → has_job after n ≡ true
     → (has_job before n ≡ true) ⊎ (n ≡ caller)

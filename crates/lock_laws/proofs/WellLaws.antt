@@ -20,14 +20,14 @@ use Rattle.lock_queue.specs.Outcomes.{outcome, unless_refused, first_refusal}
 use Rattle.lock_queue.specs.Queue.{granted}
 use Rattle.lock_queue.specs.WellFormed.{is_in_range, shares_rightly, is_job, are_well_formed, is_call, names_locks, all_share_rightly}
 use Rattle.lock_queue.proofs.Refusing.{or_else-None}
-use Rattle.lock_queue.proofs.WellKept.{well-arrival, well-modify, well-named, well-all, well-id, well-released, well-withdrawn, well-told}
+use Rattle.lock_queue.proofs.WellKept.{well-arrival, well-modify, well-named, well-all, well-id, well-released, well-withdrawn, well-notified}
 use Rattle.lock_laws.specs.Kept.{is_in_range_call, WellFormednessIsKept}
 
 module _ (size : ℕ) (requests : List Request) (job : ℕ) (asking : Asking) (wants : ArrayVec Want)
     (well : are_well_formed requests ≡ true) where
   -- with a request that has passed the requests are well-formed
   abbrev StaysWell : Type 0
-  StaysWell = (told : Bool) → are_well_formed (with_arrival requests job asking told wants) ≡ true
+  StaysWell = (notified : Bool) → are_well_formed (with_arrival requests job asking notified wants) ≡ true
 
   well-not_granted : StaysWell → (k : EnqueueKind)
       → are_well_formed (not_granted requests (with_arrival requests job asking false wants) k).requests ≡ true
@@ -61,8 +61,8 @@ well-call size requests job (Enqueue asking wants) right range well =
     let parts = and_parts (is_job job) (names_locks (Enqueue asking wants) && all_share_rightly (Enqueue asking wants)) right in
     let asks = and_parts (nat_le 1 (length wants.items)) (list_all shares_rightly wants.items) parts.1 in
     let types = and_parts (nat_le (length wants.items) LOCKS_A_CALL) (list_all is_in_range wants.items) range in
-    well-enqueue size requests job asking wants well (λ passed told.
-    well-arrival requests job asking told wants parts.0 asks.0 asks.1 passed (leb-true (length wants.items) LOCKS_A_CALL types.0) types.1 well)
+    well-enqueue size requests job asking wants well (λ passed notified.
+    well-arrival requests job asking notified wants parts.0 asks.0 asks.1 passed (leb-true (length wants.items) LOCKS_A_CALL types.0) types.1 well)
 well-call size requests job (Modify wants) right range well = well-modify size requests job well wants
 well-call size requests job (DequeueNamed wants) right range well = well-named size requests job well wants
 well-call size requests job DequeueAll right range well = well-all size requests job well
@@ -73,5 +73,5 @@ well_formedness_is_kept size = record {
   by_calls = well-call size;
   by_releases = well-released;
   by_withdrawals = well-withdrawn;
-  by_telling = well-told;
+  by_notifying = well-notified;
 }

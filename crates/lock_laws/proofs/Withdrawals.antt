@@ -6,7 +6,7 @@ use Rattle.lock_queue.specs.Jobs.{is_blocked_where, is_not_blocked_where, withdr
 use Rattle.lock_queue.specs.Queue.{granted_behind, chosen_behind}
 use Rattle.lock_queue.proofs.Fitting.{granted_behind-fewer}
 use Rattle.lock_queue.proofs.Lists.{Sub, nil, skip, keep, Sub-refl, Sub-flat_map}
-use Rattle.lock_laws.proofs.Places.{Test, nil-append, push-append}
+use Rattle.lock_laws.proofs.Positions.{Test, nil-append, push-append}
 use Rattle.lock_laws.proofs.WaitSteps.{Waits, waits_found}
 use Rattle.lock_laws.specs.Waiting.{WithdrawingEndsWaits}
 

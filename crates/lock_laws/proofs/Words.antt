@@ -9,7 +9,7 @@ module _ {X : Type 0} where
   has_at (y ∷ xs) zero d lt = inl refl
   has_at (y ∷ xs) (suc k) d lt = inr (has_at xs k d (omega arith))
 
-  -- `Contains` and `AllPairs` go by places, `Has` and `Pairs` by recursion
+  -- `Contains` and `AllPairs` go by positions, `Has` and `Pairs` by recursion
   pub Contains-Has : (xs : List X) (x : X) → Contains xs x → Has xs x
   Contains-Has xs x c = subst (λ u. Has xs u) c.2 (has_at xs c.0 x c.1)
 

@@ -1,5 +1,6 @@
 -- What holds of the requests at every time (ENQ/DEQ of the TOPS-10 Monitor Calls Manual, in this project's profile).
-use Rattle.std.specs.Prelude.{◌≡◌, ℕ, ◌+◌, ◌^◌, ◌<◌, ◌≤◌, true, false, List, [], ◌∷◌, length, take, Some, None}
+use Rattle.std.specs.Prelude.{◌≡◌, ℕ, ◌+◌, ◌^◌, ◌<◌, ◌≤◌, true}
+use Rattle.std.specs.Prelude.{false, List, [], ◌∷◌, length, take, Some, None}
 use Rattle.std.specs.Prelude.{slice_get, sum_by, Contains, AllPairs, IsTrue, ◌⊎◌}
 use Rattle.lock_queue.specs.declared.key.Key.{Key}
 use Rattle.lock_queue.specs.declared.request.Request.{Request}
@@ -56,7 +57,7 @@ NoOvertaking requests =
 abbrev pub asker_bits : Status → ℕ
 asker_bits s = joined (left_bit 1 s.owns + left_bit 2 s.waits) 0
 
--- all askers are told the same of a key, but for those two bits
+-- the status words of a key are the same for all askers, but for those two bits
 pub record ToldAlike (requests : List Request) (key : Key) : Type 0 where
   pub first : ℕ
   pub second : ℕ

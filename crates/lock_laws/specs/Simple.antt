@@ -1,7 +1,8 @@
 -- The queue without groups and quotas, defined by itself: all who share agree, a change touches the bit for sharing
 -- alone, and a job may have as many requests as there is room for. Where no want has a group and each quota is above the
 -- size of the queue, the queue is this one (this project's profile).
-use Rattle.std.specs.Prelude.{◌≡◌, ℕ, ◌+◌, ◌≤◌, Bool, true, false, not, ◌==◌, ◌&&◌, ◌||◌, if◌then◌else◌, List, [], ◌∷◌, ◌++◌, length}
+use Rattle.std.specs.Prelude.{◌≡◌, ℕ, ◌+◌, ◌≤◌, Bool, true, false, not, ◌==◌, ◌&&◌}
+use Rattle.std.specs.Prelude.{◌||◌, if◌then◌else◌, List, [], ◌∷◌, ◌++◌, length}
 use Rattle.std.specs.Prelude.{map, Option, Some, None, Result, Ok, Err, take, slice_get, sum_by, nat_le, nat_lt}
 use Rattle.std.specs.List.{list_all, list_any}
 use Rattle.arrayvec.specs.ArrayVec.{ArrayVec}
@@ -23,7 +24,8 @@ use Rattle.lock_queue.specs.Jobs.{is_blocking, is_interrupt, waits_for}
 use Rattle.lock_queue.specs.Keys.{same_key}
 use Rattle.lock_queue.specs.Outcomes.{Outcome, outcome, unless_refused, refuse_if, or_else, first_refusal}
 use Rattle.lock_queue.specs.Pools.{PoolShare, share_of, is_right_share}
-use Rattle.lock_queue.specs.Queue.{all_wants, amount_of, chosen, is_pooled, names, owners, requests_of, some_behind, waiters, wants_at, wants_of}
+use Rattle.lock_queue.specs.Queue.{all_wants, amount_of, chosen, is_pooled, names, owners}
+use Rattle.lock_queue.specs.Queue.{requests_of, some_behind, waiters, wants_at, wants_of}
 use Rattle.lock_queue.specs.Uses.{pool_on}
 
 -- which wants fit and which requests are granted

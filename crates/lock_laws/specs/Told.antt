@@ -1,4 +1,4 @@
--- What all askers are told of a key (this project's profile).
+-- The status words of a key, for all askers (this project's profile).
 use Rattle.std.specs.Prelude.{◌≡◌, ℕ, ◌+◌, ◌^◌, ◌<◌, List, [], ◌∷◌}
 use Rattle.lock_queue.specs.declared.key.Key.{Key}
 use Rattle.lock_queue.specs.declared.request.Request.{Request}
@@ -9,4 +9,5 @@ use Rattle.lock_laws.specs.Safe.{asker_bits}
 abbrev pub AllAreToldTheSame : List Request → Key → Type 0
 AllAreToldTheSame requests key =
     (first : ℕ) × (second : ℕ) × (third : ℕ) × (first < 2 ^ 33)
-    × ((asker : ℕ) → words_of (status_of requests key asker) ≡ (asker_bits (status_of requests key asker) + first) ∷ second ∷ third ∷ [])
+    × ((asker : ℕ)
+    → words_of (status_of requests key asker) ≡ (asker_bits (status_of requests key asker) + first) ∷ second ∷ third ∷ [])

@@ -14,14 +14,14 @@ ghost use Rattle.lock_laws.specs.Waiting.{JobsAreKept, WaitingIsKept, Withdrawin
 
 use lock_queue::LockTable;
 
-/// After every beginning of a list of calls on an empty queue the requests are safe: an exclusive
-/// owner is alone, a pool is never overdrawn, a request owns all of its locks or none, and nobody
+/// After the first k calls of any list, for each k, on a queue that was empty, the requests are safe: an
+/// exclusive owner is alone, a pool is never overdrawn, a request owns all of its locks or none, and nobody
 /// overtakes.
 pub fn calls_are_safe()
     ensures { (size : ℕ) (calls : List (ℕ × CallView)) → AlwaysSafe size calls }
 {}
 
-/// What a job owns it loses by a dequeue of its own alone.
+/// A job loses what it owns only by a dequeue of its own.
 pub fn jobs_keep_their_locks()
     ensures { (size : ℕ) (calls : List (ℕ × CallView)) → AlwaysKeepsOwners size calls }
 {}
@@ -56,7 +56,7 @@ pub fn waits_are_by_latest()
     ensures circles { SafeJobsMakeNoCircle }
 {}
 
-/// No requests are safe and well-formed, and nobody waits by one.
+/// The empty list of requests is safe and well-formed, and no job waits.
 pub fn no_requests_are_safe()
     ensures safe { (size : ℕ) → Safe size [] }
     ensures latest { WaitsByLatest [] }
@@ -68,23 +68,23 @@ pub fn well_formedness_is_kept()
     ensures { (size : ℕ) → WellFormednessIsKept size }
 {}
 
-/// Nobody begins to wait but by a call of its own, nobody has requests that had none but by a call of
-/// its own, and a job whose wait is given up does not wait.
+/// A job begins to wait, or gets its first request, only by a call of its own; and a job whose wait is given
+/// up does not wait.
 pub fn waits_are_kept()
     ensures waiting { (size : ℕ) → WaitingIsKept size }
     ensures jobs { (size : ℕ) → JobsAreKept size }
     ensures withdrawals { WithdrawingEndsWaits }
 {}
 
-/// A request that arrives changes no grant of those before it; and after a call that is done the list
-/// is what is left of each request, which is what the grants of a call are worked out from.
+/// A request that arrives changes no grant of those before it; and after a call that is done the list is what
+/// the call leaves of each request, from which its grants are worked out.
 pub fn calls_leave_the_rest()
     ensures arrivals { ArrivalsGrantNobody }
     ensures left { (size : ℕ) → ListIsWhatIsLeft size }
 {}
 
-/// Exactly those jobs are told in a circle from which a walk of waits, of whatever length, leads back;
-/// and where all present requests are those of plain jobs there is none.
+/// A job is reported in a circle exactly where a walk of waits, of whatever length, leads from it back to it;
+/// and where all present requests are those of plain jobs, no job is.
 pub fn circles_are_told()
     ensures told { CirclesAreTold }
     ensures plain { PlainJobsAreInNoCircle }
@@ -99,7 +99,8 @@ pub fn queue_without_groups_is_simple()
     ensures spelling { SpellingIsSimple }
 {}
 
-/// All jobs are told the same of a key of any table, but for the two bits that speak of the asker.
+/// The status words of a key, of any table, are the same for all jobs that ask, but for the two bits on the
+/// asking job itself.
 pub fn askers_are_told_alike<L: LockTable>(table: &L)
     ensures { (key : KeyView) → AllAreToldTheSame (L.requests table.now) key }
 {}

@@ -1,4 +1,4 @@
-//! Calls on a table, with what holds all along.
+//! A list of calls on a table, and what holds after each of them.
 ghost use Rattle.std.specs.Prelude.{◌≡◌, [], length, IsTrue};
 ghost use Rattle.std.specs.List.{list_all};
 ghost use Rattle.lock_queue.specs.Calls.{replies_to, requests_after};
@@ -7,9 +7,9 @@ ghost use Rattle.lock_laws.specs.Runs.{AlwaysKeepsOwners, AlwaysSafe, CallersAre
 
 use lock_queue::{LockCall, LockReply, LockTable, run_calls};
 
-/// Empties the table, makes a list of calls in turn, each with its job, and writes each answer.
+/// Empties the table, makes a list of calls, one after the other, each with its job, and writes each answer.
 pub fn run_safely<L: LockTable>(table: &mut L, calls: &[(u8, LockCall)], replies: &mut [LockReply])
-    requires places { length calls.now ≡ length replies.old }
+    requires positions { length calls.now ≡ length replies.old }
     requires calls { IsTrue (list_all (λ c. is_call c.0 c.1) calls.now) }
     ensures requests { L.requests table.new ≡ requests_after L.REQS [] calls.now }
     ensures replies { replies.new ≡ replies_to L.REQS [] calls.now }

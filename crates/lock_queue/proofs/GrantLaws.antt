@@ -18,7 +18,7 @@ use Rattle.lock_queue.specs.declared.want.Want.{Want}
 use Rattle.lock_queue.specs.Calls.{outcome_of}
 use Rattle.lock_queue.specs.Changes.{changed, with_changes}
 use Rattle.lock_queue.specs.Dequeues.{has_wants, without_keys, without_keys_of, without_named, is_of_job, has_id}
-use Rattle.lock_queue.specs.Grants.{staying_if, left_of, is_told_of, grant_of, is_woken, unless_refused_grants, woken_by}
+use Rattle.lock_queue.specs.Grants.{staying_if, left_of, is_notified_of, grant_of, is_woken, unless_refused_grants, woken_by}
 use Rattle.lock_queue.specs.Enqueues.{arrival, not_granted, enqueue_refusal}
 use Rattle.lock_queue.specs.Jobs.{released}
 use Rattle.lock_queue.specs.Outcomes.{Outcome, outcome, unless_refused}
@@ -157,7 +157,7 @@ none-woken : (e rs : List Request) → chosen_behind (is_woken (λ r. Some r)) e
 none-woken e [] = refl
 none-woken e (r ∷ rs) =
     let here : is_woken (λ r. Some r) e r ≡ false =
-    ap (λ l. (is_told_of r.kind && not (granted_behind e r)) && granted_behind l r) (all-left e) ∙ never-both (is_told_of r.kind) (granted_behind e r) in
+    ap (λ l. (is_notified_of r.kind && not (granted_behind e r)) && granted_behind l r) (all-left e) ∙ never-both (is_notified_of r.kind) (granted_behind e r) in
     ap (λ b. cond b (r ∷ chosen_behind (is_woken (λ r. Some r)) (e ++ r ∷ []) rs) (chosen_behind (is_woken (λ r. Some r)) (e ++ r ∷ []) rs)) here
     ∙ none-woken (e ++ r ∷ []) rs
 

@@ -10,7 +10,7 @@ use Rattle.lock_queue.specs.declared.want.Want.{Want}
 use Rattle.lock_queue.specs.Keys.{same_key}
 use Rattle.lock_queue.specs.Queue.{all_wants, wants_at, amount_of}
 use Rattle.lock_queue.specs.StatusSteps.{with_owner, with_waiter}
-use Rattle.lock_queue.specs.StatusWords.{first_level, is_exclusive, standing}
+use Rattle.lock_queue.specs.StatusWords.{first_level, is_exclusive, status_from}
 
 list_any-append : {X : Type 0} (p : X → Bool) (xs ys : List X) → list_any p (xs ++ ys) ≡ (list_any p xs || list_any p ys)
 list_any-append p [] ys = refl
@@ -24,9 +24,9 @@ wants_at_cons : (r : Request) (rs : List Request) (key : Key)
     → wants_at (r ∷ rs) key ≡ filter (λ w. same_key w.key key) r.wants.items ++ wants_at rs key
 wants_at_cons r rs key = filter-append (λ w. same_key w.key key) r.wants.items (all_wants rs)
 
-pub standing_owner : (key : Key) (asker level : ℕ) (r : Request) (owning waiting : List Request)
-    → standing key asker level (r ∷ owning) waiting ≡ with_owner key asker r (standing key asker level owning waiting)
-standing_owner key asker level r owning waiting =
+pub status_with_owner : (key : Key) (asker level : ℕ) (r : Request) (owning waiting : List Request)
+    → status_from key asker level (r ∷ owning) waiting ≡ with_owner key asker r (status_from key asker level owning waiting)
+status_with_owner key asker level r owning waiting =
     rw (
       wants_at_cons r owning key,
       list_any-append is_exclusive (filter (λ w. same_key w.key key) r.wants.items) (wants_at owning key),
@@ -34,9 +34,9 @@ standing_owner key asker level r owning waiting =
       add-one,
     ) refl
 
-pub standing_waiter : (key : Key) (asker level : ℕ) (r : Request) (owning waiting : List Request)
-    → standing key asker level owning (r ∷ waiting) ≡ with_waiter asker r (standing key asker level owning waiting)
-standing_waiter key asker level r owning waiting = rw (add-one (length waiting)) refl
+pub status_with_waiter : (key : Key) (asker level : ℕ) (r : Request) (owning waiting : List Request)
+    → status_from key asker level owning (r ∷ waiting) ≡ with_waiter asker r (status_from key asker level owning waiting)
+status_with_waiter key asker level r owning waiting = rw (add-one (length waiting)) refl
 
 -- the first of two levels, if any
 abbrev pub first_of : Option ℕ → Option ℕ → Option ℕ

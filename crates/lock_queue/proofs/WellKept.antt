@@ -18,7 +18,7 @@ use Rattle.lock_queue.specs.Calls.{outcome_of}
 use Rattle.lock_queue.specs.Changes.{modify_fault, changed_group, changed_want, changed, with_changes}
 use Rattle.lock_queue.specs.Dequeues.{has_wants, with_wants, without_keys, without_keys_of, without_named, dequeue_where, is_of_job, has_id}
 use Rattle.lock_queue.specs.Enqueues.{enqueue_fault, request_of}
-use Rattle.lock_queue.specs.Jobs.{as_told, is_not_blocked_where, is_pending, released, told_behind, told_of, withdrawn_where}
+use Rattle.lock_queue.specs.Jobs.{as_notified, is_not_blocked_where, is_pending, released, notified_behind, job_notified, withdrawn_where}
 use Rattle.lock_queue.specs.Keys.{same_key}
 use Rattle.lock_queue.specs.Outcomes.{outcome, unless_refused, first_refusal}
 use Rattle.lock_queue.specs.Queue.{all_wants, chosen_behind, is_pooled, names, requests_of, wants_at, wants_of}
@@ -93,21 +93,21 @@ pub well-withdrawn : (requests : List Request) (waiters : ℕ → Bool) → are_
     → are_well_formed (withdrawn_where requests waiters) ≡ true
 well-withdrawn requests waiters h = well-sub requests _ (Sub-chosen (is_not_blocked_where waiters) [] requests) h
 
--- ---- who is told
+-- ---- who is notified
 
-well-told_behind : (test : List Request → Request → Bool) (e rs : List Request) → are_well_formed rs ≡ true
-    → are_well_formed (told_behind test e rs) ≡ true
-well-told_behind test e [] h = refl
-well-told_behind test e (r ∷ rs) h =
+well-notified_behind : (test : List Request → Request → Bool) (e rs : List Request) → are_well_formed rs ≡ true
+    → are_well_formed (notified_behind test e rs) ≡ true
+well-notified_behind test e [] h = refl
+well-notified_behind test e (r ∷ rs) h =
     let p = and_parts (is_well_formed r) (are_well_formed rs) h in
-    elim (test e r) as (λ b. are_well_formed (cond b (as_told r ∷ rs) (r ∷ told_behind test (e ++ r ∷ []) rs)) ≡ true) [
+    elim (test e r) as (λ b. are_well_formed (cond b (as_notified r ∷ rs) (r ∷ notified_behind test (e ++ r ∷ []) rs)) ≡ true) [
       | true ↦ and_from _ _ p.0 p.1
-      | false ↦ and_from _ _ p.0 (well-told_behind test (e ++ r ∷ []) rs p.1)
+      | false ↦ and_from _ _ p.0 (well-notified_behind test (e ++ r ∷ []) rs p.1)
     ]
 
-pub well-told : (requests : List Request) (job : ℕ) → are_well_formed requests ≡ true
-    → are_well_formed (told_of requests job) ≡ true
-well-told requests job h = well-told_behind (is_pending job) [] requests h
+pub well-notified : (requests : List Request) (job : ℕ) → are_well_formed requests ≡ true
+    → are_well_formed (job_notified requests job) ≡ true
+well-notified requests job h = well-notified_behind (is_pending job) [] requests h
 
 -- ---- wants that are given up
 
@@ -297,13 +297,13 @@ module _ (requests : List Request) (job : ℕ) where
       let q = parted e w ws rest.behind in
       record { behind = and_from _ _ (not-named e w named.0) q.0; among = and_from _ _ q.1 rest.among }
 
-  pub well-arrival : (asking : Asking) (told : Bool) (wants : ArrayVec Want) → is_job job ≡ true
+  pub well-arrival : (asking : Asking) (notified : Bool) (wants : ArrayVec Want) → is_job job ≡ true
       → nat_le 1 (length wants.items) ≡ true → list_all shares_rightly wants.items ≡ true
       → first_refusal (enqueue_fault requests job) [] wants.items ≡ None
       → length wants.items ≤ LOCKS_A_CALL → list_all is_in_range wants.items ≡ true → are_well_formed requests ≡ true
-      → are_well_formed (requests ++ request_of job asking told wants ∷ []) ≡ true
-  well-arrival asking told wants mine some unshared passed few range well =
-      let r : Request = request_of job asking told wants in
+      → are_well_formed (requests ++ request_of job asking notified wants ∷ []) ≡ true
+  well-arrival asking notified wants mine some unshared passed few range well =
+      let r : Request = request_of job asking notified wants in
       let p : Parts r = record {
         job = mine;
         some = some_wants (length wants.items) some;

@@ -1,4 +1,4 @@
--- What each call leaves of the list of requests, and what it answers (ENQ/DEQ of the TOPS-10 Monitor Calls Manual, in
+-- The list of requests after each call, and the call's answer (ENQ/DEQ of the TOPS-10 Monitor Calls Manual, in
 -- this project's profile).
 use Rattle.std.specs.Prelude.{ℕ, List, [], ◌∷◌}
 use Rattle.lock_queue.specs.declared.call.LockCall.{LockCall}

@@ -1,6 +1,7 @@
 -- Wants that are made shared or exclusive: ENQ. function 3 (ENQ/DEQ of the TOPS-10 Monitor Calls Manual, in this
 -- project's profile).
-use Rattle.std.specs.Prelude.{ℕ, Bool, true, false, not, ◌==◌, ◌&&◌, ◌||◌, if◌then◌else◌, List, [], ◌∷◌, ◌++◌, map, Option}
+use Rattle.std.specs.Prelude.{ℕ, Bool, true, false, not, ◌==◌, ◌&&◌, ◌||◌}
+use Rattle.std.specs.Prelude.{if◌then◌else◌, List, [], ◌∷◌, ◌++◌, map, Option}
 use Rattle.std.specs.List.{list_any}
 use Rattle.lock_queue.specs.declared.call.LockReply.TheVariants.{Done}
 use Rattle.lock_queue.specs.declared.refusal.Refusal.{Refusal}
@@ -20,13 +21,12 @@ modify_fault requests job earlier c =
     (or_else (refuse_if (not (names (wants_of requests job) c.key)) NotPresent)
     (refuse_if (c.shared && list_any is_pooled (wants_at (requests_of requests job) c.key)) BadPool))
 
--- the group of a want that is to be shared or not: one that becomes shared or exclusive gets group 0, and one that stays as
--- it was keeps its group
+-- the group of a want that a change makes shared or exclusive: its own where it is so already, and else group 0
 abbrev pub changed_group : Bool → Want → ℕ
 changed_group true w = if w.shared then w.group else 0
 changed_group false w = if w.shared then 0 else w.group
 
--- a want, shared or exclusive as the change of its key says, if there is one
+-- a want as the change of its key makes it, shared or exclusive, if there is one
 abbrev pub changed_want : List Want → Want → Want
 changed_want [] w = w
 changed_want (c ∷ later) w =
@@ -41,8 +41,8 @@ changed job changes r = if r.job == job then with_wants r (map (changed_want cha
 abbrev pub with_changes : List Request → ℕ → List Want → List Request
 with_changes requests job changes = map (changed job changes) requests
 
--- whether a request that is granted behind the first list is not granted, in its new form, behind the second; and so on
--- for the later ones
+-- two lists side by side, the second with the new forms of the first's requests: whether a request that is granted behind
+-- `before` is not granted, in its new form, behind `after`, or a later one loses its grant so
 abbrev pub some_lost_behind : List Request → List Request → List Request → List Request → Bool
 some_lost_behind before after [] later = false
 some_lost_behind before after (r ∷ rest) [] = false

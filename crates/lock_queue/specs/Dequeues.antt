@@ -40,7 +40,7 @@ dequeue_named requests job named =
     unless_refused requests (first_refusal (dequeue_fault requests job) [] named)
     (outcome (without_named requests job named) Done)
 
--- the requests for which a test holds leave, where there are any
+-- the requests for which a test holds leave; the call is refused where there are none
 abbrev pub dequeue_where : List Request → (Request → Bool) → Outcome
 dequeue_where requests test =
     if list_any test requests

@@ -1,12 +1,14 @@
 -- A request that arrives: ENQ. functions 0 to 2 (ENQ/DEQ of the TOPS-10 Monitor Calls Manual, in this project's
 -- profile).
-use Rattle.std.specs.Prelude.{ℕ, Bool, true, false, not, ◌==◌, ◌&&◌, ◌||◌, if◌then◌else◌, List, [], ◌∷◌, ◌++◌, length, Option, Some, None, nat_le}
+use Rattle.std.specs.Prelude.{ℕ, Bool, true, false, not, ◌==◌, ◌&&◌, ◌||◌, if◌then◌else◌}
+use Rattle.std.specs.Prelude.{List, [], ◌∷◌, ◌++◌, length, Option, Some, None, nat_le}
 use Rattle.std.specs.List.{list_all, list_any}
 use Rattle.arrayvec.specs.ArrayVec.{ArrayVec}
 use Rattle.lock_queue.specs.declared.call.Asking.{Asking}
 use Rattle.lock_queue.specs.declared.call.LockReply.TheVariants.{Granted, Queued, Refused}
 use Rattle.lock_queue.specs.declared.refusal.Refusal.{Refusal}
-use Rattle.lock_queue.specs.declared.refusal.Refusal.TheVariants.{NotGranted, Differs, LevelOrder, NamedAlready, QueueFull, NoVector, OverQuota}
+use Rattle.lock_queue.specs.declared.refusal.Refusal.TheVariants.{NotGranted, Differs, LevelOrder, NamedAlready}
+use Rattle.lock_queue.specs.declared.refusal.Refusal.TheVariants.{QueueFull, NoVector, OverQuota}
 use Rattle.lock_queue.specs.declared.request.EnqueueKind.{EnqueueKind}
 use Rattle.lock_queue.specs.declared.request.EnqueueKind.TheVariants.{Blocking, AtOnce, Interrupt}
 use Rattle.lock_queue.specs.declared.request.Request.{Request}
@@ -55,11 +57,11 @@ enqueue_refusal size requests job asking wants =
     (refuse_if (nat_le size (length requests)) QueueFull))))
 
 abbrev pub request_of : ℕ → Asking → Bool → ArrayVec Want → Request
-request_of job asking told wants = record { job = job; id = asking.id; kind = asking.kind; told = told; wants = wants }
+request_of job asking notified wants = record { job = job; id = asking.id; kind = asking.kind; notified = notified; wants = wants }
 
 -- a request that arrives goes last
 abbrev pub with_arrival : List Request → ℕ → Asking → Bool → ArrayVec Want → List Request
-with_arrival requests job asking told wants = requests ++ request_of job asking told wants ∷ []
+with_arrival requests job asking notified wants = requests ++ request_of job asking notified wants ∷ []
 
 -- a request that is not granted at once, by its kind: it waits; it does not stay; it stays, to be granted later
 abbrev pub not_granted : List Request → List Request → EnqueueKind → Outcome
@@ -67,8 +69,8 @@ not_granted requests with_it Blocking = outcome with_it Queued
 not_granted requests with_it AtOnce = outcome requests (Refused NotGranted)
 not_granted requests with_it Interrupt = outcome with_it (Refused NotGranted)
 
--- a request that is taken in: where it is granted at once, that is the answer, and the job need not be told of it by an
--- interrupt any more
+-- a request that is taken in: where it is granted at once, that is the answer, which also notifies the job: no interrupt
+-- does so later
 abbrev pub arrival : List Request → ℕ → Asking → ArrayVec Want → Outcome
 arrival requests job asking wants =
     if granted (with_arrival requests job asking false wants) (length requests)

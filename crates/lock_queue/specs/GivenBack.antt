@@ -1,6 +1,6 @@
--- The text of a name tells how it is kept.
+-- The bytes and the length of a name follow from its text.
 use Rattle.std.proofs.Common.{◌≡◌, ◌∙◌, ap, ℕ, ◌+◌, ◌-◌, ◌≤◌, List, length, take, arith}
-use Rattle.std.specs.Prelude.{min, replicate}
+use Rattle.std.specs.Prelude.{replicate}
 use Rattle.std.proofs.lemmas.List.{length-append, length-replicate, length-take}
 use Rattle.lock_queue.specs.Names.{filled_up}
 

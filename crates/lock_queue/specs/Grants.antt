@@ -28,20 +28,20 @@ left_of job (DequeueNamed named) r =
 left_of job DequeueAll r = staying_if (not (is_of_job job r)) r
 left_of job (DequeueId id) r = staying_if (not (has_id job id r)) r
 
--- a job is told of the grant of a request that waits, or that interrupts
-abbrev pub is_told_of : EnqueueKind → Bool
-is_told_of Blocking = true
-is_told_of AtOnce = false
-is_told_of Interrupt = true
+-- a job is notified of the grant of a request that waits, or that interrupts
+abbrev pub is_notified_of : EnqueueKind → Bool
+is_notified_of Blocking = true
+is_notified_of AtOnce = false
+is_notified_of Interrupt = true
 
 abbrev pub grant_of : Request → Grant
 grant_of r = record { job = r.job; id = r.id }
 
--- whether a job is told of a grant of this request: it is not granted, and what is left of it is granted behind what is
--- left of the requests before it
+-- whether a job is notified of a new grant of this request: it is not granted, and what is left of it is granted behind
+-- what is left of the requests before it
 abbrev pub is_woken : (Request → Option Request) → List Request → Request → Bool
 is_woken left earlier r =
-    (is_told_of r.kind && not (granted_behind earlier r)) && is_granted (filter_map left earlier) (left r)
+    (is_notified_of r.kind && not (granted_behind earlier r)) && is_granted (filter_map left earlier) (left r)
 
 -- the grants that are made where this is left of each request, in order of arrival
 abbrev pub woken : (Request → Option Request) → List Request → List Grant

@@ -1,6 +1,7 @@
--- What concerns the requests of one job: which leave, which wait, which are told (ENQ/DEQ of the TOPS-10 Monitor Calls
--- Manual, in this project's profile).
-use Rattle.std.specs.Prelude.{ℕ, ◌/◌, ◌%◌, ◌^◌, Bool, true, false, not, ◌==◌, ◌&&◌, ◌||◌, if◌then◌else◌, List, [], ◌∷◌, ◌++◌, Option, Some, None, filter}
+-- What concerns the requests of one job: which leave, which wait, of which it is notified (ENQ/DEQ of the TOPS-10
+-- Monitor Calls Manual, in this project's profile).
+use Rattle.std.specs.Prelude.{ℕ, ◌/◌, ◌%◌, ◌^◌, Bool, true, false, not, ◌==◌, ◌&&◌, ◌||◌}
+use Rattle.std.specs.Prelude.{if◌then◌else◌, List, [], ◌∷◌, ◌++◌, Option, Some, None, filter}
 use Rattle.std.specs.List.{list_any}
 use Rattle.lock_queue.specs.declared.request.EnqueueKind.{EnqueueKind}
 use Rattle.lock_queue.specs.declared.request.EnqueueKind.TheVariants.{Blocking, AtOnce, Interrupt}
@@ -33,7 +34,7 @@ released_where requests gone = filter (λ r. not (gone r.job)) requests
 abbrev pub released : List Request → ℕ → List Request
 released requests job = released_where requests (is_one job)
 
--- some jobs wait, each by a blocking request that is not granted; and one does
+-- whether one of some jobs waits by a request: it is blocking, and not granted; and the same of one job
 abbrev pub is_blocked_where : (ℕ → Bool) → List Request → Request → Bool
 is_blocked_where waiters earlier r = (waiters r.job && is_blocking r.kind) && not (granted_behind earlier r)
 
@@ -57,9 +58,9 @@ withdrawn requests job = withdrawn_where requests (is_one job)
 abbrev pub withdrawn_all : List Request → ℕ → List Request
 withdrawn_all requests jobs = withdrawn_where requests (is_among jobs)
 
--- a job's granted interrupt request of which it was not told yet
+-- a job's granted interrupt request of which it was not notified yet
 abbrev pub is_pending : ℕ → List Request → Request → Bool
-is_pending job earlier r = ((r.job == job && is_interrupt r.kind) && not r.told) && granted_behind earlier r
+is_pending job earlier r = ((r.job == job && is_interrupt r.kind) && not r.notified) && granted_behind earlier r
 
 -- the id of the first of some requests
 abbrev pub first_id : List Request → Option ℕ
@@ -70,19 +71,19 @@ first_id (r ∷ later) = Some r.id
 abbrev pub pending : List Request → ℕ → Option ℕ
 pending requests job = first_id (chosen (is_pending job) requests)
 
--- a request of which its job is told
-abbrev pub as_told : Request → Request
-as_told r = record r { told = true }
+-- a request of which its job is notified
+abbrev pub as_notified : Request → Request
+as_notified r = record r { notified = true }
 
--- the requests, the first for which the test holds being told
-abbrev pub told_behind : (List Request → Request → Bool) → List Request → List Request → List Request
-told_behind test earlier [] = []
-told_behind test earlier (r ∷ later) =
-    if test earlier r then as_told r ∷ later else r ∷ told_behind test (earlier ++ r ∷ []) later
+-- the requests, with the job notified of the first for which the test holds
+abbrev pub notified_behind : (List Request → Request → Bool) → List Request → List Request → List Request
+notified_behind test earlier [] = []
+notified_behind test earlier (r ∷ later) =
+    if test earlier r then as_notified r ∷ later else r ∷ notified_behind test (earlier ++ r ∷ []) later
 
--- the list when the job is told of its pending request
-abbrev pub told_of : List Request → ℕ → List Request
-told_of requests job = told_behind (is_pending job) [] requests
+-- the list once the job is notified of its pending request
+abbrev pub job_notified : List Request → ℕ → List Request
+job_notified requests job = notified_behind (is_pending job) [] requests
 
 -- an earlier want of a key stands in the way of a later one where it is of a pool or does not agree
 abbrev pub is_in_the_way : Want → Want → Bool

@@ -8,7 +8,7 @@ use Rattle.lock_queue.specs.declared.name.TheConstants.{NAME_BYTES}
 abbrev pub filled_up : List ℕ → List ℕ
 filled_up text = text ++ replicate (NAME_BYTES - length text) 0
 
--- the number that eight bytes make from a place on, of which the first counts least
+-- the eight bytes from an index on, as a number: the first is the lowest
 abbrev pub number_at : List ℕ → ℕ → ℕ
 number_at bytes i =
     from_le_bytes w64 (slice_index bytes i ∷ slice_index bytes (i + 1) ∷ slice_index bytes (i + 2) ∷ slice_index bytes (i + 3)

@@ -1,6 +1,7 @@
 -- Which wants fit and which requests are granted, worked out from the one list of requests in order of arrival
 -- (ENQ/DEQ of the TOPS-10 Monitor Calls Manual, in this project's profile).
-use Rattle.std.specs.Prelude.{ℕ, ◌+◌, Bool, false, not, ◌==◌, ◌&&◌, ◌||◌, if◌then◌else◌, List, [], ◌∷◌, ◌++◌, Option}
+use Rattle.std.specs.Prelude.{ℕ, ◌+◌, Bool, false, not, ◌==◌, ◌&&◌, ◌||◌}
+use Rattle.std.specs.Prelude.{if◌then◌else◌, List, [], ◌∷◌, ◌++◌, Option}
 use Rattle.std.specs.Prelude.{Some, None, is_some, take, filter, sum_by, slice_get, nat_le}
 use Rattle.std.specs.List.{list_all, list_any, flat_map}
 use Rattle.lock_queue.specs.declared.key.Key.{Key}
@@ -61,7 +62,7 @@ abbrev pub is_granted : List Request → Option Request → Bool
 is_granted earlier (Some r) = granted_behind earlier r
 is_granted earlier None = false
 
--- whether the request at the place i of the list is granted
+-- whether the request at the position i of the list is granted
 abbrev pub granted : List Request → ℕ → Bool
 granted requests i = is_granted (take i requests) (slice_get requests i)
 

@@ -1,8 +1,10 @@
 -- The codes of refusals (this project's profile).
 use Rattle.std.specs.Prelude.{ℕ}
 use Rattle.lock_queue.specs.declared.refusal.Refusal.{Refusal}
-use Rattle.lock_queue.specs.declared.refusal.Refusal.TheVariants.{NotGranted, NoFunction, BadBlock, BadCount, BadPointer, BadName, BadQualifier, BadPool}
-use Rattle.lock_queue.specs.declared.refusal.Refusal.TheVariants.{Differs, LevelOrder, NamedAlready, NotPresent, WouldLose, QueueFull, NoVector, OverQuota}
+use Rattle.lock_queue.specs.declared.refusal.Refusal.TheVariants.{NotGranted, NoFunction, BadBlock, BadCount}
+use Rattle.lock_queue.specs.declared.refusal.Refusal.TheVariants.{BadPointer, BadName, BadQualifier, BadPool}
+use Rattle.lock_queue.specs.declared.refusal.Refusal.TheVariants.{Differs, LevelOrder, NamedAlready, NotPresent}
+use Rattle.lock_queue.specs.declared.refusal.Refusal.TheVariants.{WouldLose, QueueFull, NoVector, OverQuota}
 use Rattle.lock_queue.specs.declared.refusal.Refusal.TheVariants.{TimedOut, NoSuchQuota}
 
 abbrev pub code_of : Refusal → ℕ

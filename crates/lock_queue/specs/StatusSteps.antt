@@ -1,4 +1,4 @@
--- How a status grows by one request, in front of the others: the steps of the private functions that work it out.
+-- A status with one more request, in front of the others: the steps of the private functions that work it out.
 use Rattle.std.specs.Prelude.{ℕ, ◌+◌, ◌-◌, ◌*◌, ◌^◌, ◌==◌, ◌||◌, Some, filter, sum_by}
 use Rattle.std.specs.List.{list_any}
 use Rattle.word36.specs.declared.sizes.TheConstants.{LOCKS_A_CALL}

@@ -1,5 +1,6 @@
--- What a job is told of a key: ENQC. function 0 (this project's profile).
-use Rattle.std.specs.Prelude.{ℕ, ◌+◌, ◌-◌, ◌^◌, Bool, not, ◌==◌, ◌&&◌, if◌then◌else◌, List, [], ◌∷◌, length, Option, Some, None, sum_by, unwrap_or}
+-- The status of a key: ENQC. function 0 (this project's profile).
+use Rattle.std.specs.Prelude.{ℕ, ◌+◌, ◌-◌, ◌^◌, Bool, not, ◌==◌, ◌&&◌, if◌then◌else◌}
+use Rattle.std.specs.Prelude.{List, [], ◌∷◌, length, Option, Some, None, sum_by, unwrap_or}
 use Rattle.std.specs.List.{list_any}
 use Rattle.word36.specs.Words.{joined}
 use Rattle.lock_queue.specs.declared.key.Key.{Key}
@@ -25,11 +26,11 @@ abbrev pub first_job : List Request → Option ℕ
 first_job [] = None
 first_job (r ∷ later) = Some r.job
 
--- what an asker is told of a key of this level that these requests own and these wait for: whether it owns it and waits
+-- the status of a key of this level that these requests own and these wait for: whether the asking job owns it and waits
 -- for it; whether an owner has it exclusively, without a pool; the level; the first owner; how many requests own it and
 -- wait for it; and how much of a pool its owners have
-abbrev pub standing : Key → ℕ → ℕ → List Request → List Request → Status
-standing key asker level owning waiting =
+abbrev pub status_from : Key → ℕ → ℕ → List Request → List Request → Status
+status_from key asker level owning waiting =
     record {
       owns = has_job owning asker;
       waits = has_job waiting asker;
@@ -44,10 +45,10 @@ standing key asker level owning waiting =
 abbrev pub level_of : List Request → Key → ℕ
 level_of requests key = unwrap_or (first_level (wants_at requests key)) 0
 
--- what an asker is told of a key, whose present wants all have the level of the first; without any the level is 0
+-- the status of a key for the job that asks. All present wants of a key have the level of the first; without any it is 0
 abbrev pub status_of : List Request → Key → ℕ → Status
 status_of requests key asker =
-    standing key asker (level_of requests key) (owners requests key) (waiters requests key)
+    status_from key asker (level_of requests key) (owners requests key) (waiters requests key)
 
 -- a flag in bit b of a word's left half
 abbrev pub left_bit : ℕ → Bool → ℕ

@@ -1,4 +1,4 @@
--- What stands in places that are not used (this project's profile).
+-- What unused slots and unused elements hold (this project's profile).
 use Rattle.std.specs.Prelude.{false, [], None}
 use Rattle.lock_queue.specs.declared.key.Scope.TheVariants.{All}
 use Rattle.lock_queue.specs.declared.name.Name.TheVariants.{Code}
@@ -12,4 +12,4 @@ unused_want = record { key = record { scope = All; name = Code 0 }; shared = fal
 
 -- a request of job 0 without wants
 abbrev pub unused_request : Request
-unused_request = record { job = 0; id = 0; kind = AtOnce; told = false; wants = record { items = [] } }
+unused_request = record { job = 0; id = 0; kind = AtOnce; notified = false; wants = record { items = [] } }

@@ -1,4 +1,4 @@
--- What a call wants of a lock that it spells, in a block or in a line of a script (this project's profile).
+-- What a call wants of a lock, as its block or its line in a script spells it (this project's profile).
 use Rattle.std.specs.Prelude.{ℕ, false, not, ◌==◌, ◌&&◌, Bool, if◌then◌else◌, Option, Some, None, Result, Ok, Err}
 use Rattle.lock_queue.specs.declared.key.Key.{Key}
 use Rattle.lock_queue.specs.declared.refusal.Refusal.{Refusal}

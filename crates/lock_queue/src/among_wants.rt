@@ -1,4 +1,4 @@
-//! What is found among the wants of one request.
+//! Questions about the wants of one request.
 ghost use Rattle.std.specs.Prelude.{◌≡◌, ◌+◌, ◌<◌, filter, nat_le, sum_by, MatchOption};
 ghost use Rattle.std.specs.List.{list_all, list_any};
 ghost use Rattle.lock_queue.specs.Enqueues.{same_pool_size, are_alike};
@@ -43,7 +43,8 @@ pub fn all_agree_in(wants: &[Want], w: &Want) -> bool
     true
 }
 
-/// The room that is left when these wants of the key have taken their amounts, if they find it.
+/// What is left of the room once these wants of the key have taken their amounts; `None` where they
+/// want more than there is.
 pub fn room_beside(wants: &[Want], key: &Key, room: u32) -> Option<u32>
     ensures { let taken = sum_by amount_of (filter (λ v. same_key v.key key.now) wants.now) in
         MatchOption result (room < taken) (λ left. left + taken ≡ room) }
@@ -59,7 +60,7 @@ pub fn room_beside(wants: &[Want], key: &Key, room: u32) -> Option<u32>
     Some(left)
 }
 
-/// Whether one of these wants that is of the key is of a pool.
+/// Whether one of these wants of the key is of a pool.
 pub fn is_pooled_in(wants: &[Want], key: &Key) -> bool
     ensures { result ≡ list_any is_pooled (filter (λ v. same_key v.key key.now) wants.now) }
 {
@@ -111,14 +112,15 @@ pub fn reach_level(wants: &[Want], level: Level) -> bool
     wants.iter().any(|v| level.number() <= v.level.number())
 }
 
-/// Whether an earlier want of a key stands in the way of a later one.
+/// Whether an earlier want of a key stands in the way of a later one: it is of a pool, or the two do not
+/// agree.
 fn is_in_the_way(v: &Want, w: &Want) -> bool
     ensures { result ≡ is_in_the_way v.now w.now }
 {
     is_pooled(v) || !agree(v, w)
 }
 
-/// Whether one of these wants that is of a want's key stands in its way.
+/// Whether one of these wants of a want's key stands in its way.
 pub fn some_in_the_way(wants: &[Want], w: &Want) -> bool
     ensures { result ≡ list_any (λ v. is_in_the_way v w.now)
         (filter (λ v. same_key v.key w.now.key) wants.now) }

@@ -1,15 +1,15 @@
-//! Calls on the queue, and what they answer.
+//! Calls on the queue, and their answers.
 
 use crate::{EnqueueKind, Refusal, RequestId, Wants};
 
-/// What a call that asks for locks says of its request, beside the locks.
+/// What a call says of the request that it enters, beside the locks.
 #[derive(Clone, Copy)]
 pub struct Asking {
     /// What the request does where it is not granted at once.
     pub kind: EnqueueKind,
-    /// The job's number for it.
+    /// The number that the job gives it.
     pub id: RequestId,
-    /// Whether the job can be interrupted, which a request of that kind needs.
+    /// Whether the job has an interrupt vector, which a request of kind `Interrupt` needs.
     pub armed: bool,
     /// How many requests the job may have.
     pub quota: u16,
@@ -20,7 +20,7 @@ pub struct Asking {
 pub enum LockCall {
     /// Ask for locks, all together (ENQ. functions 0 to 2).
     Enqueue {
-        /// What is said of the request.
+        /// What the call says of the request.
         asking: Asking,
         /// The locks.
         wants: Wants,
@@ -44,7 +44,7 @@ pub enum LockReply {
     Queued,
     /// The change or the release is made.
     Done,
-    /// The call is refused; where the refusal is that of an interrupt request that was not granted
-    /// at once the request stays, and otherwise nothing changed.
+    /// The call is refused and changed nothing; but an interrupt request that is not granted at once
+    /// (`NotGranted`) stays in the queue.
     Refused(Refusal),
 }

@@ -1,6 +1,6 @@
-//! Grants that a call makes, and who is told of them.
+//! The grants that a call makes, and which jobs are notified of them.
 ghost use Rattle.std.specs.Prelude.{◌≡◌};
-ghost use Rattle.lock_queue.specs.Grants.{is_told_of, grant_of};
+ghost use Rattle.lock_queue.specs.Grants.{is_notified_of, grant_of};
 
 use crate::{EnqueueKind, Request, RequestId};
 use arrayvec::ArrayVec;
@@ -18,7 +18,7 @@ pub struct Grant {
 /// The grants that a call makes, in order of arrival of their requests.
 pub type Woken = ArrayVec<Grant, MOST_REQUESTS>;
 
-/// A grant to job 0, which fills unused places.
+/// A grant to job 0: what the unused elements of a `Woken` hold.
 impl Default for Grant {
     ghost is_default = { λ grant. grant ≡ record { job = 0; id = 0 } };
 
@@ -30,9 +30,9 @@ impl Default for Grant {
     }
 }
 
-/// Whether a job is told of grants of this kind.
-pub fn is_told_of(kind: EnqueueKind) -> bool
-    ensures { result ≡ is_told_of kind }
+/// Whether a job is notified of the grant of a request of this kind: of one that waits or interrupts.
+pub fn is_notified_of(kind: EnqueueKind) -> bool
+    ensures { result ≡ is_notified_of kind }
 {
     match kind {
         EnqueueKind::Blocking | EnqueueKind::Interrupt => true,
@@ -40,7 +40,7 @@ pub fn is_told_of(kind: EnqueueKind) -> bool
     }
 }
 
-/// The grant of a request.
+/// A request's job and id, as a grant.
 pub fn grant_of(r: &Request) -> Grant
     ensures { result ≡ grant_of r.now }
 {

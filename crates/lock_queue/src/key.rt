@@ -4,19 +4,19 @@ ghost use Rattle.lock_queue.specs.Keys.{same_key};
 
 use crate::Name;
 
-/// Among whom a name is told apart: all jobs share it, or one job has it for itself.
+/// Who shares a name: all jobs, or one job has it for itself.
 #[derive(Clone, Copy, Debug, PartialEq, Eq)]
 pub enum Scope {
-    /// The name is that of all jobs.
+    /// All jobs share the name.
     All,
-    /// The name is that of this job alone.
+    /// This job has the name for itself.
     Job(u8),
 }
 
 /// What is locked: a name within a scope.
 #[derive(Clone, Copy, PartialEq, Eq)]
 pub struct Key {
-    /// Among whom the name is told apart.
+    /// Who shares the name.
     pub scope: Scope,
     /// The name.
     pub name: Name,

@@ -1,4 +1,4 @@
-//! Pools.
+//! Pools of things that are alike.
 ghost use Rattle.std.specs.Prelude.{◌≡◌, ◌≤◌, ◌<◌, ◌^◌, ◌↔◌, IsSome, IfSome, IsTrue};
 ghost use Rattle.lock_queue.specs.Pools.{is_right_share};
 
@@ -26,7 +26,8 @@ impl Model for Pool {
 }
 
 impl Pool {
-    /// So much of a pool of this size, where the amount is from 1 to the size and the size has 18 bits.
+    /// An amount of a pool of this size; `None` unless the amount is from 1 to the size and the size has
+    /// 18 bits.
     pub fn new(size: u32, amount: u32) -> Option<Self>
         ensures variant { IsSome result ↔ (1 ≤ amount) × (amount ≤ size) × (size < 2 ^ 18) }
         ensures value { IfSome result (λ p. p ≡ record { size = size; amount = amount }) }
@@ -56,7 +57,7 @@ impl Pool {
         self.amount
     }
 
-    /// So much of the same pool again.
+    /// A copy of the amount and the size.
     pub fn copied(&self) -> Self
         ensures value { result ≡ self.now }
         ensures right { IsTrue (is_right_share self.now) }

@@ -1,10 +1,10 @@
-//! Requests.
+//! Requests for locks.
 ghost use Rattle.std.specs.Prelude.{◌≡◌, ◌<◌, ◌^◌};
 
 use crate::Wants;
 use std::marker::Model;
 
-/// The number by which a job knows its request: 18 bits, and not needed to be its own.
+/// The number by which a job knows its request, of 18 bits. Several requests may have one number.
 #[derive(Clone, Copy, Debug, PartialEq, Eq)]
 pub struct RequestId {
     number: u32,
@@ -47,7 +47,7 @@ pub enum EnqueueKind {
     Blocking,
     /// The request does not stay (ENQ. function 1).
     AtOnce,
-    /// The job goes on, and is told of the grant by an interrupt (ENQ. function 2).
+    /// The job goes on, and an interrupt notifies it of the grant (ENQ. function 2).
     Interrupt,
 }
 
@@ -60,13 +60,13 @@ pub struct Request {
     pub id: RequestId,
     /// What it does where it is not granted at once.
     pub kind: EnqueueKind,
-    /// Whether the job knows of its grant, where that comes by an interrupt.
-    pub told: bool,
+    /// Whether the job was notified of its grant, where an interrupt does so.
+    pub notified: bool,
     /// The locks that it wants, all together.
     pub wants: Wants,
 }
 
-/// A request of job 0 without wants, which fills unused places.
+/// A request of job 0 without wants: what an unused slot holds.
 impl Default for Request {
     ghost use Rattle.std.specs.Prelude.{◌≡◌};
     ghost use Rattle.lock_queue.specs.Unused.{unused_request};
@@ -78,7 +78,7 @@ impl Default for Request {
             job: 0,
             id: RequestId::new(0),
             kind: EnqueueKind::AtOnce,
-            told: false,
+            notified: false,
             wants: Wants::new(),
         }
     }

@@ -1,4 +1,4 @@
-//! What is written over the wants of one request, changed in them, or taken out of them.
+//! How a request is written over another, and how its wants are changed or removed.
 ghost use Rattle.std.specs.Prelude.{◌≡◌, ◌≤◌, IsTrue, length, map};
 ghost use Rattle.std.specs.List.{list_all};
 ghost use Rattle.word36.specs.declared.sizes.TheConstants.{LOCKS_A_CALL};
@@ -10,44 +10,44 @@ ghost use Rattle.lock_queue.specs.WellFormed.{is_in_range};
 use crate::among_wants::names_key;
 use crate::{Asking, Group, Request, Want, Wants};
 
-/// Writes wants over others.
-fn write_wants(place: &mut Wants, wants: &Wants)
-    ensures value { place.new ≡ wants.now }
+/// Writes these wants over those of the target.
+fn write_wants(target: &mut Wants, wants: &Wants)
+    ensures value { target.new ≡ wants.now }
     ensures few { length wants.now.items ≤ LOCKS_A_CALL }
     ensures range { IsTrue (list_all is_in_range wants.now.items) }
 {
-    place.clear();
+    target.clear();
     for w in wants.as_slice() {
-        place.push(w.copied());
+        target.push(w.copied());
     }
 }
 
-/// Writes a request over another.
-pub fn write_request(place: &mut Request, job: u8, asking: &Asking, told: bool, wants: &Wants)
-    ensures value { place.new ≡ request_of job asking.now told wants.now }
+/// Writes a request over the target.
+pub fn write_request(target: &mut Request, job: u8, asking: &Asking, notified: bool, wants: &Wants)
+    ensures value { target.new ≡ request_of job asking.now notified wants.now }
     ensures few { length wants.now.items ≤ LOCKS_A_CALL }
     ensures range { IsTrue (list_all is_in_range wants.now.items) }
 {
-    place.job = job;
-    place.id = asking.id;
-    place.kind = asking.kind;
-    place.told = told;
-    write_wants(&mut place.wants, wants);
+    target.job = job;
+    target.id = asking.id;
+    target.kind = asking.kind;
+    target.notified = notified;
+    write_wants(&mut target.wants, wants);
 }
 
-/// Writes a request over another, like a third but with these wants.
-pub fn write_like(place: &mut Request, r: &Request, wants: &Wants)
-    ensures { place.new ≡ with_wants r.now wants.now.items }
+/// Writes a request like `r`, but with these wants, over the target.
+pub fn write_like(target: &mut Request, r: &Request, wants: &Wants)
+    ensures { target.new ≡ with_wants r.now wants.now.items }
 {
-    place.job = r.job;
-    place.id = r.id;
-    place.kind = r.kind;
-    place.told = r.told;
-    write_wants(&mut place.wants, wants);
+    target.job = r.job;
+    target.id = r.id;
+    target.kind = r.kind;
+    target.notified = r.notified;
+    write_wants(&mut target.wants, wants);
 }
 
-/// The group of a want that is to be shared or not: one that becomes shared or exclusive gets group 0,
-/// and one that stays as it was keeps its group.
+/// The group of a want that a change makes shared or exclusive: its own where it is so already, and else
+/// group 0.
 pub fn changed_group(shared: bool, w: &Want) -> Group
     ensures { result ≡ changed_group shared w.now }
 {
@@ -57,7 +57,8 @@ pub fn changed_group(shared: bool, w: &Want) -> Group
     }
 }
 
-/// A want, shared or exclusive as the change of its key says, if there is one.
+/// The want as the change of its key makes it, shared or exclusive; the want itself where no change is of
+/// its key.
 fn changed_want(changes: &[Want], w: &Want) -> Want
     ensures { result ≡ changed_want changes.now w.now }
 {
@@ -72,7 +73,7 @@ fn changed_want(changes: &[Want], w: &Want) -> Want
     *w
 }
 
-/// The wants, each shared or exclusive as the change of its key says, if there is one.
+/// The wants, each as the change of its key makes it, if there is one.
 pub fn changed_wants(changes: &[Want], wants: &Wants) -> Wants
     ensures { result.items ≡ map (changed_want changes.now) wants.now.items }
 {
@@ -83,7 +84,7 @@ pub fn changed_wants(changes: &[Want], wants: &Wants) -> Wants
     changed
 }
 
-/// Takes the wants of the named keys out of a request.
+/// Removes the wants of the named keys from a request.
 pub fn remove_keys(r: &mut Request, named: &[Want])
     ensures { r.new ≡ without_keys named.now r.old }
 {

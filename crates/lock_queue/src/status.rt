@@ -1,11 +1,11 @@
-//! What a job is told of a key.
+//! The status of a key.
 ghost use Rattle.std.specs.Prelude.{◌≡◌, ◌≤◌};
 ghost use Rattle.lock_queue.specs.StatusWords.{left_bit, words_of};
 
 use crate::Level;
 use word36::Word;
 
-/// What a job is told of a key (ENQC. function 0).
+/// The status of a key, for the job that asks (ENQC. function 0).
 #[derive(Clone, Copy, Debug, PartialEq, Eq)]
 pub struct Status {
     /// Whether the asking job owns it.

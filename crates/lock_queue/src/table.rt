@@ -5,7 +5,7 @@ ghost use Rattle.word36.specs.declared.sizes.TheConstants.{JOBS, MOST_REQUESTS};
 ghost use Rattle.lock_queue.specs.declared.request.Request.{Request as RequestView};
 ghost use Rattle.lock_queue.specs.Calls.{outcome_of, requests_after, replies_to};
 ghost use Rattle.lock_queue.specs.Grants.{woken_by, woken_by_release};
-ghost use Rattle.lock_queue.specs.Jobs.{released, withdrawn, withdrawn_all, is_waiting_job, pending, told_of, waits_for};
+ghost use Rattle.lock_queue.specs.Jobs.{released, withdrawn, withdrawn_all, is_waiting_job, pending, job_notified, waits_for};
 ghost use Rattle.lock_queue.specs.Queue.{granted};
 ghost use Rattle.lock_queue.specs.StatusWords.{status_of};
 ghost use Rattle.lock_queue.specs.WellFormed.{are_well_formed, is_call, names_locks, all_share_rightly};
@@ -29,10 +29,9 @@ pub trait LockTable: Drop {
         requires { (1 ≤ REQS) × (REQS ≤ MOST_REQUESTS) }
         ensures { IfOk result (λ table. requests table ≡ []) };
 
-    /// Makes one call of a job, whose number is from 1 to 63, and which asks for 1 to 16 locks where it
-    /// asks for locks or names them, and for no pool that is shared and no group other than 0 of a lock
-    /// that is not shared. A refused call changes no request; the only exception is an interrupt request
-    /// that is not granted at once, which stays.
+    /// Makes one call of a job, whose number is from 1 to 63. A call that asks for locks or names them has
+    /// 1 to 16 of them; none is a shared pool, and one that is not shared has group 0. A refused call
+    /// changes no request, but for an interrupt request that is not granted at once: it stays.
     fn call(&mut self, job: u8, call: &LockCall) -> LockReply
         requires job { (1 ≤ job) × (job ≤ JOBS) }
         requires named { IsTrue (names_locks call.now) }
@@ -43,8 +42,8 @@ pub trait LockTable: Drop {
 
     /// Makes one call in the same way, and fills in the grants that it makes: those of requests that
     /// were present and not granted before it, and are granted after it, in order of arrival. Requests
-    /// of ENQ. function 1 are left out, for nobody is told of their grants, and so is the request that
-    /// the call itself enters. A refused call makes no grants.
+    /// of ENQ. function 1 are left out, since no job is notified of their grants, and so is the request
+    /// that the call itself enters. A refused call makes no grants.
     fn call_waking(&mut self, job: u8, call: &LockCall, woken: &mut Woken) -> LockReply
         requires job { (1 ≤ job) × (job ≤ JOBS) }
         requires named { IsTrue (names_locks call.now) }
@@ -54,37 +53,37 @@ pub trait LockTable: Drop {
         ensures reply { result ≡ (outcome_of REQS (requests self.old) job call.now).reply }
         ensures woken { woken.new.items ≡ woken_by REQS (requests self.old) job call.now };
 
-    /// Takes out all requests of a job, as when it is gone.
+    /// Removes all requests of a job, as when the job ends.
     fn release(&mut self, job: u8)
         ensures { requests self.new ≡ released (requests self.old) job };
 
-    /// Takes out all requests of a job in the same way, and fills in the grants that this makes.
+    /// Removes all requests of a job in the same way, and fills in the grants that this makes.
     fn release_waking(&mut self, job: u8, woken: &mut Woken)
         ensures requests { requests self.new ≡ released (requests self.old) job }
         ensures woken { woken.new.items ≡ woken_by_release (requests self.old) job };
 
-    /// Takes out the requests by which a job waits.
+    /// Removes the requests by which a job waits: its blocking ones that are not granted.
     fn withdraw(&mut self, job: u8)
         ensures { requests self.new ≡ withdrawn (requests self.old) job };
 
-    /// Takes out the requests by which some jobs wait: job `j` where bit 2^j of `jobs` is set. All are
-    /// judged by the list before any of them left.
+    /// Removes the requests by which some jobs wait: job `j` where bit 2^j of `jobs` is set. All are
+    /// judged by the list as it is before the first is removed.
     fn withdraw_all(&mut self, jobs: u64)
         ensures { requests self.new ≡ withdrawn_all (requests self.old) jobs };
 
     /// Whether a job waits: it has a blocking request that is not granted.
-    fn waiting(&self, job: u8) -> bool
+    fn is_waiting(&self, job: u8) -> bool
         ensures { result ≡ is_waiting_job (requests self.now) job };
 
-    /// The id of the first granted interrupt request of a job of which it was not told.
+    /// The id of the job's first interrupt request that is granted and not marked as notified.
     fn pending(&self, job: u8) -> Option<RequestId>
         ensures { result ≡ pending (requests self.now) job };
 
-    /// Marks that request as told, and no other.
-    fn told(&mut self, job: u8)
-        ensures { requests self.new ≡ told_of (requests self.old) job };
+    /// Marks the request that `pending` gives as notified, and no other.
+    fn mark_notified(&mut self, job: u8)
+        ensures { requests self.new ≡ job_notified (requests self.old) job };
 
-    /// What a job is told of a key.
+    /// The status of a key, for the job that asks.
     fn status(&self, key: &Key, job: u8) -> Status
         ensures { result ≡ status_of (requests self.now) key.now job };
 
@@ -92,7 +91,7 @@ pub trait LockTable: Drop {
     fn len(&self) -> usize
         ensures { result ≡ length (requests self.now) };
 
-    /// The request at a place of the list, from 0 on.
+    /// The request at a position of the list, from 0 on.
     fn request(&self, i: usize) -> &Request
         requires { i < length (requests self.now) }
         ensures { slice_get (requests self.now) i ≡ Some result.now };
@@ -106,7 +105,7 @@ pub trait LockTable: Drop {
     fn waits_for(&self, job: u8, other: u8) -> bool
         ensures { result ≡ waits_for (requests self.now) job other };
 
-    /// Takes out all requests.
+    /// Removes all requests.
     fn clear(&mut self)
         ensures { requests self.new ≡ [] };
 
@@ -116,14 +115,14 @@ pub trait LockTable: Drop {
     /// No more requests are present than the table is made for.
     ghost few: { (table : Self) → length (requests table) ≤ REQS };
 
-    /// Each request is a job's, and has 1 to 16 wants of as many keys; levels have 9 bits, and a pool's
-    /// amount is from 1 to its size, of 18 bits, and not shared; a want that is not shared has group 0.
+    /// Each request is a job's, and has 1 to 16 wants, each of another key. A level has 9 bits. A pool is not
+    /// shared, and its amount is from 1 to its size, of 18 bits. A want that is not shared has group 0.
     ghost well: { (table : Self) → IsTrue (are_well_formed (requests table)) };
 }
 
-/// Makes a list of calls in turn, each with its job, and writes each answer.
+/// Makes a list of calls, one after the other, each with its job, and writes each answer.
 pub fn run_calls<L: LockTable>(table: &mut L, calls: &[(u8, LockCall)], replies: &mut [LockReply])
-    requires places { length calls.now ≡ length replies.old }
+    requires positions { length calls.now ≡ length replies.old }
     requires calls { IsTrue (list_all (λ c. is_call c.0 c.1) calls.now) }
     ensures requests { L.requests table.new ≡ requests_after L.REQS (L.requests table.old) calls.now }
     ensures replies { replies.new ≡ replies_to L.REQS (L.requests table.old) calls.now }

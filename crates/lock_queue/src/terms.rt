@@ -1,4 +1,4 @@
-//! What a call wants of a lock that it spells, in a block or in a line of a script.
+//! What a call wants of a lock, as its block or its line in a script spells it.
 ghost use Rattle.std.specs.Prelude.{◌≡◌, IsTrue, IfOk};
 ghost use Rattle.lock_queue.specs.Uses.{pool_on, want_on};
 ghost use Rattle.lock_queue.specs.WellFormed.{shares_rightly};
@@ -17,14 +17,14 @@ pub enum BlockUse {
     Named,
 }
 
-/// On what terms a lock is spelled; a pool need not make sense.
+/// The terms of a lock, as they are spelled. The pool may be wrong: `Want::on` refuses it then.
 #[derive(Clone, Copy, Debug, PartialEq, Eq)]
 pub struct Terms {
     /// Whether others who share may own it at the same time.
     pub shared: bool,
     /// Its group, where it is shared.
     pub group: Group,
-    /// Whether the rule of rising levels is not asked of it.
+    /// Whether it is exempt from the rule of rising levels.
     pub bypass: bool,
     /// Its level.
     pub level: Level,
@@ -35,7 +35,7 @@ pub struct Terms {
 }
 
 impl Terms {
-    /// The pool, if there is one: size 0 and amount 0 are none. `BadPool` where a lock that is not shared
+    /// The pool, if there is one: size 0 with amount 0 is none. `BadPool` where a lock that is not shared
     /// has a group other than 0, where a pool is shared, and where its size is 0 or has more than 18 bits,
     /// or its amount is 0 or above the size.
     fn pool(self) -> Result<Option<Pool>, Refusal>

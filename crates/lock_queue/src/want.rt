@@ -107,9 +107,9 @@ pub struct Want {
     pub key: Key,
     /// Whether others who share may own it at the same time.
     pub shared: bool,
-    /// Among which group of those who share, where it is shared, and else 0.
+    /// The group whose members share it; 0 where it is not shared.
     pub group: Group,
-    /// Whether the rule of rising levels is not asked of this want.
+    /// Whether it is exempt from the rule of rising levels.
     pub bypass: bool,
     /// Its level.
     pub level: Level,
@@ -138,7 +138,7 @@ impl Want {
     }
 }
 
-/// An exclusive want of the user code 0, which fills unused places.
+/// An exclusive want of the user code 0: what the unused elements of `Wants` hold.
 impl Default for Want {
     ghost use Rattle.std.specs.Prelude.{◌≡◌};
     ghost use Rattle.lock_queue.specs.Unused.{unused_want};

@@ -29,20 +29,20 @@ use Rattle.key_queues.specs.declared.lock.Lock.{Lock}
 use Rattle.key_queues.specs.Beginnings.{is_share_of}
 use Rattle.key_queues.specs.Locks.{lock_at}
 use Rattle.key_queues.specs.States.{IsUsed}
-use Rattle.key_queues.specs.Tables.{is_there, places_at}
-use Rattle.key_queues.proofs.Finding.{open_parts}
+use Rattle.key_queues.specs.Tables.{is_there, slots_at}
+use Rattle.key_queues.proofs.Finding.{in_use_parts}
 use Rattle.key_queues.proofs.Moves.{map_same}
 use Rattle.key_queues.proofs.Room.{room_for_one_more}
 use Rattle.key_queues.proofs.Using.{as_many_queues, there_kept}
-use Rattle.key_queues.specs.Stores.{Stored, filed_at}
-use Rattle.lock_table.specs.Filing.{state_of}
+use Rattle.key_queues.specs.Stores.{Stored, entry_at}
+use Rattle.lock_table.specs.TableStates.{state_of}
 use Rattle.lock_table.specs.Whole.{AreRight, IsWhole, JobsAreApart, requests_in, LevelsAgree, level_at}
 use Rattle.lock_table.specs.Reads.{request_at}
 use Rattle.lock_table.specs.Arrivals.{Admits, AdmitsFrom, AreShort}
 use Rattle.lock_table.proofs.Named.{passes_at}
 use Rattle.lock_table.proofs.Wholes.{well_from_right}
 use Rattle.lock_table.proofs.Altering.{there_Has, named_changed, own_changed}
-use Rattle.lock_table.proofs.Filing.{there_before}
+use Rattle.lock_table.proofs.Entries.{there_before}
 use Rattle.lock_queue.specs.Changes.{changed, changed_want}
 use Rattle.lock_queue.specs.Keys.{same_key}
 use Rattle.lock_queue.specs.StatusWords.{first_level}
@@ -92,21 +92,21 @@ module _ (size : ℕ) (s : Stored) (locks : List Lock) (job : ℕ) where
   admits_one w whole mine passed = record {
     alike =
         λ n t.
-        let parts = open_parts w.key (lock_at locks n) t in
+        let parts = in_use_parts w.key (lock_at locks n) t in
         let u : IsUsed (state_of s locks) n = whole.table.used n parts.0 in
-        let c = whole.table.kept.counts u.place n u.stands in
+        let c = whole.table.kept.counts u.slot n u.stands in
         let some : (length (wants_at (requests_in s) (lock_at locks n).key) == 0) ≡ false =
-        ap (λ m. m == 0) (sym c.counts.places) ∙ not-true-of (length (lock_at locks n).queue.places == 0) parts.0 in
+        ap (λ m. m == 0) (sym c.counts.slots) ∙ not-true-of (length (lock_at locks n).queue.slots == 0) parts.0 in
         first_alike (lock_at locks n).size w (wants_at (requests_in s) (lock_at locks n).key) some c.counts.alike.each
         (subst (λ k. list_all (λ v. are_alike v w) (wants_at (requests_in s) k) ≡ true) (sym parts.1) passed.alike);
     room =
         λ n t.
-        let parts = open_parts w.key (lock_at locks n) t in
+        let parts = in_use_parts w.key (lock_at locks n) t in
         let u : IsUsed (state_of s locks) n = whole.table.used n parts.0 in
-        let c = whole.table.kept.counts u.place n u.stands in
+        let c = whole.table.kept.counts u.slot n u.stands in
         let key : Key = (lock_at locks n).key in
         let named : ℕ → Bool = λ x. names (request_at s x).wants.items key in
-        let room : length (places_at (request_at s) s.order key) < JOBS =
+        let room : length (slots_at (request_at s) s.order key) < JOBS =
         room_for_one_more (request_at s) s.order key job whole.table.kept.once
         (λ x y hx hy e.
         let a = there_kept named x s.order hx in
@@ -118,7 +118,7 @@ module _ (size : ℕ) (s : Stored) (locks : List Lock) (job : ℕ) where
         let a = there_kept named x s.order h in
         both_ways (names (wants_of (requests_in s) job) w.key) passed.new
         (had_key s job w.key x a.0 e (subst (λ k. names (request_at s x).wants.items k ≡ true) parts.1 a.1))) in
-        omega (arith, room, ap length c.places);
+        omega (arith, room, ap length c.slots);
   }
     where
       not-true-of : (b : Bool) → not b ≡ true → b ≡ false
@@ -134,21 +134,21 @@ module _ (size : ℕ) (s : Stored) (locks : List Lock) (job : ℕ) where
   pub short_of : IsWhole size s locks → AreShort s
   short_of whole x h =
       let many =
-      as_many_queues (λ w n. (state_of s locks).key n ≡ w.key) (request_at s x).wants.items (filed_at s x).queues.items
+      as_many_queues (λ w n. (state_of s locks).key n ≡ w.key) (request_at s x).wants.items (entry_at s x).queues.items
       (whole.table.kept.queues x h) in
       grind (arith, many, whole.right x h)
 
 -- the requests after one has come
 module _ (s t : Stored) (p job : ℕ) (r : Request) where
-  pub requests_after : is_there p s.order ≡ false → t.order ≡ s.order ++ p ∷ [] → (filed_at t p).request ≡ r
-      → ((x : ℕ) → (x ≡ p → ⊥) → (filed_at t x).request ≡ (filed_at s x).request) → requests_in t ≡ requests_in s ++ r ∷ []
+  pub requests_after : is_there p s.order ≡ false → t.order ≡ s.order ++ p ∷ [] → (entry_at t p).request ≡ r
+      → ((x : ℕ) → (x ≡ p → ⊥) → (entry_at t x).request ≡ (entry_at s x).request) → requests_in t ≡ requests_in s ++ r ∷ []
   requests_after out order mine others =
       ap (map (request_at t)) order ∙ map-append (request_at t) s.order (p ∷ [])
       ∙ ap (λ l. l ++ request_at t p ∷ []) (map_same (request_at t) (request_at s) p s.order out others)
       ∙ ap (λ q. requests_in s ++ q ∷ []) mine
 
-  pub jobs_after : JobsAreApart s → is_there p s.order ≡ false → t.order ≡ s.order ++ p ∷ [] → (filed_at t p).request ≡ r → r.job ≡ job
-      → ((x : ℕ) → (x ≡ p → ⊥) → (filed_at t x).request ≡ (filed_at s x).request)
+  pub jobs_after : JobsAreApart s → is_there p s.order ≡ false → t.order ≡ s.order ++ p ∷ [] → (entry_at t p).request ≡ r → r.job ≡ job
+      → ((x : ℕ) → (x ≡ p → ⊥) → (entry_at t x).request ≡ (entry_at s x).request)
       → first_refusal (enqueue_fault (requests_in s) job) [] r.wants.items ≡ None → JobsAreApart t
   jobs_after apart out order mine job_is others passed x y key hx hy nx ny e =
       grind (arith, mine, job_is, others x, others y, was x, was y, other x, other y, apart x y key)
@@ -212,8 +212,8 @@ module _ (s t : Stored) (p job : ℕ) (r : Request) (apart : (x : ℕ) → are_a
       let same : u.0.level ≡ v.0.level = eqb-true u.0.level v.0.level (and_parts (u.0.level == v.0.level) (same_pool_size u.0.pool v.0.pool) alike).0 in
       level_of_want r key v.0 own v.1 v.2 ∙ sym same ∙ sym (level_of_want (request_at s y) key u.0 (apart y) u.1 u.2)
 
-  pub levels_after : LevelsAgree s → t.order ≡ s.order ++ p ∷ [] → (filed_at t p).request ≡ r
-      → ((x : ℕ) → (x ≡ p → ⊥) → (filed_at t x).request ≡ (filed_at s x).request) → are_apart r.wants.items ≡ true
+  pub levels_after : LevelsAgree s → t.order ≡ s.order ++ p ∷ [] → (entry_at t p).request ≡ r
+      → ((x : ℕ) → (x ≡ p → ⊥) → (entry_at t x).request ≡ (entry_at s x).request) → are_apart r.wants.items ≡ true
       → first_refusal (enqueue_fault (requests_in s) job) [] r.wants.items ≡ None → LevelsAgree t
   levels_after agree order mine others own passed x y key hx hy nx ny =
       grind (arith, mine, others x, others y, was x, was y, like_present own passed y key, like_present own passed x key, agree x y key)

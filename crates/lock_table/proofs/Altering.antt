@@ -13,32 +13,32 @@ use Rattle.lock_queue.specs.Queue.{names, all_wants, fits, granted_behind, wants
 use Rattle.lock_queue.specs.WellFormed.{are_apart, shares_rightly}
 use Rattle.lock_queue.proofs.Fitting.{eq-same_key, same_key-eq, same_key-swap, names-Has, names-found}
 use Rattle.lock_queue.proofs.Lists.{Has, list_all-Has, Pairs-across, list_all-each, list_any-Has, list_any-found, list_any-none, Has-filter, Has-flat_map, Has-map}
-use Rattle.key_queues.specs.Tables.{own_wants, StandsOnce, is_there, places_at, CountsAt, is_counted}
-use Rattle.lock_table.specs.Changing.{changed_by, changed_once, fitting_then, is_lost_by, IsFreeAt, SparesPools, loses_by, want_then}
+use Rattle.key_queues.specs.Tables.{own_wants, AreDistinct, is_there, slots_at, CountsAt, is_counted}
+use Rattle.lock_table.specs.Changing.{changed_by, changed_once, fitting_then, is_lost_by, IsUnpooledAt, SparesPools, loses_by, want_then}
 use Rattle.std.proofs.lemmas.List.{map-id, map-append, take-append-drop, get_or_read}
 use Rattle.key_queues.proofs.Lists.{found_Has}
 use Rattle.std.proofs.lemmas.List.Elements.{filter-append}
 use Rattle.std.proofs.lemmas.List.Folds.{list_any-append, list_all-append}
 use Rattle.key_queues.specs.Beginnings.{Alike, fitting, is_share_of}
-use Rattle.key_queues.specs.States.{State, IsTable, FlagsAll, IsKept, IsUsed, OpenAreUsed, Stands, all_count, is_open}
+use Rattle.key_queues.specs.States.{State, IsTable, FlagsAll, IsKept, IsUsed, InUseHaveRequests, IsQueued, all_count, in_use}
 use Rattle.key_queues.proofs.Beginnings.{fits_split, alike-Has}
-use Rattle.key_queues.proofs.Counted.{as_many, counted_split, filter_around, none_kept, not_kept, want_of, wants_by_places}
+use Rattle.key_queues.proofs.Counted.{as_many, counted_split, filter_around, none_kept, not_kept, want_of, wants_by_slots}
 use Rattle.key_queues.proofs.Keeping.{Has-there, flags_tell_grants, once_pairs, split_there}
 use Rattle.key_queues.proofs.Marks.{marks_lose}
 use Rattle.key_queues.proofs.Moves.{wants_same}
-use Rattle.key_queues.proofs.Standing.{list_all_same, queue_around, one_of_key}
+use Rattle.key_queues.proofs.Fronts.{list_all_same, queue_around, one_of_key}
 use Rattle.key_queues.proofs.Using.{kept_there, queue_of_want, there_kept, there_at, want_at_queue}
 use Rattle.key_queues.proofs.Orders.{stands_filter}
 use Rattle.lock_queue.specs.Pools.{PoolShare}
 use Rattle.key_queues.specs.declared.lock.Lock.{Lock}
 use Rattle.key_queues.specs.Locks.{lock_at, unused_lock}
-use Rattle.key_queues.specs.Opened.{is_open_for}
-use Rattle.key_queues.proofs.Finding.{open_parts, open_within, find_passes}
-use Rattle.key_queues.specs.Stores.{Stored, filed_at}
-use Rattle.lock_table.specs.Filing.{state_of, want_filed}
+use Rattle.key_queues.specs.LockUse.{in_use_for}
+use Rattle.key_queues.proofs.Finding.{in_use_parts, in_use_within, find_passes}
+use Rattle.key_queues.specs.Stores.{Stored, entry_at}
+use Rattle.lock_table.specs.TableStates.{state_of, queued_want}
 use Rattle.lock_table.specs.Reads.{request_at}
 use Rattle.lock_table.specs.Whole.{AreRight, requests_in}
-use Rattle.key_queues.proofs.Opening.{used_open}
+use Rattle.key_queues.proofs.LockUseLaws.{used_in_use}
 use Rattle.lock_table.proofs.Telling.{find_there}
 
 -- ---- wants that are changed, and the wants of a key among them: one want
@@ -170,15 +170,15 @@ changed_none job r = go (r.job == job)
 
 -- ---- where a want fits
 
--- a want fits in an order where its place stands among the first of its key that fit
-fits_in_order : (at : ℕ → Request) (order before after : List ℕ) (p : ℕ) (size : Option ℕ) (w : Want) → StandsOnce order
+-- a want fits in an order where its slot stands among the first of its key that fit
+fits_in_order : (at : ℕ → Request) (order before after : List ℕ) (p : ℕ) (size : Option ℕ) (w : Want) → AreDistinct order
     → ((x : ℕ) → are_apart (at x).wants.items ≡ true) → order ≡ before ++ p ∷ after → Has (at p).wants.items w → Alike size (wants_at (map at order) w.key)
-    → fits (map at before) w ≡ is_there p (take (fitting (wants_at (map at order) w.key)) (places_at at order w.key))
+    → fits (map at before) w ≡ is_there p (take (fitting (wants_at (map at order) w.key)) (slots_at at order w.key))
 fits_in_order at order before after p size w once apart is h alike =
     fits_split size [] earlier later w (subst (Alike size) all alike)
     ∙ ap (λ l. nat_lt (length earlier) (fitting l)) (sym all)
     ∙ ap (λ n. nat_lt n k) (as_many at apart before w.key)
-    ∙ sym (counted_split k (places_at at before w.key) (places_at at after w.key) p (not_kept test p before (once before after p is).0))
+    ∙ sym (counted_split k (slots_at at before w.key) (slots_at at after w.key) p (not_kept test p before (once before after p is).0))
     ∙ ap (λ l. is_there p (take k l)) (sym (ap (filter test) is ∙ filter_around test before after p (names-Has (at p).wants.items w.key w h refl)))
   where
     test : ℕ → Bool
@@ -203,23 +203,23 @@ fits_in_order at order before after p size w once apart is h alike =
 pub there_Has : (x : ℕ) (xs : List ℕ) → is_there x xs ≡ true → Has xs x
 there_Has x xs h = let found = list_any-found (λ y. y == x) xs h in subst (Has xs) (eqb-true found.0 x found.2) found.1
 
--- a place stands among the first or behind them, and not in both
+-- a slot stands among the first or behind them, and not in both
 pub there_parts : (k x : ℕ) (xs : List ℕ) → is_there x xs ≡ (is_there x (take k xs) || is_there x (drop k xs))
 there_parts k x xs = ap (is_there x) (sym (take-append-drop k xs)) ∙ list_any-append (λ y. y == x) (take k xs) (drop k xs)
 
-pub not_in_both : (k x : ℕ) (xs : List ℕ) → StandsOnce xs → is_there x (drop k xs) ≡ true → is_there x (take k xs) ≡ false
+pub not_in_both : (k x : ℕ) (xs : List ℕ) → AreDistinct xs → is_there x (drop k xs) ≡ true → is_there x (take k xs) ≡ false
 not_in_both k x xs once behind =
     false_from_ne_true (is_there x (take k xs))
     (λ front.
-    Pairs-across (λ y z. y ≢ z) (take k xs) (drop k xs) (once_pairs (take k xs ++ drop k xs) (subst StandsOnce (sym (take-append-drop k xs)) once)) x x
+    Pairs-across (λ y z. y ≢ z) (take k xs) (drop k xs) (once_pairs (take k xs ++ drop k xs) (subst AreDistinct (sym (take-append-drop k xs)) once)) x x
     (there_Has x (take k xs) front) (there_Has x (drop k xs) behind) refl)
 
 module _ (job : ℕ) (cs : List Want) (at : ℕ → Request) (order : List ℕ) where
   abbrev new : ℕ → Request
   new x = changed job cs (at x)
 
-  pub places_changed : (key : Key) → places_at new order key ≡ places_at at order key
-  places_changed key =
+  pub slots_changed : (key : Key) → slots_at new order key ≡ slots_at at order key
+  slots_changed key =
       ap (λ (t : ℕ → Bool). filter t order) (λ i x. named_changed job cs (at x) key i)
 
   -- wants are of the pools that they were of
@@ -252,7 +252,7 @@ module _ (job : ℕ) (cs : List Want) (at : ℕ → Request) (size : Option ℕ)
 
 -- the queue of a key in which a request stands that has a want of it
 pub queue_of_key : (s : State) (x : ℕ) (key : Key) → IsKept s → is_there x s.order ≡ true → names (s.at x).wants.items key ≡ true
-    → (m : ℕ) × Stands s x m × (s.key m ≡ key)
+    → (m : ℕ) × IsQueued s x m × (s.key m ≡ key)
 queue_of_key s x key kept present named =
     let of = names-found (s.at x).wants.items key named in
     let m = queue_of_want s.key (s.at x).wants.items (s.own x) of.0 (kept.queues x present) of.1 in
@@ -272,7 +272,7 @@ alike_of s key t = go (list_any test s.order) refl
         (s.size m.0, subst (λ k. Alike (s.size m.0) (wants_at (map s.at s.order) k)) m.2 (t.kept.counts found.0 m.0 m.1).counts.alike)
     go false e =
         let none : wants_at (map s.at s.order) key ≡ [] =
-        wants_by_places s.at t.kept.apart s.order key ∙ ap (map (λ p. want_of key (s.at p))) (none_kept test s.order e) in
+        wants_by_slots s.at t.kept.apart s.order key ∙ ap (map (λ p. want_of key (s.at p))) (none_kept test s.order e) in
         (None, record { each = ap (list_all (λ w. is_share_of None w.pool)) none })
 
 -- ---- who loses
@@ -281,9 +281,9 @@ module _ (s : State) (job : ℕ) (cs : List Want) (t : IsTable s) where
   abbrev then : ℕ → Request
   then x = changed job cs (s.at x)
 
-  -- whether each want of a place's request stands among those that fit after the changes
+  -- whether each want of a slot's request stands among those that fit after the changes
   abbrev stays : ℕ → Bool
-  stays p = list_all (λ w. is_there p (take (fitting (wants_at (map then s.order) w.key)) (places_at then s.order w.key))) (then p).wants.items
+  stays p = list_all (λ w. is_there p (take (fitting (wants_at (map then s.order) w.key)) (slots_at then s.order w.key))) (then p).wants.items
 
   apart_then : (x : ℕ) → are_apart (then x).wants.items ≡ true
   apart_then x = apart_changed job cs (s.at x) ∙ t.kept.apart x
@@ -291,7 +291,7 @@ module _ (s : State) (job : ℕ) (cs : List Want) (t : IsTable s) where
   stays_granted : (before after : List ℕ) (p : ℕ) → s.order ≡ before ++ p ∷ after → granted_behind (map then before) (then p) ≡ stays p
   stays_granted before after p is =
       list_all_same (fits (map then before))
-      (λ w. is_there p (take (fitting (wants_at (map then s.order) w.key)) (places_at then s.order w.key)))
+      (λ w. is_there p (take (fitting (wants_at (map then s.order) w.key)) (slots_at then s.order w.key)))
       (then p).wants.items
       (λ w h.
       let alike = alike_of s w.key t in
@@ -313,16 +313,16 @@ module _ (s : State) (job : ℕ) (cs : List Want) (t : IsTable s) where
     none_lost : ((c : Want) → Has cs c → is_lost_by s.at s.flag s.order job c ≡ false) → (p : ℕ) → is_there p s.order ≡ true → s.flag p ≡ true → stays p ≡ true
     none_lost safe p present flag = list_all-each _ (then p).wants.items each
       where
-        each : (w : Want) → Has (then p).wants.items w → is_there p (take (fitting (wants_at (map then s.order) w.key)) (places_at then s.order w.key)) ≡ true
+        each : (w : Want) → Has (then p).wants.items w → is_there p (take (fitting (wants_at (map then s.order) w.key)) (slots_at then s.order w.key)) ≡ true
         each w h = go (names cs w.key) refl
           where
             named : names (s.at p).wants.items w.key ≡ true
             named = sym (named_changed job cs (s.at p) w.key) ∙ names-Has (then p).wants.items w.key w h refl
 
-            there : is_there p (places_at s.at s.order w.key) ≡ true
+            there : is_there p (slots_at s.at s.order w.key) ≡ true
             there = kept_there (λ x. names (s.at x).wants.items w.key) p s.order present named
 
-            go : (b : Bool) → names cs w.key ≡ b → is_there p (take (fitting (wants_at (map then s.order) w.key)) (places_at then s.order w.key)) ≡ true
+            go : (b : Bool) → names cs w.key ≡ b → is_there p (take (fitting (wants_at (map then s.order) w.key)) (slots_at then s.order w.key)) ≡ true
             go false e =
                 let of = names-found (s.at p).wants.items w.key named in
                 let split = split_there p s.order present in
@@ -330,41 +330,41 @@ module _ (s : State) (job : ℕ) (cs : List Want) (t : IsTable s) where
                 let granted : granted_behind (map s.at split.0) (s.at p) ≡ true =
                 sym (flags_tell_grants s t.kept t.full t.flags split.0 split.1 p split.2) ∙ flag in
                 let fit : fits (map s.at split.0) of.0 ≡ true = list_all-Has (fits (map s.at split.0)) (s.at p).wants.items of.0 granted of.1 in
-                let within : is_there p (take (fitting (wants_at (map s.at s.order) of.0.key)) (places_at s.at s.order of.0.key)) ≡ true =
+                let within : is_there p (take (fitting (wants_at (map s.at s.order) of.0.key)) (slots_at s.at s.order of.0.key)) ≡ true =
                 sym (fits_in_order s.at s.order split.0 split.1 p alike.0 of.0 t.kept.once t.kept.apart split.2 of.1 alike.1) ∙ fit in
                 let same = wants_same w.key s.at then s.order (λ x. own_unnamed job cs (s.at x) w.key e) in
-                grind (arith, of.2, within, same, places_changed job cs s.at s.order w.key)
+                grind (arith, of.2, within, same, slots_changed job cs s.at s.order w.key)
             go true e =
                 let of = names-found cs w.key e in
                 let k : ℕ = fitting_then s.at s.order job of.0 in
-                let lost = list_any-Has s.flag (drop k (places_at s.at s.order of.0.key)) p flag in
-                let has = there_Has p (drop k (places_at s.at s.order of.0.key)) in
-                let parts = there_parts k p (places_at s.at s.order of.0.key) in
-                let changed = places_changed job cs s.at s.order of.0.key in
+                let lost = list_any-Has s.flag (drop k (slots_at s.at s.order of.0.key)) p flag in
+                let has = there_Has p (drop k (slots_at s.at s.order of.0.key)) in
+                let parts = there_parts k p (slots_at s.at s.order of.0.key) in
+                let changed = slots_changed job cs s.at s.order of.0.key in
                 grind (arith, of.2, there, lost, has, parts, changed, safe of.0 of.1, same_fitting of.0 of.1)
 
     -- where a change takes one, one is lost
     some_is_lost : (c : Want) → Has cs c → is_lost_by s.at s.flag s.order job c ≡ true → list_any (λ p. s.flag p && not (stays p)) s.order ≡ true
     some_is_lost c h lost =
         let k : ℕ = fitting_then s.at s.order job c in
-        let found = list_any-found s.flag (drop k (places_at s.at s.order c.key)) lost in
+        let found = list_any-found s.flag (drop k (slots_at s.at s.order c.key)) lost in
         let p : ℕ = found.0 in
-        let behind : is_there p (drop k (places_at s.at s.order c.key)) ≡ true = Has-there (drop k (places_at s.at s.order c.key)) p found.1 in
-        let there : is_there p (places_at s.at s.order c.key) ≡ true = grind (arith, there_parts k p (places_at s.at s.order c.key), behind) in
+        let behind : is_there p (drop k (slots_at s.at s.order c.key)) ≡ true = Has-there (drop k (slots_at s.at s.order c.key)) p found.1 in
+        let there : is_there p (slots_at s.at s.order c.key) ≡ true = grind (arith, there_parts k p (slots_at s.at s.order c.key), behind) in
         let both = there_kept (λ x. names (s.at x).wants.items c.key) p s.order there in
         let of = names-found (then p).wants.items c.key (named_changed job cs (s.at p) c.key ∙ both.1) in
-        let once : StandsOnce (places_at s.at s.order c.key) = stands_filter (λ x. names (s.at x).wants.items c.key) s.order t.kept.once in
-        let out : is_there p (take k (places_at s.at s.order c.key)) ≡ false = not_in_both k p (places_at s.at s.order c.key) once behind in
-        let then_c : is_there p (take (fitting (wants_at (map then s.order) c.key)) (places_at then s.order c.key)) ≡ false =
-        ap (λ l. is_there p (take (fitting (wants_at (map then s.order) c.key)) l)) (places_changed job cs s.at s.order c.key)
-        ∙ ap (λ n. is_there p (take n (places_at s.at s.order c.key))) (sym (same_fitting c h)) ∙ out in
-        let here : is_there p (take (fitting (wants_at (map then s.order) of.0.key)) (places_at then s.order of.0.key)) ≡ false =
-        subst (λ q. is_there p (take (fitting (wants_at (map then s.order) q)) (places_at then s.order q)) ≡ false) (sym of.2) then_c in
+        let once : AreDistinct (slots_at s.at s.order c.key) = stands_filter (λ x. names (s.at x).wants.items c.key) s.order t.kept.once in
+        let out : is_there p (take k (slots_at s.at s.order c.key)) ≡ false = not_in_both k p (slots_at s.at s.order c.key) once behind in
+        let then_c : is_there p (take (fitting (wants_at (map then s.order) c.key)) (slots_at then s.order c.key)) ≡ false =
+        ap (λ l. is_there p (take (fitting (wants_at (map then s.order) c.key)) l)) (slots_changed job cs s.at s.order c.key)
+        ∙ ap (λ n. is_there p (take n (slots_at s.at s.order c.key))) (sym (same_fitting c h)) ∙ out in
+        let here : is_there p (take (fitting (wants_at (map then s.order) of.0.key)) (slots_at then s.order of.0.key)) ≡ false =
+        subst (λ q. is_there p (take (fitting (wants_at (map then s.order) q)) (slots_at then s.order q)) ≡ false) (sym of.2) then_c in
         let falls : stays p ≡ false =
         false_from_ne_true (stays p)
         (λ all.
-        both_ways (is_there p (take (fitting (wants_at (map then s.order) of.0.key)) (places_at then s.order of.0.key))) here
-        (list_all-Has (λ w. is_there p (take (fitting (wants_at (map then s.order) w.key)) (places_at then s.order w.key)))
+        both_ways (is_there p (take (fitting (wants_at (map then s.order) of.0.key)) (slots_at then s.order of.0.key))) here
+        (list_all-Has (λ w. is_there p (take (fitting (wants_at (map then s.order) w.key)) (slots_at then s.order w.key)))
         (then p).wants.items of.0 all of.1)) in
         list_any-Has (λ p. s.flag p && not (stays p)) s.order p (ap (λ b. b && not (stays p)) found.2 ∙ ap not falls) (there_Has p s.order both.0)
 
@@ -389,30 +389,30 @@ next_behind (x ∷ xs) zero p e = grind (arith, eq-eqb x p)
 next_behind (x ∷ xs) (suc k) p e = next_behind xs k p e
 
 -- a change keeps the pool
-pub then_pool : (s : Stored) (n job : ℕ) (c : Want) (p : ℕ) → (want_then s n job c p).pool ≡ (want_filed s p n).pool
+pub then_pool : (s : Stored) (n job : ℕ) (c : Want) (p : ℕ) → (want_then s n job c p).pool ≡ (queued_want s p n).pool
 then_pool s n job c p = grind arith
 
--- the want of a place in a queue that it stands in
+-- the want of a slot in a queue that it stands in
 pub record IsWantedAt (s : Stored) (n p : ℕ) (key : Key) : Type 0 where
   pub present : is_there p s.order ≡ true
-  pub there : is_there n (filed_at s p).queues.items ≡ true
-  pub within : position_or_len (λ m. m == n) (filed_at s p).queues.items < length (request_at s p).wants.items
-  pub has : Has (request_at s p).wants.items (want_filed s p n)
-  pub key_is : (want_filed s p n).key ≡ key
-  pub one : own_wants key (request_at s p) ≡ want_filed s p n ∷ []
+  pub there : is_there n (entry_at s p).queues.items ≡ true
+  pub within : position_or_len (λ m. m == n) (entry_at s p).queues.items < length (request_at s p).wants.items
+  pub has : Has (request_at s p).wants.items (queued_want s p n)
+  pub key_is : (queued_want s p n).key ≡ key
+  pub one : own_wants key (request_at s p) ≡ queued_want s p n ∷ []
 
 module _ (s : Stored) (locks : List Lock) (n : ℕ) (kept : IsKept (state_of s locks)) (used : IsUsed (state_of s locks) n) where
   pub counts : CountsAt (request_at s) s.order (lock_at locks n).key (lock_at locks n).size (lock_at locks n).queue
-  counts = kept.counts used.place n used.stands
+  counts = kept.counts used.slot n used.stands
 
-  pub wanted_at : (p : ℕ) → is_there p (lock_at locks n).queue.places ≡ true → IsWantedAt s n p (lock_at locks n).key
+  pub wanted_at : (p : ℕ) → is_there p (lock_at locks n).queue.slots ≡ true → IsWantedAt s n p (lock_at locks n).key
   wanted_at p h =
-      let queued : is_there p (places_at (request_at s) s.order (lock_at locks n).key) ≡ true = subst (λ l. is_there p l ≡ true) counts.places h in
+      let queued : is_there p (slots_at (request_at s) s.order (lock_at locks n).key) ≡ true = subst (λ l. is_there p l ≡ true) counts.slots h in
       let both = there_kept (λ x. names (request_at s x).wants.items (lock_at locks n).key) p s.order queued in
       let m = queue_of_key (state_of s locks) p (lock_at locks n).key kept both.0 both.1 in
-      let same : m.0 ≡ n = kept.one p m.0 used.place n m.1 used.stands m.2 in
-      let there : is_there n (filed_at s p).queues.items ≡ true = subst (λ k. is_there k (filed_at s p).queues.items ≡ true) same m.1.there in
-      let at = want_at_queue (λ n. (lock_at locks n).key) (request_at s p).wants.items (filed_at s p).queues.items n (kept.queues p both.0) there in
+      let same : m.0 ≡ n = kept.one p m.0 used.slot n m.1 used.stands m.2 in
+      let there : is_there n (entry_at s p).queues.items ≡ true = subst (λ k. is_there k (entry_at s p).queues.items ≡ true) same m.1.there in
+      let at = want_at_queue (λ n. (lock_at locks n).key) (request_at s p).wants.items (entry_at s p).queues.items n (kept.queues p both.0) there in
       record {
         present = both.0;
         there = there;
@@ -420,23 +420,23 @@ module _ (s : Stored) (locks : List Lock) (n : ℕ) (kept : IsKept (state_of s l
         has = at.1;
         key_is = at.2;
         one =
-            subst (λ k. filter (λ v. same_key v.key k) (request_at s p).wants.items ≡ want_filed s p n ∷ []) at.2
-            (one_of_key (request_at s p).wants.items (want_filed s p n) (kept.apart p) at.1);
+            subst (λ k. filter (λ v. same_key v.key k) (request_at s p).wants.items ≡ queued_want s p n ∷ []) at.2
+            (one_of_key (request_at s p).wants.items (queued_want s p n) (kept.apart p) at.1);
       }
 
-  pub once_there : StandsOnce (lock_at locks n).queue.places
+  pub once_there : AreDistinct (lock_at locks n).queue.slots
   once_there =
-      subst StandsOnce (sym counts.places) (stands_filter (λ x. names (request_at s x).wants.items (lock_at locks n).key) s.order kept.once)
+      subst AreDistinct (sym counts.slots) (stands_filter (λ x. names (request_at s x).wants.items (lock_at locks n).key) s.order kept.once)
 
   -- a request that is granted is not the next of a queue
-  pub not_next : FlagsAll (state_of s locks) → (p : ℕ) → Stands (state_of s locks) p n
-      → slice_get (lock_at locks n).queue.places (lock_at locks n).queue.fitting ≡ Some p → (filed_at s p).granted ≡ true → ⊥
+  pub not_next : FlagsAll (state_of s locks) → (p : ℕ) → IsQueued (state_of s locks) p n
+      → slice_get (lock_at locks n).queue.slots (lock_at locks n).queue.fitting ≡ Some p → (entry_at s p).granted ≡ true → ⊥
   not_next flags p stands at granted =
       let q = (lock_at locks n).queue in
       let all : all_count (state_of s locks) p ≡ true = sym (flags p stands.present) ∙ granted in
-      let front : is_there p (take q.fitting q.places) ≡ true =
-      list_all-Has (λ m. is_counted (lock_at locks m).queue p) (filed_at s p).queues.items n all (there_Has n (filed_at s p).queues.items stands.there) in
-      both_ways _ (not_in_both q.fitting p q.places once_there (next_behind q.places q.fitting p at)) front
+      let front : is_there p (take q.fitting q.slots) ≡ true =
+      list_all-Has (λ m. is_counted (lock_at locks m).queue p) (entry_at s p).queues.items n all (there_Has n (entry_at s p).queues.items stands.there) in
+      both_ways _ (not_in_both q.fitting p q.slots once_there (next_behind q.slots q.fitting p at)) front
 
   -- a want of the queue's key that is present is of the queue's pool
   pub pool_of : (p : ℕ) (w : Want) → is_there p s.order ≡ true → Has (request_at s p).wants.items w → w.key ≡ (lock_at locks n).key
@@ -446,50 +446,50 @@ module _ (s : Stored) (locks : List Lock) (n : ℕ) (kept : IsKept (state_of s l
       (Has-filter (λ v. same_key v.key (lock_at locks n).key) (all_wants (requests_in s)) w (eq-same_key w.key (lock_at locks n).key e)
       (Has-flat_map (λ (r : Request). r.wants.items) (requests_in s) (request_at s p) w (Has-map (request_at s) s.order p (there_Has p s.order present)) h))
 
-  -- the places are present
-  pub all_there : All (λ p. is_there p s.order ≡ true) (lock_at locks n).queue.places
+  -- the slots are present
+  pub all_there : All (λ p. is_there p s.order ≡ true) (lock_at locks n).queue.slots
   all_there k d lt =
-      (wanted_at (get_or (lock_at locks n).queue.places k d) (there_at (lock_at locks n).queue.places k d lt)).present
+      (wanted_at (get_or (lock_at locks n).queue.slots k d) (there_at (lock_at locks n).queue.slots k d lt)).present
 
-  pub all_free : (lock_at locks n).size ≡ None → All (IsFreeAt s n) (lock_at locks n).queue.places
-  all_free none k d lt =
-      let p : ℕ = get_or (lock_at locks n).queue.places k d in
-      let w = wanted_at p (there_at (lock_at locks n).queue.places k d lt) in
+  pub all_unpooled : (lock_at locks n).size ≡ None → All (IsUnpooledAt s n) (lock_at locks n).queue.slots
+  all_unpooled none k d lt =
+      let p : ℕ = get_or (lock_at locks n).queue.slots k d in
+      let w = wanted_at p (there_at (lock_at locks n).queue.slots k d lt) in
       record {
         present = w.present;
         within = w.within;
-        free = subst (λ o. is_share_of o (want_filed s p n).pool ≡ true) none (pool_of p (want_filed s p n) w.present w.has w.key_is);
+        unpooled = subst (λ o. is_share_of o (queued_want s p n).pool ≡ true) none (pool_of p (queued_want s p n) w.present w.has w.key_is);
       }
 
   module _ (job : ℕ) (c : Want) (key : (lock_at locks n).key ≡ c.key) where
     once : ℕ → Request
     once x = changed_once job c (request_at s x)
 
-    want_is : (p : ℕ) → Has (lock_at locks n).queue.places p → want_of (lock_at locks n).key (changed_once job c (request_at s p)) ≡ want_then s n job c p
+    want_is : (p : ℕ) → Has (lock_at locks n).queue.slots p → want_of (lock_at locks n).key (changed_once job c (request_at s p)) ≡ want_then s n job c p
     want_is p h =
-        let w = wanted_at p (Has-there (lock_at locks n).queue.places p h) in
+        let w = wanted_at p (Has-there (lock_at locks n).queue.slots p h) in
         let own = own_of_changed job (c ∷ []) (request_at s p) (lock_at locks n).key in
-        grind (arith, own, w.one, named_once c (want_filed s p n) (w.key_is ∙ key))
+        grind (arith, own, w.one, named_once c (queued_want s p n) (w.key_is ∙ key))
 
-    pub wants_then : wants_at (map (λ x. changed_once job c (request_at s x)) s.order) c.key ≡ map (want_then s n job c) (lock_at locks n).queue.places
+    pub wants_then : wants_at (map (λ x. changed_once job c (request_at s x)) s.order) c.key ≡ map (want_then s n job c) (lock_at locks n).queue.slots
     wants_then =
-        subst (λ k. wants_at (map (λ x. changed_once job c (request_at s x)) s.order) k ≡ map (want_then s n job c) (lock_at locks n).queue.places) key
-        (wants_by_places (λ x. changed_once job c (request_at s x))
+        subst (λ k. wants_at (map (λ x. changed_once job c (request_at s x)) s.order) k ≡ map (want_then s n job c) (lock_at locks n).queue.slots) key
+        (wants_by_slots (λ x. changed_once job c (request_at s x))
         (λ x. apart_changed job (c ∷ []) (request_at s x) ∙ kept.apart x) s.order (lock_at locks n).key
         ∙ ap (map (λ p. want_of (lock_at locks n).key (changed_once job c (request_at s p))))
-        (places_changed job (c ∷ []) (request_at s) s.order (lock_at locks n).key ∙ sym counts.places)
-        ∙ map_each (λ p. want_of (lock_at locks n).key (changed_once job c (request_at s p))) (want_then s n job c) (lock_at locks n).queue.places want_is)
+        (slots_changed job (c ∷ []) (request_at s) s.order (lock_at locks n).key ∙ sym counts.slots)
+        ∙ map_each (λ p. want_of (lock_at locks n).key (changed_once job c (request_at s p))) (want_then s n job c) (lock_at locks n).queue.slots want_is)
 
-    pub fitting_is : fitting_then (request_at s) s.order job c ≡ fitting (map (want_then s n job c) (lock_at locks n).queue.places)
+    pub fitting_is : fitting_then (request_at s) s.order job c ≡ fitting (map (want_then s n job c) (lock_at locks n).queue.slots)
     fitting_is = ap fitting wants_then
 
     pub lost_is : loses_by s job c
-        ≡ list_any (λ x. (filed_at s x).granted)
-        (drop (fitting (map (want_then s n job c) (lock_at locks n).queue.places)) (lock_at locks n).queue.places)
+        ≡ list_any (λ x. (entry_at s x).granted)
+        (drop (fitting (map (want_then s n job c) (lock_at locks n).queue.slots)) (lock_at locks n).queue.slots)
     lost_is =
-        ap (λ k. list_any (λ x. (filed_at s x).granted) (drop k (places_at (request_at s) s.order c.key))) fitting_is
-        ∙ ap (λ l. list_any (λ x. (filed_at s x).granted) (drop (fitting (map (want_then s n job c) (lock_at locks n).queue.places)) l))
-        (ap (places_at (request_at s) s.order) (sym key) ∙ sym counts.places)
+        ap (λ k. list_any (λ x. (entry_at s x).granted) (drop k (slots_at (request_at s) s.order c.key))) fitting_is
+        ∙ ap (λ l. list_any (λ x. (entry_at s x).granted) (drop (fitting (map (want_then s n job c) (lock_at locks n).queue.slots)) l))
+        (ap (slots_at (request_at s) s.order) (sym key) ∙ sym counts.slots)
 
 pub no_size : (o : Option ℕ) → is_some o ≡ false → o ≡ None
 no_size o e = grind arith
@@ -552,81 +552,81 @@ module _ (s : Stored) (locks : List Lock) (n : ℕ) (job : ℕ) (c : Want) (t : 
   pub pool_keeps : loses_by s job c ≡ false
   pool_keeps = false_from_ne_true (loses_by s job c) (λ lost.
       let found =
-      list_any-found (λ x. (filed_at s x).granted)
-      (drop (fitting_then (request_at s) s.order job c) (places_at (request_at s) s.order c.key)) lost in
+      list_any-found (λ x. (entry_at s x).granted)
+      (drop (fitting_then (request_at s) s.order job c) (slots_at (request_at s) s.order c.key)) lost in
       let p : ℕ = found.0 in
-      let places : (lock_at locks n).queue.places ≡ places_at (request_at s) s.order c.key =
-      (counts s locks n t.kept used).places ∙ ap (places_at (request_at s) s.order) key in
-      let behind : is_there p (drop (fitting_then (request_at s) s.order job c) (places_at (request_at s) s.order c.key)) ≡ true =
-      Has-there (drop (fitting_then (request_at s) s.order job c) (places_at (request_at s) s.order c.key)) p found.1 in
+      let slots : (lock_at locks n).queue.slots ≡ slots_at (request_at s) s.order c.key =
+      (counts s locks n t.kept used).slots ∙ ap (slots_at (request_at s) s.order) key in
+      let behind : is_there p (drop (fitting_then (request_at s) s.order job c) (slots_at (request_at s) s.order c.key)) ≡ true =
+      Has-there (drop (fitting_then (request_at s) s.order job c) (slots_at (request_at s) s.order c.key)) p found.1 in
       let same : fitting_then (request_at s) s.order job c ≡ (lock_at locks n).queue.fitting =
       ap fitting (wants_same_there c.key (request_at s) (λ x. changed_once job c (request_at s x)) s.order (λ x h. ap (own_wants c.key) (pool_same x h)))
-      ∙ sym (t.full used.place n used.stands ∙ ap (λ k. fitting (wants_at (requests_in s) k)) key) in
-      let past : is_there p (drop (lock_at locks n).queue.fitting (lock_at locks n).queue.places) ≡ true =
-      ap (λ l. is_there p (drop (lock_at locks n).queue.fitting l)) places
-      ∙ ap (λ k. is_there p (drop k (places_at (request_at s) s.order c.key))) (sym same) ∙ behind in
-      let there : is_there p (lock_at locks n).queue.places ≡ true =
-      there_parts (lock_at locks n).queue.fitting p (lock_at locks n).queue.places
-      ∙ or_right (is_there p (take (lock_at locks n).queue.fitting (lock_at locks n).queue.places))
-      (is_there p (drop (lock_at locks n).queue.fitting (lock_at locks n).queue.places)) past in
+      ∙ sym (t.full used.slot n used.stands ∙ ap (λ k. fitting (wants_at (requests_in s) k)) key) in
+      let past : is_there p (drop (lock_at locks n).queue.fitting (lock_at locks n).queue.slots) ≡ true =
+      ap (λ l. is_there p (drop (lock_at locks n).queue.fitting l)) slots
+      ∙ ap (λ k. is_there p (drop k (slots_at (request_at s) s.order c.key))) (sym same) ∙ behind in
+      let there : is_there p (lock_at locks n).queue.slots ≡ true =
+      there_parts (lock_at locks n).queue.fitting p (lock_at locks n).queue.slots
+      ∙ or_right (is_there p (take (lock_at locks n).queue.fitting (lock_at locks n).queue.slots))
+      (is_there p (drop (lock_at locks n).queue.fitting (lock_at locks n).queue.slots)) past in
       let w = wanted_at s locks n t.kept used p there in
       let all : all_count (state_of s locks) p ≡ true = sym (t.flags p w.present) ∙ found.2 in
-      let front : is_there p (take (lock_at locks n).queue.fitting (lock_at locks n).queue.places) ≡ true =
-      list_all-Has (λ m. is_counted (lock_at locks m).queue p) (filed_at s p).queues.items n all (there_Has n (filed_at s p).queues.items w.there) in
-      both_ways _ (not_in_both (lock_at locks n).queue.fitting p (lock_at locks n).queue.places (once_there s locks n t.kept used) past) front)
+      let front : is_there p (take (lock_at locks n).queue.fitting (lock_at locks n).queue.slots) ≡ true =
+      list_all-Has (λ m. is_counted (lock_at locks m).queue p) (entry_at s p).queues.items n all (there_Has n (entry_at s p).queues.items w.there) in
+      both_ways _ (not_in_both (lock_at locks n).queue.fitting p (lock_at locks n).queue.slots (once_there s locks n t.kept used) past) front)
 
--- the open lock of a key that is read by its number, and its places
-pub record Found (s : Stored) (locks : List Lock) (n : ℕ) (key : Key) (l : Lock) (places : List ℕ) : Type 0 where
+-- the lock in use of a key that is read by its number, and its slots
+pub record Found (s : Stored) (locks : List Lock) (n : ℕ) (key : Key) (l : Lock) (slots : List ℕ) : Type 0 where
   pub is : l ≡ lock_at locks n
   pub used : IsUsed (state_of s locks) n
   pub key_is : (lock_at locks n).key ≡ key
-  pub places_is : places ≡ (lock_at locks n).queue.places
-  pub there : All (λ p. is_there p s.order ≡ true) places
+  pub slots_is : slots ≡ (lock_at locks n).queue.slots
+  pub there : All (λ p. is_there p s.order ≡ true) slots
   pub none : is_some l.size ≡ false → (lock_at locks n).size ≡ None
-  pub free : is_some l.size ≡ false → All (IsFreeAt s n) places
+  pub unpooled : is_some l.size ≡ false → All (IsUnpooledAt s n) slots
 
-pub found : (s : Stored) (locks read : List Lock) (n : ℕ) (key : Key) (l : Lock) (places : List ℕ) → IsKept (state_of s locks)
-    → OpenAreUsed (state_of s locks) → is_open_for key (lock_at locks n) ≡ true → read ≡ locks → l ≡ get_or read n l → places ≡ l.queue.places
-    → Found s locks n key l places
-found s locks read n key l places kept used for same at of =
-    let parts = open_parts key (lock_at locks n) for in
-    let is : l ≡ lock_at locks n = get_or_read locks n l (open_within locks n parts.0) (subst (λ r. l ≡ get_or r n l) same at) unused_lock in
+pub found : (s : Stored) (locks read : List Lock) (n : ℕ) (key : Key) (l : Lock) (slots : List ℕ) → IsKept (state_of s locks)
+    → InUseHaveRequests (state_of s locks) → in_use_for key (lock_at locks n) ≡ true → read ≡ locks → l ≡ get_or read n l → slots ≡ l.queue.slots
+    → Found s locks n key l slots
+found s locks read n key l slots kept used for same at of =
+    let parts = in_use_parts key (lock_at locks n) for in
+    let is : l ≡ lock_at locks n = get_or_read locks n l (in_use_within locks n parts.0) (subst (λ r. l ≡ get_or r n l) same at) unused_lock in
     let none : is_some l.size ≡ false → (lock_at locks n).size ≡ None =
     λ e. no_size (lock_at locks n).size (ap (λ (k : Lock). is_some k.size) (sym is) ∙ e) in
-    let places_is : places ≡ (lock_at locks n).queue.places = of ∙ ap (λ (k : Lock). k.queue.places) is in
+    let slots_is : slots ≡ (lock_at locks n).queue.slots = of ∙ ap (λ (k : Lock). k.queue.slots) is in
     record {
       is = is;
       used = used n parts.0;
       key_is = parts.1;
-      places_is = places_is;
-      there = rw places_is (all_there s locks n kept (used n parts.0));
+      slots_is = slots_is;
+      there = rw slots_is (all_there s locks n kept (used n parts.0));
       none = none;
-      free = λ e. rw places_is (all_free s locks n kept (used n parts.0) (none e));
+      unpooled = λ e. rw slots_is (all_unpooled s locks n kept (used n parts.0) (none e));
     }
 
 -- ---- where a request of a key stands
 
-pub open_for_from : (key : Key) (l : Lock) → is_open l.queue ≡ true → l.key ≡ key → is_open_for key l ≡ true
-open_for_from key l some e = ap (λ b. b && same_key l.key key) some ∙ eq-same_key l.key key e
+pub in_use_for_from : (key : Key) (l : Lock) → in_use l.queue ≡ true → l.key ≡ key → in_use_for key l ≡ true
+in_use_for_from key l some e = ap (λ b. b && same_key l.key key) some ∙ eq-same_key l.key key e
 
--- a request with a want of a key stands in its open queue
-pub open_named : (s : Stored) (locks : List Lock) (x : ℕ) (key : Key) → IsKept (state_of s locks) → is_there x s.order ≡ true
-    → names (request_at s x).wants.items key ≡ true → (m : ℕ) × (is_open_for key (lock_at locks m) ≡ true)
-open_named s locks x key kept present named =
+-- a request with a want of a key stands in its queue in use
+pub in_use_named : (s : Stored) (locks : List Lock) (x : ℕ) (key : Key) → IsKept (state_of s locks) → is_there x s.order ≡ true
+    → names (request_at s x).wants.items key ≡ true → (m : ℕ) × (in_use_for key (lock_at locks m) ≡ true)
+in_use_named s locks x key kept present named =
     let m = queue_of_key (state_of s locks) x key kept present named in
-    (m.0, open_for_from key (lock_at locks m.0) (used_open (state_of s locks) x m.0 kept m.1) m.2)
+    (m.0, in_use_for_from key (lock_at locks m.0) (used_in_use (state_of s locks) x m.0 kept m.1) m.2)
 
--- it stands among the places of the queue
+-- it stands among the slots of the queue
 pub queued_named : (s : Stored) (locks : List Lock) (n x : ℕ) (key : Key) → IsKept (state_of s locks) → IsUsed (state_of s locks) n
-    → (lock_at locks n).key ≡ key → is_there x s.order ≡ true → names (request_at s x).wants.items key ≡ true → is_there x (lock_at locks n).queue.places ≡ true
+    → (lock_at locks n).key ≡ key → is_there x s.order ≡ true → names (request_at s x).wants.items key ≡ true → is_there x (lock_at locks n).queue.slots ≡ true
 queued_named s locks n x key kept used of present named =
-    subst (λ l. is_there x l ≡ true) (sym (counts s locks n kept used).places)
+    subst (λ l. is_there x l ≡ true) (sym (counts s locks n kept used).slots)
     (kept_there (λ y. names (request_at s y).wants.items (lock_at locks n).key) x s.order present (ap (names (request_at s x).wants.items) of ∙ named))
 
--- the first of some places whose request is the job's
-pub found_of_job : (s : Stored) (job : ℕ) (places : List ℕ) (p : ℕ) → find (λ q. (request_at s q).job == job) places ≡ Some p
-    → (is_there p places ≡ true) × ((request_at s p).job ≡ job)
-found_of_job s job places p found = (
-  find_there (λ q. (request_at s q).job == job) places p found,
-  eqb-true (request_at s p).job job (find_passes (λ q. (request_at s q).job == job) places p found),
+-- the first of some slots whose request is the job's
+pub found_of_job : (s : Stored) (job : ℕ) (slots : List ℕ) (p : ℕ) → find (λ q. (request_at s q).job == job) slots ≡ Some p
+    → (is_there p slots ≡ true) × ((request_at s p).job ≡ job)
+found_of_job s job slots p found = (
+  find_there (λ q. (request_at s q).job == job) slots p found,
+  eqb-true (request_at s p).job job (find_passes (λ q. (request_at s q).job == job) slots p found),
 )

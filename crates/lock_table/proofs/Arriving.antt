@@ -8,7 +8,7 @@ use Rattle.word36.specs.declared.sizes.TheConstants.{LOCKS_A_CALL, JOBS}
 use Rattle.key_queues.specs.Tables.{is_there, IsAt}
 use Rattle.key_queues.proofs.Keeping.{split_there, Has-there, renewing_keeps, flags_tell_grants}
 use Rattle.key_queues.proofs.Orders.{there_split}
-use Rattle.key_queues.proofs.Opening.{there_around, used_same, used_open}
+use Rattle.key_queues.proofs.LockUseLaws.{there_around, used_same, used_in_use}
 use Rattle.lock_queue.specs.declared.want.Want.{Want}
 use Rattle.lock_queue.specs.Keys.{same_key}
 use Rattle.lock_queue.specs.Pools.{PoolShare}
@@ -18,32 +18,32 @@ use Rattle.lock_queue.proofs.Lists.{list_any-found}
 use Rattle.key_queues.specs.declared.lock.Lock.{Lock}
 use Rattle.key_queues.specs.Beginnings.{is_share_of, fitting}
 use Rattle.key_queues.specs.Locks.{lock_at, unused_lock}
-use Rattle.key_queues.specs.Stores.{Stored, filed_at, with_filed, inserted}
+use Rattle.key_queues.specs.Stores.{Stored, entry_at, with_entry, inserted}
 use Rattle.key_queues.specs.Kept.{IsQueueOf, no_queue, appended, KeptQueue}
-use Rattle.key_queues.specs.States.{State, Stands, IsKept, CountsAll, FlagsBut, OpenAreUsed, IsUsed, is_open, Begins, TakesWant, FlagsAll, IsTable, Enters, Renews}
+use Rattle.key_queues.specs.States.{State, IsQueued, IsKept, CountsAll, FlagsBut, InUseHaveRequests, IsUsed, in_use, Begins, TakesWant, FlagsAll, IsTable, Enters, Renews}
 use Rattle.key_queues.proofs.Arriving.{beginning_keeps, taking_keeps, entering_keeps}
 use Rattle.key_queues.proofs.Counted.{fresh_queue}
-use Rattle.lock_table.specs.Filing.{state_of}
+use Rattle.lock_table.specs.TableStates.{state_of}
 use Rattle.lock_table.specs.Arrivals.{IsArriving, Admits, AdmitsFrom, AreShort}
 use Rattle.key_queues.specs.Found.{Readies, IsBegun, IsEntered}
-use Rattle.key_queues.specs.Opened.{is_closed, is_open_for, size_of}
-use Rattle.key_queues.proofs.Finding.{open_parts}
+use Rattle.key_queues.specs.LockUse.{is_free, in_use_for, size_of}
+use Rattle.key_queues.proofs.Finding.{in_use_parts}
 use Rattle.std.proofs.lemmas.Option.{slice_get-get_or}
 use Rattle.lock_queue.specs.Unused.{unused_want}
 use Rattle.lock_queue.specs.WellFormed.{are_apart}
-use Rattle.key_queues.specs.declared.filed.Filed.{Filed}
+use Rattle.key_queues.specs.declared.entry.Entry.{Entry}
 use Rattle.key_queues.proofs.Lists.{take_next}
-use Rattle.key_queues.specs.Filing.{with_more, arrived}
-use Rattle.lock_table.proofs.Filing.{filed_mine, filed_other, lock_mine, lock_other, own_within, used_where, there_before}
+use Rattle.key_queues.specs.Entries.{with_more, arrived}
+use Rattle.lock_table.proofs.Entries.{entry_mine, entry_other, lock_mine, lock_other, own_within, used_where, there_before}
 use Rattle.arrayvec.specs.ArrayVec.{ArrayVec}
 use Rattle.lock_queue.specs.declared.call.Asking.{Asking}
 use Rattle.lock_queue.specs.declared.request.Request.{Request}
 use Rattle.lock_queue.specs.Dequeues.{with_wants}
 use Rattle.lock_queue.specs.Enqueues.{request_of}
 use Rattle.key_queues.proofs.Moves.{map_same}
-use Rattle.lock_table.proofs.Altering.{open_for_from, queue_of_key}
+use Rattle.lock_table.proofs.Altering.{in_use_for_from, queue_of_key}
 
--- ---- there is a lock that is not open while a want is left to be entered
+-- ---- there is a lock that is free while a want is left to be entered
 
 -- a list that has all numbers below a bound is at least so long
 pub covers : (n : ℕ) (xs : List ℕ) → ((k : ℕ) → k < n → is_there k xs ≡ true) → n ≤ length xs
@@ -56,7 +56,7 @@ covers (suc n) xs all =
     let long = ap length found.2 ∙ length-append found.0 (n ∷ found.1) in
     omega (arith, less, long, length-append found.0 found.1)
 
--- the queues of some places, one after another
+-- the queues of some slots, one after another
 pub owned : (ℕ → List ℕ) → List ℕ → List ℕ
 owned own [] = []
 owned own (x ∷ xs) = own x ++ owned own xs
@@ -80,7 +80,7 @@ owned_few own (x ∷ before) p short =
     let rest = owned_few own before p (λ y h. short y (or_right (x == y) (is_there y before) h)) in
     omega (arith, length-append (own x) (owned own (before ++ p ∷ [])), rest, here)
 
--- where no element passes, none does at its place
+-- where no element passes, none does at its position
 pub none_at : {X : Type 0} → (t : X → Bool) (xs : List X) (k : ℕ) (d : X) → list_any t xs ≡ false → k < length xs → t (get_or xs k d) ≡ false
 none_at t [] k d h lt = absurd (omega arith)
 none_at t (x ∷ xs) zero d h lt = grind arith
@@ -90,7 +90,7 @@ none_at t (x ∷ xs) (suc k) d h lt = grind (arith, none_at t xs k d)
 
 pub empty_queue : (size : Option ℕ) → IsQueueOf size [] no_queue
 empty_queue size = record {
-  counts = record { alike = record { each = refl }; places = refl; most = omega arith; taken = refl; party = refl };
+  counts = record { alike = record { each = refl }; slots = refl; most = omega arith; taken = refl; party = refl };
   all = refl;
 }
 
@@ -102,40 +102,40 @@ share_of_size (Some share) = eq-eqb share.size share.size refl
 pub record IsReady (s : State) (w : Want) (n : ℕ) : Type 0 where
   pub kept : IsKept s
   pub full : CountsAll s
-  pub used : OpenAreUsed s
+  pub used : InUseHaveRequests s
   pub key : s.key n ≡ w.key
-  pub only : (x m : ℕ) → Stands s x m → s.key m ≡ w.key → m ≡ n
+  pub only : (x m : ℕ) → IsQueued s x m → s.key m ≡ w.key → m ≡ n
   pub is : IsAt s.at s.order w.key (s.size n) (s.queue n)
   pub alike : is_share_of (s.size n) w.pool ≡ true
-  pub room : length (s.queue n).places < JOBS
+  pub room : length (s.queue n).slots < JOBS
 
 module _ (store : Stored) (locks : List Lock) (p : ℕ) (wants : List Want) (k : ℕ) where
-  -- there is a lock that is not open
-  pub room_left : IsArriving store locks p wants k → k < length wants → LOCKS_A_CALL * length store.order ≤ length locks → list_any is_closed locks ≡ true
-  room_left a more room = go (list_any is_closed locks) refl
+  -- there is a lock that is free
+  pub room_left : IsArriving store locks p wants k → k < length wants → LOCKS_A_CALL * length store.order ≤ length locks → list_any is_free locks ≡ true
+  room_left a more room = go (list_any is_free locks) refl
     where
-      go : (b : Bool) → list_any is_closed locks ≡ b → b ≡ true
+      go : (b : Bool) → list_any is_free locks ≡ b → b ≡ true
       go true e = refl
       go false e =
-          let all : (m : ℕ) → m < length locks → is_there m (owned (λ x. (filed_at store x).queues.items) store.order) ≡ true =
+          let all : (m : ℕ) → m < length locks → is_there m (owned (λ x. (entry_at store x).queues.items) store.order) ≡ true =
           λ m lt.
-          let some : is_open (lock_at locks m).queue ≡ true = not-false (is_open (lock_at locks m).queue) (none_at is_closed locks m unused_lock e lt) in
+          let some : in_use (lock_at locks m).queue ≡ true = not-false (in_use (lock_at locks m).queue) (none_at is_free locks m unused_lock e lt) in
           let u : IsUsed (state_of store locks) m = a.used m some in
-          there_owned (λ x. (filed_at store x).queues.items) u.place m store.order u.stands.present u.stands.there in
-          let long = covers (length locks) (owned (λ x. (filed_at store x).queues.items) store.order) all in
+          there_owned (λ x. (entry_at store x).queues.items) u.slot m store.order u.stands.present u.stands.there in
+          let long = covers (length locks) (owned (λ x. (entry_at store x).queues.items) store.order) all in
           let before : List ℕ = a.last.0 in
           let few =
-          owned_few (λ x. (filed_at store x).queues.items) before p
+          owned_few (λ x. (entry_at store x).queues.items) before p
           (λ x h. a.short x
           (subst (λ l. is_there x l ≡ true) (sym a.last.1)
           (list_any-append (λ z. z == x) before (p ∷ []) ∙ or_left (is_there x before) (is_there x (p ∷ [])) h))) in
-          let same = ap (λ l. length (owned (λ x. (filed_at store x).queues.items) l)) a.last.1 in
+          let same = ap (λ l. length (owned (λ x. (entry_at store x).queues.items) l)) a.last.1 in
           let count = ap length a.last.1 in
           absurd (omega (arith, long, few, same, count, length-append before (p ∷ []), room, more, a.few, a.own))
 
   -- the lock stays as it is
   was_ready : (more : List Lock) (w : Want) (n : ℕ) → IsArriving store locks p wants k → Admits locks w → ((m : ℕ) → lock_at more m ≡ lock_at locks m)
-      → is_open_for w.key (lock_at locks n) ≡ true → IsReady (state_of store more) w n × FlagsBut p (state_of store more)
+      → in_use_for w.key (lock_at locks n) ≡ true → IsReady (state_of store more) w n × FlagsBut p (state_of store more)
   was_ready more w n a admits same t =
       subst (λ (v : State). IsReady v w n × FlagsBut p v) (sym same_state) (ready, a.flags)
     where
@@ -153,8 +153,8 @@ module _ (store : Stored) (locks : List Lock) (p : ℕ) (wants : List Want) (k :
         queue = λ m. (same m i).queue;
       }
 
-      parts : (is_open (lock_at locks n).queue ≡ true) × ((lock_at locks n).key ≡ w.key)
-      parts = open_parts w.key (lock_at locks n) t
+      parts : (in_use (lock_at locks n).queue ≡ true) × ((lock_at locks n).key ≡ w.key)
+      parts = in_use_parts w.key (lock_at locks n) t
 
       u : IsUsed s n
       u = a.used n parts.0
@@ -165,11 +165,11 @@ module _ (store : Stored) (locks : List Lock) (p : ℕ) (wants : List Want) (k :
         full = a.full;
         used = a.used;
         key = parts.1;
-        only = λ x m st e. a.kept.one x m u.place n st u.stands (e ∙ sym parts.1);
+        only = λ x m st e. a.kept.one x m u.slot n st u.stands (e ∙ sym parts.1);
         is =
-            let c = a.kept.counts u.place n u.stands in
+            let c = a.kept.counts u.slot n u.stands in
             let is : IsAt s.at store.order (s.key n) (s.size n) (s.queue n) =
-            record { places = c.places; queue = record { counts = c.counts; all = a.full u.place n u.stands } } in
+            record { slots = c.slots; queue = record { counts = c.counts; all = a.full u.slot n u.stands } } in
             subst (λ j. IsAt s.at store.order j (s.size n) (s.queue n)) parts.1 is;
         alike = admits.alike n t;
         room = admits.room n t;
@@ -185,12 +185,12 @@ module _ (store : Stored) (locks : List Lock) (p : ℕ) (wants : List Want) (k :
       t : State
       t = state_of store more
 
-      shut : is_open (lock_at locks n).queue ≡ false
-      shut = not-true (is_open (lock_at locks n).queue) begun.closed
+      idle : in_use (lock_at locks n).queue ≡ false
+      idle = not-true (in_use (lock_at locks n).queue) begun.free
 
       step : Begins s t n
       step = record {
-        unused = λ x st. both_ways (is_open (lock_at locks n).queue) shut (used_open s x n a.kept st);
+        unused = λ x st. both_ways (in_use (lock_at locks n).queue) idle (used_in_use s x n a.kept st);
         order = refl;
         at = λ x. refl;
         own = λ x. refl;
@@ -204,10 +204,10 @@ module _ (store : Stored) (locks : List Lock) (p : ℕ) (wants : List Want) (k :
       both = beginning_keeps s t p n a.kept step
 
       -- no request stands in a queue of the key
-      nobody : (x m : ℕ) → Stands s x m → s.key m ≡ w.key → ⊥
+      nobody : (x m : ℕ) → IsQueued s x m → s.key m ≡ w.key → ⊥
       nobody x m st e =
-          both_ways (is_open_for w.key (lock_at locks m)) (begun.none m)
-          (open_for_from w.key (lock_at locks m) (used_open s x m a.kept st) e)
+          both_ways (in_use_for w.key (lock_at locks m)) (begun.none m)
+          (in_use_for_from w.key (lock_at locks m) (used_in_use s x m a.kept st) e)
 
       none : list_any (λ x. names (s.at x).wants.items w.key) store.order ≡ false
       none = false_from_ne_true (list_any (λ x. names (s.at x).wants.items w.key) store.order) (λ e.
@@ -224,10 +224,10 @@ module _ (store : Stored) (locks : List Lock) (p : ℕ) (wants : List Want) (k :
             elim (cases_eq m n) [
               | inl e ↦
                   let no : false ≡ true =
-                  subst (λ (l : Lock). is_open l.queue ≡ true) begun.fresh (subst (λ k. is_open (lock_at more k).queue ≡ true) e some) in
+                  subst (λ (l : Lock). in_use l.queue ≡ true) begun.fresh (subst (λ k. in_use (lock_at more k).queue ≡ true) e some) in
                   absurd (false≢true no)
               | inr ne ↦
-                  used_same s t m refl (λ x. refl) (a.used m (subst (λ (l : Lock). is_open l.queue ≡ true) (others m ne) some))
+                  used_same s t m refl (λ x. refl) (a.used m (subst (λ (l : Lock). in_use l.queue ≡ true) (others m ne) some))
             ];
         key = ap (λ (l : Lock). l.key) begun.fresh;
         only =
@@ -241,7 +241,7 @@ module _ (store : Stored) (locks : List Lock) (p : ℕ) (wants : List Want) (k :
             subst (λ (l : Lock). IsAt s.at store.order w.key l.size l.queue) (sym begun.fresh)
             (fresh_queue s.at store.order w.key (size_of w.pool) no_queue a.kept.apart none (empty_queue (size_of w.pool)));
         alike = subst (λ (l : Lock). is_share_of l.size w.pool ≡ true) (sym begun.fresh) (share_of_size w.pool);
-        room = subst (λ (l : Lock). length l.queue.places < JOBS) (sym begun.fresh) (omega arith);
+        room = subst (λ (l : Lock). length l.queue.slots < JOBS) (sym begun.fresh) (omega arith);
       }
 
   -- in both cases
@@ -255,7 +255,7 @@ module _ (store : Stored) (locks : List Lock) (p : ℕ) (wants : List Want) (k :
               | inl e ↦ subst (λ k. lock_at more k ≡ lock_at locks k) (sym e) was.same
               | inr ne ↦ r.others m ne
             ])
-            was.open_for
+            was.in_use_for
         | inr begun ↦ begun_is_ready more w n a r.others begun
       ]
 
@@ -285,15 +285,15 @@ apart_at (w ∷ ws) zero (suc k) d h lt within = grind (arith, all_at (λ v. not
 apart_at (w ∷ ws) (suc j) (suc k) d h lt within = grind (arith, apart_at ws j k d)
 
 module _ (store later : Stored) (locks most : List Lock) (p n k : ℕ) (wants : List Want) (w : Want) where
-  pub entered_one : IsArriving store locks p wants k → k < length wants → w ≡ get_or wants k unused_want → p < length store.filed
-      → IsEntered locks most p w n → later ≡ with_filed store p (with_more (filed_at store p) w n) → IsArriving later most p wants (k + 1)
+  pub entered_one : IsArriving store locks p wants k → k < length wants → w ≡ get_or wants k unused_want → p < length store.entries
+      → IsEntered locks most p w n → later ≡ with_entry store p (with_more (entry_at store p) w n) → IsArriving later most p wants (k + 1)
   entered_one a within is placed e owned = record {
     kept = both.0;
     full = both.1 ready.full;
     flags = both.2 both_ready.1;
     used = used;
     last = (a.last.0, same_order ∙ a.last.1);
-    entered = ap (λ (g : Filed). g.request.wants.items) mine ∙ ap (λ l. l ++ w ∷ []) a.entered ∙ sym next;
+    entered = ap (λ (g : Entry). g.request.wants.items) mine ∙ ap (λ l. l ++ w ∷ []) a.entered ∙ sym next;
     own = own_length ∙ ap (λ j. j + 1) a.own;
     within = omega (arith, within);
     apart = a.apart;
@@ -305,8 +305,8 @@ module _ (store later : Stored) (locks most : List Lock) (p n k : ℕ) (wants : 
       more : List Lock
       more = e.middle
 
-      f : Filed
-      f = filed_at store p
+      f : Entry
+      f = entry_at store p
 
       s : State
       s = state_of store more
@@ -317,17 +317,17 @@ module _ (store later : Stored) (locks most : List Lock) (p n k : ℕ) (wants : 
       same_order : later.order ≡ store.order
       same_order = ap (λ (v : Stored). v.order) owned
 
-      put : later.filed ≡ set store.filed p (with_more f w n)
-      put = ap (λ (v : Stored). v.filed) owned
+      put : later.entries ≡ set store.entries p (with_more f w n)
+      put = ap (λ (v : Stored). v.entries) owned
 
-      mine : filed_at later p ≡ with_more f w n
-      mine = filed_mine store later p (with_more f w n) placed put
+      mine : entry_at later p ≡ with_more f w n
+      mine = entry_mine store later p (with_more f w n) placed put
 
-      others : (x : ℕ) → (x ≡ p → ⊥) → filed_at later x ≡ filed_at store x
-      others = filed_other store later p (with_more f w n) placed put
+      others : (x : ℕ) → (x ≡ p → ⊥) → entry_at later x ≡ entry_at store x
+      others = entry_other store later p (with_more f w n) placed put
 
-      own_length : length (filed_at later p).queues.items ≡ length f.queues.items + 1
-      own_length = ap (λ (g : Filed). length g.queues.items) mine ∙ length-append f.queues.items (n ∷ [])
+      own_length : length (entry_at later p).queues.items ≡ length f.queues.items + 1
+      own_length = ap (λ (g : Entry). length g.queues.items) mine ∙ length-append f.queues.items (n ∷ [])
 
       here : lock_at most n ≡ record (lock_at more n) { queue = appended (lock_at more n).queue p w }
       here = lock_mine more most n (appended (lock_at more n).queue p w) e.ready.within e.after
@@ -349,11 +349,11 @@ module _ (store later : Stored) (locks most : List Lock) (p n k : ℕ) (wants : 
         last = a.last.1;
         order = same_order;
         wants = a.entered;
-        more = ap (λ (g : Filed). g.request.wants.items) mine ∙ ap (λ l. l ++ w ∷ []) a.entered;
+        more = ap (λ (g : Entry). g.request.wants.items) mine ∙ ap (λ l. l ++ w ∷ []) a.entered;
         apart = subst (λ l. are_apart l ≡ true) next (apart_take (k + 1) wants a.apart);
-        owns = ap (λ (g : Filed). g.queues.items) mine;
-        at = λ x ne. ap (λ (g : Filed). g.request) (others x ne);
-        own = λ x ne. ap (λ (g : Filed). g.queues.items) (others x ne);
+        owns = ap (λ (g : Entry). g.queues.items) mine;
+        at = λ x ne. ap (λ (g : Entry). g.request) (others x ne);
+        own = λ x ne. ap (λ (g : Entry). g.queues.items) (others x ne);
         is = ready.is;
         alike = ready.alike;
         only = ready.only;
@@ -364,7 +364,7 @@ module _ (store later : Stored) (locks most : List Lock) (p n k : ℕ) (wants : 
         keys = λ m ne. ap (λ (l : Lock). l.key) (beside m ne);
         sizes = λ m ne. ap (λ (l : Lock). l.size) (beside m ne);
         others = λ m ne. ap (λ (l : Lock). l.queue) (beside m ne);
-        flags = λ x ne. ap (λ (g : Filed). g.granted) (others x ne);
+        flags = λ x ne. ap (λ (g : Entry). g.granted) (others x ne);
       }
 
       both : IsKept t × (CountsAll s → CountsAll t) × (FlagsBut p s → FlagsBut p t)
@@ -373,31 +373,31 @@ module _ (store later : Stored) (locks most : List Lock) (p n k : ℕ) (wants : 
       present : is_there p later.order ≡ true
       present = ap (is_there p) (same_order ∙ a.last.1) ∙ there_split p a.last.0 []
 
-      still : (m x : ℕ) → Stands s x m → Stands t x m
+      still : (m x : ℕ) → IsQueued s x m → IsQueued t x m
       still m x st = record {
         present = ap (is_there x) same_order ∙ st.present;
         there = grind (arith, mine, others x, list_any-append (λ z. z == m) f.queues.items (n ∷ []), st.there);
       }
 
-      owns_new : is_there n (filed_at later p).queues.items ≡ true
+      owns_new : is_there n (entry_at later p).queues.items ≡ true
       owns_new = grind (arith, mine, list_any-append (λ z. z == n) f.queues.items (n ∷ []))
 
-      used : OpenAreUsed t
+      used : InUseHaveRequests t
       used m some =
           elim (cases_eq m n) [
-            | inl e ↦ subst (IsUsed t) (sym e) (record { place = p; stands = record { present = present; there = owns_new } })
-            | inr ne ↦ used_where s t m (still m) (ready.used m (subst (λ (l : Lock). is_open l.queue ≡ true) (beside m ne) some))
+            | inl e ↦ subst (IsUsed t) (sym e) (record { slot = p; stands = record { present = present; there = owns_new } })
+            | inr ne ↦ used_where s t m (still m) (ready.used m (subst (λ (l : Lock). in_use l.queue ≡ true) (beside m ne) some))
           ]
 
       short : AreShort later
       short x h = grind (arith, own_length, a.own, a.few, others x, a.short x, same_order)
 
-      -- the open lock of a want that is entered later is what it was
-      as_before : (j m : ℕ) → k < j → j < length wants → is_open_for (get_or wants j unused_want).key (lock_at most m) ≡ true → lock_at most m ≡ lock_at locks m
+      -- the lock in use of a want that is entered later is what it was
+      as_before : (j m : ℕ) → k < j → j < length wants → in_use_for (get_or wants j unused_want).key (lock_at most m) ≡ true → lock_at most m ≡ lock_at locks m
       as_before j m lt in_wants t =
           elim (cases_eq m n) [
             | inl e ↦
-                let parts = open_parts (get_or wants j unused_want).key (lock_at most m) t in
+                let parts = in_use_parts (get_or wants j unused_want).key (lock_at most m) t in
                 let key : w.key ≡ (get_or wants j unused_want).key =
                 sym ready.key ∙ sym (ap (λ (l : Lock). l.key) here) ∙ ap (λ z. (lock_at most z).key) (sym e) ∙ parts.1 in
                 let mine_key : (get_or wants k unused_want).key ≡ (get_or wants j unused_want).key =
@@ -421,7 +421,7 @@ module _ (store later : Stored) (locks most : List Lock) (p n k : ℕ) (wants : 
 
 -- a request stands last, and none of its wants is entered
 pub came_last : (store later : Stored) (locks : List Lock) (p job : ℕ) (asking : Asking) (wants : List Want) → IsTable (state_of store locks)
-    → AreShort store → p < length store.filed → is_there p store.order ≡ false → are_apart wants ≡ true → length wants ≤ LOCKS_A_CALL
+    → AreShort store → p < length store.entries → is_there p store.order ≡ false → are_apart wants ≡ true → length wants ≤ LOCKS_A_CALL
     → AdmitsFrom 0 locks wants → later ≡ inserted store p (arrived job asking false) → IsArriving later locks p wants 0
 came_last store later locks p job asking wants table short lt out apart few admits put = record {
   kept = both.0;
@@ -429,8 +429,8 @@ came_last store later locks p job asking wants table short lt out apart few admi
   flags = both.2 table.flags;
   used = used;
   last = (store.order, same_order);
-  entered = ap (λ (g : Filed). g.request.wants.items) mine;
-  own = ap (λ (g : Filed). length g.queues.items) mine;
+  entered = ap (λ (g : Entry). g.request.wants.items) mine;
+  own = ap (λ (g : Entry). length g.queues.items) mine;
   within = omega arith;
   apart = apart;
   few = few;
@@ -439,15 +439,15 @@ came_last store later locks p job asking wants table short lt out apart few admi
       λ x h.
       elim (cases_eq x p) [
         | inl e ↦
-            subst (λ z. length (filed_at later z).queues.items ≤ LOCKS_A_CALL) (sym e)
-            (subst (λ (g : Filed). length g.queues.items ≤ LOCKS_A_CALL) (sym mine) (omega arith))
+            subst (λ z. length (entry_at later z).queues.items ≤ LOCKS_A_CALL) (sym e)
+            (subst (λ (g : Entry). length g.queues.items ≤ LOCKS_A_CALL) (sym mine) (omega arith))
         | inr ne ↦
             let was : is_there x store.order ≡ true = there_before x p store.order (subst (λ l. is_there x l ≡ true) same_order h) ne in
-            subst (λ (g : Filed). length g.queues.items ≤ LOCKS_A_CALL) (sym (others x ne)) (short x was)
+            subst (λ (g : Entry). length g.queues.items ≤ LOCKS_A_CALL) (sym (others x ne)) (short x was)
       ];
 }
   where
-    f : Filed
+    f : Entry
     f = arrived job asking false
 
     s : State
@@ -459,52 +459,52 @@ came_last store later locks p job asking wants table short lt out apart few admi
     same_order : later.order ≡ store.order ++ p ∷ []
     same_order = ap (λ (v : Stored). v.order) put
 
-    put_in : later.filed ≡ set store.filed p f
-    put_in = ap (λ (v : Stored). v.filed) put
+    put_in : later.entries ≡ set store.entries p f
+    put_in = ap (λ (v : Stored). v.entries) put
 
-    mine : filed_at later p ≡ f
-    mine = filed_mine store later p f lt put_in
+    mine : entry_at later p ≡ f
+    mine = entry_mine store later p f lt put_in
 
-    others : (x : ℕ) → x ≢ p → filed_at later x ≡ filed_at store x
-    others = filed_other store later p f lt put_in
+    others : (x : ℕ) → x ≢ p → entry_at later x ≡ entry_at store x
+    others = entry_other store later p f lt put_in
 
     step : Enters s t p
     step = record {
       out = out;
       order = same_order;
-      none = ap (λ (g : Filed). g.request.wants.items) mine;
-      owns = ap (λ (g : Filed). g.queues.items) mine;
-      at = λ x ne. ap (λ (g : Filed). g.request) (others x ne);
-      own = λ x ne. ap (λ (g : Filed). g.queues.items) (others x ne);
+      none = ap (λ (g : Entry). g.request.wants.items) mine;
+      owns = ap (λ (g : Entry). g.queues.items) mine;
+      at = λ x ne. ap (λ (g : Entry). g.request) (others x ne);
+      own = λ x ne. ap (λ (g : Entry). g.queues.items) (others x ne);
       key = λ m. refl;
       size = λ m. refl;
       queue = λ m. refl;
-      flags = λ x ne. ap (λ (g : Filed). g.granted) (others x ne);
+      flags = λ x ne. ap (λ (g : Entry). g.granted) (others x ne);
     }
 
     both : IsKept t × (CountsAll s → CountsAll t) × (FlagsAll s → FlagsBut p t)
     both = entering_keeps s t p table.kept step
 
-    still : (m x : ℕ) → Stands s x m → Stands t x m
+    still : (m x : ℕ) → IsQueued s x m → IsQueued t x m
     still m x st =
         let ne : x ≢ p = λ e. grind (arith, e, out, st.present) in
         record {
           present = grind (arith, same_order, list_any-append (λ z. z == x) store.order (p ∷ []), st.present);
-          there = ap (λ (g : Filed). is_there m g.queues.items) (others x ne) ∙ st.there;
+          there = ap (λ (g : Entry). is_there m g.queues.items) (others x ne) ∙ st.there;
         }
 
-    used : OpenAreUsed t
+    used : InUseHaveRequests t
     used m some = used_where s t m (still m) (table.used m some)
 
-pub came_others : (store later : Stored) (p x job : ℕ) (asking : Asking) → p < length store.filed
-    → later ≡ inserted store p (arrived job asking false) → (x ≡ p → ⊥) → (filed_at later x).request ≡ (filed_at store x).request
+pub came_others : (store later : Stored) (p x job : ℕ) (asking : Asking) → p < length store.entries
+    → later ≡ inserted store p (arrived job asking false) → (x ≡ p → ⊥) → (entry_at later x).request ≡ (entry_at store x).request
 came_others store later p x job asking lt put ne =
-    ap (λ (g : Filed). g.request) (filed_other store later p (arrived job asking false) lt (ap (λ (v : Stored). v.filed) put) x ne)
+    ap (λ (g : Entry). g.request) (entry_other store later p (arrived job asking false) lt (ap (λ (v : Stored). v.entries) put) x ne)
 
-pub came_mine : (store later : Stored) (p job : ℕ) (asking : Asking) → p < length store.filed → later ≡ inserted store p (arrived job asking false)
-    → (filed_at later p).request ≡ request_of job asking false (record { items = [] })
+pub came_mine : (store later : Stored) (p job : ℕ) (asking : Asking) → p < length store.entries → later ≡ inserted store p (arrived job asking false)
+    → (entry_at later p).request ≡ request_of job asking false (record { items = [] })
 came_mine store later p job asking lt put =
-    ap (λ (g : Filed). g.request) (filed_mine store later p (arrived job asking false) lt (ap (λ (v : Stored). v.filed) put))
+    ap (λ (g : Entry). g.request) (entry_mine store later p (arrived job asking false) lt (ap (λ (v : Stored). v.entries) put))
 
 -- all wants of the request are entered, and its flag is set right
 module _ (store later : Stored) (locks : List Lock) (p : ℕ) (wants : List Want) where
@@ -518,7 +518,7 @@ module _ (store later : Stored) (locks : List Lock) (p : ℕ) (wants : List Want
     full = full;
     used =
         λ m some.
-        used_same s t m renews.order renews.own (a.used m (subst (λ (q : KeptQueue). is_open q ≡ true) (renews.queue m) some));
+        used_same s t m renews.order renews.own (a.used m (subst (λ (q : KeptQueue). in_use q ≡ true) (renews.queue m) some));
   }
     where
       s : State
@@ -532,7 +532,7 @@ module _ (store later : Stored) (locks : List Lock) (p : ℕ) (wants : List Want
 
       full : CountsAll t
       full x m st =
-          let was : Stands s x m = record {
+          let was : IsQueued s x m = record {
             present = subst (λ l. is_there x l ≡ true) renews.order st.present;
             there = subst (λ l. is_there m l ≡ true) (renews.own x) st.there;
           } in
@@ -540,7 +540,7 @@ module _ (store later : Stored) (locks : List Lock) (p : ℕ) (wants : List Want
           a.full x m was
           ∙ ap fitting (sym (ap (λ l. wants_at (map t.at l) (s.key m)) renews.order ∙ ap (λ (f : ℕ → Request). wants_at (map f s.order) (s.key m)) same))
 
-  pub queues_within : IsArriving store locks p wants (length wants) → All (λ n. n < length locks) (filed_at store p).queues.items
+  pub queues_within : IsArriving store locks p wants (length wants) → All (λ n. n < length locks) (entry_at store p).queues.items
   queues_within a = own_within store locks p a.kept (present_last a)
 
 -- a request with its wants is what it was without them, and they
@@ -551,11 +551,11 @@ whole_again r job asking wants bare all =
 
 -- and it is granted where it has to be
 pub flag_last : (store later : Stored) (before : List ℕ) (locks : List Lock) (p : ℕ) (r : Request) → IsTable (state_of later locks)
-    → later.order ≡ before ++ p ∷ [] → is_there p before ≡ false → (filed_at later p).request ≡ r
-    → ((x : ℕ) → (x ≡ p → ⊥) → (filed_at later x).request ≡ (filed_at store x).request)
-    → (filed_at later p).granted ≡ granted_behind (map (λ x. (filed_at store x).request) before) r
+    → later.order ≡ before ++ p ∷ [] → is_there p before ≡ false → (entry_at later p).request ≡ r
+    → ((x : ℕ) → (x ≡ p → ⊥) → (entry_at later x).request ≡ (entry_at store x).request)
+    → (entry_at later p).granted ≡ granted_behind (map (λ x. (entry_at store x).request) before) r
 flag_last store later before locks p r table last out is others =
     flags_tell_grants (state_of later locks) table.kept table.full table.flags before [] p last
-    ∙ ap (λ l. granted_behind l (filed_at later p).request)
-    (map_same (λ x. (filed_at later x).request) (λ x. (filed_at store x).request) p before out others)
-    ∙ ap (granted_behind (map (λ x. (filed_at store x).request) before)) is
+    ∙ ap (λ l. granted_behind l (entry_at later p).request)
+    (map_same (λ x. (entry_at later x).request) (λ x. (entry_at store x).request) p before out others)
+    ∙ ap (granted_behind (map (λ x. (entry_at store x).request) before)) is

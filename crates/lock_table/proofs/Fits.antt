@@ -15,9 +15,9 @@ use Rattle.key_queues.specs.Locks.{lock_at}
 use Rattle.key_queues.specs.States.{IsTable}
 use Rattle.key_queues.specs.Stores.{Stored}
 use Rattle.key_queues.proofs.Counting.{fits_last_is}
-use Rattle.key_queues.proofs.Finding.{found_open, open_parts}
+use Rattle.key_queues.proofs.Finding.{found_in_use, in_use_parts}
 use Rattle.lock_table.specs.Arrivals.{Admits, AdmitsFrom, AreFound, no_found}
-use Rattle.lock_table.specs.Filing.{state_of}
+use Rattle.lock_table.specs.TableStates.{state_of}
 use Rattle.lock_table.specs.Whole.{requests_in}
 use Rattle.lock_table.proofs.Arriving.{all_at}
 use Rattle.lock_table.proofs.Queued.{queue_is, unwanted_at}
@@ -34,13 +34,13 @@ module _ (s : Stored) (locks : List Lock) (table : IsTable (state_of s locks)) w
     where
       go : (o : Option ℕ) → seen.number ≡ o → b ≡ fits (requests_in s) w
       go (Some n) e =
-          let open_for = found_open locks w.key seen n found e in
-          let parts = open_parts w.key (lock_at locks n) open_for in
+          let in_use_for = found_in_use locks w.key seen n found e in
+          let parts = in_use_parts w.key (lock_at locks n) in_use_for in
           let is = queue_is s locks n table parts.0 in
           let said : b ≡ fits_last (lock_at locks n).queue w = subst (λ o. IfSome o (λ m. b ≡ fits_last (lock_at locks m).queue w)) e some in
           said
           ∙ fits_last_is (lock_at locks n).size (wants_at (requests_in s) (lock_at locks n).key) (lock_at locks n).queue w is.queue
-          (admits.alike n open_for)
+          (admits.alike n in_use_for)
           ∙ ap (λ (k : Key). fits_beside (wants_at (requests_in s) k) w w.pool) parts.1
       go None e =
           let range_of : is_right_pool w.pool ≡ true = grind (arith, range) in

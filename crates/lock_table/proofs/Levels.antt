@@ -10,13 +10,13 @@ use Rattle.lock_queue.specs.Queue.{names, wants_at}
 use Rattle.lock_queue.specs.StatusWords.{first_level}
 use Rattle.lock_queue.specs.WellFormed.{are_apart}
 use Rattle.lock_queue.proofs.Lists.{Has}
-use Rattle.key_queues.specs.States.{IsTable, is_open}
+use Rattle.key_queues.specs.States.{IsTable, in_use}
 use Rattle.key_queues.specs.Tables.{is_there}
-use Rattle.key_queues.proofs.Counted.{own_wants_are, want_of, wants_by_places}
-use Rattle.key_queues.proofs.Standing.{one_of_key}
+use Rattle.key_queues.proofs.Counted.{own_wants_are, want_of, wants_by_slots}
+use Rattle.key_queues.proofs.Fronts.{one_of_key}
 use Rattle.key_queues.specs.declared.lock.Lock.{Lock}
 use Rattle.key_queues.specs.Stores.{Stored}
-use Rattle.lock_table.specs.Filing.{state_of, want_filed}
+use Rattle.lock_table.specs.TableStates.{state_of, queued_want}
 use Rattle.lock_table.specs.Reads.{request_at}
 use Rattle.lock_table.specs.Whole.{LevelsAgree, level_at, requests_in}
 use Rattle.lock_table.proofs.Queued.{first_there, mapped_all, queue_is, share_is, there_parts, want_is}
@@ -38,7 +38,7 @@ first_tells : (test : Want → Bool) (f : ℕ → Want) (xs : List ℕ) → is_t
 first_tells test f [] there like = cc
 first_tells test f (x ∷ xs) there like = grind (arith, like)
 
-module _ (s : Stored) (locks : List Lock) (n : ℕ) (t : IsTable (state_of s locks)) (open_is : is_open (lock_at locks n).queue ≡ true) (w : Want)
+module _ (s : Stored) (locks : List Lock) (n : ℕ) (t : IsTable (state_of s locks)) (in_use_is : in_use (lock_at locks n).queue ≡ true) (w : Want)
     (agree : LevelsAgree s) where
   abbrev key : Key
   key = (lock_at locks n).key
@@ -46,25 +46,25 @@ module _ (s : Stored) (locks : List Lock) (n : ℕ) (t : IsTable (state_of s loc
   abbrev of : ℕ → Want
   of x = want_of key (request_at s x)
 
-  abbrev places : List ℕ
-  places = (lock_at locks n).queue.places
+  abbrev slots : List ℕ
+  slots = (lock_at locks n).queue.slots
 
-  like : (p x : ℕ) → is_there p places ≡ true → is_there x places ≡ true → are_alike (of p) w ≡ true → are_alike (of x) w ≡ true
+  like : (p x : ℕ) → is_there p slots ≡ true → is_there x slots ≡ true → are_alike (of p) w ≡ true → are_alike (of x) w ≡ true
   like p x hp hx is =
-      let a = there_parts s locks n t open_is p hp in
-      let b = there_parts s locks n t open_is x hx in
+      let a = there_parts s locks n t in_use_is p hp in
+      let b = there_parts s locks n t in_use_is x hx in
       let level : (of x).level ≡ (of p).level =
       level_of_read (request_at s x) key (t.kept.apart x) b.1 ∙ agree x p key b.0 a.0 b.1 a.1
       ∙ sym (level_of_read (request_at s p) key (t.kept.apart p) a.1) in
-      grind (arith, level, is, share_is s locks n t open_is p hp, share_is s locks n t open_is x hx)
+      grind (arith, level, is, share_is s locks n t in_use_is p hp, share_is s locks n t in_use_is x hx)
 
-  pub first_alike : (lock_at locks n).key ≡ w.key → are_alike (want_filed s (get_or places 0 0) n) w ≡ list_all (λ v. are_alike v w) (wants_at (requests_in s) w.key)
+  pub first_alike : (lock_at locks n).key ≡ w.key → are_alike (queued_want s (get_or slots 0 0) n) w ≡ list_all (λ v. are_alike v w) (wants_at (requests_in s) w.key)
   first_alike same =
-      let first = first_there s locks n t open_is in
-      let all : wants_at (requests_in s) w.key ≡ map of places =
-      ap (wants_at (requests_in s)) (sym same) ∙ wants_by_places (request_at s) t.kept.apart s.order key
-      ∙ ap (map of) (sym (queue_is s locks n t open_is).places) in
-      ap (λ v. are_alike v w) (want_is s locks n t open_is (get_or places 0 0) first)
-      ∙ first_tells (λ v. are_alike v w) of places first
-      (λ is. mapped_all (λ v. are_alike v w) of places (λ x h. like (get_or places 0 0) x first h is))
+      let first = first_there s locks n t in_use_is in
+      let all : wants_at (requests_in s) w.key ≡ map of slots =
+      ap (wants_at (requests_in s)) (sym same) ∙ wants_by_slots (request_at s) t.kept.apart s.order key
+      ∙ ap (map of) (sym (queue_is s locks n t in_use_is).slots) in
+      ap (λ v. are_alike v w) (want_is s locks n t in_use_is (get_or slots 0 0) first)
+      ∙ first_tells (λ v. are_alike v w) of slots first
+      (λ is. mapped_all (λ v. are_alike v w) of slots (λ x h. like (get_or slots 0 0) x first h is))
       ∙ ap (list_all (λ v. are_alike v w)) (sym all)

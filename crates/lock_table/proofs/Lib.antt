@@ -1,4 +1,4 @@
-pub mod Filing
+pub mod Entries
 pub mod Altering
 pub mod Writing
 pub mod Wholes

@@ -11,22 +11,22 @@ use Rattle.lock_queue.specs.Queue.{names, requests_of, wants_of, all_wants}
 use Rattle.lock_queue.specs.Unused.{unused_want}
 use Rattle.lock_queue.specs.WellFormed.{are_apart, is_well_formed}
 use Rattle.lock_queue.proofs.Fitting.{eq-same_key, names-found, same_key-eq, same_key-swap, names-Has}
-use Rattle.key_queues.specs.declared.filed.Filed.{Filed}
+use Rattle.key_queues.specs.declared.entry.Entry.{Entry}
 use Rattle.key_queues.specs.declared.found.Found.{Found}
 use Rattle.key_queues.specs.declared.lock.Lock.{Lock}
 use Rattle.key_queues.specs.Locks.{lock_at}
-use Rattle.key_queues.specs.Stores.{Stored, filed_at, without_place}
-use Rattle.lock_table.specs.Filing.{own_at, state_of}
-use Rattle.key_queues.specs.States.{State, IsTable, LosesWant, is_open}
-use Rattle.key_queues.specs.Tables.{is_there, QueuesOf, StandsOnce, places_at}
+use Rattle.key_queues.specs.Stores.{Stored, entry_at, without_slot}
+use Rattle.lock_table.specs.TableStates.{own_at, state_of}
+use Rattle.key_queues.specs.States.{State, IsTable, LosesWant, in_use}
+use Rattle.key_queues.specs.Tables.{is_there, QueuesOf, AreDistinct, slots_at}
 use Rattle.key_queues.proofs.Using.{position_found, as_many_queues, kept_there, there_at, there_kept}
 use Rattle.lock_table.specs.Arrivals.{no_found}
 use Rattle.lock_table.specs.Reads.{request_at}
 use Rattle.lock_table.specs.Departures.{without_key, IsWantOf, IsLeft, left_named, IsSoleNamed, stays_beside}
-use Rattle.key_queues.specs.Opened.{is_open_for}
+use Rattle.key_queues.specs.LockUse.{in_use_for}
 use Rattle.lock_table.proofs.Arriving.{apart_at}
-use Rattle.key_queues.proofs.Finding.{open_parts, find_misses}
-use Rattle.lock_table.proofs.Altering.{filter_each, open_named, found_of_job}
+use Rattle.key_queues.proofs.Finding.{in_use_parts, find_misses}
+use Rattle.lock_table.proofs.Altering.{filter_each, in_use_named, found_of_job}
 use Rattle.lock_queue.proofs.Lists.{list_all-Has, Has-filter, filter-Has, flat_map-Has, map-Has}
 use Rattle.std.proofs.lemmas.List.Folds.{list_any-append}
 use Rattle.std.proofs.lemmas.Option.{slice_get-get_or}
@@ -38,10 +38,10 @@ use Rattle.lock_queue.proofs.Refusing.{or_else-None, refuse_if-None}
 use Rattle.key_queues.proofs.Lists.{take_next}
 use Rattle.key_queues.proofs.Orders.{filter_same}
 use Rattle.lock_table.specs.Whole.{AreRight, JobsAreApart, level_at, requests_in}
-use Rattle.lock_table.proofs.Filing.{has_where_named, order_step, left_next, left_none}
+use Rattle.lock_table.proofs.Entries.{has_where_named, order_step, left_next, left_none}
 use Rattle.lock_queue.specs.declared.refusal.Refusal.TheVariants.{NotPresent}
 use Rattle.lock_table.proofs.Queued.{queue_is, queued_is}
-use Rattle.lock_table.proofs.Reading.{requests_of_places}
+use Rattle.lock_table.proofs.Reading.{requests_of_slots}
 
 -- ---- wants are found by their keys and leave
 
@@ -68,51 +68,51 @@ key_at key [] (m ∷ ns) k n q e = absurd q
 key_at key (w ∷ ws) [] k n q e = absurd q
 
 -- which of a request's wants stands in a queue
-pub record StandsAt (s : Stored) (locks : List Lock) (p n k : ℕ) : Type 0 where
+pub record IsQueuedAt (s : Stored) (locks : List Lock) (p n k : ℕ) : Type 0 where
   pub want : IsWantOf s p (lock_at locks n).key k
   pub own : own_at s p k ≡ n
 
-pub stands_at : (s : Stored) (locks : List Lock) (p n k : ℕ) (f : Filed) (own : List ℕ) → IsTable (state_of s locks) → is_there p s.order ≡ true
-    → is_open (lock_at locks n).queue ≡ true → names (filed_at s p).request.wants.items (lock_at locks n).key ≡ true → f ≡ filed_at s p
-    → own ≡ f.queues.items → k ≡ position_or_len (λ m. m == n) own → StandsAt s locks p n k
-stands_at s locks p n k f own table present open_is named read is at =
-    let queues = (filed_at s p).queues.items in
-    let found = position_found n queues (queued_is s locks n table open_is p present ∙ named) in
+pub stands_at : (s : Stored) (locks : List Lock) (p n k : ℕ) (f : Entry) (own : List ℕ) → IsTable (state_of s locks) → is_there p s.order ≡ true
+    → in_use (lock_at locks n).queue ≡ true → names (entry_at s p).request.wants.items (lock_at locks n).key ≡ true → f ≡ entry_at s p
+    → own ≡ f.queues.items → k ≡ position_or_len (λ m. m == n) own → IsQueuedAt s locks p n k
+stands_at s locks p n k f own table present in_use_is named read is at =
+    let queues = (entry_at s p).queues.items in
+    let found = position_found n queues (queued_is s locks n table in_use_is p present ∙ named) in
     let some = slice_get-get_or queues (position_or_len (λ m. m == n) queues) 0 found.0 in
-    subst (StandsAt s locks p n)
-    (sym (at ∙ ap (position_or_len (λ m. m == n)) (is ∙ ap (λ (v : Filed). v.queues.items) read)))
+    subst (IsQueuedAt s locks p n)
+    (sym (at ∙ ap (position_or_len (λ m. m == n)) (is ∙ ap (λ (v : Entry). v.queues.items) read)))
     (record {
       want = record {
         within = found.0;
         of =
-            key_at (λ m. (lock_at locks m).key) (filed_at s p).request.wants.items queues (position_or_len (λ m. m == n) queues) n
+            key_at (λ m. (lock_at locks m).key) (entry_at s p).request.wants.items queues (position_or_len (λ m. m == n) queues) n
             (table.kept.queues p present) found.1;
       };
       own = cc (some, found.1);
     })
 
 module _ (store : Stored) (locks : List Lock) (p : ℕ) (key : Key) where
-  pub key_lost : IsTable (state_of store locks) → is_there p store.order ≡ true → names (filed_at store p).request.wants.items key ≡ true
-      → ((n : ℕ) → is_open_for key (lock_at locks n) ≡ false) → ⊥
+  pub key_lost : IsTable (state_of store locks) → is_there p store.order ≡ true → names (entry_at store p).request.wants.items key ≡ true
+      → ((n : ℕ) → in_use_for key (lock_at locks n) ≡ false) → ⊥
   key_lost table present named none =
-      let m = open_named store locks p key table.kept present named in
+      let m = in_use_named store locks p key table.kept present named in
       both_ways _ (none m.0) m.1
 
 -- what is left of a request that gave up the want of a key
 pub key_given : (store later : Stored) (locks more : List Lock) (p k : ℕ) (key : Key) → IsTable (state_of store locks) → is_there p store.order ≡ true
-    → IsWantOf store p key k → LosesWant (state_of store locks) (state_of later more) p k → (filed_at later p).request ≡ without_key key (filed_at store p).request
+    → IsWantOf store p key k → LosesWant (state_of store locks) (state_of later more) p k → (entry_at later p).request ≡ without_key key (entry_at store p).request
 key_given store later locks more p k key table present want lost =
     let s : State = state_of store locks in
     let few = as_many_queues (λ w n. s.key n ≡ w.key) (s.at p).wants.items (s.own p) (table.kept.queues p present) in
     lost.left
-    ∙ ap (with_wants (filed_at store p).request)
-    (remove_key (filed_at store p).request.wants.items k key (table.kept.apart p) (omega (arith, want.within, few)) want.of)
+    ∙ ap (with_wants (entry_at store p).request)
+    (remove_key (entry_at store p).request.wants.items k key (table.kept.apart p) (omega (arith, want.within, few)) want.of)
 
 -- a request without wants has no queues
 pub none_left : (store : Stored) (locks : List Lock) (p : ℕ) → IsTable (state_of store locks) → is_there p store.order ≡ true
-    → has_wants (filed_at store p).request ≡ false → length (filed_at store p).queues.items ≡ 0
+    → has_wants (entry_at store p).request ≡ false → length (entry_at store p).queues.items ≡ 0
 none_left store locks p table present none =
-    let few = as_many_queues (λ w n. (lock_at locks n).key ≡ w.key) (filed_at store p).request.wants.items (filed_at store p).queues.items (table.kept.queues p present) in
+    let few = as_many_queues (λ w n. (lock_at locks n).key ≡ w.key) (entry_at store p).request.wants.items (entry_at store p).queues.items (table.kept.queues p present) in
     grind (arith, few)
 
 -- ---- a job gives up keys
@@ -128,43 +128,43 @@ passes_at fault e (w ∷ ws) (suc i) h lt =
 
 -- a job's request with a want of a key
 pub record HasKey (s : Stored) (job : ℕ) (key : Key) : Type 0 where
-  pub place : ℕ
-  pub present : is_there place s.order ≡ true
-  pub job_is : (request_at s place).job ≡ job
-  pub named : names (request_at s place).wants.items key ≡ true
+  pub slot : ℕ
+  pub present : is_there slot s.order ≡ true
+  pub job_is : (request_at s slot).job ≡ job
+  pub named : names (request_at s slot).wants.items key ≡ true
 
 pub has_key : (s : Stored) (job : ℕ) (key : Key) → names (wants_of (requests_in s) job) key ≡ true → HasKey s job key
 has_key s job key h =
     let want = names-found (wants_of (requests_in s) job) key h in
     let request = flat_map-Has (λ (r : Request). r.wants.items) (requests_of (requests_in s) job) want.0 want.1 in
     let mine = filter-Has (λ (r : Request). r.job == job) (requests_in s) request.0 request.1 in
-    let place = map-Has (request_at s) s.order request.0 mine.1 in
+    let slot = map-Has (request_at s) s.order request.0 mine.1 in
     record {
-      place = place.0;
-      present = Has-there s.order place.0 place.1;
-      job_is = ap (λ (r : Request). r.job) place.2 ∙ eqb-true request.0.job job mine.0;
-      named = subst (λ (r : Request). names r.wants.items key ≡ true) (sym place.2) (names-Has request.0.wants.items key want.0 request.2 want.2);
+      slot = slot.0;
+      present = Has-there s.order slot.0 slot.1;
+      job_is = ap (λ (r : Request). r.job) slot.2 ∙ eqb-true request.0.job job mine.0;
+      named = subst (λ (r : Request). names r.wants.items key ≡ true) (sym slot.2) (names-Has request.0.wants.items key want.0 request.2 want.2);
     }
 
--- the first place of a job's request among those of a key
-module _ (s : Stored) (job : ℕ) (key : Key) (places : List ℕ) (of : places ≡ places_at (request_at s) s.order key) where
-  key_there : All (λ x. is_there x s.order ≡ true) places
+-- the first slot of a job's request among those of a key
+module _ (s : Stored) (job : ℕ) (key : Key) (slots : List ℕ) (of : slots ≡ slots_at (request_at s) s.order key) where
+  key_there : All (λ x. is_there x s.order ≡ true) slots
   key_there k d lt =
-      let x : ℕ = get_or places k d in
-      (there_kept (λ y. names (request_at s y).wants.items key) x s.order (subst (λ l. is_there x l ≡ true) of (there_at places k d lt))).0
+      let x : ℕ = get_or slots k d in
+      (there_kept (λ y. names (request_at s y).wants.items key) x s.order (subst (λ l. is_there x l ≡ true) of (there_at slots k d lt))).0
 
-  found_place : (p : ℕ) → find (λ q. (request_at s q).job == job) places ≡ Some p
+  found_slot : (p : ℕ) → find (λ q. (request_at s q).job == job) slots ≡ Some p
       → (is_there p s.order ≡ true) × ((request_at s p).job ≡ job) × (names (request_at s p).wants.items key ≡ true)
-  found_place p at =
-      let found = found_of_job s job places p at in
+  found_slot p at =
+      let found = found_of_job s job slots p at in
       let both = there_kept (λ y. names (request_at s y).wants.items key) p s.order (subst (λ l. is_there p l ≡ true) of found.0) in
       (both.0, found.1, both.1)
 
-  not_missed : HasKey s job key → find (λ q. (request_at s q).job == job) places ≡ None → ⊥
+  not_missed : HasKey s job key → find (λ q. (request_at s q).job == job) slots ≡ None → ⊥
   not_missed h none =
-      let there = ap (is_there h.place) of ∙ kept_there (λ y. names (request_at s y).wants.items key) h.place s.order h.present h.named in
-      both_ways ((request_at s h.place).job == job) (find_misses (λ q. (request_at s q).job == job) places h.place none there)
-      (eq-eqb (request_at s h.place).job job h.job_is)
+      let there = ap (is_there h.slot) of ∙ kept_there (λ y. names (request_at s y).wants.items key) h.slot s.order h.present h.named in
+      both_ways ((request_at s h.slot).job == job) (find_misses (λ q. (request_at s q).job == job) slots h.slot none there)
+      (eq-eqb (request_at s h.slot).job job h.job_is)
 
 -- a key that is given up is of a request of the job, and was not given up before
 pub record IsNext (s : Stored) (job : ℕ) (named : List Want) (i : ℕ) (w : Want) : Type 0 where
@@ -251,22 +251,22 @@ module _ (s : Stored) (job : ℕ) (named : List Want) (w : Want) (p : ℕ) where
   left_other apart here mine has x there ne = left_more s job named w x ∙ grind (arith, apart x p w.key there here, fewer_named s job named x w.key, filter_none w.key (left_named s job named x).wants.items, eqb-true (request_at s x).job job)
 
 -- one step of the loop
-module _ (s t u : Stored) (job i : ℕ) (named : List Want) (w : Want) (next : IsNext s job named i w) (once : StandsOnce s.order)
+module _ (s t u : Stored) (job i : ℕ) (named : List Want) (w : Want) (next : IsNext s job named i w) (once : AreDistinct s.order)
     (left : IsLeft s t (left_named s job (take i named)) (λ x. has_wants (left_named s job (take i named) x))) where
   next_present : HasKey t job w.key
   next_present =
       let h = next.has in
-      let still = still_named s job (take i named) h.place w.key h.named next.new in
-      let stays = has_where_named (left_named s job (take i named) h.place) w.key still in
-      let present : is_there h.place t.order ≡ true =
-      ap (is_there h.place) left.order ∙ kept_there (λ x. has_wants (left_named s job (take i named) x)) h.place s.order h.present stays in
-      let is = left.left h.place present in
-      record { place = h.place; present = present; job_is = grind (arith, is, job_named s job (take i named) h.place, h.job_is); named = grind (arith, is, still) }
+      let still = still_named s job (take i named) h.slot w.key h.named next.new in
+      let stays = has_where_named (left_named s job (take i named) h.slot) w.key still in
+      let present : is_there h.slot t.order ≡ true =
+      ap (is_there h.slot) left.order ∙ kept_there (λ x. has_wants (left_named s job (take i named) x)) h.slot s.order h.present stays in
+      let is = left.left h.slot present in
+      record { slot = h.slot; present = present; job_is = grind (arith, is, job_named s job (take i named) h.slot, h.job_is); named = grind (arith, is, still) }
 
   pub next_left : (p : ℕ) → JobsAreApart s → is_there p t.order ≡ true → (request_at t p).job ≡ job → names (request_at t p).wants.items w.key ≡ true
-      → (is_there p u.order ≡ true → (filed_at u p).request ≡ without_key w.key (filed_at t p).request)
-      → ((x : ℕ) → (x ≡ p → ⊥) → (filed_at u x).request ≡ (filed_at t x).request)
-      → u.order ≡ cond (has_wants (without_key w.key (filed_at t p).request)) t.order (without_place t.order p)
+      → (is_there p u.order ≡ true → (entry_at u p).request ≡ without_key w.key (entry_at t p).request)
+      → ((x : ℕ) → (x ≡ p → ⊥) → (entry_at u x).request ≡ (entry_at t x).request)
+      → u.order ≡ cond (has_wants (without_key w.key (entry_at t p).request)) t.order (without_slot t.order p)
       → IsLeft s u (left_named s job (take (i + 1) named)) (λ x. has_wants (left_named s job (take (i + 1) named) x))
   next_left p apart present mine has given others order = record {
     order = new_order;
@@ -274,7 +274,7 @@ module _ (s t u : Stored) (job i : ℕ) (named : List Want) (w : Want) (next : I
         λ x h.
         elim (cases_eq x p) [
           | inl e ↦
-              subst (λ z. (filed_at u z).request ≡ f2 z) (sym e)
+              subst (λ z. (entry_at u z).request ≡ f2 z) (sym e)
               (given (subst (λ z. is_there z u.order ≡ true) e h) ∙ ap (without_key w.key) (left.left p present) ∙ sym at_p)
           | inr ne ↦
               let both = there_kept u2 x s.order (subst (λ l. is_there x l ≡ true) new_order h) in
@@ -312,7 +312,7 @@ module _ (s t u : Stored) (job i : ℕ) (named : List Want) (w : Want) (next : I
       other : (x : ℕ) → is_there x s.order ≡ true → x ≢ p → f2 x ≡ f1 x
       other x h ne = ap (λ l. left_named s job l x) next.more ∙ left_other s job (take i named) w p apart there.0 mine_s has_s x h ne
 
-      -- the tests, of the places that are there
+      -- the tests, of the slots that are there
       t3 : ℕ → Bool
       t3 x = is_there x s.order && t1 x
 
@@ -325,7 +325,7 @@ module _ (s t u : Stored) (job i : ℕ) (named : List Want) (w : Want) (next : I
       within : (t4 : ℕ → Bool) → filter t4 s.order ≡ filter (λ x. is_there x s.order && t4 x) s.order
       within t4 = filter_same t4 (λ x. is_there x s.order && t4 x) s.order (λ x h. sym (ap (λ b. b && t4 x) h))
 
-      at_once : u3 p ≡ has_wants (without_key w.key (filed_at t p).request)
+      at_once : u3 p ≡ has_wants (without_key w.key (entry_at t p).request)
       at_once =
           ap (λ b. b && u2 p) there.0
           ∙ ap (λ (r : Request). has_wants r) (at_p ∙ ap (without_key w.key) (sym (left.left p present)))
@@ -333,7 +333,7 @@ module _ (s t u : Stored) (job i : ℕ) (named : List Want) (w : Want) (next : I
       new_order : u.order ≡ filter u2 s.order
       new_order =
           order_step t3 u3 p s.order t.order u.order once (left.order ∙ within t1)
-          (order ∙ ap (λ b. cond b t.order (without_place t.order p)) (sym at_once))
+          (order ∙ ap (λ b. cond b t.order (without_slot t.order p)) (sym at_once))
           (ap (λ b. b && t1 p) there.0 ∙ there.1) same_test
           ∙ sym (within u2)
 
@@ -375,8 +375,8 @@ module _ (s : Stored) (job : ℕ) (named : List Want) (p : ℕ) (is : IsSoleName
   other_left : (x : ℕ) → is_there x s.order ≡ true → x ≢ p → left_named s job named x ≡ request_at s x
   other_left x there ne = grind (arith, others_of x there ne)
 
-  pub sole_left : (t : Stored) → AreRight s → StandsOnce s.order → t.order ≡ without_place s.order p
-      → ((x : ℕ) → (x ≡ p → ⊥) → (filed_at t x).request ≡ (filed_at s x).request) → IsLeft s t (left_named s job named) (λ x. has_wants (left_named s job named x))
+  pub sole_left : (t : Stored) → AreRight s → AreDistinct s.order → t.order ≡ without_slot s.order p
+      → ((x : ℕ) → (x ≡ p → ⊥) → (entry_at t x).request ≡ (entry_at s x).request) → IsLeft s t (left_named s job named) (λ x. has_wants (left_named s job named x))
   sole_left t right once order others = record {
     order = left.order ∙ filter_same (stays_beside (p ∷ [])) (λ x. has_wants (left_named s job named x)) s.order stays;
     left =
@@ -402,38 +402,38 @@ module _ (s : Stored) (job : ℕ) (named : List Want) (p : ℕ) (is : IsSoleName
     where
       has : names (wants_of (requests_in s) job) is.want.key ≡ true
       has =
-          ap (λ l. names (all_wants l) is.want.key) (requests_of_places (request_at s) s.order job ∙ ap (map (request_at s)) is.sole.own)
+          ap (λ l. names (all_wants l) is.want.key) (requests_of_slots (request_at s) s.order job ∙ ap (map (request_at s)) is.sole.own)
           ∙ ap (λ l. names l is.want.key) (append-nil (request_at s p).wants.items) ∙ is.sole.named
 
--- what is known of a key that is given up next: the lock that was found for it, and the place of the job's request in its queue
-pub record GivesUpNamed (s t : Stored) (locks : List Lock) (job i : ℕ) (named : List Want) (n : ℕ) (places : List ℕ) : Type 0 where
-  pub open_is : is_open (lock_at locks n).queue ≡ true
+-- what is known of a key that is given up next: the lock that was found for it, and the slot of the job's request in its queue
+pub record GivesUpNamed (s t : Stored) (locks : List Lock) (job i : ℕ) (named : List Want) (n : ℕ) (slots : List ℕ) : Type 0 where
+  pub in_use_is : in_use (lock_at locks n).queue ≡ true
   pub key_is : (lock_at locks n).key ≡ (get_or named i unused_want).key
   pub next : IsNext s job named i (get_or named i unused_want)
-  pub there : All (λ x. is_there x t.order ≡ true) places
-  pub at : (p : ℕ) → find (λ q. (request_at t q).job == job) places ≡ Some p
+  pub there : All (λ x. is_there x t.order ≡ true) slots
+  pub at : (p : ℕ) → find (λ q. (request_at t q).job == job) slots ≡ Some p
       → (is_there p t.order ≡ true) × ((request_at t p).job ≡ job) × (names (request_at t p).wants.items (get_or named i unused_want).key ≡ true)
-  pub missed : find (λ q. (request_at t q).job == job) places ≡ None → ⊥
+  pub missed : find (λ q. (request_at t q).job == job) slots ≡ None → ⊥
 
-pub gives_up_named : (s t : Stored) (locks more : List Lock) (l : Lock) (job i : ℕ) (named : List Want) (found : List Found) (n : ℕ) (places : List ℕ)
+pub gives_up_named : (s t : Stored) (locks more : List Lock) (l : Lock) (job i : ℕ) (named : List Want) (found : List Found) (n : ℕ) (slots : List ℕ)
     → IsTable (state_of s locks) → first_refusal (dequeue_fault (requests_in s) job) [] named ≡ None → i < length named → IsTable (state_of t more)
     → IsLeft s t (left_named s job (take i named)) (λ x. has_wants (left_named s job (take i named) x)) → ((j : ℕ) → i ≤ j → j < length named
-    → IfSome (get_or found j no_found).number (λ m. is_open_for (get_or named j unused_want).key (lock_at more m) ≡ true))
-    → (get_or found i no_found).number ≡ Some n → l ≡ lock_at more n → places ≡ l.queue.places → GivesUpNamed s t more job i named n places
-gives_up_named s t locks more l job i named found n places was passed lt table left open_still number read is =
+    → IfSome (get_or found j no_found).number (λ m. in_use_for (get_or named j unused_want).key (lock_at more m) ≡ true))
+    → (get_or found i no_found).number ≡ Some n → l ≡ lock_at more n → slots ≡ l.queue.slots → GivesUpNamed s t more job i named n slots
+gives_up_named s t locks more l job i named found n slots was passed lt table left in_use_still number read is =
     let key : Key = (get_or named i unused_want).key in
-    let open_for : is_open_for key (lock_at more n) ≡ true =
-    subst (λ o. IfSome o (λ m. is_open_for key (lock_at more m) ≡ true)) number (open_still i (omega arith) lt) in
-    let parts = open_parts key (lock_at more n) open_for in
+    let in_use_for : in_use_for key (lock_at more n) ≡ true =
+    subst (λ o. IfSome o (λ m. in_use_for key (lock_at more m) ≡ true)) number (in_use_still i (omega arith) lt) in
+    let parts = in_use_parts key (lock_at more n) in_use_for in
     let next = is_next s job named i passed lt in
     let of =
-    is ∙ ap (λ (v : Lock). v.queue.places) read ∙ (queue_is t more n table parts.0).places
-    ∙ ap (λ (k : Key). places_at (request_at t) t.order k) parts.1 in
+    is ∙ ap (λ (v : Lock). v.queue.slots) read ∙ (queue_is t more n table parts.0).slots
+    ∙ ap (λ (k : Key). slots_at (request_at t) t.order k) parts.1 in
     record {
-      open_is = parts.0;
+      in_use_is = parts.0;
       key_is = parts.1;
       next = next;
-      there = key_there t job key places of;
-      at = found_place t job key places of;
-      missed = not_missed t job key places of (next_present s t t job i named (get_or named i unused_want) next was.kept.once left);
+      there = key_there t job key slots of;
+      at = found_slot t job key slots of;
+      missed = not_missed t job key slots of (next_present s t t job i named (get_or named i unused_want) next was.kept.once left);
     }

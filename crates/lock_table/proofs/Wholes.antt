@@ -5,18 +5,18 @@ use Rattle.lock_queue.specs.declared.key.Key.{Key}
 use Rattle.lock_queue.specs.Queue.{names, all_wants, wants_at}
 use Rattle.lock_queue.specs.WellFormed.{are_well_formed, is_well_formed, are_apart}
 use Rattle.key_queues.specs.declared.lock.Lock.{Lock}
-use Rattle.key_queues.specs.States.{IsTable, State, IsUsed, Stands}
-use Rattle.key_queues.specs.Tables.{is_there, StandsOnce, QueuesOf, places_at}
+use Rattle.key_queues.specs.States.{IsTable, State, IsUsed, IsQueued}
+use Rattle.key_queues.specs.Tables.{is_there, AreDistinct, QueuesOf, slots_at}
 use Rattle.key_queues.proofs.Using.{kept_there, there_kept}
-use Rattle.key_queues.specs.Stores.{Stored, filed_at, places_of, with_filed}
+use Rattle.key_queues.specs.Stores.{Stored, entry_at, slots_of, with_entry}
 use Rattle.key_queues.proofs.Orders.{filter_same, filter_short, there_split}
-use Rattle.lock_table.specs.Filing.{state_of}
+use Rattle.lock_table.specs.TableStates.{state_of}
 use Rattle.lock_table.specs.Whole.{AreRight, IsWhole, JobsAreApart, LevelsAgree, level_at, requests_in}
 use Rattle.lock_queue.specs.declared.want.Want.{Want}
 use Rattle.lock_queue.specs.Dequeues.{dequeue_where, has_wants, without_keys_of, without_named, dequeue_fault, dequeue_named, has_id, is_of_job}
 use Rattle.arrayvec.specs.ArrayVec.{ArrayVec}
 use Rattle.lock_queue.specs.declared.call.LockCall.TheVariants.{Modify, DequeueNamed, Enqueue, DequeueAll, DequeueId}
-use Rattle.lock_queue.specs.Grants.{left_of, staying_if, grant_of, is_told_of, woken, unless_refused_grants, woken_by, woken_by_release}
+use Rattle.lock_queue.specs.Grants.{left_of, staying_if, grant_of, is_notified_of, woken, unless_refused_grants, woken_by, woken_by_release}
 use Rattle.lock_table.specs.Changing.{IsChanged}
 use Rattle.lock_table.proofs.Reading.{filter_mapped}
 use Rattle.lock_table.specs.Departures.{IsLeft, LeavesBy, LeavesWhere, left_named, stays_beside, is_blocking_at, is_of}
@@ -33,9 +33,9 @@ use Rattle.lock_queue.specs.declared.call.LockCall.{LockCall}
 use Rattle.lock_queue.proofs.GrantLaws.{left-labels, woken-enqueue}
 use Rattle.key_queues.specs.Waking.{rises}
 use Rattle.key_queues.proofs.Waking.{flags_tell_who_rises}
-use Rattle.lock_table.specs.Reads.{request_at, requests_at, MarksGrants, is_pending_filed}
+use Rattle.lock_table.specs.Reads.{request_at, requests_at, MarksGrants, is_pending_entry}
 use Rattle.lock_table.specs.Raised.{grants_marked, is_raised}
-use Rattle.lock_table.specs.Turns.{Turned, mark_at, turned_if}
+use Rattle.lock_table.specs.Flips.{Flipped, mark_at, flipped_if}
 use Rattle.std.specs.List.{list_any, find}
 use Rattle.std.proofs.Math.Bool.{and_assoc}
 use Rattle.std.proofs.lemmas.List.{length-map, map-append}
@@ -43,7 +43,7 @@ use Rattle.lock_queue.specs.declared.grant.Grant.{Grant}
 use Rattle.lock_queue.specs.declared.refusal.Refusal.{Refusal}
 use Rattle.lock_queue.specs.declared.refusal.Refusal.TheVariants.{NotPresent}
 use Rattle.lock_queue.specs.Calls.{outcome_of}
-use Rattle.lock_queue.specs.Jobs.{is_blocking, is_not_blocked_where, released, withdrawn_where, as_told, is_interrupt, is_pending, told_behind, told_of}
+use Rattle.lock_queue.specs.Jobs.{is_blocking, is_not_blocked_where, released, withdrawn_where, as_notified, is_interrupt, is_pending, notified_behind, job_notified}
 use Rattle.word36.specs.declared.sizes.TheConstants.{MOST_REQUESTS}
 use Rattle.key_queues.proofs.Marks.{marks_choose}
 use Rattle.lock_table.proofs.Telling.{any_mapped, before_is}
@@ -53,9 +53,9 @@ use Rattle.key_queues.specs.Kept.{Counts}
 use Rattle.key_queues.specs.Locks.{lock_at}
 use Rattle.key_queues.proofs.Finding.{find_passes}
 use Rattle.key_queues.proofs.Moves.{map_same}
-use Rattle.key_queues.specs.declared.filed.Filed.{Filed}
-use Rattle.key_queues.specs.Filing.{with_told}
-use Rattle.lock_table.proofs.Filing.{filed_like}
+use Rattle.key_queues.specs.declared.entry.Entry.{Entry}
+use Rattle.key_queues.specs.Entries.{with_notified}
+use Rattle.lock_table.proofs.Entries.{entry_like}
 
 -- ---- what holds between two calls still holds after a departure
 
@@ -98,13 +98,13 @@ whole_left size s t locks more stays w table left = record {
 }
 
 -- who stays beside those that a test chooses
-pub beside_chosen : (test : ℕ → Bool) (xs places : List ℕ) (x : ℕ) → places ≡ filter test xs → is_there x xs ≡ true → stays_beside places x ≡ not (test x)
-beside_chosen test xs places x is h = grind (arith, is, kept_there test x xs h, there_kept test x xs)
+pub beside_chosen : (test : ℕ → Bool) (xs slots : List ℕ) (x : ℕ) → slots ≡ filter test xs → is_there x xs ≡ true → stays_beside slots x ≡ not (test x)
+beside_chosen test xs slots x is h = grind (arith, is, kept_there test x xs h, there_kept test x xs)
 
-pub leaves_where : (s t : Stored) (test : ℕ → Bool) (places : List ℕ) → IsLeft s t (request_at s) (stays_beside places) → places ≡ filter test s.order
+pub leaves_where : (s t : Stored) (test : ℕ → Bool) (slots : List ℕ) → IsLeft s t (request_at s) (stays_beside slots) → slots ≡ filter test s.order
     → LeavesWhere s t test
-leaves_where s t test places left is = record {
-  order = left.order ∙ filter_same (stays_beside places) (λ x. not (test x)) s.order (λ x h. beside_chosen test s.order places x is h);
+leaves_where s t test slots left is = record {
+  order = left.order ∙ filter_same (stays_beside slots) (λ x. not (test x)) s.order (λ x h. beside_chosen test s.order slots x is h);
   left = left.left;
 }
 
@@ -207,25 +207,25 @@ left_kind job (DequeueId id) r s e = grind arith
 
 -- ---- who rises
 
-same_test : (was is told : Bool) → ((turned_if (not (beq was is)) false && is) && told) ≡ ((told && not was) && (true && is))
-same_test was is told = grind arith
+same_test : (was is notified : Bool) → ((flipped_if (not (beq was is)) false && is) && notified) ≡ ((notified && not was) && (true && is))
+same_test was is notified = grind arith
 
 -- each request of a table that is right has wants
-turned_all : (s t : Stored) (before after : List Bool) → AreRight t → Turned s t before after → (x : ℕ) → is_there x t.order ≡ true
-    → mark_at after x ≡ turned_if (not (beq (filed_at s x).granted (filed_at t x).granted)) (mark_at before x)
-turned_all s t before after right turned x there = turned x (grind (arith, there, some_wants (request_at t x) (right x there)))
+flipped_all : (s t : Stored) (before after : List Bool) → AreRight t → Flipped s t before after → (x : ℕ) → is_there x t.order ≡ true
+    → mark_at after x ≡ flipped_if (not (beq (entry_at s x).granted (entry_at t x).granted)) (mark_at before x)
+flipped_all s t before after right flipped x there = flipped x (grind (arith, there, some_wants (request_at t x) (right x there)))
 
 module _ (s t : Stored) (locks more : List Lock) (left : Request → Option Request) (before after : List Bool)
     (labels : (r q : Request) → left r ≡ Some q → grant_of q ≡ grant_of r) (kinds : (r q : Request) → left r ≡ Some q → q.kind ≡ r.kind)
     (leaves : LeavesBy left s t) (none : (x : ℕ) → mark_at before x ≡ false)
-    (turned : (x : ℕ) → is_there x t.order ≡ true
-    → mark_at after x ≡ turned_if (not (beq (filed_at s x).granted (filed_at t x).granted)) (mark_at before x)) where
+    (flipped : (x : ℕ) → is_there x t.order ≡ true
+    → mark_at after x ≡ flipped_if (not (beq (entry_at s x).granted (entry_at t x).granted)) (mark_at before x)) where
   raised_is : (x : ℕ) → is_there x s.order ≡ true → leaves.stays x ≡ true → is_raised t after x ≡ rises (state_of s locks) (state_of t more) leaves.stays x
   raised_is x present stay =
       let there : is_there x t.order ≡ true = ap (is_there x) leaves.order ∙ kept_there leaves.stays x s.order present stay in
-      let same = same_test (filed_at s x).granted (filed_at t x).granted (is_told_of (request_at s x).kind) in
+      let same = same_test (entry_at s x).granted (entry_at t x).granted (is_notified_of (request_at s x).kind) in
       let kind = kinds (request_at s x) (request_at t x) (leaves.left_is x present ∙ ap (λ b. staying_if b (request_at t x)) stay) in
-      rw (turned x there, none x, kind, stay) same
+      rw (flipped x there, none x, kind, stay) same
 
   raised_all : (xs : List ℕ) → ((x : ℕ) → is_there x xs ≡ true → is_there x s.order ≡ true)
       → map grant_of (requests_at t (filter (is_raised t after) (filter leaves.stays xs)))
@@ -243,11 +243,11 @@ module _ (s t : Stored) (locks more : List Lock) (left : Request → Option Requ
       ∙ sym (flags_tell_who_rises (state_of s locks) (state_of t more) left leaves.stays was is leaves.left_is leaves.order)
 
 module _ (s t : Stored) (locks more : List Lock) (job : ℕ) (before after : List Bool) (was : IsTable (state_of s locks)) (is : IsTable (state_of t more))
-    (none : (x : ℕ) → mark_at before x ≡ false) (turned : Turned s t before after) (right : AreRight t) where
+    (none : (x : ℕ) → mark_at before x ≡ false) (flipped : Flipped s t before after) (right : AreRight t) where
   -- the grants that a call makes by what it leaves
   woken_by_call : (call : LockCall) → LeavesBy (left_of job call) s t → grants_marked t after ≡ woken (left_of job call) (requests_in s)
   woken_by_call call leaves =
-      woken_marked s t locks more (left_of job call) before after (left-labels job call) (left_kind job call) leaves none (turned_all s t before after right turned) was is
+      woken_marked s t locks more (left_of job call) before after (left-labels job call) (left_kind job call) leaves none (flipped_all s t before after right flipped) was is
 
   -- where it is done
   pub woken_done : (size : ℕ) (call : LockCall) → LeavesBy (left_of job call) s t → (outcome_of size (requests_in s) job call).reply ≡ Done
@@ -259,10 +259,10 @@ module _ (s t : Stored) (locks more : List Lock) (job : ℕ) (before after : Lis
   woken_released left =
       woken_by_call DequeueAll (leaves_by (left_of job DequeueAll) s t (request_at s) (λ x. not (is_of s job x)) left (λ x. refl))
 
--- ---- where one place at most is marked
+-- ---- where one slot at most is marked
 
--- a test that only one place passes keeps that place, where it is there
-only_kept : (t : ℕ → Bool) (p : ℕ) (xs : List ℕ) → ((x : ℕ) → (x ≡ p → ⊥) → t x ≡ false) → StandsOnce xs → filter t xs ≡ cond (is_there p xs && t p) (p ∷ []) []
+-- a test that only one slot passes keeps that slot, where it is there
+only_kept : (t : ℕ → Bool) (p : ℕ) (xs : List ℕ) → ((x : ℕ) → (x ≡ p → ⊥) → t x ≡ false) → AreDistinct xs → filter t xs ≡ cond (is_there p xs && t p) (p ∷ []) []
 only_kept t p [] only once = refl
 only_kept t p (x ∷ xs) only once =
     let rest =
@@ -277,13 +277,13 @@ unmarked s marks x e = grind arith
 pub none_raised : (s : Stored) (marks : List Bool) (xs : List ℕ) → ((x : ℕ) → mark_at marks x ≡ false) → filter (is_raised s marks) xs ≡ []
 none_raised s marks xs none = ap (λ (t : ℕ → Bool). filter t xs) (λ i x. unmarked s marks x (none x) i) ∙ none_stay xs
 
-pub only_raised : (s : Stored) (marks : List Bool) (p : ℕ) → ((x : ℕ) → (x ≡ p → ⊥) → mark_at marks x ≡ false) → StandsOnce s.order
+pub only_raised : (s : Stored) (marks : List Bool) (p : ℕ) → ((x : ℕ) → (x ≡ p → ⊥) → mark_at marks x ≡ false) → AreDistinct s.order
     → filter (is_raised s marks) s.order ≡ cond (is_there p s.order && is_raised s marks p) (p ∷ []) []
 only_raised s marks p only once = only_kept (is_raised s marks) p s.order (λ x ne. unmarked s marks x (only x ne)) once
 
--- the grants, where it is known whether the place is there and is raised
+-- the grants, where it is known whether the slot is there and is raised
 pub only_grants : (s : Stored) (marks : List Bool) (p : ℕ) (there raised : Bool) → ((x : ℕ) → (x ≡ p → ⊥) → mark_at marks x ≡ false)
-    → StandsOnce s.order → is_there p s.order ≡ there → is_raised s marks p ≡ raised
+    → AreDistinct s.order → is_there p s.order ≡ there → is_raised s marks p ≡ raised
     → grants_marked s marks ≡ cond (there && raised) (grant_of (request_at s p) ∷ []) []
 only_grants s marks p there raised only once a b = grind (arith, only_raised s marks p only once)
 
@@ -312,7 +312,7 @@ withdrawn_is s t waiters m left =
         let present : is_there p s.order ≡ true = subst (λ l. is_there p l ≡ true) (sym is) (there_split p before after) in
         ap (λ l. is_not_blocked_where waiters (map (request_at s) l) (request_at s p)) (sym (before_is s.order before after p m.once is))
         ∙ ap (λ b. not ((waiters (request_at s p).job && is_blocking (request_at s p).kind) && not b)) (sym (m.marks p present))
-        ∙ ap not (and_assoc (waiters (request_at s p).job) (is_blocking (request_at s p).kind) (not (filed_at s p).granted))
+        ∙ ap not (and_assoc (waiters (request_at s p).job) (is_blocking (request_at s p).kind) (not (entry_at s p).granted))
 
 refused : (requests l : List Request) (o : Option Refusal) (grants : List Grant) → ((unless_refused requests o (outcome l Done)).reply ≡ Done → ⊥)
     → [] ≡ unless_refused_grants (unless_refused requests o (outcome l Done)).reply grants
@@ -328,7 +328,7 @@ none_found requests l false grants ne = refl
 pub refused_done : (refusal : Refusal) → Refused refusal ≡ Done → ⊥
 refused_done refusal e = cc
 
--- another makes no grants that are told
+-- another makes no grants of which jobs are notified
 pub quiet : (size : ℕ) (requests : List Request) (job : ℕ) (call : LockCall) → ((outcome_of size requests job call).reply ≡ Done → ⊥)
     → [] ≡ woken_by size requests job call
 quiet size requests job (Enqueue asking wants) ne = sym (woken-enqueue size requests job asking wants)
@@ -337,7 +337,7 @@ quiet size requests job (DequeueNamed wants) ne = refused requests _ _ (woken (l
 quiet size requests job DequeueAll ne = none_found requests _ (list_any (is_of_job job) requests) (woken (left_of job DequeueAll) requests) ne
 quiet size requests job (DequeueId id) ne = none_found requests _ (list_any (has_id job id) requests) (woken (left_of job (DequeueId id)) requests) ne
 
--- ---- a request of which its job is told
+-- ---- a request of which its job is notified
 
 -- a table sees of the requests their wants alone
 module _ (s : State) (at : ℕ → Request) (wants : (x : ℕ) → (at x).wants.items ≡ (s.at x).wants.items) where
@@ -348,8 +348,8 @@ module _ (s : State) (at : ℕ → Request) (wants : (x : ℕ) → (at x).wants.
   wants_same : (key : Key) → wants_at (map at s.order) key ≡ wants_at (map s.at s.order) key
   wants_same key = ap (filter (λ w. same_key w.key key)) (all_same s.order)
 
-  places_same : (key : Key) → places_at at s.order key ≡ places_at s.at s.order key
-  places_same key = ap (λ (t : ℕ → Bool). filter t s.order) (λ i x. names (wants x i) key)
+  slots_same : (key : Key) → slots_at at s.order key ≡ slots_at s.at s.order key
+  slots_same key = ap (λ (t : ℕ → Bool). filter t s.order) (λ i x. names (wants x i) key)
 
   pub table_same : IsTable s → IsTable (record s { at = at })
   table_same table = record {
@@ -362,7 +362,7 @@ module _ (s : State) (at : ℕ → Request) (wants : (x : ℕ) → (at x).wants.
           λ x n st.
           let c = table.kept.counts x n (was x n st) in
           record {
-            places = c.places ∙ sym (places_same (s.key n));
+            slots = c.slots ∙ sym (slots_same (s.key n));
             counts = subst (λ l. Counts (s.size n) l (s.queue n)) (sym (wants_same (s.key n))) c.counts;
           };
     };
@@ -371,54 +371,54 @@ module _ (s : State) (at : ℕ → Request) (wants : (x : ℕ) → (at x).wants.
     used =
         λ n some.
         let u : IsUsed s n = table.used n some in
-        record { place = u.place; stands = record { present = u.stands.present; there = u.stands.there } };
+        record { slot = u.slot; stands = record { present = u.stands.present; there = u.stands.there } };
   }
     where
-      was : (x n : ℕ) → Stands (record s { at = at }) x n → Stands s x n
+      was : (x n : ℕ) → IsQueued (record s { at = at }) x n → IsQueued s x n
       was x n st = record { present = st.present; there = st.there }
 
-module _ (s t : Stored) (p : ℕ) (lt : p < length s.filed) (is : t ≡ with_filed s p (with_told (filed_at s p))) where
-  abbrev f : Filed
-  f = with_told (filed_at s p)
+module _ (s t : Stored) (p : ℕ) (lt : p < length s.entries) (is : t ≡ with_entry s p (with_notified (entry_at s p))) where
+  abbrev f : Entry
+  f = with_notified (entry_at s p)
 
-  like : {Y : Type 0} → (g : Filed → Y) → g f ≡ g (filed_at s p) → (x : ℕ) → g (filed_at t x) ≡ g (filed_at s x)
-  like = filed_like s t p f lt (ap (λ (v : Stored). v.filed) is)
+  like : {Y : Type 0} → (g : Entry → Y) → g f ≡ g (entry_at s p) → (x : ℕ) → g (entry_at t x) ≡ g (entry_at s x)
+  like = entry_like s t p f lt (ap (λ (v : Stored). v.entries) is)
 
-  pub told_order : t.order ≡ s.order
-  told_order = ap (λ (v : Stored). v.order) is
+  pub notified_order : t.order ≡ s.order
+  notified_order = ap (λ (v : Stored). v.order) is
 
-  pub told_whole : (size : ℕ) (locks : List Lock) → IsWhole size s locks → IsWhole size t locks
-  told_whole size locks w = record {
+  pub notified_whole : (size : ℕ) (locks : List Lock) → IsWhole size s locks → IsWhole size t locks
+  notified_whole size locks w = record {
     table = subst IsTable (sym same_state) (table_same (state_of s locks) (request_at t) wants_like w.table);
-    right = λ x h. like (λ (g : Filed). is_well_formed g.request) refl x ∙ w.right x (subst (λ l. is_there x l ≡ true) told_order h);
-    jobs = λ x y key hx hy nx ny e. grind (arith, told_order, wants_like x, wants_like y, job_like x, job_like y, w.jobs x y key);
+    right = λ x h. like (λ (g : Entry). is_well_formed g.request) refl x ∙ w.right x (subst (λ l. is_there x l ≡ true) notified_order h);
+    jobs = λ x y key hx hy nx ny e. grind (arith, notified_order, wants_like x, wants_like y, job_like x, job_like y, w.jobs x y key);
     levels =
         λ x y key hx hy nx ny.
-        grind (arith, told_order, wants_like x, wants_like y, level_like key x, level_like key y, w.levels x y key);
-    few = subst (λ l. length l ≤ size) (sym told_order) w.few;
+        grind (arith, notified_order, wants_like x, wants_like y, level_like key x, level_like key y, w.levels x y key);
+    few = subst (λ l. length l ≤ size) (sym notified_order) w.few;
   }
     where
       wants_like : (x : ℕ) → (request_at t x).wants.items ≡ (request_at s x).wants.items
-      wants_like = like (λ (g : Filed). g.request.wants.items) refl
+      wants_like = like (λ (g : Entry). g.request.wants.items) refl
 
       job_like : (x : ℕ) → (request_at t x).job ≡ (request_at s x).job
-      job_like = like (λ (g : Filed). g.request.job) refl
+      job_like = like (λ (g : Entry). g.request.job) refl
 
       level_like : (key : Key) (x : ℕ) → level_at (request_at t x) key ≡ level_at (request_at s x) key
-      level_like key = like (λ (g : Filed). level_at g.request key) refl
+      level_like key = like (λ (g : Entry). level_at g.request key) refl
 
       same_state : state_of t locks ≡ record (state_of s locks) { at = request_at t }
       same_state = λ i. record {
-        order = told_order i;
+        order = notified_order i;
         at = request_at t;
-        own = λ x. like (λ (g : Filed). g.queues.items) refl x i;
-        flag = λ x. like (λ (g : Filed). g.granted) refl x i;
+        own = λ x. like (λ (g : Entry). g.queues.items) refl x i;
+        flag = λ x. like (λ (g : Entry). g.granted) refl x i;
         key = λ n. (lock_at locks n).key;
         size = λ n. (lock_at locks n).size;
         queue = λ n. (lock_at locks n).queue;
       }
 
--- ---- the first for which a test holds is told
+-- ---- the first for which a test holds is notified
 
 find_among : (a t : ℕ → Bool) (xs : List ℕ) → find t (filter a xs) ≡ find (λ x. a x && t x) xs
 find_among a t [] = refl
@@ -426,23 +426,23 @@ find_among a t (x ∷ xs) = grind (arith, find_among a t xs)
 
 module _ (test : List Request → Request → Bool) (at : ℕ → Request) (mark : ℕ → Bool) (order : List ℕ)
     (right : (before after : List ℕ) (p : ℕ) → order ≡ before ++ p ∷ after → test (map at before) (at p) ≡ mark p) where
-  pub told_first : (before xs : List ℕ) (p : ℕ) → StandsOnce order → order ≡ before ++ xs → find mark xs ≡ Some p
-      → told_behind test (map at before) (map at xs) ≡ map (λ x. cond (x == p) (as_told (at x)) (at x)) xs
-  told_first before [] p once is e = cc
-  told_first before (x ∷ xs) p once is e =
+  pub notified_first : (before xs : List ℕ) (p : ℕ) → AreDistinct order → order ≡ before ++ xs → find mark xs ≡ Some p
+      → notified_behind test (map at before) (map at xs) ≡ map (λ x. cond (x == p) (as_notified (at x)) (at x)) xs
+  notified_first before [] p once is e = cc
+  notified_first before (x ∷ xs) p once is e =
       let here : test (map at before) (at x) ≡ mark x = right before xs x is in
-      let later = told_first (before ++ x ∷ []) xs p once (is ∙ sym (append_assoc before (x ∷ []) xs)) in
-      let rest = map_same at (λ y. cond (y == p) (as_told (at y)) (at y)) p xs in
+      let later = notified_first (before ++ x ∷ []) xs p once (is ∙ sym (append_assoc before (x ∷ []) xs)) in
+      let rest = map_same at (λ y. cond (y == p) (as_notified (at y)) (at y)) p xs in
       grind (arith, here, later, rest, map-append at before (x ∷ []), once before xs x is, find_passes mark xs p, ne_eqb)
 
-  pub told_none : (before xs : List ℕ) → order ≡ before ++ xs → find mark xs ≡ None → told_behind test (map at before) (map at xs) ≡ map at xs
-  told_none before [] is e = refl
-  told_none before (x ∷ xs) is e = grind (arith, right before xs x is, map-append at before (x ∷ []), told_none (before ++ x ∷ []) xs (is ∙ sym (append_assoc before (x ∷ []) xs)))
+  pub notified_none : (before xs : List ℕ) → order ≡ before ++ xs → find mark xs ≡ None → notified_behind test (map at before) (map at xs) ≡ map at xs
+  notified_none before [] is e = refl
+  notified_none before (x ∷ xs) is e = grind (arith, right before xs x is, map-append at before (x ∷ []), notified_none (before ++ x ∷ []) xs (is ∙ sym (append_assoc before (x ∷ []) xs)))
 
 -- which request of a job is pending
 module _ (s : Stored) (locks : List Lock) (job : ℕ) (table : IsTable (state_of s locks)) where
   marks : ℕ → Bool
-  marks x = is_of s job x && is_pending_filed (filed_at s x)
+  marks x = is_of s job x && is_pending_entry (entry_at s x)
 
   assoc : (a b c d : Bool) → (((a && b) && c) && d) ≡ (a && ((b && c) && d))
   assoc a b c d = grind arith
@@ -450,25 +450,25 @@ module _ (s : Stored) (locks : List Lock) (job : ℕ) (table : IsTable (state_of
   marks_right : (before after : List ℕ) (p : ℕ) → s.order ≡ before ++ p ∷ after → is_pending job (map (request_at s) before) (request_at s p) ≡ marks p
   unfolding marks
   marks_right before after p is =
-      ap (λ b. (((request_at s p).job == job && is_interrupt (request_at s p).kind) && not (request_at s p).told) && b)
+      ap (λ b. (((request_at s p).job == job && is_interrupt (request_at s p).kind) && not (request_at s p).notified) && b)
       (sym (flags_tell_grants (state_of s locks) table.kept table.full table.flags before after p is))
-      ∙ assoc ((request_at s p).job == job) (is_interrupt (request_at s p).kind) (not (request_at s p).told) (filed_at s p).granted
+      ∙ assoc ((request_at s p).job == job) (is_interrupt (request_at s p).kind) (not (request_at s p).notified) (entry_at s p).granted
 
-  pub told_is : (t : Stored) (p : ℕ) → find (λ x. is_pending_filed (filed_at s x)) (places_of s job) ≡ Some p → t.order ≡ s.order
-      → (filed_at t p).request ≡ as_told (filed_at s p).request → ((x : ℕ) → (x ≡ p → ⊥) → (filed_at t x).request ≡ (filed_at s x).request)
-      → requests_in t ≡ told_of (requests_in s) job
+  pub notified_is : (t : Stored) (p : ℕ) → find (λ x. is_pending_entry (entry_at s x)) (slots_of s job) ≡ Some p → t.order ≡ s.order
+      → (entry_at t p).request ≡ as_notified (entry_at s p).request → ((x : ℕ) → (x ≡ p → ⊥) → (entry_at t x).request ≡ (entry_at s x).request)
+      → requests_in t ≡ job_notified (requests_in s) job
   unfolding marks
-  told_is t p found order mine others =
-      let each : (x : ℕ) → request_at t x ≡ cond (x == p) (as_told (request_at s x)) (request_at s x) = λ x. grind (arith, mine, others x) in
+  notified_is t p found order mine others =
+      let each : (x : ℕ) → request_at t x ≡ cond (x == p) (as_notified (request_at s x)) (request_at s x) = λ x. grind (arith, mine, others x) in
       ap (map (request_at t)) order
       ∙ ap (λ (g : ℕ → Request). map g s.order) (λ i x. each x i)
       ∙ sym
-      (told_first (is_pending job) (request_at s) marks s.order marks_right [] s.order p table.kept.once refl
-      (sym (find_among (is_of s job) (λ x. is_pending_filed (filed_at s x)) s.order) ∙ found))
+      (notified_first (is_pending job) (request_at s) marks s.order marks_right [] s.order p table.kept.once refl
+      (sym (find_among (is_of s job) (λ x. is_pending_entry (entry_at s x)) s.order) ∙ found))
 
-  pub none_told : find (λ x. is_pending_filed (filed_at s x)) (places_of s job) ≡ None → requests_in s ≡ told_of (requests_in s) job
+  pub none_notified : find (λ x. is_pending_entry (entry_at s x)) (slots_of s job) ≡ None → requests_in s ≡ job_notified (requests_in s) job
   unfolding marks
-  none_told found =
+  none_notified found =
       sym
-      (told_none (is_pending job) (request_at s) marks s.order marks_right [] s.order refl
-      (sym (find_among (is_of s job) (λ x. is_pending_filed (filed_at s x)) s.order) ∙ found))
+      (notified_none (is_pending job) (request_at s) marks s.order marks_right [] s.order refl
+      (sym (find_among (is_of s job) (λ x. is_pending_entry (entry_at s x)) s.order) ∙ found))

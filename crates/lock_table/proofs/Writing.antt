@@ -16,29 +16,29 @@ use Rattle.lock_queue.specs.Unused.{unused_want}
 use Rattle.lock_queue.proofs.Fitting.{names-Has, names-found, same_key-swap, eq-same_key, same_key-eq}
 use Rattle.lock_queue.proofs.ListSteps.{set_split}
 use Rattle.lock_queue.proofs.Lists.{Has, list_any-Has, sum-cons, list_all-Has, list_all-each, list_any-none}
-use Rattle.key_queues.specs.declared.filed.Filed.{Filed}
-use Rattle.key_queues.specs.Filing.{with_want}
-use Rattle.key_queues.specs.Stores.{Stored, filed_at}
+use Rattle.key_queues.specs.declared.entry.Entry.{Entry}
+use Rattle.key_queues.specs.Entries.{with_want}
+use Rattle.key_queues.specs.Stores.{Stored, entry_at}
 use Rattle.key_queues.specs.declared.lock.Lock.{Lock}
 use Rattle.key_queues.specs.Beginnings.{Alike, fitting, is_share_of}
 use Rattle.key_queues.specs.Kept.{Counts, KeptQueue, counting}
 use Rattle.key_queues.specs.Locks.{lock_at, with_queue}
-use Rattle.key_queues.specs.Opened.{is_open_for}
-use Rattle.key_queues.specs.States.{Changes, FlagsAll, IsKept, IsUsed, is_open, IsTable, Extended, IsFull, Stands}
-use Rattle.key_queues.specs.Tables.{is_there, own_wants, places_at}
+use Rattle.key_queues.specs.LockUse.{in_use_for}
+use Rattle.key_queues.specs.States.{Changes, FlagsAll, IsKept, IsUsed, in_use, IsTable, Extended, IsFull, IsQueued}
+use Rattle.key_queues.specs.Tables.{is_there, own_wants, slots_at}
 use Rattle.key_queues.proofs.Beginnings.{alike-Has}
 use Rattle.key_queues.proofs.Changing.{changing_keeps, counts_counting}
 use Rattle.key_queues.proofs.Counting.{no_pool}
-use Rattle.key_queues.proofs.Finding.{open_parts, open_within}
-use Rattle.key_queues.proofs.Opening.{used_open, used_same, open_extended}
+use Rattle.key_queues.proofs.Finding.{in_use_parts, in_use_within}
+use Rattle.key_queues.proofs.LockUseLaws.{used_in_use, used_same, in_use_extended}
 use Rattle.key_queues.proofs.Lists.{split_at, take_Has}
-use Rattle.lock_table.specs.Filing.{state_of, want_filed}
+use Rattle.lock_table.specs.TableStates.{state_of, queued_want}
 use Rattle.lock_table.specs.Reads.{request_at}
 use Rattle.lock_table.specs.Whole.{requests_in, AreRight, JobsAreApart}
 use Rattle.lock_table.specs.Changing.{Altered, IsBetween, altered_at, changed_by, changed_once, loses_by, want_then, AreSound, IsAltering, IsSound, SparesPools, fitting_then, is_lost_by, IsChanged, IsExtending, IsFullBut}
 use Rattle.lock_table.proofs.Altering.{job_changed, named_changed, set_is_changed, unnamed_wants, alike_changed, there_Has, there_parts, wants_same_there, IsWantedAt, counts, lost_is, wanted_at}
 use Rattle.lock_table.proofs.Altering.{wants_then, changed_then, map_each, own_of_changed, own_unnamed, changed_none, map_twice, changes_tell, pool_same}
-use Rattle.lock_table.proofs.Filing.{place_within, filed_mine, filed_other, filed_like, lock_mine, lock_other, lock_like}
+use Rattle.lock_table.proofs.Entries.{slot_within, entry_mine, entry_other, entry_like, lock_mine, lock_other, lock_like}
 use Rattle.lock_queue.specs.Outcomes.{first_refusal, outcome}
 use Rattle.lock_queue.specs.WellFormed.{are_apart}
 use Rattle.lock_queue.proofs.Refusing.{or_else-None, refuse_if-None}
@@ -79,7 +79,7 @@ some_there p [] h = cc
 some_there p (x ∷ xs) h = omega arith
 
 module _ (s : Stored) (locks : List Lock) (n p job : ℕ) (c : Want) (b : IsBetween s locks)
-    (lock : is_open_for c.key (lock_at locks n) ≡ true) (none : (lock_at locks n).size ≡ None) (queued : is_there p (lock_at locks n).queue.places ≡ true)
+    (lock : in_use_for c.key (lock_at locks n) ≡ true) (none : (lock_at locks n).size ≡ None) (queued : is_there p (lock_at locks n).queue.slots ≡ true)
     (mine : (request_at s p).job ≡ job) (safe : loses_by s job c ≡ false) where
   abbrev q : KeptQueue
   q = (lock_at locks n).queue
@@ -88,25 +88,25 @@ module _ (s : Stored) (locks : List Lock) (n p job : ℕ) (c : Want) (b : IsBetw
   f = want_then s n job c
 
   abbrev fits : ℕ
-  fits = fitting (map (want_then s n job c) (lock_at locks n).queue.places)
+  fits = fitting (map (want_then s n job c) (lock_at locks n).queue.slots)
 
   abbrev k : ℕ
-  k = min (fitting (map (want_then s n job c) (lock_at locks n).queue.places)) (lock_at locks n).queue.fitting
+  k = min (fitting (map (want_then s n job c) (lock_at locks n).queue.slots)) (lock_at locks n).queue.fitting
 
   abbrev t : Stored
   t = altered_at s n c p
 
   abbrev more : List Lock
-  more = with_queue locks n (counting (lock_at locks n).queue k (want_then s n job c (get_or (lock_at locks n).queue.places 0 0)))
+  more = with_queue locks n (counting (lock_at locks n).queue k (want_then s n job c (get_or (lock_at locks n).queue.slots 0 0)))
 
   abbrev i : ℕ
-  i = position_or_len (λ m. m == n) (filed_at s p).queues.items
+  i = position_or_len (λ m. m == n) (entry_at s p).queues.items
 
   abbrev w : Want
-  w = want_filed s p n
+  w = queued_want s p n
 
-  parts : (is_open (lock_at locks n).queue ≡ true) × ((lock_at locks n).key ≡ c.key)
-  parts = open_parts c.key (lock_at locks n) lock
+  parts : (in_use (lock_at locks n).queue ≡ true) × ((lock_at locks n).key ≡ c.key)
+  parts = in_use_parts c.key (lock_at locks n) lock
 
   used : IsUsed (state_of s locks) n
   used = b.used n parts.0
@@ -114,20 +114,20 @@ module _ (s : Stored) (locks : List Lock) (n p job : ℕ) (c : Want) (b : IsBetw
   wp : IsWantedAt s n p (lock_at locks n).key
   wp = wanted_at s locks n b.kept used p queued
 
-  key_w : (want_filed s p n).key ≡ c.key
+  key_w : (queued_want s p n).key ≡ c.key
   key_w = wp.key_is ∙ parts.1
 
   named_p : names (request_at s p).wants.items c.key ≡ true
-  named_p = names-Has (request_at s p).wants.items c.key (want_filed s p n) wp.has key_w
+  named_p = names-Has (request_at s p).wants.items c.key (queued_want s p n) wp.has key_w
 
-  within : p < length s.filed
-  within = place_within s locks p c.key named_p
+  within : p < length s.entries
+  within = slot_within s locks p c.key named_p
 
-  filed_p : filed_at t p ≡ with_want (filed_at s p) i (changed_by c w)
-  filed_p = filed_mine s t p (with_want (filed_at s p) i (changed_by c w)) within refl
+  entry_p : entry_at t p ≡ with_want (entry_at s p) i (changed_by c w)
+  entry_p = entry_mine s t p (with_want (entry_at s p) i (changed_by c w)) within refl
 
-  filed_x : (x : ℕ) → (x ≡ p → ⊥) → filed_at t x ≡ filed_at s x
-  filed_x = filed_other s t p (with_want (filed_at s p) i (changed_by c w)) within refl
+  entry_x : (x : ℕ) → (x ≡ p → ⊥) → entry_at t x ≡ entry_at s x
+  entry_x = entry_other s t p (with_want (entry_at s p) i (changed_by c w)) within refl
 
   at_i : slice_get (request_at s p).wants.items i ≡ Some w
   at_i = slice_get-get_or (request_at s p).wants.items i unused_want wp.within
@@ -135,7 +135,7 @@ module _ (s : Stored) (locks : List Lock) (n p job : ℕ) (c : Want) (b : IsBetw
   -- the request that is changed
   request_p : request_at t p ≡ changed_once job c (request_at s p)
   request_p =
-      ap (λ (g : Filed). g.request) filed_p
+      ap (λ (g : Entry). g.request) entry_p
       ∙ ap (with_wants (request_at s p)) (set_is_changed c (request_at s p).wants.items i w (b.kept.apart p) at_i key_w)
       ∙ sym
       (ap
@@ -150,21 +150,21 @@ module _ (s : Stored) (locks : List Lock) (n p job : ℕ) (c : Want) (b : IsBetw
         | inr ne ↦
             let other = unnamed_request job c (request_at s x) in
             let apart = b.jobs x p c.key present wp.present in
-            grind (arith, filed_x x ne, other, eqb-true (request_at s x).job job, apart, named_p, mine)
+            grind (arith, entry_x x ne, other, eqb-true (request_at s x).job job, apart, named_p, mine)
       ]
 
   within_locks : n < length locks
-  within_locks = open_within locks n parts.0
+  within_locks = in_use_within locks n parts.0
 
-  lock_n : lock_at more n ≡ record (lock_at locks n) { queue = counting q k (f (get_or q.places 0 0)) }
-  lock_n = lock_mine locks more n (counting q k (f (get_or q.places 0 0))) within_locks refl
+  lock_n : lock_at more n ≡ record (lock_at locks n) { queue = counting q k (f (get_or q.slots 0 0)) }
+  lock_n = lock_mine locks more n (counting q k (f (get_or q.slots 0 0))) within_locks refl
 
   lock_m : (m : ℕ) → (m ≡ n → ⊥) → lock_at more m ≡ lock_at locks m
-  lock_m = lock_other locks more n (counting q k (f (get_or q.places 0 0))) within_locks refl
+  lock_m = lock_other locks more n (counting q k (f (get_or q.slots 0 0))) within_locks refl
 
-  lock_t : {Y : Type 0} → (g : Lock → Y) → g (record (lock_at locks n) { queue = counting q k (f (get_or q.places 0 0)) }) ≡ g (lock_at locks n)
+  lock_t : {Y : Type 0} → (g : Lock → Y) → g (record (lock_at locks n) { queue = counting q k (f (get_or q.slots 0 0)) }) ≡ g (lock_at locks n)
       → (m : ℕ) → g (lock_at more m) ≡ g (lock_at locks m)
-  lock_t = lock_like locks more n (counting q k (f (get_or q.places 0 0))) within_locks refl
+  lock_t = lock_like locks more n (counting q k (f (get_or q.slots 0 0))) within_locks refl
 
   key_t : (m : ℕ) → (lock_at more m).key ≡ (lock_at locks m).key
   key_t = lock_t (λ (l : Lock). l.key) refl
@@ -172,26 +172,26 @@ module _ (s : Stored) (locks : List Lock) (n p job : ℕ) (c : Want) (b : IsBetw
   size_t : (m : ℕ) → (lock_at more m).size ≡ (lock_at locks m).size
   size_t = lock_t (λ (l : Lock). l.size) refl
 
-  places_t : (m : ℕ) → (lock_at more m).queue.places ≡ (lock_at locks m).queue.places
-  places_t = lock_t (λ (l : Lock). l.queue.places) refl
+  slots_t : (m : ℕ) → (lock_at more m).queue.slots ≡ (lock_at locks m).queue.slots
+  slots_t = lock_t (λ (l : Lock). l.queue.slots) refl
 
-  own_t : (x : ℕ) → (filed_at t x).queues.items ≡ (filed_at s x).queues.items
-  own_t = filed_like s t p (with_want (filed_at s p) i (changed_by c w)) within refl (λ (g : Filed). g.queues.items) refl
+  own_t : (x : ℕ) → (entry_at t x).queues.items ≡ (entry_at s x).queues.items
+  own_t = entry_like s t p (with_want (entry_at s p) i (changed_by c w)) within refl (λ (g : Entry). g.queues.items) refl
 
-  flag_t : (x : ℕ) → (filed_at t x).granted ≡ (filed_at s x).granted
-  flag_t = filed_like s t p (with_want (filed_at s p) i (changed_by c w)) within refl (λ (g : Filed). g.granted) refl
+  flag_t : (x : ℕ) → (entry_at t x).granted ≡ (entry_at s x).granted
+  flag_t = entry_like s t p (with_want (entry_at s p) i (changed_by c w)) within refl (λ (g : Entry). g.granted) refl
 
   -- the wants of the key after the change
-  wants_c : wants_at (map (λ x. changed_once job c (request_at s x)) s.order) (lock_at locks n).key ≡ map f q.places
+  wants_c : wants_at (map (λ x. changed_once job c (request_at s x)) s.order) (lock_at locks n).key ≡ map f q.slots
   wants_c = ap (wants_at (map (λ x. changed_once job c (request_at s x)) s.order)) parts.1 ∙ wants_then s locks n b.kept used job c parts.1
 
-  wants_t : wants_at (map (request_at t) s.order) (lock_at locks n).key ≡ map (want_then s n job c) (lock_at locks n).queue.places
+  wants_t : wants_at (map (request_at t) s.order) (lock_at locks n).key ≡ map (want_then s n job c) (lock_at locks n).queue.slots
   wants_t =
       wants_same_there (lock_at locks n).key (λ x. changed_once job c (request_at s x)) (request_at t) s.order
       (λ x h. ap (own_wants (lock_at locks n).key) (request_t x h))
       ∙ wants_c
 
-  alike_t : Alike None (map (want_then s n job c) (lock_at locks n).queue.places)
+  alike_t : Alike None (map (want_then s n job c) (lock_at locks n).queue.slots)
   alike_t =
       subst (Alike None) wants_c
       (record {
@@ -212,53 +212,53 @@ module _ (s : Stored) (locks : List Lock) (n p job : ℕ) (c : Want) (b : IsBetw
       (alike-Has None (wants_at (requests_in s) (lock_at locks n).key) u alike
       (take_Has (lock_at locks n).queue.fitting (wants_at (requests_in s) (lock_at locks n).key) u h)))
 
-  counts_then : Counts None (map (want_then s n job c) (lock_at locks n).queue.places) (counting q k (f (get_or q.places 0 0)))
+  counts_then : Counts None (map (want_then s n job c) (lock_at locks n).queue.slots) (counting q k (f (get_or q.slots 0 0)))
   counts_then =
-      counts_counting (map (want_then s n job c) (lock_at locks n).queue.places) (lock_at locks n).queue k (f (get_or q.places 0 0)) alike_t
-      (sym (length-map (lock_at locks n).queue.places (want_then s n job c)))
+      counts_counting (map (want_then s n job c) (lock_at locks n).queue.slots) (lock_at locks n).queue k (f (get_or q.slots 0 0)) alike_t
+      (sym (length-map (lock_at locks n).queue.slots (want_then s n job c)))
       (min-le_left fits q.fitting)
-      (first_mapped (want_then s n job c) (lock_at locks n).queue.places (some_there p (lock_at locks n).queue.places queued))
+      (first_mapped (want_then s n job c) (lock_at locks n).queue.slots (some_there p (lock_at locks n).queue.slots queued))
       taken_none
 
   -- none that is taken for granted is left out
-  stays_counted : (x : ℕ) → (filed_at s x).granted ≡ true → is_there x (take (lock_at locks n).queue.fitting (lock_at locks n).queue.places) ≡ true
-      → is_there x (take k (lock_at locks n).queue.places) ≡ true
+  stays_counted : (x : ℕ) → (entry_at s x).granted ≡ true → is_there x (take (lock_at locks n).queue.fitting (lock_at locks n).queue.slots) ≡ true
+      → is_there x (take k (lock_at locks n).queue.slots) ≡ true
   stays_counted x flag counted =
       let lost = lost_is s locks n b.kept used job c parts.1 in
-      let has = list_any-Has (λ x. (filed_at s x).granted) (drop fits q.places) x flag in
-      let all = take_fewer q.fitting k x q.places in
-      let front = take_fewer fits k x q.places in
-      let either = there_parts fits x q.places in
-      grind (arith, lost, has, all, front, either, there_parts q.fitting x q.places, there_Has x (drop fits q.places), le-min, min-le_left)
+      let has = list_any-Has (λ x. (entry_at s x).granted) (drop fits q.slots) x flag in
+      let all = take_fewer q.fitting k x q.slots in
+      let front = take_fewer fits k x q.slots in
+      let either = there_parts fits x q.slots in
+      grind (arith, lost, has, all, front, either, there_parts q.fitting x q.slots, there_Has x (drop fits q.slots), le-min, min-le_left)
 
   step : Changes (state_of s locks) (state_of t more) p n (take i (request_at s p).wants.items) (drop (suc i) (request_at s p).wants.items) w (changed_by c w)
   step = record {
     stands = record { present = wp.present; there = wp.there };
     wants = split_at (request_at s p).wants.items i w at_i;
     changed =
-        ap (λ (g : Filed). g.request.wants.items) filed_p ∙ set_split (request_at s p).wants.items i (changed_by c w) wp.within
+        ap (λ (g : Entry). g.request.wants.items) entry_p ∙ set_split (request_at s p).wants.items i (changed_by c w) wp.within
         ∙ ap (λ j. take i (request_at s p).wants.items ++ changed_by c w ∷ drop j (request_at s p).wants.items) (add-one i);
     of = sym wp.key_is;
     key_is = refl;
     order = refl;
-    at = λ x ne. ap (λ (g : Filed). g.request) (filed_x x ne);
+    at = λ x ne. ap (λ (g : Entry). g.request) (entry_x x ne);
     own = own_t;
     flag = flag_t;
     key = key_t;
     size = size_t;
     others = λ m ne. ap (λ (l : Lock). l.queue) (lock_m m ne);
-    places = places_t n;
+    slots = slots_t n;
     counts =
         subst (λ o. Counts o (wants_at (map (request_at t) s.order) (lock_at locks n).key) (lock_at more n).queue) (sym none)
         (subst (λ ws. Counts None ws (lock_at more n).queue) (sym wants_t)
-        (subst (λ (l : Lock). Counts None (map f q.places) l.queue) (sym lock_n) counts_then));
+        (subst (λ (l : Lock). Counts None (map f q.slots) l.queue) (sym lock_n) counts_then));
     fewer =
         λ x counted.
-        take_fewer k q.fitting x q.places (min-le_right fits q.fitting)
-        (subst (λ (l : Lock). is_there x (take l.queue.fitting l.queue.places) ≡ true) lock_n counted);
+        take_fewer k q.fitting x q.slots (min-le_right fits q.fitting)
+        (subst (λ (l : Lock). is_there x (take l.queue.fitting l.queue.slots) ≡ true) lock_n counted);
     granted =
         λ x present flag counted.
-        subst (λ (l : Lock). is_there x (take l.queue.fitting l.queue.places) ≡ true) (sym lock_n) (stays_counted x flag counted);
+        subst (λ (l : Lock). is_there x (take l.queue.fitting l.queue.slots) ≡ true) (sym lock_n) (stays_counted x flag counted);
   }
 
   kept_t : IsKept (state_of t more) × (FlagsAll (state_of s locks) → FlagsAll (state_of t more))
@@ -270,7 +270,7 @@ module _ (s : Stored) (locks : List Lock) (n p job : ℕ) (c : Want) (b : IsBetw
   between_then = record {
     kept = kept_t.0;
     flags = kept_t.1 b.flags;
-    used = λ m some. used_same (state_of s locks) (state_of t more) m refl own_t (b.used m (subst (λ l. not (length l == 0) ≡ true) (places_t m) some));
+    used = λ m some. used_same (state_of s locks) (state_of t more) m refl own_t (b.used m (subst (λ l. not (length l == 0) ≡ true) (slots_t m) some));
     jobs =
         λ x y key px py nx ny same.
         let named = λ (z : ℕ). named_changed job (c ∷ []) (request_at s z) key in
@@ -290,7 +290,7 @@ module _ (s : Stored) (locks : List Lock) (n p job : ℕ) (c : Want) (b : IsBetw
   }
 
   pub written : (u : Stored) (l : List Lock) (j : ℕ) (v : Want) → u ≡ t → l ≡ with_queue locks n (counting (lock_at locks n).queue j v) → j ≡ k
-      → v ≡ want_then s n job c (get_or (lock_at locks n).queue.places 0 0) → IsBetween u l × Altered s u locks l job c
+      → v ≡ want_then s n job c (get_or (lock_at locks n).queue.slots 0 0) → IsBetween u l × Altered s u locks l job c
   written u l j v is put count first = rw (is, put, count, first) (between_then, altered_then)
 
 -- ---- from no refusal
@@ -360,7 +360,7 @@ module _ (s : Stored) (locks : List Lock) (job : ℕ) (t : IsTable (state_of s l
         (λ c h.
         let has = has_key s job c.key (each_passed.0 c h).named in
         record {
-          place = has.place;
+          slot = has.slot;
           present = has.present;
           mine = has.job_is;
           named = has.named;
@@ -395,23 +395,23 @@ module _ (s t : Stored) (locks more : List Lock) (job : ℕ) (c : Want) (a : Alt
 
   loses_same : (d : Want) → same_key c.key d.key ≡ false → loses_by t job d ≡ loses_by s job d
   loses_same d apart =
-      ap (λ l. is_lost_by (request_at t) (λ x. (filed_at t x).granted) l job d) a.order
-      ∙ ap (λ (f : ℕ → Bool). list_any f (drop (fitting_then (request_at t) s.order job d) (places_at (request_at t) s.order d.key))) (λ i x. a.flag x i)
-      ∙ ap (λ l. list_any (λ x. (filed_at s x).granted) (drop (fitting_then (request_at t) s.order job d) l))
+      ap (λ l. is_lost_by (request_at t) (λ x. (entry_at t x).granted) l job d) a.order
+      ∙ ap (λ (f : ℕ → Bool). list_any f (drop (fitting_then (request_at t) s.order job d) (slots_at (request_at t) s.order d.key))) (λ i x. a.flag x i)
+      ∙ ap (λ l. list_any (λ x. (entry_at s x).granted) (drop (fitting_then (request_at t) s.order job d) l))
       (filter_same (λ x. names (request_at t x).wants.items d.key) (λ x. names (request_at s x).wants.items d.key) s.order
       (λ x h. ap (λ (r : Request). names r.wants.items d.key) (a.at x h) ∙ named_changed job (c ∷ []) (request_at s x) d.key))
-      ∙ ap (λ k. list_any (λ x. (filed_at s x).granted) (drop k (places_at (request_at s) s.order d.key)))
+      ∙ ap (λ k. list_any (λ x. (entry_at s x).granted) (drop k (slots_at (request_at s) s.order d.key)))
       (ap fitting (wants_same_there d.key (λ x. changed_once job d (request_at s x)) (λ x. changed_once job d (request_at t x)) s.order
       (λ x h. ap (λ (r : Request). own_wants d.key (changed_once job d r)) (a.at x h) ∙ own_other job c d (request_at s x) apart)))
 
   pub still_sound : (d : Want) → same_key c.key d.key ≡ false → IsSound s locks job d → IsSound t more job d
   still_sound d apart sound = record {
-    place = sound.place;
-    present = subst (λ l. is_there sound.place l ≡ true) (sym a.order) sound.present;
-    mine = ap (λ (r : Request). r.job) (a.at sound.place sound.present) ∙ job_changed job (c ∷ []) (request_at s sound.place) ∙ sound.mine;
+    slot = sound.slot;
+    present = subst (λ l. is_there sound.slot l ≡ true) (sym a.order) sound.present;
+    mine = ap (λ (r : Request). r.job) (a.at sound.slot sound.present) ∙ job_changed job (c ∷ []) (request_at s sound.slot) ∙ sound.mine;
     named =
-        ap (λ (r : Request). names r.wants.items d.key) (a.at sound.place sound.present)
-        ∙ named_changed job (c ∷ []) (request_at s sound.place) d.key ∙ sound.named;
+        ap (λ (r : Request). names r.wants.items d.key) (a.at sound.slot sound.present)
+        ∙ named_changed job (c ∷ []) (request_at s sound.slot) d.key ∙ sound.named;
     spared =
         λ n key pooled used x present.
         let same : changed_once job d (request_at s x) ≡ request_at s x =
@@ -484,29 +484,29 @@ full_but_changed s t locks more job changes table i x m stands f =
     (λ y present. grind (arith, changed_none job (request_at t y), i.at y present, own_unnamed job changes (request_at s y) (lock_at locks m).key f_s)))
     (table.full x m (record { present = there; there = subst (λ l. is_there m l ≡ true) (i.own x) stands.there }))
 
--- a key of which no queue is open is passed over
+-- a key of which no queue is in use is passed over
 pub extending_none : (s0 s : Stored) (locks0 locks : List Lock) (c : Want) (later : List Want) → IsKept (state_of s locks)
-    → IsExtending s0 s locks0 locks (c ∷ later) → ((m : ℕ) → is_open_for c.key (lock_at locks m) ≡ false) → IsExtending s0 s locks0 locks later
+    → IsExtending s0 s locks0 locks (c ∷ later) → ((m : ℕ) → in_use_for c.key (lock_at locks m) ≡ false) → IsExtending s0 s locks0 locks later
 extending_none s0 s locks0 locks c later kept i none = record {
   order = i.order;
   at = i.at;
   full = λ x m stands f.
       let other : same_key c.key (lock_at locks m).key ≡ false =
-      grind (arith, none m, used_open (state_of s locks) x m kept stands, same_key-swap c.key (lock_at locks m).key) in
+      grind (arith, none m, used_in_use (state_of s locks) x m kept stands, same_key-swap c.key (lock_at locks m).key) in
       i.full x m stands (or_from (same_key c.key (lock_at locks m).key) (names later (lock_at locks m).key) other f);
 }
 
 -- and of another all wants that fit are counted
 pub extending_more : (s0 s t : Stored) (locks0 locks more : List Lock) (c : Want) (later : List Want) (n : ℕ) → IsBetween s locks
-    → IsExtending s0 s locks0 locks (c ∷ later) → is_open_for c.key (lock_at locks n) ≡ true → Extended (state_of s locks) (state_of t more) n
+    → IsExtending s0 s locks0 locks (c ∷ later) → in_use_for c.key (lock_at locks n) ≡ true → Extended (state_of s locks) (state_of t more) n
     → IsFull (state_of t more) n → IsBetween t more × IsExtending s0 t locks0 more later
 extending_more s0 s t locks0 locks more c later n b i is_for e full = (
-  record { kept = e.kept; flags = e.flags; used = open_extended (state_of s locks) (state_of t more) n e used b.used; jobs = jobs },
+  record { kept = e.kept; flags = e.flags; used = in_use_extended (state_of s locks) (state_of t more) n e used b.used; jobs = jobs },
   record { order = e.order ∙ i.order; at = λ x. e.at x ∙ i.at x; full = λ x m stands f. go x m stands f (cases_eq m n) },
 )
   where
-    parts : (is_open (lock_at locks n).queue ≡ true) × ((lock_at locks n).key ≡ c.key)
-    parts = open_parts c.key (lock_at locks n) is_for
+    parts : (in_use (lock_at locks n).queue ≡ true) × ((lock_at locks n).key ≡ c.key)
+    parts = in_use_parts c.key (lock_at locks n) is_for
 
     used : IsUsed (state_of s locks) n
     used = b.used n parts.0
@@ -514,16 +514,16 @@ extending_more s0 s t locks0 locks more c later n b i is_for e full = (
     jobs : JobsAreApart t
     jobs x y key px py nx ny same = grind (arith, e.order, e.at x, e.at y, b.jobs x y key)
 
-    go : (x m : ℕ) → Stands (state_of t more) x m → names later (lock_at more m).key ≡ false → (m ≡ n) ⊎ (m ≢ n) → IsFull (state_of t more) m
+    go : (x m : ℕ) → IsQueued (state_of t more) x m → names later (lock_at more m).key ≡ false → (m ≡ n) ⊎ (m ≢ n) → IsFull (state_of t more) m
     go x m stands f (inl here) = subst (IsFull (state_of t more)) (sym here) full
     go x m stands f (inr ne) =
-        let was : Stands (state_of s locks) x m = record {
+        let was : IsQueued (state_of s locks) x m = record {
           present = subst (λ l. is_there x l ≡ true) e.order stands.present;
           there = subst (λ l. is_there m l ≡ true) (e.own x) stands.there;
         } in
         let other : same_key c.key (lock_at locks m).key ≡ false =
         false_from_ne_true (same_key c.key (lock_at locks m).key)
-        (λ k. ne (b.kept.one x m used.place n was used.stands (sym (same_key-eq c.key (lock_at locks m).key k) ∙ sym parts.1))) in
+        (λ k. ne (b.kept.one x m used.slot n was used.stands (sym (same_key-eq c.key (lock_at locks m).key k) ∙ sym parts.1))) in
         let f_s : names later (lock_at locks m).key ≡ false = subst (λ k. names later k ≡ false) (e.key m) f in
         still_full s t locks more m (e.key m) (e.others m ne)
         (ap (λ l. wants_at (map (request_at t) l) (lock_at locks m).key) e.order

@@ -1,5 +1,6 @@
--- Wants that are made shared or exclusive, as the queues of their keys tell (this project's profile).
-use Rattle.std.specs.Prelude.{◌≡◌, ◌<◌, ℕ, Bool, true, false, ◌&&◌, ◌==◌, if◌then◌else◌, List, [], ◌∷◌, None, is_some, drop, length, map}
+-- Wants that are made shared or exclusive, by the queues of their keys (this project's profile).
+use Rattle.std.specs.Prelude.{◌≡◌, ◌<◌, ℕ, Bool, true, false, ◌&&◌, ◌==◌}
+use Rattle.std.specs.Prelude.{if◌then◌else◌, List, [], ◌∷◌, None, is_some, drop, length, map}
 use Rattle.std.specs.List.{All, list_any, position_or_len}
 use Rattle.lock_queue.specs.declared.key.Key.{Key}
 use Rattle.lock_queue.specs.declared.request.Request.{Request}
@@ -10,11 +11,11 @@ use Rattle.lock_queue.specs.WellFormed.{are_apart}
 use Rattle.key_queues.specs.declared.lock.Lock.{Lock}
 use Rattle.key_queues.specs.Beginnings.{fitting, is_share_of}
 use Rattle.key_queues.specs.Locks.{lock_at}
-use Rattle.key_queues.specs.States.{FlagsAll, IsKept, IsUsed, OpenAreUsed, IsFull, Stands}
-use Rattle.key_queues.specs.Tables.{is_there, places_at}
-use Rattle.key_queues.specs.Filing.{with_want}
-use Rattle.key_queues.specs.Stores.{Stored, filed_at, with_filed}
-use Rattle.lock_table.specs.Filing.{state_of, want_filed}
+use Rattle.key_queues.specs.States.{FlagsAll, IsKept, IsUsed, InUseHaveRequests, IsFull, IsQueued}
+use Rattle.key_queues.specs.Tables.{is_there, slots_at}
+use Rattle.key_queues.specs.Entries.{with_want}
+use Rattle.key_queues.specs.Stores.{Stored, entry_at, with_entry}
+use Rattle.lock_table.specs.TableStates.{state_of, queued_want}
 use Rattle.lock_table.specs.Reads.{request_at}
 use Rattle.lock_table.specs.Whole.{JobsAreApart, requests_in}
 
@@ -26,43 +27,44 @@ changed_by c w = record w { shared = c.shared; group = changed_group c.shared w 
 abbrev pub changed_once : ℕ → Want → Request → Request
 changed_once job c r = changed job (c ∷ []) r
 
--- the want of a place that stands in a queue, once a job's is changed
+-- the want of a slot in a queue, once the job's want in it is changed
 abbrev pub want_then : Stored → ℕ → ℕ → Want → ℕ → Want
 want_then s n job c p =
-    if (request_at s p).job == job then changed_by c (want_filed s p n) else want_filed s p n
+    if (request_at s p).job == job then changed_by c (queued_want s p n) else queued_want s p n
 
 -- how many wants of a change's key fit once it is made
 abbrev pub fitting_then : (ℕ → Request) → List ℕ → ℕ → Want → ℕ
 fitting_then at order job c = fitting (wants_at (map (λ x. changed_once job c (at x)) order) c.key)
 
--- whether a request that is taken for granted stands behind those
+-- whether a request behind those has its flag set
 abbrev pub is_lost_by : (ℕ → Request) → (ℕ → Bool) → List ℕ → ℕ → Want → Bool
-is_lost_by at flag order job c = list_any flag (drop (fitting_then at order job c) (places_at at order c.key))
+is_lost_by at flag order job c = list_any flag (drop (fitting_then at order job c) (slots_at at order c.key))
 
 abbrev pub loses_by : Stored → ℕ → Want → Bool
-loses_by s job c = is_lost_by (request_at s) (λ x. (filed_at s x).granted) s.order job c
+loses_by s job c = is_lost_by (request_at s) (λ x. (entry_at s x).granted) s.order job c
 
 -- a present request has a want in a queue, which is not of a pool
-pub record IsFreeAt (s : Stored) (n p : ℕ) : Type 0 where
+pub record IsUnpooledAt (s : Stored) (n p : ℕ) : Type 0 where
   pub present : is_there p s.order ≡ true
-  pub within : position_or_len (λ m. m == n) (filed_at s p).queues.items < length (request_at s p).wants.items
-  pub free : is_share_of None (want_filed s p n).pool ≡ true
+  pub within : position_or_len (λ m. m == n) (entry_at s p).queues.items < length (request_at s p).wants.items
+  pub unpooled : is_share_of None (queued_want s p n).pool ≡ true
 
 -- a change does not make a pool's want of the job shared
 abbrev pub SparesPools : Stored → ℕ → Want → Type 0
 SparesPools s job c = (c.shared && list_any is_pooled (wants_at (requests_of (requests_in s) job) c.key)) ≡ false
 
--- the want of a place in a queue, changed
+-- the want of a slot in a queue, changed
 abbrev pub altered_at : Stored → ℕ → Want → ℕ → Stored
 altered_at s n c p =
-    with_filed s p (with_want (filed_at s p) (position_or_len (λ m. m == n) (filed_at s p).queues.items) (changed_by c (want_filed s p n)))
+    with_entry s p
+    (with_want (entry_at s p) (position_or_len (λ m. m == n) (entry_at s p).queues.items) (changed_by c (queued_want s p n)))
 
--- what is asked of a change: the job has a want of its key, which is not of a pool or stays as it is, and no grant is taken
+-- a change is sound: the job has a want of its key, which is not of a pool or stays as it is, and no grant is lost
 pub record IsSound (s : Stored) (locks : List Lock) (job : ℕ) (c : Want) : Type 0 where
-  pub place : ℕ
-  pub present : is_there place s.order ≡ true
-  pub mine : (request_at s place).job ≡ job
-  pub named : names (request_at s place).wants.items c.key ≡ true
+  pub slot : ℕ
+  pub present : is_there slot s.order ≡ true
+  pub mine : (request_at s slot).job ≡ job
+  pub named : names (request_at s slot).wants.items c.key ≡ true
   pub spared : (n : ℕ) → (lock_at locks n).key ≡ c.key → is_some (lock_at locks n).size ≡ true → IsUsed (state_of s locks) n
       → (x : ℕ) → is_there x s.order ≡ true → changed_once job c (request_at s x) ≡ request_at s x
   pub safe : loses_by s job c ≡ false
@@ -71,15 +73,15 @@ pub record IsSound (s : Stored) (locks : List Lock) (job : ℕ) (c : Want) : Typ
 pub record IsBetween (s : Stored) (locks : List Lock) : Type 0 where
   pub kept : IsKept (state_of s locks)
   pub flags : FlagsAll (state_of s locks)
-  pub used : OpenAreUsed (state_of s locks)
+  pub used : InUseHaveRequests (state_of s locks)
   pub jobs : JobsAreApart s
 
 -- one change is made: more wants may fit then than are counted
 pub record Altered (s t : Stored) (locks more : List Lock) (job : ℕ) (c : Want) : Type 0 where
   pub order : t.order ≡ s.order
   pub at : (x : ℕ) → is_there x s.order ≡ true → request_at t x ≡ changed_once job c (request_at s x)
-  pub own : (x : ℕ) → (filed_at t x).queues.items ≡ (filed_at s x).queues.items
-  pub flag : (x : ℕ) → (filed_at t x).granted ≡ (filed_at s x).granted
+  pub own : (x : ℕ) → (entry_at t x).queues.items ≡ (entry_at s x).queues.items
+  pub flag : (x : ℕ) → (entry_at t x).granted ≡ (entry_at s x).granted
   pub key : (m : ℕ) → (lock_at more m).key ≡ (lock_at locks m).key
   pub size : (m : ℕ) → (lock_at more m).size ≡ (lock_at locks m).size
   pub others : (m : ℕ) → ((lock_at locks m).key ≡ c.key → ⊥) → (lock_at more m).queue ≡ (lock_at locks m).queue
@@ -93,8 +95,8 @@ pub record AreSound (s : Stored) (locks : List Lock) (job : ℕ) (changes : List
 pub record IsAltering (s t : Stored) (locks more : List Lock) (job : ℕ) (changes later : List Want) : Type 0 where
   pub order : t.order ≡ s.order
   pub at : (x : ℕ) → is_there x s.order ≡ true → changed job later (request_at t x) ≡ changed job changes (request_at s x)
-  pub own : (x : ℕ) → (filed_at t x).queues.items ≡ (filed_at s x).queues.items
-  pub flag : (x : ℕ) → (filed_at t x).granted ≡ (filed_at s x).granted
+  pub own : (x : ℕ) → (entry_at t x).queues.items ≡ (entry_at s x).queues.items
+  pub flag : (x : ℕ) → (entry_at t x).granted ≡ (entry_at s x).granted
   pub key : (m : ℕ) → (lock_at more m).key ≡ (lock_at locks m).key
   pub size : (m : ℕ) → (lock_at more m).size ≡ (lock_at locks m).size
   pub others : (m : ℕ) → names changes (lock_at locks m).key ≡ false → (lock_at more m).queue ≡ (lock_at locks m).queue
@@ -103,7 +105,7 @@ pub record IsAltering (s t : Stored) (locks more : List Lock) (job : ℕ) (chang
 -- all wants that fit are counted, but for those of some keys
 abbrev pub IsFullBut : Stored → List Lock → List Want → Type 0
 IsFullBut s locks later =
-    (x m : ℕ) → Stands (state_of s locks) x m → names later (lock_at locks m).key ≡ false → IsFull (state_of s locks) m
+    (x m : ℕ) → IsQueued (state_of s locks) x m → names later (lock_at locks m).key ≡ false → IsFull (state_of s locks) m
 
 -- the wants of the later keys are left to be counted
 pub record IsExtending (s t : Stored) (locks more : List Lock) (later : List Want) : Type 0 where

@@ -10,9 +10,9 @@ use Rattle.key_queues.specs.Tables.{is_there}
 use Rattle.key_queues.specs.declared.lock.Lock.{Lock}
 use Rattle.key_queues.specs.Locks.{lock_at}
 use Rattle.lock_queue.specs.Jobs.{is_among}
-use Rattle.key_queues.specs.declared.filed.Filed.{Filed}
-use Rattle.key_queues.specs.Stores.{Stored, filed_at, is_blocked, places_of}
-use Rattle.lock_table.specs.Filing.{want_at}
+use Rattle.key_queues.specs.declared.entry.Entry.{Entry}
+use Rattle.key_queues.specs.Stores.{Stored, entry_at, is_blocked, slots_of}
+use Rattle.lock_table.specs.TableStates.{want_at}
 use Rattle.lock_table.specs.Reads.{IsSole, request_at}
 use Rattle.lock_table.specs.declared.leaving.Leavers.{Leavers}
 use Rattle.lock_table.specs.declared.leaving.Leavers.TheVariants.{All, Job, Id, Waiter, Waiters}
@@ -28,19 +28,19 @@ pub record KeepsLocks (locks more : List Lock) (n : ℕ) : Type 0 where
 
 -- the k-th want of a request is that of a key
 pub record IsWantOf (s : Stored) (p : ℕ) (key : Key) (k : ℕ) : Type 0 where
-  pub within : k < length (filed_at s p).queues.items
+  pub within : k < length (entry_at s p).queues.items
   pub of : (want_at s p k).key ≡ key
 
--- of the requests those stay that a test keeps, and each is then as it is said
+-- the requests stay that a test keeps, and each is then as `then` says
 pub record IsLeft (s t : Stored) (then : ℕ → Request) (stays : ℕ → Bool) : Type 0 where
   pub order : t.order ≡ filter stays s.order
-  pub left : (x : ℕ) → is_there x t.order ≡ true → (filed_at t x).request ≡ then x
+  pub left : (x : ℕ) → is_there x t.order ≡ true → (entry_at t x).request ≡ then x
 
--- all stay but those of some places
+-- all stay but those of some slots
 abbrev pub stays_beside : List ℕ → ℕ → Bool
-stays_beside places x = not (is_there x places)
+stays_beside slots x = not (is_there x slots)
 
--- what a call leaves of each request stands at its place after it, and those that stay do so in order
+-- what a call leaves of each request is in its slot after it, and those that stay are in order
 pub record LeavesBy (left : Request → Option Request) (s t : Stored) : Type 0 where
   pub stays : ℕ → Bool
   pub order : t.order ≡ filter stays s.order
@@ -56,15 +56,15 @@ pub record IsSoleNamed (s : Stored) (job : ℕ) (named : List Want) (p : ℕ) : 
   pub named_is : named ≡ want ∷ []
   pub sole : IsSole s job want.key p
 
--- which requests are a job's, have an id besides, or block one of some jobs
+-- which requests are a job's, and which block one of some jobs
 abbrev pub is_of : Stored → ℕ → ℕ → Bool
-is_of s job x = (filed_at s x).request.job == job
+is_of s job x = (entry_at s x).request.job == job
 
 abbrev pub is_blocking_at : Stored → (ℕ → Bool) → ℕ → Bool
-is_blocking_at s waiters x = waiters (filed_at s x).request.job && is_blocked (filed_at s x)
+is_blocking_at s waiters x = waiters (entry_at s x).request.job && is_blocked (entry_at s x)
 
 -- whether a request is one of those that leave
-abbrev pub is_leaver : Leavers → Filed → Bool
+abbrev pub is_leaver : Leavers → Entry → Bool
 is_leaver All f = true
 is_leaver (Job job) f = f.request.job == job
 is_leaver (Id job id) f = f.request.job == job && f.request.id == id
@@ -72,22 +72,22 @@ is_leaver (Waiter job) f = f.request.job == job && is_blocked f
 is_leaver (Waiters jobs) f = is_among jobs f.request.job && is_blocked f
 
 abbrev pub is_leaver_at : Stored → Leavers → ℕ → Bool
-is_leaver_at s who x = is_leaver who (filed_at s x)
+is_leaver_at s who x = is_leaver who (entry_at s x)
 
--- whether it leaves, of those that may
-abbrev pub is_chosen : Leavers → Filed → Bool
+-- whether a request leaves, of those that `may_be_leavers` gives
+abbrev pub is_chosen : Leavers → Entry → Bool
 is_chosen All f = true
 is_chosen (Job job) f = true
 is_chosen (Id job id) f = f.request.id == id
 is_chosen (Waiter job) f = is_blocked f
 is_chosen (Waiters jobs) f = is_among jobs f.request.job && is_blocked f
 
--- the places where those stand that may leave
+-- the slots of the requests that may leave
 abbrev pub may_be_leavers : Stored → Leavers → List ℕ
 may_be_leavers s All = s.order
-may_be_leavers s (Job job) = places_of s job
-may_be_leavers s (Id job id) = places_of s job
-may_be_leavers s (Waiter job) = places_of s job
+may_be_leavers s (Job job) = slots_of s job
+may_be_leavers s (Id job id) = slots_of s job
+may_be_leavers s (Waiter job) = slots_of s job
 may_be_leavers s (Waiters jobs) = s.order
 
 -- the requests for which a test holds leave

@@ -1,10 +1,10 @@
-pub mod Turns
+pub mod Flips
 pub mod Arrivals
 pub mod Departures
 pub mod Changing
 pub mod Raised
 pub mod Tables
 pub mod Seen
-pub mod Filing
+pub mod TableStates
 pub mod Whole
 pub mod Reads

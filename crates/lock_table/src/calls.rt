@@ -1,4 +1,4 @@
-//! A call.
+//! One call of a job.
 ghost use Rattle.std.specs.Prelude.{◌≡◌, ◌≤◌, IsTrue};
 ghost use Rattle.word36.specs.declared.sizes.TheConstants.{JOBS, MOST_REQUESTS};
 ghost use Rattle.lock_queue.specs.declared.call.LockReply.TheVariants.{Done};
@@ -6,7 +6,7 @@ ghost use Rattle.lock_queue.specs.Calls.{outcome_of};
 ghost use Rattle.lock_queue.specs.Grants.{left_of};
 ghost use Rattle.lock_queue.specs.WellFormed.{all_share_rightly, names_locks};
 ghost use Rattle.lock_table.specs.Departures.{LeavesBy};
-ghost use Rattle.lock_table.specs.Tables.{AreTurned, IsRight, requests};
+ghost use Rattle.lock_table.specs.Tables.{AreFlipped, IsRight, requests};
 
 use crate::leaving::Leaving;
 use crate::table::Table;
@@ -25,7 +25,7 @@ impl<const REQS: usize> Table<REQS> {
         ensures requests { requests self.new ≡ (outcome_of REQS (requests self.old) job call.now).requests }
         ensures reply { result ≡ (outcome_of REQS (requests self.old) job call.now).reply }
         ensures left { result ≡ Done → LeavesBy (left_of job call.now) self.old.store self.new.store }
-        ensures turns { result ≡ Done → AreTurned self.old self.new }
+        ensures flips { result ≡ Done → AreFlipped self.old self.new }
     {
         match call {
             LockCall::Enqueue { asking, wants } => self.enqueue(job, asking, wants),

@@ -7,23 +7,23 @@ ghost use Rattle.key_queues.specs.States.{IsTable};
 ghost use Rattle.key_queues.specs.Tables.{is_there};
 ghost use Rattle.lock_queue.specs.Changes.{modify};
 ghost use Rattle.lock_queue.specs.declared.call.LockReply.TheVariants.{Done};
-ghost use Rattle.key_queues.specs.Stores.{filed_at};
-ghost use Rattle.lock_table.specs.Filing.{state_of, want_filed};
+ghost use Rattle.key_queues.specs.Stores.{entry_at};
+ghost use Rattle.lock_table.specs.TableStates.{state_of, queued_want};
 ghost use Rattle.lock_table.specs.Reads.{request_at};
 ghost use Rattle.lock_table.specs.Whole.{AreRight};
-ghost use Rattle.lock_table.specs.Tables.{AreTurned, IsRight, requests};
-ghost use Rattle.lock_table.specs.Changing.{Altered, AreSound, IsAltering, IsBetween, IsChanged, IsExtending, IsFreeAt};
+ghost use Rattle.lock_table.specs.Tables.{AreFlipped, IsRight, requests};
+ghost use Rattle.lock_table.specs.Changing.{Altered, AreSound, IsAltering, IsBetween, IsChanged, IsExtending, IsUnpooledAt};
 ghost use Rattle.lock_table.specs.Changing.{IsFullBut, IsSound, SparesPools, altered_at, changed_by, loses_by, want_then};
 
-use crate::queues::want_filed;
+use crate::queues::queued_want;
 use crate::refusals::refusal_of_modify;
-use crate::steps::place_of;
+use crate::steps::slot_of;
 use crate::table::Table;
 use key_queues::{Keys, Queue, Store, index_of};
 use lock_queue::steps::changed_group;
 use lock_queue::{LockReply, Refusal, Want};
 
-/// A want made shared or exclusive.
+/// The want `w`, made shared or exclusive as the change `c` says.
 fn changed_by(c: &Want, w: &Want) -> Want
     ensures { result ≡ changed_by c.now w.now }
 {
@@ -33,12 +33,12 @@ fn changed_by(c: &Want, w: &Want) -> Want
     changed
 }
 
-/// The want of a place that stands in a queue, as it is once the job's want is changed.
+/// The want of a slot in a queue, as it is once the job's want in that queue is changed.
 fn want_then<const REQS: usize>(store: &Store<REQS>, p: u16, n: u16, job: u8, c: &Want) -> Want
-    requires { IsFreeAt store.now n p }
+    requires { IsUnpooledAt store.now n p }
     ensures { result ≡ want_then store.now n job c.now p }
 {
-    let w = want_filed(store, p, n);
+    let w = queued_want(store, p, n);
     if store.get(p).request.job == job {
         changed_by(c, w)
     } else {
@@ -46,40 +46,40 @@ fn want_then<const REQS: usize>(store: &Store<REQS>, p: u16, n: u16, job: u8, c:
     }
 }
 
-/// How many of the wants of a queue's places fit, once the job's is changed.
+/// How many wants at the front of a queue fit, once the job's want in it is changed.
 fn fitting_then<const REQS: usize>(
     store: &Store<REQS>,
-    places: &[u16],
+    slots: &[u16],
     n: u16,
     job: u8,
     c: &Want,
 ) -> usize
-    requires free { All (IsFreeAt store.now n) places.now }
-    requires few { length places.now ≤ JOBS }
-    ensures value { result ≡ fitting (map (want_then store.now n job c.now) places.now) }
-    ensures most { result ≤ length places.now }
+    requires unpooled { All (IsUnpooledAt store.now n) slots.now }
+    requires few { length slots.now ≤ JOBS }
+    ensures value { result ≡ fitting (map (want_then store.now n job c.now) slots.now) }
+    ensures most { result ≤ length slots.now }
 {
     let mut queue = Queue::new();
-    for p in places {
+    for p in slots {
         queue.append(*p, &want_then(store, *p, n, job, c));
     }
     queue.fitting()
 }
 
-/// Whether a request at one of these places, from an index on, is taken for granted.
-fn is_some_granted<const REQS: usize>(store: &Store<REQS>, places: &[u16], from: usize) -> bool
-    requires { All (λ p. is_there p store.now.order ≡ true) places.now }
-    ensures { result ≡ list_any (λ p. (filed_at store.now p).granted) (drop from places.now) }
+/// Whether a request in one of these slots, from a position on, is granted.
+fn is_some_granted<const REQS: usize>(store: &Store<REQS>, slots: &[u16], from: usize) -> bool
+    requires { All (λ p. is_there p store.now.order ≡ true) slots.now }
+    ensures { result ≡ list_any (λ p. (entry_at store.now p).granted) (drop from slots.now) }
 {
-    for i in from..places.len() {
-        if store.get(places[i]).granted {
+    for i in from..slots.len() {
+        if store.get(slots[i]).granted {
             return true;
         }
     }
     false
 }
 
-/// Whether a change takes a grant.
+/// Whether a change takes a grant away.
 fn loses<const REQS: usize>(store: &Store<REQS>, keys: &Keys<REQS>, job: u8, c: &Want) -> bool
     requires table { IsTable (state_of store.now keys.now) }
     requires right { AreRight store.now }
@@ -93,12 +93,12 @@ fn loses<const REQS: usize>(store: &Store<REQS>, keys: &Keys<REQS>, job: u8, c: 
     if lock.size.is_some() {
         return false;
     }
-    let places = lock.queue.as_slice();
-    let k = fitting_then(store, places, n, job, c);
-    is_some_granted(store, places, k)
+    let slots = lock.queue.as_slice();
+    let k = fitting_then(store, slots, n, job, c);
+    is_some_granted(store, slots, k)
 }
 
-/// Whether one of the changes takes a grant.
+/// Whether one of the changes takes a grant away.
 fn some_loses<const REQS: usize>(
     store: &Store<REQS>,
     keys: &Keys<REQS>,
@@ -118,10 +118,10 @@ fn some_loses<const REQS: usize>(
     false
 }
 
-/// Changes the want of a place in a queue.
+/// Changes the want of a slot in a queue, in its entry alone.
 fn alter_want<const REQS: usize>(store: &mut Store<REQS>, p: u16, n: u16, c: &Want)
     requires present { is_there p store.old.order ≡ true }
-    requires within { position_or_len (λ m. m == n) (filed_at store.old p).queues.items < length (request_at store.old p).wants.items }
+    requires within { position_or_len (λ m. m == n) (entry_at store.old p).queues.items < length (request_at store.old p).wants.items }
     ensures { store.new ≡ altered_at store.old n c.now p }
 {
     let f = store.get(p);
@@ -130,7 +130,8 @@ fn alter_want<const REQS: usize>(store: &mut Store<REQS>, p: u16, n: u16, c: &Wa
     store.set_want(p, i, &w);
 }
 
-/// Makes one change in the queue of its key. What may be counted then is left to `extend`.
+/// Makes one change, and counts in the queue of its key no more wants than before. Further wants that fit are left
+/// to `extend`.
 fn alter<const REQS: usize>(store: &mut Store<REQS>, keys: &mut Keys<REQS>, job: u8, c: &Want)
     requires between { IsBetween store.old keys.old }
     requires sound { IsSound store.old keys.old job c.now }
@@ -144,16 +145,16 @@ fn alter<const REQS: usize>(store: &mut Store<REQS>, keys: &mut Keys<REQS>, job:
     if lock.size.is_some() {
         return;
     }
-    let places = lock.queue.as_slice();
-    let k = fitting_then(store, places, n, job, c);
-    let first = want_then(store, places[0], n, job, c);
-    if let Some(p) = place_of(store, places, job) {
+    let slots = lock.queue.as_slice();
+    let k = fitting_then(store, slots, n, job, c);
+    let first = want_then(store, slots[0], n, job, c);
+    if let Some(p) = slot_of(store, slots, job) {
         alter_want(store, p, n, c);
         keys.recount(n, k, &first);
     }
 }
 
-/// Makes all changes.
+/// Makes all changes, one after the other.
 fn alter_all<const REQS: usize>(
     store: &mut Store<REQS>,
     keys: &mut Keys<REQS>,
@@ -171,13 +172,13 @@ fn alter_all<const REQS: usize>(
 }
 
 impl<const REQS: usize> Table<REQS> {
-    /// Counts all wants of the changes' keys that fit.
+    /// Counts all wants that fit, in the queues of the changes' keys.
     fn extend_all(&mut self, changes: &[Want])
         requires between { IsBetween self.old.store self.old.keys }
         requires full { IsFullBut self.old.store self.old.keys changes.now }
         ensures between { IsBetween self.new.store self.new.keys }
         ensures extended { IsExtending self.old.store self.new.store self.old.keys self.new.keys [] }
-        ensures turns { AreTurned self.old self.new }
+        ensures flips { AreFlipped self.old self.new }
     {
         for c in changes {
             let Some(n) = self.keys.find(&c.key) else {
@@ -188,14 +189,14 @@ impl<const REQS: usize> Table<REQS> {
     }
 
     /// A job's wants of the named keys become shared or exclusive, all of them or none. First all changes
-    /// are made, then what fits is counted: what the first would grant may be shut out by the second.
+    /// are made, then wants that fit are counted: what the first change would grant, the second may shut out.
     pub fn modify(&mut self, job: u8, changes: &[Want]) -> LockReply
         requires whole { IsRight REQS self.old }
         ensures whole { IsRight REQS self.new }
         ensures requests { requests self.new ≡ (modify (requests self.old) job changes.now).requests }
         ensures reply { result ≡ (modify (requests self.old) job changes.now).reply }
         ensures changed { result ≡ Done → IsChanged self.old.store self.new.store job changes.now }
-        ensures turns { AreTurned self.old self.new }
+        ensures flips { AreFlipped self.old self.new }
     {
         if let Some(refusal) = refusal_of_modify(&self.store, &self.keys, job, changes) {
             return LockReply::Refused(refusal);

@@ -1,4 +1,4 @@
-//! Keys are given up.
+//! How a job gives up keys and requests.
 ghost use Rattle.std.specs.Prelude.{◌≡◌, ◌≤◌, IfSome, [], None, length};
 ghost use Rattle.word36.specs.declared.sizes.TheConstants.{JOBS, MOST_REQUESTS};
 ghost use Rattle.lock_queue.specs.declared.call.LockCall.TheVariants.{DequeueAll, DequeueId, DequeueNamed};
@@ -10,20 +10,20 @@ ghost use Rattle.key_queues.specs.States.{IsTable};
 ghost use Rattle.lock_table.specs.Arrivals.{AreFound};
 ghost use Rattle.lock_table.specs.Whole.{AreRight};
 ghost use Rattle.lock_table.specs.Departures.{IsLeft, IsSoleNamed, LeavesBy, left_named};
-ghost use Rattle.lock_table.specs.Tables.{AreTurned, IsRight, requests, state};
+ghost use Rattle.lock_table.specs.Tables.{AreFlipped, IsRight, requests, state};
 
 use crate::found::FoundKeys;
 use crate::leaving::{Leavers, Leaving};
 use crate::queues::lock_of;
 use crate::readings::sole_of;
 use crate::refusals::refusal_of_dequeue;
-use crate::steps::place_of;
+use crate::steps::slot_of;
 use crate::table::Table;
 use key_queues::{Found, Store};
 use lock_queue::{LockReply, Refusal, RequestId, Want, Wants};
 
-/// The place of a job's only request, where its only want is the only one that is named. Nothing is looked
-/// up for it.
+/// The slot of a job's only request, where it has one want alone, whose key is the only one that is named. No key is
+/// looked up.
 fn sole_named<const REQS: usize>(store: &Store<REQS>, job: u8, named: &[Want]) -> Option<u16>
     requires { AreRight store.now }
     ensures { IfSome result (IsSoleNamed store.now job named.now) }
@@ -35,8 +35,8 @@ fn sole_named<const REQS: usize>(store: &Store<REQS>, job: u8, named: &[Want]) -
 }
 
 impl<const REQS: usize> Table<REQS> {
-    /// A job gives up the wants of some keys, each of which it has, in turn. What is given up first keeps the locks of
-    /// the later keys as they are.
+    /// A job gives up its wants of some keys, one after the other; it has a want of each. That leaves the locks of the
+    /// later keys as they are, so their look-ups hold.
     fn give_up_named(&mut self, job: u8, named: &[Want], found: &[Found])
         requires whole { IsRight REQS self.old }
         requires long { length found.now ≡ length named.now }
@@ -45,21 +45,21 @@ impl<const REQS: usize> Table<REQS> {
         ensures table { IsTable (state self.new) }
         ensures left { IsLeft self.old.store self.new.store (left_named self.old.store job named.now)
             (λ x. has_wants (left_named self.old.store job named.now x)) }
-        ensures turns { AreTurned self.old self.new }
+        ensures flips { AreFlipped self.old self.new }
     {
         for i in 0..named.len() {
             let Some(n) = found[i].number else {
                 continue;
             };
-            let places = lock_of(&self.keys, n).queue.as_slice();
-            let Some(p) = place_of(&self.store, places, job) else {
+            let slots = lock_of(&self.keys, n).queue.as_slice();
+            let Some(p) = slot_of(&self.store, slots, job) else {
                 continue;
             };
             self.give_up_in(p, n);
         }
     }
 
-    /// A job gives up the wants of named keys.
+    /// A job gives up its wants of the named keys.
     pub fn dequeue_named(&mut self, job: u8, named: &Wants) -> LockReply
         requires whole { IsRight REQS self.old }
         requires job { job ≤ JOBS }
@@ -67,7 +67,7 @@ impl<const REQS: usize> Table<REQS> {
         ensures requests { requests self.new ≡ (dequeue_named (requests self.old) job named.now.items).requests }
         ensures reply { result ≡ (dequeue_named (requests self.old) job named.now.items).reply }
         ensures left { result ≡ Done → LeavesBy (left_of job (DequeueNamed named.now)) self.old.store self.new.store }
-        ensures turns { result ≡ Done → AreTurned self.old self.new }
+        ensures flips { result ≡ Done → AreFlipped self.old self.new }
     {
         if let Some(p) = sole_named(&self.store, job, named.as_slice()) {
             self.leave(p);
@@ -95,7 +95,7 @@ impl<const REQS: usize> Table<REQS> {
         ensures requests { requests self.new ≡ (dequeue_all (requests self.old) job).requests }
         ensures reply { result ≡ (dequeue_all (requests self.old) job).reply }
         ensures left { result ≡ Done → LeavesBy (left_of job DequeueAll) self.old.store self.new.store }
-        ensures turns { result ≡ Done → AreTurned self.old self.new }
+        ensures flips { result ≡ Done → AreFlipped self.old self.new }
     {
         if !self.release(leaving, &Leavers::Job(job)) {
             return LockReply::Refused(Refusal::NotPresent);
@@ -111,7 +111,7 @@ impl<const REQS: usize> Table<REQS> {
         ensures requests { requests self.new ≡ (dequeue_id (requests self.old) job id).requests }
         ensures reply { result ≡ (dequeue_id (requests self.old) job id).reply }
         ensures left { result ≡ Done → LeavesBy (left_of job (DequeueId id)) self.old.store self.new.store }
-        ensures turns { result ≡ Done → AreTurned self.old self.new }
+        ensures flips { result ≡ Done → AreFlipped self.old self.new }
     {
         if !self.release(leaving, &Leavers::Id(job, id)) {
             return LockReply::Refused(Refusal::NotPresent);

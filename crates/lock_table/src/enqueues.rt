@@ -1,5 +1,6 @@
-//! A request comes.
-ghost use Rattle.std.specs.Prelude.{◌≡◌, ◌≤◌, ◌<◌, ◌+◌, ◌++◌, ◌∷◌, ℕ, true, false, [], None, IsTrue, length, nat_le};
+//! How a request arrives.
+ghost use Rattle.std.specs.Prelude.{◌≡◌, ◌≤◌, ◌<◌, ◌+◌, ◌++◌, ◌∷◌, ℕ};
+ghost use Rattle.std.specs.Prelude.{true, false, [], None, IsTrue, length, nat_le};
 ghost use Rattle.std.specs.List.{list_all};
 ghost use Rattle.word36.specs.declared.sizes.TheConstants.{JOBS};
 ghost use Rattle.lock_queue.specs.declared.request.EnqueueKind.TheVariants.{AtOnce};
@@ -8,20 +9,20 @@ ghost use Rattle.lock_queue.specs.Outcomes.{first_refusal};
 ghost use Rattle.lock_queue.specs.Queue.{fits, granted};
 ghost use Rattle.lock_queue.specs.WellFormed.{is_in_range, shares_rightly};
 ghost use Rattle.key_queues.specs.Tables.{is_there};
-ghost use Rattle.key_queues.specs.Stores.{filed_at};
+ghost use Rattle.key_queues.specs.Stores.{entry_at};
 ghost use Rattle.key_queues.specs.States.{IsTable};
 ghost use Rattle.lock_table.specs.Arrivals.{AdmitsFrom, AreFound, IsArriving, SameRequests};
 ghost use Rattle.lock_table.specs.Tables.{IsRight, requests, state};
 
 use crate::found::FoundKeys;
+use crate::notifying::set_notified;
 use crate::refusals::refusal_of_enqueue;
 use crate::steps::renew;
 use crate::table::Table;
-use crate::told::mark_told;
 use key_queues::{Found, Keys, Store};
 use lock_queue::{Asking, EnqueueKind, LockReply, Refusal, Want, Wants};
 
-/// All wants are in range, whatever they are.
+/// All wants are in range, as their types have it. The calls do nothing; their contracts say so.
 fn are_in_range(wants: &[Want])
     ensures { IsTrue (list_all is_in_range wants.now) }
 {
@@ -33,7 +34,7 @@ fn are_in_range(wants: &[Want])
     }
 }
 
-/// Enters the wants of the request that came last, one by one.
+/// Enters the wants of the latest request, one by one.
 fn enter_all<const REQS: usize>(
     store: &mut Store<REQS>,
     keys: &mut Keys<REQS>,
@@ -56,8 +57,8 @@ fn enter_all<const REQS: usize>(
 }
 
 impl<const REQS: usize> Table<REQS> {
-    /// Whether a request is not taken in since its job would not wait for it, and not all of its wants fit behind
-    /// the present ones. The open locks of their keys take them.
+    /// Whether a request is refused since its job would not wait for it (ENQ. function 1), and not all of its wants fit
+    /// behind the present ones. No rule refuses the wants beside the present ones of their keys.
     fn is_turned_away(&self, asking: &Asking, wants: &[Want], found: &[Found]) -> bool
         requires table { IsTable (state self.now) }
         requires long { length found.now ≡ length wants.now }
@@ -78,8 +79,8 @@ impl<const REQS: usize> Table<REQS> {
         false
     }
 
-    /// A request comes last, which is not refused. Its wants stand last in the queues of their keys, and it is
-    /// granted where all of them fit behind the requests before it.
+    /// Enters a request that no rule refuses, behind the others. Its wants come last in the queues of their keys, and it
+    /// is granted where all of them fit behind the requests before it. Returns its slot.
     fn arrive(&mut self, job: u8, asking: &Asking, wants: &Wants, found: &[Found]) -> u16
         requires whole { IsRight REQS self.old }
         requires job { (1 ≤ job) × (job ≤ JOBS) }
@@ -91,12 +92,13 @@ impl<const REQS: usize> Table<REQS> {
         requires found { AreFound 0 self.old.keys wants.now.items found.now }
         ensures whole { IsRight REQS self.new }
         ensures requests { requests self.new ≡ with_arrival (requests self.old) job asking.now false wants.now }
-        ensures granted { (filed_at self.new.store result).granted
+        ensures granted { (entry_at self.new.store result).granted
             ≡ granted (with_arrival (requests self.old) job asking.now false wants.now) (length (requests self.old)) }
         ensures out { is_there result self.old.store.order ≡ false }
         ensures order { self.new.store.order ≡ self.old.store.order ++ result ∷ [] }
-        ensures request { (filed_at self.new.store result).request ≡ request_of job asking.now false wants.now }
-        ensures others { (x : ℕ) → (x ≡ result → ⊥) → (filed_at self.new.store x).request ≡ (filed_at self.old.store x).request }
+        ensures request { (entry_at self.new.store result).request ≡ request_of job asking.now false wants.now }
+        ensures others { (x : ℕ) → (x ≡ result → ⊥)
+            → (entry_at self.new.store x).request ≡ (entry_at self.old.store x).request }
     {
         are_in_range(wants.as_slice());
         let p = self.store.insert(job, asking, false);
@@ -105,8 +107,8 @@ impl<const REQS: usize> Table<REQS> {
         p
     }
 
-    /// A job asks for locks. Where they are granted at once, it need not be told by an interrupt any more. A
-    /// request that does not wait is taken in only where it is granted.
+    /// A job asks for locks. The answer notifies it of a grant at once, so no interrupt does so later. A request that
+    /// does not wait is entered only where it is granted.
     pub fn enqueue(&mut self, job: u8, asking: &Asking, wants: &Wants) -> LockReply
         requires whole { IsRight REQS self.old }
         requires job { (1 ≤ job) × (job ≤ JOBS) }
@@ -135,7 +137,7 @@ impl<const REQS: usize> Table<REQS> {
         let p = self.arrive(job, asking, wants, found);
         match (self.store.get(p).granted, asking.kind) {
             (true, EnqueueKind::Interrupt) => {
-                mark_told(&mut self.store, p);
+                set_notified(&mut self.store, p);
                 LockReply::Granted
             }
             (true, _) => LockReply::Granted,

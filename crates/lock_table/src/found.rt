@@ -1,4 +1,4 @@
-//! Where the keys of a call are looked for.
+//! The look-ups of a call's keys.
 ghost use Rattle.std.specs.Prelude.{◌≡◌, ◌≤◌, ◌<◌, ℕ, length, slice_index_or};
 ghost use Rattle.lock_queue.specs.Queue.{names};
 ghost use Rattle.lock_queue.specs.Unused.{unused_want};
@@ -10,11 +10,11 @@ use key_queues::Found;
 use lock_queue::{Key, Want};
 use word36::LOCKS_A_CALL;
 
-/// What the look-ups of a call's keys gave, in the order of its wants.
+/// The look-ups of a call's keys, in the order of its wants.
 pub type FoundKeys = ArrayVec<Found, LOCKS_A_CALL>;
 
-/// Whether one of some wants, whose keys were looked up, is of a key. The keys are compared only where their
-/// hashes are the same.
+/// Whether one of some wants is of a key. `found` has the look-ups of the wants, `hash` is that of the key: keys are
+/// compared only where their hashes are the same.
 #[tactic(auto, using(crate::proofs::Numbers::other_hash))]
 pub fn is_named(wants: &[Want], found: &[Found], key: &Key, hash: u16) -> bool
     requires long { length wants.now ≤ length found.now }

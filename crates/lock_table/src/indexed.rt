@@ -4,12 +4,12 @@ ghost use Rattle.word36.specs.declared.sizes.TheConstants.{MOST_REQUESTS};
 ghost use Rattle.lock_queue.specs.WellFormed.{are_well_formed};
 ghost use Rattle.lock_table.specs.Tables.{requests};
 
+use crate::flips::Flips;
 use crate::leaving::{Leavers, Leaving};
+use crate::notifying::mark_notified;
 use crate::readings::{is_granted, is_waiting, pending_of, request_of, waits_for};
-use crate::standing::status_of;
+use crate::status::status_of;
 use crate::table::Table;
-use crate::told::tell;
-use crate::turns::Turns;
 use crate::waking::fill_woken;
 use arrayvec::ArrayVec;
 use key_queues::{Keys, Store};
@@ -18,19 +18,19 @@ use std::alloc::{AllocError, Global};
 use std::marker::Model;
 use word36::MOST_REQUESTS;
 
-/// A table with its requests in a slab, a queue for each key, a list for each job, and whether each request
-/// is granted.
+/// A table that keeps its requests in a slab, with a queue for each key, a list for each job, and a flag for each
+/// request, whether it is granted.
 #[derive(Drop)]
 pub struct IndexedTable<const REQS: usize> {
     table: Table<REQS>,
-    /// Where the requests that leave as a whole are written.
+    /// The slots of the requests that leave as a whole.
     leaving: Leaving,
     ghost sized: { (1 ≤ REQS) × (REQS ≤ MOST_REQUESTS) },
     ghost few: { length (requests table) ≤ REQS },
     ghost well: { IsTrue (are_well_formed (requests table)) },
 }
 
-/// The lock table of all programs. Each names it by this name, so that another table is put in here alone.
+/// The lock table of all programs. They all use this name, so that another table can be put in here.
 pub type ProgramTable = IndexedTable<MOST_REQUESTS>;
 
 impl<const REQS: usize> Model for IndexedTable<REQS> {
@@ -58,11 +58,11 @@ impl<const REQS: usize> LockTable for IndexedTable<REQS> {
     ghost well = { λ t. t.well };
 
     fn new(alloc: Global) -> Result<Self, AllocError> {
-        let turns = Turns::new(alloc)?;
+        let flips = Flips::new(alloc)?;
         let keys = Keys::new(alloc)?;
         let store = Store::new(alloc)?;
         Ok(IndexedTable {
-            table: Table { store, keys, turns },
+            table: Table { store, keys, flips },
             leaving: ArrayVec::new(),
         })
     }
@@ -72,10 +72,10 @@ impl<const REQS: usize> LockTable for IndexedTable<REQS> {
     }
 
     fn call_waking(&mut self, job: u8, call: &LockCall, woken: &mut Woken) -> LockReply {
-        self.table.turns.clear();
+        self.table.flips.clear();
         let reply = self.table.make(&mut self.leaving, job, call);
         match reply {
-            LockReply::Done => fill_woken(&self.table.store, &self.table.turns, woken),
+            LockReply::Done => fill_woken(&self.table.store, &self.table.flips, woken),
             _ => woken.clear(),
         }
         reply
@@ -86,9 +86,9 @@ impl<const REQS: usize> LockTable for IndexedTable<REQS> {
     }
 
     fn release_waking(&mut self, job: u8, woken: &mut Woken) {
-        self.table.turns.clear();
+        self.table.flips.clear();
         self.table.release(&mut self.leaving, &Leavers::Job(job));
-        fill_woken(&self.table.store, &self.table.turns, woken);
+        fill_woken(&self.table.store, &self.table.flips, woken);
     }
 
     fn withdraw(&mut self, job: u8) {
@@ -100,7 +100,7 @@ impl<const REQS: usize> LockTable for IndexedTable<REQS> {
             .release(&mut self.leaving, &Leavers::Waiters(jobs));
     }
 
-    fn waiting(&self, job: u8) -> bool {
+    fn is_waiting(&self, job: u8) -> bool {
         is_waiting(&self.table.store, job)
     }
 
@@ -108,8 +108,8 @@ impl<const REQS: usize> LockTable for IndexedTable<REQS> {
         pending_of(&self.table.store, job)
     }
 
-    fn told(&mut self, job: u8) {
-        tell(&mut self.table.store, job);
+    fn mark_notified(&mut self, job: u8) {
+        mark_notified(&mut self.table.store, job);
     }
 
     fn status(&self, key: &Key, job: u8) -> Status {

@@ -1,4 +1,4 @@
-//! A lock table with the requests in a slab and a queue for each key.
+//! A lock table that keeps its requests in a slab, with a queue for each key.
 #![tactic(auto)]
 
 mod calls;
@@ -6,17 +6,17 @@ mod change;
 mod depart;
 mod dequeues;
 mod enqueues;
+mod flips;
 mod found;
 mod indexed;
 mod leaving;
+mod notifying;
 mod queues;
 mod readings;
 mod refusals;
-mod standing;
+mod status;
 mod steps;
 mod table;
-mod told;
-mod turns;
 mod waking;
 
 pub use indexed::{IndexedTable, ProgramTable};

@@ -1,13 +1,13 @@
-//! What is told of requests, and of the jobs that wait by them.
+//! Questions about requests, and about the jobs that wait by them.
 ghost use Rattle.std.specs.Prelude.{◌≡◌, ◌<◌, IfSome, Some, length, slice_get, true};
 ghost use Rattle.std.specs.List.{All, find, list_any};
 ghost use Rattle.key_queues.specs.States.{IsTable};
 ghost use Rattle.lock_queue.specs.Jobs.{is_in_the_way, is_kept_by, is_waiting_job, pending, waits_for};
 ghost use Rattle.lock_queue.specs.Queue.{granted, requests_of, wants_at};
-ghost use Rattle.key_queues.specs.Stores.{filed_at, places_of};
+ghost use Rattle.key_queues.specs.Stores.{entry_at, slots_of};
 ghost use Rattle.key_queues.specs.Tables.{is_there};
-ghost use Rattle.lock_table.specs.Filing.{state_of, want_at};
-ghost use Rattle.lock_table.specs.Reads.{IsSole, MarksGrants, before_of, is_kept_from, is_pending_filed, request_at, requests_at};
+ghost use Rattle.lock_table.specs.TableStates.{state_of, want_at};
+ghost use Rattle.lock_table.specs.Reads.{IsSole, MarksGrants, before_of, is_kept_from, is_pending_entry, request_at, requests_at};
 ghost use Rattle.lock_table.specs.Whole.{AreRight, requests_in};
 
 use crate::queues::lock_of;
@@ -16,11 +16,11 @@ use lock_queue::steps::some_in_the_way;
 use lock_queue::{EnqueueKind, Key, Request, RequestId, Want};
 use word36::JOBS;
 
-/// The places of a job's requests, in order of arrival.
+/// The slots of a job's requests, in order of arrival.
 #[tactic(auto, using(crate::proofs::Telling::no_job))]
-pub fn own_places<const REQS: usize>(store: &Store<REQS>, job: u8) -> &[u16]
+pub fn own_slots<const REQS: usize>(store: &Store<REQS>, job: u8) -> &[u16]
     requires { AreRight store.now }
-    ensures { result.now ≡ places_of store.now job }
+    ensures { result.now ≡ slots_of store.now job }
 {
     if job <= JOBS { store.of_job(job) } else { &[] }
 }
@@ -35,14 +35,14 @@ pub fn is_waiting<const REQS: usize>(store: &Store<REQS>, job: u8) -> bool
     job <= JOBS && store.blocked(job) != 0
 }
 
-/// The place of a job's first granted interrupt request of which it was not told.
+/// The slot of a job's first interrupt request that is granted and not notified.
 pub fn first_pending<const REQS: usize>(store: &Store<REQS>, job: u8) -> Option<u16>
     requires { AreRight store.now }
-    ensures { result ≡ find (λ p. is_pending_filed (filed_at store.now p)) (places_of store.now job) }
+    ensures { result ≡ find (λ p. is_pending_entry (entry_at store.now p)) (slots_of store.now job) }
 {
-    for p in own_places(store, job) {
+    for p in own_slots(store, job) {
         let f = store.get(*p);
-        if matches!(f.request.kind, EnqueueKind::Interrupt) && !f.request.told && f.granted {
+        if matches!(f.request.kind, EnqueueKind::Interrupt) && !f.request.notified && f.granted {
             return Some(*p);
         }
     }
@@ -59,7 +59,7 @@ pub fn pending_of<const REQS: usize>(store: &Store<REQS>, job: u8) -> Option<Req
     Some(store.get(p).request.id)
 }
 
-/// The request at a place of the list.
+/// The request at a position of the list.
 pub fn request_of<const REQS: usize>(store: &Store<REQS>, i: usize) -> &Request
     requires { i < length store.now.order }
     ensures { slice_get (requests_in store.now) i ≡ Some result.now }
@@ -76,12 +76,12 @@ pub fn is_granted<const REQS: usize>(store: &Store<REQS>, i: usize) -> bool
     store.get(store.order()[i]).granted
 }
 
-/// The place of a job's only request, where its only want is of a key.
+/// The slot of a job's only request, where its only want is of a key.
 pub fn sole_of<const REQS: usize>(store: &Store<REQS>, job: u8, key: &Key) -> Option<u16>
     requires { AreRight store.now }
     ensures { IfSome result (IsSole store.now job key.now) }
 {
-    let [p] = own_places(store, job) else {
+    let [p] = own_slots(store, job) else {
         return None;
     };
     match store.get(*p).request.wants.as_slice() {
@@ -90,18 +90,18 @@ pub fn sole_of<const REQS: usize>(store: &Store<REQS>, job: u8, key: &Key) -> Op
     }
 }
 
-/// Whether a want of a job of a want's key at one of these places stands in its way.
+/// Whether a job's want in one of these slots, of a want's key, stands in that want's way.
 fn is_in_the_way_at<const REQS: usize>(
     store: &Store<REQS>,
-    places: &[u16],
+    slots: &[u16],
     w: &Want,
     job: u8,
 ) -> bool
-    requires { All (λ p. is_there p store.now.order ≡ true) places.now }
+    requires { All (λ p. is_there p store.now.order ≡ true) slots.now }
     ensures { result ≡ list_any (λ v. is_in_the_way v w.now)
-        (wants_at (requests_of (requests_at store.now places.now) job) w.now.key) }
+        (wants_at (requests_of (requests_at store.now slots.now) job) w.now.key) }
 {
-    for p in places {
+    for p in slots {
         let r = &store.get(*p).request;
         if r.job == job && some_in_the_way(r.wants.as_slice(), w) {
             return true;
@@ -110,7 +110,7 @@ fn is_in_the_way_at<const REQS: usize>(
     false
 }
 
-/// Whether the k-th want of a request does not fit, and an earlier want of a job stands in its way.
+/// Whether the k-th want of a request does not fit, and an earlier want of the job stands in its way.
 fn is_kept_at<const REQS: usize>(
     store: &Store<REQS>,
     keys: &Keys<REQS>,
@@ -121,17 +121,17 @@ fn is_kept_at<const REQS: usize>(
     requires table { IsTable (state_of store.now keys.now) }
     requires present { is_there p store.now.order ≡ true }
     requires want { k < length (request_at store.now p).wants.items }
-    requires queue { k < length (filed_at store.now p).queues.items }
+    requires queue { k < length (entry_at store.now p).queues.items }
     ensures { result ≡ is_kept_by job (requests_at store.now (before_of store.now.order p)) (want_at store.now p k) }
 {
     let f = store.get(p);
     let queue = &lock_of(keys, f.queues.as_slice()[k]).queue;
-    let places = queue.as_slice();
-    let before = &places[..index_of(places, p)];
+    let slots = queue.as_slice();
+    let before = &slots[..index_of(slots, p)];
     !queue.counts(p) && is_in_the_way_at(store, before, &f.request.wants.as_slice()[k], job)
 }
 
-/// Whether a job keeps a request from one of its wants.
+/// Whether an earlier want of the job keeps a request from one of its wants.
 fn is_kept_from<const REQS: usize>(store: &Store<REQS>, keys: &Keys<REQS>, p: u16, job: u8) -> bool
     requires table { IsTable (state_of store.now keys.now) }
     requires present { is_there p store.now.order ≡ true }
@@ -145,8 +145,8 @@ fn is_kept_from<const REQS: usize>(store: &Store<REQS>, keys: &Keys<REQS>, p: u1
     false
 }
 
-/// Whether the first job waits for the second: whether one of its requests blocks it, and the second
-/// keeps that from a want.
+/// Whether the first job waits for the second: one of its requests blocks it, and the second keeps that request
+/// from a want.
 pub fn waits_for<const REQS: usize>(
     store: &Store<REQS>,
     keys: &Keys<REQS>,
@@ -158,7 +158,7 @@ pub fn waits_for<const REQS: usize>(
     requires table { IsTable (state_of store.now keys.now) }
     ensures { result ≡ waits_for (requests_in store.now) job other }
 {
-    for p in own_places(store, job) {
+    for p in own_slots(store, job) {
         if store.get(*p).is_blocked() && is_kept_from(store, keys, *p, other) {
             return true;
         }

@@ -4,7 +4,7 @@ ghost use Rattle.std.specs.List.{All, list_any};
 ghost use Rattle.word36.specs.declared.sizes.TheConstants.{JOBS, LOCKS_A_CALL};
 ghost use Rattle.key_queues.specs.Found.{IsFound};
 ghost use Rattle.key_queues.specs.Locks.{lock_at};
-ghost use Rattle.key_queues.specs.States.{IsTable, is_open};
+ghost use Rattle.key_queues.specs.States.{IsTable, in_use};
 ghost use Rattle.lock_queue.specs.Changes.{modify_fault};
 ghost use Rattle.lock_queue.specs.Dequeues.{dequeue_fault};
 ghost use Rattle.lock_queue.specs.Enqueues.{enqueue_fault, enqueue_refusal, some_too_low};
@@ -12,23 +12,23 @@ ghost use Rattle.lock_queue.specs.Outcomes.{first_refusal};
 ghost use Rattle.lock_queue.specs.Queue.{all_wants, is_pooled, names, requests_of, wants_at, wants_of};
 ghost use Rattle.key_queues.specs.Tables.{is_there};
 ghost use Rattle.lock_table.specs.Arrivals.{AreFound};
-ghost use Rattle.lock_table.specs.Filing.{state_of};
-ghost use Rattle.lock_table.specs.Reads.{requests_at, stands_of};
+ghost use Rattle.lock_table.specs.TableStates.{state_of};
+ghost use Rattle.lock_table.specs.Reads.{requests_at, is_job_queued_at};
 ghost use Rattle.lock_table.specs.Whole.{LevelsAgree, requests_in};
 
 use crate::found::{FoundKeys, is_named};
 use crate::queues::{first_want, lock_of};
-use crate::steps::place_of;
+use crate::steps::slot_of;
 use key_queues::{Found, Keys, Lock, Store};
 use lock_queue::steps::{is_alike, names_key, reach_level};
 use lock_queue::{Asking, EnqueueKind, Key, Level, Refusal, Want};
 
-/// Whether a job's request at one of these places stands in a queue.
-fn stands_in<const REQS: usize>(store: &Store<REQS>, places: &[u16], job: u8, n: u16) -> bool
-    requires { All (λ p. is_there p store.now.order ≡ true) places.now }
-    ensures { result ≡ list_any (stands_of store.now job n) places.now }
+/// Whether a job's request in one of these slots has a want in a queue.
+fn is_job_queued<const REQS: usize>(store: &Store<REQS>, slots: &[u16], job: u8, n: u16) -> bool
+    requires { All (λ p. is_there p store.now.order ≡ true) slots.now }
+    ensures { result ≡ list_any (is_job_queued_at store.now job n) slots.now }
 {
-    for p in places {
+    for p in slots {
         let f = store.get(*p);
         if f.request.job == job && f.queues.as_slice().contains(&n) {
             return true;
@@ -37,24 +37,24 @@ fn stands_in<const REQS: usize>(store: &Store<REQS>, places: &[u16], job: u8, n:
     false
 }
 
-/// Whether a job has a want of the key of an open lock, looked for in the shorter of two lists: that of the queue's
-/// places, and that of the job's.
+/// Whether a job has a want of the key of a lock in use. The shorter of two lists is searched: the slots of the queue,
+/// or those of the job.
 fn is_wanted_by<const REQS: usize>(store: &Store<REQS>, keys: &Keys<REQS>, job: u8, n: u16) -> bool
     requires table { IsTable (state_of store.now keys.now) }
-    requires open { is_open (lock_at keys.now n).queue ≡ true }
+    requires in_use { in_use (lock_at keys.now n).queue ≡ true }
     requires job { job ≤ JOBS }
     ensures { result ≡ names (wants_of (requests_in store.now) job) (lock_at keys.now n).key }
 {
-    let places = lock_of(keys, n).queue.as_slice();
+    let slots = lock_of(keys, n).queue.as_slice();
     let own = store.of_job(job);
-    if own.len() < places.len() {
-        stands_in(store, own, job, n)
+    if own.len() < slots.len() {
+        is_job_queued(store, own, job, n)
     } else {
-        place_of(store, places, job).is_some()
+        slot_of(store, slots, job).is_some()
     }
 }
 
-/// The open lock of a key of which a job has a want.
+/// The lock in use of a key of which a job has a want.
 fn lock_wanted<'a, const REQS: usize>(
     store: &Store<REQS>,
     keys: &'a Keys<REQS>,
@@ -68,14 +68,14 @@ fn lock_wanted<'a, const REQS: usize>(
 {
     let n = keys.find(key)?;
     let lock = lock_of(keys, n);
-    if stands_in(store, lock.queue.as_slice(), job, n) {
+    if is_job_queued(store, lock.queue.as_slice(), job, n) {
         Some(lock)
     } else {
         None
     }
 }
 
-/// Why a want is refused beside the present ones of its key. These are alike, so the first is looked at.
+/// Why a want is refused beside the present ones of its key. Those are alike, so the first is compared.
 fn fault_beside<const REQS: usize>(
     store: &Store<REQS>,
     keys: &Keys<REQS>,
@@ -99,8 +99,7 @@ fn fault_beside<const REQS: usize>(
     }
 }
 
-/// Why the first refused want of a call is refused, if there is one; else what the look-ups of the wants' keys gave
-/// is filled in.
+/// Why the first refused want of a call is refused. Where none is, fills in the look-ups of the wants' keys.
 fn first_enqueue_fault<const REQS: usize>(
     store: &Store<REQS>,
     keys: &Keys<REQS>,
@@ -131,12 +130,12 @@ fn first_enqueue_fault<const REQS: usize>(
     None
 }
 
-/// Whether a want at one of these places has a level or a higher one.
-fn reach_level_at<const REQS: usize>(store: &Store<REQS>, places: &[u16], level: Level) -> bool
-    requires { All (λ p. is_there p store.now.order ≡ true) places.now }
-    ensures { result ≡ list_any (λ v. nat_le level v.level) (all_wants (requests_at store.now places.now)) }
+/// Whether a request in one of these slots has a want of this level or a higher one.
+fn reach_level_at<const REQS: usize>(store: &Store<REQS>, slots: &[u16], level: Level) -> bool
+    requires { All (λ p. is_there p store.now.order ≡ true) slots.now }
+    ensures { result ≡ list_any (λ v. nat_le level v.level) (all_wants (requests_at store.now slots.now)) }
 {
-    for p in places {
+    for p in slots {
         if reach_level(store.get(*p).request.wants.as_slice(), level) {
             return true;
         }
@@ -168,9 +167,9 @@ fn count_of<const REQS: usize>(store: &Store<REQS>, job: u8) -> usize
     store.of_job(job).len()
 }
 
-/// Why a request is not taken in, if it is not: first lock by lock, then by its levels, then for want
-/// of a vector, then where the job has as many requests as it may have, then for want of room. Where it is,
-/// what the look-ups of its keys gave is filled in.
+/// Why a request is refused, if it is: first lock by lock, then for its levels, then since the job has no interrupt
+/// vector, then since it has as many requests as it may have, then since the table is full. Where it is not refused,
+/// fills in the look-ups of its keys.
 pub fn refusal_of_enqueue<const REQS: usize>(
     store: &Store<REQS>,
     keys: &Keys<REQS>,
@@ -204,7 +203,7 @@ pub fn refusal_of_enqueue<const REQS: usize>(
     }
 }
 
-/// Why the named wants are not given up, if they are not; else what the look-ups of their keys gave is filled in.
+/// Why the first refused want of a call is refused. Where none is, fills in the look-ups of the named keys.
 pub fn refusal_of_dequeue<const REQS: usize>(
     store: &Store<REQS>,
     keys: &Keys<REQS>,
@@ -236,7 +235,7 @@ pub fn refusal_of_dequeue<const REQS: usize>(
     None
 }
 
-/// Why wants are not changed, lock by lock, whatever would become of the grants.
+/// Why the first refused change of a call is refused, whatever would become of the grants.
 pub fn refusal_of_modify<const REQS: usize>(
     store: &Store<REQS>,
     keys: &Keys<REQS>,

@@ -1,15 +1,15 @@
--- How the grants of a call are found: marks are set before it and looked at after it, by private functions.
+-- How private functions find the grants that a call makes: by marks that are set before it and looked at after it.
 use Rattle.std.specs.Prelude.{Bool, not, ◌&&◌, if◌then◌else◌, List, [], ◌∷◌, ◌++◌, Option, Some, None}
 use Rattle.lock_queue.specs.declared.grant.Grant.{Grant}
 use Rattle.lock_queue.specs.declared.request.Request.{Request}
-use Rattle.lock_queue.specs.Grants.{is_told_of, grant_of}
+use Rattle.lock_queue.specs.Grants.{is_notified_of, grant_of}
 use Rattle.lock_queue.specs.Queue.{granted_behind}
 
--- a request whose job is to be told of its grant, which is not made yet
+-- a request that is not granted, and whose job is to be notified of its grant
 abbrev pub awaits_grant : List Request → Request → Bool
-awaits_grant earlier r = is_told_of r.kind && not (granted_behind earlier r)
+awaits_grant earlier r = is_notified_of r.kind && not (granted_behind earlier r)
 
--- a mark for a request that stays
+-- the marks with that of a request in front, where it stays
 abbrev pub marked : Option Request → Bool → List Bool → List Bool
 marked None mark rest = rest
 marked (Some r) mark rest = mark ∷ rest

@@ -10,7 +10,7 @@ use crate::row::Row;
 use lock_queue::steps::{changed_wants, is_granted, is_pooled_in, names_key};
 use lock_queue::{Key, Refusal, Request, Want};
 
-/// Whether a want of the job of this key is of a pool.
+/// Whether the job has a want of this key that is of a pool.
 fn has_pooled(requests: &[Request], job: u8, key: &Key) -> bool
     ensures { result ≡ list_any is_pooled (wants_at (requests_of requests.now job) key.now) }
 {
@@ -22,6 +22,7 @@ fn has_pooled(requests: &[Request], job: u8, key: &Key) -> bool
     false
 }
 
+/// Why a change is refused that comes after the call's earlier ones, whatever would become of the grants.
 fn fault_of(requests: &[Request], job: u8, earlier: &[Want], c: &Want) -> Option<Refusal>
     ensures { result ≡ modify_fault requests.now job earlier.now c.now }
 {
@@ -36,7 +37,7 @@ fn fault_of(requests: &[Request], job: u8, earlier: &[Want], c: &Want) -> Option
     }
 }
 
-/// Why wants are not changed, lock by lock, whatever would become of the grants.
+/// Why the first refused change of a call is refused, whatever would become of the grants.
 pub fn refusal_of_modify(requests: &[Request], job: u8, changes: &[Want]) -> Option<Refusal>
     ensures { result ≡ first_refusal (modify_fault requests.now job) [] changes.now }
 {
@@ -49,7 +50,7 @@ pub fn refusal_of_modify(requests: &[Request], job: u8, changes: &[Want]) -> Opt
     None
 }
 
-/// Writes the requests over others, those of the job being changed.
+/// Writes the requests over those of another row, with the changes made in those of the job.
 pub fn write_changed<const REQS: usize>(
     later: &mut Row<REQS>,
     requests: &[Request],

@@ -1,4 +1,4 @@
-//! Why wants are not given up, and how they leave.
+//! Giving up: why it is refused, and how wants and requests leave.
 ghost use Rattle.std.specs.Prelude.{◌≡◌, ◌≤◌, [], not, filter, length, map};
 ghost use Rattle.std.specs.List.{list_any};
 ghost use Rattle.lock_queue.specs.Dequeues.{dequeue_fault, has_wants, without_keys_of, without_named, is_of_job, has_id};
@@ -10,6 +10,7 @@ use crate::row::Row;
 use lock_queue::steps::{names_key, remove_keys};
 use lock_queue::{Refusal, Request, RequestId, Want};
 
+/// Why a named want is refused that comes after the call's earlier ones.
 fn fault_of(requests: &[Request], job: u8, earlier: &[Want], w: &Want) -> Option<Refusal>
     ensures { result ≡ dequeue_fault requests.now job earlier.now w.now }
 {
@@ -22,7 +23,7 @@ fn fault_of(requests: &[Request], job: u8, earlier: &[Want], w: &Want) -> Option
     }
 }
 
-/// Why the named wants are not given up, if they are not.
+/// Why the first refused want of a call is refused.
 pub fn refusal_of_dequeue(requests: &[Request], job: u8, named: &[Want]) -> Option<Refusal>
     ensures { result ≡ first_refusal (dequeue_fault requests.now job) [] named.now }
 {
@@ -35,7 +36,7 @@ pub fn refusal_of_dequeue(requests: &[Request], job: u8, named: &[Want]) -> Opti
     None
 }
 
-/// Takes the wants of the named keys out of the job's requests.
+/// Removes the wants of the named keys from the job's requests.
 pub fn remove_keys_of(requests: &mut [Request], job: u8, named: &[Want])
     ensures { requests.new ≡ map (without_keys_of job named.now) requests.old }
 {
@@ -46,6 +47,7 @@ pub fn remove_keys_of(requests: &mut [Request], job: u8, named: &[Want])
     }
 }
 
+/// Removes the requests without wants.
 fn remove_empty<const REQS: usize>(row: &mut Row<REQS>)
     ensures value { row.new ≡ filter has_wants row.old }
     ensures few { length row.new ≤ REQS }
@@ -57,7 +59,7 @@ fn remove_empty<const REQS: usize>(row: &mut Row<REQS>)
     }
 }
 
-/// Takes the named wants out of the job's requests, and the requests that are left without wants.
+/// Removes the wants of the named keys from the job's requests, and then the requests without wants.
 pub fn remove_named<const REQS: usize>(row: &mut Row<REQS>, job: u8, named: &[Want])
     ensures value { row.new ≡ without_named row.old job named.now }
     ensures few { length row.new ≤ REQS }
@@ -73,7 +75,7 @@ pub fn has_request(requests: &[Request], job: u8) -> bool
     requests.iter().any(|r| r.job == job)
 }
 
-/// Takes out the requests of the job.
+/// Removes the requests of the job.
 pub fn remove_job<const REQS: usize>(row: &mut Row<REQS>, job: u8)
     ensures value { row.new ≡ released row.old job }
     ensures few { length row.new ≤ REQS }
@@ -98,7 +100,7 @@ pub fn has_request_id(requests: &[Request], job: u8, id: RequestId) -> bool
     requests.iter().any(|r| has_id(r, job, id))
 }
 
-/// Takes out the requests of the job with that id.
+/// Removes the requests of the job with that id.
 pub fn remove_id<const REQS: usize>(row: &mut Row<REQS>, job: u8, id: RequestId)
     ensures value { row.new ≡ filter (λ r. not (has_id job id r)) row.old }
     ensures few { length row.new ≤ REQS }

@@ -34,6 +34,7 @@ fn fault_of(requests: &[Request], job: u8, earlier: &[Want], w: &Want) -> Option
     }
 }
 
+/// Why the first refused want of a call is refused.
 fn first_fault(requests: &[Request], job: u8, wants: &[Want]) -> Option<Refusal>
     ensures { result ≡ first_refusal (enqueue_fault requests.now job) [] wants.now }
 {
@@ -46,7 +47,7 @@ fn first_fault(requests: &[Request], job: u8, wants: &[Want]) -> Option<Refusal>
     None
 }
 
-/// Whether a present want of the job does.
+/// Whether a present want of the job has this level or a higher one.
 fn job_reaches_level(requests: &[Request], job: u8, level: Level) -> bool
     ensures { result ≡ list_any (λ v. nat_le level v.level) (wants_of requests.now job) }
 {
@@ -86,8 +87,8 @@ fn count_of(requests: &[Request], job: u8) -> usize
     count
 }
 
-/// Why a request is not taken in, if it is not: first lock by lock, then by its levels, then for want
-/// of a vector, then where the job has as many requests as it may have, then for want of room.
+/// Why a request is refused, if it is: first lock by lock, then for its levels, then since the job has no
+/// interrupt vector, then since it has as many requests as it may have, then since the table is full.
 pub fn refusal_of_enqueue(
     requests: &[Request],
     size: usize,

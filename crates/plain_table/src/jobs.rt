@@ -1,15 +1,11 @@
-//! What concerns the requests of one job: what it wants, which wait, which are told, which leave.
+//! The requests of one job: what it wants, whether it waits, of which grant it is notified, what leaves.
 ghost use Rattle.std.specs.Prelude.{◌≡◌, ◌≤◌, length};
-ghost use Rattle.std.specs.List.{list_any};
-ghost use Rattle.lock_queue.specs.Jobs.{is_waiting_job, withdrawn, withdrawn_all, is_pending, pending, as_told, told_of};
-ghost use Rattle.lock_queue.specs.Jobs.{is_in_the_way, is_kept_by, is_blocked_by, waits_for};
-ghost use Rattle.lock_queue.specs.Queue.{names, wants_at, wants_of, requests_of};
+ghost use Rattle.lock_queue.specs.Jobs.{is_waiting_job, withdrawn, withdrawn_all, is_pending, pending, as_notified, job_notified};
+ghost use Rattle.lock_queue.specs.Queue.{names, wants_of};
 
 use crate::row::Row;
-use lock_queue::steps::{
-    is_blocked, is_blocked_among, is_fitting, is_granted, names_key, some_in_the_way,
-};
-use lock_queue::{EnqueueKind, Key, Request, RequestId, Want};
+use lock_queue::steps::{is_blocked, is_blocked_among, is_granted, names_key};
+use lock_queue::{EnqueueKind, Key, Request, RequestId};
 
 /// Whether the job has a want of the key.
 pub fn has_want(requests: &[Request], job: u8, key: &Key) -> bool
@@ -35,8 +31,8 @@ pub fn is_waiting(requests: &[Request], job: u8) -> bool
     false
 }
 
-/// Takes out the requests by which the job waits. A request is judged by those before it, so the
-/// last may leave first.
+/// Takes out the requests by which the job waits. A request is judged by those before it, so it goes from
+/// the last to the first.
 pub fn remove_blocked<const REQS: usize>(row: &mut Row<REQS>, job: u8)
     ensures value { row.new ≡ withdrawn row.old job }
     ensures few { length row.new ≤ REQS }
@@ -49,8 +45,8 @@ pub fn remove_blocked<const REQS: usize>(row: &mut Row<REQS>, job: u8)
     }
 }
 
-/// Takes out the requests by which some jobs wait. A request is judged by those before it, so the
-/// last may leave first.
+/// Takes out the requests by which some jobs wait: job `j` where bit 2^j of `jobs` is set. A request is
+/// judged by those before it, so it goes from the last to the first.
 pub fn remove_blocked_among<const REQS: usize>(row: &mut Row<REQS>, jobs: u64)
     ensures value { row.new ≡ withdrawn_all row.old jobs }
     ensures few { length row.new ≤ REQS }
@@ -66,10 +62,13 @@ pub fn remove_blocked_among<const REQS: usize>(row: &mut Row<REQS>, jobs: u64)
 fn is_pending(earlier: &[Request], r: &Request, job: u8) -> bool
     ensures { result ≡ is_pending job earlier.now r.now }
 {
-    r.job == job && matches!(r.kind, EnqueueKind::Interrupt) && !r.told && is_granted(earlier, r)
+    r.job == job
+        && matches!(r.kind, EnqueueKind::Interrupt)
+        && !r.notified
+        && is_granted(earlier, r)
 }
 
-/// The id of the job's first granted interrupt request of which it was not told.
+/// The id of the job's first granted interrupt request of whose grant it was not notified.
 pub fn pending_of(requests: &[Request], job: u8) -> Option<RequestId>
     ensures { result ≡ pending requests.now job }
 {
@@ -81,64 +80,21 @@ pub fn pending_of(requests: &[Request], job: u8) -> Option<RequestId>
     None
 }
 
-fn mark_told(r: &mut Request)
-    ensures { r.new ≡ as_told r.old }
+fn set_notified(r: &mut Request)
+    ensures { r.new ≡ as_notified r.old }
 {
-    r.told = true;
+    r.notified = true;
 }
 
-/// Marks that request as told.
-pub fn tell(requests: &mut [Request], job: u8)
-    ensures { requests.new ≡ told_of requests.old job }
+/// Marks the grant of that request as notified.
+pub fn mark_notified(requests: &mut [Request], job: u8)
+    ensures { requests.new ≡ job_notified requests.old job }
 {
     for i in 0..requests.len() {
         let all = &requests[..];
         if is_pending(&all[..i], &all[i], job) {
-            mark_told(&mut requests[i]);
+            set_notified(&mut requests[i]);
             return;
         }
     }
-}
-
-fn job_is_in_the_way(earlier: &[Request], w: &Want, job: u8) -> bool
-    ensures { result ≡ list_any (λ v. is_in_the_way v w.now)
-        (wants_at (requests_of earlier.now job) w.now.key) }
-{
-    for r in earlier {
-        if r.job == job && some_in_the_way(r.wants.as_slice(), w) {
-            return true;
-        }
-    }
-    false
-}
-
-/// Whether a want does not fit, and an earlier want of the job stands in its way.
-fn is_kept_by(earlier: &[Request], w: &Want, job: u8) -> bool
-    ensures { result ≡ is_kept_by job earlier.now w.now }
-{
-    !is_fitting(earlier, w) && job_is_in_the_way(earlier, w, job)
-}
-
-fn is_some_kept(earlier: &[Request], wants: &[Want], job: u8) -> bool
-    ensures { result ≡ list_any (is_kept_by job earlier.now) wants.now }
-{
-    wants.iter().any(|w| is_kept_by(earlier, w, job))
-}
-
-fn is_blocked_by(earlier: &[Request], r: &Request, job: u8, other: u8) -> bool
-    ensures { result ≡ is_blocked_by job other earlier.now r.now }
-{
-    is_blocked(earlier, r, job) && is_some_kept(earlier, r.wants.as_slice(), other)
-}
-
-/// Whether the first job waits for the second.
-pub fn waits_for(requests: &[Request], job: u8, other: u8) -> bool
-    ensures { result ≡ waits_for requests.now job other }
-{
-    for (i, r) in requests.iter().enumerate() {
-        if is_blocked_by(&requests[..i], r, job, other) {
-            return true;
-        }
-    }
-    false
 }

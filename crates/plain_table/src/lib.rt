@@ -8,7 +8,7 @@ mod jobs;
 mod plain;
 mod row;
 mod rows;
-mod standing;
+mod status;
 mod waking;
 
 pub use plain::PlainTable;

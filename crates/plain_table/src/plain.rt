@@ -1,18 +1,19 @@
-//! The plain table: one row of requests, and each answer worked out from it.
+//! The plain table: one row of requests, from which each answer is worked out.
 ghost use Rattle.std.specs.Prelude.{◌≡◌, ◌≤◌, ◌<◌, ◌++◌, ◌∷◌, [], IsTrue, length};
 ghost use Rattle.lock_queue.specs.Enqueues.{request_of};
 ghost use Rattle.word36.specs.declared.sizes.TheConstants.{MOST_REQUESTS};
 ghost use Rattle.lock_queue.specs.WellFormed.{are_well_formed, is_well_formed};
 
-use crate::jobs::{is_waiting, pending_of, waits_for};
+use crate::jobs::{is_waiting, pending_of};
 use crate::rows::Rows;
-use crate::standing::status_at;
+use crate::status::status_at;
 use crate::waking::{Marks, fill_woken, mark};
 use lock_queue::steps::is_granted;
 use lock_queue::{
     Asking, Key, LockCall, LockReply, LockTable, Request, RequestId, Status, Wants, Woken,
 };
 use std::alloc::{AllocError, Global};
+use wait_graph::waits_for;
 
 /// A table that keeps its requests in one row, in order of arrival, and works owners and waiters out
 /// from it each time.
@@ -25,14 +26,14 @@ pub struct PlainTable<const REQS: usize> {
 }
 
 impl<const REQS: usize> PlainTable<REQS> {
-    /// Takes in a request as it is, behind the others, whether a call would be refused it or not. So a
-    /// table can be made that has given requests.
-    pub fn append(&mut self, job: u8, asking: &Asking, told: bool, wants: &Wants)
+    /// Appends a request as it is, even one that a call could not enter. So a table can be made that has
+    /// given requests.
+    pub fn append(&mut self, job: u8, asking: &Asking, notified: bool, wants: &Wants)
         requires room { length self.old.rows.present < REQS }
-        requires well { IsTrue (is_well_formed (request_of job asking.now told wants.now)) }
-        ensures { self.new.rows.present ≡ self.old.rows.present ++ request_of job asking.now told wants.now ∷ [] }
+        requires well { IsTrue (is_well_formed (request_of job asking.now notified wants.now)) }
+        ensures { self.new.rows.present ≡ self.old.rows.present ++ request_of job asking.now notified wants.now ∷ [] }
     {
-        self.rows.append(job, asking, told, wants);
+        self.rows.append(job, asking, notified, wants);
     }
 }
 
@@ -96,7 +97,7 @@ impl<const REQS: usize> LockTable for PlainTable<REQS> {
         self.rows.withdraw_all(jobs);
     }
 
-    fn waiting(&self, job: u8) -> bool {
+    fn is_waiting(&self, job: u8) -> bool {
         is_waiting(self.rows.as_slice(), job)
     }
 
@@ -104,8 +105,8 @@ impl<const REQS: usize> LockTable for PlainTable<REQS> {
         pending_of(self.rows.as_slice(), job)
     }
 
-    fn told(&mut self, job: u8) {
-        self.rows.tell(job);
+    fn mark_notified(&mut self, job: u8) {
+        self.rows.mark_notified(job);
     }
 
     fn status(&self, key: &Key, job: u8) -> Status {

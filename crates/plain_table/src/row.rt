@@ -1,25 +1,26 @@
-//! A row of requests, in places that are all made at the start.
-ghost use Rattle.std.specs.Prelude.{◌≡◌, ◌<◌, ◌≤◌, [], ◌∷◌, ◌++◌, ◌-◌, length, IfOk, IsTrue, map, take, remove};
+//! A row of requests, in slots that are all made at the start.
+ghost use Rattle.std.specs.Prelude.{◌≡◌, ◌<◌, ◌≤◌, [], ◌∷◌, ◌++◌};
+ghost use Rattle.std.specs.Prelude.{◌-◌, length, IfOk, IsTrue, map, take, remove};
 ghost use Rattle.std.specs.List.{list_all};
 ghost use Rattle.word36.specs.declared.sizes.TheConstants.{LOCKS_A_CALL};
 ghost use Rattle.lock_queue.specs.Dequeues.{with_wants, without_keys_of};
 ghost use Rattle.lock_queue.specs.Enqueues.{request_of};
-ghost use Rattle.lock_queue.specs.Jobs.{told_of};
+ghost use Rattle.lock_queue.specs.Jobs.{job_notified};
 ghost use Rattle.lock_queue.specs.WellFormed.{is_in_range};
 
 use crate::dequeues::remove_keys_of;
-use crate::jobs::tell;
+use crate::jobs::mark_notified;
 use lock_queue::steps::{write_like, write_request};
 use lock_queue::{Asking, Request, Want, Wants};
 use std::alloc::{AllocError, Global};
 use std::marker::Model;
 
-/// Requests in order of arrival, with a place for each that may be present. The places are made at
-/// the start and written over, want by want, so that nothing large is filled or copied for a request
-/// of few locks.
+/// Requests in order of arrival, in the first of as many slots as there may be requests. The slots are made
+/// at the start and written over, want by want, so that nothing large is filled or copied for a request of
+/// few locks.
 #[derive(Drop)]
 pub struct Row<const REQS: usize> {
-    places: Vec<Request>,
+    slots: Vec<Request>,
     count: usize,
 }
 
@@ -29,9 +30,9 @@ impl<const REQS: usize> Model for Row<REQS> {
 
     ghost Value = { List RequestView };
 
-    ghost view = { λ r. take r.count r.places.items };
+    ghost view = { λ r. take r.count r.slots.items };
 
-    ghost invariant = { λ r. (length r.places.items ≡ REQS) × (r.count ≤ REQS) };
+    ghost invariant = { λ r. (length r.slots.items ≡ REQS) × (r.count ≤ REQS) };
 }
 
 impl<const REQS: usize> Row<REQS> {
@@ -39,11 +40,11 @@ impl<const REQS: usize> Row<REQS> {
     pub fn new(alloc: Global) -> Result<Self, AllocError>
         ensures { IfOk result (λ row. row ≡ []) }
     {
-        let mut places = Vec::with_capacity(alloc, REQS)?;
+        let mut slots = Vec::with_capacity(alloc, REQS)?;
         for _ in 0..REQS {
-            places.push(Request::default())?;
+            slots.push(Request::default())?;
         }
-        Ok(Row { places, count: 0 })
+        Ok(Row { slots, count: 0 })
     }
 
     /// The requests.
@@ -51,10 +52,10 @@ impl<const REQS: usize> Row<REQS> {
         ensures value { result.now ≡ self.now }
         ensures few { length result.now ≤ REQS }
     {
-        &self.places.as_slice()[..self.count]
+        &self.slots.as_slice()[..self.count]
     }
 
-    /// Takes out all.
+    /// Removes all requests.
     pub fn clear(&mut self)
         ensures { self.new ≡ [] }
     {
@@ -62,13 +63,13 @@ impl<const REQS: usize> Row<REQS> {
     }
 
     /// Appends a request of these wants.
-    pub fn push(&mut self, job: u8, asking: &Asking, told: bool, wants: &Wants)
+    pub fn push(&mut self, job: u8, asking: &Asking, notified: bool, wants: &Wants)
         requires { length self.old < REQS }
-        ensures value { self.new ≡ self.old ++ request_of job asking.now told wants.now ∷ [] }
+        ensures value { self.new ≡ self.old ++ request_of job asking.now notified wants.now ∷ [] }
         ensures few { length wants.now.items ≤ LOCKS_A_CALL }
         ensures range { IsTrue (list_all is_in_range wants.now.items) }
     {
-        write_request(&mut self.places[self.count], job, asking, told, wants);
+        write_request(&mut self.slots[self.count], job, asking, notified, wants);
         self.count += 1;
     }
 
@@ -77,45 +78,46 @@ impl<const REQS: usize> Row<REQS> {
         requires { length self.old < REQS }
         ensures { self.new ≡ self.old ++ with_wants r.now wants.now.items ∷ [] }
     {
-        write_like(&mut self.places[self.count], r, wants);
+        write_like(&mut self.slots[self.count], r, wants);
         self.count += 1;
     }
 
-    /// Takes out the request at a place; those behind it move up.
+    /// Removes the request at a position; those behind it move up.
     pub fn remove(&mut self, i: usize)
         requires { i < length self.old }
         ensures value { self.new ≡ remove self.old i }
         ensures few { length self.new ≤ REQS }
     {
-        close_gap(self.places.as_mut_slice(), self.count, i);
+        close_gap(self.slots.as_mut_slice(), self.count, i);
         self.count -= 1;
     }
 
-    /// Takes the wants of the named keys out of the job's requests.
+    /// Removes the wants of the named keys from the job's requests.
     pub fn remove_keys_of(&mut self, job: u8, named: &[Want])
         ensures { self.new ≡ map (without_keys_of job named.now) self.old }
     {
-        remove_keys_in_front(self.places.as_mut_slice(), self.count, job, named);
+        remove_keys_in_front(self.slots.as_mut_slice(), self.count, job, named);
     }
 
-    /// Marks the pending request of a job as told.
-    pub fn tell(&mut self, job: u8)
-        ensures value { self.new ≡ told_of self.old job }
+    /// Marks the pending request of a job as notified.
+    pub fn mark_notified(&mut self, job: u8)
+        ensures value { self.new ≡ job_notified self.old job }
         ensures few { length self.new ≤ REQS }
     {
-        tell_front(self.places.as_mut_slice(), self.count, job);
+        mark_front_notified(self.slots.as_mut_slice(), self.count, job);
     }
 }
 
-/// Moves those of the first requests that are behind a place up.
-fn close_gap(places: &mut [Request], count: usize, i: usize)
+/// Moves those of the first `count` requests up that stand behind a position.
+fn close_gap(slots: &mut [Request], count: usize, i: usize)
     requires there { i < count }
-    requires front { count ≤ length places.old }
-    ensures { take (count - 1) places.new ≡ remove (take count places.old) i }
+    requires front { count ≤ length slots.old }
+    ensures { take (count - 1) slots.new ≡ remove (take count slots.old) i }
 {
-    rotate_end(&mut places[..count], i);
+    rotate_end(&mut slots[..count], i);
 }
 
+/// Moves the request at a position to the end; those behind it move up.
 fn rotate_end(requests: &mut [Request], i: usize)
     requires { i < length requests.old }
     ensures { take (length requests.old - 1) requests.new ≡ remove requests.old i }
@@ -123,16 +125,18 @@ fn rotate_end(requests: &mut [Request], i: usize)
     requests[i..].rotate_left(1);
 }
 
-fn remove_keys_in_front(places: &mut [Request], count: usize, job: u8, named: &[Want])
-    requires { count ≤ length places.old }
-    ensures { take count places.new ≡ map (without_keys_of job named.now) (take count places.old) }
+/// Removes the wants of the named keys from those of the first `count` requests that are the job's.
+fn remove_keys_in_front(slots: &mut [Request], count: usize, job: u8, named: &[Want])
+    requires { count ≤ length slots.old }
+    ensures { take count slots.new ≡ map (without_keys_of job named.now) (take count slots.old) }
 {
-    remove_keys_of(&mut places[..count], job, named);
+    remove_keys_of(&mut slots[..count], job, named);
 }
 
-fn tell_front(places: &mut [Request], count: usize, job: u8)
-    requires { count ≤ length places.old }
-    ensures { take count places.new ≡ told_of (take count places.old) job }
+/// Marks the pending request of a job among the first `count` requests as notified.
+fn mark_front_notified(slots: &mut [Request], count: usize, job: u8)
+    requires { count ≤ length slots.old }
+    ensures { take count slots.new ≡ job_notified (take count slots.old) job }
 {
-    tell(&mut places[..count], job);
+    mark_notified(&mut slots[..count], job);
 }

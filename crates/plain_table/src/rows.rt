@@ -1,4 +1,4 @@
-//! The requests in one row, and another row in which a change is made and judged.
+//! The requests in one row, and a second row in which a change is made and judged.
 ghost use Rattle.std.specs.Prelude.{◌≡◌, ◌≤◌, ◌<◌, ◌++◌, ◌∷◌, [], length, nat_le, IfOk, IsTrue, None};
 ghost use Rattle.std.specs.List.{list_all};
 ghost use Rattle.word36.specs.declared.sizes.TheConstants.{JOBS};
@@ -6,7 +6,7 @@ ghost use Rattle.lock_queue.specs.Calls.{outcome_of};
 ghost use Rattle.lock_queue.specs.Changes.{modify};
 ghost use Rattle.lock_queue.specs.Dequeues.{dequeue_named, dequeue_all, dequeue_id};
 ghost use Rattle.lock_queue.specs.Enqueues.{arrival, enqueue, enqueue_fault, request_of};
-ghost use Rattle.lock_queue.specs.Jobs.{released, withdrawn, withdrawn_all, told_of};
+ghost use Rattle.lock_queue.specs.Jobs.{released, withdrawn, withdrawn_all, job_notified};
 ghost use Rattle.lock_queue.specs.Outcomes.{first_refusal};
 ghost use Rattle.lock_queue.specs.WellFormed.{are_well_formed, names_locks, shares_rightly, all_share_rightly};
 
@@ -49,15 +49,15 @@ impl<const REQS: usize> Rows<REQS> {
         self.present.as_slice()
     }
 
-    /// Takes in a request as it is, behind the others.
-    pub fn append(&mut self, job: u8, asking: &Asking, told: bool, wants: &Wants)
+    /// Appends a request as it is.
+    pub fn append(&mut self, job: u8, asking: &Asking, notified: bool, wants: &Wants)
         requires { length self.old.present < REQS }
-        ensures { self.new.present ≡ self.old.present ++ request_of job asking.now told wants.now ∷ [] }
+        ensures { self.new.present ≡ self.old.present ++ request_of job asking.now notified wants.now ∷ [] }
     {
-        self.present.push(job, asking, told, wants);
+        self.present.push(job, asking, notified, wants);
     }
 
-    /// Takes in a request that is not refused.
+    /// Enters a request that no rule refuses, as its kind says.
     #[tactic(auto, using(lock_queue::proofs::Granted::arrival_granted, lock_queue::proofs::Granted::arrival_waiting))]
     fn arrive(&mut self, job: u8, asking: &Asking, wants: &Wants) -> LockReply
         requires room { length self.old.present < REQS }
@@ -71,8 +71,8 @@ impl<const REQS: usize> Rows<REQS> {
         ensures well { IsTrue (are_well_formed self.old.present) → IsTrue (are_well_formed self.new.present) }
     {
         if are_fitting(self.present.as_slice(), wants.as_slice()) {
-            let told = matches!(asking.kind, EnqueueKind::Interrupt);
-            self.present.push(job, asking, told, wants);
+            let notified = matches!(asking.kind, EnqueueKind::Interrupt);
+            self.present.push(job, asking, notified, wants);
             return LockReply::Granted;
         }
         match asking.kind {
@@ -88,6 +88,7 @@ impl<const REQS: usize> Rows<REQS> {
         }
     }
 
+    /// A job asks for locks.
     fn enqueue(&mut self, job: u8, asking: &Asking, wants: &Wants) -> LockReply
         requires job { (1 ≤ job) × (job ≤ JOBS) }
         requires some { IsTrue (nat_le 1 (length wants.now.items)) }
@@ -103,6 +104,8 @@ impl<const REQS: usize> Rows<REQS> {
         }
     }
 
+    /// A job makes wants shared or exclusive. The changes are made in the second row; where no grant is lost
+    /// there, the two are exchanged.
     fn modify(&mut self, job: u8, changes: &Wants) -> LockReply
         ensures requests { self.new.present ≡
             (modify self.old.present job changes.now.items).requests }
@@ -120,6 +123,7 @@ impl<const REQS: usize> Rows<REQS> {
         LockReply::Done
     }
 
+    /// A job gives up its wants of some keys.
     fn dequeue_named(&mut self, job: u8, named: &Wants) -> LockReply
         ensures requests { self.new.present ≡
             (dequeue_named self.old.present job named.now.items).requests }
@@ -132,6 +136,7 @@ impl<const REQS: usize> Rows<REQS> {
         LockReply::Done
     }
 
+    /// A job gives up all its requests.
     fn dequeue_all(&mut self, job: u8) -> LockReply
         ensures requests { self.new.present ≡ (dequeue_all self.old.present job).requests }
         ensures reply { result ≡ (dequeue_all self.old.present job).reply }
@@ -143,6 +148,7 @@ impl<const REQS: usize> Rows<REQS> {
         LockReply::Done
     }
 
+    /// A job gives up all its requests of an id.
     fn dequeue_id(&mut self, job: u8, id: RequestId) -> LockReply
         ensures requests { self.new.present ≡ (dequeue_id self.old.present job id).requests }
         ensures reply { result ≡ (dequeue_id self.old.present job id).reply }
@@ -172,35 +178,35 @@ impl<const REQS: usize> Rows<REQS> {
         }
     }
 
-    /// Takes out all requests of a job.
+    /// Removes all requests of a job.
     pub fn release(&mut self, job: u8)
         ensures { self.new.present ≡ released self.old.present job }
     {
         remove_job(&mut self.present, job);
     }
 
-    /// Takes out the requests by which a job waits.
+    /// Removes the requests by which a job waits.
     pub fn withdraw(&mut self, job: u8)
         ensures { self.new.present ≡ withdrawn self.old.present job }
     {
         remove_blocked(&mut self.present, job);
     }
 
-    /// Takes out the requests by which some jobs wait.
+    /// Removes the requests by which some jobs wait.
     pub fn withdraw_all(&mut self, jobs: u64)
         ensures { self.new.present ≡ withdrawn_all self.old.present jobs }
     {
         remove_blocked_among(&mut self.present, jobs);
     }
 
-    /// Marks the pending request of a job as told.
-    pub fn tell(&mut self, job: u8)
-        ensures { self.new.present ≡ told_of self.old.present job }
+    /// Marks the pending request of a job as notified.
+    pub fn mark_notified(&mut self, job: u8)
+        ensures { self.new.present ≡ job_notified self.old.present job }
     {
-        self.present.tell(job);
+        self.present.mark_notified(job);
     }
 
-    /// Takes out all requests.
+    /// Removes all requests.
     pub fn clear(&mut self)
         ensures { self.new.present ≡ [] }
     {

@@ -1,4 +1,4 @@
-//! Which requests a change of the list grants: those that wait are marked before it, and looked at after it.
+//! Which requests a call grants: those that wait are marked before it, and looked at after it.
 ghost use Rattle.std.specs.Prelude.{◌≡◌, ◌≤◌, ◌==◌, ◌&&◌, [], not, length, is_some};
 ghost use Rattle.std.specs.List.{list_any};
 ghost use Rattle.word36.specs.declared.sizes.TheConstants.{MOST_REQUESTS};
@@ -7,7 +7,7 @@ ghost use Rattle.lock_queue.specs.Queue.{names};
 ghost use Rattle.plain_table.specs.GrantSteps.{awaits_grant, marks_behind, raised_behind};
 
 use arrayvec::ArrayVec;
-use lock_queue::steps::{grant_of, is_granted, is_told_of, names_key};
+use lock_queue::steps::{grant_of, is_granted, is_notified_of, names_key};
 use lock_queue::{LockCall, Request, Want, Woken};
 
 /// For each request that stays, whether its job awaits its grant.
@@ -35,10 +35,11 @@ fn stays(r: &Request, job: u8, call: &LockCall) -> bool
     }
 }
 
+/// Whether a request is not granted, and its job is to be notified of its grant.
 fn awaits_grant(earlier: &[Request], r: &Request) -> bool
     ensures { result ≡ awaits_grant earlier.now r.now }
 {
-    is_told_of(r.kind) && !is_granted(earlier, r)
+    is_notified_of(r.kind) && !is_granted(earlier, r)
 }
 
 /// Marks, of the requests that stay where a job's call is made, those whose jobs await their grants.

@@ -6,6 +6,6 @@ use Rattle.lock_queue.proofs.rewriting.write_wants.Given as goal
 abbrev pub invariant-loop-w : goal.invariant-loop-w
 invariant-loop-w l =
     record {
-      copied : l.place.items ≡ take l.w-index l.w-items;
+      copied : l.target.items ≡ take l.w-index l.w-items;
       range : list_all is_in_range (drop l.w-index l.w-items) ≡ list_all is_in_range l.w-items;
     }

@@ -12,18 +12,18 @@ pub loop-p-preserved : goal.loop-p-preserved
 loop-p-preserved g c =
     let s = c.args.store.now in
     let f = want_then s c.args.n c.args.job c.args.c.now in
-    let places = c.args.places.now in
+    let slots = c.args.slots.now in
     let i = c.loop-p.p-index in
     let w = c.want_then.result in
-    let p = get_or places i 0 in
-    let lt : i < length places = omega (arith, c.loop-p-test.true) in
-    let more : map f (take (i + 1) places) ≡ map f (take i places) ++ w ∷ [] =
-    ap (map f) (take_more places i 0 lt) ∙ map-append f (take i places) (p ∷ [])
-    ∙ ap (λ (v : Want). map f (take i places) ++ v ∷ []) (sym c.want_then.ensures) in
+    let p = get_or slots i 0 in
+    let lt : i < length slots = omega (arith, c.loop-p-test.true) in
+    let more : map f (take (i + 1) slots) ≡ map f (take i slots) ++ w ∷ [] =
+    ap (map f) (take_more slots i 0 lt) ∙ map-append f (take i slots) (p ∷ [])
+    ∙ ap (λ (v : Want). map f (take i slots) ++ v ∷ []) (sym c.want_then.ensures) in
     let share : is_share_of None w.pool ≡ true =
     ap (λ (v : Want). is_share_of None v.pool) c.want_then.ensures
-    ∙ ap (is_share_of None) (then_pool s c.args.n c.args.job c.args.c.now p) ∙ (c.requires.free i 0 lt).free in
-    rw (more, c.append.ensures) (queue_appended None (map f (take i places)) c.loop-p.queue p w c.loop-p.invariant share)
+    ∙ ap (is_share_of None) (then_pool s c.args.n c.args.job c.args.c.now p) ∙ (c.requires.unpooled i 0 lt).unpooled in
+    rw (more, c.append.ensures) (queue_appended None (map f (take i slots)) c.loop-p.queue p w c.loop-p.invariant share)
 
 pub append-requires : goal.append-requires
 append-requires g c = grind (arith, common_steps)

@@ -7,5 +7,5 @@ use Rattle.lock_table.proofs.readings.is_in_the_way_at.Given as goal
 
 abbrev pub invariant-loop-p : goal.invariant-loop-p
 invariant-loop-p g l =
-    list_any (λ v. is_in_the_way v l.w) (wants_at (requests_of (requests_at l.store (drop l.p-index l.places)) l.job) l.w.key)
-    ≡ list_any (λ v. is_in_the_way v l.w) (wants_at (requests_of (requests_at l.store l.places) l.job) l.w.key)
+    list_any (λ v. is_in_the_way v l.w) (wants_at (requests_of (requests_at l.store (drop l.p-index l.slots)) l.job) l.w.key)
+    ≡ list_any (λ v. is_in_the_way v l.w) (wants_at (requests_of (requests_at l.store l.slots) l.job) l.w.key)

@@ -1,6 +1,6 @@
 use Rattle.std.proofs.Common.{refl, arith}
 use Rattle.lock_table.proofs.Levels.{first_alike}
-use Rattle.key_queues.proofs.Finding.{found_open, open_parts}
+use Rattle.key_queues.proofs.Finding.{found_in_use, in_use_parts}
 use Rattle.lock_table.proofs.Queued.{unwanted_at, unwanted_by}
 use Rattle.lock_table.proofs.refusals.fault_beside.Goals as goal
 
@@ -15,13 +15,13 @@ returns-in_err-n g c =
     ) refl
 
 pub returns-else-is_wanted_by : goal.returns-else-is_wanted_by
-returns-else-is_wanted_by g c = grind (arith, found_open, open_parts, first_alike)
+returns-else-is_wanted_by g c = grind (arith, found_in_use, in_use_parts, first_alike)
 
 pub returns-then-is_wanted_by : goal.returns-then-is_wanted_by
-returns-then-is_wanted_by g c = grind (arith, found_open, open_parts, first_alike)
+returns-then-is_wanted_by g c = grind (arith, found_in_use, in_use_parts, first_alike)
 
 pub returns-then-not-is_alike : goal.returns-then-not-is_alike
-returns-then-not-is_alike g c = grind (arith, found_open, open_parts, first_alike)
+returns-then-not-is_alike g c = grind (arith, found_in_use, in_use_parts, first_alike)
 
 pub first_want-requires : goal.first_want-requires
 first_want-requires g c = grind arith

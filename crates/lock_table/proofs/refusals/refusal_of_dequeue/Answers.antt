@@ -4,8 +4,8 @@ use Rattle.std.proofs.lemmas.Option.{none-some}
 use Rattle.lock_queue.specs.Queue.{names, wants_of}
 use Rattle.lock_queue.specs.Unused.{unused_want}
 use Rattle.key_queues.specs.Locks.{lock_at}
-use Rattle.key_queues.specs.States.{is_open}
-use Rattle.key_queues.proofs.Finding.{found_open, open_parts}
+use Rattle.key_queues.specs.States.{in_use}
+use Rattle.key_queues.proofs.Finding.{found_in_use, in_use_parts}
 use Rattle.lock_table.specs.Whole.{requests_in}
 use Rattle.lock_table.proofs.Faults.{found_more, given_here, hashes_of}
 use Rattle.lock_table.proofs.Queued.{unwanted_by}
@@ -27,11 +27,11 @@ returns-then-is_named g c =
     c.loop-i.invariant.fault in
     record { refusal = told; long = λ e. absurd (none-some _ (sym e)); found = λ e. absurd (none-some _ (sym e)) }
 
--- the lock that was found is open, and of the key
-parts : (g : Over) (c : goal.In-Some g) → (is_open (lock_at c.args.keys.now c.in-Some.n).queue ≡ true) × ((lock_at c.args.keys.now c.in-Some.n).key ≡ c.index-named-i.result.key)
+-- the lock that was found is in use, and of the key
+parts : (g : Over) (c : goal.In-Some g) → (in_use (lock_at c.args.keys.now c.in-Some.n).queue ≡ true) × ((lock_at c.args.keys.now c.in-Some.n).key ≡ c.index-named-i.result.key)
 parts g c =
-    open_parts c.index-named-i.result.key (lock_at c.args.keys.now c.in-Some.n)
-    (found_open c.args.keys.now c.index-named-i.result.key c.look_up-seen.result c.in-Some.n c.look_up-seen.ensures c.in-Some.is)
+    in_use_parts c.index-named-i.result.key (lock_at c.args.keys.now c.in-Some.n)
+    (found_in_use c.args.keys.now c.index-named-i.result.key c.look_up-seen.result c.in-Some.n c.look_up-seen.ensures c.in-Some.is)
 
 pub is_wanted_by-requires : goal.is_wanted_by-requires
 is_wanted_by-requires g c = (lit< tt, (lit< tt, (c.requires.table, ((parts g c).0, c.requires.job))))

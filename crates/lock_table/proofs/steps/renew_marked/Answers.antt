@@ -3,5 +3,5 @@ use Rattle.std.proofs.lemmas.Bool.{cases_eq}
 use Rattle.std.proofs.lemmas.Grind.{common_steps}
 use Rattle.lock_table.proofs.steps.renew_marked.Goals as goal
 
-pub returns-clause-turns : goal.returns-clause-turns
-returns-clause-turns g c x h = elim (cases_eq x c.args.p) [ inl e ↦ grind (arith, common_steps) | inr ne ↦ grind (arith, common_steps) ]
+pub returns-clause-flips : goal.returns-clause-flips
+returns-clause-flips g c x h = elim (cases_eq x c.args.p) [ inl e ↦ grind (arith, common_steps) | inr ne ↦ grind (arith, common_steps) ]

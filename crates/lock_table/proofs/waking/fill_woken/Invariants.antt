@@ -7,6 +7,6 @@ use Rattle.lock_table.proofs.waking.fill_woken.Given as goal
 abbrev pub invariant-loop-p : goal.invariant-loop-p
 invariant-loop-p g l = record {
   items : l.p-items ≡ l.store.order;
-  filled : l.woken.items ≡ map grant_of (requests_at l.store (filter (is_raised l.store l.turns) (take l.p-index l.store.order)));
+  filled : l.woken.items ≡ map grant_of (requests_at l.store (filter (is_raised l.store l.flips) (take l.p-index l.store.order)));
   few : length l.woken.items ≤ l.p-index;
 }

@@ -9,7 +9,7 @@ use Rattle.plain_table.proofs.row.rotate_end.Goals as goal
 pub returns : goal.returns
 returns c =
     let xs : List Request = c.args.requests.now in
-    let d : Request = record { job = 0; id = 0; kind = AtOnce; told = false; wants = record { items = [] } } in
+    let d : Request = record { job = 0; id = 0; kind = AtOnce; notified = false; wants = record { items = [] } } in
     let lt : c.args.i < length xs = c.requires in
     let le : length xs ≤ c.args.i + (length xs - c.args.i) = omega arith in
     let turned =

@@ -10,8 +10,8 @@ returns-then-not-bucket-clause-none g c e = grind (arith, common_steps, bucket_r
 pub index-requires : goal.index-requires
 index-requires g c = grind (arith, hash_below c.args.hash c.args.key.now c.requires, number_within)
 
-pub returns-then-is_open_for-clause-found : goal.returns-then-is_open_for-clause-found
-returns-then-is_open_for-clause-found g c = grind (arith, hash_below c.args.hash c.args.key.now c.requires, lock_read, number_within)
+pub returns-then-in_use_for-clause-found : goal.returns-then-in_use_for-clause-found
+returns-then-in_use_for-clause-found g c = grind (arith, hash_below c.args.hash c.args.key.now c.requires, lock_read, number_within)
 
 pub loop-n-preserved : goal.loop-n-preserved
 loop-n-preserved g c = grind (arith, hash_below c.args.hash c.args.key.now c.requires, drop_more, lock_read, number_within)

@@ -1,7 +1,7 @@
 use Rattle.key_queues.specs.Locks.{lock_at}
-use Rattle.key_queues.proofs.Finding.{keyed_queue, open_below}
+use Rattle.key_queues.proofs.Finding.{keyed_queue, in_use_below}
 use Rattle.key_queues.proofs.keys.Keys.leave_queue.Goals as goal
 
 pub invariant_of-self : goal.invariant_of-self
 invariant_of-self g c =
-    keyed_queue _ _ _ _ c.args.n _ c.give_up.new.self c.self.invariant (rw c.self.view_is (open_below (lock_at c.args.self.now c.args.n).queue _ c.requires.place)) c.index_mut.ensures.value
+    keyed_queue _ _ _ _ c.args.n _ c.give_up.new.self c.self.invariant (rw c.self.view_is (in_use_below (lock_at c.args.self.now c.args.n).queue _ c.requires.slot)) c.index_mut.ensures.value

@@ -1,5 +1,5 @@
 use Rattle.std.proofs.Common.{◌∙◌, arith}
-use Rattle.key_queues.proofs.Finding.{closed_found, keyed_more, spare_made}
+use Rattle.key_queues.proofs.Finding.{free_found, keyed_more, spare_made}
 use Rattle.key_queues.proofs.keys.Keys.take_free.Goals as goal
 
 pub invariant_of-self-then-n : goal.invariant_of-self-then-n
@@ -12,7 +12,7 @@ returns-then-n g c =
     spare_made _ _ _ _ _ c.self.view_is c.push_reserved.ensures.items c.unused.ensures (c.len-n.ensures ∙ c.self.inside.locks.ok.0)
 
 pub returns-else-n : goal.returns-else-n
-returns-else-n g c = grind (arith, closed_found c.args.self.now)
+returns-else-n g c = grind (arith, free_found c.args.self.now)
 
 pub overflow_cast-result-else-n : goal.overflow_cast-result-else-n
-overflow_cast-result-else-n g c = grind (arith, closed_found c.args.self.now)
+overflow_cast-result-else-n g c = grind (arith, free_found c.args.self.now)

@@ -4,4 +4,4 @@ use Rattle.key_queues.proofs.Orders.{there_by_index}
 use Rattle.key_queues.proofs.queue.Queue.counts.Goals as goal
 
 pub returns : goal.returns
-returns c = grind (arith, common_steps, there_by_index c.args.place (take c.self.inside.fitting c.self.inside.places.items))
+returns c = grind (arith, common_steps, there_by_index c.args.slot (take c.self.inside.fitting c.self.inside.slots.items))

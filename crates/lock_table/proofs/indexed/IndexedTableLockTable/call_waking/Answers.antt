@@ -18,8 +18,8 @@ returns-clause-woken g c =
       | in-Done w ↦
           ap (λ (v : ArrayVec Grant). v.items) w.woken-is ∙ w.fill_woken.ensures
           ∙ woken_done c.self.inside.table.store c.make-reply.new.self.store c.self.inside.table.keys c.make-reply.new.self.keys c.args.job
-          c.clear.new.self c.make-reply.new.self.turns c.self.invariant.table c.make-reply.ensures.whole.table c.clear.ensures
-          (c.make-reply.ensures.turns w.in-Done.is) c.make-reply.ensures.whole.right g.row.REQS c.args.call.now (c.make-reply.ensures.left w.in-Done.is)
+          c.clear.new.self c.make-reply.new.self.flips c.self.invariant.table c.make-reply.ensures.whole.table c.clear.ensures
+          (c.make-reply.ensures.flips w.in-Done.is) c.make-reply.ensures.whole.right g.row.REQS c.args.call.now (c.make-reply.ensures.left w.in-Done.is)
           (sym c.make-reply.ensures.reply ∙ w.in-Done.is)
       | in_default w ↦
           ap (λ (v : ArrayVec Grant). v.items) w.woken-is ∙ w.clear-in_default.ensures

@@ -17,6 +17,6 @@ pub returns-clause-woken : goal.returns-clause-woken
 returns-clause-woken g c =
     c.fill_woken.ensures
     ∙ woken_released c.self.inside.table.store c.release.new.self.store c.self.inside.table.keys c.release.new.self.keys c.args.job
-    c.clear.new.self c.release.new.self.turns c.self.invariant.table c.release.ensures.whole.table c.clear.ensures c.release.ensures.turns
+    c.clear.new.self c.release.new.self.flips c.self.invariant.table c.release.ensures.whole.table c.clear.ensures c.release.ensures.flips
     c.release.ensures.whole.right c.release.ensures.left
     ∙ ap (λ (v : Seen g.row.REQS). woken_by_release v.requests c.args.job) c.self.view_is

@@ -9,14 +9,14 @@ use Rattle.lock_queue.specs.Enqueues.{request_of}
 use Rattle.lock_queue.specs.WellFormed.{are_well_formed, is_in_range}
 use Rattle.lock_queue.proofs.Granted.{granted_last}
 use Rattle.lock_queue.proofs.WellKept.{right_job}
-use Rattle.key_queues.specs.declared.filed.Filed.{Filed}
-use Rattle.key_queues.specs.Filing.{arrived}
-use Rattle.key_queues.specs.Stores.{Stored, filed_at}
+use Rattle.key_queues.specs.declared.entry.Entry.{Entry}
+use Rattle.key_queues.specs.Entries.{arrived}
+use Rattle.key_queues.specs.Stores.{Stored, entry_at}
 use Rattle.lock_table.specs.Whole.{requests_in}
 use Rattle.lock_table.specs.Arrivals.{AreFound, IsArriving}
 use Rattle.lock_table.proofs.Admitting.{admits_from, apart_after, jobs_after, requests_after, short_of, well_after, levels_after}
 use Rattle.lock_table.proofs.Arriving.{arrived_by, came_last, came_mine, came_others, flag_last, present_last, queues_within, whole_again}
-use Rattle.lock_table.proofs.Filing.{filed_mine}
+use Rattle.lock_table.proofs.Entries.{entry_mine}
 use Rattle.lock_table.proofs.Wholes.{right_from_well}
 use Rattle.lock_table.proofs.table.Table.arrive.Goals as goal
 
@@ -48,9 +48,9 @@ renew-requires g c =
     let s = c.args.self.now.store in
     let p = c.insert-p.result in
     let a = c.enter_all.ensures.arriving in
-    let put = ap (λ (v : Stored). v.filed) c.insert-p.ensures.value in
-    let mine = filed_mine s c.insert-p.new.self p (arrived c.args.job c.args.asking.now false) c.insert-p.ensures.within put in
-    let new : (filed_at c.enter_all.new.store p).granted ≡ false = c.enter_all.ensures.same.flags p ∙ ap (λ (f : Filed). f.granted) mine in
+    let put = ap (λ (v : Stored). v.entries) c.insert-p.ensures.value in
+    let mine = entry_mine s c.insert-p.new.self p (arrived c.args.job c.args.asking.now false) c.insert-p.ensures.within put in
+    let new : (entry_at c.enter_all.new.store p).granted ≡ false = c.enter_all.ensures.same.flags p ∙ ap (λ (f : Entry). f.granted) mine in
     let present = present_last _ c.enter_all.new.store c.enter_all.new.keys p _ a in
     let within = queues_within _ c.enter_all.new.store c.enter_all.new.keys p _ a in
     (lit< tt, (lit< tt, (present, (within, λ granted. absurd (both_ways _ new granted)))))
@@ -73,16 +73,16 @@ returns g c =
     let few : length wants.items ≤ LOCKS_A_CALL = omega (arith, c.as_slice.ensures.fits, ap length c.as_slice.ensures.value) in
     let range : list_all is_in_range wants.items ≡ true = ap (list_all is_in_range) (sym c.as_slice.ensures.value) ∙ c.are_in_range.ensures in
     let well = well_after s job asking wants w.right c.requires.job c.requires.some c.requires.unshared c.requires.passed few range in
-    let all : (filed_at m p).request.wants.items ≡ wants.items =
+    let all : (entry_at m p).request.wants.items ≡ wants.items =
     a.entered ∙ take_all (length c.as_slice-2.result.now) c.as_slice-2.result.now (omega arith) ∙ c.as_slice-2.ensures.value in
-    let bare : with_wants (filed_at m p).request [] ≡ request_of job asking false (record { items = [] }) =
+    let bare : with_wants (entry_at m p).request [] ≡ request_of job asking false (record { items = [] }) =
     c.enter_all.ensures.same.mine
     ∙ ap (λ (q : Request). with_wants q []) (came_mine s c.insert-p.new.self p job asking c.insert-p.ensures.within c.insert-p.ensures.value) in
     let table = arrived_by m t more p _ a renews in
     let out = c.insert-p.ensures.out in
     let order : t.order ≡ s.order ++ p ∷ [] = renews.order ∙ c.enter_all.ensures.same.order ∙ ap (λ (v : Stored). v.order) c.insert-p.ensures.value in
-    let request : (filed_at t p).request ≡ r = renews.at p ∙ whole_again (filed_at m p).request job asking wants bare all in
-    let others : (x : ℕ) → (x ≡ p → ⊥) → (filed_at t x).request ≡ (filed_at s x).request =
+    let request : (entry_at t p).request ≡ r = renews.at p ∙ whole_again (entry_at m p).request job asking wants bare all in
+    let others : (x : ℕ) → (x ≡ p → ⊥) → (entry_at t x).request ≡ (entry_at s x).request =
     λ x ne. renews.at x ∙ c.enter_all.ensures.same.others x ne
     ∙ came_others s c.insert-p.new.self p x job asking c.insert-p.ensures.within c.insert-p.ensures.value ne in
     let after : requests_in t ≡ requests_in s ++ r ∷ [] = requests_after s t p job r out order request others in

@@ -18,7 +18,7 @@ returns g c =
       left =
           λ done.
           leaves_by (left_of c.args.job (DequeueId c.args.id)) s t (request_at s) (λ x. not ((has_id c.args.job c.args.id) (request_at s x))) c.release.ensures.left (λ x. refl);
-      turns = λ done. c.release.ensures.turns;
+      flips = λ done. c.release.ensures.flips;
     }
 
 pub returns-then-not-release : goal.returns-then-not-release
@@ -26,4 +26,4 @@ returns-then-not-release g c =
     let both =
     left_dequeued c.args.self.now.store c.release.new.self.store (has_id c.args.job c.args.id) false c.release.ensures.left
     (sym c.if-not-release.true ∙ c.release.ensures.some) in
-    record { whole = c.release.ensures.whole; requests = both.0; reply = both.1; left = λ done. absurd (refused_done _ done); turns = λ done. c.release.ensures.turns }
+    record { whole = c.release.ensures.whole; requests = both.0; reply = both.1; left = λ done. absurd (refused_done _ done); flips = λ done. c.release.ensures.flips }

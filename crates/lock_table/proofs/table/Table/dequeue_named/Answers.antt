@@ -17,7 +17,7 @@ returns-in-Some g c =
     let all =
     named_gone g.row.REQS s c.leave.new.self.store c.args.self.now.keys c.leave.new.self.keys c.args.job c.args.named.now
     c.requires.whole c.leave.ensures.table left (sole_passes s c.args.job named c.in-Some.p sole) in
-    record { whole = all.0; requests = all.1; reply = all.2; left = λ done. all.3; turns = λ done. c.leave.ensures.turns }
+    record { whole = all.0; requests = all.1; reply = all.2; left = λ done. all.3; flips = λ done. c.leave.ensures.flips }
 
 pub returns : goal.returns
 returns g c =
@@ -27,7 +27,7 @@ returns g c =
     let all =
     named_gone g.row.REQS s c.give_up_named.new.self.store c.args.self.now.keys c.give_up_named.new.self.keys c.args.job
     c.args.named.now c.requires.whole c.give_up_named.ensures.table left none in
-    record { whole = all.0; requests = all.1; reply = all.2; left = λ done. all.3; turns = λ done. c.give_up_named.ensures.turns }
+    record { whole = all.0; requests = all.1; reply = all.2; left = λ done. all.3; flips = λ done. c.give_up_named.ensures.flips }
 
 pub give_up_named-requires : goal.give_up_named-requires
 give_up_named-requires g c = grind arith

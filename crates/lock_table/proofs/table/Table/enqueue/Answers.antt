@@ -6,12 +6,12 @@ use Rattle.lock_queue.specs.declared.call.LockReply.TheVariants.{Refused}
 use Rattle.lock_queue.specs.declared.refusal.Refusal.TheVariants.{NotGranted}
 use Rattle.lock_queue.specs.declared.request.EnqueueKind.{EnqueueKind}
 use Rattle.lock_queue.specs.Enqueues.{enqueue, enqueue_fault, enqueue_refusal, request_of}
-use Rattle.lock_queue.specs.Jobs.{as_told, is_interrupt}
+use Rattle.lock_queue.specs.Jobs.{as_notified, is_interrupt}
 use Rattle.lock_queue.specs.Outcomes.{Outcome, first_refusal, outcome}
 use Rattle.lock_queue.specs.Queue.{fits}
 use Rattle.lock_queue.proofs.Granted.{granted_last}
 use Rattle.lock_queue.proofs.WellKept.{right_job}
-use Rattle.key_queues.specs.declared.filed.Filed.{Filed}
+use Rattle.key_queues.specs.declared.entry.Entry.{Entry}
 use Rattle.lock_table.specs.Arrivals.{AreFound}
 use Rattle.lock_table.specs.Whole.{requests_in}
 use Rattle.lock_table.proofs.Admitting.{admits_from, arrives_granted, requests_after, turned_away}
@@ -19,7 +19,7 @@ use Rattle.lock_table.proofs.table.Table.enqueue.Given.{Over}
 use Rattle.lock_table.proofs.table.Table.enqueue.Goals as goal
 
 pub returns-in-true-Interrupt-clause-whole : goal.returns-in-true-Interrupt-clause-whole
-returns-in-true-Interrupt-clause-whole g c = c.mark_told.ensures.whole g.row.REQS c.arrive-p.new.self.keys c.arrive-p.ensures.whole
+returns-in-true-Interrupt-clause-whole g c = c.set_notified.ensures.whole g.row.REQS c.arrive-p.new.self.keys c.arrive-p.ensures.whole
 
 pub returns-in-true-Interrupt-clause-requests : goal.returns-in-true-Interrupt-clause-requests
 returns-in-true-Interrupt-clause-requests g c =
@@ -29,12 +29,12 @@ returns-in-true-Interrupt-clause-requests g c =
     let wants = c.args.wants.now in
     let came = c.arrive-p.ensures in
     let passed = ap (enqueue_refusal g.row.REQS rs job asking) (sym c.as_slice-asked.ensures.value) ∙ sym c.refusal_of_enqueue.ensures.refusal ∙ c.in_default.is in
-    let yes = sym came.granted ∙ ap (λ (f : Filed). f.granted) (sym c.get.ensures.value) ∙ c.in-true-Interrupt.is-0 in
-    requests_after c.args.self.now.store c.mark_told.new.store c.arrive-p.result job (request_of job asking (is_interrupt asking.kind) wants)
-    came.out (c.mark_told.ensures.order ∙ came.order)
-    (c.mark_told.ensures.request ∙ ap as_told came.request
+    let yes = sym came.granted ∙ ap (λ (f : Entry). f.granted) (sym c.get.ensures.value) ∙ c.in-true-Interrupt.is-0 in
+    requests_after c.args.self.now.store c.set_notified.new.store c.arrive-p.result job (request_of job asking (is_interrupt asking.kind) wants)
+    came.out (c.set_notified.ensures.order ∙ came.order)
+    (c.set_notified.ensures.request ∙ ap as_notified came.request
     ∙ ap (λ (k : EnqueueKind). request_of job asking (is_interrupt k) wants) (sym c.in-true-Interrupt.is-1))
-    (λ x ne. c.mark_told.ensures.others x ne ∙ came.others x ne)
+    (λ x ne. c.set_notified.ensures.others x ne ∙ came.others x ne)
     ∙ sym (ap (λ (o : Outcome). o.requests) (arrives_granted g.row.REQS rs job asking wants passed yes))
 
 nothing_comes : (g : Over) (c : goal.Then-is_turned_away g)
@@ -72,7 +72,7 @@ pub returns-in-false-AtOnce-clause-requests : goal.returns-in-false-AtOnce-claus
 returns-in-false-AtOnce-clause-requests g c =
     let rs = requests_in c.args.self.now.store in
     let wants = c.args.wants.now in
-    let wait = sym c.arrive-p.ensures.granted ∙ ap (λ (f : Filed). f.granted) (sym c.get.ensures.value) ∙ c.in-false-AtOnce.is-0 in
+    let wait = sym c.arrive-p.ensures.granted ∙ ap (λ (f : Entry). f.granted) (sym c.get.ensures.value) ∙ c.in-false-AtOnce.is-0 in
     let fit = ap (list_all (fits rs)) (sym c.as_slice-asked.ensures.value) ∙ c.is_turned_away.ensures.stays c.if-is_turned_away.false c.in-false-AtOnce.is-1 in
     absurd (both_ways _ (sym (granted_last rs (request_of c.args.job c.args.asking.now false wants)) ∙ wait) fit)
 
@@ -82,8 +82,8 @@ arrive-p-requires g c = grind (arith, common_steps)
 pub get-requires : goal.get-requires
 get-requires g c = grind (arith, common_steps)
 
-pub mark_told-requires : goal.mark_told-requires
-mark_told-requires g c = grind (arith, common_steps)
+pub set_notified-requires : goal.set_notified-requires
+set_notified-requires g c = grind (arith, common_steps)
 
 pub refusal_of_enqueue-requires : goal.refusal_of_enqueue-requires
 refusal_of_enqueue-requires g c = grind arith

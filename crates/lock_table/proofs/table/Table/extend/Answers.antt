@@ -1,6 +1,6 @@
 use Rattle.std.proofs.Common.{◌≡◌, ◌∙◌, subst, true}
 use Rattle.key_queues.specs.Tables.{is_there}
-use Rattle.lock_table.proofs.Filing.{turned_then, wanting_before}
+use Rattle.lock_table.proofs.Entries.{flipped_then, wanting_before}
 use Rattle.lock_table.proofs.table.Table.extend.Goals as goal
 
 pub loop-more-preserved : goal.loop-more-preserved
@@ -19,9 +19,9 @@ loop-more-preserved g c =
         others = λ m ne. e.others m ne ∙ was.extended.others m ne;
       };
       full = c.let_in_next-more.ensures.full;
-      turns =
-          turned_then c.args.self.now.store c.loop-more.self.store c.let_in_next-more.new.self.store c.args.self.now.turns c.loop-more.self.turns
-          c.let_in_next-more.new.self.turns
+      flips =
+          flipped_then c.args.self.now.store c.loop-more.self.store c.let_in_next-more.new.self.store c.args.self.now.flips c.loop-more.self.flips
+          c.let_in_next-more.new.self.flips
           (λ x h. wanting_before c.loop-more.self.store c.let_in_next-more.new.self.store x (λ there. (subst (λ l. is_there x l ≡ true) e.order there, e.at x)) h)
-          was.turns c.let_in_next-more.ensures.turns;
+          was.flips c.let_in_next-more.ensures.flips;
     }

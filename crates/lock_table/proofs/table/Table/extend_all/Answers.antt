@@ -5,7 +5,7 @@ use Rattle.key_queues.specs.Tables.{is_there}
 use Rattle.lock_table.specs.Changing.{IsExtending}
 use Rattle.lock_table.proofs.Writing.{extending_more, extending_none}
 use Rattle.lock_table.proofs.Faults.{rest_is}
-use Rattle.lock_table.proofs.Filing.{turned_then, wanting_before}
+use Rattle.lock_table.proofs.Entries.{flipped_then, wanting_before}
 use Rattle.lock_table.proofs.table.Table.extend_all.Goals as goal
 
 pub loop-c-preserved-in_default : goal.loop-c-preserved-in_default
@@ -19,7 +19,7 @@ loop-c-preserved-in_default g c =
           extending_none s.store t.store s.keys t.keys c.c-item.result (drop (c.loop-c.c-index + 1) c.args.changes.now)
           c.loop-c.invariant.between.kept
           (subst (λ (l : List Want). IsExtending s.store t.store s.keys t.keys l) rest c.loop-c.invariant.extended) (c.find.ensures.none c.in_default.is);
-      turns = c.loop-c.invariant.turns;
+      flips = c.loop-c.invariant.flips;
     }
 
 pub loop-c-preserved : goal.loop-c-preserved
@@ -35,10 +35,10 @@ loop-c-preserved g c =
     record {
       between = both.0;
       extended = both.1;
-      turns =
-          turned_then s.store t.store u.store s.turns t.turns u.turns
+      flips =
+          flipped_then s.store t.store u.store s.flips t.flips u.flips
           (λ x h. wanting_before t.store u.store x (λ there. (subst (λ l. is_there x l ≡ true) c.extend.ensures.extended.order there, c.extend.ensures.extended.at x)) h)
-          c.loop-c.invariant.turns c.extend.ensures.turns;
+          c.loop-c.invariant.flips c.extend.ensures.flips;
     }
 
 pub extend-requires : goal.extend-requires

@@ -27,7 +27,7 @@ returns-then-some_loses g c =
       requests = grind (arith, none, tells, c.some_loses.ensures, c.if-some_loses.true);
       reply = grind (arith, none, tells, c.some_loses.ensures, c.if-some_loses.true);
       changed = λ done. absurd (refused_done _ done);
-      turns = search rules;
+      flips = search rules;
     }
 
 pub alter_all-requires : goal.alter_all-requires
@@ -74,5 +74,5 @@ returns g c =
       requests = requests;
       reply = sym (ap (λ (o : Outcome). o.reply) done);
       changed = λ done. is;
-      turns = search rules;
+      flips = search rules;
     }

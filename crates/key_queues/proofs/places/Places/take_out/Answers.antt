@@ -1,6 +1,0 @@
-use Rattle.std.proofs.Common.{◌-◌, arith, vec_len}
-use Rattle.key_queues.proofs.Orders.{without_last}
-use Rattle.key_queues.proofs.places.Places.take_out.Goals as goal
-
-pub returns-then-index-p : goal.returns-then-index-p
-returns-then-index-p g c = grind (arith, without_last c.args.p (vec_len c.self.inside.places - 1) c.index.result.now c.self.inside.places.items)

@@ -1,9 +1,0 @@
-use Rattle.std.proofs.Common.{arith}
-use Rattle.key_queues.proofs.Slots.{empty_slot, long}
-use Rattle.key_queues.proofs.shelf.Shelf.new.Goals as goal
-
-pub returns-clause-none : goal.returns-clause-none
-returns-clause-none g c = λ p. grind (arith, empty_slot, c.in_ok-slab.ensures.empty)
-
-pub returns-clause-long : goal.returns-clause-long
-returns-clause-long g c = grind (arith, long)
