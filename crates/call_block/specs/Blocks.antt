@@ -4,28 +4,27 @@ use Rattle.std.specs.Prelude.{if◌then◌else◌, unwrap_or, Result, Ok, Err, L
 use Rattle.arrayvec.specs.ArrayVec.{ArrayVec}
 use Rattle.word36.specs.declared.sizes.TheConstants.{LOCKS_A_CALL}
 use Rattle.word36.specs.Words.{left_half, right_half}
-use Rattle.ka_cpu.specs.Places.{are_legal, word_at}
+use Rattle.ka_cpu.specs.Memory.{are_legal, word_at}
 use Rattle.lock_queue.specs.declared.want.Want.{Want}
 use Rattle.lock_queue.specs.declared.refusal.Refusal.{Refusal}
 use Rattle.lock_queue.specs.declared.refusal.Refusal.TheVariants.{BadBlock, BadCount}
 use Rattle.lock_queue.specs.declared.terms.BlockUse.{BlockUse}
-use Rattle.lock_queue.specs.declared.terms.BlockUse.TheVariants.{Blocking, Full, Named}
+use Rattle.lock_queue.specs.declared.terms.BlockUse.TheVariants.{Blocking}
 use Rattle.call_block.specs.declared.block.Block.{Block}
 use Rattle.call_block.specs.declared.block.BlockHead.{BlockHead}
 use Rattle.call_block.specs.declared.want.Lock.{Lock}
 use Rattle.call_block.specs.Locks.{want_of}
 use Rattle.call_block.specs.Steps.{◌>>=◌}
 
--- the word at a place; where a place of a block is not legal the block is refused, whatever this says
+-- the word at an address; where an address of a block is not legal the block is refused, whatever the word here
 abbrev pub word : List ℕ → List ℕ → ℕ → ℕ
 word ac core a = unwrap_or (word_at ac core a) 0
 
--- the lock at three legal places
+-- the lock at three legal addresses
 abbrev pub lock_at : List ℕ → List ℕ → ℕ → Lock
 lock_at ac core a = record { qualifier = word ac core a; name = word ac core (a + 1); share = word ac core (a + 2) }
 
--- a job's wants of so many locks, one behind the other from a place on, or the first refusal, lock by
--- lock
+-- a job's wants of so many locks, one after the other from an address on, or the first refusal, lock by lock
 unfoldable pub wants_at : List ℕ → List ℕ → ℕ → BlockUse → ℕ → ℕ → Result (List Want) Refusal
 wants_at ac core job block_use a zero = Ok []
 wants_at ac core job block_use a (suc n) = do
@@ -33,23 +32,22 @@ wants_at ac core job block_use a (suc n) = do
   wants ← wants_at ac core job block_use (a + 3) n
   Ok (want ∷ wants)
 
--- the wants that were filled in, or the refusal
+-- the wants that were read, or the refusal
 abbrev pub wants_read_as : Result (Unit {0}) Refusal → ArrayVec Want → Result (List Want) Refusal
 wants_read_as (Ok u) wants = Ok wants.items
 wants_read_as (Err refusal) wants = Err refusal
 
--- the block of a head and of the wants that were filled in, or the refusal
+-- the block of a head and of the wants that were read, or the refusal
 abbrev pub read_as : Result BlockHead Refusal → ArrayVec Want → Result Block Refusal
 read_as (Ok head) wants = Ok (record { id = head.id; limit = head.limit; wants = wants })
 read_as (Err refusal) wants = Err refusal
 
--- whether a block may have a limit of time, by what its call does with its locks
+-- whether the block of a call may have a limit of time
 abbrev pub may_have_limit : BlockUse → Bool
 may_have_limit Blocking = true
-may_have_limit Full = false
-may_have_limit Named = false
+may_have_limit _ = false
 
--- the block at a place: `n,,2+3n`, `limit,,request id`, and n locks; all of its words are legal, the limit is 0 where the
+-- the block at an address: `n,,2+3n`, `limit,,request id`, and n locks; all its addresses are legal, the limit is 0 where the
 -- block may have none, and n is from 1 to 16
 unfoldable pub block_at : List ℕ → List ℕ → ℕ → ℕ → BlockUse → Result Block Refusal
 block_at ac core a job block_use =

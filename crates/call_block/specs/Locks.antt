@@ -24,15 +24,15 @@ is_shared w = bits 0 0 w == 1
 abbrev pub is_bypass : ℕ → Bool
 is_bypass w = bits 1 1 w == 1
 
--- the right half: 777777 octal for all jobs, 777776 octal for the asking job alone
+-- the right half: 777777 octal for a name of all jobs, 777776 octal for a name of the asking job alone
 abbrev pub scope_of : ℕ → ℕ → Result Scope Refusal
 scope_of job w =
     if right_half w == 0o777777 then Ok All
     else (if right_half w == 0o777776 then Ok (Job job) else Err BadQualifier)
 
--- The terms on which a lock is spelled: its level stands in bits 9 to 17 of the first word. The third word is `0,,group` of
--- a lock that may be shared, and of another one `pool size,,amount`, or 0. Of a lock that may be shared a left half that is
--- not 0 counts as the size of a pool, which is refused.
+-- The terms of a lock: bits 9 to 17 of the first word are its level. The third word of a lock that may be shared is
+-- `0,,group`, that of another lock `pool size,,amount`, or 0. Where the left half of a lock that may be shared is not 0, it counts
+-- as the size of a pool, which is refused.
 abbrev pub terms_of : Lock → Terms
 terms_of lock = record {
   shared = is_shared lock.qualifier;
@@ -46,7 +46,7 @@ terms_of lock = record {
 abbrev pub key_of : Name → Scope → Key
 key_of name scope = record { scope = scope; name = name }
 
--- a job's want of a lock, by what its call does with the lock
+-- a job's want of a lock in a call of this kind, or the refusal
 abbrev pub want_of : List ℕ → List ℕ → ℕ → BlockUse → Lock → Result Want Refusal
 want_of ac core job block_use lock = do
   name ← name_at ac core lock.name

@@ -4,7 +4,7 @@ ghost use Rattle.call_block.specs.Bits.{bits};
 
 use word36::Word;
 
-/// The number in the bits `first` to `last` of a word, whose bits run from 0, the leftmost, to 35.
+/// The number in bits `first` to `last` of a word. Bit 0 is the leftmost, bit 35 the rightmost.
 pub fn bits(word: Word, first: u32, last: u32) -> u64
     requires order { first ≤ last }
     requires within { last ≤ 35 }

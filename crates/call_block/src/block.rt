@@ -1,8 +1,8 @@
-//! A block as a whole.
+//! The block of a lock call, as a whole.
 ghost use Rattle.std.specs.Prelude.{◌≡◌, ◌+◌, ◌-◌, ◌*◌, ◌^◌, ◌<◌, ◌≤◌, [], ◌∷◌, ◌++◌, IsTrue, IfOk, OnOk, take};
 ghost use Rattle.std.specs.List.{list_all};
 ghost use Rattle.arrayvec.specs.ArrayVec.{array_vec_len};
-ghost use Rattle.ka_cpu.specs.Places.{is_legal};
+ghost use Rattle.ka_cpu.specs.Memory.{is_legal};
 ghost use Rattle.lock_queue.specs.WellFormed.{shares_rightly};
 ghost use Rattle.call_block.specs.Blocks.{word, lock_at, wants_at, block_at, may_have_limit, read_as, wants_read_as};
 
@@ -11,79 +11,80 @@ use ka_cpu::{JobMemory, Regs, are_legal, fetch};
 use lock_queue::{BlockUse, Refusal, RequestId, Want, Wants};
 use word36::{Address, LOCKS_A_CALL, Word};
 
-/// The words of one lock.
+/// The number of words of one lock.
 const LOCK_WORDS: u32 = 3;
 
-/// The places below this one are registers.
+/// The addresses below this one are registers.
 const REGISTERS: u32 = 0o20;
 
-/// What a lock call asks, as its block says.
+/// What the block of a lock call asks for.
 #[derive(Drop)]
 pub struct Block {
-    /// The number by which the job knows the request.
+    /// The id that the job gives the request.
     pub id: RequestId,
-    /// For how many ticks the job waits for its grant, 0 where it has no limit.
+    /// How many ticks the job waits for the grant at most, 0 for no limit.
     pub limit: u32,
-    /// The locks, in the block's order: 1 to 16.
+    /// The wanted locks, 1 to 16, in the block's order.
     pub wants: Wants,
 }
 
-/// What the words of a block before its locks say.
+/// What the two words of a block before its locks say.
 #[derive(Clone, Copy, Debug, PartialEq, Eq)]
 pub struct BlockHead {
-    /// The number by which the job knows the request.
+    /// The id that the job gives the request.
     pub id: RequestId,
-    /// For how many ticks the job waits for its grant, 0 where it has no limit.
+    /// How many ticks the job waits for the grant at most, 0 for no limit.
     pub limit: u32,
 }
 
-/// Whether a block may have a limit of time, by what its call does with its locks.
+/// Whether the block of a call may have a limit of time.
 fn may_have_limit(block_use: BlockUse) -> bool
     ensures { result ≡ may_have_limit block_use }
 {
     matches!(block_use, BlockUse::Blocking)
 }
 
-/// The word at a legal place.
-fn word<M: JobMemory>(regs: &Regs, memory: &M, place: u32) -> Word
-    requires { IsTrue (is_legal (M.words memory.now) place) }
-    ensures { result ≡ word regs.now.ac (M.words memory.now) place }
+/// The word at a legal address.
+fn word<M: JobMemory>(regs: &Regs, memory: &M, address: u32) -> Word
+    requires { IsTrue (is_legal (M.words memory.now) address) }
+    ensures { result ≡ word regs.now.ac (M.words memory.now) address }
 {
-    if place < REGISTERS {
-        regs.ac[place as usize]
+    if address < REGISTERS {
+        regs.ac[address as usize]
     } else {
-        memory.read(place).unwrap()
+        memory.read(address).unwrap()
     }
 }
 
-/// The lock whose three words, all legal, stand from a place on.
-fn lock_at<M: JobMemory>(regs: &Regs, memory: &M, place: u32) -> Lock
-    requires fits { place < 2 ^ 20 }
-    requires legal { IsTrue (is_legal (M.words memory.now) (place + 2)) }
-    ensures { result ≡ lock_at regs.now.ac (M.words memory.now) place }
+/// The lock whose three words, at legal addresses, begin at an address.
+fn lock_at<M: JobMemory>(regs: &Regs, memory: &M, address: u32) -> Lock
+    requires fits { address < 2 ^ 20 }
+    requires legal { IsTrue (is_legal (M.words memory.now) (address + 2)) }
+    ensures { result ≡ lock_at regs.now.ac (M.words memory.now) address }
 {
     Lock {
-        qualifier: word(regs, memory, place),
-        name: word(regs, memory, place + 1),
-        share: word(regs, memory, place + 2),
+        qualifier: word(regs, memory, address),
+        name: word(regs, memory, address + 1),
+        share: word(regs, memory, address + 2),
     }
 }
 
-/// Puts a want at a place of the list: over the one there, or last.
-fn put(wants: &mut Wants, place: usize, want: Want)
-    requires within { place ≤ array_vec_len wants.old }
-    requires room { place < LOCKS_A_CALL }
-    ensures items { take (place + 1) wants.new.items ≡ take place wants.old.items ++ want ∷ [] }
-    ensures long { place + 1 ≤ array_vec_len wants.new }
+/// Puts a want at a position of the list: over the one there, or at the end.
+fn put(wants: &mut Wants, position: usize, want: Want)
+    requires within { position ≤ array_vec_len wants.old }
+    requires room { position < LOCKS_A_CALL }
+    ensures items { take (position + 1) wants.new.items ≡ take position wants.old.items ++ want ∷ [] }
+    ensures long { position + 1 ≤ array_vec_len wants.new }
 {
-    if place < wants.len() {
-        wants[place] = want;
+    if position < wants.len() {
+        wants[position] = want;
     } else {
         wants.push(want);
     }
 }
 
-/// Fills in the wants of so many locks, all of whose words are legal.
+/// Fills in the wants of `count` locks, whose words begin at `first` and are all legal, or returns the first
+/// refusal; then the contents of `wants` mean nothing.
 #[inline(always)]
 fn read_wants<M: JobMemory>(
     regs: &Regs,
@@ -102,11 +103,11 @@ fn read_wants<M: JobMemory>(
     ensures counted { OnOk result (array_vec_len wants.new ≡ count) }
     ensures unshared { OnOk result (IsTrue (list_all shares_rightly wants.new.items)) }
 {
-    for place in 0..count {
-        let lock = lock_at(regs, memory, first + LOCK_WORDS * place);
+    for position in 0..count {
+        let lock = lock_at(regs, memory, first + LOCK_WORDS * position);
         put(
             wants,
-            place as usize,
+            position as usize,
             want_of(regs, memory, job, block_use, lock)?,
         );
     }
@@ -114,20 +115,21 @@ fn read_wants<M: JobMemory>(
     Ok(())
 }
 
-/// Reads the block of a job's call at an address, over the job's registers and core: fills in its wants
-/// and answers its id and its limit of time, or answers the first refusal, and then what is filled in
-/// means nothing: `BadBlock` where a word of the block is not legal, its size is not that of its n locks,
-/// or it has a limit and may have none; `BadCount` where there is no lock or more than 16; then, lock by
-/// lock, `BadPointer` where it has neither a user code nor a pointer to a name, or the name runs off
-/// memory, `BadName` where the name is empty or longer than 30 characters, `BadQualifier` where it is
-/// a name neither of all jobs nor of the job alone, and `BadPool` where its pool or its group is wrong.
+/// Reads the block of a job's call at an address, from the job's registers and core: fills in its wants and
+/// returns its id and its limit, or returns the first refusal; then the contents of `wants` mean nothing.
 ///
-/// The limit, which stands in the left half of the second word, is for a call that waits for its grant
-/// (`Blocking`). Such a call asks for its locks, and so does one that does not wait (`Full`). Of a call
-/// that only names them (`Named`) levels, the bypass, groups and pools are not looked at: its wants have
-/// level 0, no bypass, group 0 and no pool. A block's address does not wrap, the pointer to a name does,
-/// as in ILDB. Nothing is changed. (ENQ/DEQ of the TOPS-10 Monitor Calls Manual; the layout and the
-/// refusals are this project's profile.)
+/// The refusals, in this order: `BadBlock` where a word of the block is not legal, its size is not that of
+/// its locks, or it has a limit and may have none; `BadCount` where it has no lock or more than 16; then, for
+/// each lock in turn, `BadPointer` where it has neither a user code nor a pointer to a name, or the name runs
+/// past the end of memory, `BadName` where the name is empty or longer than 30 characters, `BadQualifier`
+/// where the name is neither for all jobs nor for this job alone, and `BadPool` where its pool or its group
+/// is wrong.
+///
+/// The limit is the left half of the second word. Only a call that waits for its grant (`Blocking`) may have
+/// one. A call that does not wait (`Full`) asks for its locks all the same. A call that only names locks
+/// (`Named`) reads no levels, bypass, groups or pools: its wants have level 0, no bypass, group 0 and no pool.
+/// The addresses of a block do not wrap; those of a name do, as in ILDB. Nothing is changed. (ENQ/DEQ of the
+/// TOPS-10 Monitor Calls Manual; the layout and the refusals are this project's profile.)
 #[inline(always)]
 #[tactic(auto, unfolding(crate::specs::Blocks::block_at))]
 pub fn fill_block<M: JobMemory>(
@@ -165,7 +167,7 @@ pub fn fill_block<M: JobMemory>(
     })
 }
 
-/// The block of a job's call at an address, or the first refusal, as `fill_block` reads it.
+/// The block of a job's call at an address, or the first refusal, as of `fill_block`.
 pub fn read_block<M: JobMemory>(
     regs: &Regs,
     memory: &M,

@@ -1,5 +1,5 @@
-//! The block of a lock call, read from a job's memory: the request id, the limit of time and the wants,
-//! or the first refusal.
+//! The block of a lock call, read from a job's memory: the request id, the limit and the wants, or the first
+//! refusal.
 #![tactic(auto)]
 
 mod bits;

@@ -1,8 +1,8 @@
-//! The name of a lock, as a block names it.
+//! The name of a lock in a block.
 ghost use Rattle.std.specs.Prelude.{◌≡◌, ◌<◌, nat_le};
 ghost use Rattle.word36.specs.Words.{right_half};
 ghost use Rattle.ka_word.specs.Bytes.{byte_of, incremented, position_of, size_of};
-ghost use Rattle.ka_cpu.specs.Places.{word_at};
+ghost use Rattle.ka_cpu.specs.Memory.{word_at};
 ghost use Rattle.call_block.specs.Names.{characters, AreLegalCharacters, text_at, name_at};
 
 use crate::bits::bits;
@@ -10,16 +10,17 @@ use ka_cpu::{JobMemory, Regs, fetch};
 use lock_queue::{Name, NameCharacters, NameText, Refusal, UserCode};
 use word36::{NAME_LENGTH, Word};
 
-/// The most characters that are read of a name: one more than it may have, so that a longer one shows.
+/// How many characters of a name are read at most: one more than it may have, to find a name that is too
+/// long.
 const NAME_ROOM: usize = NAME_LENGTH + 1;
 
 /// The bits of a character.
 const CHARACTER_BITS: u64 = 7;
 
-/// What takes a pointer to the next character of the same word.
+/// What is subtracted from a pointer to reach the next character of the same word.
 const CHARACTER_STEP: u64 = CHARACTER_BITS << 30;
 
-/// Whether the next character stands in the word of this one.
+/// Whether the next character is in the same word.
 fn is_next_here(pointer: Word) -> bool
     ensures { result ≡ nat_le 7 (position_of pointer) }
 {
@@ -40,7 +41,7 @@ fn increment(pointer: Word) -> Word
     }
 }
 
-/// The word of the next character, if it is legal, from that of this one.
+/// The word of the next character, given the word of this one; `None` where its address is not legal.
 fn next_word<M: JobMemory>(
     regs: &Regs,
     memory: &M,
@@ -58,7 +59,7 @@ fn next_word<M: JobMemory>(
     }
 }
 
-/// The character of a word that a pointer points to.
+/// The character of a word at the pointer's position.
 #[tactic(auto, using(crate::proofs::PointerLemmas::byte_masked, crate::proofs::PointerLemmas::byte_below))]
 fn character_of(pointer: Word, word: Word) -> u8
     requires { size_of pointer ≡ 7 }
@@ -68,8 +69,8 @@ fn character_of(pointer: Word, word: Word) -> u8
     (word.number() >> (pointer.number() >> 30) & 0o177) as u8
 }
 
-/// What the increments of a pointer point to, up to the first zero or to one character more than a
-/// name may have, if the words of all of them are legal.
+/// The characters after a pointer, up to the first zero, and at most one more than a name may have. `None`
+/// where the address of one of them is not legal.
 #[inline(always)]
 fn read_characters<M: JobMemory>(regs: &Regs, memory: &M, pointer: Word) -> Option<NameCharacters>
     requires { size_of pointer ≡ 7 }
@@ -90,7 +91,7 @@ fn read_characters<M: JobMemory>(regs: &Regs, memory: &M, pointer: Word) -> Opti
     Some(text)
 }
 
-/// The text at a pointer.
+/// The text after a pointer, or its refusal.
 #[inline(always)]
 fn read_text<M: JobMemory>(regs: &Regs, memory: &M, pointer: Word) -> Result<NameText, Refusal>
     requires { size_of pointer ≡ 7 }
@@ -102,7 +103,7 @@ fn read_text<M: JobMemory>(regs: &Regs, memory: &M, pointer: Word) -> Result<Nam
     text.name().ok_or(Refusal::BadName)
 }
 
-/// The name that a word of a block stands for.
+/// The name that a word of a block gives: a user code, or the text at a pointer; or its refusal.
 #[inline(always)]
 pub fn read_name<M: JobMemory>(regs: &Regs, memory: &M, word: Word) -> Result<Name, Refusal>
     ensures { result ≡ name_at regs.now.ac (M.words memory.now) word }

@@ -9,7 +9,7 @@ use ka_cpu::{JobMemory, Regs};
 use lock_queue::{BlockUse, Group, Key, Level, Refusal, Scope, Terms, Want};
 use word36::Word;
 
-/// Among whom the name is told apart, from a lock's first word.
+/// The jobs among which a lock's name is unique, from the lock's first word; or its refusal.
 fn scope_of(job: u8, qualifier: Word) -> Result<Scope, Refusal>
     ensures { result ≡ scope_of job qualifier }
 {
@@ -23,15 +23,15 @@ fn scope_of(job: u8, qualifier: Word) -> Result<Scope, Refusal>
 /// The three words of a lock.
 #[derive(Clone, Copy)]
 pub struct Lock {
-    /// How it is wanted, and among whom its name is told apart.
+    /// How it is wanted, and the jobs among which its name is unique.
     pub qualifier: Word,
     /// A user code, or a pointer to a name.
     pub name: Word,
-    /// How it is shared: a pool and how much of it, the group of a lock that may be shared, or 0.
+    /// A pool and how much of it is wanted, the group of a lock that may be shared, or 0.
     pub share: Word,
 }
 
-/// The terms on which a lock is spelled.
+/// The terms of a lock, from its first and third words.
 fn terms_of(lock: Lock) -> Terms
     ensures { result ≡ terms_of lock }
 {
@@ -47,7 +47,7 @@ fn terms_of(lock: Lock) -> Terms
     }
 }
 
-/// A job's want of a lock.
+/// A job's want of a lock, or the refusal of the lock.
 #[inline(always)]
 pub fn want_of<M: JobMemory>(
     regs: &Regs,

@@ -6,7 +6,7 @@ use Rattle.word36.specs.declared.sizes.TheConstants.{DATA_WORDS}
 use Rattle.word36.specs.Words.{right_half}
 use Rattle.job_sched.specs.Tables.{job_at}
 use Rattle.job_sched.specs.declared.job.Job.{Job}
-use Rattle.uuo_calls.specs.Around.{ac_of, refusing, skipping, with_ac}
+use Rattle.uuo_calls.specs.CallState.{ac_of, refusing, skipping, with_ac}
 use Rattle.uuo_calls.specs.DataRows.{JobData}
 use Rattle.uuo_calls.specs.Laws.{Answers, service_in}
 use Rattle.uuo_calls.specs.Performed.{Performed, World, around, ended, performed, row_of}

@@ -9,7 +9,7 @@ use Rattle.std.proofs.lemmas.Option.{slice_get-get_or}
 use Rattle.word36.specs.Words.{right_half}
 use Rattle.core_store.specs.Cores.{Cores, core_of}
 use Rattle.ka_cpu.specs.Jumps.{flags_of, pc_word}
-use Rattle.ka_cpu.specs.Places.{are_legal, is_legal, word_at, word_below}
+use Rattle.ka_cpu.specs.Memory.{are_legal, is_legal, word_at, word_below}
 use Rattle.ka_cpu.specs.declared.outcome.StopReason.TheVariants.{IllegalAddress}
 use Rattle.ka_cpu.specs.declared.registers.Flags.{Flags}
 use Rattle.ka_cpu.specs.declared.registers.Regs.{Regs}
@@ -17,13 +17,13 @@ use Rattle.ka_cpu.proofs.LegalLemmas.{last_word_decides, legal_within}
 use Rattle.lock_queue.specs.declared.request.Request.{Request}
 use Rattle.job_sched.specs.Tables.{job_at}
 use Rattle.job_sched.specs.declared.job.Job.{Job}
-use Rattle.uuo_calls.specs.Around.{stopped}
+use Rattle.uuo_calls.specs.CallState.{stopped}
 use Rattle.uuo_calls.specs.InterruptRows.{debrk, dismissed, dismissed_at, vector_in_progress}
 use Rattle.uuo_calls.specs.Performed.{Performed, around, ended, performed, row_of}
 use Rattle.uuo_calls.specs.StatusRow.{JobCore}
 use Rattle.uuo_calls.specs.declared.service.Service.TheVariants.{Debrk}
 use Rattle.uuo_calls.proofs.Rows.{performs}
-use Rattle.machine.specs.Turns.{Turn, delivered, done, interrupted_at, noted, told_at}
+use Rattle.machine.specs.Turns.{Turn, delivered, done, interrupted_at, noted, notified_at}
 use Rattle.call_laws.specs.Deliveries.{DebrkGoesBack}
 
 -- a PC word tells its PC and flags
@@ -174,7 +174,7 @@ delivered-word : (n vector id : ℕ) (j : Job) (cores : Cores) (requests : List 
 delivered-word n vector id j cores requests legal size here =
     let core : List ℕ = core_of cores n in
     let o : JobCore = interrupted_at j core vector id in
-    let t : Turn = told_at n cores requests o in
+    let t : Turn = notified_at n cores requests o in
     let is : delivered n j cores requests vector id ≡ t = ap (λ (b : Bool). cond b t (done (stopped j IllegalAddress) cores requests)) legal in
     let kept : core_of t.cores n ≡ o.core = get_or-set_same cores.cores n o.core [] here in
     let one : is_legal core (vector + 1) ≡ true = legal_within core vector 4 (vector + 1) legal (omega arith) (omega arith) in

@@ -17,7 +17,7 @@ use Rattle.job_sched.specs.declared.job.Stop.{Stop}
 use Rattle.job_sched.specs.declared.job.Wait.{Wait}
 use Rattle.job_sched.specs.declared.job.Wait.TheVariants.{Sleep}
 use Rattle.job_sched.proofs.Limits.{job-limited, limited-none}
-use Rattle.uuo_calls.specs.Around.{ac_of, waiting}
+use Rattle.uuo_calls.specs.CallState.{ac_of, waiting}
 use Rattle.uuo_calls.specs.JobRows.{ticks_of}
 use Rattle.uuo_calls.specs.Performed.{Performed, World, around, ended, performed, row_of}
 use Rattle.uuo_calls.specs.declared.service.Service.TheVariants.{Sleep as SleepCall}

@@ -7,7 +7,7 @@ use Rattle.std.proofs.lemmas.List.{get_or-set_same}
 use Rattle.std.proofs.Math.ListN.{length-set}
 use Rattle.word36.specs.declared.sizes.TheConstants.{DATA_WORDS, OUTPUT_RING}
 use Rattle.word36.specs.Words.{left_half, right_half}
-use Rattle.ka_cpu.specs.Places.{are_legal, is_legal, word_below}
+use Rattle.ka_cpu.specs.Memory.{are_legal, is_legal, word_below}
 use Rattle.core_store.specs.Cores.{Cores, core_of, with_core}
 use Rattle.tty_lines.specs.Rings.{input_of, room_of}
 use Rattle.lock_queue.specs.declared.call.LockReply.{LockReply}
@@ -16,7 +16,7 @@ use Rattle.lock_queue.specs.declared.refusal.Refusal.{Refusal}
 use Rattle.lock_queue.specs.declared.want.Want.{Want}
 use Rattle.job_sched.specs.Tables.{job_at}
 use Rattle.job_sched.specs.declared.job.Job.{Job}
-use Rattle.uuo_calls.specs.Around.{Around, ac_of}
+use Rattle.uuo_calls.specs.CallState.{CallState, ac_of}
 use Rattle.uuo_calls.specs.CoreRow.{blocks_asked, core_done, grown}
 use Rattle.uuo_calls.specs.DataRows.{JobData}
 use Rattle.uuo_calls.specs.InterruptRows.{dismissed, dismissed_at, vector_in_progress}
@@ -24,7 +24,7 @@ use Rattle.uuo_calls.specs.Laws.{is_terminal_wait, service_in}
 use Rattle.uuo_calls.specs.LockRows.{answered, asked, deq_asks, enq_asks, enq_limit}
 use Rattle.uuo_calls.specs.Performed.{Performed, World, around, ended, row_of}
 use Rattle.uuo_calls.specs.QuotaRows.{named_job, quota_at, told_quota}
-use Rattle.uuo_calls.specs.StatusRow.{answers_at, enqc, enqc_asks, told, with_room}
+use Rattle.uuo_calls.specs.StatusRow.{answers_at, enqc, enqc_asks, stored_or_refused, with_room}
 use Rattle.uuo_calls.specs.CoreRow.{JobCores}
 use Rattle.uuo_calls.specs.TerminalRows.{JobInput, JobLines, has_input, input_called, low_character, no_input, put_text, skipping_if, stored_input, text_from}
 use Rattle.uuo_calls.specs.declared.call.CallOutcome.TheVariants.{Done, Empty}
@@ -45,14 +45,14 @@ no-some k e = cc
 
 module _ (w : World) (n : ℕ) (j : Job) (low : n < length w.table.jobs) (calm : Is j) where
   -- a job that waits so after this has made an empty step
-  record Fine (a : Around) : Type 0 where
+  record Fine (a : CallState) : Type 0 where
     it : (k : Job) → job_at (ended w n a).world.table.jobs n ≡ Some k → is_terminal_wait k.wait ≡ true → a.ending ≡ Empty
 
-  empty : (a : Around) → a.ending ≡ Empty → Fine a
+  empty : (a : CallState) → a.ending ≡ Empty → Fine a
   empty a is = record { it = λ k there waits. is }
 
   -- a row that is done
-  done : (a : Around) → a.ending ≡ Done → Is a.job → Fine a
+  done : (a : CallState) → a.ending ≡ Done → Is a.job → Fine a
   done a is calm = record {
     it = λ k there waits.
         let left : job_at (ended w n a).world.table.jobs n ≡ Some a.job =
@@ -83,7 +83,7 @@ module _ (w : World) (n : ℕ) (j : Job) (low : n < length w.table.jobs) (calm :
   quota-calm k ac (Some quota) = calm
   quota-calm k ac None = calm
 
-  told-calm : (ac to : ℕ) (core : List ℕ) (r : Result (List Want) Refusal) → Is (told w.requests n ac to j core r).job
+  told-calm : (ac to : ℕ) (core : List ℕ) (r : Result (List Want) Refusal) → Is (stored_or_refused w.requests n ac to j core r).job
   told-calm ac to core (Err refusal) = calm
   told-calm ac to core (Ok wants) = calm
 
@@ -106,7 +106,7 @@ module _ (w : World) (n : ℕ) (j : Job) (low : n < length w.table.jobs) (calm :
       by_test (λ (p : JobLines). Fine (record (around w j) { job = p.job; lines = p.lines; ending = p.ending }))
       (nat_le (length text) (room_of w.lines j.line)) _ _ (λ _. done _ refl calm) (λ _. empty _ refl)
 
-  abbrev with_input_of : JobInput → Around
+  abbrev with_input_of : JobInput → CallState
   with_input_of o = record (around w j) { job = o.job; cores = with_core w.cores n o.core; lines = o.lines; ending = o.ending }
 
   none-fine : (unit : Awaited) (skips : Bool) (core : List ℕ) → Fine (with_input_of (no_input unit skips core j w.lines))

@@ -4,14 +4,14 @@ use Rattle.word36.specs.declared.sizes.TheConstants.{DATA_WORDS}
 use Rattle.word36.specs.Words.{right_half}
 use Rattle.job_sched.specs.Tables.{job_at}
 use Rattle.job_sched.specs.declared.job.Job.{Job}
-use Rattle.uuo_calls.specs.Around.{ac_of}
+use Rattle.uuo_calls.specs.CallState.{ac_of}
 use Rattle.uuo_calls.specs.Laws.{Answers, service_in}
 use Rattle.uuo_calls.specs.Performed.{World, performed}
 use Rattle.uuo_calls.specs.declared.call.MonitorCall.{MonitorCall}
 use Rattle.uuo_calls.specs.declared.service.Service.TheVariants.{Datrd, Datwr}
 
--- DATRD. after DATWR. reads what was written: job n writes the word in AC+1 to the shared word that AC tells; a job m, the same or
--- another, that reads this one later, while the shared words are as they were then, has that word in its AC.
+-- DATRD. after DATWR. reads the word that was written. Job n writes the word in AC+1 to the shared word whose number AC has. A job m,
+-- the same or another, that reads that shared word later, with no write in between, has the word in its AC.
 abbrev pub WhatIsWrittenIsRead : Type 0
 WhatIsWrittenIsRead =
     (w later : World) (time at n m : ℕ) (write read : MonitorCall) (j k : Job)

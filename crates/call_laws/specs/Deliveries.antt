@@ -1,7 +1,7 @@
--- An interrupt and its end: a delivery, and DEBRK. (PIINI. of the TOPS-10 Monitor Calls Manual, in this project's profile).
+-- The delivery of an interrupt, and its end by DEBRK. (PIINI. of the TOPS-10 Monitor Calls Manual, in this project's profile).
 use Rattle.std.specs.Prelude.{ℕ, ◌≡◌, ◌+◌, ◌^◌, ◌<◌, true, false, List, length, Some}
 use Rattle.core_store.specs.Cores.{Cores, core_of}
-use Rattle.ka_cpu.specs.Places.{are_legal, word_below}
+use Rattle.ka_cpu.specs.Memory.{are_legal, word_below}
 use Rattle.lock_queue.specs.declared.request.Request.{Request}
 use Rattle.job_sched.specs.Tables.{job_at}
 use Rattle.job_sched.specs.declared.job.Job.{Job}
@@ -11,7 +11,7 @@ use Rattle.uuo_calls.specs.declared.call.MonitorCall.{MonitorCall}
 use Rattle.uuo_calls.specs.declared.service.Service.TheVariants.{Debrk}
 use Rattle.machine.specs.Turns.{delivered}
 
--- job n goes on where job j was when it was interrupted: its PC and flags are those, and no interrupt is in progress
+-- job n goes on where job j was interrupted: it has the PC and the flags of j, and no interrupt is in progress
 pub record GoesBack (w : World) (n : ℕ) (j : Job) : Type 0 where
   pub job : Job
   pub there : job_at w.table.jobs n ≡ Some job
@@ -19,9 +19,9 @@ pub record GoesBack (w : World) (n : ℕ) (j : Job) : Type 0 where
   pub flags : job.regs.flags ≡ j.regs.flags
   pub over : job.interrupts.in_progress ≡ false
 
--- A delivery and then DEBRK. give back PC and flags: an interrupt is delivered to job n, whose vector is legal; later, whatever the job
--- did in between, its interrupt is in progress with the same vector, and the word behind the vector's first is that which the
--- delivery left there. Then DEBRK. leads back to where it was.
+-- DEBRK. after a delivery gives back the PC and the flags. An interrupt is delivered to job n, whose vector is legal. Later, whatever
+-- the job did in between, the interrupt is still in progress with the same vector, and the vector's second word is as the delivery
+-- left it. Then DEBRK. goes back to where the job was.
 abbrev pub DebrkGoesBack : Type 0
 DebrkGoesBack =
     (w : World) (time n vector id : ℕ) (c : MonitorCall) (j k : Job) (cores : Cores) (requests : List Request)
@@ -29,5 +29,6 @@ DebrkGoesBack =
     → job_at w.table.jobs n ≡ Some k → n < length w.table.jobs → service_in c ≡ Debrk
     → k.interrupts.in_progress ≡ true → k.interrupts.vector ≡ Some vector
     → word_below k.regs.ac (core_of w.cores n) (vector + 1)
-    ≡ word_below (delivered n j cores requests vector id).job.regs.ac (core_of (delivered n j cores requests vector id).cores n) (vector + 1)
+    ≡ word_below (delivered n j cores requests vector id).job.regs.ac (core_of (delivered n j cores requests vector id).cores n)
+    (vector + 1)
     → GoesBack (performed w time n c).world n j

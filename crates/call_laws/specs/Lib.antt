@@ -1,6 +1,6 @@
 pub mod DataWords
 pub mod Deliveries
-pub mod HighestPlaces
+pub mod HighestAddresses
 pub mod Sleeps
 pub mod Takes
 pub mod TerminalWaits

@@ -5,7 +5,7 @@ use Rattle.job_sched.specs.Ready.{is_ready}
 use Rattle.job_sched.specs.Tables.{job_at}
 use Rattle.job_sched.specs.declared.job.Job.{Job}
 use Rattle.job_sched.specs.declared.job.Wait.TheVariants.{Sleep}
-use Rattle.uuo_calls.specs.Around.{ac_of}
+use Rattle.uuo_calls.specs.CallState.{ac_of}
 use Rattle.uuo_calls.specs.Laws.{service_in}
 use Rattle.uuo_calls.specs.Performed.{World, performed}
 use Rattle.uuo_calls.specs.declared.call.MonitorCall.{MonitorCall}
@@ -30,8 +30,8 @@ SleepBegins =
     → job_at w.table.jobs n ≡ Some j → n < length w.table.jobs → service_in c ≡ SleepCall → 1 ≤ right_half (ac_of j c.ac)
     → IsAsleep (performed w time n c).world n (60 * right_half (ac_of j c.ac)) j
 
--- A job that sleeps, and that nobody starts or kills: until as many ticks have gone by as are left of its sleep it is not ready and
--- makes no step, whatever else happens; and behind the last of them it is ready, unless it is stopped.
+-- A job that sleeps, and that nobody starts or kills, is not ready and makes no step until as many ticks have passed as are left of
+-- its sleep, whatever else happens. After the last of them it is ready, unless it is stopped.
 pub record SleepLasts (s : S) (events : List Event) (n ticks : ℕ) (j : Job) : Type 0 where
   pub sleeps : ticks_in events < ticks → IsAsleep (after events s).world n (ticks - ticks_in events) j
   pub idle : ticks_in events < ticks

@@ -1,4 +1,4 @@
--- Taking all that a line has put out (this project's profile).
+-- Events that take all the output of a line (this project's profile).
 use Rattle.std.specs.Prelude.{ℕ, ◌≡◌, ◌*◌, ◌<◌, ◌≤◌, List, [], length, replicate}
 use Rattle.word36.specs.declared.sizes.TheConstants.{LINES, TAKEN_AT_ONCE}
 use Rattle.tty_lines.specs.Rings.{output_of}
@@ -7,12 +7,12 @@ use Rattle.machine.specs.Machine.{S, after}
 use Rattle.machine.specs.declared.event.Event.{Event}
 use Rattle.machine.specs.declared.event.Event.TheVariants.{Take}
 
--- so many events that each take as many characters of a line's output as are taken at once
+-- so many events, each of which takes as many characters of a line's output as can be taken at once
 abbrev pub takes : ℕ → ℕ → List Event
 takes line count = replicate count (Take line TAKEN_AT_ONCE)
 
--- They take all that a line has put out, in order, and leave nothing, where together they take as many characters as it has. A
--- line never has more than OUTPUT_RING.
+-- Together they take all the output of a line, in order, and leave nothing, where they can take as many characters as it has. A line
+-- never has more than OUTPUT_RING.
 abbrev pub TakesLeaveNothing : Type 0
 TakesLeaveNothing =
     (s : S) (line count : ℕ) → line < LINES → line < length s.world.lines → length (output_of s.world.lines line) ≤ count * TAKEN_AT_ONCE

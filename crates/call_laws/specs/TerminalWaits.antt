@@ -7,8 +7,8 @@ use Rattle.uuo_calls.specs.Performed.{World, performed}
 use Rattle.uuo_calls.specs.declared.call.CallOutcome.TheVariants.{Empty}
 use Rattle.uuo_calls.specs.declared.call.MonitorCall.{MonitorCall}
 
--- A job that did not wait for its terminal before a call and does so after it has made an empty step: with `EmptyStepsWait` the
--- two are the same.
+-- A job that does not wait for its terminal before a call, and does after it, has made an empty step. With `EmptyStepsWait`: a call
+-- is an empty step exactly where the job begins to wait for its terminal.
 abbrev pub WhoWaitsForItsTerminalMadeAnEmptyStep : Type 0
 WhoWaitsForItsTerminalMadeAnEmptyStep =
     (w : World) (time n : ℕ) (c : MonitorCall) (j k : Job)

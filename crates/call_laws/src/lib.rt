@@ -1,19 +1,19 @@
-//! Laws of the monitor calls and of what answers them. Each function does nothing: its contract is the law.
+//! Laws of the monitor calls, as a program sees them. Each function does nothing: its contract is a law.
 #![tactic(auto)]
 
 ghost use Rattle.call_laws.specs.DataWords.{WhatIsWrittenIsRead};
 ghost use Rattle.call_laws.specs.Deliveries.{DebrkGoesBack};
-ghost use Rattle.call_laws.specs.HighestPlaces.{CoreTellsItsSize, LoginTellsItsSize};
+ghost use Rattle.call_laws.specs.HighestAddresses.{CoreTellsItsSize, LoginTellsItsSize};
 ghost use Rattle.call_laws.specs.Sleeps.{SleepBegins, SleepsLast};
 ghost use Rattle.call_laws.specs.Takes.{TakesLeaveNothing};
 ghost use Rattle.call_laws.specs.TerminalWaits.{WhoWaitsForItsTerminalMadeAnEmptyStep};
 
-/// DATRD. after DATWR. reads what was written.
+/// DATRD. after DATWR. reads the word that was written.
 pub fn what_is_written_is_read()
     ensures { WhatIsWrittenIsRead }
 {}
 
-/// A delivery and then DEBRK. give back PC and flags.
+/// DEBRK. after the delivery of an interrupt gives back the PC and the flags.
 pub fn debrk_goes_back()
     ensures { DebrkGoesBack }
 {}
@@ -24,18 +24,18 @@ pub fn sleeps_last()
     ensures lasts { SleepsLast }
 {}
 
-/// Enough events TAKE take all that a line has put out, in order, and leave nothing.
+/// Enough events `Take` take all the output of a line, in order, and leave nothing.
 pub fn takes_leave_nothing()
     ensures { TakesLeaveNothing }
 {}
 
-/// A job that begins to wait for its terminal in a call has made an empty step.
+/// A job that begins to wait for its terminal by a call has made an empty step.
 pub fn terminal_waits_are_empty_steps()
     ensures { WhoWaitsForItsTerminalMadeAnEmptyStep }
 {}
 
-/// After a granted login and a granted CORE place 44 octal has the highest legal address.
-pub fn place_44_tells_the_size()
+/// After a granted login and a granted CORE, address 44 octal has the highest legal address.
+pub fn address_44_tells_the_size()
     ensures login { LoginTellsItsSize }
     ensures core { CoreTellsItsSize }
 {}

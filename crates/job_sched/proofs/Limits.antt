@@ -158,7 +158,7 @@ none-limited waits jobs m none = from-at waits jobs 0 m m (omega arith) ∙ ap (
 pub IsTable-limited : (waits : ℕ → Bool) (jobs : List (Option Job)) (sleepers : Bool) (from : ℕ) → IsTable jobs sleepers from
     → IsTable (limited_from waits 0 jobs) sleepers from
 IsTable-limited waits jobs sleepers from h = record {
-  places = length-limited waits 0 jobs ∙ h.places;
+  slots = length-limited waits 0 jobs ∙ h.slots;
   awake = λ e. rw (limited-awake waits 0 jobs (h.awake e)) (h.awake e);
   most = h.most;
   vacant = λ m high. none-limited waits jobs m (h.vacant m high);

@@ -81,7 +81,7 @@ pub IsTable-set : (jobs : List (Option Job)) (n : ℕ) (o : Option Job) (before 
     → (after ≡ false → before ≡ false) → (after ≡ false → is_sleeper o ≡ false)
     → to ≤ JOBS + 1 → (to ≤ n → o ≡ None) → ((m : ℕ) → to ≤ m → m ≢ n → from ≤ m) → IsTable (slice_set jobs n o) after to
 IsTable-set jobs n o before after from to h less awake most here others = record {
-  places = length-set jobs n o ∙ h.places;
+  slots = length-set jobs n o ∙ h.slots;
   awake = λ e. awake-set jobs n o (h.awake (less e)) (awake e);
   most = most;
   vacant = λ m high. none-set jobs n o m (λ e. here (omega (arith, e, high))) (λ d. h.vacant m (others m high d));
@@ -96,7 +96,7 @@ IsTable-changed jobs n o before after from h less awake none =
 pub IsTable-map : (f : Option Job → Option Job) (jobs : List (Option Job)) (before after : Bool) (from : ℕ) → f None ≡ None
     → (after ≡ false → list_any is_sleeper (map f jobs) ≡ false) → IsTable jobs before from → IsTable (map f jobs) after from
 IsTable-map f jobs before after from none awake h = record {
-  places = length-map jobs f ∙ h.places;
+  slots = length-map jobs f ∙ h.slots;
   awake = awake;
   most = h.most;
   vacant = λ m high. none-map f jobs m none (h.vacant m high);

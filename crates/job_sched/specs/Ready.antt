@@ -1,6 +1,6 @@
--- Which job is ready, and which runs next (this project's profile; the waits are those of the TOPS-10 Monitor Calls
--- Manual).
-use Rattle.std.specs.Prelude.{ℕ, suc, zero, ◌+◌, ◌%◌, ◌&&◌, Bool, false, not, nat_lt, if◌then◌else◌, List, length, Option, Some, None, is_none}
+-- Which jobs are ready, and which job is next (this project's profile; the waits are those of the TOPS-10 Monitor Calls Manual).
+use Rattle.std.specs.Prelude.{ℕ, suc, zero, ◌+◌, ◌%◌, ◌&&◌, Bool, false, not, nat_lt, if◌then◌else◌, List, length, Option, Some, None}
+use Rattle.std.specs.Prelude.{is_none}
 use Rattle.word36.specs.declared.sizes.TheConstants.{JOBS}
 use Rattle.lock_queue.specs.declared.request.Request.{Request}
 use Rattle.lock_queue.specs.Jobs.{is_waiting_job}
@@ -10,7 +10,7 @@ use Rattle.job_sched.specs.declared.job.Wait.{Wait}
 use Rattle.job_sched.specs.declared.job.Wait.TheVariants.{None as Nothing, Sleep, Char, Line, Room, Queue}
 use Rattle.job_sched.specs.Tables.{Table, job_at}
 
--- whether the wait of job n, at a line, holds: a sleep while ticks are left, the others while what they are for lacks
+-- whether the wait of job n, at a line, holds: a sleep as long as ticks are left, another wait as long as what it is for is not there
 abbrev pub holds : List Rings → List Request → ℕ → ℕ → Wait → Bool
 holds lines requests n line Nothing = false
 holds lines requests n line (Sleep ticks) = nat_lt 0 ticks
@@ -19,7 +19,7 @@ holds lines requests n line Line = not (holds_line (input_of lines line))
 holds lines requests n line (Room places) = nat_lt (room_of lines line) places
 holds lines requests n line (Queue limit ac) = is_waiting_job requests n
 
--- whether what stands at place n is a job that is not stopped and whose wait does not hold
+-- whether the slot of job n has a job that is not stopped and whose wait does not hold
 abbrev pub is_ready_job : List Rings → List Request → ℕ → Option Job → Bool
 is_ready_job lines requests n (Some j) = is_none j.stop && not (holds lines requests n j.line j.wait)
 is_ready_job lines requests n None = false

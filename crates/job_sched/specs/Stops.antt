@@ -1,4 +1,4 @@
--- Numbers of the reasons why a job is stopped (this project's profile).
+-- The numbers of the reasons why a job is stopped (this project's profile).
 use Rattle.std.specs.Prelude.{ℕ}
 use Rattle.ka_cpu.specs.Outcomes.{code_of as fault_code}
 use Rattle.job_sched.specs.declared.job.Stop.{Stop}

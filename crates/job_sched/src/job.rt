@@ -11,15 +11,15 @@ use lock_queue::Refusal;
 use tty_lines::LineNumber;
 use word36::{Address, Word};
 
-/// What takes an address one back, counted modulo 2^18.
+/// What is added to an address, modulo 2^18, to go one back.
 const ONE_BACK: u32 = 0o777_777;
 
 /// Why a job is stopped (this project's profile).
 #[derive(Clone, Copy, Debug, PartialEq, Eq)]
 pub enum Stop {
-    /// It was loaded, and has not been started yet.
+    /// It is loaded, and has not been started yet.
     Loaded,
-    /// Its instruction or its call stopped it.
+    /// Its instruction or its monitor call stopped it.
     Fault(StopReason),
     /// EXIT.
     Exit,
@@ -30,8 +30,8 @@ pub enum Stop {
 }
 
 impl Stop {
-    /// The number that scripts write for the reason: 0 loaded, 1 to 5 as of the processor, 6 EXIT,
-    /// 7 EXIT 1, 8 CTRL-C.
+    /// The number of the reason in scripts: 0 loaded, 1 to 5 as of the processor, 6 EXIT, 7 EXIT 1, 8
+    /// CTRL-C.
     pub fn code(self) -> u8
         ensures { result ≡ code_of self }
     {
@@ -50,23 +50,23 @@ impl Stop {
 pub enum Wait {
     /// Nothing.
     None,
-    /// So many ticks to go by.
+    /// The end of so many ticks.
     Sleep(u32),
-    /// A character in the input of its line.
+    /// A character in the input of its line, whichever.
     Char,
-    /// A break character there, or no room for more.
+    /// A break character there, or a full input.
     Line,
-    /// So many free places in the output of its line.
+    /// Room for so many characters in the output of its line.
     Room(u16),
-    /// The grant of its blocking request: for so many ticks more, or without a limit where that is 0.
-    /// The other number is that of the accumulator of the call that asked.
+    /// The grant of its blocking request: for so many ticks more, or without a limit where that is 0. The
+    /// second number is the accumulator of the call.
     Queue(u32, u8),
 }
 
-/// How a job takes the interrupts of its grants (this project's profile).
+/// How a job is notified of its grants by interrupts (this project's profile).
 #[derive(Clone, Copy, Debug, PartialEq, Eq)]
 pub struct Interrupts {
-    /// The place of its vector, if it has set one.
+    /// The address of its vector, if it has set one.
     pub vector: Option<Address>,
     /// Whether they are on.
     pub on: bool,
@@ -81,7 +81,7 @@ pub const NO_INTERRUPTS: Interrupts = Interrupts {
     in_progress: false,
 };
 
-/// The flags of a job that begins: User alone.
+/// The flags of a new job: User alone, which is always set.
 pub const NO_FLAGS: Flags = Flags {
     overflow: false,
     carry0: false,
@@ -89,12 +89,12 @@ pub const NO_FLAGS: Flags = Flags {
     no_divide: false,
 };
 
-/// Puts a word at a place, if it is there.
-fn put_word(words: &mut [Word], place: usize, word: Word)
-    ensures { words.new ≡ slice_set words.old place word }
+/// Puts a word at an index, if the slice has it.
+fn put_word(words: &mut [Word], index: usize, word: Word)
+    ensures { words.new ≡ slice_set words.old index word }
 {
-    if place < words.len() {
-        words[place] = word;
+    if index < words.len() {
+        words[index] = word;
     }
 }
 
@@ -118,7 +118,7 @@ pub struct Job {
 }
 
 impl Job {
-    /// A job that was just loaded: it is stopped, waits for nothing and has no vector.
+    /// A new job, which is loaded: it is stopped, waits for nothing and has no vector.
     pub fn new(line: LineNumber, regs: Regs, start: Address, quota: u16) -> Job
         ensures { result ≡ new_job line regs start quota }
     {
@@ -133,7 +133,7 @@ impl Job {
         }
     }
 
-    /// Whether ticks count for its wait: its sleep goes on, or its wait for a request has a limit.
+    /// Whether ticks count for its wait: it sleeps, or its wait for a grant has a limit.
     pub fn is_asleep(&self) -> bool
         ensures { result ≡ is_asleep self.now }
     {
@@ -143,7 +143,7 @@ impl Job {
         }
     }
 
-    /// Whether its wait for a request has a limit.
+    /// Whether its wait for a grant has a limit.
     pub(crate) fn has_limit(&self) -> bool
         ensures { result ≡ nat_lt 0 (limit_of self.now.wait) }
     {
@@ -153,7 +153,7 @@ impl Job {
         }
     }
 
-    /// Whether an interrupt can be delivered to it: they are on, none is in progress, and there is a
+    /// Whether an interrupt can be delivered to it: interrupts are on, none is in progress, and it has a
     /// vector.
     #[inline(always)]
     pub fn takes_interrupts(&self) -> bool
@@ -163,8 +163,8 @@ impl Job {
         interrupts.on && !interrupts.in_progress && interrupts.vector.is_some()
     }
 
-    /// Starts, at its start address, with User alone of the flags, no wait and no vector; or goes on
-    /// where it was.
+    /// Ends its stop. Where `from_start`, it goes on at its start address, with no flag but User, no wait and
+    /// no vector; otherwise where it was.
     pub(crate) fn resume(&mut self, from_start: bool)
         ensures { self.new ≡ resumed_job from_start self.old }
     {
@@ -177,7 +177,7 @@ impl Job {
         }
     }
 
-    /// Stops, if it is at that line and not stopped already.
+    /// Stops for CTRL-C, if that is its line and it is not stopped already.
     pub(crate) fn break_at(&mut self, line: LineNumber)
         ensures { self.new ≡ broken_job line self.old }
     {
@@ -186,7 +186,7 @@ impl Job {
         }
     }
 
-    /// A tick goes by: a sleep is one tick shorter.
+    /// Makes its sleep one tick shorter, if it sleeps.
     pub(crate) fn tick(&mut self)
         ensures { self.new ≡ ticked_job self.old }
     {
@@ -194,8 +194,9 @@ impl Job {
             self.wait = Wait::Sleep(ticks.saturating_sub(1));
         }
     }
-    /// Refuses a call that had skipped: the job goes on at the error return of the call, with the code
-    /// in the call's accumulator, and waits for nothing.
+
+    /// Refuses a call that had skipped: the job goes on at the error return of the call, with the code in
+    /// the call's accumulator, and waits for nothing.
     fn refuse_late(&mut self, refusal: Refusal, ac: u8)
         ensures { self.new ≡ at_error_return (refusal_code refusal) ac self.old }
     {
@@ -208,8 +209,8 @@ impl Job {
         );
     }
 
-    /// A tick of its wait for a request that is not granted: a limit is one tick shorter, and where it
-    /// ends the call is refused. Whether it ends.
+    /// Makes the limit of its wait one tick shorter, if it has one; where the limit ends, the call is
+    /// refused. Returns whether it ends.
     pub(crate) fn tick_limit(&mut self) -> bool
         ensures job { self.new ≡ limited_by self.old.wait self.old }
         ensures ended { result ≡ (limit_of self.old.wait == 1) }

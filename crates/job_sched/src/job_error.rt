@@ -1,9 +1,9 @@
-//! Why a job can neither start nor go on.
+//! The reasons why a job can neither start nor go on.
 
-/// Why a job can neither start nor go on; nothing has changed then.
+/// Why a job can neither start nor go on. Nothing has changed.
 #[derive(Clone, Copy, Debug, PartialEq, Eq)]
 pub enum JobError {
-    /// There is no job of that number.
+    /// No job has that number.
     NoSuchJob,
     /// The job is not stopped.
     NotStopped,

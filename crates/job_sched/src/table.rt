@@ -1,6 +1,7 @@
-//! The jobs by number, and which of them runs next.
+//! The jobs by number, and the scheduler.
 
-ghost use Rattle.std.specs.Prelude.{ℕ, Bool, List, true, false, ◌≡◌, ◌≢◌, ◌<◌, ◌≤◌, ◌-◌, ◌+◌, ◌==◌, ◌&&◌, ◌||◌, Some, None, length, map, OnOk, OnErr, IfSome};
+ghost use Rattle.std.specs.Prelude.{ℕ, Bool, List, true, false, ◌≡◌, ◌≢◌, ◌<◌, ◌≤◌, ◌-◌, ◌+◌, ◌==◌, ◌&&◌, ◌||◌, Some, None, length, map};
+ghost use Rattle.std.specs.Prelude.{OnOk, OnErr, IfSome};
 ghost use Rattle.std.specs.List.{list_any};
 ghost use Rattle.std.specs.Option.{option_copied, option_map};
 ghost use Rattle.word36.specs.declared.sizes.TheConstants.{JOBS};
@@ -21,24 +22,24 @@ use std::marker::Model;
 use tty_lines::{LineNumber, Lines};
 use word36::JOBS;
 
-/// The places of a table: one for each number, and place 0, which is no job's.
-pub const PLACES: usize = JOBS as usize + 1;
+/// The slots of a table: one for each number, and slot 0, which no job has.
+pub const JOB_SLOTS: usize = JOBS as usize + 1;
 
-/// The jobs by number, 1 to 63, the job that runs, and how many ticks are left of its quantum.
+/// The jobs by number, 1 to 63, the current job, and how many ticks are left of its quantum.
 ///
-/// Contracts see the jobs, the current number and the quantum. The table also keeps whether a job
-/// may be asleep or have a limit, so that a tick looks at the jobs only then, and from which number on
-/// there are no jobs, so that nobody looks for one there.
+/// Contracts see the jobs, the current number and the quantum. The table also keeps whether a job may sleep
+/// or have a limit, so that a tick looks at the jobs only then, and a number from which on there are no jobs,
+/// where the scheduler does not look.
 #[derive(Drop)]
 pub struct JobTable {
     /// The job of each number, if it is there.
-    pub jobs: [Option<Job>; PLACES],
+    pub jobs: [Option<Job>; JOB_SLOTS],
     /// The number of the job that ran last, 0 for none.
     pub current: u8,
     /// How many ticks are left of its quantum.
     pub left: u8,
-    /// Whether ticks may count for a job, which is asleep or waits with a limit: where it is false they
-    /// count for none. Who lets a job sleep, or wait with a limit, sets it.
+    /// Whether ticks may count for a job, which sleeps or waits with a limit. Where it is false, they count
+    /// for none. Code that lets a job sleep, or wait with a limit, has to set it.
     pub sleepers: bool,
     /// A number from which on there are no jobs.
     pub vacant_from: u8,
@@ -54,14 +55,15 @@ impl Model for JobTable {
     ghost invariant = { λ t. IsTable t.jobs t.sleepers t.vacant_from };
 }
 
-/// The number that is asked first behind one, in a circle: the next one, or 1 where no jobs come after
-/// it.
+/// The first number after `number` that can have a job, in a circle: the next one, or 1 where no jobs come
+/// after it.
 #[inline(always)]
 fn first_behind(number: u8, vacant_from: u8) -> u8
     requires { vacant_from ≤ JOBS + 1 }
     ensures least { 1 ≤ result }
     ensures most { result ≤ JOBS }
-    ensures found { (test : ℕ → Bool) → ((n : ℕ) → vacant_from ≤ n → test n ≡ false) → first_from test JOBS result ≡ first_from test JOBS (after number) }
+    ensures found { (test : ℕ → Bool) → ((n : ℕ) → vacant_from ≤ n → test n ≡ false)
+        → first_from test JOBS result ≡ first_from test JOBS (after number) }
 {
     if u32::from(number) + 1 < u32::from(vacant_from) {
         number + 1
@@ -72,7 +74,7 @@ fn first_behind(number: u8, vacant_from: u8) -> u8
     }
 }
 
-/// Whether the wait of a job holds, out of line, where a job rarely waits.
+/// Whether the wait of a job still holds. It is not inlined, since few jobs wait.
 #[inline(never)]
 fn holds<L: LockTable>(number: u8, job: &Job, lines: &Lines, locks: &L) -> bool
     ensures { result ≡ holds lines.now (L.requests locks.now) number job.now.line job.now.wait }
@@ -83,11 +85,11 @@ fn holds<L: LockTable>(number: u8, job: &Job, lines: &Lines, locks: &L) -> bool
         Wait::Char => !lines.has_char(job.line),
         Wait::Line => !lines.has_line(job.line),
         Wait::Room(places) => lines.room(job.line) < places as usize,
-        Wait::Queue(..) => locks.waiting(number),
+        Wait::Queue(..) => locks.is_waiting(number),
     }
 }
 
-/// Whether a job is at a place, is not stopped, and waits for nothing any more. Most jobs wait for
+/// Whether the job in a slot is there, is not stopped, and waits for nothing any more. Most jobs wait for
 /// nothing at all.
 #[inline(always)]
 fn is_ready_slot<L: LockTable>(number: u8, slot: &Option<Job>, lines: &Lines, locks: &L) -> bool
@@ -105,7 +107,7 @@ fn is_ready_slot<L: LockTable>(number: u8, slot: &Option<Job>, lines: &Lines, lo
     }
 }
 
-/// Whether a job is at a place, is not stopped, and waits for nothing at all: so it is ready.
+/// Whether the job in a slot is there, is not stopped, and waits for nothing at all: then it is ready.
 #[inline(always)]
 fn computes(slot: &Option<Job>) -> bool
     ensures { (lines : List Rings) (requests : List Request) (n : ℕ) → result ≡ true → is_ready_job lines requests n slot.now ≡ true }
@@ -116,7 +118,7 @@ fn computes(slot: &Option<Job>) -> bool
     }
 }
 
-/// Whether a job is there and ticks count for it.
+/// Whether the job in a slot is there and ticks count for it.
 fn is_sleeper(slot: &Option<Job>) -> bool
     ensures { result ≡ is_sleeper slot.now }
 {
@@ -126,7 +128,7 @@ fn is_sleeper(slot: &Option<Job>) -> bool
     }
 }
 
-/// Whether a job is there and an interrupt can be delivered to it.
+/// Whether the job in a slot is there and an interrupt can be delivered to it.
 #[inline(always)]
 fn is_open(slot: &Option<Job>) -> bool
     ensures { result ≡ is_open slot.now }
@@ -137,7 +139,7 @@ fn is_open(slot: &Option<Job>) -> bool
     }
 }
 
-/// Whether a job is there and its line is this.
+/// Whether the job in a slot is there and has this line.
 fn is_at(line: LineNumber, slot: &Option<Job>) -> bool
     ensures { result ≡ is_at line slot.now }
 {
@@ -147,7 +149,7 @@ fn is_at(line: LineNumber, slot: &Option<Job>) -> bool
     }
 }
 
-/// From which number on there are no jobs, where that of one number is gone.
+/// A number from which on there are no jobs, after the job of `number` is gone.
 fn vacant_without(vacant_from: u8, number: u8) -> u8
     requires { number ≤ JOBS }
     ensures less { result ≤ vacant_from }
@@ -160,7 +162,7 @@ fn vacant_without(vacant_from: u8, number: u8) -> u8
     }
 }
 
-/// What is left of a quantum after so many rounds of one job, each with its tick, when it is next
+/// What is left of a job's quantum after so many rounds in a row, each with its tick, when the job is next
 /// again.
 #[inline(always)]
 fn left_after(quantum: u8, left: u8, rounds: u32) -> u8
@@ -173,7 +175,7 @@ fn left_after(quantum: u8, left: u8, rounds: u32) -> u8
     quantum - ((rounds - first) % u32::from(quantum)) as u8
 }
 
-/// A tick goes by for all jobs. Whether ticks still count for one.
+/// Makes every sleep one tick shorter. Returns whether ticks still count for a job.
 fn tick_all(jobs: &mut [Option<Job>]) -> bool
     ensures jobs { jobs.new ≡ map (option_map ticked_job) jobs.old }
     ensures sleepers { result ≡ list_any is_sleeper jobs.new }
@@ -186,7 +188,7 @@ fn tick_all(jobs: &mut [Option<Job>]) -> bool
     jobs.iter().any(|slot| is_sleeper(slot))
 }
 
-/// A set of jobs with one job more.
+/// A set of jobs, and one job more.
 fn with_member(jobs: u64, job: u8) -> u64
     requires { job ≤ JOBS }
     ensures { (n : ℕ) → is_among result n ≡ (is_among jobs n || n == job) }
@@ -194,8 +196,8 @@ fn with_member(jobs: u64, job: u8) -> u64
     jobs | 1 << job
 }
 
-/// A tick of the limit of the job at a place, if it is there and waits for its request. Whether the
-/// limit ends.
+/// Makes the limit of the job in a slot one tick shorter, if it is there and waits for a grant. Returns
+/// whether the limit ends.
 fn expire_slot<L: LockTable>(number: u8, slot: &mut Option<Job>, locks: &L) -> bool
     ensures slot { slot.new ≡ option_map (limited_job (is_waiting_job (L.requests locks.now) number)) slot.old }
     ensures ended { result ≡ (is_waiting_job (L.requests locks.now) number && is_last_tick slot.old) }
@@ -203,13 +205,14 @@ fn expire_slot<L: LockTable>(number: u8, slot: &mut Option<Job>, locks: &L) -> b
     let Some(job) = slot else {
         return false;
     };
-    if !job.has_limit() || !locks.waiting(number) {
+    if !job.has_limit() || !locks.is_waiting(number) {
         return false;
     }
     job.tick_limit()
 }
 
-/// A tick of all limits, out of line, since there rarely is one. The jobs whose limits end.
+/// Makes all limits one tick shorter. Returns the set of jobs whose limits end. It is not inlined, since
+/// limits are rare.
 #[inline(never)]
 fn expire_all<L: LockTable>(jobs: &mut [Option<Job>], locks: &L) -> u64
     requires { length jobs.old ≤ JOBS + 1 }
@@ -225,7 +228,7 @@ fn expire_all<L: LockTable>(jobs: &mut [Option<Job>], locks: &L) -> u64
     ended
 }
 
-/// CTRL-C at a line, for all jobs.
+/// Stops the job at a line for CTRL-C.
 fn break_all(line: LineNumber, jobs: &mut [Option<Job>])
     ensures { jobs.new ≡ map (option_map (broken_job line)) jobs.old }
 {
@@ -236,7 +239,7 @@ fn break_all(line: LineNumber, jobs: &mut [Option<Job>])
     }
 }
 
-/// The job at a place starts, or goes on where it was, if it is there and stopped.
+/// Starts the job in a slot, or lets it go on where it was, if it is there and stopped.
 fn resume_slot(slot: &mut Option<Job>, from_start: bool) -> Result<(), JobError>
     ensures answer { result ≡ standing slot.old }
     ensures ok { OnOk result (slot.new ≡ option_map (resumed_job from_start) slot.old) }
@@ -262,7 +265,7 @@ impl JobTable {
         ensures { result ≡ no_jobs }
     {
         JobTable {
-            jobs: [None; PLACES],
+            jobs: [None; JOB_SLOTS],
             current: 0,
             left: 0,
             sleepers: false,
@@ -291,8 +294,8 @@ impl JobTable {
         }
     }
 
-    /// Whether the job of a number that has a place is ready. It is asked of one job after another. Where
-    /// many of them wait it is mostly for a lock: so that wait is looked at first.
+    /// Whether the job of a number from 0 to 63 is ready. The scheduler asks this of one job after another:
+    /// where many of them wait, it is mostly for a lock, so that wait comes first here.
     #[inline(always)]
     fn is_ready_at<L: LockTable>(&self, number: u8, lines: &Lines, locks: &L) -> bool
         requires { number ≤ JOBS }
@@ -301,13 +304,13 @@ impl JobTable {
         let slot = &self.jobs[number as usize];
         if let Some(job) = slot {
             if let Wait::Queue(..) = job.wait {
-                return !locks.waiting(number) && job.stop.is_none();
+                return !locks.is_waiting(number) && job.stop.is_none();
             }
         }
         is_ready_slot(number, slot, lines, locks)
     }
 
-    /// The first ready number from one on and below another.
+    /// The first ready number from `from` on and below `to`.
     #[inline(always)]
     fn first_between<L: LockTable>(&self, from: u8, to: u8, lines: &Lines, locks: &L) -> Option<u8>
         requires { to ≤ JOBS + 1 }
@@ -321,14 +324,14 @@ impl JobTable {
         None
     }
 
-    /// The first ready number of all, from one on in a circle.
+    /// The first ready number of all, from `from` on in a circle.
     #[inline(never)]
     fn first_ready<L: LockTable>(&self, from: u8, lines: &Lines, locks: &L) -> Option<u8>
         requires least { 1 ≤ from }
         requires most { from ≤ JOBS }
         ensures { result ≡ first_from (is_ready self.now.jobs lines.now (L.requests locks.now)) JOBS from }
     {
-        // It is no more, but so the compiler knows that each number has a place.
+        // `vacant_from` is no more anyway; this tells the compiler that each number has a slot.
         let end = self.vacant_from.min(JOBS + 1);
         match self.first_between(from, end, lines, locks) {
             Some(number) => Some(number),
@@ -354,8 +357,8 @@ impl JobTable {
         }
     }
 
-    /// A job is to run: it keeps what is left of its quantum where it is current, and gets a whole
-    /// one where nothing is left or another was current.
+    /// Makes a job the current one. It keeps what is left of its quantum where it was current already, and
+    /// gets a whole quantum where nothing is left or another job was current.
     #[inline(always)]
     pub fn choose(&mut self, number: u8, quantum: u8)
         ensures { self.new ≡ chosen self.old number quantum }
@@ -366,8 +369,7 @@ impl JobTable {
         }
     }
 
-    /// The first half of a tick: every sleep and the quantum that is left, where above 0, are one tick
-    /// shorter.
+    /// The first half of a tick: makes every sleep, and what is left of the quantum, one tick shorter.
     #[inline(always)]
     pub fn tick(&mut self)
         ensures { self.new ≡ ticked_table self.old }
@@ -378,9 +380,9 @@ impl JobTable {
         }
     }
 
-    /// The second half of a tick: a limit of a job, stopped or not, that has a blocking request which is
-    /// not granted is one tick shorter. Where it ends, the job goes on at the error return of its call,
-    /// with the code in its accumulator. The jobs whose limits end: bit 2^j stands for job j.
+    /// The second half of a tick: makes the limit of each job, stopped or not, that waits for a grant one tick
+    /// shorter. Where a limit ends, the job goes on at the error return of its call, with the code in the
+    /// call's accumulator. Returns the set of jobs whose limits end, as bit 2^j for job j.
     #[inline(always)]
     pub fn expire<L: LockTable>(&mut self, locks: &L) -> u64
         ensures table { self.new ≡ limited_table self.old (L.requests locks.now) }
@@ -393,8 +395,8 @@ impl JobTable {
         }
     }
 
-    /// A tick, both halves of it: the jobs whose limits end. Where ticks count for nobody only the quantum is
-    /// shorter.
+    /// Makes both halves of a tick. Returns the set of jobs whose limits end. Where ticks count for no job,
+    /// only the quantum gets shorter.
     #[inline(always)]
     pub fn pass_tick<L: LockTable>(&mut self, locks: &L) -> u64
         ensures table { self.new ≡ limited_table (ticked_table self.old) (L.requests locks.now) }
@@ -409,8 +411,8 @@ impl JobTable {
         }
     }
 
-    /// Whether a job that is next has just used up its quantum: then all others were asked before it,
-    /// and none is ready.
+    /// Whether the job that is next has just used up its quantum: then the scheduler asked all others before
+    /// it, and none is ready.
     #[inline(always)]
     pub fn is_alone(&self, number: u8) -> bool
         ensures { result ≡ is_alone self.now number }
@@ -418,8 +420,8 @@ impl JobTable {
         self.current == number && self.left == 0
     }
 
-    /// In how many of some rounds, which are steps with ticks or without, a job runs that was just
-    /// chosen, and was alone before or not, as long as it only computes: nothing comes between so many.
+    /// For how many of `most` rounds, steps with ticks or without, the job that was just chosen runs, as long
+    /// as it only computes: nothing comes between these. `alone` says whether it was alone before.
     #[inline(always)]
     pub fn span(&self, number: u8, most: u32, ticking: bool, alone: bool) -> u32
         requires number { number ≤ JOBS }
@@ -445,8 +447,8 @@ impl JobTable {
         }
     }
 
-    /// The current job has run for so many rounds in a row, each with its tick, which counts for nobody,
-    /// and is next again: where its quantum ended it has a whole one.
+    /// Takes the ticks of so many rounds in a row from the current job's quantum; where the quantum ends, the
+    /// job, which is next again, gets a whole one. The ticks count for no other job.
     #[inline(always)]
     pub fn spend(&mut self, rounds: u32, quantum: u8)
         ensures { self.new ≡ spent self.old quantum rounds }
@@ -454,14 +456,14 @@ impl JobTable {
         self.left = left_after(quantum, self.left, rounds);
     }
 
-    /// CTRL-C at a line: the job there stops, unless it is stopped already.
+    /// Stops the job at a line for CTRL-C, unless it is stopped already.
     pub fn break_at(&mut self, line: LineNumber)
         ensures { self.new ≡ broken_table self.old line }
     {
         break_all(line, &mut self.jobs);
     }
 
-    /// A stopped job starts, or goes on where it was.
+    /// Starts a stopped job, or lets it go on where it was.
     fn resume(&mut self, number: u8, from_start: bool) -> Result<(), JobError>
         ensures answer { result ≡ standing (job_at self.old.jobs number) }
         ensures ok { OnOk result (self.new ≡ with_change self.old number (resumed_job from_start)) }
@@ -474,8 +476,8 @@ impl JobTable {
         resume_slot(&mut jobs[number as usize], from_start)
     }
 
-    /// A stopped job starts: it goes on at its start address, waits for nothing and has no vector.
-    /// `NoSuchJob` where there is none, `NotStopped` where it is not stopped.
+    /// Starts a stopped job: it goes on at its start address, waits for nothing and has no vector.
+    /// `NoSuchJob` where it is not there, `NotStopped` where it is not stopped; then nothing changes.
     pub fn start(&mut self, number: u8) -> Result<(), JobError>
         ensures answer { result ≡ standing (job_at self.old.jobs number) }
         ensures ok { OnOk result (self.new ≡ with_change self.old number started_job) }
@@ -484,8 +486,8 @@ impl JobTable {
         self.resume(number, true)
     }
 
-    /// A stopped job continues: its program counter and its wait stay. `NoSuchJob` where there is
-    /// none, `NotStopped` where it is not stopped.
+    /// Lets a stopped job go on: its program counter and its wait stay. `NoSuchJob` where it is not there,
+    /// `NotStopped` where it is not stopped; then nothing changes.
     pub fn go_on(&mut self, number: u8) -> Result<(), JobError>
         ensures answer { result ≡ standing (job_at self.old.jobs number) }
         ensures ok { OnOk result (self.new ≡ with_change self.old number going_on) }
@@ -494,7 +496,7 @@ impl JobTable {
         self.resume(number, false)
     }
 
-    /// Puts a job at a number.
+    /// Gives a number a job.
     pub fn place(&mut self, number: u8, job: Job)
         requires { number ≤ JOBS }
         ensures { self.new ≡ with_job self.old number (Some job) }
@@ -504,7 +506,7 @@ impl JobTable {
         self.jobs[number as usize] = Some(job);
     }
 
-    /// Takes the job of a number away; no quantum is left where it was current.
+    /// Takes the job of a number away; where it was current, nothing is left of the quantum.
     pub fn remove(&mut self, number: u8)
         requires { number ≤ JOBS }
         ensures { self.new ≡ table_without self.old number }

@@ -6,14 +6,13 @@ ghost use Rattle.job_sched.specs.declared.time_of_day.TheConstants.{TICKS_A_DAY}
 
 use std::marker::Model;
 
-/// The ticks of a second.
+/// How many ticks a second has.
 pub const TICKS_A_SECOND: u32 = 60;
 
-/// The ticks of a day.
+/// How many ticks a day has.
 pub const TICKS_A_DAY: u32 = 86_400 * TICKS_A_SECOND;
 
-/// The time of day in ticks of a sixtieth of a second since midnight, which contracts see as their
-/// number.
+/// The time of day, in ticks of a sixtieth of a second since midnight. Contracts see the number of ticks.
 #[derive(Clone, Copy, Debug, PartialEq, Eq)]
 pub struct TimeOfDay {
     ticks: u32,
@@ -57,7 +56,7 @@ impl TimeOfDay {
         self.ticks * 50 / 3
     }
 
-    /// Goes on by a tick; after the last tick of a day comes midnight.
+    /// Advances by a tick; after the last tick of a day comes midnight.
     #[inline(always)]
     pub fn advance(&mut self)
         ensures { self.new ≡ (self.old + 1) % TICKS_A_DAY }
@@ -66,7 +65,7 @@ impl TimeOfDay {
         self.ticks = if next == TICKS_A_DAY { 0 } else { next };
     }
 
-    /// Goes on by so many ticks.
+    /// Advances by so many ticks.
     #[inline(always)]
     pub fn advance_by(&mut self, ticks: u32)
         ensures { self.new ≡ later self.old ticks }

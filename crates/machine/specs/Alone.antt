@@ -1,8 +1,9 @@
 -- A job among others is a job alone (this project's profile).
-use Rattle.std.specs.Prelude.{ℕ, ◌≡◌, suc, zero, ◌==◌, ◌||◌, ◌&&◌, Bool, true, false, not, if◌then◌else◌, List, [], ◌∷◌, ◌++◌, Option, Some, None, ⊤}
+use Rattle.std.specs.Prelude.{ℕ, ◌≡◌, suc, zero, ◌==◌, ◌||◌, ◌&&◌, Bool, true, false, not, if◌then◌else◌, List, [], ◌∷◌, ◌++◌, Option, Some}
+use Rattle.std.specs.Prelude.{None, ⊤}
 use Rattle.word36.specs.declared.sizes.TheConstants.{OUTPUT_RING}
 use Rattle.ka_cpu.specs.Exec.{exec}
-use Rattle.ka_cpu.specs.Places.{word_below}
+use Rattle.ka_cpu.specs.Memory.{word_below}
 use Rattle.ka_cpu.specs.declared.outcome.CallKind.{CallKind}
 use Rattle.ka_cpu.specs.declared.outcome.CallKind.TheVariants.{Calli, Ttcall}
 use Rattle.ka_cpu.specs.declared.outcome.Outcome.{Outcome}
@@ -13,14 +14,13 @@ use Rattle.tty_lines.specs.Rings.{output_of}
 use Rattle.job_sched.specs.Limits.{limit_of}
 use Rattle.job_sched.specs.Tables.{job_at}
 use Rattle.job_sched.specs.declared.job.Job.{Job}
-use Rattle.job_sched.specs.declared.job.Wait.{Wait}
-use Rattle.job_sched.specs.declared.job.Wait.TheVariants.{None as Nothing, Sleep, Char, Line, Room, Queue}
+use Rattle.uuo_calls.specs.Laws.{is_terminal_wait}
 use Rattle.uuo_calls.specs.Performed.{World}
 use Rattle.uuo_calls.specs.TerminalRows.{low_character, text_from}
 use Rattle.machine.specs.declared.event.Answer.{Answer}
-use Rattle.machine.specs.declared.event.Answer.TheVariants.{Ran, Idle, Done, Text, JobNumber, Refused}
+use Rattle.machine.specs.declared.event.Answer.TheVariants.{Ran, Text}
 use Rattle.machine.specs.declared.event.Event.{Event}
-use Rattle.machine.specs.declared.event.Event.TheVariants.{Step, Tick, Typed, Take, Login, Start, Continue, Kill, Restart}
+use Rattle.machine.specs.declared.event.Event.TheVariants.{Take, Start, Kill, Restart}
 use Rattle.machine.specs.Machine.{S, Made, happens, after}
 use Rattle.machine.specs.Safe.{wait_of}
 
@@ -35,16 +35,16 @@ abbrev pub is_output : CallKind → ℕ → Bool
 is_output Ttcall ac = (ac == 1) || (ac == 3)
 is_output Calli ac = false
 
--- what such a call puts out, if its places are legal
+-- what such a call puts out, if its addresses are legal
 abbrev pub text_of : ℕ → Regs → List ℕ → ℕ → Option (List ℕ)
 text_of ac g core e = if ac == 1 then low_character (word_below g.ac core e) else text_from g.ac core e [] OUTPUT_RING
 
--- the text goes out, without any limit of room, and the job goes on; where a place is not legal it stays at its call
+-- the text goes out, however long it is, and the job goes on; where an address is not legal the job stays at its call
 abbrev pub printed : Solo → Regs → List ℕ → Option (List ℕ) → Solo
 printed x g core (Some text) = record { regs = g; core = core; output = x.output ++ text }
 printed x g core None = x
 
--- what an outcome of the processor leaves
+-- the job alone after an outcome of the processor
 abbrev pub solo_after : Solo → Regs → List ℕ → Outcome → Solo
 solo_after x g core outcome.Done = record { regs = g; core = core; output = x.output }
 solo_after x g core (outcome.Stop reason) = record { regs = g; core = core; output = x.output }
@@ -59,7 +59,7 @@ abbrev pub solo : Solo → ℕ → Solo
 solo x zero = x
 solo x (suc k) = solo (solo_step x) k
 
--- an outcome that calls the monitor for output only, or not at all
+-- whether an outcome calls the monitor for output only, or not at all
 abbrev pub is_allowed : Outcome → Bool
 is_allowed (outcome.Call kind ac e) = is_output kind ac
 is_allowed outcome.Done = true
@@ -70,19 +70,14 @@ abbrev pub OnlyPrints : Solo → ℕ → Type 0
 OnlyPrints x zero = ⊤
 OnlyPrints x (suc k) = (is_allowed (exec x.regs x.core).outcome ≡ true) × OnlyPrints (solo_step x) k
 
--- an event that neither starts nor kills a job
+-- whether an event neither starts nor kills a job
 abbrev pub spares : ℕ → Event → Bool
 spares job (Kill n) = not (n == job)
 spares job (Start n) = not (n == job)
 spares job Restart = false
-spares job Step = true
-spares job Tick = true
-spares job (Typed line c) = true
-spares job (Take line n) = true
-spares job (Login line image) = true
-spares job (Continue n) = true
+spares job _ = true
 
--- so is every event of a run
+-- no event of a run starts or kills a job
 abbrev pub Spares : ℕ → List Event → Type 0
 Spares job [] = ⊤
 Spares job (e ∷ es) = (spares job e ≡ true) × Spares job es
@@ -90,26 +85,13 @@ Spares job (e ∷ es) = (spares job e ≡ true) × Spares job es
 -- whether an answer is Ran of a job
 abbrev pub is_ran : ℕ → Answer → Bool
 is_ran job (Ran n) = n == job
-is_ran job Idle = false
-is_ran job Done = false
-is_ran job (Text text) = false
-is_ran job (JobNumber n) = false
-is_ran job (Refused r) = false
+is_ran job _ = false
 
--- whether a job waits for its terminal: then its last step was empty
-abbrev pub is_for_terminal : Wait → Bool
-is_for_terminal Char = true
-is_for_terminal Line = true
-is_for_terminal (Room places) = true
-is_for_terminal Nothing = false
-is_for_terminal (Sleep ticks) = false
-is_for_terminal (Queue limit ac) = false
-
--- whether an event was a step of the job, and no empty one
+-- whether an event was a step of the job, and no empty one, after which the job waits for its terminal
 abbrev pub advances : ℕ → Made → Bool
-advances job m = is_ran job m.answer && not (is_for_terminal (wait_of (job_at m.state.world.table.jobs job)))
+advances job m = is_ran job m.answer && not (is_terminal_wait (wait_of (job_at m.state.world.table.jobs job)))
 
--- how many of the events were
+-- how many of the events of a run were
 abbrev pub steps_of : ℕ → S → List Event → ℕ
 steps_of job s [] = 0
 steps_of job s (e ∷ es) =
@@ -118,25 +100,14 @@ steps_of job s (e ∷ es) =
 -- the characters of an answer
 abbrev pub text_in : Answer → List ℕ
 text_in (Text text) = text
-text_in (Ran n) = []
-text_in Idle = []
-text_in Done = []
-text_in (JobNumber n) = []
-text_in (Refused r) = []
+text_in _ = []
 
 -- what an event and its answer take from a line's output
 abbrev pub taken_by : ℕ → Event → Answer → List ℕ
 taken_by line (Take l n) a = if l == line then text_in a else []
-taken_by line Step a = []
-taken_by line Tick a = []
-taken_by line (Typed l c) a = []
-taken_by line (Login l image) a = []
-taken_by line (Start n) a = []
-taken_by line (Continue n) a = []
-taken_by line (Kill n) a = []
-taken_by line Restart a = []
+taken_by line _ a = []
 
--- the texts that were taken from a line, one behind the other
+-- the texts that a run takes from a line, one after the other
 abbrev pub taken_from : ℕ → S → List Event → List ℕ
 taken_from line s [] = []
 taken_from line s (e ∷ es) = taken_by line e (happens s e).answer ++ taken_from line (happens s e).state es
@@ -161,4 +132,5 @@ abbrev pub RunsAlone : S → List Event → Type 0
 RunsAlone s es =
     (n : ℕ) (j : Job) → job_at s.world.table.jobs n ≡ Some j → j.interrupts.on ≡ false → limit_of j.wait ≡ 0 → Spares n es
     → OnlyPrints (solo_of s.world n j) (steps_of n s es)
-    → IsAsAlone (after es s).world n j.line (output_of s.world.lines j.line) (taken_from j.line s es) (solo (solo_of s.world n j) (steps_of n s es))
+    → IsAsAlone (after es s).world n j.line (output_of s.world.lines j.line) (taken_from j.line s es)
+    (solo (solo_of s.world n j) (steps_of n s es))

@@ -1,4 +1,4 @@
--- Rounds that are all of one job, up to the first behind which it stands at one of some places (this project's profile).
+-- Rounds of one job, up to the first after which its PC is one of some addresses (this project's profile).
 use Rattle.std.specs.Prelude.{ℕ, ◌≡◌, ◌≢◌, ◌<◌, ◌≤◌, ◌==◌, Bool, false, List, Option, Some, None}
 use Rattle.std.specs.List.{list_any}
 use Rattle.ka_cpu.specs.Runs.{ran}
@@ -16,15 +16,15 @@ abbrev pub pc_of : Option Job → Option ℕ
 pc_of (Some j) = Some j.regs.pc
 pc_of None = None
 
--- where job n stands, if it is there
+-- the PC of job n, if it is there
 abbrev pub pc_in : S → ℕ → Option ℕ
 pc_in s n = pc_of (job_at s.world.table.jobs n)
 
--- whether a place is one of some
+-- whether an address is one of some
 abbrev pub is_among : List ℕ → ℕ → Bool
-is_among places a = list_any (λ p. p == a) places
+is_among addresses a = list_any (λ b. b == a) addresses
 
--- where the job of some rounds stands, if one ran
+-- the PC of the job of some rounds, if a job ran in them
 abbrev pub pc_on : S → Option ℕ → Option ℕ
 pc_on s (Some n) = pc_in s n
 pc_on s None = None
@@ -33,12 +33,12 @@ abbrev pub does_end : (ℕ → Bool) → Option ℕ → Bool
 does_end ends (Some a) = ends a
 does_end ends None = false
 
--- none of so many instructions but the last one leaves the PC where the rounds end
+-- of n instructions only the last can leave the PC at an address where the rounds end
 abbrev pub NoneOver : (ℕ → Bool) → Regs → List ℕ → ℕ → Type 0
 NoneOver ends g core n = (k : ℕ) → 1 ≤ k → k < n → ends (ran k g core).after.regs.pc ≡ false
 
--- t stands between two of some rounds that begin in s: the same job is next, it stands nowhere where the rounds end, and
--- each other job stands where it stood
+-- t is a state between two rounds of a job that began in s: the same job is next, its PC is not where the rounds end, and no
+-- other job's PC has changed
 pub record Between (s t : S) (job : Option ℕ) (ends : ℕ → Bool) : Type 0 where
   pub next : next_in t ≡ job
   pub on : does_end ends (pc_on t job) ≡ false

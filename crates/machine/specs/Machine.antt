@@ -1,4 +1,5 @@
--- The machine: its state, what each event does, and whole runs (this project's profile; calls and waits are those of the TOPS-10 Monitor Calls Manual).
+-- The machine: its state, what each event does, and whole runs (this project's profile; calls and waits are those of the
+-- TOPS-10 Monitor Calls Manual).
 use Rattle.std.specs.List.{list_any}
 use Rattle.std.specs.Prelude.{ℕ, ◌+◌, ◌%◌, ◌==◌, nat_le, min, ◌++◌, take, drop, length, if◌then◌else◌, List, []}
 use Rattle.std.specs.Prelude.{◌∷◌, replicate, Option, Some, None, Result, Ok, Err}
@@ -23,12 +24,13 @@ use Rattle.machine.specs.declared.event.Answer.TheVariants.{Ran, Idle, Done, Tex
 use Rattle.machine.specs.declared.event.Event.{Event}
 use Rattle.machine.specs.declared.event.Event.TheVariants.{Step, Tick, Typed, Take, Login, Start, Continue, Kill, Restart}
 use Rattle.machine.specs.declared.event.RefusedEvent.{RefusedEvent}
-use Rattle.machine.specs.declared.event.RefusedEvent.TheVariants.{NoLine, LineBusy, NoJobNumber, NoCore, NoSuchJob, NotStopped, Full, BadImage}
+use Rattle.machine.specs.declared.event.RefusedEvent.TheVariants.{NoLine, LineBusy, NoJobNumber, NoCore, NoSuchJob, NotStopped, Full}
+use Rattle.machine.specs.declared.event.RefusedEvent.TheVariants.{BadImage}
 use Rattle.machine.specs.declared.sizes.TheConstants.{INTERRUPT_CHARACTER, LOGIN_QUOTA}
-use Rattle.machine.specs.Images.{image_top, blocks_for, image_places}
+use Rattle.machine.specs.Images.{image_top, blocks_for, image_memory}
 use Rattle.machine.specs.Turns.{Turn, turn_of}
 
--- the state: what calls work on, the time of day in ticks, the ticks of a quantum, and how many blocks there are
+-- the state: what calls work on, the time of day in ticks, the ticks of a quantum, and the blocks of core
 pub record S : Type 0 where
   pub world : World
   pub time : ℕ
@@ -40,7 +42,7 @@ pub record Made : Type 0 where
   pub state : S
   pub answer : Answer
 
--- an answer alone
+-- an answer, and no change
 abbrev pub unchanged : S → Answer → Made
 unchanged s a = record { state = s; answer = a }
 
@@ -48,7 +50,7 @@ unchanged s a = record { state = s; answer = a }
 abbrev pub refused : S → RefusedEvent → Made
 refused s r = unchanged s (Refused r)
 
--- another world, answered Done
+-- another world, with the answer Done
 abbrev pub made : S → World → Made
 made s w = record { state = record s { world = w }; answer = Done }
 
@@ -56,7 +58,7 @@ made s w = record { state = record s { world = w }; answer = Done }
 abbrev pub with_turn : World → ℕ → Turn → World
 with_turn w n t = record w { table = with_job w.table n (Some t.job); requests = t.requests; cores = t.cores }
 
--- the call of a turn is performed in the same step
+-- the call of a turn is performed, in the same step
 abbrev pub called : World → ℕ → ℕ → Option MonitorCall → World
 called w time n (Some c) = (performed w time n c).world
 called w time n None = w
@@ -65,7 +67,7 @@ called w time n None = w
 abbrev pub after_turn : World → ℕ → ℕ → Turn → World
 after_turn w time n t = called (with_turn w n t) time n t.call
 
--- the wait of the job that runs is over
+-- the job waits for nothing any more
 abbrev pub awake : Job → Job
 awake j = record j { wait = Nothing }
 
@@ -74,7 +76,7 @@ abbrev pub ran : World → ℕ → ℕ → Option Job → World
 ran w time n (Some j) = after_turn w time n (turn_of n (awake j) w.cores w.requests)
 ran w time n None = w
 
--- the step of the job that is next, which becomes the current one
+-- a step: the job that is next becomes the current one and takes its turn
 abbrev pub stepped : S → Option ℕ → Made
 stepped s (Some n) =
     record {
@@ -86,22 +88,22 @@ stepped s (Some n) =
     }
 stepped s None = unchanged s Idle
 
--- a tick of the limits: each is one tick shorter, and the requests by which the jobs wait whose limits end leave together,
--- all judged by the list before any of them left; what they kept others from is granted then
+-- a tick of the limits: each is one tick shorter, and the requests of the jobs whose limits end leave together, each judged by
+-- the list before any of them left; the requests that waited for these are granted then, where nothing else is in their way
 abbrev pub limited : World → World
 limited w = record w {
   table = limited_table w.table w.requests;
   requests = withdrawn_where w.requests (expires w.requests w.table.jobs);
 }
 
--- a tick: every sleep and the quantum are one tick shorter, the time of day goes on, and then the limits are looked at
+-- a tick: every sleep and the quantum are one tick shorter, the time of day goes on, and then the limits are one tick shorter
 abbrev pub ticked : S → Made
 ticked s = record {
   state = record s { world = limited (record s.world { table = ticked_table s.world.table }); time = (s.time + 1) % TICKS_A_DAY };
   answer = Done;
 }
 
--- a job is killed: its requests, its core and its line are free
+-- a job is killed: its requests leave, and its core and its line are free
 abbrev pub killed : S → ℕ → Option Job → Made
 killed s n (Some j) = made s (without_job s.world n)
 killed s n None = refused s NoSuchJob
@@ -111,12 +113,12 @@ abbrev pub refusal_of : JobError → RefusedEvent
 refusal_of error.NoSuchJob = NoSuchJob
 refusal_of error.NotStopped = NotStopped
 
--- another world where the job is there and stopped, and a refusal otherwise
+-- another world, where the job is there and stopped; a refusal otherwise
 abbrev pub made_if : S → World → Result (Unit {0}) JobError → Made
 made_if s w (Ok x) = made s w
 made_if s w (Err e) = refused s (refusal_of e)
 
--- a job starts, and a blocking request that is not granted leaves
+-- a job starts, and its blocking request that is not granted leaves
 abbrev pub started : S → ℕ → Made
 started s n =
     made_if s
@@ -128,7 +130,7 @@ abbrev pub continued : S → ℕ → Made
 continued s n =
     made_if s (record s.world { table = with_change s.world.table n going_on }) (standing (job_at s.world.table.jobs n))
 
--- all is gone but the shared words
+-- everything is gone but the shared words and the time of day
 abbrev pub restarted : S → Made
 restarted s = made s (record s.world { table = no_jobs; lines = all_clear; requests = []; cores = all_free s.blocks })
 
@@ -149,24 +151,27 @@ abbrev pub taken : S → ℕ → ℕ → Made
 taken s line n =
     if nat_le LINES line then refused s NoLine else
     record {
-      state = record s { world = record s.world { lines = with_output s.world.lines line (drop (min n TAKEN_AT_ONCE) (output_of s.world.lines line)) } };
+      state = record s {
+        world =
+            record s.world { lines = with_output s.world.lines line (drop (min n TAKEN_AT_ONCE) (output_of s.world.lines line)) };
+      };
       answer = Text (take (min n TAKEN_AT_ONCE) (output_of s.world.lines line));
     }
 
--- how many requests a job may have when it begins: all that the lock table holds, if these are fewer
+-- how many requests a new job may have: LOGIN_QUOTA, or all that the lock table holds if these are fewer
 abbrev pub first_quota : ℕ → ℕ
 first_quota size = min LOGIN_QUOTA size
 
--- the world with a job that began with an image
+-- the world with a new job that has an image
 abbrev pub with_image : World → ℕ → ℕ → List (ℕ × ℕ) → ℕ → ℕ → World
 with_image w n line words start blocks =
-    let p = image_places words start blocks in
+    let p = image_memory words start blocks in
     record w {
       table = with_job w.table n (Some (new_job line p.regs start (first_quota w.size)));
       cores = with_core (taken_core w.cores n blocks) n p.core;
     }
 
--- the job gets a number and core, if there are any
+-- the new job gets a number and its core, if there are any
 abbrev pub admitted : S → ℕ → List (ℕ × ℕ) → ℕ → ℕ → Option ℕ → Made
 admitted s line words start blocks (Some n) =
     if nat_le blocks s.world.cores.free
@@ -174,12 +179,12 @@ admitted s line words start blocks (Some n) =
     else refused s NoCore
 admitted s line words start blocks None = refused s NoJobNumber
 
--- its image is looked at
+-- the new job's image is examined, and then the job is admitted
 abbrev pub examined : S → ℕ → List (ℕ × ℕ) → ℕ → Option ℕ → Made
 examined s line words start (Some top) = admitted s line words start (blocks_for top) (free_number s.world.table.jobs)
 examined s line words start None = refused s BadImage
 
--- a login: its line is looked at first, then the image, the numbers and the free blocks
+-- a login: its line is examined first, then the image, then whether a number and the blocks are free
 abbrev pub logged_in : S → ℕ → List (ℕ × ℕ) → ℕ → Made
 logged_in s line words start =
     if nat_le LINES line then refused s NoLine else
@@ -208,10 +213,17 @@ abbrev pub answers : List Event → S → List Answer
 answers [] s = []
 answers (e ∷ es) s = (happens s e).answer ∷ answers es (happens s e).state
 
--- a machine that was just made, whose lock table holds so many requests
+-- a new machine, whose lock table holds so many requests
 abbrev pub at_boot : ℕ → ℕ → ℕ → S
 at_boot size blocks quantum = record {
-  world = record { size = size; table = no_jobs; lines = all_clear; requests = []; cores = all_free blocks; shared = replicate DATA_WORDS 0 };
+  world = record {
+    size = size;
+    table = no_jobs;
+    lines = all_clear;
+    requests = [];
+    cores = all_free blocks;
+    shared = replicate DATA_WORDS 0;
+  };
   time = 0;
   quantum = quantum;
   blocks = blocks;

@@ -1,4 +1,4 @@
--- Who owns a key goes on owning it, but for events that give it up (ENQ/DEQ of the TOPS-10 Monitor Calls Manual, in this
+-- A job owns a key until an event gives it up (ENQ/DEQ of the TOPS-10 Monitor Calls Manual, in this
 -- project's profile).
 use Rattle.std.specs.Prelude.{ℕ, ◌≡◌, Bool, true, false, Option, Some, None, ⊤}
 use Rattle.lock_queue.specs.declared.key.Key.{Key}
@@ -8,40 +8,21 @@ use Rattle.job_sched.specs.declared.job.Job.{Job}
 use Rattle.uuo_calls.specs.Performed.{World}
 use Rattle.uuo_calls.specs.Services.{service_of}
 use Rattle.uuo_calls.specs.declared.service.Service.{Service}
-use Rattle.uuo_calls.specs.declared.service.Service.TheVariants.{Reset, Core, Exit, Monrt, Logout, Mstime, Pjob, Sleep, Piini, Pisys, Debrk, Enq, Deq, Enqc}
-use Rattle.uuo_calls.specs.declared.service.Service.TheVariants.{Datrd, Datwr, Input, Outchr, Outstr, Clrbfi, Clrbfo, Skpin, Unlisted}
+use Rattle.uuo_calls.specs.declared.service.Service.TheVariants.{Reset, Exit, Logout, Deq}
 use Rattle.machine.specs.declared.event.Answer.TheVariants.{Ran}
 use Rattle.machine.specs.declared.event.Event.{Event}
-use Rattle.machine.specs.declared.event.Event.TheVariants.{Step, Tick, Typed, Take, Login, Start, Continue, Kill, Restart}
+use Rattle.machine.specs.declared.event.Event.TheVariants.{Step, Kill, Restart}
 use Rattle.uuo_calls.specs.declared.call.MonitorCall.{MonitorCall}
 use Rattle.machine.specs.Machine.{S, awake, happens}
 use Rattle.machine.specs.Turns.{turn_of}
 
--- DEQ., RESET, EXIT 0 and LOGOUT
+-- the calls that give locks up: DEQ., RESET, EXIT 0 and LOGOUT
 abbrev pub is_release : Service → Bool
 is_release Reset = true
-is_release Core = false
 is_release Exit = true
-is_release Monrt = false
 is_release Logout = true
-is_release Mstime = false
-is_release Pjob = false
-is_release Sleep = false
-is_release Piini = false
-is_release Pisys = false
-is_release Debrk = false
-is_release Enq = false
 is_release Deq = true
-is_release Enqc = false
-is_release Datrd = false
-is_release Datwr = false
-is_release (Input unit skips) = false
-is_release Outchr = false
-is_release Outstr = false
-is_release Clrbfi = false
-is_release Clrbfo = false
-is_release (Skpin unit) = false
-is_release Unlisted = false
+is_release _ = false
 
 -- whether a turn makes such a call
 abbrev pub releases : Option MonitorCall → Bool
@@ -53,22 +34,17 @@ abbrev pub turn_releases : World → ℕ → Option Job → Bool
 turn_releases w n (Some j) = releases (turn_of n (awake j) w.cores w.requests).call
 turn_releases w n None = false
 
--- the event is a kill of that job, or a restart, or a step that is answered Ran of that job, in which it makes such a call
+-- the event is a kill of that job, a restart, or a step with the answer Ran of that job, in which it makes such a call
 abbrev pub GivesUp : S → Event → ℕ → Type 0
 GivesUp s (Kill n) job = n ≡ job
 GivesUp s Restart job = ⊤
-GivesUp s Tick job = ⊥
-GivesUp s (Typed line c) job = ⊥
-GivesUp s (Take line n) job = ⊥
-GivesUp s (Login line image) job = ⊥
-GivesUp s (Start n) job = ⊥
-GivesUp s (Continue n) job = ⊥
 GivesUp s Step job =
     ((happens s Step).answer ≡ Ran job)
     × (turn_releases s.world job (job_at s.world.table.jobs job) ≡ true)
+GivesUp s _ job = ⊥
 
--- where a job owned a key before an event and not after it, the event gives it up: the requests that leave at a tick or a
--- start are granted to nobody, so no owner loses by these
+-- where a job owned a key before an event and does not own it after, the event gives it up; the requests that leave at a tick
+-- or a start are not granted, so no owner loses a key by these
 abbrev pub KeepsOwners : S → Event → Type 0
 KeepsOwners s e =
     (job : ℕ) (key : Key) → owns s.world.requests job key ≡ true

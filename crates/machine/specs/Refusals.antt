@@ -1,9 +1,10 @@
--- Numbers of the refusals (this project's profile).
+-- The numbers of the refusals (this project's profile).
 use Rattle.std.specs.Prelude.{ℕ}
 use Rattle.machine.specs.declared.event.RefusedEvent.{RefusedEvent}
-use Rattle.machine.specs.declared.event.RefusedEvent.TheVariants.{NoLine, LineBusy, NoJobNumber, NoCore, NoSuchJob, NotStopped, Full, BadImage}
+use Rattle.machine.specs.declared.event.RefusedEvent.TheVariants.{NoLine, LineBusy, NoJobNumber, NoCore, NoSuchJob, NotStopped, Full}
+use Rattle.machine.specs.declared.event.RefusedEvent.TheVariants.{BadImage}
 
--- the number that scripts write
+-- the number in scripts
 abbrev pub code_of : RefusedEvent → ℕ
 code_of NoLine = 1
 code_of LineBusy = 2

@@ -1,7 +1,7 @@
--- Steps in a row, each with a tick behind it or without (this project's profile).
+-- Steps in a row, with or without a tick after each (this project's profile).
 use Rattle.std.specs.Prelude.{ℕ, suc, zero, Bool, true, false, List, [], ◌∷◌, count_by}
 use Rattle.machine.specs.declared.event.Answer.{Answer}
-use Rattle.machine.specs.declared.event.Answer.TheVariants.{Ran, Idle, Done, Text, JobNumber, Refused}
+use Rattle.machine.specs.declared.event.Answer.TheVariants.{Ran}
 use Rattle.machine.specs.declared.event.Event.{Event}
 use Rattle.machine.specs.declared.event.Event.TheVariants.{Step, Tick}
 use Rattle.machine.specs.Machine.{answers}
@@ -14,12 +14,8 @@ rounds (suc k) false = Step ∷ rounds k false
 
 abbrev pub has_run : Answer → Bool
 has_run (Ran n) = true
-has_run Idle = false
-has_run Done = false
-has_run (Text text) = false
-has_run (JobNumber n) = false
-has_run (Refused r) = false
+has_run _ = false
 
--- how many of the events were answered Ran
+-- how many of some answers are Ran
 abbrev pub runs_in : List Answer → ℕ
 runs_in answers = count_by has_run answers

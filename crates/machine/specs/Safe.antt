@@ -14,14 +14,14 @@ use Rattle.job_sched.specs.declared.job.Wait.{Wait}
 use Rattle.job_sched.specs.declared.job.Wait.TheVariants.{None as Nothing}
 use Rattle.machine.specs.Machine.{S}
 
--- what a job waits for
+-- what the job of a slot waits for
 abbrev pub wait_of : Option Job → Wait
 wait_of (Some j) = j.wait
 wait_of None = Nothing
 
 -- the jobs and their core
 pub record Housed (jobs : List (Option Job)) (cores : Cores) : Type 0 where
-  pub places : length jobs ≡ JOBS + 1
+  pub slots : length jobs ≡ JOBS + 1
   -- no job has the number 0
   pub none_0 : job_at jobs 0 ≡ None
   pub store : IsStore cores
@@ -52,15 +52,16 @@ LinesApart jobs = (a b line : ℕ) → line_of (job_at jobs a) ≡ Some line →
 abbrev pub LinesBelow : List (Option Job) → Type 0
 LinesBelow jobs = (a line : ℕ) → line_of (job_at jobs a) ≡ Some line → line < LINES
 
--- a job's PC and its start are places of memory
+-- a job's PC and its start are addresses
 abbrev pub Placed : Option Job → Type 0
 Placed (Some j) = (j.regs.pc < 2 ^ 18) × (j.start < 2 ^ 18)
 Placed None = ⊤
 
--- the words of all jobs and those of the free blocks
+-- how many words all jobs and the free blocks have
 abbrev pub all_words : Cores → ℕ
 all_words cores = sum_by (λ words. length words) cores.cores + cores.free * BLOCK_WORDS
 
+-- the machine is safe
 pub record Safe (s : S) : Type 0 where
   pub housed : Housed s.world.table.jobs s.world.cores
   pub queued : Queued s.world.size s.world.table.jobs s.world.requests

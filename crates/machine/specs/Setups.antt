@@ -1,4 +1,4 @@
--- How large a machine is (this project's profile).
+-- The sizes of a machine (this project's profile).
 use Rattle.std.specs.Prelude.{ℕ, ◌≤◌}
 use Rattle.word36.specs.declared.sizes.TheConstants.{MOST_BLOCKS}
 use Rattle.machine.specs.declared.sizes.TheConstants.{MOST_QUANTUM}
@@ -8,7 +8,7 @@ pub record Setup : Type 0 where
   pub blocks : ℕ
   pub quantum : ℕ
 
--- those that a machine can have
+-- the sizes that a machine can have
 pub record IsSetup (blocks quantum : ℕ) : Type 0 where
   pub some_blocks : 1 ≤ blocks
   pub most_blocks : blocks ≤ MOST_BLOCKS

@@ -1,4 +1,4 @@
--- Some rounds of one job that only computes until the last of them, made at once (this project's profile).
+-- Some rounds of one job, made at once: it only computes in all of them but the last (this project's profile).
 use Rattle.std.specs.Prelude.{ℕ, ◌-◌, Bool, true, false, List, Option, Some, None}
 use Rattle.ka_cpu.specs.Runs.{Ran, ran}
 use Rattle.core_store.specs.Cores.{Cores, core_of}
@@ -12,12 +12,12 @@ use Rattle.uuo_calls.specs.Performed.{World}
 use Rattle.machine.specs.Machine.{S, awake, called, ticked, with_turn}
 use Rattle.machine.specs.Turns.{Turn, delivered, due, executed}
 
--- a job's turn that goes on over some rounds, and how many
+-- a job's turn that goes on over some rounds, and their number
 pub record Stretch : Type 0 where
   pub turn : Turn
   pub rounds : ℕ
 
--- some instructions, one a round
+-- a turn of some instructions, one a round
 abbrev pub stretch_by : ℕ → Job → Cores → List Request → Ran → Stretch
 stretch_by n j cores requests r = record { turn = executed n j cores requests r.after; rounds = r.steps }
 
@@ -29,12 +29,12 @@ stretched n k j cores requests None = stretch_by n j cores requests (ran k j.reg
 abbrev pub stretch_of : ℕ → ℕ → Job → Cores → List Request → Stretch
 stretch_of n k j cores requests = stretched n k j cores requests (due j.interrupts (pending requests n))
 
--- the table after so many rounds of the current job, where ticks go by, in which nobody sleeps and no limit runs
+-- the table after so many rounds of the current job, with ticks or without, in which nobody sleeps and no limit counts
 abbrev pub table_after : Table → ℕ → Bool → ℕ → Table
 table_after t quantum true k = spent t quantum k
 table_after t quantum false k = t
 
--- the time then
+-- the time of day then
 abbrev pub time_after : ℕ → Bool → ℕ → ℕ
 time_after time true k = later time k
 time_after time false k = time
@@ -45,7 +45,7 @@ pub record Stretched : Type 0 where
   pub time : ℕ
   pub rounds : ℕ
 
--- the world after so many rounds of the current job, in which nobody sleeps and no limit runs
+-- the world then
 abbrev pub passed : World → ℕ → Bool → ℕ → World
 passed w quantum ticking k = record w { table = table_after w.table quantum ticking k }
 
@@ -60,12 +60,12 @@ run_out w time quantum n ticking x = record {
   rounds = x.rounds;
 }
 
--- job n runs for at most k rounds: its wait is over
+-- job n runs for at most k rounds, and waits for nothing any more
 abbrev pub runs_on : World → ℕ → ℕ → ℕ → ℕ → Bool → Option Job → Stretched
 runs_on w time quantum n k ticking (Some j) = run_out w time quantum n ticking (stretch_of n k (awake j) w.cores w.requests)
 runs_on w time quantum n k ticking None = record { world = w; time = time; rounds = 1 }
 
--- a state after a tick, where ticks go by
+-- a state after a tick, where `ticking`; the same state otherwise
 abbrev pub ticked_if : Bool → S → S
 ticked_if true s = (ticked s).state
 ticked_if false s = s

@@ -1,4 +1,4 @@
--- Who waits for a grant.
+-- The jobs that wait for a grant.
 use Rattle.std.specs.Prelude.{ℕ, ◌≡◌, true, ◌↔◌, Option, Some, None}
 use Rattle.lock_queue.specs.Jobs.{is_waiting_job}
 use Rattle.job_sched.specs.Limits.{is_queue}
@@ -14,6 +14,6 @@ abbrev pub waiting_for : World → ℕ → Option Job → Wait
 waiting_for w n (Some j) = held_wait w.lines w.requests n j
 waiting_for w n None = Nothing
 
--- a job has a blocking request that is not granted exactly where its wait is for the grant of one and holds
+-- a job has a blocking request that is not granted exactly where it waits for a grant
 abbrev pub WaitsForGrants : World → Type 0
 WaitsForGrants w = (n : ℕ) → (is_waiting_job w.requests n ≡ true) ↔ (is_queue (waiting_for w n (job_at w.table.jobs n)) ≡ true)

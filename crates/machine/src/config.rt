@@ -1,4 +1,4 @@
-//! How large a machine is, and how long a quantum.
+//! The size of a machine, and the length of a quantum.
 ghost use Rattle.std.specs.Prelude.{◌≡◌, ◌≤◌, ◌↔◌, IsSome, IfSome};
 ghost use Rattle.machine.specs.Setups.{IsSetup};
 ghost use Rattle.machine.specs.declared.sizes.TheConstants.{MOST_QUANTUM};
@@ -29,7 +29,7 @@ impl Model for Config {
 }
 
 impl Config {
-    /// So many blocks and so many ticks; `None` where either is out of its range.
+    /// A configuration of `blocks` blocks and `quantum` ticks; `None` where either is out of its range.
     pub fn new(blocks: u32, quantum: u8) -> Option<Config>
         ensures cases { IsSome result ↔ IsSetup blocks quantum }
         ensures value { IfSome result (λ c. (c.blocks ≡ blocks) × (c.quantum ≡ quantum)) }

@@ -1,42 +1,41 @@
-//! Events and their answers.
+//! Events, and the machine's answers to them.
 ghost use Rattle.std.specs.Prelude.{◌≡◌};
 ghost use Rattle.machine.specs.Refusals.{code_of};
 
 use tty_lines::{Char7, TakenText};
 use word36::Image;
 
-/// What can happen to the machine (this project's profile). An event is the atomic step: nothing
-/// happens between two events.
+/// What can happen to the machine (this project's profile). Nothing happens between two events.
 #[derive(Clone, Copy, Debug)]
 pub enum Event<'a> {
-    /// The job that is next takes its turn: it is interrupted, or it executes one instruction and
-    /// the monitor call that this makes.
+    /// The job that is next takes its turn: an interrupt is delivered to it, or it executes one instruction
+    /// and the monitor call that this makes.
     Step,
-    /// A sixtieth of a second goes by. Jobs whose waits for a request had a limit that ends now are told
-    /// so, and their requests leave together.
+    /// A sixtieth of a second passes. Where the limit of a job's wait for a grant ends, the job's call is
+    /// refused; the requests of all such jobs leave together.
     Tick,
     /// A character is typed at a line, 0 to 63. CTRL-C, character 3, is never stored: it stops the
     /// line's job.
     Typed(u8, Char7),
-    /// So many characters at most, and no more than 64, leave the front of a line's output.
+    /// At most so many characters, and no more than 64, leave the front of a line's output.
     Take(u8, usize),
-    /// A job begins at a line, with an image and the least number that is free. It is stopped.
+    /// A job begins at a line, with an image and the least free number. It is stopped.
     Login(u8, &'a Image),
     /// A job that is stopped begins at its start address and waits for nothing.
     Start(u8),
     /// A job that is stopped goes on where it is, and waits for what it waited for.
     Continue(u8),
-    /// A job is gone: its requests, its core and its line are free.
+    /// A job ends: its requests leave, and its core and its line are free.
     Kill(u8),
-    /// All jobs, requests and characters are gone. The data words and the time of day stay.
+    /// All jobs end, and all requests and characters are gone. The data words and the time of day stay.
     Restart,
 }
 
-/// Why an event is refused (this project's profile). Where several reasons hold, the first in the
-/// order of an event's row is given.
+/// Why an event is refused (this project's profile). Where several reasons hold, the answer is the first in
+/// the order of the event's row in `happens`.
 #[derive(Clone, Copy, Debug, PartialEq, Eq)]
 pub enum RefusedEvent {
-    /// There is no line of that number.
+    /// No line has that number.
     NoLine,
     /// A job has that line.
     LineBusy,
@@ -44,19 +43,19 @@ pub enum RefusedEvent {
     NoJobNumber,
     /// Fewer blocks are free than the image takes.
     NoCore,
-    /// There is no job of that number.
+    /// No job has that number.
     NoSuchJob,
     /// The job is not stopped.
     NotStopped,
-    /// No character more can wait at that line.
+    /// The input of that line is full.
     Full,
-    /// The image has no words, or a place or a start of 1000000 octal or more, or its places do
-    /// not rise.
+    /// The image has no words, or an address or a start of 1000000 octal or more, or its addresses do not
+    /// rise.
     BadImage,
 }
 
 impl RefusedEvent {
-    /// The number that scripts write, 1 to 8.
+    /// The number of the refusal in scripts, 1 to 8.
     pub fn code(self) -> u32
         ensures { result ≡ code_of self }
     {
@@ -73,19 +72,19 @@ impl RefusedEvent {
     }
 }
 
-/// What the machine answers to an event.
+/// The machine's answer to an event.
 #[derive(Debug, Drop)]
 pub enum Answer {
     /// This job took its turn.
     Ran(u8),
     /// No job is ready. Nothing has changed.
     Idle,
-    /// It has happened.
+    /// The event has happened.
     Done,
     /// The characters that left a line's output.
     Text(TakenText),
     /// The number of the job that began.
     JobNumber(u8),
-    /// It did not happen. Nothing has changed.
+    /// The event did not happen. Nothing has changed.
     Refused(RefusedEvent),
 }

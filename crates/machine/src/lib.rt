@@ -1,4 +1,4 @@
-//! The machine as definitions: what can happen to it, what it answers, and what there is to see.
+//! The definitions of the machine: the events that can happen to it, its answers, and what can be seen of it.
 #![tactic(auto)]
 
 mod config;
@@ -9,5 +9,5 @@ mod view;
 pub use config::Config;
 pub use event::{Answer, Event, RefusedEvent};
 pub use sizes::{INTERRUPT_CHARACTER, LOGIN_QUOTA, MOST_QUANTUM, VECTOR_WORDS};
-pub use uuo_calls::HIGHEST_PLACE;
+pub use uuo_calls::JBREL;
 pub use view::JobView;

@@ -3,11 +3,11 @@
 /// The most ticks of a quantum (this project's profile).
 pub const MOST_QUANTUM: u8 = 60;
 
-/// How many requests for locks a job may have when it begins, where the lock table holds so many (this
-/// project's profile).
+/// How many requests for locks a new job may have, where the lock table holds so many (this project's
+/// profile).
 pub const LOGIN_QUOTA: u16 = 64;
 
-/// CTRL-C, which stops the job of the line where it is typed.
+/// CTRL-C, which stops the job of the line at which it is typed.
 pub const INTERRUPT_CHARACTER: u8 = 3;
 
 /// The words of an interrupt vector.

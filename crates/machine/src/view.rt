@@ -15,6 +15,6 @@ pub struct JobView {
     pub pc: Address,
     /// Why it is stopped, if it is.
     pub stop: Option<Stop>,
-    /// The wait that holds; none where its wait holds no longer.
+    /// What it waits for; none where its wait holds no longer.
     pub wait: Wait,
 }

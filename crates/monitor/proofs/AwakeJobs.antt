@@ -12,6 +12,6 @@ none-some j e = cc
 pub IsTable-awake : (jobs : List (Option Job)) (n : ℕ) (d : Option Job) (j k : Job) (sleepers : Bool) (from : ℕ) → IsTable jobs sleepers from → n ≤ JOBS
     → slice_index_or jobs n d ≡ Some j → is_sleep k.wait ≡ false → IsTable (slice_set jobs n (Some k)) sleepers from
 IsTable-awake jobs n d j k sleepers from h low there awake =
-    let within : n < length jobs = omega (arith, h.places, low) in
+    let within : n < length jobs = omega (arith, h.slots, low) in
     IsTable-changed jobs n (Some k) sleepers sleepers from h (λ e. e) (λ _. awake)
     (λ none. absurd (none-some j (sym none ∙ sym (none-at jobs n d within) ∙ there)))

@@ -2,13 +2,13 @@
 use Rattle.std.proofs.Common.{◌≡◌, ◌<◌, ◌^◌, ◌∙◌, sym, ap, subst, ℕ, zero, suc, true, List, [], ◌∷◌, length}
 use Rattle.std.proofs.Common.{slice_set, slice_index_or, Option, Some, None, is_some, refl, arith}
 use Rattle.std.specs.Option.{option_map}
-use Rattle.ka_cpu.specs.Places.{core_with}
+use Rattle.ka_cpu.specs.Memory.{core_with}
 use Rattle.ka_cpu.proofs.ExecLaws.{by_test, length-core_with}
 use Rattle.core_store.specs.Cores.{core_of, with_core}
 use Rattle.job_sched.specs.Changes.{with_job}
 use Rattle.job_sched.specs.Tables.{job_at}
 use Rattle.job_sched.specs.declared.job.Job.{Job}
-use Rattle.uuo_calls.specs.Around.{with_pc}
+use Rattle.uuo_calls.specs.CallState.{with_pc}
 use Rattle.machine.specs.declared.event.Event.TheVariants.{Start}
 use Rattle.machine.specs.Deposits.{deposited, is_done, placed, started_at, with_register, with_word_of}
 use Rattle.machine.specs.Machine.{S, started}

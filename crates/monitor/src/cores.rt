@@ -7,8 +7,8 @@ ghost use Rattle.machine.specs.Safe.{all_words};
 use core_store::CoreStore;
 use word36::JOBS;
 
-/// Takes the core of all jobs away.
-pub(crate) fn give_all<C: CoreStore>(cores: &mut C, blocks: u32)
+/// Frees the core of all jobs.
+pub(crate) fn free_all<C: CoreStore>(cores: &mut C, blocks: u32)
     requires words { all_words (C.meaning cores.old) ≡ blocks * BLOCK_WORDS }
     requires store { IsStore (C.meaning cores.old) }
     requires none_0 { core_of (C.meaning cores.old) 0 ≡ [] }

@@ -1,11 +1,11 @@
-//! Changes of a job that are no events: a word of its memory, and where it goes on.
+//! What a debugger changes of a job: a word of its memory, and its PC. Neither is an event.
 ghost use Rattle.std.specs.Prelude.{◌≡◌, is_some, None};
 ghost use Rattle.std.specs.Option.{option_map};
-ghost use Rattle.ka_cpu.specs.Places.{core_with, word_at};
+ghost use Rattle.ka_cpu.specs.Memory.{core_with, word_at};
 ghost use Rattle.core_store.specs.Cores.{IsJob, core_of, with_core};
 ghost use Rattle.job_sched.specs.Changes.{with_change};
 ghost use Rattle.job_sched.specs.Tables.{is_sleeper};
-ghost use Rattle.uuo_calls.specs.Around.{with_pc};
+ghost use Rattle.uuo_calls.specs.CallState.{with_pc};
 ghost use Rattle.machine.specs.Deposits.{is_done, with_register};
 
 use core_store::CoreStore;
@@ -14,7 +14,8 @@ use ka_cpu::{CoreWords, fetch, store};
 use machine::Answer;
 use word36::{Address, JOBS, Word};
 
-/// Puts a word at a place of a job's memory, and says whether the job has that place.
+/// Stores a word at an address of a job's memory: a register below 20 octal, core from there on. False
+/// where the job has no such address; then nothing changes.
 pub(crate) fn put_word<C: CoreStore>(
     n: u8,
     job: &mut Job,
@@ -25,7 +26,7 @@ pub(crate) fn put_word<C: CoreStore>(
     requires { IsJob n }
     ensures job { job.new ≡ with_register job.old a word }
     ensures core { C.meaning cores.new ≡ with_core (C.meaning cores.old) n (core_with (core_of (C.meaning cores.old) n) a word) }
-    ensures told { result ≡ is_some (word_at job.old.regs.ac (core_of (C.meaning cores.old) n) a) }
+    ensures found { result ≡ is_some (word_at job.old.regs.ac (core_of (C.meaning cores.old) n) a) }
 {
     let words = cores.window(n);
     let mut window = CoreWords { words };
@@ -34,8 +35,8 @@ pub(crate) fn put_word<C: CoreStore>(
     there
 }
 
-/// Puts the PC of a job at a place, where the job is there.
-fn put_pc_of(slot: &mut Option<Job>, a: Address)
+/// Sets the PC of the job in a slot, if one is there.
+fn set_pc_in(slot: &mut Option<Job>, a: Address)
     ensures slot { slot.new ≡ option_map (λ j. with_pc j a) slot.old }
     ensures asleep { is_sleeper slot.new ≡ is_sleeper slot.old }
     ensures none { slot.old ≡ None → slot.new ≡ None }
@@ -45,18 +46,18 @@ fn put_pc_of(slot: &mut Option<Job>, a: Address)
     }
 }
 
-/// Puts the PC of the job of a number at a place, where the job is there.
-pub(crate) fn put_pc(n: u8, table: &mut JobTable, a: Address)
+/// Sets the PC of a job, if it is there.
+pub(crate) fn set_pc(n: u8, table: &mut JobTable, a: Address)
     ensures { table.new ≡ with_change table.old n (λ j. with_pc j a) }
 {
     let jobs = &mut table.jobs;
     if n > JOBS {
         return;
     }
-    put_pc_of(&mut jobs[n as usize], a);
+    set_pc_in(&mut jobs[n as usize], a);
 }
 
-/// Whether an event was done.
+/// Whether an answer is `Done`.
 pub(crate) fn is_done(answer: &Answer) -> bool
     ensures { result ≡ is_done answer.now }
 {

@@ -1,4 +1,4 @@
-//! The whole machine: its jobs, what each event does, and that it is safe at all times.
+//! The machine as a whole: it does what each event asks, and is safe at all times.
 #![tactic(auto)]
 
 mod cores;

@@ -1,17 +1,18 @@
-//! The image of a job that begins.
+//! The loading of a new job's image.
 ghost use Rattle.std.specs.Prelude.{◌≡◌, ◌<◌, ◌≤◌, ◌^◌, [], Some, None, IfSome, OnOk, OnErr, IsOk, Ok, ◌↔◌};
 ghost use Rattle.word36.specs.declared.sizes.TheConstants.{MOST_BLOCKS};
 ghost use Rattle.core_store.specs.Cores.{IsJob, core_of, with_core, taken};
-ghost use Rattle.uuo_calls.specs.StatusRow.{Places};
-ghost use Rattle.machine.specs.Images.{top_from, image_top, loaded, placed, fresh_regs, image_places};
+ghost use Rattle.uuo_calls.specs.StatusRow.{Memory};
+ghost use Rattle.machine.specs.Images.{top_from, image_top, loaded, placed, fresh_regs, image_memory};
 
 use core_store::{CoreStore, NoCore};
 use job_sched::NO_FLAGS;
 use ka_cpu::{CoreWords, JobMemory, Regs, store};
-use machine::HIGHEST_PLACE;
+use machine::JBREL;
 use word36::{ADDRESSES, Address, BLOCK_WORDS, Image, Word};
 
-/// The last of some places, where they rise from a place on.
+/// The last of the words' addresses, or `top` where there are no words. `None` where the addresses do not
+/// rise from `top` on, or one is 2^18 or more.
 fn top_from(top: u32, words: &[(u32, Word)]) -> Option<u32>
     requires { top < 2 ^ 18 }
     ensures top { result ≡ top_from top words.now }
@@ -27,8 +28,8 @@ fn top_from(top: u32, words: &[(u32, Word)]) -> Option<u32>
     Some(last)
 }
 
-/// The highest place of an image, if it has words, and its start and its places are addresses that
-/// rise.
+/// The highest address of an image. `None` where it has no words, where an address or the start is 2^18 or
+/// more, or where the addresses do not rise.
 pub(crate) fn image_top(image: &Image) -> Option<u32>
     ensures top { result ≡ image_top image.now.words.items image.now.start }
     ensures below { IfSome result (λ t. t < 2 ^ 18) }
@@ -44,9 +45,10 @@ pub(crate) fn image_top(image: &Image) -> Option<u32>
     top_from(first.0, rest)
 }
 
-/// Loads the words of an image.
-fn load<M: JobMemory>(regs: &mut Regs, memory: &mut M, words: &[(u32, Word)])
-    ensures loaded { record { regs = regs.new; core = M.words memory.new } ≡ loaded (record { regs = regs.old; core = M.words memory.old }) words.now }
+/// Stores the words of an image at their addresses.
+fn load_words<M: JobMemory>(regs: &mut Regs, memory: &mut M, words: &[(u32, Word)])
+    ensures loaded { record { regs = regs.new; core = M.words memory.new }
+        ≡ loaded (record { regs = regs.old; core = M.words memory.old }) words.now }
     ensures place { M.place memory.new ≡ M.place memory.old }
 {
     for entry in words {
@@ -54,22 +56,26 @@ fn load<M: JobMemory>(regs: &mut Regs, memory: &mut M, words: &[(u32, Word)])
     }
 }
 
-/// Loads an image, and puts the highest legal address into .JBREL.
-fn place<M: JobMemory>(regs: &mut Regs, memory: &mut M, words: &[(u32, Word)], blocks: u32)
+/// Stores the words of an image, and then the highest legal address in .JBREL.
+fn load_image<M: JobMemory>(regs: &mut Regs, memory: &mut M, words: &[(u32, Word)], blocks: u32)
     requires some { 1 ≤ blocks }
     requires most { blocks ≤ MOST_BLOCKS }
-    ensures placed { record { regs = regs.new; core = M.words memory.new } ≡ placed (record { regs = regs.old; core = M.words memory.old }) words.now blocks }
+    ensures placed { record { regs = regs.new; core = M.words memory.new }
+        ≡ placed (record { regs = regs.old; core = M.words memory.old }) words.now blocks }
     ensures place { M.place memory.new ≡ M.place memory.old }
 {
-    load(regs, memory, words);
-    memory.write(
-        HIGHEST_PLACE,
-        Word::new((blocks as usize * BLOCK_WORDS - 1) as u64),
-    );
+    load_words(regs, memory, words);
+    memory.write(JBREL, Word::new((blocks as usize * BLOCK_WORDS - 1) as u64));
 }
 
-/// Loads an image into the core of a job.
-fn fill<C: CoreStore>(n: u8, regs: &mut Regs, cores: &mut C, words: &[(u32, Word)], blocks: u32)
+/// Loads an image into a job's registers and core.
+fn load_into<C: CoreStore>(
+    n: u8,
+    regs: &mut Regs,
+    cores: &mut C,
+    words: &[(u32, Word)],
+    blocks: u32,
+)
     requires number { IsJob n }
     requires some { 1 ≤ blocks }
     requires most { blocks ≤ MOST_BLOCKS }
@@ -80,10 +86,10 @@ fn fill<C: CoreStore>(n: u8, regs: &mut Regs, cores: &mut C, words: &[(u32, Word
 {
     let lent = cores.window(n);
     let mut window = CoreWords { words: lent };
-    place(regs, &mut window, words, blocks);
+    load_image(regs, &mut window, words, blocks);
 }
 
-/// The registers of a job that begins.
+/// The registers of a new job: all 0, the PC at its start, and no flag but User.
 fn fresh_regs(start: Address) -> Regs
     ensures { result ≡ fresh_regs start }
 {
@@ -94,8 +100,9 @@ fn fresh_regs(start: Address) -> Regs
     }
 }
 
-/// Gives a job core and loads its image there; `NoCore` where fewer blocks are free.
-pub(crate) fn settle<C: CoreStore>(
+/// Gives a new job its blocks of core and loads its image there: its registers. `NoCore` where fewer blocks
+/// are free; then nothing changes.
+pub(crate) fn load_job<C: CoreStore>(
     n: u8,
     cores: &mut C,
     words: &[(u32, Word)],
@@ -107,12 +114,13 @@ pub(crate) fn settle<C: CoreStore>(
     requires some { 1 ≤ blocks }
     requires most { blocks ≤ MOST_BLOCKS }
     ensures cases { IsOk result ↔ (blocks ≤ (C.meaning cores.old).free) }
-    ensures regs { OnOk result (result ≡ Ok (image_places words.now start blocks).regs) }
-    ensures core { OnOk result (C.meaning cores.new ≡ with_core (taken (C.meaning cores.old) n blocks) n (image_places words.now start blocks).core) }
+    ensures regs { OnOk result (result ≡ Ok (image_memory words.now start blocks).regs) }
+    ensures core { OnOk result (C.meaning cores.new
+        ≡ with_core (taken (C.meaning cores.old) n blocks) n (image_memory words.now start blocks).core) }
     ensures err { OnErr result (C.meaning cores.new ≡ C.meaning cores.old) }
 {
     cores.take(n, blocks)?;
     let mut regs = fresh_regs(start);
-    fill(n, &mut regs, cores, words, blocks);
+    load_into(n, &mut regs, cores, words, blocks);
     Ok(regs)
 }

@@ -1,5 +1,6 @@
-//! The parts of the machine, seen as one state, and what each event does to them.
-ghost use Rattle.std.specs.Prelude.{◌≡◌, ◌≢◌, ◌<◌, ◌≤◌, ◌^◌, ◌+◌, ◌-◌, if◌then◌else◌, is_some, [], ℕ, Bool, true, Some, IsSome, IfOk, slice_get};
+//! The parts of the machine, seen as one state, and a method for each event.
+ghost use Rattle.std.specs.Prelude.{◌≡◌, ◌≢◌, ◌<◌, ◌≤◌, ◌^◌, ◌+◌, ◌-◌, if◌then◌else◌, is_some, [], ℕ, Bool, true, Some, IsSome, IfOk};
+ghost use Rattle.std.specs.Prelude.{slice_get};
 ghost use Rattle.word36.specs.declared.sizes.TheConstants.{MOST_BLOCKS, MOST_REQUESTS};
 ghost use Rattle.core_store.specs.Cores.{IsJob, core_of};
 ghost use Rattle.job_sched.specs.Ready.{next_job};
@@ -15,9 +16,9 @@ ghost use Rattle.machine.specs.Safe.{Safe};
 ghost use Rattle.machine.specs.Stretches.{Stretched, runs_on, table_after, ticked_if, time_after};
 ghost use Rattle.machine.specs.Views.{job_view, held_wait, word_in};
 
-use crate::cores::give_all;
-use crate::deposits::{is_done, put_pc, put_word};
-use crate::login::{image_top, settle};
+use crate::cores::free_all;
+use crate::deposits::{is_done, put_word, set_pc};
+use crate::login::{image_top, load_job};
 use crate::rounds::Rounds;
 use crate::runner::{Loop, Runner, UpTo};
 use crate::turn::run_turn;
@@ -31,7 +32,7 @@ use tty_lines::{Char7, LineNumber, Lines};
 use uuo_calls::{CallRoom, World};
 use word36::{Address, BLOCK_WORDS, DATA_WORDS, Image, JOBS, Word};
 
-/// The parts of the machine.
+/// The parts of the machine, whatever state they are in.
 #[derive(Drop)]
 pub struct Parts<L: LockTable, C: CoreStore> {
     /// What the calls of jobs work on.
@@ -40,7 +41,7 @@ pub struct Parts<L: LockTable, C: CoreStore> {
     time: TimeOfDay,
     /// The ticks of a quantum.
     quantum: u8,
-    /// The blocks of core.
+    /// How many blocks of core there are.
     blocks: u32,
 }
 
@@ -57,14 +58,14 @@ impl<L: LockTable, C: CoreStore> Model for Parts<L, C> {
     } };
 }
 
-/// How many requests a job may have when it begins, where the lock table holds so many.
+/// How many requests a new job may have: `LOGIN_QUOTA`, or all that the lock table holds if these are fewer.
 fn first_quota(size: usize) -> u16
     ensures { result ≡ first_quota size }
 {
     (LOGIN_QUOTA as usize).min(size) as u16
 }
 
-/// Why a job can not start or go on, as the event says it.
+/// The refusal of an event that would start or continue a job.
 fn refusal_of(error: JobError) -> RefusedEvent
     ensures { result ≡ refusal_of error }
 {
@@ -74,9 +75,9 @@ fn refusal_of(error: JobError) -> RefusedEvent
     }
 }
 
-/// The ticks behind all of some rounds but the last go by, where ticks go by.
+/// Makes the ticks of all rounds of one job but the last one, where `ticking`.
 #[inline(always)]
-fn pass(ticking: bool, rounds: u32, quantum: u8, table: &mut JobTable, time: &mut TimeOfDay)
+fn pass_ticks(ticking: bool, rounds: u32, quantum: u8, table: &mut JobTable, time: &mut TimeOfDay)
     requires { 1 ≤ rounds }
     ensures table { table.new ≡ table_after table.old quantum ticking (rounds - 1) }
     ensures time { time.new ≡ time_after time.old ticking (rounds - 1) }
@@ -88,7 +89,7 @@ fn pass(ticking: bool, rounds: u32, quantum: u8, table: &mut JobTable, time: &mu
 }
 
 impl<L: LockTable, C: CoreStore> Parts<L, C> {
-    /// The parts at boot.
+    /// The parts of a machine without jobs.
     pub fn boot(alloc: Global, config: Config) -> Result<Self, AllocError>
         requires { (1 ≤ L.REQS) × (L.REQS ≤ MOST_REQUESTS) }
         ensures state { IfOk result (λ p. p ≡ at_boot L.REQS config.blocks config.quantum) }
@@ -114,7 +115,7 @@ impl<L: LockTable, C: CoreStore> Parts<L, C> {
         })
     }
 
-    /// The job that is next takes its turn, if there is one: its number.
+    /// Lets the job that is next take its turn. Returns its number, or `None` where no job is ready.
     #[inline(never)]
     pub fn step(&mut self) -> Option<u8>
         requires { Safe self.old }
@@ -124,9 +125,9 @@ impl<L: LockTable, C: CoreStore> Parts<L, C> {
         self.run_next::<Loop<false>, false>(1, false, &Loop).job
     }
 
-    /// The job that is next runs for some rounds, each a step with a tick behind it where `ticking`,
-    /// but for the last one's tick; where no job is ready an idle round goes by. `IN_PLACE` is that of
-    /// `run_job`.
+    /// Runs the job that is next for 1 to `most` rounds. A round is a step, with a tick after it where
+    /// `ticking`; the tick of the last round is left to the caller. Where no job is ready, one idle round
+    /// passes. `IN_PLACE` is that of `run_job`.
     #[inline(always)]
     fn run_next<R: Runner, const IN_PLACE: bool>(
         &mut self,
@@ -138,10 +139,12 @@ impl<L: LockTable, C: CoreStore> Parts<L, C> {
         requires some { 1 ≤ most }
         ensures state { ticked_if ticking self.new ≡ after (rounds result.made ticking) self.old }
         ensures job { result.job ≡ next_job self.old.world.table self.old.world.lines self.old.world.requests }
-        ensures count { runs_in (answers (rounds result.made ticking) self.old) + (if is_some result.job then 0 else result.made) ≡ result.made }
+        ensures count { runs_in (answers (rounds result.made ticking) self.old) + (if is_some result.job then 0 else result.made)
+            ≡ result.made }
         ensures least { 1 ≤ result.made }
         ensures most { result.made ≤ most }
-        ensures between { (k : ℕ) → 1 ≤ k → k < result.made → Between self.old (after (rounds k ticking) self.old) result.job (R.ends runner.now) }
+        ensures between { (k : ℕ) → 1 ≤ k → k < result.made
+            → Between self.old (after (rounds k ticking) self.old) result.job (R.ends runner.now) }
     {
         let world = &mut self.world;
         let Some(n) = world.table.next(&world.lines, &world.locks) else {
@@ -154,8 +157,8 @@ impl<L: LockTable, C: CoreStore> Parts<L, C> {
         Rounds { job: Some(n), made }
     }
 
-    /// A job runs for one round: its wait is over, it takes its turn, whose instruction is executed where the
-    /// caller is, and the call that it makes is performed.
+    /// Runs a job for one round: ends its wait, takes its turn, with the instruction inlined here, and
+    /// performs the call that it makes.
     #[inline(always)]
     fn run_once(&mut self, n: u8)
         requires number { IsJob n }
@@ -183,9 +186,9 @@ impl<L: LockTable, C: CoreStore> Parts<L, C> {
         }
     }
 
-    /// A job runs for at most so many rounds, and in how many: its wait is over, it takes its turn, whose
-    /// instructions are executed by `runner`, and the call that it makes is performed. Where `IN_PLACE`, a
-    /// single round is that of `run_once`.
+    /// Runs a job for 1 to `most` rounds, and returns for how many: ends its wait, takes its turn, with
+    /// `runner` for its instructions, and performs the call that it makes. Where `IN_PLACE`, a single round
+    /// is that of `run_once`.
     #[inline(always)]
     fn run_job<R: Runner, const IN_PLACE: bool>(
         &mut self,
@@ -216,7 +219,7 @@ impl<L: LockTable, C: CoreStore> Parts<L, C> {
         };
         job.wait = Wait::None;
         let (rounds, call) = run_turn(n, job, &mut world.locks, &mut world.cores, most, runner);
-        pass(
+        pass_ticks(
             ticking,
             rounds,
             self.quantum,
@@ -229,9 +232,8 @@ impl<L: LockTable, C: CoreStore> Parts<L, C> {
         rounds
     }
 
-    /// So many rounds, steps that have each a tick behind it where `TICKING`, and in how many of them a
-    /// job ran. The loop with ticks makes a round of one instruction in place, which one loop of a program
-    /// can do.
+    /// Makes `most` rounds, each a step with a tick after it where `TICKING`. Returns in how many a job ran.
+    /// The loop with ticks inlines a round of one instruction: a program can afford this in one loop.
     #[inline(always)]
     pub fn run_rounds<const TICKING: bool>(&mut self, most: u32) -> u32
         requires { Safe self.old }
@@ -249,25 +251,26 @@ impl<L: LockTable, C: CoreStore> Parts<L, C> {
         most - idle
     }
 
-    /// Rounds that are made at once, each a step with a tick behind it: those of the job that is next, as
-    /// long as nothing comes between them and up to the first that leaves it at one of some places.
+    /// Makes 1 to `most` rounds at once, each a step and a tick: those of the job that is next, as long as
+    /// nothing comes between them, up to the first that leaves its PC at one of `addresses`.
     #[inline(never)]
-    pub fn rounds_to(&mut self, most: u32, places: &[Address]) -> Rounds
+    pub fn rounds_to(&mut self, most: u32, addresses: &[Address]) -> Rounds
         requires safe { Safe self.old }
         requires some { 1 ≤ most }
         ensures state { self.new ≡ after (rounds result.made true) self.old }
         ensures next { next_in self.old ≡ result.job }
         ensures least { 1 ≤ result.made }
         ensures most { result.made ≤ most }
-        ensures between { (k : ℕ) → 1 ≤ k → k < result.made → Between self.old (after (rounds k true) self.old) result.job (is_among places.now) }
+        ensures between { (k : ℕ) → 1 ≤ k → k < result.made
+            → Between self.old (after (rounds k true) self.old) result.job (is_among addresses.now) }
     {
-        let runner = UpTo { places };
+        let runner = UpTo { addresses };
         let made = self.run_next::<UpTo<'_>, false>(most, true, &runner);
         self.tick();
         made
     }
 
-    /// A tick, where `ticking`.
+    /// Makes a tick, where `ticking`.
     #[inline(always)]
     fn tick_if(&mut self, ticking: bool)
         ensures { self.new ≡ ticked_if ticking self.old }
@@ -277,7 +280,7 @@ impl<L: LockTable, C: CoreStore> Parts<L, C> {
         }
     }
 
-    /// A tick. Where nobody sleeps and no limit runs it looks at no job.
+    /// Makes a tick. It looks at the jobs only where one sleeps or waits with a limit.
     #[inline(always)]
     pub fn tick(&mut self)
         ensures { self.new ≡ (ticked self.old).state }
@@ -289,7 +292,7 @@ impl<L: LockTable, C: CoreStore> Parts<L, C> {
         }
     }
 
-    /// A job is gone.
+    /// Kills a job: its requests leave, and its core and its line are free.
     #[inline(never)]
     pub fn kill(&mut self, n: u8) -> Answer
         requires { Safe self.old }
@@ -303,7 +306,7 @@ impl<L: LockTable, C: CoreStore> Parts<L, C> {
         Answer::Done
     }
 
-    /// A job starts, and a blocking request that is not granted leaves.
+    /// Starts a stopped job; its blocking request that is not granted leaves.
     #[inline(never)]
     pub fn start(&mut self, n: u8) -> Answer
         requires { Safe self.old }
@@ -319,7 +322,7 @@ impl<L: LockTable, C: CoreStore> Parts<L, C> {
         }
     }
 
-    /// A job goes on.
+    /// Lets a stopped job go on where it stands.
     #[inline(never)]
     pub fn go_on(&mut self, n: u8) -> Answer
         requires { Safe self.old }
@@ -332,7 +335,7 @@ impl<L: LockTable, C: CoreStore> Parts<L, C> {
         }
     }
 
-    /// All jobs, requests and characters are gone.
+    /// Takes away all jobs, requests and characters.
     #[inline(never)]
     pub fn restart(&mut self) -> Answer
         requires { Safe self.old }
@@ -342,11 +345,11 @@ impl<L: LockTable, C: CoreStore> Parts<L, C> {
         self.world.table = JobTable::new();
         self.world.lines.clear();
         self.world.locks.clear();
-        give_all(&mut self.world.cores, self.blocks);
+        free_all(&mut self.world.cores, self.blocks);
         Answer::Done
     }
 
-    /// A character is typed at a line; CTRL-C stops the line's job.
+    /// Types a character at a line; CTRL-C stops the line's job.
     #[inline(always)]
     pub fn typed(&mut self, line: u8, c: Char7) -> Answer
         requires { Safe self.old }
@@ -366,7 +369,7 @@ impl<L: LockTable, C: CoreStore> Parts<L, C> {
         }
     }
 
-    /// Characters leave a line's output.
+    /// Takes at most `n` characters from the front of a line's output.
     #[inline(never)]
     pub fn take(&mut self, line: u8, n: usize) -> Answer
         requires { Safe self.old }
@@ -379,7 +382,7 @@ impl<L: LockTable, C: CoreStore> Parts<L, C> {
         }
     }
 
-    /// A job begins, with a number that no job has and an image whose highest place is known.
+    /// Begins a job, with a number that no job has, and an image whose highest address is `top`.
     fn admit(&mut self, n: u8, line: LineNumber, image: &Image, top: u32) -> Answer
         requires number { IsJob n }
         requires bare { core_of self.old.world.cores n ≡ [] }
@@ -390,7 +393,7 @@ impl<L: LockTable, C: CoreStore> Parts<L, C> {
     {
         let blocks = top / BLOCK_WORDS as u32 + 1;
         let start = Address::new(image.start);
-        match settle(
+        match load_job(
             n,
             &mut self.world.cores,
             image.words.as_slice(),
@@ -407,7 +410,7 @@ impl<L: LockTable, C: CoreStore> Parts<L, C> {
         }
     }
 
-    /// A job begins at a line with an image.
+    /// Begins a job at a line with an image.
     #[inline(never)]
     pub fn login(&mut self, line: u8, image: &Image) -> Answer
         requires { Safe self.old }
@@ -429,7 +432,7 @@ impl<L: LockTable, C: CoreStore> Parts<L, C> {
         self.admit(n, at, image, top)
     }
 
-    /// One event.
+    /// Makes one event happen.
     #[inline(never)]
     pub fn event(&mut self, event: &Event) -> Answer
         requires { Safe self.old }
@@ -455,7 +458,7 @@ impl<L: LockTable, C: CoreStore> Parts<L, C> {
         }
     }
 
-    /// The wait of a job that holds.
+    /// The wait of a job, where it still holds; none otherwise.
     #[inline(always)]
     fn held_wait(&self, n: u8, job: &Job) -> Wait
         ensures { result ≡ held_wait self.now.world.lines self.now.world.requests n job.now }
@@ -467,12 +470,12 @@ impl<L: LockTable, C: CoreStore> Parts<L, C> {
             Wait::Char => !world.lines.has_char(job.line),
             Wait::Line => !world.lines.has_line(job.line),
             Wait::Room(places) => world.lines.room(job.line) < places as usize,
-            Wait::Queue(..) => world.locks.waiting(n),
+            Wait::Queue(..) => world.locks.is_waiting(n),
         };
         if holds { job.wait } else { Wait::None }
     }
 
-    /// What there is to see of a job.
+    /// What there is to see of a job, if it is there.
     #[inline(always)]
     pub fn job(&self, n: u8) -> Option<JobView>
         requires { Safe self.now }
@@ -488,7 +491,7 @@ impl<L: LockTable, C: CoreStore> Parts<L, C> {
         })
     }
 
-    /// The word at a place of a job.
+    /// The word at an address of a job, if the job has that address.
     pub fn peek(&self, n: u8, a: u32) -> Option<Word>
         requires { Safe self.now }
         ensures { result ≡ word_in self.now.world n a }
@@ -501,12 +504,12 @@ impl<L: LockTable, C: CoreStore> Parts<L, C> {
         }
     }
 
-    /// A word is put at a place of a job, if the job has that place.
+    /// Stores a word at an address of a job, and says whether the job has that address.
     #[inline(never)]
     pub fn deposit(&mut self, n: u8, a: u32, word: Word) -> bool
         requires { Safe self.old }
         ensures state { self.new ≡ deposited self.old n a word }
-        ensures told { result ≡ is_some (word_in self.old.world n a) }
+        ensures found { result ≡ is_some (word_in self.old.world n a) }
     {
         if n > JOBS {
             return false;
@@ -518,7 +521,7 @@ impl<L: LockTable, C: CoreStore> Parts<L, C> {
         }
     }
 
-    /// A job starts at a place.
+    /// Starts a stopped job at an address.
     #[inline(never)]
     pub fn start_at(&mut self, n: u8, a: Address) -> Answer
         requires { Safe self.old }
@@ -527,19 +530,19 @@ impl<L: LockTable, C: CoreStore> Parts<L, C> {
     {
         let answer = self.start(n);
         if is_done(&answer) {
-            put_pc(n, &mut self.world.table, a);
+            set_pc(n, &mut self.world.table, a);
         }
         answer
     }
 
-    /// A word that all jobs share.
+    /// A word that all jobs share, if there is one of that number.
     pub fn data_word(&self, i: usize) -> Option<Word>
         ensures { result ≡ slice_get self.now.world.shared i }
     {
         self.world.shared.get(i).copied()
     }
 
-    /// The requests.
+    /// The lock table.
     pub fn locks(&self) -> &L
         ensures { L.requests result.now ≡ self.now.world.requests }
     {

@@ -1,7 +1,8 @@
-//! Rounds that are made at once.
+//! Rounds made at once.
 ghost use Rattle.std.specs.Prelude.{◌≡◌, ◌<◌, ◌^◌, ◌+◌, if◌then◌else◌, is_some};
 
-/// Rounds that were made at once: in all of them the same job ran, or in none a job.
+/// Rounds made at once. A round is a step, with a tick after it where ticks are made. The same job ran in
+/// all of them, or no job in any.
 #[derive(Clone, Copy, Debug, PartialEq, Eq)]
 pub struct Rounds {
     /// The job that ran, if one was ready.
@@ -10,8 +11,8 @@ pub struct Rounds {
     pub made: u32,
 }
 
-/// Adds to a count, out of line: so the count stays in memory, and rounds in which a job ran do nothing
-/// about it.
+/// Adds to a count. It is not inlined, so the count stays in memory and costs nothing in a round in which a
+/// job ran.
 #[inline(never)]
 fn add(count: &mut u32, more: u32)
     requires { count.old + more < 2 ^ 32 }
@@ -21,7 +22,7 @@ fn add(count: &mut u32, more: u32)
 }
 
 impl Rounds {
-    /// Adds these rounds to those in which no job ran, where none did.
+    /// Adds these rounds to the count of idle ones, if no job ran in them.
     #[inline(always)]
     pub(crate) fn count_idle(self, idle: &mut u32)
         requires { idle.old + self.made < 2 ^ 32 }

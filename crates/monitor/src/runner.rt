@@ -1,4 +1,4 @@
-//! How the instructions of a turn are executed.
+//! The loops that execute the instructions of a turn.
 ghost use Rattle.std.specs.Prelude.{◌≡◌, ◌≤◌, ◌+◌, ℕ, Bool, false};
 ghost use Rattle.ka_cpu.specs.Runs.{ran};
 ghost use Rattle.machine.specs.Between.{NoneOver, is_among};
@@ -6,22 +6,23 @@ ghost use Rattle.machine.specs.Between.{NoneOver, is_among};
 use ka_cpu::{CoreWords, Outcome, Regs, run_steps_from, step_in_loop};
 use word36::{Address, Word};
 
-/// How the instructions of a turn are executed, and where they end.
+/// A loop that executes the instructions of a turn, and ends it early after some of them.
 pub(crate) trait Runner {
-    /// Whether they end behind an instruction that leaves the PC at a place.
+    /// Whether the loop ends after an instruction that leaves the PC at an address.
     ghost ends: { Self → ℕ → Bool };
 
-    /// Executes some instructions, one after another, at most so many and one at least, until one calls the
-    /// monitor or stops, or they end where it leaves the PC. Says how many were executed, and how the last
-    /// one ended.
+    /// Executes 1 to `most` instructions: until one calls the monitor or stops, or `ends` holds of the
+    /// address at which it leaves the PC. Returns how many were executed, and how the last one ended.
     fn run(&self, regs: &mut Regs, words: &mut [Word], most: u64) -> (u64, Outcome)
-        ensures ran { record { steps = result.0; after = record { regs = regs.new; core = words.new; outcome = result.1 } } ≡ ran result.0 regs.old words.old }
+        ensures ran { record { steps = result.0; after = record { regs = regs.new; core = words.new; outcome = result.1 } }
+            ≡ ran result.0 regs.old words.old }
         ensures most { result.0 ≤ most }
         ensures least { 1 ≤ most → 1 ≤ result.0 }
         ensures none_over { NoneOver (ends self.now) regs.old words.old result.0 };
 }
 
-/// By the processor's own loop. Where `IN_PLACE`, one that is wanted alone is executed where the caller is.
+/// The processor's own loop, which never ends early. Where `IN_PLACE`, a single instruction is inlined into
+/// the caller.
 #[derive(Clone, Copy, Debug)]
 pub(crate) struct Loop<const IN_PLACE: bool>;
 
@@ -34,15 +35,15 @@ impl<const IN_PLACE: bool> Runner for Loop<IN_PLACE> {
     }
 }
 
-/// Up to the first that leaves the PC at one of some places.
+/// A loop that ends after the first instruction that leaves the PC at one of some addresses.
 #[derive(Clone, Copy, Debug)]
 pub(crate) struct UpTo<'a> {
-    /// The places.
-    pub places: &'a [Address],
+    /// The addresses.
+    pub addresses: &'a [Address],
 }
 
 impl<'a> Runner for UpTo<'a> {
-    ghost ends = { λ r a. is_among r.places.now a };
+    ghost ends = { λ r a. is_among r.addresses.now a };
 
     #[inline(never)]
     fn run(&self, regs: &mut Regs, words: &mut [Word], most: u64) -> (u64, Outcome) {
@@ -50,7 +51,7 @@ impl<'a> Runner for UpTo<'a> {
         for done in 0..most {
             match step_in_loop(regs, &mut memory) {
                 Outcome::Done => {
-                    if is_among(self.places, regs.pc) {
+                    if is_among(self.addresses, regs.pc) {
                         return (done + 1, Outcome::Done);
                     }
                 }
@@ -61,10 +62,10 @@ impl<'a> Runner for UpTo<'a> {
     }
 }
 
-/// Whether a place is one of some.
+/// Whether an address is one of some.
 #[inline(always)]
-fn is_among(places: &[Address], place: Address) -> bool
-    ensures { result ≡ is_among places.now place }
+fn is_among(addresses: &[Address], address: Address) -> bool
+    ensures { result ≡ is_among addresses.now address }
 {
-    places.iter().any(|one| *one == place)
+    addresses.iter().any(|one| *one == address)
 }

@@ -1,10 +1,10 @@
-//! A job's turn.
+//! A job's turn: an interrupt is delivered, or instructions are executed.
 ghost use Rattle.std.specs.Prelude.{◌≡◌, ◌≢◌, ◌<◌, ◌≤◌, ◌^◌, [], None, true, false};
 ghost use Rattle.core_store.specs.Cores.{IsJob, core_of};
-ghost use Rattle.ka_cpu.specs.Places.{are_legal};
+ghost use Rattle.ka_cpu.specs.Memory.{are_legal};
 ghost use Rattle.ka_cpu.specs.Runs.{ran};
 ghost use Rattle.ka_cpu.specs.declared.outcome.StopReason.TheVariants.{IllegalAddress};
-ghost use Rattle.uuo_calls.specs.Around.{stopped};
+ghost use Rattle.uuo_calls.specs.CallState.{stopped};
 ghost use Rattle.machine.specs.Between.{NoneOver};
 ghost use Rattle.machine.specs.Stretches.{Stretch, stretch_by, stretch_of};
 ghost use Rattle.machine.specs.Turns.{Turn, delivered, interrupted_at};
@@ -21,8 +21,8 @@ use machine::VECTOR_WORDS;
 use uuo_calls::MonitorCall;
 use word36::{Address, Word};
 
-/// Executes at most so many instructions of a job in its core by a runner, until it ends them or one
-/// stops the job or calls the monitor, and counts them.
+/// Executes 1 to `most` instructions of a job in its core, until the runner ends the turn, or one of them
+/// stops the job or calls the monitor. Returns how many were executed, and the call.
 #[inline(always)]
 fn execute<C: CoreStore, R: Runner>(
     number: u8,
@@ -58,12 +58,15 @@ fn execute<C: CoreStore, R: Runner>(
     }
 }
 
-/// Delivers an interrupt in the job's memory, if its vector is legal.
+/// Delivers an interrupt in the job's memory: stores `flags,,PC` and the request's id in the vector, and
+/// goes on at the address in its first word. False, and the job stops, where a word of the vector is not
+/// legal.
 fn interrupt<M: JobMemory>(job: &mut Job, memory: &mut M, vector: u32, id: u32) -> bool
     requires vector { vector < 2 ^ 18 }
     requires id { id < 2 ^ 18 }
     ensures legal { result ≡ are_legal (M.words memory.old) vector 4 }
-    ensures done { result ≡ true → record { job = job.new; core = M.words memory.new } ≡ interrupted_at job.old (M.words memory.old) vector id }
+    ensures done { result ≡ true
+        → record { job = job.new; core = M.words memory.new } ≡ interrupted_at job.old (M.words memory.old) vector id }
     ensures stopped { result ≡ false → (job.new ≡ stopped job.old IllegalAddress) × (memory.new ≡ memory.old) }
     ensures place { M.place memory.new ≡ M.place memory.old }
 {
@@ -71,17 +74,18 @@ fn interrupt<M: JobMemory>(job: &mut Job, memory: &mut M, vector: u32, id: u32) 
         job.stop = Some(Stop::Fault(StopReason::IllegalAddress));
         return false;
     }
-    let to = word_kept(&job.regs, memory, vector).unwrap_or(Word::new(0));
-    let note = pc_word(job.regs.flags, job.regs.pc);
-    store(&mut job.regs, memory, vector + 1, note);
+    let handler = word_kept(&job.regs, memory, vector).unwrap_or(Word::new(0));
+    let interrupted = pc_word(job.regs.flags, job.regs.pc);
+    store(&mut job.regs, memory, vector + 1, interrupted);
     store(&mut job.regs, memory, vector + 3, Word::join(0, id));
-    job.regs.pc = Address::new(to.right());
+    job.regs.pc = Address::new(handler.right());
     job.regs.flags = NO_FLAGS;
     job.interrupts.in_progress = true;
     true
 }
 
-/// Delivers an interrupt, and marks the request as told where it could be delivered.
+/// Delivers an interrupt, and marks the request's grant as notified, or stops the job where its vector is
+/// not legal.
 #[inline(never)]
 fn deliver<L: LockTable, C: CoreStore>(
     number: u8,
@@ -98,11 +102,12 @@ fn deliver<L: LockTable, C: CoreStore>(
     let words = cores.window(number);
     let mut window = CoreWords { words };
     if interrupt(job, &mut window, vector.number(), id.number()) {
-        locks.told(number);
+        locks.mark_notified(number);
     }
 }
 
-/// A job's turn, whose wait is over, over at most so many rounds, and in how many.
+/// Takes the turn of a job that waits for nothing, for 1 to `most` rounds. Returns for how many, and the
+/// call that the job makes.
 #[inline(always)]
 fn take_turn<L: LockTable, C: CoreStore, R: Runner>(
     number: u8,
@@ -135,7 +140,7 @@ fn take_turn<L: LockTable, C: CoreStore, R: Runner>(
     execute::<C, R>(number, job, cores, most, runner)
 }
 
-/// The turn of a job that has core, and keeps some.
+/// Takes the turn of a job that has core, as `take_turn` does; the job still has core then.
 #[inline(always)]
 pub(crate) fn run_turn<L: LockTable, C: CoreStore, R: Runner>(
     number: u8,

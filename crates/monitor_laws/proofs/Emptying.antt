@@ -4,8 +4,8 @@ use Rattle.std.proofs.lemmas.Bool.{both_ways}
 use Rattle.std.proofs.lemmas.List.{get_or-set_same}
 use Rattle.word36.specs.declared.sizes.TheConstants.{DATA_WORDS, OUTPUT_RING}
 use Rattle.word36.specs.Words.{right_half}
-use Rattle.ka_cpu.specs.Places.{is_legal}
-use Rattle.ka_cpu.specs.Places.{are_legal}
+use Rattle.ka_cpu.specs.Memory.{is_legal}
+use Rattle.ka_cpu.specs.Memory.{are_legal}
 use Rattle.core_store.specs.Cores.{Cores, core_of, with_core}
 use Rattle.lock_queue.specs.declared.call.LockReply.{LockReply}
 use Rattle.lock_queue.specs.declared.call.LockReply.TheVariants.{Granted, Queued, Done as DoneReply, Refused}
@@ -18,22 +18,22 @@ use Rattle.uuo_calls.specs.declared.service.Awaited.{Awaited}
 use Rattle.uuo_calls.specs.declared.service.Service.{Service}
 use Rattle.uuo_calls.specs.declared.service.Service.TheVariants.{Reset, Core, Exit, Monrt, Logout, Mstime, Pjob, Sleep, Piini, Pisys, Debrk, Enq, Deq, Enqc}
 use Rattle.uuo_calls.specs.declared.service.Service.TheVariants.{Datrd, Datwr, Input, Outchr, Outstr, Clrbfi, Clrbfo, Skpin, Unlisted}
-use Rattle.uuo_calls.specs.Around.{Around, ac_of, put_back}
+use Rattle.uuo_calls.specs.CallState.{CallState, ac_of, put_back}
 use Rattle.uuo_calls.specs.CoreRow.{JobCores, grown, blocks_asked, core_done}
 use Rattle.uuo_calls.specs.DataRows.{JobData}
 use Rattle.uuo_calls.specs.InterruptRows.{dismissed, dismissed_at, vector_in_progress}
 use Rattle.uuo_calls.specs.LockRows.{asked, answered, enq_asks, enq_limit, deq_asks}
 use Rattle.uuo_calls.specs.Performed.{row_of}
-use Rattle.uuo_calls.specs.StatusRow.{told, answers_at, with_room, enqc_asks}
-use Rattle.ka_cpu.specs.Places.{word_below}
+use Rattle.uuo_calls.specs.StatusRow.{stored_or_refused, answers_at, with_room, enqc_asks}
+use Rattle.ka_cpu.specs.Memory.{word_below}
 use Rattle.uuo_calls.specs.TerminalRows.{JobLines, JobInput, put_text, low_character, text_from, input_called, has_input, stored_input, no_input, skipping_if}
-use Rattle.machine.specs.Alone.{is_for_terminal}
+use Rattle.uuo_calls.specs.Laws.{is_terminal_wait}
 use Rattle.ka_cpu.proofs.ExecLaws.{by_test}
 use Rattle.monitor_laws.proofs.Enquiring.{by_enqc}
 
 -- a job does not wait for its terminal
 abbrev pub Calm : Job → Type 0
-Calm j = is_for_terminal j.wait ≡ false
+Calm j = is_terminal_wait j.wait ≡ false
 
 calm-done : (ac : ℕ) (o : Option Cores) (j : Job) (cores : Cores) → Calm j → Calm (core_done ac o j cores).job
 calm-done ac None j cores h = h
@@ -46,7 +46,7 @@ calm-answered j ac limit DoneReply h = h
 calm-answered j ac limit (Refused refusal) h = h
 
 calm-told : (requests : List Request) (n ac to : ℕ) (j : Job) (core : List ℕ) (r : Result (List Want) Refusal) → Calm j
-    → Calm (told requests n ac to j core r).job
+    → Calm (stored_or_refused requests n ac to j core r).job
 calm-told requests n ac to j core (Err refusal) h = h
 calm-told requests n ac to j core (Ok wants) h = h
 
@@ -63,7 +63,7 @@ calm-skipping true j h = h
 calm-skipping false j h = h
 
 -- what a call leaves that puts the PC back and changes nothing else
-pub record Leaves (n : ℕ) (a b : Around) : Type 0 where
+pub record Leaves (n : ℕ) (a b : CallState) : Type 0 where
   pub regs : b.job.regs ≡ (put_back a.job).regs
   pub line : b.job.line ≡ a.job.line
   pub off : b.job.interrupts ≡ a.job.interrupts
@@ -71,32 +71,32 @@ pub record Leaves (n : ℕ) (a b : Around) : Type 0 where
   pub core : core_of b.cores n ≡ core_of a.cores n
 
 -- OUTCHR and OUTSTR
-leaves-put : (n : ℕ) (a : Around) (o : Option (List ℕ)) → Calm a.job → is_for_terminal (put_text o a.job a.lines).job.wait ≡ true
+leaves-put : (n : ℕ) (a : CallState) (o : Option (List ℕ)) → Calm a.job → is_terminal_wait (put_text o a.job a.lines).job.wait ≡ true
     → Leaves n a (record a { job = (put_text o a.job a.lines).job; lines = (put_text o a.job a.lines).lines; ending = (put_text o a.job a.lines).ending })
-leaves-put n a None d = λ h. absurd (both_ways (is_for_terminal a.job.wait) d h)
+leaves-put n a None d = λ h. absurd (both_ways (is_terminal_wait a.job.wait) d h)
 leaves-put n a (Some text) d =
-    by_test (λ (p : JobLines). is_for_terminal p.job.wait ≡ true → Leaves n a (record a { job = p.job; lines = p.lines; ending = p.ending }))
+    by_test (λ (p : JobLines). is_terminal_wait p.job.wait ≡ true → Leaves n a (record a { job = p.job; lines = p.lines; ending = p.ending }))
     (nat_le (length text) (room_of a.lines a.job.line)) _ _
-    (λ _ h. absurd (both_ways (is_for_terminal a.job.wait) d h))
+    (λ _ h. absurd (both_ways (is_terminal_wait a.job.wait) d h))
     (λ _ h. record { regs = refl; line = refl; off = refl; lines = refl; core = refl })
 
 -- INCHRW and INCHWL
 same-core : (cores : Cores) (n : ℕ) → n < length cores.cores → core_of (with_core cores n (core_of cores n)) n ≡ core_of cores n
 same-core cores n low = get_or-set_same cores.cores n (core_of cores n) [] low
 
-leaves-no_input : (unit : Awaited) (skips : Bool) (n : ℕ) (a : Around) → n < length a.cores.cores → Calm a.job
-    → is_for_terminal (no_input unit skips (core_of a.cores n) a.job a.lines).job.wait ≡ true
+leaves-no_input : (unit : Awaited) (skips : Bool) (n : ℕ) (a : CallState) → n < length a.cores.cores → Calm a.job
+    → is_terminal_wait (no_input unit skips (core_of a.cores n) a.job a.lines).job.wait ≡ true
     → Leaves n a (record a {
       job = (no_input unit skips (core_of a.cores n) a.job a.lines).job;
       cores = with_core a.cores n (no_input unit skips (core_of a.cores n) a.job a.lines).core;
       lines = (no_input unit skips (core_of a.cores n) a.job a.lines).lines;
       ending = (no_input unit skips (core_of a.cores n) a.job a.lines).ending;
     })
-leaves-no_input unit true n a low d h = absurd (both_ways (is_for_terminal a.job.wait) d h)
+leaves-no_input unit true n a low d h = absurd (both_ways (is_terminal_wait a.job.wait) d h)
 leaves-no_input unit false n a low d h = record { regs = refl; line = refl; off = refl; lines = refl; core = same-core a.cores n low }
 
-leaves-input : (unit : Awaited) (skips : Bool) (n e : ℕ) (a : Around) → n < length a.cores.cores → Calm a.job
-    → is_for_terminal (input_called unit skips e (core_of a.cores n) a.job a.lines).job.wait ≡ true
+leaves-input : (unit : Awaited) (skips : Bool) (n e : ℕ) (a : CallState) → n < length a.cores.cores → Calm a.job
+    → is_terminal_wait (input_called unit skips e (core_of a.cores n) a.job a.lines).job.wait ≡ true
     → Leaves n a (record a {
       job = (input_called unit skips e (core_of a.cores n) a.job a.lines).job;
       cores = with_core a.cores n (input_called unit skips e (core_of a.cores n) a.job a.lines).core;
@@ -105,20 +105,20 @@ leaves-input : (unit : Awaited) (skips : Bool) (n e : ℕ) (a : Around) → n < 
     })
 leaves-input unit skips n e a low d =
     by_test
-    (λ (o : JobInput). is_for_terminal o.job.wait ≡ true
+    (λ (o : JobInput). is_terminal_wait o.job.wait ≡ true
     → Leaves n a (record a { job = o.job; cores = with_core a.cores n o.core; lines = o.lines; ending = o.ending }))
     (is_legal (core_of a.cores n) e) _ _
     (λ _. by_test
-    (λ (o : JobInput). is_for_terminal o.job.wait ≡ true
+    (λ (o : JobInput). is_terminal_wait o.job.wait ≡ true
     → Leaves n a (record a { job = o.job; cores = with_core a.cores n o.core; lines = o.lines; ending = o.ending }))
     (has_input unit (input_of a.lines a.job.line)) (stored_input skips e (core_of a.cores n) a.job a.lines)
     (no_input unit skips (core_of a.cores n) a.job a.lines)
     (λ _ h. absurd (both_ways _ (calm-skipping skips _ d) h))
     (λ _ h. leaves-no_input unit skips n a low d h))
-    (λ _ h. absurd (both_ways (is_for_terminal a.job.wait) d h))
+    (λ _ h. absurd (both_ways (is_terminal_wait a.job.wait) d h))
 
-pub empty-row : (service : Service) (time n ac e : ℕ) (a : Around) → n < length a.cores.cores → Calm a.job
-    → is_for_terminal (row_of service time n ac e a).job.wait ≡ true → Leaves n a (row_of service time n ac e a)
+pub empty-row : (service : Service) (time n ac e : ℕ) (a : CallState) → n < length a.cores.cores → Calm a.job
+    → is_terminal_wait (row_of service time n ac e a).job.wait ≡ true → Leaves n a (row_of service time n ac e a)
 empty-row Reset time n ac e a low d h = absurd (both_ways _ d h)
 empty-row Core time n ac e a low d h = absurd (both_ways _ (calm-done ac (grown a.cores n (blocks_asked (ac_of a.job ac))) a.job a.cores d) h)
 empty-row Exit time n ac e a low d h = absurd (both_ways _ d h)

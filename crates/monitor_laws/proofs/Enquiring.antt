@@ -6,7 +6,7 @@ use Rattle.lock_queue.specs.declared.refusal.Refusal.TheVariants.{NoSuchQuota}
 use Rattle.lock_queue.specs.declared.request.Request.{Request}
 use Rattle.lock_queue.specs.Refusals.{code_of}
 use Rattle.job_sched.specs.declared.job.Job.{Job}
-use Rattle.uuo_calls.specs.Around.{ac_of, refusing, skipping, with_ac}
+use Rattle.uuo_calls.specs.CallState.{ac_of, refusing, skipping, with_ac}
 use Rattle.uuo_calls.specs.CoreRow.{JobCores}
 use Rattle.uuo_calls.specs.QuotaRows.{named_job, quota_at, told_quota}
 use Rattle.uuo_calls.specs.StatusRow.{enqc, status_told, with_job_core}

@@ -39,12 +39,12 @@ none-set jobs n k j h e = let low = there-below jobs n h in grind (arith, common
 -- a job that is there has a number
 pub is_job : (jobs : List (Option Job)) (cores : Cores) (n : ℕ) → Housed jobs cores → is_some (job_at jobs n) ≡ true → IsJob n
 is_job jobs cores zero h there = let none = h.none_0 in cc
-is_job jobs cores (suc n) h there = let low = there-below jobs (suc n) there in (omega arith, omega (arith, h.places))
+is_job jobs cores (suc n) h there = let low = there-below jobs (suc n) there in (omega arith, omega (arith, h.slots))
 
 pub housed-job : (jobs : List (Option Job)) (cores : Cores) (n : ℕ) (j : Job) → is_some (job_at jobs n) ≡ true → Housed jobs cores
     → Housed (slice_set jobs n (Some j)) cores
 housed-job jobs cores n j there h = record {
-  places = length-set jobs n (Some j) ∙ h.places;
+  slots = length-set jobs n (Some j) ∙ h.slots;
   none_0 = let number = is_job jobs cores n h there in get_or-set_other jobs n 0 (Some j) None (omega arith) ∙ h.none_0;
   store = h.store;
   core = λ k e. h.core k (sym (there-set jobs n k j there) ∙ e);
@@ -68,7 +68,7 @@ housed-core jobs cores n words there same h =
     let low : n < length cores.cores = omega (arith, h.store.jobs) in
     let long = some_length (core_of cores n) (h.core n there) in
     record {
-      places = h.places;
+      slots = h.slots;
       none_0 = h.none_0;
       store = IsStore-with_core cores n words h.store number same;
       core = λ k e. grind (arith, common_steps, h.core k, length_some words);
@@ -85,7 +85,7 @@ housed-resized jobs cores n blocks there some room h =
     let long : length (resized_words (core_of cores n) blocks) ≡ blocks * BLOCK_WORDS = grind (arith, common_steps) in
     let filled = length_some (resized_words (core_of cores n) blocks) (omega arith) in
     record {
-      places = h.places;
+      slots = h.slots;
       none_0 = h.none_0;
       store = IsStore-resized cores n blocks h.store number room;
       core = λ k e. grind (arith, common_steps, h.core k);
@@ -105,7 +105,7 @@ housed-gone jobs cores n there h =
     let low : n < length cores.cores = omega (arith, h.store.jobs) in
     let below : n < length jobs = there-below jobs n there in
     record {
-      places = length-set jobs n None ∙ h.places;
+      slots = length-set jobs n None ∙ h.slots;
       none_0 = get_or-set_other jobs n 0 None None (omega arith) ∙ h.none_0;
       store = IsStore-given cores n h.store number;
       core = λ k e. grind (arith, common_steps, h.core k);
@@ -118,7 +118,7 @@ pub housed-taken : (jobs : List (Option Job)) (cores : Cores) (n blocks : ℕ) (
     → Housed jobs cores → Housed (slice_set jobs n (Some j)) (with_core (taken cores n blocks) n words)
 housed-taken jobs cores n blocks j words number none some room long h =
     let low : n < length cores.cores = omega (arith, h.store.jobs) in
-    let below : n < length jobs = omega (arith, h.places) in
+    let below : n < length jobs = omega (arith, h.slots) in
     let at : core_of (taken cores n blocks) n ≡ replicate (blocks * BLOCK_WORDS) 0 =
     get_or-set_same cores.cores n (replicate (blocks * BLOCK_WORDS) 0) [] low in
     let zeros : length (replicate {A = ℕ} (blocks * BLOCK_WORDS) 0) ≡ blocks * BLOCK_WORDS = grind (arith, common_steps) in
@@ -126,7 +126,7 @@ housed-taken jobs cores n blocks j words number none some room long h =
     let after : n < length (taken cores n blocks).cores = omega (arith, length-set cores.cores n (replicate (blocks * BLOCK_WORDS) 0)) in
     let same : core_of (with_core (taken cores n blocks) n words) n ≡ words = get_or-set_same (taken cores n blocks).cores n words [] after in
     record {
-      places = length-set jobs n (Some j) ∙ h.places;
+      slots = length-set jobs n (Some j) ∙ h.slots;
       none_0 = get_or-set_other jobs n 0 (Some j) None (omega arith) ∙ h.none_0;
       store =
           IsStore-with_core (taken cores n blocks) n words (IsStore-taken cores n blocks h.store number (h.bare n none) room)
@@ -168,20 +168,20 @@ some-none None e = refl
 
 -- jobs of which each is there or not, and has its line, as before
 pub record SameJobs (old new : List (Option Job)) : Type 0 where
-  pub places : length new ≡ length old
+  pub slots : length new ≡ length old
   pub some : (k : ℕ) → is_some (job_at new k) ≡ is_some (job_at old k)
   pub line : (k : ℕ) → line_of (job_at new k) ≡ line_of (job_at old k)
 
 pub same-mapped : (f : Option Job → Option Job) (jobs : List (Option Job)) → Mild f → SameJobs jobs (map f jobs)
 same-mapped f jobs m = record {
-  places = length-map jobs f;
+  slots = length-map jobs f;
   some = λ k. ap is_some (at-mapped f jobs k m.none) ∙ m.some (job_at jobs k);
   line = λ k. ap line_of (at-mapped f jobs k m.none) ∙ m.line (job_at jobs k);
 }
 
 pub housed-same : (old new : List (Option Job)) (cores : Cores) → SameJobs old new → Housed old cores → Housed new cores
 housed-same old new cores m h = record {
-  places = m.places ∙ h.places;
+  slots = m.slots ∙ h.slots;
   none_0 = some-none (job_at new 0) (m.some 0 ∙ ap is_some h.none_0);
   store = h.store;
   core = λ k e. h.core k (sym (m.some k) ∙ e);
@@ -244,7 +244,7 @@ line_of-limited b None = refl
 
 pub same-limited : (t : Table) (requests : List Request) → SameJobs t.jobs (limited_table t requests).jobs
 same-limited t requests = record {
-  places = length-limited (is_waiting_job requests) 0 t.jobs;
+  slots = length-limited (is_waiting_job requests) 0 t.jobs;
   some = there-limited t requests;
   line = λ k. ap line_of (job-limited t requests k) ∙ line_of-limited (is_waiting_job requests k) (job_at t.jobs k);
 }

@@ -9,11 +9,11 @@ use Rattle.word36.specs.declared.sizes.TheConstants.{BLOCK_WORDS, DATA_WORDS, OU
 use Rattle.word36.specs.Words.{right_half}
 use Rattle.ka_cpu.specs.Effects.{After}
 use Rattle.ka_cpu.specs.Exec.{exec}
-use Rattle.ka_cpu.specs.Places.{is_legal}
+use Rattle.ka_cpu.specs.Memory.{is_legal}
 use Rattle.ka_cpu.specs.declared.outcome.Outcome.{Outcome}
 use Rattle.ka_cpu.specs.declared.outcome.Outcome.TheVariants as outcome
 use Rattle.ka_cpu.specs.declared.outcome.StopReason.TheVariants.{IllegalAddress}
-use Rattle.ka_cpu.specs.Places.{are_legal}
+use Rattle.ka_cpu.specs.Memory.{are_legal}
 use Rattle.core_store.specs.Cores.{Cores, IsJob, IsStore, IsWhole, core_of, blocks_of, with_core, taken, resized, resized_words, given}
 use Rattle.core_store.proofs.StoreLemmas.{IsWhole-core_of}
 use Rattle.lock_queue.specs.declared.call.LockReply.{LockReply}
@@ -31,18 +31,18 @@ use Rattle.uuo_calls.specs.declared.service.Awaited.{Awaited}
 use Rattle.uuo_calls.specs.declared.service.Service.{Service}
 use Rattle.uuo_calls.specs.declared.service.Service.TheVariants.{Reset, Core, Exit, Monrt, Logout, Mstime, Pjob, Sleep, Piini, Pisys, Debrk, Enq, Deq, Enqc}
 use Rattle.uuo_calls.specs.declared.service.Service.TheVariants.{Datrd, Datwr, Input, Outchr, Outstr, Clrbfi, Clrbfo, Skpin, Unlisted}
-use Rattle.uuo_calls.specs.Around.{Around, ac_of, stopped}
+use Rattle.uuo_calls.specs.CallState.{CallState, ac_of, stopped}
 use Rattle.uuo_calls.specs.CoreRow.{JobCores, grown, blocks_asked, core_done, with_highest}
 use Rattle.uuo_calls.specs.DataRows.{JobData}
 use Rattle.uuo_calls.specs.InterruptRows.{dismissed, dismissed_at, vector_in_progress}
 use Rattle.uuo_calls.specs.LockRows.{asked, answered, enq_asks, enq_limit, deq_asks}
 use Rattle.uuo_calls.specs.Performed.{World, row_of, around, with_around, left_by}
-use Rattle.uuo_calls.specs.StatusRow.{told, answers_at, with_room, enqc_asks, status_told}
-use Rattle.ka_cpu.specs.Places.{word_below}
+use Rattle.uuo_calls.specs.StatusRow.{stored_or_refused, answers_at, with_room, enqc_asks, status_told}
+use Rattle.ka_cpu.specs.Memory.{word_below}
 use Rattle.uuo_calls.specs.TerminalRows.{JobLines, JobInput, put_text, text_from, low_character, has_input, stored_input, no_input, input_called, skipping_if}
 use Rattle.machine.specs.Machine.{with_turn, awake}
 use Rattle.machine.specs.Safe.{Placed, Housed, line_of, LinesApart, LinesBelow, all_words}
-use Rattle.machine.specs.Turns.{Turn, turn_of, turned, due, concluded, done, told_at, interrupted_at}
+use Rattle.machine.specs.Turns.{Turn, turn_of, turned, due, concluded, done, notified_at, interrupted_at}
 use Rattle.monitor_laws.proofs.Housing.{SameJobs, there-below, is_job}
 use Rattle.monitor_laws.proofs.Placing.{placed-set, fits-row, fits-turned}
 use Rattle.ka_cpu.proofs.ExecLaws.{by_test, length-exec}
@@ -180,7 +180,7 @@ words-done : (ac : ℕ) (o : Option Cores) (j : Job) (cores : Cores) → ((new :
 words-done ac None j cores h = refl
 words-done ac (Some new) j cores h = h new refl
 
-words-row : (service : Service) (time n ac e : ℕ) (a : Around) → IsStore a.cores → IsJob n → all_words (row_of service time n ac e a).cores ≡ all_words a.cores
+words-row : (service : Service) (time n ac e : ℕ) (a : CallState) → IsStore a.cores → IsJob n → all_words (row_of service time n ac e a).cores ≡ all_words a.cores
 words-row Reset time n ac e a store number = refl
 words-row Core time n ac e a store number =
     words-done ac (grown a.cores n (blocks_asked (ac_of a.job ac))) a.job a.cores
@@ -224,7 +224,7 @@ line-answered j ac limit DoneReply = refl
 line-answered j ac limit (RefusedReply refusal) = refl
 
 line-told : (requests : List Request) (n ac to : ℕ) (j : Job) (core : List ℕ) (r : Result (List Want) Refusal)
-    → (told requests n ac to j core r).job.line ≡ j.line
+    → (stored_or_refused requests n ac to j core r).job.line ≡ j.line
 line-told requests n ac to j core (Err refusal) = refl
 line-told requests n ac to j core (Ok wants) = refl
 
@@ -256,7 +256,7 @@ line-input unit skips e core j lines =
     (λ _. line-skipping skips _) (λ _. line-no_input unit skips core j lines))
     (λ _. refl)
 
-line-row : (service : Service) (time n ac e : ℕ) (a : Around) → (row_of service time n ac e a).job.line ≡ a.job.line
+line-row : (service : Service) (time n ac e : ℕ) (a : CallState) → (row_of service time n ac e a).job.line ≡ a.job.line
 line-row Reset time n ac e a = refl
 line-row Core time n ac e a = line-done ac (grown a.cores n (blocks_asked (ac_of a.job ac))) a.job a.cores
 line-row Exit time n ac e a = refl
@@ -310,7 +310,7 @@ rings-input unit skips e core j lines =
     (λ _. length-set lines j.line _) (λ _. rings-no_input unit skips core j lines))
     (λ _. refl)
 
-rings-row : (service : Service) (time n ac e : ℕ) (a : Around) → length (row_of service time n ac e a).lines ≡ length a.lines
+rings-row : (service : Service) (time n ac e : ℕ) (a : CallState) → length (row_of service time n ac e a).lines ≡ length a.lines
 rings-row Reset time n ac e a = refl
 rings-row Core time n ac e a = refl
 rings-row Exit time n ac e a = refl
@@ -374,7 +374,7 @@ line-turned : (n : ℕ) (j : Job) (cores : Cores) (requests : List Request) (o :
 line-turned n j cores requests None = line-concluded _ _ requests (exec j.regs (core_of cores n)).outcome
 line-turned n j cores requests (Some x) =
     by_test (λ (t : Turn). t.job.line ≡ j.line) (are_legal (core_of cores n) x.0 4)
-    (told_at n cores requests (interrupted_at j (core_of cores n) x.0 x.1)) (done (stopped j IllegalAddress) cores requests) (λ _. refl) (λ _. refl)
+    (notified_at n cores requests (interrupted_at j (core_of cores n) x.0 x.1)) (done (stopped j IllegalAddress) cores requests) (λ _. refl) (λ _. refl)
 
 words-turned : (n : ℕ) (j : Job) (cores : Cores) (requests : List Request) (o : Option (ℕ × ℕ)) → n < length cores.cores
     → all_words (turned n j cores requests o).cores ≡ all_words cores
@@ -384,7 +384,7 @@ words-turned n j cores requests None low =
     ∙ words-core cores n r.core low (length-exec j.regs (core_of cores n))
 words-turned n j cores requests (Some x) low =
     by_test (λ (t : Turn). all_words t.cores ≡ all_words cores) (are_legal (core_of cores n) x.0 4)
-    (told_at n cores requests (interrupted_at j (core_of cores n) x.0 x.1)) (done (stopped j IllegalAddress) cores requests)
+    (notified_at n cores requests (interrupted_at j (core_of cores n) x.0 x.1)) (done (stopped j IllegalAddress) cores requests)
     (λ _. words-core cores n _ low (length-noted j.regs (core_of cores n) x.0 x.1)) (λ _. refl)
 
 pub kept-turned : (w : World) (n : ℕ) (j : Job) → job_at w.table.jobs n ≡ Some j → is_some (job_at w.table.jobs n) ≡ true → Housed w.table.jobs w.cores

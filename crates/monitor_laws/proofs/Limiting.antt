@@ -64,7 +64,7 @@ counts s n limit ac j w =
     let at = after-tick s n limit ac j true w.there w.wait w.holds ∙ ap (λ (v : Wait). Some (limited_by v j)) w.wait in
     record {
       shorter = λ more. at ∙ ap (λ (b : Bool). Some (cond b (timed_out ac j) (record j { wait = Queue (limit - 1) ac }))) (not-last limit more);
-      told = λ last. at ∙ ap (λ (b : Bool). Some (cond b (timed_out ac j) (record j { wait = Queue (limit - 1) ac }))) (eq-eqb limit 1 last);
+      refused = λ last. at ∙ ap (λ (b : Bool). Some (cond b (timed_out ac j) (record j { wait = Queue (limit - 1) ac }))) (eq-eqb limit 1 last);
       ended = λ last. withdrawing_ends_waits s.world.requests (expires s.world.requests (ticked_table s.world.table).jobs) n
           (and_from _ _ w.holds
           (ap is_last_tick (there-ticked s n limit ac j w.there w.wait) ∙ ap (λ (v : Wait). limit_of v == 1) w.wait
@@ -260,7 +260,7 @@ by-tick s es n limit ac j w some enough rest = elim (cases_eq limit 1) [
         suc zero,
         inr (record {
           job = timed_out ac j;
-          there = c.told last;
+          there = c.refused last;
           regs = refl;
           wait = refl;
           counted = omega (arith, last, ticks-first Tick es);

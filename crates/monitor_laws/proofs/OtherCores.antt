@@ -9,13 +9,13 @@ use Rattle.ka_cpu.specs.Exec.{exec}
 use Rattle.ka_cpu.specs.declared.outcome.Outcome.{Outcome}
 use Rattle.ka_cpu.specs.declared.outcome.Outcome.TheVariants as outcome
 use Rattle.ka_cpu.specs.declared.outcome.StopReason.TheVariants.{IllegalAddress}
-use Rattle.ka_cpu.specs.Places.{are_legal}
+use Rattle.ka_cpu.specs.Memory.{are_legal}
 use Rattle.core_store.specs.Cores.{Cores, core_of, with_core}
 use Rattle.lock_queue.specs.declared.request.Request.{Request}
 use Rattle.tty_lines.specs.Rings.{input_of}
 use Rattle.job_sched.specs.declared.job.Job.{Job}
 use Rattle.job_sched.specs.Tables.{Table}
-use Rattle.uuo_calls.specs.Around.{stopped}
+use Rattle.uuo_calls.specs.CallState.{stopped}
 use Rattle.job_sched.specs.Tables.{job_at}
 use Rattle.job_sched.specs.declared.job_error.JobError.{JobError}
 use Rattle.uuo_calls.specs.Performed.{World}
@@ -23,7 +23,7 @@ use Rattle.machine.specs.Alone.{is_ran}
 use Rattle.machine.specs.Images.{image_top, blocks_for}
 use Rattle.job_sched.specs.Changes.{standing, chosen, free_number, is_at}
 use Rattle.machine.specs.Machine.{S, Made, made_if, started, continued, killed, typed, taken, admitted, examined, logged_in}
-use Rattle.machine.specs.Turns.{Turn, turned, concluded, told_at, interrupted_at, done}
+use Rattle.machine.specs.Turns.{Turn, turned, concluded, notified_at, interrupted_at, done}
 use Rattle.ka_cpu.proofs.ExecLaws.{by_test}
 
 other-core : (cores : Cores) (n job : ℕ) (words : List ℕ) → job ≢ n → core_of (with_core cores n words) job ≡ core_of cores job
@@ -41,7 +41,7 @@ same-turned n job j cores requests None ne =
     ap (λ c. core_of c job) (cores-concluded (record j { regs = r.regs }) (with_core cores n r.core) requests r.outcome) ∙ other-core cores n job r.core ne
 same-turned n job j cores requests (Some x) ne =
     by_test (λ (t : Turn). core_of t.cores job ≡ core_of cores job) (are_legal (core_of cores n) x.0 4)
-    (told_at n cores requests (interrupted_at j (core_of cores n) x.0 x.1)) (done (stopped j IllegalAddress) cores requests)
+    (notified_at n cores requests (interrupted_at j (core_of cores n) x.0 x.1)) (done (stopped j IllegalAddress) cores requests)
     (λ _. other-core cores n job _ ne)
     (λ _. refl)
 

@@ -17,7 +17,7 @@ use Rattle.lock_queue.specs.declared.request.EnqueueKind.TheVariants.{Blocking, 
 use Rattle.lock_queue.specs.declared.request.Request.{Request}
 use Rattle.lock_queue.specs.Jobs.{is_one, pending, withdrawn, withdrawn_where}
 use Rattle.call_block.specs.declared.block.Block.{Block}
-use Rattle.ka_cpu.specs.Places.{are_legal}
+use Rattle.ka_cpu.specs.Memory.{are_legal}
 use Rattle.lock_queue.specs.declared.terms.BlockUse.TheVariants.{Blocking as ForWaiting, Full, Named}
 use Rattle.call_block.specs.Blocks.{block_at}
 use Rattle.lock_laws.specs.Owning.{owns, is_dequeue}
@@ -29,15 +29,15 @@ use Rattle.uuo_calls.specs.declared.service.Awaited.{Awaited}
 use Rattle.uuo_calls.specs.declared.service.Service.{Service}
 use Rattle.uuo_calls.specs.declared.service.Service.TheVariants.{Reset, Core, Exit, Monrt, Logout, Mstime, Pjob, Sleep, Piini, Pisys, Debrk, Enq, Deq, Enqc}
 use Rattle.uuo_calls.specs.declared.service.Service.TheVariants.{Datrd, Datwr, Input, Outchr, Outstr, Clrbfi, Clrbfo, Skpin, Unlisted}
-use Rattle.uuo_calls.specs.Around.{Around, ac_of, stopped}
+use Rattle.uuo_calls.specs.CallState.{CallState, ac_of, stopped}
 use Rattle.uuo_calls.specs.LockRows.{asked, entering, changing, enq_asks, deq_asks}
 use Rattle.uuo_calls.specs.Performed.{World, row_of, around, performed_by, with_around, left_by}
 use Rattle.uuo_calls.specs.declared.call.CallOutcome.{CallOutcome}
 use Rattle.uuo_calls.specs.declared.call.CallOutcome.TheVariants as ending
-use Rattle.ka_cpu.specs.Places.{word_below}
+use Rattle.ka_cpu.specs.Memory.{word_below}
 use Rattle.uuo_calls.specs.TerminalRows.{JobLines, JobInput, put_text, low_character, text_from, input_called, has_input, stored_input, no_input}
 use Rattle.tty_lines.specs.Rings.{Rings, input_of, room_of}
-use Rattle.ka_cpu.specs.Places.{is_legal}
+use Rattle.ka_cpu.specs.Memory.{is_legal}
 use Rattle.word36.specs.declared.sizes.TheConstants.{LINES, INPUT_RING, OUTPUT_RING}
 use Rattle.std.specs.List.{list_any}
 use Rattle.machine.specs.declared.sizes.TheConstants.{INTERRUPT_CHARACTER}
@@ -54,7 +54,7 @@ use Rattle.machine.specs.Machine.{S, Made, made, made_if, started, continued, wi
 use Rattle.machine.specs.Machine.{killed, happens, typed, taken, admitted, examined, logged_in}
 use Rattle.machine.specs.Along.{Along}
 use Rattle.machine.specs.Owners.{is_release, releases, turn_releases, KeepsOwners}
-use Rattle.machine.specs.Turns.{Turn, turn_of, turned, due, concluded, done, told_at, interrupted_at}
+use Rattle.machine.specs.Turns.{Turn, turn_of, turned, due, concluded, done, notified_at, interrupted_at}
 use Rattle.ka_cpu.proofs.ExecLaws.{by_test}
 
 -- an ENQ. asks for no dequeue
@@ -91,7 +91,7 @@ owns-asked-no size requests n job key (Err refusal) free h lost = both_ways (own
 owns-asked-no size requests n job key (Ok call) free h lost =
     both_ways (is_dequeue call) free ((owners_are_kept size).by_calls requests n call job key h lost).0
 
-owns-row : (service : Service) (time n ac e job : ℕ) (key : Key) (a : Around) → owns a.requests job key ≡ true
+owns-row : (service : Service) (time n ac e job : ℕ) (key : Key) (a : CallState) → owns a.requests job key ≡ true
     → owns (row_of service time n ac e a).requests job key ≡ false → (n ≡ job) × (is_release service ≡ true)
 owns-row Reset time n ac e job key a h lost = ((owners_are_kept a.size).by_releases a.requests n job key h lost, refl)
 owns-row Core time n ac e job key a h lost = absurd (both_ways (owns a.requests job key) lost h)
@@ -149,7 +149,7 @@ ends-input unit skips e core j lines =
     (λ _. refl) (λ _. ends-no_input unit skips core j lines))
     (λ _. refl)
 
-ends-row : (service : Service) (time n ac e : ℕ) (a : Around) → leaves a.ending ≡ false
+ends-row : (service : Service) (time n ac e : ℕ) (a : CallState) → leaves a.ending ≡ false
     → leaves (row_of service time n ac e a).ending ≡ true
     → is_release service ≡ true
 ends-row Reset time n ac e a d h = refl
@@ -187,7 +187,7 @@ owns-performed : (w : World) (time n : ℕ) (o : Option Job) (service : Service)
 owns-performed w time n None service ac e job key h lost = absurd (both_ways (owns w.requests job key) lost h)
 owns-performed w time n (Some j) service ac e job key h lost = go (owns a.requests job key) refl
   where
-    a : Around
+    a : CallState
     a = row_of service time n ac e (around w j)
 
     go : (b : Bool) → owns a.requests job key ≡ b → (n ≡ job) × (is_release service ≡ true)
@@ -213,8 +213,8 @@ owns-turned n j cores requests None job key h =
     subst (λ l. owns l job key ≡ true) (sym (same-concluded _ _ requests (exec j.regs (core_of cores n)).outcome)) h
 owns-turned n j cores requests (Some x) job key h =
     by_test (λ (t : Turn). owns t.requests job key ≡ true) (are_legal (core_of cores n) x.0 4)
-    (told_at n cores requests (interrupted_at j (core_of cores n) x.0 x.1)) (done (stopped j IllegalAddress) cores requests)
-    (λ _. (owners_are_kept 0).by_telling requests n job key h)
+    (notified_at n cores requests (interrupted_at j (core_of cores n) x.0 x.1)) (done (stopped j IllegalAddress) cores requests)
+    (λ _. (owners_are_kept 0).by_notifying requests n job key h)
     (λ _. h)
 
 owns-ran : (w : World) (time n : ℕ) (o : Option Job) (job : ℕ) (key : Key) → owns w.requests job key ≡ true

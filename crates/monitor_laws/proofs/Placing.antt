@@ -5,11 +5,11 @@ use Rattle.word36.specs.declared.sizes.TheConstants.{DATA_WORDS, OUTPUT_RING}
 use Rattle.std.specs.Option.{option_map}
 use Rattle.word36.specs.Words.{right_half}
 use Rattle.ka_cpu.specs.Exec.{exec}
-use Rattle.ka_cpu.specs.Places.{is_legal}
+use Rattle.ka_cpu.specs.Memory.{is_legal}
 use Rattle.ka_cpu.specs.declared.outcome.Outcome.{Outcome}
 use Rattle.ka_cpu.specs.declared.outcome.Outcome.TheVariants as outcome
 use Rattle.ka_cpu.specs.declared.outcome.StopReason.TheVariants.{IllegalAddress}
-use Rattle.ka_cpu.specs.Places.{are_legal}
+use Rattle.ka_cpu.specs.Memory.{are_legal}
 use Rattle.core_store.specs.Cores.{Cores, core_of}
 use Rattle.lock_queue.specs.declared.call.LockReply.{LockReply}
 use Rattle.lock_queue.specs.declared.call.LockReply.TheVariants.{Granted, Queued, Done as DoneReply, Refused}
@@ -26,18 +26,18 @@ use Rattle.uuo_calls.specs.declared.service.Awaited.{Awaited}
 use Rattle.uuo_calls.specs.declared.service.Service.{Service}
 use Rattle.uuo_calls.specs.declared.service.Service.TheVariants.{Reset, Core, Exit, Monrt, Logout, Mstime, Pjob, Sleep, Piini, Pisys, Debrk, Enq, Deq, Enqc}
 use Rattle.uuo_calls.specs.declared.service.Service.TheVariants.{Datrd, Datwr, Input, Outchr, Outstr, Clrbfi, Clrbfo, Skpin, Unlisted}
-use Rattle.uuo_calls.specs.Around.{Around, ac_of, stopped}
+use Rattle.uuo_calls.specs.CallState.{CallState, ac_of, stopped}
 use Rattle.uuo_calls.specs.CoreRow.{JobCores, grown, blocks_asked, core_done}
 use Rattle.uuo_calls.specs.DataRows.{JobData}
 use Rattle.uuo_calls.specs.InterruptRows.{dismissed, dismissed_at, vector_in_progress}
 use Rattle.uuo_calls.specs.LockRows.{asked, answered, enq_asks, enq_limit, deq_asks}
 use Rattle.uuo_calls.specs.Performed.{row_of}
-use Rattle.uuo_calls.specs.StatusRow.{told, answers_at, with_room, enqc_asks}
-use Rattle.ka_cpu.specs.Places.{word_below}
+use Rattle.uuo_calls.specs.StatusRow.{stored_or_refused, answers_at, with_room, enqc_asks}
+use Rattle.ka_cpu.specs.Memory.{word_below}
 use Rattle.uuo_calls.specs.TerminalRows.{JobLines, JobInput, put_text, low_character, text_from, input_called, has_input, stored_input, no_input, skipping_if}
 use Rattle.job_sched.specs.Jobs.{ticked_job, broken_job}
 use Rattle.machine.specs.Safe.{Placed}
-use Rattle.machine.specs.Turns.{Turn, turned, concluded, told_at, interrupted_at, done}
+use Rattle.machine.specs.Turns.{Turn, turned, concluded, notified_at, interrupted_at, done}
 use Rattle.ka_cpu.proofs.ExecLaws.{by_test, pc-exec}
 use Rattle.monitor_laws.proofs.Enquiring.{by_enqc}
 
@@ -73,7 +73,7 @@ fits-answered j ac limit DoneReply h = (below _, h.1)
 fits-answered j ac limit (Refused refusal) h = h
 
 fits-told : (requests : List Request) (n ac to : ℕ) (j : Job) (core : List ℕ) (r : Result (List Want) Refusal) → Fits j
-    → Fits (told requests n ac to j core r).job
+    → Fits (stored_or_refused requests n ac to j core r).job
 fits-told requests n ac to j core (Err refusal) h = h
 fits-told requests n ac to j core (Ok wants) h = (below _, h.1)
 
@@ -105,7 +105,7 @@ fits-input unit skips e core j lines h =
     (λ _. fits-skipping skips _ h) (λ _. fits-no_input unit skips core j lines h))
     (λ _. (below _, h.1))
 
-pub fits-row : (service : Service) (time n ac e : ℕ) (a : Around) → Fits a.job → Fits (row_of service time n ac e a).job
+pub fits-row : (service : Service) (time n ac e : ℕ) (a : CallState) → Fits a.job → Fits (row_of service time n ac e a).job
 fits-row Reset time n ac e a h = h
 fits-row Core time n ac e a h = fits-done ac (grown a.cores n (blocks_asked (ac_of a.job ac))) a.job a.cores h
 fits-row Exit time n ac e a h = h
@@ -148,7 +148,7 @@ fits-turned n j cores requests None h =
     fits-concluded _ _ requests (exec j.regs (core_of cores n)).outcome (pc-exec j.regs (core_of cores n) h.0, h.1)
 fits-turned n j cores requests (Some x) h =
     by_test (λ (t : Turn). Fits t.job) (are_legal (core_of cores n) x.0 4)
-    (told_at n cores requests (interrupted_at j (core_of cores n) x.0 x.1)) (done (stopped j IllegalAddress) cores requests)
+    (notified_at n cores requests (interrupted_at j (core_of cores n) x.0 x.1)) (done (stopped j IllegalAddress) cores requests)
     (λ _. (below _, h.1)) (λ _. h)
 
 -- ticks, and CTRL-C

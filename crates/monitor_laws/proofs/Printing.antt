@@ -23,12 +23,13 @@ use Rattle.uuo_calls.specs.declared.call.CallOutcome.{CallOutcome}
 use Rattle.uuo_calls.specs.declared.call.CallOutcome.TheVariants as ending
 use Rattle.uuo_calls.specs.declared.service.Service.{Service}
 use Rattle.uuo_calls.specs.declared.service.Service.TheVariants.{Outchr, Outstr}
-use Rattle.uuo_calls.specs.Around.{Around, put_back}
+use Rattle.uuo_calls.specs.CallState.{CallState, put_back}
 use Rattle.uuo_calls.specs.Performed.{World, Performed, row_of, around, performed_by, with_around, left_by, ended}
 use Rattle.uuo_calls.specs.Services.{service_of}
-use Rattle.ka_cpu.specs.Places.{word_below}
+use Rattle.ka_cpu.specs.Memory.{word_below}
 use Rattle.uuo_calls.specs.TerminalRows.{JobLines, put_text, low_character, text_from}
-use Rattle.machine.specs.Alone.{Solo, solo_after, printed, text_of, is_output, is_allowed, is_for_terminal}
+use Rattle.uuo_calls.specs.Laws.{is_terminal_wait}
+use Rattle.machine.specs.Alone.{Solo, solo_after, printed, text_of, is_output, is_allowed}
 use Rattle.machine.specs.Machine.{with_turn, called}
 use Rattle.machine.specs.Safe.{wait_of}
 use Rattle.machine.specs.Turns.{Turn, concluded}
@@ -46,7 +47,7 @@ pub record Before (w : World) (n line : ℕ) (first taken : List ℕ) (x : Solo)
 
 -- whether job n waits for its terminal
 abbrev pub is_empty : World → ℕ → Bool
-is_empty w n = is_for_terminal (wait_of (job_at w.table.jobs n))
+is_empty w n = is_terminal_wait (wait_of (job_at w.table.jobs n))
 
 -- the PC before the call
 back : (pc : ℕ) → pc < 2 ^ 18 → ((pc + 1) % 2 ^ 18 + 0o777777) % 2 ^ 18 ≡ pc
@@ -67,7 +68,7 @@ with_text w n j o =
 
 stands-text : (w : World) (n line : ℕ) (j : Job) (o : Option (List ℕ)) (first taken : List ℕ) (x : Solo) → Before w n line first taken x
     → j.line ≡ line → j.interrupts.on ≡ false → core_of w.cores n ≡ x.core → j.regs ≡ record x.regs { pc = next_pc x.regs }
-    → limit_of j.wait ≡ 0 → is_for_terminal (put_text o j w.lines).job.wait ≡ false
+    → limit_of j.wait ≡ 0 → is_terminal_wait (put_text o j w.lines).job.wait ≡ false
     → Stands (with_text w n j o) n line first taken (printed x j.regs x.core o)
 stands-text w n line j None first taken x b at off core moved endless = λ r. record {
   job = _;
@@ -80,7 +81,7 @@ stands-text w n line j None first taken x b at off core moved endless = λ r. re
   output = b.output;
 }
 stands-text w n line j (Some text) first taken x b at off core moved endless =
-    by_test (λ (p : JobLines). is_for_terminal p.job.wait ≡ false
+    by_test (λ (p : JobLines). is_terminal_wait p.job.wait ≡ false
     → Stands (with_around w n (record (around w j) { job = p.job; lines = p.lines; ending = p.ending })) n line first taken
     (record { regs = j.regs; core = x.core; output = x.output ++ text }))
     (nat_le (length text) (room_of w.lines j.line)) _ _
@@ -116,7 +117,7 @@ stands-put w n line j o first taken x b at off core moved endless full =
     let same = put-left o j w.lines (with_text w n j o) n in
     let stays : is_empty (with_text w n j o) n ≡ false = subst (λ v. is_empty v n ≡ false) same full in
     subst (λ v. Stands v n line first taken (printed x j.regs x.core o)) (sym same)
-    (stands-text w n line j o first taken x b at off core moved endless (sym (ap is_for_terminal (wait-set w n (put_text o j w.lines).job b.low)) ∙ stays))
+    (stands-text w n line j o first taken x b at off core moved endless (sym (ap is_terminal_wait (wait-set w n (put_text o j w.lines).job b.low)) ∙ stays))
 
 -- the functions of TTCALL that put out
 abbrev IsOutput : ℕ → Type 0
@@ -223,19 +224,19 @@ advanced w time n line j core (outcome.Call kind ac e) first taken x b at off en
     (subst (λ (p : Performed). is_empty p.world n ≡ false) is full)))
 
 -- an empty step leaves the job as it was
-emptied-left : (o : CallOutcome) (w : World) (n line : ℕ) (a : Around) (first taken : List ℕ) (x : Solo) → n < length w.table.jobs
-    → (is_for_terminal a.job.wait ≡ true → Stands (with_around w n a) n line first taken x)
+emptied-left : (o : CallOutcome) (w : World) (n line : ℕ) (a : CallState) (first taken : List ℕ) (x : Solo) → n < length w.table.jobs
+    → (is_terminal_wait a.job.wait ≡ true → Stands (with_around w n a) n line first taken x)
     → is_empty (left_by o (with_around w n a) n) n ≡ true → Stands (left_by o (with_around w n a) n) n line first taken x
-emptied-left ending.Done w n line a first taken x low stands waits = stands (sym (ap is_for_terminal (wait-set w n a.job low)) ∙ waits)
-emptied-left ending.Empty w n line a first taken x low stands waits = stands (sym (ap is_for_terminal (wait-set w n a.job low)) ∙ waits)
+emptied-left ending.Done w n line a first taken x low stands waits = stands (sym (ap is_terminal_wait (wait-set w n a.job low)) ∙ waits)
+emptied-left ending.Empty w n line a first taken x low stands waits = stands (sym (ap is_terminal_wait (wait-set w n a.job low)) ∙ waits)
 emptied-left ending.Gone w n line a first taken x low stands waits =
     let low2 : n < length (slice_set w.table.jobs n (Some a.job)) = grind (arith, common_steps, low) in
     absurd
     (both_ways false refl
-    (sym (ap (λ o. is_for_terminal (wait_of o)) (get_or-set_same (slice_set w.table.jobs n (Some a.job)) n None None low2))
+    (sym (ap (λ o. is_terminal_wait (wait_of o)) (get_or-set_same (slice_set w.table.jobs n (Some a.job)) n None None low2))
     ∙ waits))
 
-terminal-endless : (v : Wait) → is_for_terminal v ≡ true → limit_of v ≡ 0
+terminal-endless : (v : Wait) → is_terminal_wait v ≡ true → limit_of v ≡ 0
 terminal-endless (Queue limit ac) e = absurd (both_ways false refl e)
 terminal-endless Nothing e = refl
 terminal-endless (Sleep ticks) e = refl
@@ -245,7 +246,7 @@ terminal-endless (Room places) e = refl
 
 emptied-row : (w : World) (time n line : ℕ) (j : Job) (service : Service) (ac e : ℕ) (first taken : List ℕ) (x : Solo) → Before w n line first taken x
     → j.line ≡ line → j.interrupts.on ≡ false → Calm j → core_of w.cores n ≡ x.core → j.regs ≡ record x.regs { pc = next_pc x.regs }
-    → is_for_terminal (row_of service time n ac e (around w j)).job.wait ≡ true
+    → is_terminal_wait (row_of service time n ac e (around w j)).job.wait ≡ true
     → Stands (with_around w n (row_of service time n ac e (around w j))) n line first taken x
 emptied-row w time n line j service ac e first taken x b at off calm core moved waits =
     let l = empty-row service time n ac e (around w j) b.house calm waits in
@@ -265,14 +266,14 @@ pub emptied : (w : World) (time n line : ℕ) (j : Job) (core : List ℕ) (o : O
     → is_empty (after_outcome w time n j core o) n ≡ true
     → Stands (after_outcome w time n j core o) n line first taken x
 emptied w time n line j core outcome.Done first taken x b at off calm ends waits =
-    absurd (both_ways _ calm (sym (ap is_for_terminal (wait-set w n j b.low)) ∙ waits))
+    absurd (both_ways _ calm (sym (ap is_terminal_wait (wait-set w n j b.low)) ∙ waits))
 emptied w time n line j core (outcome.Stop reason) first taken x b at off calm ends waits =
-    absurd (both_ways _ calm (sym (ap is_for_terminal (wait-set w n _ b.low)) ∙ waits))
+    absurd (both_ways _ calm (sym (ap is_terminal_wait (wait-set w n _ b.low)) ∙ waits))
 emptied w time n line j core (outcome.Call kind ac e) first taken x b at off calm ends waits =
     let t : Turn = concluded j (with_core w.cores n core) w.requests (outcome.Call kind ac e) in
     let v : World = with_turn w n t in
     let is = performed-is w time n t kind ac e b.low in
-    let a : Around = row_of (service_of kind ac e) time n ac e (around v j) in
+    let a : CallState = row_of (service_of kind ac e) time n ac e (around v j) in
     let stored : core_of v.cores n ≡ x.core = get_or-set_same w.cores.cores n core [] b.house ∙ ends.3 in
     let c = before-turn w n line t core first taken x refl b in
     subst (λ (p : Performed). Stands p.world n line first taken x) (sym is)

@@ -7,7 +7,7 @@ use Rattle.lock_queue.specs.declared.call.LockCall.{LockCall}
 use Rattle.lock_queue.specs.declared.call.LockReply.TheVariants.{Queued as QueuedReply}
 use Rattle.lock_queue.specs.declared.request.Request.{Request}
 use Rattle.lock_queue.specs.Calls.{outcome_of}
-use Rattle.lock_queue.specs.Jobs.{is_one, is_waiting_job, released, withdrawn, withdrawn_where, told_of}
+use Rattle.lock_queue.specs.Jobs.{is_one, is_waiting_job, released, withdrawn, withdrawn_where, job_notified}
 use Rattle.lock_laws.proofs.EveryChange.{safety_is_kept, latest_is_kept}
 use Rattle.lock_laws.proofs.WaitLaws.{waiting_is_kept, jobs_are_kept}
 use Rattle.job_sched.specs.Tables.{Table, job_at}
@@ -62,16 +62,16 @@ queued-call size jobs requests n j call there free asks q = record {
 }
 
 -- a job is told of its grant
-pub queued-told : (size : ℕ) (jobs : List (Option Job)) (requests : List Request) (n : ℕ) → Queued size jobs requests → Queued size jobs (told_of requests n)
-queued-told size jobs requests n q = record {
-  safe = (safety_is_kept size).by_telling requests n q.safe;
-  live = λ k h. q.live k ((jobs_are_kept size).by_telling requests n k h);
-  waiting = λ k h. q.waiting k ((waiting_is_kept size).by_telling requests n k h);
-  latest = (latest_is_kept size).by_telling requests n q.latest;
+pub queued-notified : (size : ℕ) (jobs : List (Option Job)) (requests : List Request) (n : ℕ) → Queued size jobs requests → Queued size jobs (job_notified requests n)
+queued-notified size jobs requests n q = record {
+  safe = (safety_is_kept size).by_notifying requests n q.safe;
+  live = λ k h. q.live k ((jobs_are_kept size).by_notifying requests n k h);
+  waiting = λ k h. q.waiting k ((waiting_is_kept size).by_notifying requests n k h);
+  latest = (latest_is_kept size).by_notifying requests n q.latest;
 }
 
-pub free-told : (requests : List Request) (n k : ℕ) → is_waiting_job requests k ≡ false → is_waiting_job (told_of requests n) k ≡ false
-free-told requests n k free = false_from_ne_true _ (λ h. both_ways (is_waiting_job requests k) free ((waiting_is_kept 0).by_telling requests n k h))
+pub free-notified : (requests : List Request) (n k : ℕ) → is_waiting_job requests k ≡ false → is_waiting_job (job_notified requests n) k ≡ false
+free-notified requests n k free = false_from_ne_true _ (λ h. both_ways (is_waiting_job requests k) free ((waiting_is_kept 0).by_notifying requests n k h))
 
 -- a job that is gone
 pub queued-gone : (size : ℕ) (jobs : List (Option Job)) (requests : List Request) (n : ℕ) → Queued size jobs requests

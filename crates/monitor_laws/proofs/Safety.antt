@@ -16,7 +16,7 @@ use Rattle.core_store.specs.Cores.{Cores, IsJob, IsWhole, core_of, blocks_of, wi
 use Rattle.lock_queue.specs.declared.call.LockCall.{LockCall}
 use Rattle.lock_queue.specs.declared.refusal.Refusal.{Refusal}
 use Rattle.lock_queue.specs.declared.request.Request.{Request}
-use Rattle.lock_queue.specs.Jobs.{is_waiting_job, told_of}
+use Rattle.lock_queue.specs.Jobs.{is_waiting_job, job_notified}
 use Rattle.tty_lines.specs.Rings.{Rings, all_clear}
 use Rattle.job_sched.specs.Limits.{is_queue}
 use Rattle.job_sched.specs.Ready.{holds, is_ready, is_ready_job, first_from, next_job, after}
@@ -27,14 +27,14 @@ use Rattle.uuo_calls.specs.declared.service.Service.{Service}
 use Rattle.uuo_calls.specs.declared.service.Service.TheVariants.{Reset, Core, Exit, Monrt, Logout, Mstime, Pjob, Sleep, Piini, Pisys, Debrk, Enq, Deq, Enqc}
 use Rattle.uuo_calls.specs.declared.service.Service.TheVariants.{Datrd, Datwr, Input, Outchr, Outstr, Clrbfi, Clrbfo, Skpin, Unlisted}
 use Rattle.ka_cpu.specs.declared.outcome.StopReason.TheVariants.{IllegalAddress}
-use Rattle.ka_cpu.specs.Places.{are_legal}
-use Rattle.uuo_calls.specs.Around.{Around, ac_of, stopped}
+use Rattle.ka_cpu.specs.Memory.{are_legal}
+use Rattle.uuo_calls.specs.CallState.{CallState, ac_of, stopped}
 use Rattle.uuo_calls.specs.CoreRow.{JobCores, grown, blocks_asked, core_done, with_highest}
 use Rattle.uuo_calls.specs.LockRows.{asked, answered, replied, enq_asks, enq_limit, deq_asks}
 use Rattle.job_sched.specs.Changes.{standing, with_job}
 use Rattle.uuo_calls.specs.Performed.{World, row_of, around, performed_by, with_around, left_by, without_job}
 use Rattle.uuo_calls.specs.Services.{service_of}
-use Rattle.uuo_calls.specs.StatusRow.{Places, stored_at, status_told, enqc}
+use Rattle.uuo_calls.specs.StatusRow.{Memory, stored_at, status_told, enqc}
 use Rattle.uuo_calls.specs.TerminalRows.{input_called}
 use Rattle.uuo_calls.specs.declared.call.CallOutcome.{CallOutcome}
 use Rattle.uuo_calls.specs.declared.call.CallOutcome.TheVariants as ending
@@ -48,9 +48,9 @@ use Rattle.job_sched.specs.Jobs.{broken_job, started_job, going_on, ticked_job}
 use Rattle.machine.specs.Machine.{S, made_if, with_turn, called, awake, ran, stepped, limited, ticked, first_quota, killed, happens, at_boot, Made}
 use Rattle.machine.specs.Machine.{made, typed, broken, taken, started, continued, with_image, admitted, examined, logged_in}
 use Rattle.job_sched.specs.Jobs.{new_job}
-use Rattle.machine.specs.Images.{blocks_for, image_top, top_of, image_places, loaded, fresh_regs}
+use Rattle.machine.specs.Images.{blocks_for, image_top, top_of, image_memory, loaded, fresh_regs}
 use Rattle.machine.specs.Safe.{Safe, Placed, Housed, Queued, wait_of, line_of, LinesApart, LinesBelow}
-use Rattle.machine.specs.Turns.{Turn, turn_of, turned, due, concluded, delivered, told_at, interrupted_at, done}
+use Rattle.machine.specs.Turns.{Turn, turn_of, turned, due, concluded, delivered, notified_at, interrupted_at, done}
 use Rattle.lock_laws.specs.Circles.{NoPlainCircle}
 use Rattle.lock_laws.proofs.EveryChange.{safe_jobs_make_no_circle}
 use Rattle.lock_laws.proofs.AlongCalls.{always_safe}
@@ -62,7 +62,7 @@ use Rattle.ka_cpu.proofs.ExecLaws.{by_test, length-core_with, length-exec}
 use Rattle.monitor_laws.proofs.Turning.{length-noted}
 use Rattle.monitor_laws.proofs.Enquiring.{by_enqc}
 use Rattle.monitor_laws.proofs.Stored.{length-status, length-input}
-use Rattle.monitor_laws.proofs.Queueing.{queued-job, queued-call, queued-told, free-told, queued-gone, queued-released}
+use Rattle.monitor_laws.proofs.Queueing.{queued-job, queued-call, queued-notified, free-notified, queued-gone, queued-released}
 use Rattle.monitor_laws.proofs.Queueing.{queued-started, queued-going_on, queued-new, queued-mapped, queued-limited}
 use Rattle.std.proofs.lemmas.List.{length-set}
 use Rattle.std.specs.List.{list_any}
@@ -101,7 +101,7 @@ fine-core size jobs n j cores requests words same f = record {
 }
 
 -- a lock call
-fine-asked : (size : ℕ) (jobs : List (Option Job)) (n ac limit : ℕ) (a : Around) (r : Result LockCall Refusal) → Free size jobs n a.cores a.requests
+fine-asked : (size : ℕ) (jobs : List (Option Job)) (n ac limit : ℕ) (a : CallState) (r : Result LockCall Refusal) → Free size jobs n a.cores a.requests
     → Fine size jobs n (replied a ac limit (asked size a.requests n r)).job a.cores (asked size a.requests n r).requests
 fine-asked size jobs n ac limit a (Err refusal) f = fine-job size jobs n _ a.cores a.requests f
 fine-asked size jobs n ac limit a (Ok call) f = record {
@@ -154,7 +154,7 @@ fine-released size jobs n j cores requests f = record {
 }
 
 -- every row of the table
-fine-row : (service : Service) (jobs : List (Option Job)) (time n ac e : ℕ) (a : Around) → Free a.size jobs n a.cores a.requests
+fine-row : (service : Service) (jobs : List (Option Job)) (time n ac e : ℕ) (a : CallState) → Free a.size jobs n a.cores a.requests
     → Fine a.size jobs n (row_of service time n ac e a).job (row_of service time n ac e a).cores (row_of service time n ac e a).requests
 fine-row Reset jobs time n ac e a f = fine-released a.size jobs n _ a.cores a.requests f
 fine-row Core jobs time n ac e a f =
@@ -210,13 +210,13 @@ turned-delivered : (size : ℕ) (jobs : List (Option Job)) (n : ℕ) (j : Job) (
     → Turned size jobs n (delivered n j cores requests vector id)
 turned-delivered size jobs n j cores requests vector id f =
     by_test (Turned size jobs n) (are_legal (core_of cores n) vector 4)
-    (told_at n cores requests (interrupted_at j (core_of cores n) vector id)) (done (stopped j IllegalAddress) cores requests)
+    (notified_at n cores requests (interrupted_at j (core_of cores n) vector id)) (done (stopped j IllegalAddress) cores requests)
     (λ _. record {
       fine = record {
         housed = housed-job jobs _ n _ f.there (housed-core jobs cores n _ f.there (length-noted j.regs (core_of cores n) vector id) f.housed);
-        queued = queued-job size jobs (told_of requests n) n _ f.there (free-told requests n n f.free) (queued-told size jobs requests n f.queued);
+        queued = queued-job size jobs (job_notified requests n) n _ f.there (free-notified requests n n f.free) (queued-notified size jobs requests n f.queued);
       };
-      free = free-told requests n n f.free;
+      free = free-notified requests n n f.free;
     })
     (λ _. record { fine = fine-job size jobs n (stopped j IllegalAddress) cores requests f; free = f.free })
 
@@ -250,7 +250,7 @@ sound-performed : (w : World) (time n : ℕ) (o : Option Job) (service : Service
     → Sound (performed_by w time n o service ac e).world
 sound-performed w time n None service ac e f = record { housed = f.housed; queued = f.queued }
 sound-performed w time n (Some j) service ac e f =
-    let a : Around = row_of service time n ac e (around w j) in
+    let a : CallState = row_of service time n ac e (around w j) in
     let r = fine-row service w.table.jobs time n ac e (around w j) f in
     sound-left a.ending (with_around w n a) n (there-set w.table.jobs n n a.job f.there ∙ f.there) (record { housed = r.housed; queued = r.queued })
 
@@ -280,7 +280,7 @@ kept-performed : (w : World) (time n : ℕ) (o : Option Job) (service : Service)
     → Kept w (performed_by w time n o service ac e).world
 kept-performed w time n None service ac e is f = kept-refl w
 kept-performed w time n (Some j) service ac e is f =
-    let a : Around = row_of service time n ac e (around w j) in
+    let a : CallState = row_of service time n ac e (around w j) in
     let r = fine-row service w.table.jobs time n ac e (around w j) f in
     kept-left a.ending w (with_around w n a) n (there-set w.table.jobs n n a.job f.there ∙ f.there) r.housed
     (kept-row service w time n ac e j is f.there f.housed)
@@ -503,13 +503,13 @@ safe-continued s n h =
     (queued-going_on s.world.size s.world.table.jobs s.world.requests n (going_on p.0) (ap is_some p.1) (ap wait_of p.1) h.queued)))
 
 -- a job begins
-length-loaded : (p : Places) (ws : List (ℕ × ℕ)) → length (loaded p ws).core ≡ length p.core
+length-loaded : (p : Memory) (ws : List (ℕ × ℕ)) → length (loaded p ws).core ≡ length p.core
 length-loaded p [] = refl
 length-loaded p (w ∷ ws) = length-loaded (stored_at p w.0 w.1) ws ∙ length-core_with p.core w.0 w.1
 
-length-image : (ws : List (ℕ × ℕ)) (start blocks : ℕ) → length (image_places ws start blocks).core ≡ blocks * BLOCK_WORDS
+length-image : (ws : List (ℕ × ℕ)) (start blocks : ℕ) → length (image_memory ws start blocks).core ≡ blocks * BLOCK_WORDS
 length-image ws start blocks =
-    let p : Places = record { regs = fresh_regs start; core = replicate (blocks * BLOCK_WORDS) 0 } in
+    let p : Memory = record { regs = fresh_regs start; core = replicate (blocks * BLOCK_WORDS) 0 } in
     let zeros : length (replicate {A = ℕ} (blocks * BLOCK_WORDS) 0) ≡ blocks * BLOCK_WORDS = grind (arith, common_steps) in
     length-set (loaded p ws).core 0o44 (blocks * BLOCK_WORDS - 1) ∙ length-loaded p ws ∙ zeros
 
@@ -540,7 +540,7 @@ free-line [] line k none e = cc
 free-line (x ∷ jobs) line zero none e = grind (arith, common_steps)
 free-line (x ∷ jobs) line (suc k) none e = free-line jobs line k (grind (arith, common_steps)) e
 
-pc-loaded : (p : Places) (ws : List (ℕ × ℕ)) → (loaded p ws).regs.pc ≡ p.regs.pc
+pc-loaded : (p : Memory) (ws : List (ℕ × ℕ)) → (loaded p ws).regs.pc ≡ p.regs.pc
 pc-loaded p [] = refl
 pc-loaded p (w ∷ ws) = pc-loaded (stored_at p w.0 w.1) ws
 
@@ -550,8 +550,8 @@ safe-image : (s : S) (n line : ℕ) (ws : List (ℕ × ℕ)) (start blocks : ℕ
     → line < LINES → list_any (is_at line) s.world.table.jobs ≡ false → Safe s
     → Safe (record s { world = with_image s.world n line ws start blocks })
 safe-image s n line ws start blocks low some room free fits none h =
-    let number : IsJob n = (free.least, omega (arith, h.housed.places, free.below)) in
-    let p : Places = image_places ws start blocks in
+    let number : IsJob n = (free.least, omega (arith, h.housed.slots, free.below)) in
+    let p : Memory = image_memory ws start blocks in
     record {
       housed =
           housed-taken s.world.table.jobs s.world.cores n blocks (new_job line p.regs start (first_quota s.world.size)) p.core
@@ -629,7 +629,7 @@ safe-empty size blocks shared time quantum few =
     let none = sum-replicate (JOBS + 1) in
     record {
       housed = record {
-        places = refl;
+        slots = refl;
         none_0 = refl;
         store = record {
           jobs = refl;

@@ -1,24 +1,24 @@
 -- Calls that store leave core as long as it was.
 use Rattle.uuo_calls.specs.declared.service.Awaited.{Awaited}
 use Rattle.std.proofs.Common.{◌≡◌, ◌∙◌, ℕ, ◌+◌, Bool, List, [], ◌∷◌, length, Result, Ok, Err, refl}
-use Rattle.ka_cpu.specs.Places.{is_legal}
+use Rattle.ka_cpu.specs.Memory.{is_legal}
 use Rattle.lock_queue.specs.declared.refusal.Refusal.{Refusal}
 use Rattle.lock_queue.specs.declared.request.Request.{Request}
 use Rattle.lock_queue.specs.declared.want.Want.{Want}
 use Rattle.tty_lines.specs.Rings.{Rings, input_of}
 use Rattle.job_sched.specs.declared.job.Job.{Job}
-use Rattle.uuo_calls.specs.Around.{ac_of}
-use Rattle.uuo_calls.specs.StatusRow.{Places, answers_at, enqc_asks, status_told, status_words, stored, stored_at, told, with_room}
+use Rattle.uuo_calls.specs.CallState.{ac_of}
+use Rattle.uuo_calls.specs.StatusRow.{Memory, answers_at, enqc_asks, status_told, status_words, stored, stored_at, stored_or_refused, with_room}
 use Rattle.uuo_calls.specs.TerminalRows.{JobInput, input_called, has_input, stored_input, no_input, first_of}
 use Rattle.ka_cpu.proofs.ExecLaws.{by_test, length-core_with}
 
 -- ENQC.
-length-stored : (p : Places) (a : ℕ) (ws : List ℕ) → length (stored p a ws).core ≡ length p.core
+length-stored : (p : Memory) (a : ℕ) (ws : List ℕ) → length (stored p a ws).core ≡ length p.core
 length-stored p a [] = refl
 length-stored p a (w ∷ ws) = length-stored (stored_at p a w) (a + 1) ws ∙ length-core_with p.core a w
 
 length-told : (requests : List Request) (n ac to : ℕ) (j : Job) (core : List ℕ) (r : Result (List Want) Refusal)
-    → length (told requests n ac to j core r).core ≡ length core
+    → length (stored_or_refused requests n ac to j core r).core ≡ length core
 length-told requests n ac to j core (Err refusal) = refl
 length-told requests n ac to j core (Ok wants) = length-stored (record { regs = j.regs; core = core }) to (status_words requests n wants)
 

@@ -542,7 +542,7 @@ computes-undisturbed s n most j ticking safe next u there =
     let is_next : is_ready s.world.table.jobs s.world.lines s.world.requests n ≡ true = next-ready s.world.table s.world.lines s.world.requests n next in
     let ready : is_ready_job s.world.lines s.world.requests n (Some j) ≡ true =
     sym (ap (λ (o : Option Job). is_ready_job s.world.lines s.world.requests n o) there) ∙ is_next in
-    let places : length (chosen s.world.table n s.quantum).jobs ≡ JOBS + 1 = ap (λ (l : List (Option Job)). length l) jobs ∙ safe.housed.places in
+    let places : length (chosen s.world.table n s.quantum).jobs ≡ JOBS + 1 = ap (λ (l : List (Option Job)). length l) jobs ∙ safe.housed.slots in
     let low : n ≤ JOBS = runs.number.1 in
     record {
       current = u.current;

@@ -3,14 +3,14 @@ use Rattle.std.proofs.Common.{◌≡◌, ◌≢◌, ◌<◌, ◌∙◌, sym, ap,
 use Rattle.std.proofs.lemmas.List.{get_or-set_same}
 use Rattle.ka_cpu.specs.Exec.{exec}
 use Rattle.ka_cpu.specs.Jumps.{pc_word}
-use Rattle.ka_cpu.specs.Places.{core_with}
+use Rattle.ka_cpu.specs.Memory.{core_with}
 use Rattle.ka_cpu.specs.declared.registers.Regs.{Regs}
 use Rattle.ka_cpu.specs.declared.outcome.Outcome.{Outcome}
 use Rattle.ka_cpu.specs.declared.outcome.Outcome.TheVariants as outcome
 use Rattle.core_store.specs.Cores.{Cores, core_of, with_core}
 use Rattle.lock_queue.specs.declared.request.Request.{Request}
 use Rattle.job_sched.specs.declared.job.Job.{Job}
-use Rattle.machine.specs.Turns.{Turn, turned, concluded, told_at, interrupted_at, noted}
+use Rattle.machine.specs.Turns.{Turn, turned, concluded, notified_at, interrupted_at, noted}
 use Rattle.ka_cpu.proofs.ExecLaws.{by_test, length-core_with, length-exec}
 
 below-some : (cores : List (List ℕ)) (free n : ℕ) → core_of (record { cores = cores; free = free }) n ≢ [] → n < length cores
@@ -44,7 +44,7 @@ pub some-turned : (n : ℕ) (j : Job) (cores : Cores) (requests : List Request) 
 some-turned n j cores requests None some =
     some-concluded _ _ requests (exec j.regs (core_of cores n)).outcome n (some-with_core cores n _ some (length-exec j.regs (core_of cores n)))
 some-turned n j cores requests (Some x) some =
-    by_test (λ (t : Turn). core_of t.cores n ≢ []) _ (told_at n cores requests (interrupted_at j (core_of cores n) x.0 x.1)) _
+    by_test (λ (t : Turn). core_of t.cores n ≢ []) _ (notified_at n cores requests (interrupted_at j (core_of cores n) x.0 x.1)) _
     (λ _. some-with_core cores n _ some (length-noted j.regs (core_of cores n) x.0 x.1))
     (λ _. some)
 
@@ -57,4 +57,4 @@ wait-concluded j cores requests (outcome.Call kind ac e) = refl
 pub wait-turned : (n : ℕ) (j : Job) (cores : Cores) (requests : List Request) (o : Option (ℕ × ℕ)) → (turned n j cores requests o).job.wait ≡ j.wait
 wait-turned n j cores requests None = wait-concluded _ _ requests (exec j.regs (core_of cores n)).outcome
 wait-turned n j cores requests (Some x) =
-    by_test (λ (t : Turn). t.job.wait ≡ j.wait) _ (told_at n cores requests (interrupted_at j (core_of cores n) x.0 x.1)) _ (λ _. refl) (λ _. refl)
+    by_test (λ (t : Turn). t.job.wait ≡ j.wait) _ (notified_at n cores requests (interrupted_at j (core_of cores n) x.0 x.1)) _ (λ _. refl) (λ _. refl)

@@ -1,5 +1,5 @@
-//! What every event and every run keep: the laws of the machine. Each function does nothing: its
-//! contract is the law.
+//! The laws of the machine: what every event and every run keep. Each function does nothing: its contract is
+//! a law.
 #![tactic(auto)]
 
 ghost use Rattle.std.specs.Prelude.{ℕ, ◌≤◌, List};
@@ -24,7 +24,7 @@ pub fn waits_are_for_grants()
     ensures { (s : S) → Safe s → WaitsForGrants s.world }
 {}
 
-/// In a safe state no circle of waits consists of plain jobs.
+/// In a safe state, jobs that ask for one lock at a time, by rising levels, do not wait in a circle.
 pub fn plain_jobs_make_no_circle()
     ensures { (s : S) → Safe s → NoPlainCircle s.world.requests }
 {}
@@ -39,9 +39,9 @@ pub fn jobs_run_alone()
     ensures { (s : S) (events : List EventView) → Safe s → RunsAlone s events }
 {}
 
-/// A limit of a wait counts the ticks while the wait holds, and at its last tick the job is told. From
-/// a safe state, where nobody starts or kills the job or restarts the machine, the job's request is
-/// granted before, or it is told.
+/// The limit of a wait counts ticks as long as the wait holds, and at the last tick the job's call is
+/// refused. From a safe state, where nobody starts or kills the job or restarts the machine, the request is
+/// granted before, or the call is refused.
 pub fn limits_are_kept()
     ensures ticks { (s : S) → LimitsCount s }
     ensures grants { (s : S) → GrantsStopLimits s }

@@ -5,7 +5,7 @@ use Rattle.std.specs.List.{list_any}
 use Rattle.word36.specs.declared.sizes.TheConstants.{LINES, INPUT_RING}
 use Rattle.word36.specs.Words.{left_half, right_half}
 use Rattle.ka_cpu.specs.Exec.{exec}
-use Rattle.ka_cpu.specs.Places.{are_legal}
+use Rattle.ka_cpu.specs.Memory.{are_legal}
 use Rattle.ka_cpu.specs.declared.outcome.Outcome.{Outcome}
 use Rattle.ka_cpu.specs.declared.outcome.Outcome.TheVariants as outcome
 use Rattle.ka_cpu.specs.declared.outcome.StopReason.TheVariants.{IllegalAddress}
@@ -29,7 +29,7 @@ use Rattle.job_sched.specs.Limits.{expires}
 use Rattle.job_sched.specs.Ready.{next_job}
 use Rattle.job_sched.specs.Tables.{job_at}
 use Rattle.job_sched.specs.declared.job.Job.{Job}
-use Rattle.uuo_calls.specs.Around.{Around, ac_of, stopped}
+use Rattle.uuo_calls.specs.CallState.{CallState, ac_of, stopped}
 use Rattle.uuo_calls.specs.LockRows.{asked, entering, changing, naming, enq_asks, deq_asks}
 use Rattle.uuo_calls.specs.Performed.{World, row_of, around, performed_by, with_around, left_by}
 use Rattle.uuo_calls.specs.Services.{service_of}
@@ -46,7 +46,7 @@ use Rattle.machine.specs.declared.sizes.TheConstants.{INTERRUPT_CHARACTER}
 use Rattle.machine.specs.Images.{image_top, blocks_for}
 use Rattle.machine.specs.Machine.{S, Made, made_if, started, continued, with_turn, after_turn, called, awake, ran, stepped}
 use Rattle.machine.specs.Machine.{killed, happens, typed, taken, admitted, examined, logged_in}
-use Rattle.machine.specs.Turns.{Turn, turn_of, turned, due, concluded, delivered, done, told_at, interrupted_at}
+use Rattle.machine.specs.Turns.{Turn, turn_of, turned, due, concluded, delivered, done, notified_at, interrupted_at}
 use Rattle.progress_laws.specs.Arrivals.{is_enq, changes_wants, job_changes_wants, next_changes_wants}
 use Rattle.progress_laws.specs.Arrivals.{is_change_of_wants, LeaveOrComeOver, InFrontOver, NobodyInFrontAlong}
 use Rattle.lock_laws.specs.Owning.{is_dequeue}
@@ -102,7 +102,7 @@ thin-asked size requests n (Err refusal) h = stay requests
 thin-asked size requests n (Ok call) h = (nobody_comes_in_front size).by_dequeues requests n call h
 
 -- every row of the table but that of ENQ.
-thin-row : (service : Service) (time n ac e : ℕ) (a : Around) → is_enq service ≡ false
+thin-row : (service : Service) (time n ac e : ℕ) (a : CallState) → is_enq service ≡ false
     → Thinned (Remains IsSame) a.requests (row_of service time n ac e a).requests
 thin-row Reset time n ac e a other = (nobody_comes_in_front a.size).by_releases a.requests n
 thin-row Core time n ac e a other = stay a.requests
@@ -138,7 +138,7 @@ thin-left ending.Gone w n = (nobody_comes_in_front w.size).by_releases w.request
 thin-performed : (w : World) (time n : ℕ) (service : Service) (ac e : ℕ) (j : Job) → is_enq service ≡ false
     → Thinned (Remains IsSame) w.requests (performed_by w time n (Some j) service ac e).world.requests
 thin-performed w time n service ac e j other =
-    let a : Around = row_of service time n ac e (around w j) in
+    let a : CallState = row_of service time n ac e (around w j) in
     thin-then (Remains IsSame) (Remains IsSame) (Remains IsSame) (remains-then IsSame IsSame IsSame same-then)
     (thin-row service time n ac e (around w j) other) (thin-left a.ending (with_around w n a) n)
 
@@ -267,8 +267,8 @@ module _ (P : Want → Want → Type 0) (from : (a b : List Request) → Thinned
           → LeaveOrCome P n w.requests (after_turn w time n (delivered n j w.cores w.requests vector id)).requests
       come-delivered w time n j vector id =
           by_test (λ (t : Turn). LeaveOrCome P n w.requests (after_turn w time n t).requests) (are_legal (core_of w.cores n) vector 4)
-          (told_at n w.cores w.requests (interrupted_at j (core_of w.cores n) vector id)) (done (stopped j IllegalAddress) w.cores w.requests)
-          (λ _. inl (from w.requests _ ((nobody_comes_in_front w.size).by_telling w.requests n))) (λ _. come-same n w.requests)
+          (notified_at n w.cores w.requests (interrupted_at j (core_of w.cores n) vector id)) (done (stopped j IllegalAddress) w.cores w.requests)
+          (λ _. inl (from w.requests _ ((nobody_comes_in_front w.size).by_notifying w.requests n))) (λ _. come-same n w.requests)
 
       come-turn : (w : World) (time n : ℕ) (j : Job) (o : Option (ℕ × ℕ)) → Allowed (turned n j w.cores w.requests o).job (turned n j w.cores w.requests o).call
           → LeaveOrCome P n w.requests (after_turn w time n (turned n j w.cores w.requests o)).requests

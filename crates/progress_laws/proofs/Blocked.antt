@@ -16,7 +16,7 @@ use Rattle.lock_laws.specs.Safe.{Safe as SafeRequests}
 use Rattle.lock_laws.proofs.Circling.{WaitsLast, waits_last}
 use Rattle.lock_laws.proofs.Granting.{Has-claims}
 use Rattle.lock_laws.proofs.Invariant.{kept-safe}
-use Rattle.lock_laws.proofs.Places.{Has-middle, chosen-Has}
+use Rattle.lock_laws.proofs.Positions.{Has-middle, chosen-Has}
 use Rattle.lock_laws.proofs.Steps.{Ordered}
 use Rattle.lock_laws.proofs.WaitSteps.{Waits, waits_found, found_waits}
 use Rattle.progress_laws.specs.Fronts.{wants_key}

@@ -17,7 +17,7 @@ use Rattle.lock_queue.specs.Calls.{outcome_of}
 use Rattle.lock_queue.specs.Changes.{changed, changed_group, changed_want, with_changes, modify}
 use Rattle.lock_queue.specs.Dequeues.{has_wants, with_wants, without_keys, without_keys_of, without_named, dequeue_named, dequeue_where, is_of_job, has_id}
 use Rattle.lock_queue.specs.Enqueues.{arrival, not_granted, with_arrival, enqueue_refusal, enqueue}
-use Rattle.lock_queue.specs.Jobs.{is_interrupt, is_not_blocked_where, is_pending, as_told, told_behind}
+use Rattle.lock_queue.specs.Jobs.{is_interrupt, is_not_blocked_where, is_pending, as_notified, notified_behind}
 use Rattle.lock_queue.specs.Keys.{same_key}
 use Rattle.lock_queue.specs.Outcomes.{Outcome, outcome, unless_refused}
 use Rattle.lock_queue.specs.Queue.{chosen_behind, granted}
@@ -46,8 +46,8 @@ module _ (P : Want → Want → Type 0) (same : (w : Want) → P w w) where
   pub remains-same : (r : Request) → Remains P r r
   remains-same r = record { job = refl; id = refl; kind = refl; wants = thin-same P same r.wants.items }
 
-  remains-told : (r : Request) → Remains P r (as_told r)
-  remains-told r = record { job = refl; id = refl; kind = refl; wants = thin-same P same r.wants.items }
+  remains-notified : (r : Request) → Remains P r (as_notified r)
+  remains-notified r = record { job = refl; id = refl; kind = refl; wants = thin-same P same r.wants.items }
 
   remains-fewer : (r : Request) (test : Want → Bool) → Remains P r (with_wants r (filter test r.wants.items))
   remains-fewer r test = record { job = refl; id = refl; kind = refl; wants = thin-filter P same test r.wants.items }
@@ -127,12 +127,12 @@ module _ (P : Want → Want → Type 0) (same : (w : Want) → P w w) where
       (stays (remains-same P same r) (thin-chosen test (e ++ r ∷ []) rs)) (leaves (thin-chosen test (e ++ r ∷ []) rs))
 
   -- a job that is told
-  thin-told : (test : List Request → Request → Bool) (e rs : List Request) → Thinned (Remains P) rs (told_behind test e rs)
-  thin-told test e [] = none
-  thin-told test e (r ∷ rs) =
-      by_test (λ l. Thinned (Remains P) (r ∷ rs) l) (test e r) (as_told r ∷ rs) (r ∷ told_behind test (e ++ r ∷ []) rs)
-      (stays (remains-told P same r) (stay-same rs))
-      (stays (remains-same P same r) (thin-told test (e ++ r ∷ []) rs))
+  thin-notified : (test : List Request → Request → Bool) (e rs : List Request) → Thinned (Remains P) rs (notified_behind test e rs)
+  thin-notified test e [] = none
+  thin-notified test e (r ∷ rs) =
+      by_test (λ l. Thinned (Remains P) (r ∷ rs) l) (test e r) (as_notified r ∷ rs) (r ∷ notified_behind test (e ++ r ∷ []) rs)
+      (stays (remains-notified P same r) (stay-same rs))
+      (stays (remains-same P same r) (thin-notified test (e ++ r ∷ []) rs))
 
 module _ (P : Want → Want → Type 0) (same : (w : Want) → P w w) (after : (u v w : Want) → P u v → P v w → P u w) where
   leave-named : (requests : List Request) (job : ℕ) (named : List Want) → Thinned (Remains P) requests (dequeue_named requests job named).requests
@@ -203,5 +203,5 @@ nobody_comes_in_front size = record {
   by_dequeues = dequeues size;
   by_releases = λ requests job. leave-filter IsSame (λ w. refl) _ requests;
   by_withdrawals = λ requests waiters. thin-chosen IsSame (λ w. refl) (is_not_blocked_where waiters) [] requests;
-  by_telling = λ requests job. thin-told IsSame (λ w. refl) (is_pending job) [] requests;
+  by_notifying = λ requests job. thin-notified IsSame (λ w. refl) (is_pending job) [] requests;
 }

@@ -11,7 +11,7 @@ use Rattle.lock_queue.specs.WellFormed.{are_well_formed}
 use Rattle.lock_queue.proofs.Fitting.{names-found, names-Has}
 use Rattle.lock_queue.proofs.Lists.{Has, Has-right, flat_map-Has, list_any-Has, list_any-found}
 use Rattle.lock_laws.specs.Owning.{owns}
-use Rattle.lock_laws.proofs.Places.{Has-chosen}
+use Rattle.lock_laws.proofs.Positions.{Has-chosen}
 use Rattle.progress_laws.specs.Fronts.{IsSameButSharing, Remains, wants_key, in_front}
 use Rattle.progress_laws.specs.Thinning.{Thinned}
 use Rattle.progress_laws.specs.Together.{is_for}

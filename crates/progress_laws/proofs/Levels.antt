@@ -12,7 +12,7 @@ use Rattle.lock_queue.proofs.Lists.{Has}
 use Rattle.lock_laws.specs.Owning.{owns}
 use Rattle.lock_laws.proofs.Granting.{Kin, kin}
 use Rattle.lock_laws.proofs.Invariant.{kept-safe}
-use Rattle.lock_laws.proofs.Places.{Has-middle, chosen-Has, Has-chosen}
+use Rattle.lock_laws.proofs.Positions.{Has-middle, chosen-Has, Has-chosen}
 use Rattle.lock_laws.proofs.WaitSteps.{Waits, waits_found}
 use Rattle.lock_laws.proofs.Words.{Contains-Has, Has-Contains}
 use Rattle.machine.specs.declared.event.Event.{Event}

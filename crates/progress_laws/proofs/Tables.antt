@@ -16,7 +16,7 @@ use Rattle.job_sched.specs.Limits.{limited_table}
 use Rattle.job_sched.specs.Tables.{Table, job_at}
 use Rattle.job_sched.specs.declared.job.Job.{Job}
 use Rattle.job_sched.specs.declared.job_error.JobError.{JobError}
-use Rattle.uuo_calls.specs.Around.{Around}
+use Rattle.uuo_calls.specs.CallState.{CallState}
 use Rattle.uuo_calls.specs.Performed.{World, row_of, around, performed_by, with_around, left_by}
 use Rattle.uuo_calls.specs.Services.{service_of}
 use Rattle.uuo_calls.specs.declared.call.CallOutcome.{CallOutcome}
@@ -165,7 +165,7 @@ quiet-performed : (w : World) (time n : ℕ) (service : Service) (ac e : ℕ) (o
     → Quiet w.table (performed_by w time n o service ac e).world.table
 quiet-performed w time n service ac e None is = quiet-same w.table
 quiet-performed w time n service ac e (Some j) is =
-    let a : Around = row_of service time n ac e (around w j) in
+    let a : CallState = row_of service time n ac e (around w j) in
     quiet-then w.table (with_around w n a).table (left_by a.ending (with_around w n a) n).table
     (quiet-put w.table n (Some a.job) (sym (ap is_some is))) (quiet-left a.ending (with_around w n a) n)
 

@@ -10,7 +10,7 @@ use Rattle.lock_queue.specs.Queue.{granted_behind, names}
 use Rattle.lock_queue.proofs.Fitting.{names-Has}
 use Rattle.lock_queue.proofs.Lists.{Has, filter-Has}
 use Rattle.lock_laws.specs.Owning.{owns}
-use Rattle.lock_laws.proofs.Places.{Has-middle}
+use Rattle.lock_laws.proofs.Positions.{Has-middle}
 use Rattle.job_sched.specs.Tables.{job_at}
 use Rattle.job_sched.specs.declared.job.Job.{Job}
 use Rattle.machine.specs.declared.event.Answer.TheVariants.{Ran}

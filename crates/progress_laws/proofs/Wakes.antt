@@ -17,7 +17,7 @@ use Rattle.lock_queue.proofs.Lists.{list_all-each, list_all-fails, list_any-Has,
 use Rattle.lock_queue.proofs.WellKept.{wants_in_range}
 use Rattle.lock_laws.specs.Claims.{claim_of, claims_of, claims, AreApart}
 use Rattle.lock_laws.specs.Safe.{Safe as SafeRequests}
-use Rattle.lock_laws.proofs.Places.{slice_get-Has, some-split}
+use Rattle.lock_laws.proofs.Positions.{slice_get-Has, some-split}
 use Rattle.lock_laws.proofs.WaitSteps.{Waits, waits_found}
 use Rattle.lock_laws.proofs.Words.{AllPairs-Pairs, Has-Contains}
 use Rattle.tty_lines.specs.Rings.{Rings}

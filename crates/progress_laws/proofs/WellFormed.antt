@@ -6,7 +6,7 @@ use Rattle.std.proofs.lemmas.Bool.{and_from, le-leb}
 use Rattle.word36.specs.declared.sizes.TheConstants.{LINES, INPUT_RING, JOBS, LOCKS_A_CALL}
 use Rattle.word36.specs.Words.{left_half, right_half}
 use Rattle.ka_cpu.specs.Exec.{exec}
-use Rattle.ka_cpu.specs.Places.{are_legal}
+use Rattle.ka_cpu.specs.Memory.{are_legal}
 use Rattle.ka_cpu.specs.declared.outcome.Outcome.{Outcome}
 use Rattle.ka_cpu.specs.declared.outcome.Outcome.TheVariants as outcome
 use Rattle.ka_cpu.specs.declared.outcome.StopReason.TheVariants.{IllegalAddress}
@@ -33,7 +33,7 @@ use Rattle.job_sched.specs.Ready.{next_job}
 use Rattle.job_sched.specs.Tables.{job_at}
 use Rattle.job_sched.specs.declared.job.Job.{Job}
 use Rattle.job_sched.proofs.Turns.{next-ready}
-use Rattle.uuo_calls.specs.Around.{Around, ac_of, stopped}
+use Rattle.uuo_calls.specs.CallState.{CallState, ac_of, stopped}
 use Rattle.uuo_calls.specs.LockRows.{asked, entering, changing, naming, enq_asks, deq_asks}
 use Rattle.uuo_calls.specs.Performed.{World, row_of, around, performed_by, with_around, left_by}
 use Rattle.uuo_calls.specs.Services.{service_of}
@@ -50,7 +50,7 @@ use Rattle.machine.specs.Images.{image_top, blocks_for}
 use Rattle.machine.specs.Machine.{S, Made, at_boot, made_if, started, continued, with_turn, called, awake, ran, stepped}
 use Rattle.machine.specs.Machine.{killed, happens, typed, taken, admitted, examined, logged_in}
 use Rattle.machine.specs.Safe.{Safe}
-use Rattle.machine.specs.Turns.{Turn, turn_of, turned, due, concluded, done, told_at, interrupted_at}
+use Rattle.machine.specs.Turns.{Turn, turn_of, turned, due, concluded, done, notified_at, interrupted_at}
 use Rattle.monitor_laws.proofs.Housing.{is_job as is_number}
 use Rattle.progress_laws.specs.Wakes.{IsWellFormed}
 use Rattle.progress_laws.proofs.Running.{ready-there}
@@ -112,7 +112,7 @@ well-asked size requests n (Err refusal) job h well = well
 well-asked size requests n (Ok call) job h well = (well_formedness_is_kept size).by_calls requests n call (and_from _ _ job h.right) h.range well
 
 -- every row of the table
-well-row : (service : Service) (time n ac e : ℕ) (a : Around) → is_job n ≡ true → Well a.requests → Well (row_of service time n ac e a).requests
+well-row : (service : Service) (time n ac e : ℕ) (a : CallState) → is_job n ≡ true → Well a.requests → Well (row_of service time n ac e a).requests
 well-row Reset time n ac e a job well = (well_formedness_is_kept a.size).by_releases a.requests n well
 well-row Core time n ac e a job well = well
 well-row Exit time n ac e a job well = (well_formedness_is_kept a.size).by_releases a.requests n well
@@ -152,7 +152,7 @@ well-performed : (w : World) (time n : ℕ) (service : Service) (ac e : ℕ) (o 
     → Well (performed_by w time n o service ac e).world.requests
 well-performed w time n service ac e None job well = well
 well-performed w time n service ac e (Some j) job well =
-    let a : Around = row_of service time n ac e (around w j) in
+    let a : CallState = row_of service time n ac e (around w j) in
     well-left a.ending (with_around w n a) n (well-row service time n ac e (around w j) job well)
 
 well-called : (w : World) (time n : ℕ) (c : Option MonitorCall) → is_job n ≡ true → Well w.requests → Well (called w time n c).requests
@@ -169,8 +169,8 @@ well-turned : (n : ℕ) (j : Job) (cores : Cores) (requests : List Request) (o :
 well-turned n j cores requests None well = well-concluded _ _ requests (exec j.regs (core_of cores n)).outcome well
 well-turned n j cores requests (Some x) well =
     by_test (λ (t : Turn). Well t.requests) (are_legal (core_of cores n) x.0 4)
-    (told_at n cores requests (interrupted_at j (core_of cores n) x.0 x.1)) (done (stopped j IllegalAddress) cores requests)
-    (λ _. (well_formedness_is_kept 0).by_telling requests n well) (λ _. well)
+    (notified_at n cores requests (interrupted_at j (core_of cores n) x.0 x.1)) (done (stopped j IllegalAddress) cores requests)
+    (λ _. (well_formedness_is_kept 0).by_notifying requests n well) (λ _. well)
 
 well-ran : (w : World) (time n : ℕ) (o : Option Job) → is_job n ≡ true → Well w.requests → Well (ran w time n o).requests
 well-ran w time n None job well = well

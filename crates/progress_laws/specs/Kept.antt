@@ -4,8 +4,8 @@ use Rattle.machine.specs.Safe.{Safe}
 use Rattle.progress_laws.specs.Rounds.{HasJobs, KeepsTime, has_low_number}
 use Rattle.progress_laws.specs.Wakes.{IsWellFormed}
 
--- The state is sound: it is safe, the clock of the scheduler is, requests are well-formed, and no job has a number above that of
--- the lines. Safety is what locks promise of every moment; the others are what the laws of progress need beside it.
+-- A state is sound: it is safe, the scheduler keeps time, requests are well-formed, and no job has a number above the number of
+-- lines. Safety is what the locks promise at all times; the laws of progress need the other three as well.
 pub record IsSound (s : S) : Type 0 where
   pub safe : Safe s
   pub time : KeepsTime s

@@ -1,5 +1,5 @@
--- A job that waits for a lock is granted it in time, where jobs ask for one lock at a time by rising levels, and an owner may
--- wait for locks of higher ones (this project's profile).
+-- A job that waits for a lock gets it in time, where jobs ask for one lock at a time by rising levels, and an owner may wait for
+-- locks of higher levels (this project's profile).
 use Rattle.std.specs.Prelude.{ℕ, zero, suc, ◌≡◌, ◌⊎◌, ◌+◌, ◌-◌, ◌*◌, ◌<◌, ◌≤◌, Bool, true, List, length, Contains}
 use Rattle.std.specs.List.{list_all}
 use Rattle.lock_queue.specs.declared.key.Key.{Key}
@@ -28,25 +28,26 @@ HasLevels levels s =
 abbrev pub HasFew : ℕ → S → Type 0
 HasFew few s = length s.world.requests ≤ few
 
--- whoever owns a key waits for the grant of another, or may run: it is not stopped, and waits for nothing else
+-- each owner of a key waits for the grant of another key, or may run: it is not stopped, and waits for nothing else
 abbrev pub OwnersGoOn : S → Event → Type 0
 OwnersGoOn s e =
     (job : ℕ) (key : Key) → owns s.world.requests job key ≡ true → (is_waiting_job s.world.requests job ≡ true) ⊎ MayRun job s e
 
--- Within how many rounds an owner makes a step, where there are so many levels above that of its key: within `once` rounds if it
--- waits for nothing; and else after at most `few` requests for a key of a higher level, in front of its own, each of which is
--- given up within `most` steps of its owner.
+-- Within how many rounds an owner makes a step, where so many levels are above that of its key: within `once` rounds if it waits
+-- for nothing; otherwise after at most `few` requests in front of its own for a key of a higher level, each of which is given up
+-- within `most` steps of its owner.
 abbrev pub turn_below : ℕ → ℕ → ℕ → ℕ → ℕ
 turn_below once few most zero = once
 turn_below once few most (suc levels) = once + few * (most * turn_below once few most levels)
 
 -- A job waits all along a run for a key: it wants it and does not own it. In the run jobs ask for one lock at a time by rising
--- levels, each of which is one of a list, owners go on, and each key is given up by the last of `most` steps of its owner. Then the
--- run has fewer rounds than this: for each request for the key that stood in front of the job's own `most` steps of an owner, each
--- of which comes within as many rounds as the levels above ask for. A list that names each level once gives the best bound.
+-- levels, each of which is in a list, owners go on, and each owner gives its key up by the last of `most` steps. Then the run has
+-- fewer rounds than this bound: for each request for the key in front of the job's own, `most` steps of an owner, each within as
+-- many rounds as the levels above need. A list that names each level once gives the best bound.
 abbrev pub IsGrantedByLevels : S → List Event → Type 0
 IsGrantedByLevels s es =
-    (job : ℕ) (key : Key) (most few : ℕ) (levels : List ℕ) (test : ℕ → Bool) → 1 ≤ most → Always (IsWithout job key) s es → Always IsPlain s es
+    (job : ℕ) (key : Key) (most few : ℕ) (levels : List ℕ) (test : ℕ → Bool)
+    → 1 ≤ most → Always (IsWithout job key) s es → Always IsPlain s es
     → Always (HasLevels levels) s es → Always (HasFew few) s es → Along OwnersGoOn s es
     → ((k : Key) → GivenUpWithin most k s es) → Always (HasJobs test) s es
     → rounds_in es < ahead job key s * (most * turn_below ((how_many test - 1) * s.quantum + 1) few most (length levels - 1))

@@ -1,5 +1,4 @@
--- A job that waits for all that it needs by one request is granted it in time, where nobody waits for more than it holds (this
--- project's profile).
+-- A job that waits gets its grant in time, where each job asks for all that it needs by one request (this project's profile).
 use Rattle.std.specs.Prelude.{ℕ, ◌+◌, ◌-◌, ◌*◌, ◌<◌, ◌≤◌, Bool, List, length}
 use Rattle.lock_queue.specs.declared.key.Key.{Key}
 use Rattle.machine.specs.declared.event.Event.{Event}
@@ -10,11 +9,11 @@ use Rattle.progress_laws.specs.Rounds.{rounds_in, HasJobs}
 use Rattle.progress_laws.specs.Together.{IsWithout, OwnersMayRun, GivenUpWithin}
 use Rattle.progress_laws.specs.Turns.{how_many}
 
--- A job waits all along a run for the grant of one request, for as many locks as it likes: it wants one of them and does not own
--- it. Jobs ask for all that they need by one request, so whoever owns a lock waits for no other and may run, and gives each of its
--- locks up by the last of `most` steps of its own. Then the run has fewer rounds than this: for each request that stood in front
--- of the job's own, whatever it is for, `most` steps of one job, each of which comes within a quantum for each other number that
--- passes the test, and one round. For the first request in the list is granted, and when it leaves one less is in front.
+-- A job waits all along a run for the grant of one request, for any number of locks: it wants a key and does not own it. Jobs ask
+-- for all that they need by one request, so an owner waits for no other lock, may run, and gives each of its locks up by the last
+-- of `most` steps of its own. Then the run has fewer rounds than this bound: for each request in front of the job's own, whatever
+-- it is for, `most` steps of one job, each within one round more than a quantum for each other number that passes the test. The
+-- reason: the first request in the list is granted, and when it leaves, one fewer is in front.
 abbrev pub IsGrantedByOneRequest : S → List Event → Type 0
 IsGrantedByOneRequest s es =
     (job : ℕ) (key : Key) (most : ℕ) (test : ℕ → Bool) → 1 ≤ most → Always (IsWithout job key) s es

@@ -1,6 +1,7 @@
--- A job that waits for a lock is granted it in time, where each owner gives it up within so many steps of its own (this
--- project's profile).
-use Rattle.std.specs.Prelude.{ℕ, ◌≡◌, ◌+◌, ◌-◌, ◌*◌, ◌<◌, ◌≤◌, ◌&&◌, if◌then◌else◌, Bool, true, false, List, [], ◌∷◌, length, filter, Contains, ⊤, Some, None}
+-- A job that waits for a lock gets it in time, where each owner gives it up within so many steps of its own (this project's
+-- profile).
+use Rattle.std.specs.Prelude.{ℕ, ◌≡◌, ◌+◌, ◌-◌, ◌*◌, ◌<◌, ◌≤◌, ◌&&◌, if◌then◌else◌, Bool, true, false, List, [], ◌∷◌, length, filter}
+use Rattle.std.specs.Prelude.{Contains, ⊤, Some, None}
 use Rattle.lock_queue.specs.declared.key.Key.{Key}
 use Rattle.lock_queue.specs.declared.request.Request.{Request}
 use Rattle.lock_queue.specs.Jobs.{is_waiting_job}
@@ -11,7 +12,7 @@ use Rattle.job_sched.specs.declared.job.Job.{Job}
 use Rattle.machine.specs.declared.event.Answer.TheVariants.{Ran}
 use Rattle.lock_laws.specs.Owning.{owns}
 use Rattle.machine.specs.declared.event.Event.{Event}
-use Rattle.machine.specs.declared.event.Event.TheVariants.{Step, Tick, Typed, Take, Login, Start, Continue, Kill, Restart}
+use Rattle.machine.specs.declared.event.Event.TheVariants.{Step, Restart}
 use Rattle.machine.specs.Alone.{is_ran}
 use Rattle.machine.specs.Along.{Always, Along}
 use Rattle.machine.specs.Machine.{S, answers, happens}
@@ -19,29 +20,24 @@ use Rattle.progress_laws.specs.Arrivals.{is_wanted_by, front_of}
 use Rattle.progress_laws.specs.Rounds.{rounds_in, MayRun, HasJobs}
 use Rattle.progress_laws.specs.Turns.{how_many}
 
--- whether a request is for a key, perhaps among others
+-- whether a request wants a key, perhaps among others
 abbrev pub is_for : Key → Request → Bool
 is_for key r = names r.wants.items key
 
--- how many requests for the key stand in front of the one by which a job wants it
+-- how many requests in front of the one by which a job wants a key want it too
 abbrev pub ahead : ℕ → Key → S → ℕ
 ahead job key s = length (filter (is_for key) (front_of job key s))
 
--- an event at which job n has what it waited for: where it is a step the job is not stopped, its wait was for a grant and it has
--- no blocking request any more that is not granted; and it is no restart of the machine
+-- job n has its grant at an event: before a step it is not stopped, its wait is for a grant, and it has no blocking request that
+-- is not granted; and the event is not a restart of the machine
 abbrev pub HasItsGrant : ℕ → S → Event → Type 0
 HasItsGrant n s Step =
-    (j : Job) × (job_at s.world.table.jobs n ≡ Some j) × (j.stop ≡ None) × (is_queue j.wait ≡ true) × (is_waiting_job s.world.requests n ≡ false)
-HasItsGrant n s Tick = Unit {0}
-HasItsGrant n s (Typed line c) = Unit {0}
-HasItsGrant n s (Take line k) = Unit {0}
-HasItsGrant n s (Login line image) = Unit {0}
-HasItsGrant n s (Start k) = Unit {0}
-HasItsGrant n s (Continue k) = Unit {0}
-HasItsGrant n s (Kill k) = Unit {0}
+    (j : Job) × (job_at s.world.table.jobs n ≡ Some j) × (j.stop ≡ None) × (is_queue j.wait ≡ true)
+    × (is_waiting_job s.world.requests n ≡ false)
 HasItsGrant n s Restart = ⊥
+HasItsGrant n s _ = Unit {0}
 
--- a job that has what it waited for goes on in time: the bound is that of a job that may run
+-- a job that has its grant makes a step in time: the bound is that of a job that may run
 abbrev pub GoesOnInTime : S → List Event → Type 0
 GoesOnInTime s es =
     (n : ℕ) (test : ℕ → Bool) → Along (HasItsGrant n) s es → Always (HasJobs test) s es
@@ -56,11 +52,11 @@ pub record IsWithout (job : ℕ) (key : Key) (s : S) : Type 0 where
 abbrev pub IsWantedAlone : Key → S → Type 0
 IsWantedAlone key s = (r : Request) → Contains s.world.requests r → is_for key r ≡ true → length r.wants.items ≤ 1
 
--- whoever owns the key may run: it is not stopped, and waits for nothing
+-- each owner of the key may run: it is not stopped, and waits for nothing
 abbrev pub OwnersMayRun : Key → S → Event → Type 0
 OwnersMayRun key s e = (job : ℕ) → owns s.world.requests job key ≡ true → MayRun job s e
 
--- how many steps a job that owns the key makes from here on and still owns it behind each, up to where it first does not
+-- how many steps the owner of a key makes from here on and still owns the key after each, until it first does not
 abbrev pub steps_owning : ℕ → Key → S → List Event → ℕ
 steps_owning job key s [] = 0
 steps_owning job key s (e ∷ es) =
@@ -68,16 +64,16 @@ steps_owning job key s (e ∷ es) =
     then (if is_ran job (happens s e).answer then 1 else 0) + steps_owning job key (happens s e).state es
     else 0
 
--- at all times of a run whoever owns the key gives it up by the last of its next so many steps, or has not made them yet
+-- at all times of a run the owner of the key gives it up by the last of its next `most` steps, or has not made them yet
 abbrev pub GivenUpWithin : ℕ → Key → S → List Event → Type 0
 GivenUpWithin most key s [] = ⊤
 GivenUpWithin most key s (e ∷ es) =
     ((job : ℕ) → steps_owning job key s (e ∷ es) < most) × GivenUpWithin most key (happens s e).state es
 
--- A job waits all along a run for a key: it wants it and does not own it. Each request for the key wants nothing else, whoever
--- owns it may run, and gives it up by the last of `most` steps of its own. Then the run has fewer rounds than this: for each
--- request for the key that stood in front of the job's own `most` steps of an owner, each of which comes within a quantum for each
--- other number that passes the test, and one round.
+-- A job waits all along a run for a key: it wants it and does not own it. Each request for the key wants nothing else, and each
+-- owner may run and gives the key up by the last of `most` steps of its own. Then the run has fewer rounds than this bound: for
+-- each request for the key in front of the job's own, `most` steps of an owner, each within one round more than a quantum for
+-- each other number that passes the test.
 abbrev pub IsGrantedInTime : S → List Event → Type 0
 IsGrantedInTime s es =
     (job : ℕ) (key : Key) (most : ℕ) (test : ℕ → Bool) → 1 ≤ most → Always (IsWithout job key) s es → Always (IsWantedAlone key) s es

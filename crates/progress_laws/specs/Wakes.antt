@@ -1,4 +1,5 @@
--- No wake-up is lost: who can be granted is, and who waits no more is ready (ENQ/DEQ of the TOPS-10 Monitor Calls Manual, in this project's profile).
+-- No wake-up is lost: a request that can be granted is, and a job that waits no more is ready (ENQ/DEQ of the TOPS-10 Monitor
+-- Calls Manual, in this project's profile).
 use Rattle.std.specs.Prelude.{◌≡◌, ◌≢◌, ◌≤◌, ◌⊎◌, ℕ, ◌+◌, sum_by, true, false, List, Some, None, take, slice_get, Contains, IsTrue}
 use Rattle.lock_queue.specs.declared.request.Request.{Request}
 use Rattle.lock_queue.specs.declared.want.Want.{Want}
@@ -22,27 +23,26 @@ FirstIsGranted requests =
     → ((w : Want) → Contains r.wants.items w → names (all_wants (take i requests)) w.key ≡ false)
     → granted requests i ≡ true
 
--- there is room for a want behind some requests: where it takes of no pool, each earlier want of its key agrees with it, and
--- where it does, what it takes and what they take are together at most the size of the pool
+-- there is room for a want after some requests: each earlier want of its key agrees with it, where it takes from no pool; where it
+-- does, it and they together take at most the size of the pool
 abbrev pub HasRoom : List Request → Want → Type 0
 HasRoom earlier w =
     ((w.pool ≡ None) × ((v : Want) → Contains (wants_at earlier w.key) v → agree v w ≡ true))
     ⊎ ((share : PoolShare) × (w.pool ≡ Some share) × (sum_by amount_of (wants_at earlier w.key) + share.amount ≤ share.size))
 
--- a request for whose wants there is room is granted: no later moment is waited for
+-- a request is granted as soon as there is room for each of its wants
 abbrev pub WhoHasRoomIsGranted : List Request → Type 0
 WhoHasRoomIsGranted requests =
     (i : ℕ) (r : Request) → slice_get requests i ≡ Some r
     → ((w : Want) → Contains r.wants.items w → HasRoom (take i requests) w)
     → granted requests i ≡ true
 
--- a job that waits for a grant waits for another job, which has what it wants or stands in front of it
+-- a job that waits for a grant waits for another job, which owns what it wants or stands in front of it
 abbrev pub WaitersWaitForOthers : List Request → Type 0
 WaitersWaitForOthers requests =
     (job : ℕ) → is_waiting_job requests job ≡ true → (other : ℕ) × (other ≢ job) × (waits_for requests job other ≡ true)
 
--- a job whose wait was for a grant, and that has no blocking request any more that is not granted, is ready, unless it is
--- stopped
+-- a job that waited for a grant, and has no blocking request any more that is not granted, is ready, unless it is stopped
 abbrev pub GrantedAreReady : S → Type 0
 GrantedAreReady s =
     (n : ℕ) (j : Job) → job_at s.world.table.jobs n ≡ Some j → j.stop ≡ None → is_queue j.wait ≡ true
@@ -55,15 +55,14 @@ IsReadyUnlessStopped n s =
     (j : Job) → job_at s.world.table.jobs n ≡ Some j → j.stop ≡ None
     → is_ready s.world.table.jobs s.world.lines s.world.requests n ≡ true
 
--- Nobody waits past a limit: where a job waits with a limit, and nobody starts or kills it or restarts the machine, at some
--- moment until as many ticks have gone by its request is granted, or it is told that its time is over, and it is ready then,
--- unless it is stopped.
+-- No job waits past its limit: where a job waits with a limit, and nobody starts or kills it or restarts the machine, its request
+-- is granted or its call is refused by the time that as many ticks have passed, and the job is ready then, unless it is stopped.
 abbrev pub NobodyWaitsPastALimit : S → List Event → Type 0
 NobodyWaitsPastALimit s events =
     (n limit ac : ℕ) (j : Job) → IsInWait s.world n j limit ac → 1 ≤ limit → Spares n events → limit ≤ ticks_in events
     → (k : ℕ) × HasEnded s events n j limit ac k × IsReadyUnlessStopped n (after (take k events) s)
 
--- what the requests of a machine keep beside being safe: each has 1 to 16 wants, of as many keys, whose levels and pools are in
--- range; a want of more than the whole pool would never be granted
+-- the requests of a machine are well-formed: each has 1 to 16 wants, of as many keys, with levels and pools in range; a want of
+-- more than the whole pool would never be granted
 abbrev pub IsWellFormed : S → Type 0
 IsWellFormed s = IsTrue (are_well_formed s.world.requests)

@@ -2,7 +2,7 @@
 use Rattle.std.proofs.Common.{◌≡◌, ◌≤◌, ◌∙◌, sym, ap, subst, ℕ, ◌⊎◌, inl, inr, Bool, true, false, List, []}
 use Rattle.std.proofs.Common.{◌++◌, length, Option, Some, None, refl, nat_le, arith}
 use Rattle.std.proofs.lemmas.Bool.Decides.{nat_tests}
-use Rattle.ka_cpu.specs.Places.{is_legal, word_below}
+use Rattle.ka_cpu.specs.Memory.{is_legal, word_below}
 use Rattle.core_store.specs.Cores.{Cores, core_of, with_core}
 use Rattle.tty_lines.specs.Rings.{input_of, output_of, room_of, with_output}
 use Rattle.word36.specs.declared.sizes.TheConstants.{OUTPUT_RING}
@@ -15,7 +15,7 @@ use Rattle.uuo_calls.specs.declared.service.Awaited.TheVariants as awaited
 use Rattle.uuo_calls.specs.declared.service.Service.{Service}
 use Rattle.uuo_calls.specs.declared.service.Service.TheVariants.{Reset, Core, Exit, Monrt, Logout, Mstime, Pjob, Sleep, Piini, Pisys, Debrk, Enq, Deq, Enqc}
 use Rattle.uuo_calls.specs.declared.service.Service.TheVariants.{Datrd, Datwr, Input, Outchr, Outstr, Clrbfi, Clrbfo, Skpin, Unlisted}
-use Rattle.uuo_calls.specs.Around.{Around, put_back, waiting}
+use Rattle.uuo_calls.specs.CallState.{CallState, put_back, waiting}
 use Rattle.uuo_calls.specs.Laws.{EmptyStepsWait, TextsGoWhole, is_terminal_wait, service_in, with_new_job}
 use Rattle.uuo_calls.specs.Performed.{Performed, World, around, ended, row_of}
 use Rattle.uuo_calls.specs.TerminalRows.{JobInput, JobLines, has_input, input_called, input_wait, low_character, no_input, put_text, stored_input, text_from}
@@ -26,7 +26,7 @@ use Rattle.uuo_calls.proofs.Tests.{by_test}
 abbrev pub IsEmptyStep : World → ℕ → Job → Performed → Type 0
 IsEmptyStep w n j p = p.outcome ≡ Empty → (wait : Wait) × (is_terminal_wait wait ≡ true) × (p.world ≡ with_new_job w n (waiting (put_back j) wait))
 
-abbrev pub with_lines : World → Job → JobLines → Around
+abbrev pub with_lines : World → Job → JobLines → CallState
 with_lines w j o = record (around w j) { job = o.job; lines = o.lines; ending = o.ending }
 
 empty-put : (w : World) (n : ℕ) (j : Job) (o : Option (List ℕ)) → IsEmptyStep w n j (ended w n (with_lines w j (put_text o j w.lines)))
@@ -35,7 +35,7 @@ empty-put w n j (Some text) =
     by_test (λ (o : JobLines). IsEmptyStep w n j (ended w n (with_lines w j o))) (nat_le (length text) (room_of w.lines j.line)) _ _
     (λ _ e. cc) (λ _ e. (Room (length text), refl, refl))
 
-abbrev pub with_input_of : World → ℕ → Job → JobInput → Around
+abbrev pub with_input_of : World → ℕ → Job → JobInput → CallState
 with_input_of w n j o = record (around w j) { job = o.job; cores = with_core w.cores n o.core; lines = o.lines; ending = o.ending }
 
 is_terminal : (unit : Awaited) → is_terminal_wait (input_wait unit) ≡ true

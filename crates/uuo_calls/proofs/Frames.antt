@@ -2,7 +2,7 @@
 use Rattle.std.proofs.Common.{◌≡◌, ◌≢◌, ◌∙◌, sym, ap, subst, ℕ, ◌+◌, ◌==◌, Bool, true, false, List, [], length}
 use Rattle.std.proofs.Common.{Option, Some, None, slice_index_or, slice_set, refl, nat_le}
 use Rattle.std.proofs.lemmas.List.{get_or-set_other}
-use Rattle.ka_cpu.specs.Places.{is_legal, word_below}
+use Rattle.ka_cpu.specs.Memory.{is_legal, word_below}
 use Rattle.core_store.specs.Cores.{Cores, blocks_of, core_of, resized, with_core}
 use Rattle.tty_lines.specs.Rings.{Rings, input_of, no_characters, room_of}
 use Rattle.word36.specs.declared.sizes.TheConstants.{OUTPUT_RING}
@@ -15,7 +15,7 @@ use Rattle.uuo_calls.specs.declared.service.Awaited.{Awaited}
 use Rattle.uuo_calls.specs.declared.service.Service.{Service}
 use Rattle.uuo_calls.specs.declared.service.Service.TheVariants.{Reset, Core, Exit, Monrt, Logout, Mstime, Pjob, Sleep, Piini, Pisys, Debrk, Enq, Deq, Enqc}
 use Rattle.uuo_calls.specs.declared.service.Service.TheVariants.{Datrd, Datwr, Input, Outchr, Outstr, Clrbfi, Clrbfo, Skpin, Unlisted}
-use Rattle.uuo_calls.specs.Around.{Around, ac_of}
+use Rattle.uuo_calls.specs.CallState.{CallState, ac_of}
 use Rattle.uuo_calls.specs.CoreRow.{JobCores, blocks_asked, core_done, grown, with_highest}
 use Rattle.uuo_calls.specs.Laws.{IsSpared, OthersAreSpared, service_in}
 use Rattle.uuo_calls.specs.Performed.{Performed, World, around, left_by, row_of, with_around}
@@ -48,7 +48,7 @@ core-enqc jobs requests n ac k j s ne =
     by_test P (left_half (ac_of j ac) == 1) _ _ (λ _. refl)
     (λ _. by_test P (left_half (ac_of j ac) == 2) _ _ (λ _. refl) (λ _. core-other s n k _ ne))
 
-core-row : (s : Service) (time n ac e k : ℕ) (a : Around) → k ≢ n → core_of (row_of s time n ac e a).cores k ≡ core_of a.cores k
+core-row : (s : Service) (time n ac e k : ℕ) (a : CallState) → k ≢ n → core_of (row_of s time n ac e a).cores k ≡ core_of a.cores k
 core-row Reset time n ac e k a ne = refl
 core-row Core time n ac e k a ne =
     core-done ac k (grown a.cores n (blocks_asked (ac_of a.job ac))) a.job a.cores
@@ -101,7 +101,7 @@ beside-called unit skips e core j lines =
     (λ _. beside-set j.line lines _) (λ _. beside-none unit skips core j lines))
     (λ _ l ne. refl)
 
-beside-row : (s : Service) (time n ac e : ℕ) (a : Around) → SameBeside a.job.line a.lines (row_of s time n ac e a).lines
+beside-row : (s : Service) (time n ac e : ℕ) (a : CallState) → SameBeside a.job.line a.lines (row_of s time n ac e a).lines
 beside-row Reset time n ac e a = λ l ne. refl
 beside-row Core time n ac e a = λ l ne. refl
 beside-row Exit time n ac e a = λ l ne. refl
@@ -126,7 +126,7 @@ beside-row Clrbfo time n ac e a = beside-set a.job.line a.lines _
 beside-row (Skpin unit) time n ac e a = λ l ne. refl
 beside-row Unlisted time n ac e a = λ l ne. refl
 
-shared-row : (s : Service) (time n ac e : ℕ) (a : Around) → s ≢ Datwr → (row_of s time n ac e a).shared ≡ a.shared
+shared-row : (s : Service) (time n ac e : ℕ) (a : CallState) → s ≢ Datwr → (row_of s time n ac e a).shared ≡ a.shared
 shared-row Reset time n ac e a ne = refl
 shared-row Core time n ac e a ne = refl
 shared-row Exit time n ac e a ne = refl

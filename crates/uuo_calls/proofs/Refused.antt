@@ -6,7 +6,7 @@ use Rattle.std.specs.List.{list_any}
 use Rattle.std.proofs.lemmas.Bool.Decides.{nat_tests}
 use Rattle.std.proofs.lemmas.List.{get_or-set_same}
 use Rattle.arrayvec.specs.ArrayVec.{ArrayVec}
-use Rattle.ka_cpu.specs.Places.{are_legal}
+use Rattle.ka_cpu.specs.Memory.{are_legal}
 use Rattle.word36.specs.declared.sizes.TheConstants.{DATA_WORDS}
 use Rattle.word36.specs.Words.{left_half, right_half}
 use Rattle.core_store.specs.Cores.{Cores, core_of, with_core}
@@ -35,7 +35,7 @@ use Rattle.job_sched.specs.Tables.{job_at}
 use Rattle.uuo_calls.specs.declared.service.Service.{Service}
 use Rattle.uuo_calls.specs.declared.service.Service.TheVariants.{Reset, Core, Exit, Monrt, Logout, Mstime, Pjob, Sleep, Piini, Pisys, Debrk, Enq, Deq, Enqc}
 use Rattle.uuo_calls.specs.declared.service.Service.TheVariants.{Datrd, Datwr, Input, Outchr, Outstr, Clrbfi, Clrbfo, Skpin, Unlisted}
-use Rattle.uuo_calls.specs.Around.{ac_of, skipping, with_ac}
+use Rattle.uuo_calls.specs.CallState.{ac_of, skipping, with_ac}
 use Rattle.uuo_calls.specs.CoreRow.{JobCores, blocks_asked, core_done, grown}
 use Rattle.uuo_calls.specs.DataRows.{JobData}
 use Rattle.uuo_calls.specs.InterruptRows.{armed_at}
@@ -43,7 +43,7 @@ use Rattle.uuo_calls.specs.Laws.{CoreAnswersFreeBlocks, HasSkipped, MstimeAnswer
 use Rattle.uuo_calls.specs.LockRows.{answered, asked, changing, deq_asks, enq_asks, enq_limit, entering, naming, replied}
 use Rattle.uuo_calls.specs.Performed.{Performed, World, around, ended, row_of, with_around}
 use Rattle.uuo_calls.specs.QuotaRows.{named_job, quota_at, told_quota}
-use Rattle.uuo_calls.specs.StatusRow.{Places, answers_at, enqc, enqc_asks, status_words, stored, stored_at, told, with_room}
+use Rattle.uuo_calls.specs.StatusRow.{Memory, answers_at, enqc, enqc_asks, status_words, stored, stored_at, stored_or_refused, with_room}
 use Rattle.uuo_calls.proofs.Rows.{core-same, performs}
 use Rattle.uuo_calls.proofs.Tests.{by_test}
 
@@ -124,21 +124,21 @@ comes-write w n ac j true words Two low = inl (skipped w n j (skipping j) low re
 comes-write w n ac j false words Two low = inr (inl (1, refl))
 
 -- words that are stored leave the PC
-pc-stored : (p : Places) (a : ℕ) (words : List ℕ) → (stored p a words).regs.pc ≡ p.regs.pc
+pc-stored : (p : Memory) (a : ℕ) (words : List ℕ) → (stored p a words).regs.pc ≡ p.regs.pc
 pc-stored p a [] = refl
 pc-stored p a (x ∷ words) = pc-stored (stored_at p a x) (a + 1) words
 
 comes-told : (w : World) (n ac to : ℕ) (j : Job) (r : Result (List Want) Refusal) (Two : Type 0) → n < length w.table.jobs
     → Comes w n ac j Two
     (with_around w n (record (around w j) {
-      job = (told w.requests n ac to j (core_of w.cores n) r).job;
-      cores = with_core w.cores n (told w.requests n ac to j (core_of w.cores n) r).core;
+      job = (stored_or_refused w.requests n ac to j (core_of w.cores n) r).job;
+      cores = with_core w.cores n (stored_or_refused w.requests n ac to j (core_of w.cores n) r).core;
     }))
 comes-told w n ac to j (Err refusal) Two low =
     inr (inl (code_of refusal, ap (λ (s : Cores). record (with_new_job w n (with_ac j ac (code_of refusal))) { cores = s }) (core-same w.cores n)))
 comes-told w n ac to j (Ok wants) Two low =
     inl
-    (skipped w n j (told w.requests n ac to j (core_of w.cores n) (Ok wants)).job low
+    (skipped w n j (stored_or_refused w.requests n ac to j (core_of w.cores n) (Ok wants)).job low
     (ap (λ pc. (pc + 1) % 2 ^ 18)
     (pc-stored (record { regs = j.regs; core = core_of w.cores n }) to (status_words w.requests n wants))))
 

@@ -1,5 +1,5 @@
 pub mod Services
-pub mod Around
+pub mod CallState
 pub mod LockRows
 pub mod QuotaRows
 pub mod StatusRow

@@ -12,9 +12,10 @@ use Rattle.uuo_calls.specs.declared.call.MonitorCall.{MonitorCall}
 use Rattle.uuo_calls.specs.declared.call.CallOutcome.{CallOutcome}
 use Rattle.uuo_calls.specs.declared.call.CallOutcome.TheVariants.{Done, Empty, Gone}
 use Rattle.uuo_calls.specs.declared.service.Service.{Service}
-use Rattle.uuo_calls.specs.declared.service.Service.TheVariants.{Reset, Core, Exit, Monrt, Logout, Mstime, Pjob, Sleep, Piini, Pisys, Debrk, Enq, Deq, Enqc}
+use Rattle.uuo_calls.specs.declared.service.Service.TheVariants.{Reset, Core, Exit, Monrt, Logout, Mstime, Pjob, Sleep, Piini, Pisys, Debrk}
+use Rattle.uuo_calls.specs.declared.service.Service.TheVariants.{Enq, Deq, Enqc}
 use Rattle.uuo_calls.specs.declared.service.Service.TheVariants.{Datrd, Datwr, Input, Outchr, Outstr, Clrbfi, Clrbfo, Skpin, Unlisted}
-use Rattle.uuo_calls.specs.Around.{Around, stopped_at}
+use Rattle.uuo_calls.specs.CallState.{CallState, stopped_at}
 use Rattle.uuo_calls.specs.CoreRow.{core_row}
 use Rattle.uuo_calls.specs.InterruptRows.{piini_row, pisys_row, debrk_row}
 use Rattle.uuo_calls.specs.JobRows.{reset_row, exit_row, monrt_row, mstime_row, pjob_row, sleep_row}
@@ -25,7 +26,7 @@ use Rattle.uuo_calls.specs.StatusRow.{enqc_row}
 use Rattle.uuo_calls.specs.TerminalRows.{outstr_row, outchr_row, input_row, clrbfi_row, clrbfo_row, skpin_row}
 
 -- the table of calls: a row for each, by the job's number, the AC field and E
-abbrev pub row_of : Service → ℕ → ℕ → ℕ → ℕ → Around → Around
+abbrev pub row_of : Service → ℕ → ℕ → ℕ → ℕ → CallState → CallState
 row_of Reset time n ac e a = reset_row n a
 row_of Core time n ac e a = core_row n ac a
 row_of Exit time n ac e a = exit_row n a
@@ -50,7 +51,7 @@ row_of Clrbfo time n ac e a = clrbfo_row a
 row_of (Skpin unit) time n ac e a = skpin_row unit a
 row_of Unlisted time n ac e a = record a { job = stopped_at a.job IllegalInstruction }
 
--- the parts of the system that calls work on
+-- what calls read and change
 pub record World : Type 0 where
   -- how many requests the lock table holds at most
   pub size : ℕ
@@ -61,13 +62,13 @@ pub record World : Type 0 where
   -- the words that all jobs share
   pub shared : List ℕ
 
--- what a call leaves, and how it ends
+-- the world after a call, and how the call ends
 pub record Performed : Type 0 where
   pub world : World
   pub outcome : CallOutcome
 
--- what is around one job
-abbrev pub around : World → Job → Around
+-- what a call of one job reads and changes, of a world
+abbrev pub around : World → Job → CallState
 around w j = record {
   size = w.size;
   job = j;
@@ -79,8 +80,8 @@ around w j = record {
   ending = Done;
 }
 
--- the world with what a call left around its job
-abbrev pub with_around : World → ℕ → Around → World
+-- the world after a call of job n
+abbrev pub with_around : World → ℕ → CallState → World
 with_around w n a = record w {
   table = with_job w.table n (Some a.job);
   lines = a.lines;
@@ -89,7 +90,7 @@ with_around w n a = record w {
   shared = a.shared;
 }
 
--- a job that is gone: its requests and its core are free, and no quantum is left where it was current
+-- the world without job n: its requests leave, its core is free, and where it was current nothing is left of the quantum
 abbrev pub without_job : World → ℕ → World
 without_job w n = record w {
   table = table_without w.table n;
@@ -97,13 +98,13 @@ without_job w n = record w {
   cores = given w.cores n;
 }
 
--- a call that ends so takes the job away
+-- the world after a call that ends so: the job is gone where it ends with Gone
 abbrev pub left_by : CallOutcome → World → ℕ → World
 left_by Gone w n = without_job w n
 left_by Done w n = w
 left_by Empty w n = w
 
-abbrev pub ended : World → ℕ → Around → Performed
+abbrev pub ended : World → ℕ → CallState → Performed
 ended w n a = record { world = left_by a.ending (with_around w n a) n; outcome = a.ending }
 
 -- a call of job n, which is there

@@ -8,9 +8,9 @@ use Rattle.lock_queue.specs.Queue.{requests_of}
 use Rattle.lock_queue.specs.Refusals.{code_of}
 use Rattle.job_sched.specs.declared.job.Job.{Job}
 use Rattle.job_sched.specs.Tables.{job_at}
-use Rattle.uuo_calls.specs.Around.{ac_of, with_ac, skipping, refusing}
+use Rattle.uuo_calls.specs.CallState.{ac_of, with_ac, skipping, refusing}
 
--- the job that a number names to job n: 0 names job n itself
+-- the job that job n names by a number: 0 names job n itself
 abbrev pub named_job : ℕ → ℕ → ℕ
 named_job n k = if k == 0 then n else k
 
@@ -18,7 +18,7 @@ named_job n k = if k == 0 then n else k
 abbrev pub quota_at : List (Option Job) → ℕ → Option ℕ
 quota_at jobs k = option_map (λ j. j.quota) (job_at jobs k)
 
--- how many requests a job has, whether they are granted or not
+-- how many requests a job has, granted or not
 abbrev pub count : List Request → ℕ → ℕ
 count requests k = length (requests_of requests k)
 
@@ -33,7 +33,7 @@ quota_told jobs requests n ac j =
     let k = named_job n (right_half (ac_of j ac)) in
     told_quota requests k ac j (quota_at jobs k)
 
--- ENQC. 2: its AC is `2,,quota`; the job's own quota becomes that, unless it would become greater
+-- ENQC. 2: its AC is `2,,quota`; the job's own quota becomes that, where it does not grow
 abbrev pub quota_lowered : ℕ → Job → Job
 quota_lowered ac j =
     if nat_le (right_half (ac_of j ac)) j.quota

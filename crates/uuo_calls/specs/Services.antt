@@ -1,17 +1,18 @@
--- Which call a job makes (TOPS-10 Monitor Calls Manual; the numbers that it does not list are this project's profile).
+-- The table of monitor calls (TOPS-10 Monitor Calls Manual; the numbers that it does not list are this project's profile).
 use Rattle.std.specs.Prelude.{ℕ, ◌==◌, true, false, if◌then◌else◌}
 use Rattle.ka_cpu.specs.declared.outcome.CallKind.{CallKind}
 use Rattle.ka_cpu.specs.declared.outcome.CallKind.TheVariants.{Calli, Ttcall}
 use Rattle.uuo_calls.specs.declared.service.Awaited.TheVariants as awaited
 use Rattle.uuo_calls.specs.declared.service.Service.{Service}
-use Rattle.uuo_calls.specs.declared.service.Service.TheVariants.{Reset, Core, Exit, Monrt, Logout, Mstime, Pjob, Sleep, Piini, Pisys, Debrk, Enq, Deq, Enqc}
+use Rattle.uuo_calls.specs.declared.service.Service.TheVariants.{Reset, Core, Exit, Monrt, Logout, Mstime, Pjob, Sleep, Piini, Pisys, Debrk}
+use Rattle.uuo_calls.specs.declared.service.Service.TheVariants.{Enq, Deq, Enqc}
 use Rattle.uuo_calls.specs.declared.service.Service.TheVariants.{Datrd, Datwr, Input, Outchr, Outstr, Clrbfi, Clrbfo, Skpin, Unlisted}
 
--- EXIT goes by its AC field: 0 for EXIT, 1 for MONRT.
+-- the EXIT of an AC field: 0 for EXIT, 1 for MONRT.
 abbrev pub exit_of : ℕ → Service
 exit_of ac = if ac == 0 then Exit else if ac == 1 then Monrt else Unlisted
 
--- a CALLI goes by its E; DATRD. and DATWR. are -2 and -3
+-- the CALLI of an E; DATRD. and DATWR. are -2 and -3
 abbrev pub calli_of : ℕ → ℕ → Service
 calli_of ac e =
     if e == 0 then Reset else
@@ -30,7 +31,7 @@ calli_of ac e =
     if e == 0o777776 then Datrd else
     if e == 0o777775 then Datwr else Unlisted
 
--- a TTCALL goes by its AC field; INCHRW, INCHRS, INCHWL and INCHSL differ in what they read, and in whether they skip
+-- the TTCALL of an AC field; INCHRW, INCHRS, INCHWL and INCHSL differ in what they read, and in whether they skip
 abbrev pub ttcall_of : ℕ → Service
 ttcall_of ac =
     if ac == 0 then Input awaited.Character false else
@@ -44,7 +45,7 @@ ttcall_of ac =
     if ac == 0o13 then Skpin awaited.Character else
     if ac == 0o14 then Skpin awaited.Line else Unlisted
 
--- the call of an operation, its AC field and its E
+-- the call of an operation with this AC field and this E
 abbrev pub service_of : CallKind → ℕ → ℕ → Service
 service_of Calli ac e = calli_of ac e
 service_of Ttcall ac e = ttcall_of ac

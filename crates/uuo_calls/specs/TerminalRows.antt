@@ -1,7 +1,7 @@
 -- The TTCALL functions (TOPS-10 Monitor Calls Manual; the limit, and that a text goes out as a whole, are this project's profile).
 use Rattle.std.specs.Prelude.{ℕ, ◌≡◌, suc, zero, ◌+◌, ◌-◌, ◌*◌, ◌/◌, ◌%◌, ◌^◌, ◌==◌, nat_lt, nat_le, Bool, drop, unwrap_or}
 use Rattle.std.specs.Prelude.{slice_get, if◌then◌else◌, List, [], ◌∷◌, ◌++◌, length, Option, Some, None}
-use Rattle.ka_cpu.specs.Places.{word_below, is_legal, ac_with, core_with}
+use Rattle.ka_cpu.specs.Memory.{word_below, is_legal, ac_with, core_with}
 use Rattle.ka_cpu.specs.declared.outcome.StopReason.TheVariants.{IllegalAddress}
 use Rattle.core_store.specs.Cores.{core_of, with_core}
 use Rattle.tty_lines.specs.Rings.{Rings, input_of, output_of, room_of, with_input, with_output, holds_line}
@@ -14,24 +14,24 @@ use Rattle.uuo_calls.specs.declared.call.CallOutcome.{CallOutcome}
 use Rattle.uuo_calls.specs.declared.call.CallOutcome.TheVariants.{Done, Empty}
 use Rattle.uuo_calls.specs.declared.service.Awaited.{Awaited}
 use Rattle.uuo_calls.specs.declared.service.Awaited.TheVariants as awaited
-use Rattle.uuo_calls.specs.Around.{Around, stopped_at, put_back, waiting, skipping}
+use Rattle.uuo_calls.specs.CallState.{CallState, stopped_at, put_back, waiting, skipping}
 
 -- character k of a word, 0 to 4 from the left
 abbrev pub character : ℕ → ℕ → ℕ
 character k w = w / 2 ^ (29 - 7 * k) % 2 ^ 7
 
--- what follows a character of a word: the text ends before a zero, and there is none where the word is not legal
+-- the text from a character of a word on: it ends before a zero, and there is none where the word's address is not legal
 abbrev pub behind : Option ℕ → ℕ → List ℕ → (ℕ → Option (List ℕ)) → Option (List ℕ)
 behind None k text more = None
 behind (Some w) k text more = if character k w == 0 then Some text else more (character k w)
 
--- the text at e that begins so, up to a zero and of so many more characters at most
+-- the text at e that begins with `text`, up to a zero, and with so many more characters at most
 unfoldable pub text_from : List ℕ → List ℕ → ℕ → List ℕ → ℕ → Option (List ℕ)
 text_from ac core e text zero = Some text
 text_from ac core e text (suc n) =
     behind (word_below ac core (e + length text / 5)) (length text % 5) text (λ c. text_from ac core e (text ++ c ∷ []) n)
 
--- that a text was read, or none
+-- this text was read, or none
 abbrev pub TextIs : Option (ArrayVec ℕ) → Option (List ℕ) → Type 0
 TextIs (Some text) read = read ≡ Some text.items
 TextIs None read = read ≡ None
@@ -50,11 +50,11 @@ put_text (Some text) j lines =
     then record { job = j; lines = with_output lines j.line (output_of lines j.line ++ text); ending = Done }
     else record { job = waiting (put_back j) (Room (length text)); lines = lines; ending = Empty }
 
--- OUTSTR puts the text that stands at E
+-- OUTSTR puts the text at E
 abbrev pub outstr : ℕ → List ℕ → Job → List Rings → JobLines
 outstr e core j lines = put_text (text_from j.regs.ac core e [] OUTPUT_RING) j lines
 
-abbrev pub outstr_row : ℕ → ℕ → Around → Around
+abbrev pub outstr_row : ℕ → ℕ → CallState → CallState
 outstr_row n e a =
     let o = outstr e (core_of a.cores n) a.job a.lines in
     record a { job = o.job; lines = o.lines; ending = o.ending }
@@ -67,7 +67,7 @@ low_character (Some w) = Some (w % 2 ^ 7 ∷ [])
 abbrev pub outchr : ℕ → List ℕ → Job → List Rings → JobLines
 outchr e core j lines = put_text (low_character (word_below j.regs.ac core e)) j lines
 
-abbrev pub outchr_row : ℕ → ℕ → Around → Around
+abbrev pub outchr_row : ℕ → ℕ → CallState → CallState
 outchr_row n e a =
     let o = outchr e (core_of a.cores n) a.job a.lines in
     record a { job = o.job; lines = o.lines; ending = o.ending }
@@ -95,7 +95,7 @@ pub record JobInput : Type 0 where
 abbrev pub skipping_if : Bool → Job → Job
 skipping_if skips j = if skips then skipping j else j
 
--- a character goes to the place E
+-- a character goes to the address E
 abbrev pub stored_input : Bool → ℕ → List ℕ → Job → List Rings → JobInput
 stored_input skips e core j lines = record {
   job = skipping_if skips (record j { regs = record j.regs { ac = ac_with j.regs.ac e (first_of (input_of lines j.line)) } });
@@ -104,14 +104,14 @@ stored_input skips e core j lines = record {
   ending = Done;
 }
 
--- there is none: the functions that skip go on, and the others wait
+-- there is no character: the functions that skip go on, and the others wait
 abbrev pub no_input : Awaited → Bool → List ℕ → Job → List Rings → JobInput
 no_input unit skips core j lines =
     if skips
     then record { job = j; core = core; lines = lines; ending = Done }
     else record { job = waiting (put_back j) (input_wait unit); core = core; lines = lines; ending = Empty }
 
--- E has to be legal, also where there is no character
+-- INCHRW, INCHRS, INCHWL and INCHSL; E has to be legal, also where there is no character
 abbrev pub input_called : Awaited → Bool → ℕ → List ℕ → Job → List Rings → JobInput
 input_called unit skips e core j lines =
     if is_legal core e then
@@ -123,18 +123,18 @@ input_called unit skips e core j lines =
 abbrev pub without_core : JobInput → JobLines
 without_core o = record { job = o.job; lines = o.lines; ending = o.ending }
 
-abbrev pub input_row : Awaited → Bool → ℕ → ℕ → Around → Around
+abbrev pub input_row : Awaited → Bool → ℕ → ℕ → CallState → CallState
 input_row unit skips n e a =
     let o = input_called unit skips e (core_of a.cores n) a.job a.lines in
     record a { job = o.job; cores = with_core a.cores n o.core; lines = o.lines; ending = o.ending }
 
--- CLRBFI and CLRBFO forget a list of the job's line
-abbrev pub clrbfi_row : Around → Around
+-- CLRBFI and CLRBFO empty the input and the output of the job's line
+abbrev pub clrbfi_row : CallState → CallState
 clrbfi_row a = record a { lines = with_input a.lines a.job.line [] }
 
-abbrev pub clrbfo_row : Around → Around
+abbrev pub clrbfo_row : CallState → CallState
 clrbfo_row a = record a { lines = with_output a.lines a.job.line [] }
 
 -- SKPINC and SKPINL skip where INCHRW or INCHWL would not wait
-abbrev pub skpin_row : Awaited → Around → Around
+abbrev pub skpin_row : Awaited → CallState → CallState
 skpin_row unit a = record a { job = skipping_if (has_input unit (input_of a.lines a.job.line)) a.job }

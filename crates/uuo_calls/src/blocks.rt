@@ -1,5 +1,5 @@
-//! The block of a lock call, in a memory that is borrowed as `&mut` and kept: a caller that lends a
-//! window still knows what it holds.
+//! Reads the block of a lock call from a memory that is lent as `&mut`: a caller that lends a window still
+//! knows what it holds.
 
 ghost use Rattle.std.specs.Prelude.{◌≡◌, ◌≤◌, OnOk};
 ghost use Rattle.arrayvec.specs.ArrayVec.{array_vec_len};
@@ -12,8 +12,8 @@ use ka_cpu::{JobMemory, Regs};
 use lock_queue::{BlockUse, Refusal, Wants};
 use word36::Address;
 
-/// Fills in the wants of the block at an address and answers its id and its limit, or answers the first
-/// refusal.
+/// Fills in the wants of the block at an address and returns its id and its limit, or returns the first
+/// refusal. The memory stays the same.
 #[inline(always)]
 pub(crate) fn block_kept<M: JobMemory>(
     regs: &Regs,

@@ -1,12 +1,12 @@
-//! A call of the monitor, and how it ends.
+//! A monitor call, and how it ends.
 
 use ka_cpu::{Accumulator, CallKind};
 use word36::Address;
 
-/// A call of the monitor, as the processor hands it over.
+/// A monitor call, as the processor hands it over.
 #[derive(Clone, Copy, Debug, PartialEq, Eq)]
 pub struct MonitorCall {
-    /// The operation that calls: CALLI or TTCALL.
+    /// Its operation, CALLI or TTCALL.
     pub kind: CallKind,
     /// Its AC field.
     pub ac: Accumulator,
@@ -19,7 +19,7 @@ pub struct MonitorCall {
 pub enum CallOutcome {
     /// The call is done or refused, or the job is stopped at it.
     Done,
-    /// The job begins to wait, and makes the call again later (an empty step).
+    /// The job begins to wait for its line, and makes the call again later: an empty step.
     Empty,
     /// The job is gone.
     Gone,

@@ -1,4 +1,4 @@
-//! Any monitor call.
+//! The monitor calls, by their table.
 
 ghost use Rattle.std.specs.Prelude.{◌≡◌, ◌≢◌, ◌<◌, ◌^◌, [], List, Option, IsSome};
 ghost use Rattle.core_store.specs.Cores.{IsJob, core_of, given};
@@ -7,7 +7,7 @@ ghost use Rattle.job_sched.specs.Changes.{table_without};
 ghost use Rattle.job_sched.specs.Tables.{job_at};
 ghost use Rattle.job_sched.specs.declared.job.Job.{Job as JobView};
 ghost use Rattle.word36.specs.Words.{right_half};
-ghost use Rattle.uuo_calls.specs.Around.{Around, ac_of};
+ghost use Rattle.uuo_calls.specs.CallState.{CallState, ac_of};
 ghost use Rattle.uuo_calls.specs.Performed.{World, Performed, performed, row_of, around};
 ghost use Rattle.uuo_calls.specs.QuotaRows.{named_job, quota_at};
 ghost use Rattle.uuo_calls.specs.declared.call.CallOutcome.TheVariants.{Done};
@@ -16,7 +16,7 @@ ghost use Rattle.uuo_calls.specs.declared.service.Service.TheVariants.{Enqc};
 use crate::call::{CallOutcome, MonitorCall};
 use crate::core_call::resize_core;
 use crate::data_words::{datrd, datwr};
-use crate::input::{input, skpin};
+use crate::input::{Reading, input, skpin};
 use crate::interrupts::{debrk, piini, pisys};
 use crate::jobs::{exit, mstime, pjob, reset, sleep};
 use crate::locks::{deq, enq};
@@ -32,23 +32,23 @@ use lock_queue::LockTable;
 use tty_lines::Lines;
 use word36::{Address, DATA_WORDS, Word};
 
-/// A call that a job makes.
-struct Made {
-    /// Its row of the table of calls.
+/// A monitor call of a job.
+struct JobCall {
+    /// Which call it is.
     service: Service,
-    /// When it is made.
+    /// The time of day.
     time: TimeOfDay,
-    /// The job.
+    /// The number of the job.
     number: u8,
     ac: Accumulator,
     e: Address,
-    /// The quota of the job that a call of ENQC. names, if it is there.
+    /// The quota of the job that ENQC. names, if it is there.
     quota: Option<u16>,
 }
 
-/// Serves a call of a job, by its row of the table of calls.
+/// Does what the call's row of the table says.
 fn carry_out<L: LockTable, C: CoreStore>(
-    made: Made,
+    call: JobCall,
     job: &mut Job,
     lines: &mut Lines,
     locks: &mut L,
@@ -56,10 +56,10 @@ fn carry_out<L: LockTable, C: CoreStore>(
     shared: &mut [Word; DATA_WORDS],
     room: &mut CallRoom,
 ) -> CallOutcome
-    requires number { IsJob made.number }
-    requires core { core_of (C.meaning cores.old) made.number ≢ [] }
+    requires number { IsJob call.number }
+    requires core { core_of (C.meaning cores.old) call.number ≢ [] }
     ensures row { (jobs : List (Option JobView))
-        → (made.service ≡ Enqc → quota_at jobs (named_job made.number (right_half (ac_of job.old made.ac))) ≡ made.quota)
+        → (call.service ≡ Enqc → quota_at jobs (named_job call.number (right_half (ac_of job.old call.ac))) ≡ call.quota)
         → record {
           size = L.REQS;
           job = job.new;
@@ -70,7 +70,7 @@ fn carry_out<L: LockTable, C: CoreStore>(
           shared = shared.new;
           ending = result;
         }
-        ≡ row_of made.service made.time made.number made.ac made.e (record {
+        ≡ row_of call.service call.time call.number call.ac call.e (record {
           size = L.REQS;
           job = job.old;
           jobs = jobs;
@@ -81,14 +81,14 @@ fn carry_out<L: LockTable, C: CoreStore>(
           ending = Done;
         }) }
 {
-    let Made {
+    let JobCall {
         service,
         time,
         number,
         ac,
         e,
         quota,
-    } = made;
+    } = call;
     match service {
         Service::Reset => reset(number, job, locks),
         Service::Core => resize_core(number, job, ac, cores),
@@ -107,7 +107,8 @@ fn carry_out<L: LockTable, C: CoreStore>(
         Service::Datrd => datrd(job, ac, shared),
         Service::Datwr => datwr(job, ac, shared),
         Service::Input(awaited, skips) => {
-            return input(number, awaited, skips, job, e, lines, cores);
+            let reading = Reading { awaited, skips, e };
+            return input(number, reading, job, lines, cores);
         }
         Service::Outchr => return outchr(number, job, e, lines, cores),
         Service::Outstr => return outstr(number, job, e, lines, cores),
@@ -119,8 +120,8 @@ fn carry_out<L: LockTable, C: CoreStore>(
     CallOutcome::Done
 }
 
-/// Takes a job away, as LOGOUT does: its requests leave and its core is free; no quantum is left where
-/// it was current. What its line holds stays.
+/// Takes a job away, as LOGOUT does: its requests leave, and its core is free; where it was current, nothing
+/// is left of the quantum. The characters of its line stay.
 pub fn remove_job<L: LockTable, C: CoreStore>(
     number: u8,
     table: &mut JobTable,
@@ -137,17 +138,16 @@ pub fn remove_job<L: LockTable, C: CoreStore>(
     cores.give(number);
 }
 
-/// Performs a monitor call of a job that is there and has core, and whose PC is that of the next
+/// Performs a monitor call of a job that is there and has core, and whose PC is already at the next
 /// instruction (TOPS-10 Monitor Calls Manual, in this project's profile).
 ///
 /// Calls: CALLI RESET 0, CORE 11, EXIT 12, LOGOUT 17, MSTIME 23, PJOB 30, SLEEP 31, PIINI. 135, PISYS.
 /// 136, DEBRK. 137, ENQ. 151, DEQ. 152, ENQC. 153, DATRD. -2 and DATWR. -3 octal, and TTCALL functions
-/// 0 to 5 and 11 to 14 octal. A refused call puts its code in AC, does not skip and changes nothing
-/// else, but for a request of ENQ. 2 that is not granted at once, which stays. Any other call stops the
-/// job as an illegal instruction, and one that meets an illegal address stops it for that; both put
-/// the PC back and change nothing else. Nothing takes memory: a call that names locks reads them into
-/// the room that is lent, and what it leaves there means nothing. It is not inlined, so that a step
-/// without a call is short.
+/// 0 to 5 and 11 to 14 octal. A refused call puts its code in AC, does not skip and changes nothing else,
+/// except that a request of ENQ. 2 that is not granted at once stays. Any other call stops the job as an
+/// illegal instruction, and a call with an illegal address stops it for that; both put the PC back and
+/// change nothing else. Nothing takes memory: a call that names locks reads them into `room`, and what it
+/// leaves there means nothing. It is not inlined, so that a step without a call is short.
 #[inline(never)]
 pub fn perform<L: LockTable, C: CoreStore>(
     number: u8,
@@ -188,7 +188,7 @@ pub fn perform<L: LockTable, C: CoreStore>(
     let quota = quota_asked(service, number, ac, &table.jobs);
     let outcome = match &mut table.jobs[number as usize] {
         Some(job) => {
-            let made = Made {
+            let call = JobCall {
                 service,
                 time,
                 number,
@@ -196,7 +196,7 @@ pub fn perform<L: LockTable, C: CoreStore>(
                 e,
                 quota,
             };
-            let outcome = carry_out(made, job, lines, locks, cores, shared, room);
+            let outcome = carry_out(call, job, lines, locks, cores, shared, room);
             table.sleepers |= job.is_asleep();
             outcome
         }

@@ -3,7 +3,7 @@
 ghost use Rattle.std.specs.Prelude.{◌≡◌, ◌≢◌, ◌<◌, ◌≤◌, ◌+◌, ◌*◌, [], Some, None, true, false, OnOk, OnErr, IsOk, IfSome, length};
 ghost use Rattle.word36.specs.declared.sizes.TheConstants.{BLOCK_WORDS, MOST_BLOCKS};
 ghost use Rattle.core_store.specs.Cores.{IsJob, core_of, blocks_of, resized};
-ghost use Rattle.uuo_calls.specs.Around.{ac_of, with_ac, skipping};
+ghost use Rattle.uuo_calls.specs.CallState.{ac_of, with_ac, skipping};
 ghost use Rattle.uuo_calls.specs.CoreRow.{blocks_asked, with_highest, grown, core_called};
 
 use crate::returns::skip;
@@ -14,9 +14,9 @@ use word36::{BLOCK_WORDS, MOST_BLOCKS, Word};
 
 /// .JBREL, location 44 octal of a job's core, which holds its highest legal address (TOPS-10
 /// Monitor Calls Manual).
-pub const HIGHEST_PLACE: u32 = 0o44;
+pub const JBREL: u32 = 0o44;
 
-/// How many blocks a word asks for, `0,,highest address`; None where it asks for none.
+/// How many blocks a word asks for: `0,,highest address`. `None` where it asks for none.
 fn blocks_asked(word: Word) -> Option<u32>
     ensures asks { result ≡ blocks_asked word }
     ensures some { IfSome result (λ n. (1 ≤ n) × (n ≤ MOST_BLOCKS)) }
@@ -28,7 +28,7 @@ fn blocks_asked(word: Word) -> Option<u32>
     }
 }
 
-/// Tells a job of so many blocks its highest legal address.
+/// Stores the highest legal address of a job with so many blocks in its .JBREL.
 fn tell_highest<C: CoreStore>(number: u8, cores: &mut C, blocks: u32)
     requires number { IsJob number }
     requires some { 1 ≤ blocks }
@@ -38,10 +38,10 @@ fn tell_highest<C: CoreStore>(number: u8, cores: &mut C, blocks: u32)
 {
     let highest = Word::new((blocks as usize * BLOCK_WORDS - 1) as u64);
     let words = cores.window(number);
-    words[HIGHEST_PLACE as usize] = highest;
+    words[JBREL as usize] = highest;
 }
 
-/// Gives a job so many blocks, unless blocks lack.
+/// Gives a job so many blocks. False where too few are free; then nothing changes.
 fn grow<C: CoreStore>(number: u8, cores: &mut C, blocks: u32) -> bool
     requires number { IsJob number }
     requires some { 1 ≤ blocks }
@@ -59,7 +59,8 @@ fn grow<C: CoreStore>(number: u8, cores: &mut C, blocks: u32) -> bool
     }
 }
 
-/// CORE.
+/// CORE: gives the job the blocks that AC asks for, and skips, where enough are free. AC gets the number of
+/// free blocks in each case.
 pub(crate) fn resize_core<C: CoreStore>(number: u8, job: &mut Job, ac: Accumulator, cores: &mut C)
     requires number { IsJob number }
     requires core { core_of (C.meaning cores.old) number ≢ [] }

@@ -9,10 +9,10 @@ use job_sched::Job;
 use ka_cpu::Accumulator;
 use word36::{DATA_WORDS, Word};
 
-/// The code of an index that no shared word has.
+/// The code for an index that no shared word has.
 const NO_SUCH_WORD: u8 = 1;
 
-/// DATRD.
+/// DATRD.: AC gets the shared word whose number AC has.
 pub(crate) fn datrd(job: &mut Job, ac: Accumulator, shared: &[Word; DATA_WORDS])
     ensures { job.new ≡ datrd shared.now ac job.old }
 {
@@ -25,7 +25,7 @@ pub(crate) fn datrd(job: &mut Job, ac: Accumulator, shared: &[Word; DATA_WORDS])
     }
 }
 
-/// DATWR.
+/// DATWR.: the shared word whose number AC has becomes the word in AC+1.
 pub(crate) fn datwr(job: &mut Job, ac: Accumulator, shared: &mut [Word; DATA_WORDS])
     ensures { record { job = job.new; shared = shared.new } ≡ datwr ac job.old shared.old }
 {

@@ -14,7 +14,7 @@ use ka_cpu::{CoreWords, JobMemory, StopReason, is_legal_kept, store};
 use tty_lines::Lines;
 use word36::{Address, Word};
 
-/// Whether what is to be read has come to a job's line.
+/// Whether the input of a job's line has what is to be read.
 fn has_input(awaited: Awaited, job: &Job, lines: &Lines) -> bool
     ensures { result ≡ has_input awaited (input_of lines.now job.now.line) }
 {
@@ -45,6 +45,17 @@ fn next_character(job: &Job, lines: &mut Lines) -> Word
     }
 }
 
+/// What INCHRW, INCHRS, INCHWL and INCHSL do.
+#[derive(Clone, Copy, Debug)]
+pub(crate) struct Reading {
+    /// What is to be read.
+    pub awaited: Awaited,
+    /// Whether the call skips where that is there, and goes on where it is not, in place of a wait.
+    pub skips: bool,
+    /// Where the character goes.
+    pub e: Address,
+}
+
 /// Lets a job go on without a character, or wait for one.
 fn go_without(awaited: Awaited, skips: bool, job: &mut Job) -> CallOutcome
     ensures job { job.new ≡ (no_input awaited skips [] job.old []).job }
@@ -59,17 +70,16 @@ fn go_without(awaited: Awaited, skips: bool, job: &mut Job) -> CallOutcome
 
 /// Reads a character into a job's memory.
 fn read<M: JobMemory>(
-    awaited: Awaited,
-    skips: bool,
+    reading: Reading,
     job: &mut Job,
     memory: &mut M,
-    e: Address,
     lines: &mut Lines,
 ) -> CallOutcome
     ensures called { record { job = job.new; core = M.words memory.new; lines = lines.new; ending = result }
-        ≡ input_called awaited skips e (M.words memory.old) job.old lines.old }
+        ≡ input_called reading.awaited reading.skips reading.e (M.words memory.old) job.old lines.old }
     ensures place { M.place memory.new ≡ M.place memory.old }
 {
+    let Reading { awaited, skips, e } = reading;
     if !is_legal_kept(memory, e.number()) {
         stop_at(job, StopReason::IllegalAddress);
         return CallOutcome::Done;
@@ -88,23 +98,22 @@ fn read<M: JobMemory>(
 /// INCHRW, INCHRS, INCHWL and INCHSL.
 pub(crate) fn input<C: CoreStore>(
     number: u8,
-    awaited: Awaited,
-    skips: bool,
+    reading: Reading,
     job: &mut Job,
-    e: Address,
     lines: &mut Lines,
     cores: &mut C,
 ) -> CallOutcome
     requires number { IsJob number }
     ensures called { record { job = job.new; lines = lines.new; ending = result }
-        ≡ without_core (input_called awaited skips e (core_of (C.meaning cores.old) number) job.old lines.old) }
+        ≡ without_core
+        (input_called reading.awaited reading.skips reading.e (core_of (C.meaning cores.old) number) job.old lines.old) }
     ensures cores { C.meaning cores.new
         ≡ with_core (C.meaning cores.old) number
-        (input_called awaited skips e (core_of (C.meaning cores.old) number) job.old lines.old).core }
+        (input_called reading.awaited reading.skips reading.e (core_of (C.meaning cores.old) number) job.old lines.old).core }
 {
     let words = cores.window(number);
     let mut window = CoreWords { words };
-    read(awaited, skips, job, &mut window, e, lines)
+    read(reading, job, &mut window, lines)
 }
 
 /// SKPINC and SKPINL.

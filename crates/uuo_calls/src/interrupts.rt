@@ -10,10 +10,10 @@ use job_sched::{Interrupts, Job};
 use ka_cpu::{Accumulator, CoreWords, StopReason, are_legal_kept, flags_of, word_kept};
 use word36::{Address, Word};
 
-/// The words of a vector.
+/// How many words a vector has.
 const VECTOR_WORDS: u32 = 4;
 
-/// The code of PIINI. where a word of the vector is not legal.
+/// The code of PIINI. where an address of the vector is not legal.
 const ILLEGAL_VECTOR: u8 = 1;
 
 /// The code of PISYS. for a value that is neither 0 nor 1.
@@ -22,18 +22,18 @@ const NEITHER_ON_NOR_OFF: u8 = 1;
 /// The code of PISYS. where no vector is set.
 const NO_VECTOR: u8 = 2;
 
-/// PIINI.
+/// PIINI.: sets the job's vector to the address in AC, with interrupts off.
 pub(crate) fn piini<C: CoreStore>(number: u8, job: &mut Job, ac: Accumulator, cores: &mut C)
     requires number { IsJob number }
     ensures job { job.new ≡ piini (core_of (C.meaning cores.old) number) ac job.old }
     ensures cores { C.meaning cores.new ≡ C.meaning cores.old }
 {
-    let place = job.regs.ac[ac.index()].right();
+    let address = job.regs.ac[ac.index()].right();
     let words = cores.window(number);
     let mut window = CoreWords { words };
-    if are_legal_kept(&mut window, place, VECTOR_WORDS) {
+    if are_legal_kept(&mut window, address, VECTOR_WORDS) {
         job.interrupts = Interrupts {
-            vector: Some(Address::new(place)),
+            vector: Some(Address::new(address)),
             on: false,
             in_progress: false,
         };
@@ -43,7 +43,7 @@ pub(crate) fn piini<C: CoreStore>(number: u8, job: &mut Job, ac: Accumulator, co
     }
 }
 
-/// PISYS.
+/// PISYS.: turns the job's interrupts off or on, as AC says.
 pub(crate) fn pisys(job: &mut Job, ac: Accumulator)
     ensures { job.new ≡ pisys ac job.old }
 {
@@ -58,7 +58,8 @@ pub(crate) fn pisys(job: &mut Job, ac: Accumulator)
     }
 }
 
-/// Goes on as the word says that the delivery of the interrupt stored.
+/// Goes on at the PC, and with the flags, of the word that the delivery of the interrupt stored; stops the
+/// job where the word's address is not legal.
 fn dismiss(job: &mut Job, word: Option<Word>)
     ensures { job.new ≡ dismissed job.old word }
 {
@@ -72,7 +73,7 @@ fn dismiss(job: &mut Job, word: Option<Word>)
     }
 }
 
-/// DEBRK.
+/// DEBRK.: ends the interrupt that is in progress, if one is.
 pub(crate) fn debrk<C: CoreStore>(number: u8, job: &mut Job, cores: &mut C)
     requires number { IsJob number }
     ensures job { job.new ≡ debrk (core_of (C.meaning cores.old) number) job.old }

@@ -1,4 +1,4 @@
-//! The monitor calls of a job.
+//! The monitor calls of a job, and the world that they change.
 #![tactic(auto)]
 
 mod blocks;
@@ -21,7 +21,7 @@ mod world;
 
 pub use call::{CallOutcome, MonitorCall};
 pub use calls::{perform, remove_job};
-pub use core_call::HIGHEST_PLACE;
+pub use core_call::JBREL;
 pub use laws::{
     core_answers_free_blocks, empty_steps_wait, mstime_answers_milliseconds, others_are_spared,
     refusals_change_ac_alone, texts_go_whole,

@@ -1,7 +1,7 @@
 //! OUTCHR and OUTSTR.
 
 ghost use Rattle.std.specs.Prelude.{ℕ, List, true, false, ◌≡◌, ◌<◌, ◌≤◌, ◌+◌, ◌-◌, ◌*◌, ◌/◌, ◌%◌, ◌^◌, ◌∷◌, length, Some, None, []};
-ghost use Rattle.ka_cpu.specs.Places.{word_below};
+ghost use Rattle.ka_cpu.specs.Memory.{word_below};
 ghost use Rattle.core_store.specs.Cores.{IsJob, core_of};
 ghost use Rattle.word36.specs.declared.sizes.TheConstants.{OUTPUT_RING};
 ghost use Rattle.uuo_calls.specs.TerminalRows.{TextIs, character, outchr, outstr, put_text, text_from};
@@ -15,7 +15,7 @@ use ka_cpu::{CoreWords, JobMemory, Regs, StopReason, word_kept};
 use tty_lines::{Char7, Lines};
 use word36::{Address, OUTPUT_RING, Word};
 
-/// The characters of a word, each of seven bits.
+/// How many characters of seven bits a word has.
 const CHARACTERS_A_WORD: u32 = 5;
 
 /// Character k of a word, 0 to 4 from the left.
@@ -26,14 +26,14 @@ fn character(k: u32, word: Word) -> Char7
     Char7::low_bits(word.number() >> (29 - 7 * k))
 }
 
-/// The words of a text that give all their characters: the longest text ends within the word behind them.
+/// How many words give all their characters to the longest text, which ends within the next word.
 const WHOLE_WORDS: u32 = OUTPUT_RING as u32 / CHARACTERS_A_WORD;
 
-/// The characters of the last word that belong to the longest text.
+/// How many characters of that next word belong to the longest text.
 const LAST_CHARACTERS: u32 = OUTPUT_RING as u32 % CHARACTERS_A_WORD;
 
-/// Adds the first so many characters of a word to a text that whole words have given, up to a zero: whether
-/// there was none, so that the text goes on.
+/// Adds the first `count` characters of a word to a text of whole words, up to a zero. Returns whether there
+/// was no zero, so that the text goes on.
 #[inline(always)]
 fn add_word(text: &mut ArrayVec<Char7, OUTPUT_RING>, word: Word, count: u32) -> bool
     requires whole { length text.old.items % 5 ≡ 0 }
@@ -57,7 +57,7 @@ fn add_word(text: &mut ArrayVec<Char7, OUTPUT_RING>, word: Word, count: u32) -> 
     true
 }
 
-/// The text at a place, up to its zero or 512 characters.
+/// The text at an address, up to its zero or 512 characters. `None` where an address of it is not legal.
 fn read_text<M: JobMemory>(
     regs: &Regs,
     memory: &mut M,
@@ -66,24 +66,24 @@ fn read_text<M: JobMemory>(
     ensures text { TextIs result (text_from regs.now.ac (M.words memory.old) e [] OUTPUT_RING) }
     ensures same { memory.new ≡ memory.old }
 {
-    let place = e.number();
+    let address = e.number();
     let mut text = ArrayVec::new();
     for i in 0..WHOLE_WORDS {
-        let Some(word) = word_kept(regs, memory, place + i) else {
+        let Some(word) = word_kept(regs, memory, address + i) else {
             return None;
         };
         if !add_word(&mut text, word, CHARACTERS_A_WORD) {
             return Some(text);
         }
     }
-    let Some(word) = word_kept(regs, memory, place + WHOLE_WORDS) else {
+    let Some(word) = word_kept(regs, memory, address + WHOLE_WORDS) else {
         return None;
     };
     add_word(&mut text, word, LAST_CHARACTERS);
     Some(text)
 }
 
-/// Puts a text out at a job's line, or lets the job wait for room.
+/// Puts a text out at a job's line as a whole, or lets the job wait for room.
 fn put(job: &mut Job, text: &[Char7], lines: &mut Lines) -> CallOutcome
     requires { length text.now ≤ OUTPUT_RING }
     ensures { record { job = job.new; lines = lines.new; ending = result } ≡ put_text (Some text.now) job.old lines.old }
@@ -96,7 +96,7 @@ fn put(job: &mut Job, text: &[Char7], lines: &mut Lines) -> CallOutcome
     }
 }
 
-/// OUTSTR.
+/// OUTSTR: puts out the text at `e`.
 pub(crate) fn outstr<C: CoreStore>(
     number: u8,
     job: &mut Job,
@@ -105,7 +105,8 @@ pub(crate) fn outstr<C: CoreStore>(
     cores: &mut C,
 ) -> CallOutcome
     requires number { IsJob number }
-    ensures called { record { job = job.new; lines = lines.new; ending = result } ≡ outstr e (core_of (C.meaning cores.old) number) job.old lines.old }
+    ensures called { record { job = job.new; lines = lines.new; ending = result }
+        ≡ outstr e (core_of (C.meaning cores.old) number) job.old lines.old }
     ensures cores { C.meaning cores.new ≡ C.meaning cores.old }
 {
     let words = cores.window(number);
@@ -119,7 +120,7 @@ pub(crate) fn outstr<C: CoreStore>(
     }
 }
 
-/// OUTCHR.
+/// OUTCHR: puts out the low seven bits of the word at `e`.
 pub(crate) fn outchr<C: CoreStore>(
     number: u8,
     job: &mut Job,
@@ -128,7 +129,8 @@ pub(crate) fn outchr<C: CoreStore>(
     cores: &mut C,
 ) -> CallOutcome
     requires number { IsJob number }
-    ensures called { record { job = job.new; lines = lines.new; ending = result } ≡ outchr e (core_of (C.meaning cores.old) number) job.old lines.old }
+    ensures called { record { job = job.new; lines = lines.new; ending = result }
+        ≡ outchr e (core_of (C.meaning cores.old) number) job.old lines.old }
     ensures cores { C.meaning cores.new ≡ C.meaning cores.old }
 {
     let words = cores.window(number);

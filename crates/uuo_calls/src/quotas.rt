@@ -1,4 +1,4 @@
-//! ENQC., and its functions 1 and 2: how many requests a job may have.
+//! ENQC., and its functions 1 and 2, for the quota of a job: how many requests it may have.
 
 ghost use Rattle.std.specs.Prelude.{◌≡◌, ◌≤◌, List, Option, Some};
 ghost use Rattle.core_store.specs.Cores.{IsJob};
@@ -7,7 +7,7 @@ ghost use Rattle.job_sched.specs.declared.job.Job.{Job as JobView};
 ghost use Rattle.uuo_calls.specs.declared.service.Service.TheVariants.{Enqc};
 ghost use Rattle.word36.specs.Words.{right_half};
 ghost use Rattle.word36.specs.declared.sizes.TheConstants.{MOST_REQUESTS};
-ghost use Rattle.uuo_calls.specs.Around.{ac_of};
+ghost use Rattle.uuo_calls.specs.CallState.{ac_of};
 ghost use Rattle.uuo_calls.specs.QuotaRows.{count, named_job, quota_at, quota_lowered, told_quota};
 ghost use Rattle.uuo_calls.specs.StatusRow.{enqc};
 
@@ -21,7 +21,7 @@ use ka_cpu::Accumulator;
 use lock_queue::{LockTable, Refusal};
 use word36::Word;
 
-/// The job that a number names to a job: 0 names the job itself.
+/// The number of the job that a job names: 0 names the job itself.
 fn named_job(number: u8, named: u32) -> u32
     ensures { result ≡ named_job number named }
 {
@@ -38,7 +38,7 @@ fn quota_at(jobs: &[Option<Job>], number: u32) -> Option<u16>
     }
 }
 
-/// The quota of the job that a call of ENQC. names in its AC, if it is there; no other call asks for one.
+/// The quota of the job that ENQC. names in its AC, if it is there; `None` for any other call.
 pub(crate) fn quota_asked(
     service: Service,
     number: u8,
@@ -60,7 +60,7 @@ pub(crate) fn quota_asked(
     }
 }
 
-/// How many requests a job has, whether they are granted or not.
+/// How many requests a job has, granted or not.
 fn count_requests<L: LockTable>(number: u32, locks: &L) -> u32
     ensures value { result ≡ count (L.requests locks.now) number }
     ensures few { result ≤ MOST_REQUESTS }
@@ -74,8 +74,8 @@ fn count_requests<L: LockTable>(number: u32, locks: &L) -> u32
     count
 }
 
-/// Tells a job the quota of a job and how many requests that has, or refuses the call where there is no
-/// such job.
+/// ENQC. 1: AC gets the quota of a job and how many requests that job has. The call is refused where there is
+/// no such job.
 fn tell_quota<L: LockTable>(
     number: u32,
     quota: Option<u16>,
@@ -95,7 +95,7 @@ fn tell_quota<L: LockTable>(
     }
 }
 
-/// Lowers the quota of a job to the right half of AC, or refuses the call where that is above the quota.
+/// ENQC. 2: lowers the job's quota to the right half of AC. The call is refused where that is above the quota.
 fn lower_quota(job: &mut Job, ac: Accumulator)
     ensures { job.new ≡ quota_lowered ac job.old }
 {
@@ -108,11 +108,11 @@ fn lower_quota(job: &mut Job, ac: Accumulator)
     }
 }
 
-/// ENQC. with a function in the left half of AC; `quota` is that of the job that the right half names, if
-/// it is there, where 0 names the job itself.
+/// ENQC. with a function in the left half of AC. `quota` is that of the job that the right half names, if it
+/// is there; 0 names the job itself.
 ///
-/// Function 0 tells of the locks of the block at that address, by three words for each of them from the
-/// address in AC+1 on; its codes are 3 to 8 for the block and 3 where a place of the answer is not legal.
+/// Function 0 stores the status of each lock of the block at that address, three words each, from the address
+/// in AC+1 on; its codes are 3 to 8 for the block, and 3 where an address of the answer is not legal.
 /// Function 1 puts `quota,,present requests` of the named job into AC; its code is 18 where no such job
 /// is there. Function 2 lowers the quota of the job to the right half of AC, which stays; its code is 18
 /// where that is above the quota. The code is 2 for any other function. A refused call changes nothing

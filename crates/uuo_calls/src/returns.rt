@@ -1,13 +1,13 @@
-//! How a call returns to its program.
+//! The ways in which a call returns to its program.
 
 ghost use Rattle.std.specs.Prelude.{◌≡◌, ◌<◌, ◌^◌};
-ghost use Rattle.uuo_calls.specs.Around.{put_back, refusing, skipping, stopped_at, waiting};
+ghost use Rattle.uuo_calls.specs.CallState.{put_back, refusing, skipping, stopped_at, waiting};
 
 use job_sched::{Job, Stop, Wait};
 use ka_cpu::{Accumulator, StopReason};
 use word36::Word;
 
-/// What takes an address one back, counted modulo 2^18.
+/// What is added to an address, modulo 2^18, to go one back.
 const ONE_BACK: u32 = 0o777_777;
 
 /// Skips the next instruction.
@@ -24,7 +24,7 @@ pub(crate) fn refuse(job: &mut Job, ac: Accumulator, code: u8)
     job.regs.ac[ac.index()] = Word::new(code as u64);
 }
 
-/// Lets the job wait and make the call again later.
+/// Lets the job wait, and make the call again when the wait is over.
 pub(crate) fn wait_again(job: &mut Job, wait: Wait)
     ensures { job.new ≡ waiting (put_back job.old) wait }
 {

@@ -7,20 +7,20 @@ ghost use Rattle.uuo_calls.specs.LockRows.{with_block, limit_with, limit_in, ent
 
 use lock_queue::{Asking, EnqueueKind, LockCall, RequestId, Wants};
 
-/// Room for the locks that a block names, which all calls use in turn: for 16 locks each, too much to be
-/// made anew in every call. What a call leaves in it means nothing to the next one.
+/// Room for the locks of a block, which all calls use one after another: for 16 locks, too much to be made
+/// anew in each call. What a call leaves in it means nothing to the next one.
 #[derive(Drop)]
 pub struct CallRoom {
-    /// Of a call that enters a request.
+    /// Room of a call that enters a request.
     pub(crate) entering: LockCall,
-    /// Of a call that changes or gives up the wants that it names.
+    /// Room of a call that changes the wants that it names, or gives them up.
     pub(crate) naming: LockCall,
-    /// Of ENQC.
-    pub(crate) told: Wants,
+    /// Room of ENQC.
+    pub(crate) enquiring: Wants,
 }
 
 impl CallRoom {
-    /// Room before the first call.
+    /// Empty room.
     pub fn new() -> Self {
         CallRoom {
             entering: LockCall::Enqueue {
@@ -33,13 +33,13 @@ impl CallRoom {
                 wants: Wants::new(),
             },
             naming: LockCall::DequeueNamed(Wants::new()),
-            told: Wants::new(),
+            enquiring: Wants::new(),
         }
     }
 }
 
-/// Makes a call one that enters a request, whose locks a block will say: those that it has stay where
-/// it is one already.
+/// Turns a call into one that enters a request. A block gives its locks later: until then it keeps those
+/// that it has, if it was such a call already.
 #[inline(always)]
 pub(crate) fn make_entering(call: &mut LockCall, kind: EnqueueKind, armed: bool, quota: u16)
     ensures call { (block : Result Block RefusalView) → with_block call.new block ≡ entering kind armed quota block }
@@ -65,7 +65,7 @@ pub(crate) fn make_entering(call: &mut LockCall, kind: EnqueueKind, armed: bool,
     }
 }
 
-/// Makes a call one that changes wants, whose locks a block will say.
+/// Turns a call into one that changes wants. A block gives its locks later.
 #[inline(always)]
 pub(crate) fn make_changing(call: &mut LockCall)
     ensures { (block : Result Block RefusalView) → with_block call.new block ≡ changing block }
@@ -75,7 +75,7 @@ pub(crate) fn make_changing(call: &mut LockCall)
     }
 }
 
-/// Makes a call one that gives up wants, whose locks a block will say.
+/// Turns a call into one that gives up wants. A block gives its locks later.
 #[inline(always)]
 pub(crate) fn make_naming(call: &mut LockCall)
     ensures { (block : Result Block RefusalView) → with_block call.new block ≡ naming block }

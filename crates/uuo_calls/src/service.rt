@@ -1,4 +1,4 @@
-//! Which call a job makes.
+//! The table of monitor calls: which call is which.
 
 ghost use Rattle.std.specs.Prelude.{◌≡◌};
 ghost use Rattle.uuo_calls.specs.Services.{calli_of, exit_of, service_of, ttcall_of};
@@ -6,7 +6,7 @@ ghost use Rattle.uuo_calls.specs.Services.{calli_of, exit_of, service_of, ttcall
 use ka_cpu::{Accumulator, CallKind};
 use word36::Address;
 
-/// What a program reads of its line.
+/// What a program reads from its line.
 #[derive(Clone, Copy, Debug, PartialEq, Eq)]
 pub enum Awaited {
     /// Any character.
@@ -15,7 +15,7 @@ pub enum Awaited {
     Line,
 }
 
-/// The calls that are listed, by their names in the TOPS-10 Monitor Calls Manual, and all others.
+/// The monitor calls, by their names in the TOPS-10 Monitor Calls Manual; `Unlisted` for all others.
 #[derive(Clone, Copy, Debug, PartialEq, Eq)]
 pub enum Service {
     Reset,
@@ -36,8 +36,8 @@ pub enum Service {
     Enqc,
     Datrd,
     Datwr,
-    /// INCHRW, INCHRS, INCHWL and INCHSL: what is read, and whether the call skips where it is there
-    /// and goes on where it is not, in place of a wait.
+    /// INCHRW, INCHRS, INCHWL and INCHSL: what is read, and whether the call skips where that is there and
+    /// goes on where it is not, in place of a wait.
     Input(Awaited, bool),
     Outchr,
     Outstr,
@@ -48,7 +48,7 @@ pub enum Service {
     Unlisted,
 }
 
-/// EXIT with an AC field.
+/// The EXIT of this AC field.
 fn exit_of(ac: Accumulator) -> Service
     ensures { result ≡ exit_of ac }
 {
@@ -102,7 +102,8 @@ fn ttcall_of(ac: Accumulator) -> Service
     }
 }
 
-/// The call of an operation, its AC field and its E: a CALLI goes by E, a TTCALL by the AC field.
+/// The call of an operation with this AC field and this E: E tells one CALLI from another, the AC field one
+/// TTCALL.
 pub(crate) fn service_of(kind: CallKind, ac: Accumulator, e: Address) -> Service
     ensures { result ≡ service_of kind ac e }
 {

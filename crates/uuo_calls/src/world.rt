@@ -1,4 +1,4 @@
-//! All that the calls of jobs work on, as one value.
+//! The world that monitor calls read and change, as one value.
 ghost use Rattle.std.specs.Prelude.{◌≡◌, ◌≢◌, [], IsSome};
 ghost use Rattle.core_store.specs.Cores.{IsJob, core_of};
 ghost use Rattle.job_sched.specs.Tables.{job_at};
@@ -14,14 +14,15 @@ use std::marker::Model;
 use tty_lines::Lines;
 use word36::{DATA_WORDS, Word};
 
-/// What monitor calls work on: the jobs, their terminal lines, their requests for locks, and their core.
+/// What monitor calls read and change: the jobs, their terminal lines, their requests for locks, their core,
+/// and the words that they share.
 #[derive(Drop)]
 pub struct World<L: LockTable, C: CoreStore> {
     /// The jobs, which of them is current, and what is left of its quantum.
     pub table: JobTable,
-    /// The characters typed and put out at each line.
+    /// The characters that are typed and put out at each line.
     pub lines: Lines,
-    /// The requests for locks.
+    /// The lock table, with the requests of all jobs.
     pub locks: L,
     /// The core of each job.
     pub cores: C,

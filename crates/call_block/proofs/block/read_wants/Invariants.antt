@@ -7,13 +7,13 @@ use Rattle.call_block.specs.Blocks.{wants_at}
 use Rattle.call_block.proofs.WantLemmas.{behind}
 use Rattle.call_block.proofs.block.read_wants.Given as goal
 
-abbrev pub invariant-loop-place : goal.invariant-loop-place
-invariant-loop-place g l =
+abbrev pub invariant-loop-position : goal.invariant-loop-position
+invariant-loop-position g l =
     record {
       read :
           wants_at l.fn.regs.ac (g.M.JobMemory.words l.fn.memory) l.fn.job l.fn.block_use l.fn.first l.fn.count
-          ≡ behind (take l.place l.wants.items)
-          (wants_at l.fn.regs.ac (g.M.JobMemory.words l.fn.memory) l.fn.job l.fn.block_use (l.fn.first + 3 * l.place) (l.fn.count - l.place));
-      long : l.place ≤ array_vec_len l.wants;
-      unshared : list_all shares_rightly (take l.place l.wants.items) ≡ true;
+          ≡ behind (take l.position l.wants.items)
+          (wants_at l.fn.regs.ac (g.M.JobMemory.words l.fn.memory) l.fn.job l.fn.block_use (l.fn.first + 3 * l.position) (l.fn.count - l.position));
+      long : l.position ≤ array_vec_len l.wants;
+      unshared : list_all shares_rightly (take l.position l.wants.items) ≡ true;
     }

@@ -1,5 +1,4 @@
-use Rattle.std.proofs.Common.{◌∙◌, sym, ap}
-use Rattle.call_block.specs.Names.{name_text}
+use Rattle.std.proofs.Common.{◌∙◌, sym}
 use Rattle.call_block.proofs.NameLemmas.{text_of-legal, name_text-new}
 use Rattle.call_block.proofs.name.read_text.Goals as goal
 

@@ -14,7 +14,7 @@ returns-then-computes g c =
     let n = c.first_behind-first.result in
     let fails : (m : ℕ) → c.self.inside.vacant_from ≤ m → is_ready jobs lines requests m ≡ false =
     λ m high. ap (λ (o : Option Job). is_ready_job lines requests m o) (c.self.invariant.vacant m high) in
-    let low : n < length jobs = omega (arith, c.first_behind-first.ensures.most, c.self.invariant.places) in
+    let low : n < length jobs = omega (arith, c.first_behind-first.ensures.most, c.self.invariant.slots) in
     let there = none-at jobs n c.index-self-first.result low in
     let passes : is_ready jobs lines requests n ≡ true =
     ap (λ (o : Option Job). is_ready_job lines requests n o) (sym there) ∙ c.computes.ensures lines requests n c.if-computes.true in

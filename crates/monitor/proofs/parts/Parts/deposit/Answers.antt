@@ -13,7 +13,7 @@ pub invariant_of-world-inside : goal.invariant_of-world-inside
 invariant_of-world-inside g c =
     let table = c.world-inside.inside.0.0 in
     let jobs : List (Option Job) = table.jobs in
-    let low : c.args.n < length jobs = omega (arith, c.world-inside.invariant.places, c.if-n-gt-JOBS.false) in
+    let low : c.args.n < length jobs = omega (arith, c.world-inside.invariant.slots, c.if-n-gt-JOBS.false) in
     let there : job_at jobs c.args.n ≡ Some c.in-Some.job = sym (none-at jobs c.args.n _ low) ∙ c.in-Some.is in
     let same = ap (λ (j : Job). is_sleep j.wait) c.put_word.ensures.job in
     IsTable-changed jobs c.args.n (Some c.put_word.new.job) table.sleepers table.sleepers table.vacant_from c.world-inside.invariant (λ e. e)

@@ -28,7 +28,7 @@ returns-in_default c =
     let p =
     ran_more c.loop-done.done c.args.regs.now c.loop-done.regs c.step_in_loop.new.regs c.args.words.now c.loop-done.memory.words.now
     c.step_in_loop.new.memory.words.now c.step_in_loop.result c.loop-done.invariant.after c.step_in_loop.ensures.exec in
-    let q : (k : ℕ) → 1 ≤ k → k < c.loop-done.done + 1 → is_among c.args.self.now.places.now (ran k c.args.regs.now c.args.words.now).after.regs.pc ≡ false =
+    let q : (k : ℕ) → 1 ≤ k → k < c.loop-done.done + 1 → is_among c.args.self.now.addresses.now (ran k c.args.regs.now c.args.words.now).after.regs.pc ≡ false =
     λ k some less. c.loop-done.invariant.none_over k less some in
     search (rules, p, q)
 
@@ -41,9 +41,9 @@ loop-done-preserved c =
     }) (sym c.in-Done.is)
     ∙ ran_more c.loop-done.done c.args.regs.now c.loop-done.regs c.step_in_loop.new.regs c.args.words.now c.loop-done.memory.words.now
     c.step_in_loop.new.memory.words.now c.step_in_loop.result c.loop-done.invariant.after c.step_in_loop.ensures.exec in
-    let here : is_among c.args.self.now.places.now c.step_in_loop.new.regs.pc ≡ false = sym c.is_among.ensures ∙ c.if-is_among.false in
-    let there : is_among c.args.self.now.places.now (ran (c.loop-done.done + 1) c.args.regs.now c.args.words.now).after.regs.pc ≡ false =
-    ap (λ (r : Ran). is_among c.args.self.now.places.now r.after.regs.pc) (sym p) ∙ here in
+    let here : is_among c.args.self.now.addresses.now c.step_in_loop.new.regs.pc ≡ false = sym c.is_among.ensures ∙ c.if-is_among.false in
+    let there : is_among c.args.self.now.addresses.now (ran (c.loop-done.done + 1) c.args.regs.now c.args.words.now).after.regs.pc ≡ false =
+    ap (λ (r : Ran). is_among c.args.self.now.addresses.now r.after.regs.pc) (sym p) ∙ here in
     record {
       after = p;
       none_over = below_more _ _ c.loop-done.invariant.none_over (λ _. there);

@@ -8,6 +8,6 @@ use Rattle.monitor.proofs.runner.UpToRunner.run.Given as goal
 abbrev pub invariant-loop-done : goal.invariant-loop-done
 invariant-loop-done l = record {
   after : record { steps = l.done; after = record { regs = l.regs; core = l.memory.words.now; outcome = Done } } ≡ ran l.done l.fn.regs l.fn.words;
-  none_over : (k : ℕ) → k < l.done + 1 → 1 ≤ k → is_among l.self.places.now (ran k l.fn.regs l.fn.words).after.regs.pc ≡ false;
+  none_over : (k : ℕ) → k < l.done + 1 → 1 ≤ k → is_among l.self.addresses.now (ran k l.fn.regs l.fn.words).after.regs.pc ≡ false;
   place : l.memory.words.ghost_name ≡ l.initial.memory.words.ghost_name;
 }

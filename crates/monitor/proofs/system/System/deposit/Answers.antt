@@ -8,7 +8,7 @@ invariant_of-self g c = rw c.deposit.ensures.state (sound_deposited _ _ _ _ c.se
 
 pub returns-clause-there : goal.returns-clause-there
 returns-clause-there g c =
-    λ told. rw c.deposit.ensures.state (word_is_there c.self.inside.parts c.args.n c.args.a c.args.w c.self.invariant.safe (sym c.deposit.ensures.told ∙ told))
+    λ found. rw c.deposit.ensures.state (word_is_there c.self.inside.parts c.args.n c.args.a c.args.w c.self.invariant.safe (sym c.deposit.ensures.found ∙ found))
 
 pub returns-clause-others : goal.returns-clause-others
 returns-clause-others g c =
@@ -17,4 +17,4 @@ returns-clause-others g c =
 
 pub returns-clause-kept : goal.returns-clause-kept
 returns-clause-kept g c =
-    λ told. rw (← c.self.view_is) (c.deposit.ensures.state ∙ nothing_changes c.self.inside.parts c.args.n c.args.a c.args.w (sym c.deposit.ensures.told ∙ told))
+    λ found. rw (← c.self.view_is) (c.deposit.ensures.state ∙ nothing_changes c.self.inside.parts c.args.n c.args.a c.args.w (sym c.deposit.ensures.found ∙ found))

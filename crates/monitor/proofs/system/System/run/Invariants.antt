@@ -5,6 +5,6 @@ use Rattle.monitor.proofs.system.System.run.Given as goal
 -- the answers so far and those to what is left are those to all
 abbrev pub invariant-loop-i : goal.invariant-loop-i
 invariant-loop-i g l = record {
-  told : take l.i l.replies ++ answers (drop l.i l.events) l.self ≡ answers l.events l.fn.self;
+  answered : take l.i l.replies ++ answers (drop l.i l.events) l.self ≡ answers l.events l.fn.self;
   rest : after (drop l.i l.events) l.self ≡ after l.events l.fn.self;
 }

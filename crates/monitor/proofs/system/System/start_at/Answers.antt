@@ -4,5 +4,5 @@ use Rattle.monitor.proofs.system.System.start_at.Goals as goal
 
 pub invariant_of-self : goal.invariant_of-self
 invariant_of-self g c =
-    let low : c.args.a < 2 ^ 18 = omega (arith, c.number-place.ensures.value, c.number-place.ensures.below) in
+    let low : c.args.a < 2 ^ 18 = omega (arith, c.number-address.ensures.value, c.number-address.ensures.below) in
     rw c.start_at.ensures.state (sound_started_at _ _ _ low c.self.invariant)

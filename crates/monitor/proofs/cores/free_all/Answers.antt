@@ -1,7 +1,7 @@
 use Rattle.std.proofs.Common.{◌≡◌, ◌+◌, arith}
 use Rattle.word36.specs.declared.sizes.TheConstants.{JOBS}
 use Rattle.monitor.proofs.Clearing.{cleared}
-use Rattle.monitor.proofs.cores.give_all.Goals as goal
+use Rattle.monitor.proofs.cores.free_all.Goals as goal
 
 pub returns : goal.returns
 returns g c =

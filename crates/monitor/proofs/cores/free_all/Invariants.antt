@@ -2,7 +2,7 @@ use Rattle.std.proofs.Common.{ℕ, ◌≡◌, ◌<◌, ◌*◌, []}
 use Rattle.word36.specs.declared.sizes.TheConstants.{BLOCK_WORDS}
 use Rattle.core_store.specs.Cores.{IsStore, core_of}
 use Rattle.machine.specs.Safe.{all_words}
-use Rattle.monitor.proofs.cores.give_all.Given as goal
+use Rattle.monitor.proofs.cores.free_all.Given as goal
 
 abbrev pub invariant-loop-n : goal.invariant-loop-n
 invariant-loop-n g l = record {

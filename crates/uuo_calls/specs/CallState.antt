@@ -1,4 +1,4 @@
--- What a call of one job reads and changes, and the words that its rows are written in (this project's profile).
+-- What a call of one job reads and changes, and the words of its row (this project's profile).
 use Rattle.std.specs.Prelude.{ℕ, ◌+◌, ◌%◌, ◌^◌, List, Option, Some, slice_index, slice_set}
 use Rattle.core_store.specs.Cores.{Cores}
 use Rattle.ka_cpu.specs.declared.outcome.StopReason.{StopReason}
@@ -9,9 +9,9 @@ use Rattle.job_sched.specs.declared.job.Stop.TheVariants.{Fault}
 use Rattle.job_sched.specs.declared.job.Wait.{Wait}
 use Rattle.uuo_calls.specs.declared.call.CallOutcome.{CallOutcome}
 
--- how many requests the lock table holds at most, the job, all jobs as they were before the call, the lines, the requests,
--- the core of all jobs and the shared words, and how the call ends
-pub record Around : Type 0 where
+-- how many requests the lock table holds at most, the job, all jobs as before the call, the lines, the requests, the core of all
+-- jobs, the shared words, and how the call ends
+pub record CallState : Type 0 where
   pub size : ℕ
   pub job : Job
   pub jobs : List (Option Job)
@@ -21,7 +21,7 @@ pub record Around : Type 0 where
   pub shared : List ℕ
   pub ending : CallOutcome
 
--- what is in the call's AC
+-- the word in the call's AC
 abbrev pub ac_of : Job → ℕ → ℕ
 ac_of j ac = slice_index j.regs.ac ac
 
@@ -49,7 +49,7 @@ refusing j ac code = with_ac j ac code
 abbrev pub waiting : Job → Wait → Job
 waiting j wait = record j { wait = wait }
 
--- the job is stopped for a fault
+-- the job stops for a fault
 abbrev pub stopped : Job → StopReason → Job
 stopped j reason = record j { stop = Some (Fault reason) }
 

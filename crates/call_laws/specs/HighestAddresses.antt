@@ -1,9 +1,9 @@
--- What place 44 octal tells, .JBREL of the TOPS-10 Monitor Calls Manual.
+-- The word at address 44 octal, .JBREL of the TOPS-10 Monitor Calls Manual.
 use Rattle.std.specs.Prelude.{ℕ, ◌≡◌, ◌+◌, ◌-◌, ◌*◌, ◌/◌, ◌<◌, ◌≤◌, List, length, Some}
 use Rattle.core_store.specs.Cores.{blocks_of}
 use Rattle.job_sched.specs.Tables.{job_at}
 use Rattle.job_sched.specs.declared.job.Job.{Job}
-use Rattle.uuo_calls.specs.Around.{ac_of}
+use Rattle.uuo_calls.specs.CallState.{ac_of}
 use Rattle.uuo_calls.specs.CoreRow.{blocks_asked}
 use Rattle.uuo_calls.specs.Laws.{service_in}
 use Rattle.uuo_calls.specs.Performed.{World, performed}
@@ -15,12 +15,12 @@ use Rattle.machine.specs.Images.{image_top}
 use Rattle.machine.specs.Views.{word_in}
 use Rattle.machine.specs.declared.event.Answer.TheVariants.{JobNumber}
 
--- job n has so many blocks of core, and its place 44 octal has the highest legal address: 1024 a block, less one
+-- job n has so many blocks of core, and its address 44 octal has the highest legal address: 1024 a block, less one
 pub record HasItsSize (w : World) (n blocks : ℕ) : Type 0 where
   pub has : blocks_of w.cores n ≡ blocks
   pub tells : word_in w n 0o44 ≡ Some (1024 * blocks - 1)
 
--- so after a CORE that is granted: AC asks for some blocks, and these are free or the job's own
+-- so it is after a CORE that is granted: AC asks for some blocks, and these are free or the job's own
 abbrev pub CoreTellsItsSize : Type 0
 CoreTellsItsSize =
     (w : World) (time n blocks : ℕ) (c : MonitorCall) (j : Job)
@@ -28,8 +28,8 @@ CoreTellsItsSize =
     → blocks_asked (ac_of j c.ac) ≡ Some blocks → blocks ≤ w.cores.free + blocks_of w.cores n
     → HasItsSize (performed w time n c).world n blocks
 
--- and after a login that is granted: the blocks are those that hold the highest place of the image, which has these words and this
--- start
+-- and after a login that is granted: the job has the blocks that hold the highest address of the image, which has these words and
+-- this start
 abbrev pub LoginTellsItsSize : Type 0
 LoginTellsItsSize =
     (s : S) (line n top start : ℕ) (words : List (ℕ × ℕ))

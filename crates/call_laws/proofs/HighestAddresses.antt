@@ -13,11 +13,11 @@ use Rattle.word36.specs.Words.{left_half, right_half}
 use Rattle.core_store.specs.Cores.{Cores, blocks_of, core_of, resized, resized_words}
 use Rattle.job_sched.specs.Tables.{job_at}
 use Rattle.job_sched.specs.declared.job.Job.{Job}
-use Rattle.uuo_calls.specs.Around.{ac_of, skipping, with_ac}
+use Rattle.uuo_calls.specs.CallState.{ac_of, skipping, with_ac}
 use Rattle.uuo_calls.specs.CoreRow.{blocks_asked, core_done, grown, with_highest}
 use Rattle.uuo_calls.specs.Performed.{Performed, World, around, ended, performed, row_of}
 use Rattle.uuo_calls.specs.declared.service.Service.TheVariants.{Core}
-use Rattle.uuo_calls.specs.StatusRow.{Places, stored_at}
+use Rattle.uuo_calls.specs.StatusRow.{Memory, stored_at}
 use Rattle.uuo_calls.proofs.Rows.{performs}
 use Rattle.job_sched.specs.Changes.{free_number, is_at, with_job}
 use Rattle.job_sched.specs.Jobs.{new_job}
@@ -25,12 +25,12 @@ use Rattle.core_store.specs.Cores.{taken as taken_core}
 use Rattle.machine.specs.declared.event.Answer.TheVariants.{JobNumber}
 use Rattle.machine.specs.declared.event.RefusedEvent.{RefusedEvent}
 use Rattle.machine.specs.declared.event.RefusedEvent.TheVariants.{NoLine, LineBusy, NoJobNumber, NoCore}
-use Rattle.machine.specs.Images.{blocks_for, fresh_regs, image_places, image_top, loaded}
+use Rattle.machine.specs.Images.{blocks_for, fresh_regs, image_memory, image_top, loaded}
 use Rattle.machine.specs.Machine.{S, Made, admitted, examined, first_quota, logged_in, refused, with_image}
 use Rattle.machine.specs.Safe.{Safe}
 use Rattle.monitor_laws.proofs.Safety.{IsFree, free-number}
 use Rattle.machine.specs.Views.{place_of}
-use Rattle.call_laws.specs.HighestPlaces.{CoreTellsItsSize, HasItsSize, LoginTellsItsSize}
+use Rattle.call_laws.specs.HighestAddresses.{CoreTellsItsSize, HasItsSize, LoginTellsItsSize}
 
 -- words that fill whole blocks
 length-resized : (words : List ℕ) (blocks : ℕ) → length (resized_words words blocks) ≡ blocks * BLOCK_WORDS
@@ -83,7 +83,7 @@ core_tells_its_size w time n blocks c j there here low is asks room =
     (tells-size world n blocks k words (some-asked (ac_of j c.ac) blocks asks) size (get_or-set_same w.table.jobs n (Some k) None here) core)
 
 -- a login
-length-loaded : (words : List (ℕ × ℕ)) (p : Places) → length (loaded p words).core ≡ length p.core
+length-loaded : (words : List (ℕ × ℕ)) (p : Memory) → length (loaded p words).core ≡ length p.core
 length-loaded [] p = refl
 length-loaded (x ∷ words) p = length-loaded words (stored_at p x.0 x.1) ∙ length-core_with p.core x.0 x.1
 
@@ -97,12 +97,12 @@ tells-image : (s : S) (line m n start blocks : ℕ) (words : List (ℕ × ℕ)) 
     → HasItsSize (with_image s.world m line words start blocks) n blocks
 tells-image s line m n start blocks words safe free some same =
     let zeros : List ℕ = replicate (blocks * 1024) 0 in
-    let q : Places = loaded (record { regs = fresh_regs start; core = zeros }) words in
-    let p : Places = image_places words start blocks in
+    let q : Memory = loaded (record { regs = fresh_regs start; core = zeros }) words in
+    let p : Memory = image_memory words start blocks in
     let j : Job = new_job line p.regs start (first_quota s.world.size) in
     let taken_so : Cores = taken_core s.world.cores m blocks in
     let size : length q.core ≡ blocks * 1024 = length-loaded words (record { regs = fresh_regs start; core = zeros }) ∙ length-replicate (blocks * 1024) 0 in
-    let low : m < length s.world.cores.cores = omega (arith, free.below, safe.housed.places, safe.housed.store.jobs) in
+    let low : m < length s.world.cores.cores = omega (arith, free.below, safe.housed.slots, safe.housed.store.jobs) in
     let later : m < length taken_so.cores = omega (arith, length-set s.world.cores.cores m zeros) in
     subst (λ (i : ℕ). HasItsSize (with_image s.world m line words start blocks) i blocks) same
     (tells-size (with_image s.world m line words start blocks) m blocks j q.core some size

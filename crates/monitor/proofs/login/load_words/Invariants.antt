@@ -1,6 +1,6 @@
 use Rattle.std.proofs.Common.{◌≡◌, drop}
 use Rattle.machine.specs.Images.{loaded}
-use Rattle.monitor.proofs.login.load.Given as goal
+use Rattle.monitor.proofs.login.load_words.Given as goal
 
 abbrev pub invariant-loop-entry : goal.invariant-loop-entry
 invariant-loop-entry g l = record {
